@@ -1,0 +1,2 @@
+//! Tests of the crates below, through their public calls alone.
+#![tactic(auto)]
