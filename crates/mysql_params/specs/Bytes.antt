@@ -1,0 +1,117 @@
+-- The bytes and classes of bytes that the grammar of queries names, and the first place of a word.
+use Rattle.std.specs.Prelude.{◌≡◌, ◌≢◌, ℕ, Bool, false, ◌==◌, ◌&&◌, ◌||◌, nat_le, List, [], ◌∷◌, ◌++◌}
+
+-- b'\t'
+abbrev pub tab : ℕ
+tab = 9
+
+-- b'\n'
+abbrev pub newline : ℕ
+newline = 10
+
+-- b'\x0c'
+abbrev pub form_feed : ℕ
+form_feed = 12
+
+-- b'\r'
+abbrev pub carriage_return : ℕ
+carriage_return = 13
+
+-- b' '
+abbrev pub space : ℕ
+space = 32
+
+-- b'!'
+abbrev pub exclamation_mark : ℕ
+exclamation_mark = 33
+
+-- b'"'
+abbrev pub double_quote : ℕ
+double_quote = 34
+
+-- b'#'
+abbrev pub hash : ℕ
+hash = 35
+
+-- b'\''
+abbrev pub single_quote : ℕ
+single_quote = 39
+
+-- b'*'
+abbrev pub asterisk : ℕ
+asterisk = 42
+
+-- b'+'
+abbrev pub plus : ℕ
+plus = 43
+
+-- b'-'
+abbrev pub dash : ℕ
+dash = 45
+
+-- b'/'
+abbrev pub slash : ℕ
+slash = 47
+
+-- b':'
+abbrev pub colon : ℕ
+colon = 58
+
+-- b'?'
+abbrev pub question_mark : ℕ
+question_mark = 63
+
+-- b'_'
+abbrev pub underscore : ℕ
+underscore = 95
+
+-- b'`'
+abbrev pub backquote : ℕ
+backquote = 96
+
+-- white space, as Rust's `u8::is_ascii_whitespace` has it
+abbrev pub is_white_space : ℕ → Bool
+is_white_space b = b == tab || b == newline || b == form_feed || b == carriage_return || b == space
+
+-- b'a' to b'z'
+abbrev pub is_lower_letter : ℕ → Bool
+is_lower_letter b = nat_le 97 b && nat_le b 122
+
+-- b'0' to b'9'
+abbrev pub is_digit : ℕ → Bool
+is_digit b = nat_le 48 b && nat_le b 57
+
+-- a byte that begins a name
+abbrev pub is_start_byte : ℕ → Bool
+is_start_byte b = is_lower_letter b || b == underscore
+
+-- a byte that continues a name
+abbrev pub is_name_byte : ℕ → Bool
+is_name_byte b = is_start_byte b || is_digit b
+
+-- a byte that opens and closes a string
+abbrev pub is_quote : ℕ → Bool
+is_quote b = b == single_quote || b == double_quote
+
+-- a byte that makes of `/*` in front of it text that is executed, and no comment
+abbrev pub is_extension : ℕ → Bool
+is_extension b = b == exclamation_mark || b == plus
+
+-- the text has a first byte, and it passes the test
+abbrev pub begins : (ℕ → Bool) → List ℕ → Bool
+begins test [] = false
+begins test (b ∷ bs) = test b
+
+-- the word stands nowhere in the bytes
+abbrev pub Lacks : List ℕ → List ℕ → Type 0
+Lacks word bytes = (front back : List ℕ) → front ++ (word ++ back) ≢ bytes
+
+-- where the word stands in the bytes, nothing stands behind it
+abbrev pub HoldsOnlyAtEnd : List ℕ → List ℕ → Type 0
+HoldsOnlyAtEnd word bytes = (front back : List ℕ) → front ++ (word ++ back) ≡ bytes → back ≡ []
+
+-- the bytes go up to and with the first place of the word, or to the end of a text without it
+pub data IsUpTo (word bytes rest : List ℕ) : Type 0 where
+  up_to_word : (body : List ℕ) →
+      body ++ word ≡ bytes → HoldsOnlyAtEnd word bytes → IsUpTo word bytes rest
+  up_to_end : Lacks word bytes → rest ≡ [] → IsUpTo word bytes rest

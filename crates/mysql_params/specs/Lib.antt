@@ -1,0 +1,11 @@
+pub mod StringUnits
+pub mod Bytes
+pub mod Tokens
+pub mod Places
+pub mod FirstToken
+pub mod Parsed
+pub mod SameParsed
+pub mod NamedParamsErrors
+pub mod Program
+pub mod RunErrors
+pub mod ReadersAndWriters

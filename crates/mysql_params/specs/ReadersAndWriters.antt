@@ -1,0 +1,11 @@
+-- What a run leaves of its reader and its writer, where these tell their bytes.
+use Rattle.std.specs.Prelude.{◌<◌, ℕ, List, length, take, Option}
+use Rattle.std.specs.Io.KnownBytes.{Consumes, IsAtEnd, Appends}
+
+-- these bytes are all that the reader had left, and it has none left
+abbrev pub ReadsWhole : Option (List ℕ) → Option (List ℕ) → List ℕ → Type 0
+ReadsWhole old new bytes = Consumes old new bytes × IsAtEnd new
+
+-- the writer took a beginning of the text, and not the whole
+abbrev pub AppendsBeginning : Option (List ℕ) → Option (List ℕ) → List ℕ → Type 0
+AppendsBeginning old new text = (n : ℕ) × (n < length text) × Appends old new (take n text)

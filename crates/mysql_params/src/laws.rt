@@ -1,0 +1,56 @@
+//! Laws of the definitions that the contracts cite, and of equality. The functions that have no
+//! result do nothing: each is called for what it ensures.
+ghost use Rattle.std.specs.Prelude.{◌≡◌, ℕ, ◌+◌, ◌↔◌, Bool, List, length, drop, IsTrue};
+ghost use Rattle.std.specs.List.{list_all};
+ghost use Rattle.mysql_params.specs.Bytes.{begins};
+ghost use Rattle.mysql_params.specs.Tokens.{Token, IsTokens};
+ghost use Rattle.mysql_params.specs.Places.{names, marks, positions, is_place_byte, renamed, restored};
+
+use crate::named_params::{MixedParamsError, NamedParamsError, ParsedNamedParams};
+use crate::run_error::RunError;
+
+/// No query has two token lists in one mode.
+pub fn one_token_list()
+    ensures { (mode : Bool) (query : List ℕ) (ts us : List Token) →
+        IsTokens mode query ts → IsTokens mode query us → ts ≡ us }
+{}
+
+/// Each name and mark has a position, and stands there in the query with its first byte.
+pub fn positions_of_places()
+    ensures count { (ts : List Token) → length (positions ts) ≡ length (names ts) + marks ts }
+    ensures bytes { (mode : Bool) (query : List ℕ) (ts : List Token) → IsTokens mode query ts →
+        IsTrue (list_all (λ at. begins is_place_byte (drop at query)) (positions ts)) }
+{}
+
+/// Putting the names back in place of the marks undoes the renaming of a query without marks.
+pub fn renaming_undone()
+    ensures { (ts : List Token) → marks ts ≡ 0 → restored (renamed ts) (names ts) ≡ ts }
+{}
+
+/// Errors of reading names are equal where they are the same error.
+pub fn mixed_error_equality(a: &MixedParamsError, b: &MixedParamsError) -> bool
+    ensures { IsTrue result ↔ (a.now ≡ b.now) }
+{
+    a == b
+}
+
+/// Errors of reading names are equal where variant and field are.
+pub fn named_params_error_equality(a: &NamedParamsError, b: &NamedParamsError) -> bool
+    ensures { IsTrue result ↔ (a.now ≡ b.now) }
+{
+    a == b
+}
+
+/// Parsed queries are equal where the query with marks and the names are.
+pub fn parsed_equality(a: &ParsedNamedParams<'_>, b: &ParsedNamedParams<'_>) -> bool
+    ensures { IsTrue result ↔ (a.now ≡ b.now) }
+{
+    a == b
+}
+
+/// Errors of a run are equal where variant and field are.
+pub fn run_error_equality(a: &RunError, b: &RunError) -> bool
+    ensures { IsTrue result ↔ (a.now ≡ b.now) }
+{
+    a == b
+}

@@ -1,0 +1,15 @@
+//! Named and positional parameters of MySQL queries.
+//!
+//! A query is bytes. [`named_params`] finds the names and marks outside its strings, quoted
+//! identifiers and comments; [`run`] is the program over them, for any reader and writer.
+#![tactic(auto)]
+
+mod ends;
+pub mod laws;
+pub mod named_params;
+mod program;
+mod run_error;
+mod tokens;
+
+pub use program::run;
+pub use run_error::RunError;
