@@ -1,2 +1,9 @@
 //! Tests of the crates below, through their public calls alone.
 #![tactic(auto)]
+
+#[cfg(test)]
+mod all_short_queries;
+#[cfg(test)]
+mod program;
+#[cfg(test)]
+mod queries;

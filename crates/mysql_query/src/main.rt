@@ -1,0 +1,31 @@
+//! The program `mysql_query`: what `mysql_params::run` answers to the arguments and standard input.
+#![tactic(auto)]
+
+use mysql_params::{RunError, run};
+use std::env;
+use std::process::ExitCode;
+
+/// The arguments without the program's own name. Arguments that can't be had are no words of its own.
+fn words(rt: &HostRuntime) -> Result<Vec<String>, RunError> {
+    let Ok(mut arguments) = env::args(rt) else {
+        return Err(RunError::Usage);
+    };
+    let _ = arguments.next();
+    arguments.collect(rt.alloc()).map_err(RunError::Memory)
+}
+
+fn answer(rt: &HostRuntime) -> Result<(), RunError> {
+    let words = words(rt)?;
+    run(rt.alloc(), &words, &mut rt.stdin(), &mut rt.stdout())
+}
+
+fn main(rt: HostRuntime) -> ExitCode {
+    match answer(&rt) {
+        Ok(()) => ExitCode::SUCCESS,
+        Err(error) => {
+            // The status tells of a refusal whose message can't be printed.
+            let _ = eprintln!(rt; "{error}");
+            ExitCode::from(error.status())
+        }
+    }
+}
