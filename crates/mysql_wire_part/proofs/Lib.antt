@@ -1,2 +1,2 @@
-mod ReadingLemmas
-mod LenencLemmas
+pub mod ReadingLemmas
+pub mod LenencLemmas

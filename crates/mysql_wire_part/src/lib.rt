@@ -14,3 +14,6 @@ pub use crate::column::{ColumnFlags, ColumnType};
 pub use crate::error::WireError;
 pub use crate::lenenc::{lenenc_str_len, put_lenenc_str};
 pub use crate::parse_buf::ParseBuf;
+
+// What `ColumnFlags` can do, as `contains`.
+pub use bitflags::Flags;

@@ -100,10 +100,7 @@ impl<'a> ParseBuf<'a> {
         ensures { Eats (read_bytes n (left self.old)) (left self.old) (left self.new)
             (option_map left result) }
     {
-        if self.0.len() < n {
-            return None;
-        }
-        let (front, rest) = self.0.split_at(n);
+        let (front, rest) = self.0.split_at_checked(n)?;
         self.0 = rest;
         Some(ParseBuf(front))
     }
