@@ -1,0 +1,3 @@
+pub mod Bytes
+pub mod Value
+pub mod ValueOrder
