@@ -1,2 +1,5 @@
 //! Tests of the crates below, through their public calls alone.
 #![tactic(auto)]
+
+#[cfg(test)]
+mod values;
