@@ -2,4 +2,6 @@
 #![tactic(auto)]
 
 #[cfg(test)]
+mod text_cells;
+#[cfg(test)]
 mod values;

@@ -1,1 +1,2 @@
 mod ValueOrderLemmas
+mod TextCellLemmas

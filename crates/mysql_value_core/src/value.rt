@@ -4,6 +4,11 @@ ghost use Rattle.mysql_value_core.specs.Value.{FieldsInRange, IsBytes};
 
 use crate::bytes::Bytes;
 use std::alloc::AllocError;
+use std::marker::PhantomData;
+
+mod text;
+
+pub use crate::value::text::{TextValue, read_text_cells};
 
 /// A value of the MySQL client/server protocol.
 ///
@@ -78,6 +83,10 @@ impl Value {
         }
     }
 }
+
+/// A value that is read from the form that `T` names: `TextValue`.
+#[derive(Drop)]
+pub struct ValueDeserializer<T>(pub Value, PhantomData<T>);
 
 /// What the containers of the standard library copy their items by: the inherent `clone`.
 impl Clone for Value {

@@ -1,1 +1,1 @@
-pub use mysql_value_core::value::Value;
+pub use mysql_value_core::value::{TextValue, Value, ValueDeserializer, read_text_cells};
