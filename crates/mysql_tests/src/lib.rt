@@ -2,6 +2,10 @@
 #![tactic(auto)]
 
 #[cfg(test)]
+mod text_cells;
+#[cfg(test)]
+mod values;
+#[cfg(test)]
 mod wire;
 #[cfg(test)]
 mod wire_types;
