@@ -7,3 +7,11 @@ mod all_short_queries;
 mod program;
 #[cfg(test)]
 mod queries;
+#[cfg(test)]
+mod text_cells;
+#[cfg(test)]
+mod values;
+#[cfg(test)]
+mod wire;
+#[cfg(test)]
+mod wire_types;

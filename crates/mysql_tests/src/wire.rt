@@ -1,0 +1,175 @@
+//! The buffer: integers of each width, and length-encoded strings.
+use mysql_wire_part::{ParseBuf, WireError, lenenc_str_len, put_lenenc_str};
+use std::test::Fail;
+
+// What each of the eight calls answers for the bytes, widened, and how many bytes it leaves.
+fn integers(bytes: &[u8]) -> [(Option<i128>, usize); 8] {
+    let mut bufs = [ParseBuf(bytes); 8];
+    let answers = [
+        bufs[0].checked_eat_u8().map(i128::from),
+        bufs[1].checked_eat_i8().map(i128::from),
+        bufs[2].checked_eat_u16_le().map(i128::from),
+        bufs[3].checked_eat_i16_le().map(i128::from),
+        bufs[4].checked_eat_u32_le().map(i128::from),
+        bufs[5].checked_eat_i32_le().map(i128::from),
+        bufs[6].checked_eat_u64_le().map(i128::from),
+        bufs[7].checked_eat_i64_le().map(i128::from),
+    ];
+    let mut table = [(None, 0); 8];
+    for i in 0..8 {
+        table[i] = (answers[i], bufs[i].len());
+    }
+    table
+}
+
+#[test]
+fn integers_of_each_width(rt: HostRuntime) {
+    let table = [
+        (
+            [0xFE, 0xFF, 0xFF, 0xFF, 0xFF, 0xFF, 0xFF, 0x7F],
+            [
+                254,
+                -2,
+                65534,
+                -2,
+                4294967294,
+                -2,
+                9223372036854775806,
+                9223372036854775806,
+            ],
+        ),
+        (
+            [0x01, 0x80, 0x00, 0x80, 0x00, 0x00, 0x00, 0x80],
+            [
+                1,
+                1,
+                32769,
+                -32767,
+                2147516417,
+                -2147450879,
+                9223372039002292225,
+                -9223372034707259391,
+            ],
+        ),
+        ([0, 0, 0, 0, 0, 0, 0, 0], [0, 0, 0, 0, 0, 0, 0, 0]),
+    ];
+    for (bytes, numbers) in &table {
+        let found = integers(bytes);
+        for i in 0..8 {
+            let width = 1 << (i / 2);
+            assert_eq!(rt;
+                found[i],
+                (Some(numbers[i]), 8 - width),
+                "call {i} on {bytes:?}"
+            );
+        }
+    }
+}
+
+#[test]
+fn too_few_bytes(rt: HostRuntime) {
+    let bytes = [1, 2, 3, 4, 5, 6, 7];
+    // The calls from the second number on want more bytes.
+    let table: [(&[u8], usize); 4] = [(&[], 0), (&[1], 2), (&[1, 2, 3], 4), (&bytes, 6)];
+    for (bytes, answered) in table {
+        let found = integers(bytes);
+        for i in 0..8 {
+            if i < answered {
+                assert!(rt; found[i].0.is_some(), "call {i} on {bytes:?}");
+            } else {
+                assert_eq!(rt; found[i], (None, bytes.len()), "call {i} on {bytes:?}");
+            }
+        }
+    }
+    let mut buf = ParseBuf(&bytes);
+    assert_eq!(rt; buf.checked_eat_buf(8), None);
+    assert_eq!(rt; buf.checked_eat_buf(usize::MAX), None);
+    assert_eq!(rt; buf.checked_eat_buf(3), Some(ParseBuf(&[1, 2, 3])));
+    assert_eq!(rt; buf, ParseBuf(&[4, 5, 6, 7]));
+    assert_eq!(rt; buf.checked_eat_buf(4), Some(ParseBuf(&[4, 5, 6, 7])));
+    assert_eq!(rt; buf.checked_eat_buf(0), Some(ParseBuf(&[])));
+    assert!(rt; buf.is_empty());
+}
+
+#[test]
+fn lengths_at_their_ends(rt: HostRuntime) -> Result<(), Fail> {
+    let alloc = rt.alloc();
+    let table: [(usize, &[u8]); 8] = [
+        (0, &[0]),
+        (250, &[0xFA]),
+        (251, &[0xFC, 0xFB, 0]),
+        (65535, &[0xFC, 0xFF, 0xFF]),
+        (65536, &[0xFD, 0, 0, 1]),
+        (16777215, &[0xFD, 0xFF, 0xFF, 0xFF]),
+        (16777216, &[0xFE, 0, 0, 0, 1, 0, 0, 0, 0]),
+        (1, &[1]),
+    ];
+    for (len, head) in table {
+        let text = vec![in alloc; b'a'; len]?;
+        let mut buf = vec![in alloc; 7]?;
+        put_lenenc_str(&mut buf, &text)?;
+        let whole = head.len() + len;
+        assert_eq!(rt; lenenc_str_len(&text), whole as u64, "length {len}");
+        assert_eq!(rt; buf.len(), 1 + whole, "length {len}");
+        let mut front = ParseBuf(&buf);
+        assert_eq!(rt; front.checked_eat_u8(), Some(7), "length {len}");
+        assert_eq!(rt;
+            front.checked_eat_buf(head.len()),
+            Some(ParseBuf(head)),
+            "length {len}"
+        );
+        assert!(rt; front.0 == text.as_slice(), "length {len}");
+        buf.push(0x2A)?;
+        let mut read = ParseBuf(&buf[1..]);
+        assert!(rt;
+            read.eat_lenenc_str() == Ok(text.as_slice()),
+            "length {len}"
+        );
+        assert_eq!(rt; read.0, [0x2A].as_slice(), "length {len}");
+    }
+    Ok(())
+}
+
+#[test]
+fn longer_spellings_than_needed(rt: HostRuntime) {
+    let table: [&[u8]; 4] = [
+        &[0xFC, 1, 0, b'A', 0x2A],
+        &[0xFD, 1, 0, 0, b'A', 0x2A],
+        &[0xFE, 1, 0, 0, 0, 0, 0, 0, 0, b'A', 0x2A],
+        &[1, b'A', 0x2A],
+    ];
+    for bytes in table {
+        let mut buf = ParseBuf(bytes);
+        assert_eq!(rt; buf.eat_lenenc_str(), Ok(b"A".as_slice()), "{bytes:?}");
+        assert_eq!(rt; buf.0, [0x2A].as_slice(), "{bytes:?}");
+    }
+}
+
+#[test]
+fn refused_strings_leave_the_buffer(rt: HostRuntime) {
+    let table: [(&[u8], WireError); 12] = [
+        (&[], WireError::UnexpectedEof),
+        (&[1], WireError::UnexpectedEof),
+        (&[0xFA, 1, 2], WireError::UnexpectedEof),
+        (&[0xFB, 1, 2], WireError::BadLengthLead(0xFB)),
+        (&[0xFF, 1, 2], WireError::BadLengthLead(0xFF)),
+        (&[0xFC, 0], WireError::UnexpectedEof),
+        (&[0xFC, 1, 0], WireError::UnexpectedEof),
+        (&[0xFD, 0, 0], WireError::UnexpectedEof),
+        (&[0xFD, 2, 0, 0, 1], WireError::UnexpectedEof),
+        (&[0xFE, 0, 0, 0, 0, 0, 0, 0], WireError::UnexpectedEof),
+        (
+            &[0xFE, 0, 0, 0, 0, 0, 0, 0, 0x80, 1],
+            WireError::UnexpectedEof,
+        ),
+        (
+            &[0xFE, 255, 255, 255, 255, 255, 255, 255, 255, 1],
+            WireError::UnexpectedEof,
+        ),
+    ];
+    for (bytes, error) in table {
+        let mut buf = ParseBuf(bytes);
+        assert_eq!(rt; buf.eat_lenenc_str(), Err(error), "{bytes:?}");
+        assert_eq!(rt; buf.0, bytes, "{bytes:?}");
+    }
+}

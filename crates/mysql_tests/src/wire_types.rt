@@ -1,0 +1,121 @@
+//! Errors, flags of columns, and the codec traits at a type of the user's own.
+ghost use Rattle.std.specs.Prelude.{ℕ, List, ⊤};
+ghost use Rattle.mysql_wire_part.specs.Lenenc.{lenenc_spelling, read_lenenc};
+
+use mysql_wire_part::{
+    ColumnFlags, ColumnType, Flags, MyDeserialize, MySerialize, ParseBuf, WireError, put_lenenc_str,
+};
+use std::alloc::{AllocError, Global};
+use std::test::Fail;
+
+#[test]
+fn messages(rt: HostRuntime) -> Result<(), Fail> {
+    let alloc = rt.alloc();
+    let table = [
+        (WireError::UnexpectedEof, "Unexpected end of buffer"),
+        (WireError::BadLengthLead(255), "Bad length lead 255"),
+        (
+            WireError::UnsupportedColumn(ColumnType::MYSQL_TYPE_TIME2),
+            "Unsupported column type",
+        ),
+        (WireError::from(AllocError), "out of memory"),
+    ];
+    for (error, message) in table {
+        assert_eq!(rt; error.to_string(alloc)?.as_str(), message);
+    }
+    Ok(())
+}
+
+#[test]
+fn unsigned_flag(rt: HostRuntime) {
+    for (bits, unsigned) in [
+        (0, false),
+        (32, true),
+        (31, false),
+        (63, true),
+        (0xFFDF, false),
+    ] {
+        let flags = ColumnFlags::from_bits_retain(bits);
+        assert_eq!(rt;
+            flags.contains(ColumnFlags::UNSIGNED_FLAG),
+            unsigned,
+            "flags {bits}"
+        );
+        assert_eq!(rt; flags.bits(), bits);
+    }
+}
+
+// A type of the user's own that holds a vector: a name, as a length-encoded string.
+#[derive(Drop)]
+struct Name {
+    bytes: Vec<u8>,
+}
+
+impl MySerialize for Name {
+    ghost spelling = { λ name. lenenc_spelling name.bytes.items };
+
+    fn serialize(&self, buf: &mut Vec<u8>) -> Result<(), AllocError> {
+        put_lenenc_str(buf, &self.bytes)
+    }
+}
+
+impl<'de> MyDeserialize<'de> for Name {
+    const SIZE: Option<usize> = None;
+
+    type Ctx = ();
+
+    ghost Seen = { List ℕ };
+
+    ghost seen = { λ name. name.bytes.items };
+
+    ghost reads = { λ _ bytes. read_lenenc bytes };
+
+    ghost takes_memory = { λ _ _. ⊤ };
+
+    fn deserialize(alloc: Global, _ctx: (), buf: &mut ParseBuf<'de>) -> Result<Name, WireError> {
+        let mut rest = *buf;
+        let text = rest.eat_lenenc_str()?;
+        let bytes = Vec::from_slice(alloc, text)?;
+        *buf = rest;
+        Ok(Name { bytes })
+    }
+}
+
+// Two values, written one behind the other.
+fn written<T: MySerialize>(alloc: Global, values: &[T; 2]) -> Result<Vec<u8>, AllocError> {
+    let mut buf = Vec::new(alloc);
+    values[0].serialize(&mut buf)?;
+    values[1].serialize(&mut buf)?;
+    Ok(buf)
+}
+
+// Two values, read one behind the other.
+fn read<'de, T: MyDeserialize<'de, Ctx = ()> + Drop>(
+    alloc: Global,
+    buf: &mut ParseBuf<'de>,
+) -> Result<(T, T), WireError> {
+    let first = T::deserialize(alloc, (), buf)?;
+    let second = T::deserialize(alloc, (), buf)?;
+    Ok((first, second))
+}
+
+#[test]
+fn a_type_of_the_users_own(rt: HostRuntime) -> Result<(), Fail> {
+    let alloc = rt.alloc();
+    let names = [
+        Name {
+            bytes: Vec::from_slice(alloc, b"abc")?,
+        },
+        Name {
+            bytes: Vec::new(alloc),
+        },
+    ];
+    let buf = written(alloc, &names)?;
+    assert_eq!(rt; buf.as_slice(), b"\x03abc\x00".as_slice());
+    let mut rest = ParseBuf(&buf);
+    let (first, second): (Name, Name) = read(alloc, &mut rest)?;
+    assert_eq!(rt; first.bytes.as_slice(), b"abc".as_slice());
+    assert_eq!(rt; second.bytes.as_slice(), b"".as_slice());
+    assert!(rt; rest.is_empty());
+    Ok(())
+}

@@ -1,0 +1,2 @@
+mod ValueOrderLemmas
+mod TextCellLemmas

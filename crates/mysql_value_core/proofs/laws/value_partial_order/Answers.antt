@@ -1,0 +1,7 @@
+use Rattle.std.proofs.Common.{◌∙◌, ap, Some, rules}
+use Rattle.mysql_value_core.specs.contracts.value.ValueOrd.TheImpl.Laws.{matches_partial_cmp-law}
+use Rattle.mysql_value_core.proofs.laws.value_partial_order.Goals as goal
+
+pub returns : goal.returns
+returns c =
+    c.partial_cmp.ensures ∙ matches_partial_cmp-law c.args.a.now c.args.b.now ∙ ap Some (search rules)

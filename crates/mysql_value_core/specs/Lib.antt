@@ -1,0 +1,4 @@
+pub mod Bytes
+pub mod Value
+pub mod ValueOrder
+pub mod TextCell

@@ -1,0 +1,39 @@
+-- The order of values: by variant, in the sequence in which the type lists them, and then by the
+-- fields, from the first on. The bits of a float are compared as a number.
+use Rattle.std.specs.Prelude.{ℕ}
+use Rattle.std.specs.declared.cmp.Ordering.{Ordering}
+use Rattle.std.specs.Ordering.{nat_cmp, int_cmp, bool_cmp, ordering_then}
+use Rattle.std.specs.Cmp.Lexicographic.{slice_cmp}
+use Rattle.mysql_value_core.specs.declared.value.Value.{Value}
+use Rattle.mysql_value_core.specs.declared.value.Value.TheVariants.{NULL, Bytes, Int, UInt, Float, Double, Date, Time}
+
+-- the place of a value's variant in the sequence
+abbrev pub variant_place : Value → ℕ
+variant_place NULL = 0
+variant_place (Bytes bytes) = 1
+variant_place (Int number) = 2
+variant_place (UInt number) = 3
+variant_place (Float bits) = 4
+variant_place (Double bits) = 5
+variant_place (Date year month day hour minute second microseconds) = 6
+variant_place (Time negative days hours minutes seconds microseconds) = 7
+
+-- how two values compare
+abbrev pub value_cmp : Value → Value → Ordering
+value_cmp (Bytes bytes) (Bytes bytes') = slice_cmp nat_cmp bytes bytes'
+value_cmp (Int number) (Int number') = int_cmp number number'
+value_cmp (UInt number) (UInt number') = nat_cmp number number'
+value_cmp (Float bits) (Float bits') = nat_cmp bits bits'
+value_cmp (Double bits) (Double bits') = nat_cmp bits bits'
+value_cmp (Date year month day hour minute second micros)
+    (Date year' month' day' hour' minute' second' micros') =
+    ordering_then (nat_cmp year year') (ordering_then (nat_cmp month month')
+    (ordering_then (nat_cmp day day') (ordering_then (nat_cmp hour hour')
+    (ordering_then (nat_cmp minute minute') (ordering_then (nat_cmp second second')
+    (nat_cmp micros micros'))))))
+value_cmp (Time negative days hours minutes seconds micros)
+    (Time negative' days' hours' minutes' seconds' micros') =
+    ordering_then (bool_cmp negative negative') (ordering_then (nat_cmp days days')
+    (ordering_then (nat_cmp hours hours') (ordering_then (nat_cmp minutes minutes')
+    (ordering_then (nat_cmp seconds seconds') (nat_cmp micros micros')))))
+value_cmp value value' = nat_cmp (variant_place value) (variant_place value')

@@ -1,0 +1,53 @@
+//! Laws of the types of this crate. No program needs to call them.
+ghost use Rattle.std.specs.Prelude.{◌≡◌, ◌↔◌, IsTrue, Some};
+ghost use Rattle.std.specs.Cmp.{IsTotalOrder};
+ghost use Rattle.std.specs.Cmp.Lexicographic.{slice_cmp};
+ghost use Rattle.std.specs.Ordering.{nat_cmp};
+ghost use Rattle.std.specs.declared.cmp.Ordering.TheVariants.{Equal};
+ghost use Rattle.mysql_value_core.specs.declared.value.Value as value;
+ghost use Rattle.mysql_value_core.specs.ValueOrder.{value_cmp};
+
+use crate::bytes::Bytes;
+use crate::value::Value;
+use std::cmp::Ordering;
+
+/// Bytes are equal where the lists are.
+pub fn bytes_equality(a: &Bytes, b: &Bytes) -> bool
+    ensures { IsTrue result ↔ (a.now ≡ b.now) }
+{
+    a == b
+}
+
+/// Bytes are ordered as lists are: by the first byte that differs, a beginning before the whole.
+pub fn bytes_order(a: &Bytes, b: &Bytes) -> Ordering
+    ensures { result ≡ slice_cmp nat_cmp a.now b.now }
+{
+    a.cmp(b)
+}
+
+/// Values are equal where variant and fields are.
+pub fn value_equality(a: &Value, b: &Value) -> bool
+    ensures { IsTrue result ↔ (a.now ≡ b.now) }
+{
+    a == b
+}
+
+/// Values are ordered by variant, then by the fields.
+pub fn value_order(a: &Value, b: &Value) -> Ordering
+    ensures { result ≡ value_cmp a.now b.now }
+{
+    a.cmp(b)
+}
+
+/// Any two values have an order, and it is that of `cmp`.
+pub fn value_partial_order(a: &Value, b: &Value) -> Option<Ordering>
+    ensures { result ≡ Some (value_cmp a.now b.now) }
+{
+    a.partial_cmp(b)
+}
+
+/// The order of values is total and transitive, and `Equal` exactly where they are equal.
+pub fn value_order_is_total()
+    ensures total { IsTotalOrder value_cmp }
+    ensures equal { (a b : value.Value) → (value_cmp a b ≡ Equal) ↔ (a ≡ b) }
+{}
