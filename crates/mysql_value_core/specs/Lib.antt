@@ -1,3 +1,9 @@
 pub mod Bytes
 pub mod Value
 pub mod ValueOrder
+pub mod StringUnits
+pub mod Literal
+pub mod Content
+pub mod ReadLiteral
+pub mod ReadBack
+pub mod LiteralShape
