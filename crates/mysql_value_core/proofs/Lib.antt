@@ -1,1 +1,9 @@
 mod ValueOrderLemmas
+pub mod ReadStringLemmas
+pub mod DigitLemmas
+pub mod ReadNumberLemmas
+pub mod HexadecimalLemmas
+pub mod ClockLemmas
+pub mod PaddedLemmas
+pub mod EscapedLemmas
+pub mod QuotedLemmas
