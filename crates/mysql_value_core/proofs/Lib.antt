@@ -7,3 +7,4 @@ pub mod ClockLemmas
 pub mod PaddedLemmas
 pub mod EscapedLemmas
 pub mod QuotedLemmas
+pub mod LiteralLemmas

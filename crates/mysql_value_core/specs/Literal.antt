@@ -4,10 +4,9 @@
 use Rattle.std.specs.Prelude.{ℕ, ◌+◌, ◌-◌, ◌*◌, ◌/◌, ◌%◌, nat_lt, Bool, true, false, ◌==◌, ◌&&◌, List, [], ◌∷◌, ◌++◌, length, replicate, codes, Option, Some, None, if◌then◌else◌}
 use Rattle.std.specs.List.{flat_map}
 use Rattle.std.specs.Fmt.{decimal, signed_decimal}
-use Rattle.std.specs.Str.{is_utf8}
+use Rattle.std.specs.Str.{byte, is_utf8}
 use Rattle.mysql_value_core.specs.declared.value.Value.{Value}
 use Rattle.mysql_value_core.specs.declared.value.Value.TheVariants.{NULL, Bytes, Int, UInt, Float, Double, Date, Time}
-use Prim.Native.Char.{code}
 
 -- ASCII's character "substitute", Ctrl-Z
 abbrev pub control_z : ℕ
@@ -19,13 +18,13 @@ control_z = 26
 abbrev pub escaped_byte : Bool → ℕ → List ℕ
 escaped_byte false b =
     if b == 0 then codes "\\0" else (
-    if b == code "\n" then codes "\\n" else (
-    if b == code "\r" then codes "\\r" else (
+    if b == byte "\n" then codes "\\n" else (
+    if b == byte "\r" then codes "\\r" else (
     if b == control_z then codes "\\Z" else (
-    if b == code "\\" then codes "\\\\" else (
-    if b == code "'" then codes "\\'" else (
-    if b == code "\"" then codes "\\\"" else b ∷ []))))))
-escaped_byte true b = if b == code "'" then codes "''" else b ∷ []
+    if b == byte "\\" then codes "\\\\" else (
+    if b == byte "'" then codes "\\'" else (
+    if b == byte "\"" then codes "\\\"" else b ∷ []))))))
+escaped_byte true b = if b == byte "'" then codes "''" else b ∷ []
 
 -- what stands for each of the bytes, in a row
 abbrev pub escaped : Bool → List ℕ → List ℕ
@@ -37,7 +36,7 @@ quoted text = codes "'" ++ text ++ codes "'"
 
 -- the hexadecimal digit of a number below 16, in upper case
 abbrev pub hex_digit : ℕ → ℕ
-hex_digit n = if nat_lt n 10 then code "0" + n else code "A" + (n - 10)
+hex_digit n = if nat_lt n 10 then byte "0" + n else byte "A" + (n - 10)
 
 -- two hexadecimal digits for each of the bytes, the higher first
 abbrev pub hexadecimal : List ℕ → List ℕ
@@ -50,7 +49,7 @@ bytes_literal mode bytes =
 
 -- the decimal digits of a number, behind as many zeros as the width asks for
 abbrev pub padded : ℕ → ℕ → List ℕ
-padded width n = replicate (width - length (decimal n)) (code "0") ++ decimal n
+padded width n = replicate (width - length (decimal n)) (byte "0") ++ decimal n
 
 -- the fraction of a second: none where there are no microseconds, else at least six digits
 abbrev pub fraction : ℕ → List ℕ

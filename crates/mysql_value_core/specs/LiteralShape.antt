@@ -4,7 +4,7 @@ use Rattle.std.specs.Prelude.{ℕ, Bool, true, false, IsTrue, List, [], ◌∷�
 use Rattle.std.specs.List.{list_all}
 use Rattle.mysql_value_core.specs.StringUnits.{AreUnits}
 use Rattle.mysql_value_core.specs.ReadLiteral.{is_digit, is_hex_digit}
-use Prim.Native.Char.{code}
+use Rattle.std.specs.Str.{byte}
 
 -- one or more digits
 abbrev pub AreDigits : List ℕ → Type 0
@@ -20,7 +20,7 @@ AreHexPairs (a ∷ b ∷ c ∷ bytes) = IsTrue (is_hex_digit a) × IsTrue (is_he
 
 -- a closed string: a single quote, units, a single quote
 pub data IsClosedString (mode : Bool) : List ℕ → Type 0 where
-  closed_string : (body : List ℕ) → AreUnits mode (code "'") body
+  closed_string : (body : List ℕ) → AreUnits mode (byte "'") body
     → IsClosedString mode (codes "'" ++ body ++ codes "'")
 
 -- one or more closed strings, each directly behind the one before

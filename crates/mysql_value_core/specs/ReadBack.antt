@@ -1,19 +1,18 @@
 -- That the literal of a value reads as what the value says, whatever stands behind it.
 use Rattle.std.specs.Prelude.{◌≡◌, ℕ, nat_le, Bool, ◌==◌, ◌&&◌, ◌||◌, false, true, List, [], ◌∷◌, ◌++◌, Some, IsFalse, IsTrue, IsSomeAnd, ⊤}
-use Rattle.std.specs.Str.{is_utf8}
+use Rattle.std.specs.Str.{byte, is_utf8}
 use Rattle.mysql_value_core.specs.declared.value.Value.{Value}
 use Rattle.mysql_value_core.specs.declared.value.Value.TheVariants.{Bytes}
 use Rattle.mysql_value_core.specs.Content.{Content, byte_string, content_of}
 use Rattle.mysql_value_core.specs.ReadLiteral.{is_digit, read_literal}
-use Prim.Native.Char.{code}
 
 -- whether a byte is a single quote
 abbrev pub is_quote : ℕ → Bool
-is_quote b = b == code "'"
+is_quote b = b == byte "'"
 
 -- whether a byte is an ASCII letter
 abbrev pub is_letter : ℕ → Bool
-is_letter b = (nat_le (code "A") b && nat_le b (code "Z")) || (nat_le (code "a") b && nat_le b (code "z"))
+is_letter b = (nat_le (byte "A") b && nat_le b (byte "Z")) || (nat_le (byte "a") b && nat_le b (byte "z"))
 
 -- whether a byte can be read as more of the literal before it: a single quote, an ASCII digit or letter
 abbrev pub continues_literal : ℕ → Bool

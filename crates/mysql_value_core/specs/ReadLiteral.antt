@@ -5,7 +5,7 @@
 -- hexadecimal digits in pairs alone.
 use Rattle.std.specs.Prelude.{ℕ, ◌+◌, ◌-◌, ◌*◌, nat_le, Bool, true, false, ◌==◌, ◌&&◌, ◌||◌, List, [], ◌∷◌, ◌++◌, codes, Option, Some, None, option_map, option_and_then, ℤ, pos, neg_ℤ, if◌then◌else◌}
 use Rattle.mysql_value_core.specs.Content.{Content, null, number, byte_string}
-use Prim.Native.Char.{code}
+use Rattle.std.specs.Str.{byte}
 
 -- what follows a word at the front of a text
 abbrev pub after : List ℕ → List ℕ → Option (List ℕ)
@@ -15,18 +15,18 @@ after (a ∷ word) (b ∷ text) = if a == b then after word text else None
 
 -- whether a byte is an ASCII digit
 abbrev pub is_digit : ℕ → Bool
-is_digit b = nat_le (code "0") b && nat_le b (code "9")
+is_digit b = nat_le (byte "0") b && nat_le b (byte "9")
 
 -- whether a byte is a hexadecimal digit, of either case
 abbrev pub is_hex_digit : ℕ → Bool
 is_hex_digit b = is_digit b
-    || ((nat_le (code "A") b && nat_le b (code "F")) || (nat_le (code "a") b && nat_le b (code "f")))
+    || ((nat_le (byte "A") b && nat_le b (byte "F")) || (nat_le (byte "a") b && nat_le b (byte "f")))
 
 -- the number that a hexadecimal digit stands for
 abbrev pub hex_digit_value : ℕ → ℕ
 hex_digit_value b =
-    if is_digit b then b - code "0" else (
-    if nat_le b (code "F") then 10 + (b - code "A") else 10 + (b - code "a"))
+    if is_digit b then b - byte "0" else (
+    if nat_le b (byte "F") then 10 + (b - byte "A") else 10 + (b - byte "a"))
 
 -- the bytes of the longest run of pairs of hexadecimal digits, and what follows
 abbrev pub read_pairs : List ℕ → List ℕ × List ℕ
@@ -46,7 +46,7 @@ if_any (b ∷ bytes, text) = Some (byte_string (b ∷ bytes), text)
 abbrev pub read_digits : ℕ → List ℕ → ℕ × List ℕ
 read_digits n [] = (n, [])
 read_digits n (b ∷ text) =
-    if is_digit b then read_digits (10 * n + (b - code "0")) text else (n, b ∷ text)
+    if is_digit b then read_digits (10 * n + (b - byte "0")) text else (n, b ∷ text)
 
 -- the number of the longest run of digits, of which there is one at least, and what follows
 abbrev pub read_natural : List ℕ → Option (ℕ × List ℕ)
@@ -57,17 +57,17 @@ read_natural (b ∷ text) = if is_digit b then Some (read_digits 0 (b ∷ text))
 -- before a byte that is not named here it is ignored.
 abbrev pub unescaped : ℕ → List ℕ
 unescaped b =
-    if b == code "0" then 0 ∷ [] else (
-    if b == code "b" then 8 ∷ [] else (
-    if b == code "t" then code "\t" ∷ [] else (
-    if b == code "n" then code "\n" ∷ [] else (
-    if b == code "r" then code "\r" ∷ [] else (
-    if b == code "Z" then 26 ∷ [] else (
-    if b == code "%" || b == code "_" then code "\\" ∷ b ∷ [] else b ∷ []))))))
+    if b == byte "0" then 0 ∷ [] else (
+    if b == byte "b" then 8 ∷ [] else (
+    if b == byte "t" then byte "\t" ∷ [] else (
+    if b == byte "n" then byte "\n" ∷ [] else (
+    if b == byte "r" then byte "\r" ∷ [] else (
+    if b == byte "Z" then 26 ∷ [] else (
+    if b == byte "%" || b == byte "_" then byte "\\" ∷ b ∷ [] else b ∷ []))))))
 
 -- whether a byte begins a pair that stands for other bytes
 abbrev pub begins_pair : Bool → ℕ → Bool
-begins_pair false b = b == code "\\"
+begins_pair false b = b == byte "\\"
 begins_pair true b = false
 
 -- bytes before those that are read
@@ -78,10 +78,10 @@ prefix_read bytes read = option_map (λ r. (bytes ++ r.0, r.1)) read
 -- that; none where no quote ends them. Two quotes in a row are one.
 abbrev pub read_units : Bool → List ℕ → Option (List ℕ × List ℕ)
 read_units mode [] = None
-read_units mode (a ∷ []) = if a == code "'" then Some ([], []) else None
+read_units mode (a ∷ []) = if a == byte "'" then Some ([], []) else None
 read_units mode (a ∷ b ∷ text) =
-    if a == code "'"
-    then (if b == code "'" then prefix_read (codes "'") (read_units mode text) else Some ([], b ∷ text))
+    if a == byte "'"
+    then (if b == byte "'" then prefix_read (codes "'") (read_units mode text) else Some ([], b ∷ text))
     else (if begins_pair mode a then prefix_read (unescaped b) (read_units mode text)
     else prefix_read (a ∷ []) (read_units mode (b ∷ text)))
 

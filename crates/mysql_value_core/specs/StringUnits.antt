@@ -2,7 +2,7 @@
 -- Literals", and "Server SQL Modes", NO_BACKSLASH_ESCAPES). A mode is the flag `no_backslash_escape`:
 -- `true` is the mode without backslash escapes.
 use Rattle.std.specs.Prelude.{◌≡◌, ◌≢◌, ◌==◌, ℕ, Bool, true, false, IsTrue, IsFalse, List, [], ◌∷◌}
-use Prim.Native.Char.{code}
+use Rattle.std.specs.Str.{byte}
 
 -- the mode in which a backslash escapes the byte behind it
 abbrev pub with_backslashes : Bool
@@ -14,7 +14,7 @@ without_backslashes = true
 
 -- whether a byte escapes the one behind it
 abbrev pub is_escape : Bool → ℕ → Bool
-is_escape false b = b == code "\\"
+is_escape false b = b == byte "\\"
 is_escape true b = false
 
 -- Units in a row, inside of quotes of one kind: a unit is one byte that is neither the quote nor an
