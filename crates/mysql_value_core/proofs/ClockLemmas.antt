@@ -9,7 +9,7 @@ use Rattle.std.proofs.lemmas.Bool.{cond_both, and_parts, and_from}
 use Rattle.std.proofs.lemmas.Bool.Decides.{nat_tests}
 use Rattle.std.proofs.lemmas.List.Folds.{list_all-append}
 use Rattle.std.proofs.lemmas.Str.Ascii.{IsAscii-cons, IsAscii-nil}
-use Rattle.mysql_value_core.specs.Literal.{escaped_byte, escaped, padded, fraction, after_hours, day_text, date_text, time_text}
+use Rattle.mysql_value_core.specs.Literal.{escaped_byte, escaped, padded, fraction, after_hours, day_text, is_midnight, date_text, time_text}
 use Rattle.mysql_value_core.specs.ReadLiteral.{is_digit}
 use Rattle.mysql_value_core.proofs.DigitLemmas.{all_digits-decimal}
 
@@ -73,10 +73,10 @@ pub IsClockText-date_text : (year month day hour minute second micros : ℕ) →
     → day < 2 ^ 64 → hour < 2 ^ 64 → minute < 2 ^ 64 → second < 2 ^ 64 → micros < 2 ^ 64
     → IsClockText (date_text year month day hour minute second micros)
 IsClockText-date_text year month day hour minute second micros y m d h i s u =
-    cond_both (eqb hour 0 && eqb minute 0 && eqb second 0 && eqb micros 0) _ _ IsClockText
+    cond_both (is_midnight hour minute second micros) _ _ IsClockText
     (λ _. IsClockText-day_text year month day y m d)
     (λ _. joined (joined (joined (IsClockText-day_text year month day y m d) (only 32 refl)) (IsClockText-padded 2 hour h))
-      (IsClockText-after_hours minute second micros i s u))
+    (IsClockText-after_hours minute second micros i s u))
 
 pub IsClockText-time_text : (negative : Bool) (days hours minutes seconds micros : ℕ) → days * 24 + hours < 2 ^ 64
     → minutes < 2 ^ 64 → seconds < 2 ^ 64 → micros < 2 ^ 64

@@ -48,9 +48,9 @@ high_character mode c h =
     cond_both (ltb c 128) _ _ P (λ e. absurd (omega (arith, ltb-true c 128 e))) (λ _.
     cond_both (ltb c 2048) _ _ P (λ _. high_cons mode _ _ (omega arith) (high_cons mode _ _ (omega arith) refl)) (λ _.
     cond_both (ltb c 65536) _ _ P
-      (λ _. high_cons mode _ _ (omega arith) (high_cons mode _ _ (omega arith) (high_cons mode _ _ (omega arith) refl)))
-      (λ _. high_cons mode _ _ (omega arith) (high_cons mode _ _ (omega arith)
-        (high_cons mode _ _ (omega arith) (high_cons mode _ _ (omega arith) refl))))))
+    (λ _. high_cons mode _ _ (omega arith) (high_cons mode _ _ (omega arith) (high_cons mode _ _ (omega arith) refl)))
+    (λ _. high_cons mode _ _ (omega arith) (high_cons mode _ _ (omega arith)
+    (high_cons mode _ _ (omega arith) (high_cons mode _ _ (omega arith) refl))))))
 
 IsUtf8-escaped_character : (mode : Bool) (c : ℕ) → scalar c ≡ true → IsUtf8 (escaped mode (encode c))
 IsUtf8-escaped_character mode c s =

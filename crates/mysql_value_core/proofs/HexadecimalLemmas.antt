@@ -43,7 +43,7 @@ read_pairs-hexadecimal (b ∷ bytes) rest small h =
     let whole : 16 * hex_digit_value (hex_digit (b / 16)) + hex_digit_value (hex_digit (b % 16)) ≡ b = omega arith in
     cond-true (is_hex_digit (hex_digit (b / 16)) && is_hex_digit (hex_digit (b % 16))) _ _ (are_hex_digits b below)
     ∙ ap (λ r. ((16 * hex_digit_value (hex_digit (b / 16)) + hex_digit_value (hex_digit (b % 16))) ∷ r.0, r.1))
-        (read_pairs-hexadecimal bytes rest (λ i. small (suc i)) h)
+    (read_pairs-hexadecimal bytes rest (λ i. small (suc i)) h)
     ∙ ap (λ n. (n ∷ bytes, rest)) whole
 
 not_hex_digit : (b : ℕ) → continues_literal b ≡ false → is_hex_digit b ≡ false
@@ -64,9 +64,11 @@ AreHexPairs-hexadecimal (b ∷ []) small some =
     let below : b < 256 = small 0 in
     (is_hex_digit-hex_digit (b / 16) (omega arith), is_hex_digit-hex_digit (b % 16) (omega arith))
 AreHexPairs-hexadecimal (b ∷ c ∷ bytes) small some =
-    let below : b < 256 = small 0 in
-    (is_hex_digit-hex_digit (b / 16) (omega arith), is_hex_digit-hex_digit (b % 16) (omega arith),
-     AreHexPairs-hexadecimal (c ∷ bytes) (λ i. small (suc i)) (omega arith))
+    let below : b < 256 = small 0 in (
+      is_hex_digit-hex_digit (b / 16) (omega arith),
+      is_hex_digit-hex_digit (b % 16) (omega arith),
+      AreHexPairs-hexadecimal (c ∷ bytes) (λ i. small (suc i)) (omega arith),
+    )
 
 hex_digit_ascii : (n : ℕ) → n < 16 → hex_digit n < 128
 hex_digit_ascii n h = grind (arith, nat_tests)

@@ -1,7 +1,7 @@
 -- What holds of the literal of every value: it reads as the value's content, has the shape of literals,
 -- and is UTF-8.
 use Rattle.std.proofs.Common.{◌≡◌, ℕ, Bool, true, false, List, [], ◌∷◌, ◌++◌, length, get_or, subst, sym, ◌∙◌, ap, arith, refl, ◌<◌, ◌^◌, ◌+◌, ◌*◌, suc, rules}
-use Rattle.std.specs.Prelude.{Some, None, IfSome, IsNone, IsTrue, ◌↔◌, pos, negsuc, ℤ, codes}
+use Rattle.std.specs.Prelude.{IfSome, is_none, pos, negsuc, ℤ, codes}
 use Rattle.std.specs.List.{list_all}
 use Rattle.std.specs.Fmt.{decimal, signed_decimal}
 use Rattle.std.specs.Str.{IsUtf8, is_utf8}
@@ -127,8 +127,8 @@ IsUtf8-bytes mode bytes small =
     cond_both (is_utf8 bytes) _ _ IsUtf8
     (λ utf8. IsUtf8-quoted (escaped mode bytes) (IsUtf8-escaped mode bytes (IsUtf8-from_is_utf8 bytes utf8)))
     (λ _. IsUtf8-from_ascii (48 ∷ 120 ∷ hexadecimal bytes)
-      (IsAscii-cons 48 (120 ∷ hexadecimal bytes) (omega arith)
-      (IsAscii-cons 120 (hexadecimal bytes) (omega arith) (IsAscii-hexadecimal bytes small))))
+    (IsAscii-cons 48 (120 ∷ hexadecimal bytes) (omega arith)
+    (IsAscii-cons 120 (hexadecimal bytes) (omega arith) (IsAscii-hexadecimal bytes small))))
 
 pub literal_utf8 : (mode : Bool) (value : Value) → FieldsInRange value → IfSome (literal_of mode value) IsUtf8
 literal_utf8 mode NULL r = IsUtf8-from_ascii (codes "NULL") (IsAscii-from_all (codes "NULL") (search rules))
@@ -142,25 +142,25 @@ literal_utf8 mode (Time n d h m s u) r = IsUtf8-clock (time_text n d h m s u) (t
 
 -- floats
 
-pub no_literal : (mode : Bool) (value : Value) → IsNone (literal_of mode value) ↔ IsTrue (is_float value)
-no_literal mode NULL = search rules
-no_literal mode (Bytes bytes) = search rules
-no_literal mode (Int n) = search rules
-no_literal mode (UInt n) = search rules
-no_literal mode (Float bits) = search rules
-no_literal mode (Double bits) = search rules
-no_literal mode (Date y m d h i s u) = search rules
-no_literal mode (Time n d h m s u) = search rules
+pub is_none-literal_of : (mode : Bool) (value : Value) → is_none (literal_of mode value) ≡ is_float value
+is_none-literal_of mode NULL = refl
+is_none-literal_of mode (Bytes bytes) = refl
+is_none-literal_of mode (Int n) = refl
+is_none-literal_of mode (UInt n) = refl
+is_none-literal_of mode (Float bits) = refl
+is_none-literal_of mode (Double bits) = refl
+is_none-literal_of mode (Date y m d h i s u) = refl
+is_none-literal_of mode (Time n d h m s u) = refl
 
-pub no_content : (value : Value) → IsNone (content_of value) ↔ IsTrue (is_float value)
-no_content NULL = search rules
-no_content (Bytes bytes) = search rules
-no_content (Int n) = search rules
-no_content (UInt n) = search rules
-no_content (Float bits) = search rules
-no_content (Double bits) = search rules
-no_content (Date y m d h i s u) = search rules
-no_content (Time n d h m s u) = search rules
+pub is_none-content_of : (value : Value) → is_none (content_of value) ≡ is_float value
+is_none-content_of NULL = refl
+is_none-content_of (Bytes bytes) = refl
+is_none-content_of (Int n) = refl
+is_none-content_of (UInt n) = refl
+is_none-content_of (Float bits) = refl
+is_none-content_of (Double bits) = refl
+is_none-content_of (Date y m d h i s u) = refl
+is_none-content_of (Time n d h m s u) = refl
 
 -- the literal of bytes, by whether they are UTF-8
 

@@ -17,7 +17,7 @@ escaped_byte_units b rest units =
     cond_both (eqb b 92) _ _ P (λ _. escape_unit refl units) (λ no_escape.
     cond_both (eqb b 39) _ _ P (λ _. escape_unit refl units) (λ no_quote.
     cond_both (eqb b 34) _ _ P (λ _. escape_unit refl units) (λ _.
-      byte_unit (eqb-false b 39 no_quote) no_escape units)))))))
+    byte_unit (eqb-false b 39 no_quote) no_escape units)))))))
 
 escaped_units : (bytes : List ℕ) → AreUnits false 39 (escaped false bytes)
 escaped_units [] = no_units
@@ -39,7 +39,7 @@ doubled_strings front (b ∷ bytes) units = elim (cases_Bool (eqb b 39)) [
   | inl quote ↦ rw quote (subst (λ t. AreClosedStrings true (39 ∷ t))
       (append_assoc front (39 ∷ []) (39 ∷ (escaped true bytes ++ 39 ∷ [])))
       (more_strings (39 ∷ (front ++ 39 ∷ [])) (39 ∷ (escaped true bytes ++ 39 ∷ [])) (closed_string front units)
-        (doubled_strings [] bytes no_units)))
+      (doubled_strings [] bytes no_units)))
   | inr other ↦ rw other (subst (λ t. AreClosedStrings true (39 ∷ t))
       (append_assoc front (b ∷ []) (escaped true bytes ++ 39 ∷ []))
       (doubled_strings (front ++ b ∷ []) bytes (units_and_byte front b units other)))

@@ -83,7 +83,7 @@ negative_reads : (mode : Bool) (n : ℕ) → suc n < 2 ^ 64
     → ReadsBefore continues_literal mode (45 ∷ decimal (suc n)) (number (negsuc n))
 negative_reads mode n h rest b =
     ap (λ read. or_else (option_map (λ r. (number (neg_ℤ (pos r.0)), r.1)) read)
-      (or_else (read_positive (45 ∷ (decimal (suc n) ++ rest))) (read_string mode (45 ∷ (decimal (suc n) ++ rest)))))
+    (or_else (read_positive (45 ∷ (decimal (suc n) ++ rest))) (read_string mode (45 ∷ (decimal (suc n) ++ rest)))))
     (read_natural-decimal (suc n) rest h (before_no_digit rest b))
 
 pub signed_reads : (mode : Bool) (z : ℤ) → mag z < 2 ^ 63 → ReadsBefore continues_literal mode (signed_decimal z) (number z)

@@ -24,8 +24,8 @@ read_escaped_byte true b text =
 read_escaped_byte false b text =
     let P : List ℕ → Type 0 = λ t. read_units false (t ++ text) ≡ prefix_read (b ∷ []) (read_units false text) in
     let same : (k : ℕ) → eqb b k ≡ true
-          → prefix_read (k ∷ []) (read_units false text) ≡ prefix_read (b ∷ []) (read_units false text) =
-        λ k e. ap (λ c. prefix_read (c ∷ []) (read_units false text)) (sym (eqb-true b k e)) in
+    → prefix_read (k ∷ []) (read_units false text) ≡ prefix_read (b ∷ []) (read_units false text) =
+    λ k e. ap (λ c. prefix_read (c ∷ []) (read_units false text)) (sym (eqb-true b k e)) in
     cond_both (eqb b 0) _ _ P (same 0) (λ _.
     cond_both (eqb b 10) _ _ P (same 10) (λ _.
     cond_both (eqb b 13) _ _ P (same 13) (λ _.

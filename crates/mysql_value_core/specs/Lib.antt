@@ -6,4 +6,5 @@ pub mod Literal
 pub mod Content
 pub mod ReadLiteral
 pub mod ReadBack
+pub mod AsSql
 pub mod LiteralShape

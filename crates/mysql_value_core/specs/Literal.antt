@@ -64,10 +64,15 @@ after_hours minutes seconds microseconds =
 abbrev pub day_text : ℕ → ℕ → ℕ → List ℕ
 day_text year month day = padded 4 year ++ codes "-" ++ padded 2 month ++ codes "-" ++ padded 2 day
 
--- what stands between the quotes of a date: the day alone where the time of day is all zero
+-- whether the time of day is all zero
+abbrev pub is_midnight : ℕ → ℕ → ℕ → ℕ → Bool
+is_midnight hour minute second microseconds =
+    hour == 0 && minute == 0 && second == 0 && microseconds == 0
+
+-- what stands between the quotes of a date: the day alone at midnight
 abbrev pub date_text : ℕ → ℕ → ℕ → ℕ → ℕ → ℕ → ℕ → List ℕ
 date_text year month day hour minute second microseconds =
-    if hour == 0 && minute == 0 && second == 0 && microseconds == 0 then day_text year month day
+    if is_midnight hour minute second microseconds then day_text year month day
     else day_text year month day ++ codes " " ++ padded 2 hour ++ after_hours minute second microseconds
 
 -- what stands between the quotes of a time: days count as 24 hours each

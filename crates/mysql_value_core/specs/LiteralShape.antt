@@ -21,13 +21,13 @@ AreHexPairs (a ∷ b ∷ c ∷ bytes) = IsTrue (is_hex_digit a) × IsTrue (is_he
 -- a closed string: a single quote, units, a single quote
 pub data IsClosedString (mode : Bool) : List ℕ → Type 0 where
   closed_string : (body : List ℕ) → AreUnits mode (byte "'") body
-    → IsClosedString mode (codes "'" ++ body ++ codes "'")
+      → IsClosedString mode (codes "'" ++ body ++ codes "'")
 
 -- one or more closed strings, each directly behind the one before
 pub data AreClosedStrings (mode : Bool) : List ℕ → Type 0 where
   one_string : (string : List ℕ) → IsClosedString mode string → AreClosedStrings mode string
   more_strings : (string rest : List ℕ) → IsClosedString mode string → AreClosedStrings mode rest
-    → AreClosedStrings mode (string ++ rest)
+      → AreClosedStrings mode (string ++ rest)
 
 -- A literal in quotes: one closed string with backslash escapes, and without them one or more, since a
 -- doubled quote ends one string and begins the next.

@@ -22,6 +22,6 @@ is_escape true b = false
 pub data AreUnits (mode : Bool) (quote : ℕ) : List ℕ → Type 0 where
   no_units : AreUnits mode quote []
   byte_unit : {b : ℕ} {bytes : List ℕ} → b ≢ quote → IsFalse (is_escape mode b)
-    → AreUnits mode quote bytes → AreUnits mode quote (b ∷ bytes)
+      → AreUnits mode quote bytes → AreUnits mode quote (b ∷ bytes)
   escape_unit : {b c : ℕ} {bytes : List ℕ} → IsTrue (is_escape mode b)
-    → AreUnits mode quote bytes → AreUnits mode quote (b ∷ c ∷ bytes)
+      → AreUnits mode quote bytes → AreUnits mode quote (b ∷ c ∷ bytes)

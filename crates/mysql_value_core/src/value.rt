@@ -2,7 +2,10 @@
 ghost use Rattle.std.specs.Prelude.{◌≡◌, IfOk, OnErr};
 ghost use Rattle.mysql_value_core.specs.Value.{FieldsInRange, IsBytes};
 
+mod literal;
+
 use crate::bytes::Bytes;
+pub use literal::AsSqlError;
 use std::alloc::AllocError;
 
 /// A value of the MySQL client/server protocol.
