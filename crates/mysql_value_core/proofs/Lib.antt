@@ -8,3 +8,4 @@ pub mod PaddedLemmas
 pub mod EscapedLemmas
 pub mod QuotedLemmas
 pub mod LiteralLemmas
+mod TextCellLemmas

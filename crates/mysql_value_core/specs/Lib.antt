@@ -8,3 +8,4 @@ pub mod ReadLiteral
 pub mod ReadBack
 pub mod AsSql
 pub mod LiteralShape
+pub mod TextCell

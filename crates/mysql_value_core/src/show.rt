@@ -1,4 +1,6 @@
-//! How bytes are shown in messages.
+//! How bytes and values are shown for debugging and in messages. `Shown` is lent to the crates
+//! above, whose messages show names.
+use crate::value::Value;
 use std::fmt;
 
 /// Bytes that are shown: those from 32 to 126 other than `"` and `\` as themselves, and each other
@@ -18,4 +20,48 @@ impl fmt::Display for Shown<'_> {
         }
         Ok(())
     }
+}
+
+/// The variant and its fields. Floats show their bits in decimal; dates and times show their SQL
+/// text in double quotes.
+impl fmt::Debug for Value {
+    fn fmt<W: fmt::Write>(&self, f: &mut fmt::Formatter<W>) -> fmt::Result {
+        match self {
+            Value::NULL => write!(f, "Null"),
+            Value::Bytes(bytes) => write!(f, "Bytes({bytes:?})"),
+            Value::Int(number) => write!(f, "Int({})", *number),
+            Value::UInt(number) => write!(f, "UInt({})", *number),
+            Value::Float(bits) => write!(f, "Float({})", *bits),
+            Value::Double(bits) => write!(f, "Double({})", *bits),
+            Value::Date(year, month, day, hour, minute, second, microseconds) => {
+                write!(f, "Date(\"'{:04}-{:02}-{:02}", *year, *month, *day)?;
+                if *hour != 0 || *minute != 0 || *second != 0 || *microseconds != 0 {
+                    write!(f, " {:02}", *hour)?;
+                    show_after_hours(f, *minute, *second, *microseconds)?;
+                }
+                write!(f, "'\")")
+            }
+            Value::Time(negative, days, hours, minutes, seconds, microseconds) => {
+                let sign = if *negative { "-" } else { "" };
+                let hours = u64::from(*days) * 24 + u64::from(*hours);
+                write!(f, "Time(\"'{sign}{hours:03}")?;
+                show_after_hours(f, *minutes, *seconds, *microseconds)?;
+                write!(f, "'\")")
+            }
+        }
+    }
+}
+
+// Minutes and seconds, and microseconds where they are not 0.
+fn show_after_hours<W: fmt::Write>(
+    f: &mut fmt::Formatter<W>,
+    minutes: u8,
+    seconds: u8,
+    microseconds: u32,
+) -> fmt::Result {
+    write!(f, ":{minutes:02}:{seconds:02}")?;
+    if microseconds != 0 {
+        write!(f, ".{microseconds:06}")?;
+    }
+    Ok(())
 }

@@ -3,10 +3,14 @@ ghost use Rattle.std.specs.Prelude.{◌≡◌, IfOk, OnErr};
 ghost use Rattle.mysql_value_core.specs.Value.{FieldsInRange, IsBytes};
 
 mod literal;
+mod text;
+
+pub use crate::value::literal::AsSqlError;
+pub use crate::value::text::{TextValue, read_text_cells};
 
 use crate::bytes::Bytes;
-pub use literal::AsSqlError;
 use std::alloc::AllocError;
+use std::marker::PhantomData;
 
 /// A value of the MySQL client/server protocol.
 ///
@@ -81,6 +85,10 @@ impl Value {
         }
     }
 }
+
+/// A value that is read from the form that `T` names: `TextValue`.
+#[derive(Drop)]
+pub struct ValueDeserializer<T>(pub Value, PhantomData<T>);
 
 /// What the containers of the standard library copy their items by: the inherent `clone`.
 impl Clone for Value {

@@ -1,0 +1,112 @@
+//! Values: how they are shown, compared and copied.
+use mysql_values::bytes::Bytes;
+use mysql_values::value::Value;
+use std::alloc::{AllocError, Global};
+use std::cmp::Ordering;
+use std::test::Fail;
+
+// The value that holds these bytes.
+fn bytes(alloc: Global, text: &[u8]) -> Result<Value, AllocError> {
+    Ok(Value::Bytes(Bytes::from(Vec::from_slice(alloc, text)?)))
+}
+
+#[test]
+fn debug_texts(rt: HostRuntime) -> Result<(), Fail> {
+    let alloc = rt.alloc();
+    let table = [
+        (Value::NULL, "Null"),
+        (bytes(alloc, b"")?, "Bytes(\"\")"),
+        (bytes(alloc, b"it's ok!")?, "Bytes(\"it's ok!\")"),
+        (bytes(alloc, b"123456789")?, "Bytes(\"12345678..\")"),
+        (
+            bytes(alloc, b"\"\\\x00\x1f ~\x7f\xff")?,
+            "Bytes(\"\\x22\\x5c\\x00\\x1f ~\\x7f\\xff\")",
+        ),
+        (Value::Int(-3), "Int(-3)"),
+        (Value::UInt(5), "UInt(5)"),
+        (Value::Float(1065353216), "Float(1065353216)"),
+        (Value::Double(0), "Double(0)"),
+        (
+            Value::Date(2019, 11, 27, 0, 0, 0, 0),
+            "Date(\"'2019-11-27'\")",
+        ),
+        (
+            Value::Date(1, 2, 3, 0, 0, 4, 0),
+            "Date(\"'0001-02-03 00:00:04'\")",
+        ),
+        (
+            Value::Date(2019, 11, 27, 12, 30, 0, 56),
+            "Date(\"'2019-11-27 12:30:00.000056'\")",
+        ),
+        (
+            Value::Date(65535, 255, 255, 0, 0, 0, 4294967295),
+            "Date(\"'65535-255-255 00:00:00.4294967295'\")",
+        ),
+        (
+            Value::Time(true, 300, 8, 8, 8, 123456),
+            "Time(\"'-7208:08:08.123456'\")",
+        ),
+        (Value::Time(true, 0, 0, 0, 0, 0), "Time(\"'-000:00:00'\")"),
+        (
+            Value::Time(false, 4294967295, 255, 0, 0, 0),
+            "Time(\"'103079215335:00:00'\")",
+        ),
+    ];
+    for (value, text) in &table {
+        assert_eq!(rt; format!(in alloc; "{value:?}")?.as_str(), *text);
+    }
+    Ok(())
+}
+
+// Values in their order, no two of them equal.
+fn ascending(alloc: Global) -> Result<[Value; 20], AllocError> {
+    Ok([
+        Value::NULL,
+        bytes(alloc, b"")?,
+        bytes(alloc, b"a")?,
+        bytes(alloc, b"ab")?,
+        bytes(alloc, b"b")?,
+        bytes(alloc, b"\xff")?,
+        Value::Int(-1),
+        Value::Int(0),
+        Value::UInt(0),
+        Value::UInt(9223372036854775808),
+        // The bits of 1.0 and of -1.0.
+        Value::Float(1065353216),
+        Value::Float(3212836864),
+        Value::Double(0),
+        Value::Date(2018, 12, 31, 23, 59, 59, 999999),
+        Value::Date(2019, 1, 1, 0, 0, 0, 0),
+        Value::Date(2019, 1, 1, 0, 0, 0, 1),
+        Value::Time(false, 1, 0, 0, 0, 0),
+        Value::Time(false, 1, 0, 0, 1, 0),
+        Value::Time(true, 0, 0, 0, 0, 0),
+        Value::Time(true, 1, 0, 0, 0, 0),
+    ])
+}
+
+#[test]
+fn equality_and_order(rt: HostRuntime) -> Result<(), Fail> {
+    let values = ascending(rt.alloc())?;
+    for (i, a) in values.iter().enumerate() {
+        for (j, b) in values.iter().enumerate() {
+            assert_eq!(rt; a == b, i == j, "{a:?} and {b:?}");
+            assert_eq!(rt; a.cmp(b), i.cmp(&j), "{a:?} and {b:?}");
+            assert_eq!(rt; a.partial_cmp(b), Some(i.cmp(&j)), "{a:?} and {b:?}");
+        }
+    }
+    Ok(())
+}
+
+#[test]
+fn copies(rt: HostRuntime) -> Result<(), Fail> {
+    let alloc = rt.alloc();
+    for value in &ascending(alloc)? {
+        assert_eq!(rt; value.clone()?, *value);
+    }
+    let text = Bytes::from(Vec::from_slice(alloc, b"text")?);
+    assert_eq!(rt; text.clone()?, text);
+    assert_eq!(rt; text.as_slice(), b"text".as_slice());
+    assert_eq!(rt; Vec::<u8>::from(text).as_slice(), b"text".as_slice());
+    Ok(())
+}

@@ -1,0 +1,89 @@
+-- Cells that are read one after another: those read so far, and the reading of what follows them.
+use Rattle.std.proofs.Common.{◌≡◌, ◌∙◌, ◌⊎◌, ap, sym, refl, inl, inr, arith, ℕ, zero, suc, ◌+◌, ◌-◌, ◌<◌, List, [], ◌∷◌, ◌++◌, append_assoc, subst}
+use Rattle.std.specs.Prelude.{Result, Ok, Err, IsOk, IsErrAnd}
+use Rattle.mysql_wire_part.specs.declared.error.WireError.{WireError}
+use Rattle.mysql_wire_part.specs.declared.error.WireError.TheVariants.{UnexpectedEof, BadLengthLead, UnsupportedColumn, Memory}
+use Rattle.mysql_wire_part.specs.ParseBuf.{AnswersReading}
+use Rattle.mysql_wire_part.specs.Reading.{Reading, ReadRefusal, unexpected_eof, bad_length_lead, unsupported_column, map_read, and_then_read}
+use Rattle.mysql_value_core.specs.declared.value.Value.{Value}
+use Rattle.mysql_value_core.specs.TextCell.{read_cell, read_cells, ReadsBytes, ReadsACell}
+
+-- the cells so far, in front of those that are read next
+abbrev pub behind : List Value → Reading (List Value) → Reading (List Value)
+behind before read = map_read (λ cells. before ++ cells) read
+
+-- a cell in front of those that are read next
+abbrev in_front_of : ℕ → Value → List ℕ → Reading (List Value)
+in_front_of count cell rest = map_read (λ cells. cell ∷ cells) (read_cells count rest)
+
+-- one cell more is read so far, and one fewer next
+behind-cell : (before : List Value) (cell : Value) (read : Reading (List Value))
+    → behind before (map_read (λ cells. cell ∷ cells) read) ≡ behind (before ++ cell ∷ []) read
+behind-cell before cell (Ok read) =
+    ap (λ cells. Ok (cells, read.1)) (sym (append_assoc before (cell ∷ []) read.0))
+behind-cell before cell (Err refusal) = refl
+
+-- a reading of bytes is one
+reads : (read : Reading Value) → ReadsBytes read → IsOk read
+reads (Ok read) bytes = refl
+reads (Err refusal) bytes = absurd bytes
+
+-- where a cell is wanted and the first is read, a cell is read
+reads_a_cell : (count : ℕ) (bytes : List ℕ) → 0 < count → IsOk (read_cell bytes)
+    → ReadsACell count bytes
+reads_a_cell zero bytes some read = absurd (omega arith)
+reads_a_cell (suc count) bytes some read = read
+
+-- what is known of the reading after `counter` of `count` cells
+module _ (count counter : ℕ) (bytes rest : List ℕ) (before : List Value)
+    (within : counter < count)
+    (read_on : read_cells count bytes ≡ behind before (read_cells (count - counter) rest))
+    (first : ((counter ≡ 0) × (rest ≡ bytes)) ⊎ ReadsACell count bytes) where
+  one_more : read_cells count bytes
+      ≡ behind before (and_then_read (read_cell rest) (in_front_of (count - (counter + 1))))
+  one_more =
+      let next : count - counter ≡ suc (count - (counter + 1)) = omega arith in
+      read_on ∙ ap (λ n. behind before (read_cells n rest)) next
+
+  -- where this cell is read, it stands behind those so far
+  pub next_cell : (cell : Value) (next : List ℕ) → read_cell rest ≡ Ok (cell, next)
+      → read_cells count bytes
+      ≡ behind (before ++ cell ∷ []) (read_cells (count - (counter + 1)) next)
+  next_cell cell next read =
+      one_more
+      ∙ ap (λ r. behind before (and_then_read r (in_front_of (count - (counter + 1))))) read
+      ∙ behind-cell before cell (read_cells (count - (counter + 1)) next)
+
+  refused_next : (refusal : ReadRefusal) → read_cell rest ≡ Err refusal
+      → read_cells count bytes ≡ Err refusal
+  refused_next refusal read =
+      one_more
+      ∙ ap (λ r. behind before (and_then_read r (in_front_of (count - (counter + 1))))) read
+
+  -- where this cell is read, so is the first
+  pub first_cell : IsOk (read_cell rest) → ReadsACell count bytes
+  first_cell read = elim first [
+    | inl here ↦
+        reads_a_cell count bytes (omega arith) (subst (λ bs. IsOk (read_cell bs)) here.1 read)
+    | inr cell ↦ cell
+  ]
+
+  -- the refusal of this cell is that of all of them
+  refused_all : {X Y : Type 0} (seen : X → Value × List ℕ) (seen' : Y → List Value × List ℕ)
+      (e : WireError) → AnswersReading seen (read_cell rest) (ReadsBytes (read_cell rest)) (Err e)
+      → AnswersReading seen' (read_cells count bytes) (ReadsACell count bytes) (Err e)
+  refused_all seen seen' UnexpectedEof answer = refused_next unexpected_eof answer
+  refused_all seen seen' (BadLengthLead lead) answer = refused_next (bad_length_lead lead) answer
+  refused_all seen seen' (UnsupportedColumn column) answer =
+      refused_next (unsupported_column column) answer
+  refused_all seen seen' (Memory error) answer = first_cell (reads (read_cell rest) answer)
+
+  -- and so it is what `?` returns
+  pub cell_refused : {X Y : Type 0} (seen : X → Value × List ℕ) (seen' : Y → List Value × List ℕ)
+      (e : WireError) (result : Result Y WireError) → IsErrAnd result (λ e'. e' ≡ e)
+      → AnswersReading seen (read_cell rest) (ReadsBytes (read_cell rest)) (Err e)
+      → AnswersReading seen' (read_cells count bytes) (ReadsACell count bytes) result
+  cell_refused seen seen' e (Ok cells) returned answer = absurd returned
+  cell_refused seen seen' e (Err e') returned answer =
+      subst (λ e'. AnswersReading seen' (read_cells count bytes) (ReadsACell count bytes) (Err e'))
+      (sym returned) (refused_all seen seen' e answer)

@@ -1,0 +1,13 @@
+use Rattle.std.proofs.Common.{◌≡◌, ◌-◌, ◌≤◌, ◌++◌, ◌⊎◌}
+use Rattle.mysql_wire_part.specs.ParseBuf.{left}
+use Rattle.mysql_wire_part.specs.Reading.{map_read}
+use Rattle.mysql_value_core.specs.TextCell.{read_cells, ReadsACell}
+use Rattle.mysql_value_core.proofs.value.text.read_text_cells.Given as goal
+
+abbrev pub invariant-loop : goal.invariant-loop
+invariant-loop l = record {
+  within : l.counter ≤ l.count;
+  read_on : read_cells l.count (left l.fn.buf)
+      ≡ map_read (λ cells. l.cells.items ++ cells) (read_cells (l.count - l.counter) (left l.rest));
+  first : ((l.counter ≡ 0) × (left l.rest ≡ left l.fn.buf)) ⊎ ReadsACell l.count (left l.fn.buf);
+}

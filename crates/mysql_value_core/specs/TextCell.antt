@@ -1,0 +1,34 @@
+-- Cells of a row in text form (MySQL client/server protocol, "Text Resultset Row").
+use Rattle.std.specs.Prelude.{◌==◌, ℕ, zero, suc, List, [], ◌∷◌, IsOk, Ok, Err, if◌then◌else◌}
+use Rattle.mysql_wire_part.specs.Reading.{Reading, unexpected_eof, map_read, and_then_read}
+use Rattle.mysql_wire_part.specs.Lenenc.{read_lenenc}
+use Rattle.mysql_value_core.specs.Value.{IsBytes}
+use Rattle.mysql_value_core.specs.declared.value.Value.{Value}
+use Rattle.mysql_value_core.specs.declared.value.Value.TheVariants.{NULL, Bytes}
+
+-- the byte that is a cell of NULL: FB
+abbrev pub null_cell : ℕ
+null_cell = 251
+
+-- a cell is NULL, or bytes as a length-encoded string
+abbrev pub read_cell : List ℕ → Reading Value
+read_cell [] = Err unexpected_eof
+read_cell (lead ∷ bytes) =
+    if lead == null_cell then Ok (NULL, bytes) else map_read Bytes (read_lenenc (lead ∷ bytes))
+
+-- so many cells in a row, or the refusal of the first that has one
+abbrev pub read_cells : ℕ → List ℕ → Reading (List Value)
+read_cells zero bytes = Ok ([], bytes)
+read_cells (suc count) bytes =
+    and_then_read (read_cell bytes) (λ cell rest.
+    map_read (λ cells. cell ∷ cells) (read_cells count rest))
+
+-- the value that is read is bytes, the one kind that takes memory
+abbrev pub ReadsBytes : Reading Value → Type 0
+ReadsBytes (Ok read) = IsBytes read.0
+ReadsBytes (Err refusal) = ⊥
+
+-- at least one cell is read, for which a list takes memory
+abbrev pub ReadsACell : ℕ → List ℕ → Type 0
+ReadsACell zero bytes = ⊥
+ReadsACell (suc count) bytes = IsOk (read_cell bytes)

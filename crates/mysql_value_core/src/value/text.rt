@@ -1,0 +1,73 @@
+//! Values of rows in text form.
+ghost use Rattle.std.specs.Prelude.{◌≡◌, OnErr};
+ghost use Rattle.mysql_wire_part.specs.ParseBuf.{left, AnswersReading};
+ghost use Rattle.mysql_value_core.specs.TextCell.{read_cell, read_cells, ReadsBytes, ReadsACell};
+ghost use Rattle.mysql_value_core.specs.declared.value.Value as value;
+
+use crate::bytes::Bytes;
+use crate::value::{Value, ValueDeserializer};
+use mysql_wire_part::{MyDeserialize, ParseBuf, WireError};
+use std::alloc::{AllocError, Global};
+use std::marker::PhantomData;
+
+/// The text form of a value, a cell: NULL, or bytes.
+#[derive(Drop)]
+pub struct TextValue;
+
+impl<'de> MyDeserialize<'de> for ValueDeserializer<TextValue> {
+    const SIZE: Option<usize> = None;
+
+    type Ctx = ();
+
+    ghost Seen = { value.Value };
+
+    ghost seen = { λ deserializer. deserializer.0 };
+
+    ghost reads = { λ _ bytes. read_cell bytes };
+
+    ghost takes_memory = { λ _ bytes. ReadsBytes (read_cell bytes) };
+
+    fn deserialize(alloc: Global, _ctx: (), buf: &mut ParseBuf<'de>) -> Result<Self, WireError> {
+        let value = eat_cell(alloc, buf)?;
+        Ok(ValueDeserializer(value, PhantomData))
+    }
+}
+
+/// Reads so many cells. It asks for the room of a cell only once the cell is there. On each error
+/// the buffer is unchanged; it is the error of the first cell that has one, or want of memory.
+pub fn read_text_cells(
+    alloc: Global,
+    buf: &mut ParseBuf<'_>,
+    count: usize,
+) -> Result<Vec<Value>, WireError>
+    // Memory may be refused first, but not before a cell was read.
+    ensures read { AnswersReading (λ cells. (cells.items, left buf.new))
+        (read_cells count (left buf.old)) (ReadsACell count (left buf.old)) result }
+    ensures unchanged { OnErr result (left buf.new ≡ left buf.old) }
+{
+    let mut rest = *buf;
+    let mut cells = Vec::new(alloc);
+    for _ in 0..count {
+        let cell = eat_cell(alloc, &mut rest)?;
+        cells.push(cell).map_err(AllocError::from)?;
+    }
+    *buf = rest;
+    Ok(cells)
+}
+
+// The cell at the front of the buffer.
+fn eat_cell(alloc: Global, buf: &mut ParseBuf<'_>) -> Result<Value, WireError>
+    ensures read { AnswersReading (λ cell. (cell, left buf.new))
+        (read_cell (left buf.old)) (ReadsBytes (read_cell (left buf.old))) result }
+    ensures unchanged { OnErr result (left buf.new ≡ left buf.old) }
+{
+    if let [0xFB, rest @ ..] = buf.0 {
+        buf.0 = rest;
+        return Ok(Value::NULL);
+    }
+    let mut rest = *buf;
+    let text = rest.eat_lenenc_str()?;
+    let bytes = Bytes::from(Vec::from_slice(alloc, text)?);
+    *buf = rest;
+    Ok(Value::Bytes(bytes))
+}

@@ -1,0 +1,1 @@
+pub use mysql_value_core::show::Shown;

@@ -1,0 +1,4 @@
+pub mod Reading
+pub mod Lenenc
+pub mod ParseBuf
+pub mod Column

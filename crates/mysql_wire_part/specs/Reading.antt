@@ -1,0 +1,38 @@
+-- What stands at the front of some bytes: fixed-length strings and integers
+-- (MySQL client/server protocol, "Protocol::FixedLengthString" and "Protocol::FixedLengthInteger").
+use Rattle.std.specs.Prelude.{ℕ, nat_le, List, length, take, drop, Result, Ok, Err, if◌then◌else◌}
+use Rattle.byteorder.specs.Endian.{little_number}
+use Rattle.mysql_wire_part.specs.declared.column.ColumnType.{ColumnType}
+
+-- why nothing can be read; want of memory is no such reason
+pub data ReadRefusal : Type 0 where
+  -- too few bytes
+  unexpected_eof : ReadRefusal
+  -- a byte that begins no length stands where a length is wanted
+  bad_length_lead : ℕ → ReadRefusal
+  -- values of this column type are not read
+  unsupported_column : ColumnType → ReadRefusal
+
+-- what stands at the front and the bytes that follow it, or why nothing can be read
+abbrev pub Reading : Type 0 → Type 0
+Reading X = Result (X × List ℕ) ReadRefusal
+
+-- the first n bytes
+abbrev pub read_bytes : ℕ → List ℕ → Reading (List ℕ)
+read_bytes n bytes =
+    if nat_le n (length bytes) then Ok (take n bytes, drop n bytes) else Err unexpected_eof
+
+-- the number of the first n bytes, least byte first
+abbrev pub read_number : ℕ → List ℕ → Reading ℕ
+read_number n bytes =
+    if nat_le n (length bytes) then Ok (little_number n bytes, drop n bytes) else Err unexpected_eof
+
+-- what is made of the thing that is read
+abbrev pub map_read : {X Y : Type 0} → (X → Y) → Reading X → Reading Y
+map_read make (Ok read) = Ok (make read.0, read.1)
+map_read make (Err refusal) = Err refusal
+
+-- what is read next, which may depend on the thing read before it
+abbrev pub and_then_read : {X Y : Type 0} → Reading X → (X → List ℕ → Reading Y) → Reading Y
+and_then_read (Ok read) next = next read.0 read.1
+and_then_read (Err refusal) next = Err refusal

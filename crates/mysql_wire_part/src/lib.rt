@@ -1,0 +1,16 @@
+//! What MySQL values need of the wire: a buffer that is read from its front, length-encoded
+//! strings, types and flags of columns, and the traits of what is written and read.
+#![tactic(auto)]
+
+mod codec;
+mod column;
+mod error;
+pub mod laws;
+mod lenenc;
+mod parse_buf;
+
+pub use crate::codec::{MyDeserialize, MySerialize};
+pub use crate::column::{ColumnFlags, ColumnType};
+pub use crate::error::WireError;
+pub use crate::lenenc::{lenenc_str_len, put_lenenc_str};
+pub use crate::parse_buf::ParseBuf;

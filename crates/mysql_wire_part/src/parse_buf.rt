@@ -1,0 +1,126 @@
+ghost use Rattle.std.specs.Prelude.{◌≡◌, ◌↔◌, [], length, IsTrue, OnErr, option_map};
+ghost use Rattle.byteorder.specs.Endian.{twos_complement};
+ghost use Rattle.mysql_wire_part.specs.Reading.{read_bytes, read_number, map_read};
+ghost use Rattle.mysql_wire_part.specs.Lenenc.{read_lenenc};
+ghost use Rattle.mysql_wire_part.specs.ParseBuf.{left, Eats, AnswersReading};
+
+use crate::error::WireError;
+use crate::lenenc::length_at;
+use byteorder::{ByteOrder, LittleEndian};
+
+/// The bytes that are left of a buffer. Each call that eats takes what it answers off the front.
+#[derive(Clone, Copy, Debug, PartialEq, Eq)]
+pub struct ParseBuf<'a>(pub &'a [u8]);
+
+impl<'a> ParseBuf<'a> {
+    /// Whether no bytes are left.
+    pub fn is_empty(&self) -> bool
+        ensures { IsTrue result ↔ (left self.now ≡ []) }
+    {
+        self.0.is_empty()
+    }
+
+    /// How many bytes are left.
+    pub fn len(&self) -> usize
+        ensures { result ≡ length (left self.now) }
+    {
+        self.0.len()
+    }
+
+    /// The next byte.
+    pub fn checked_eat_u8(&mut self) -> Option<u8>
+        ensures { Eats (read_number 1 (left self.old)) (left self.old) (left self.new) result }
+    {
+        let front = self.checked_eat_buf(1)?;
+        Some(front.0[0])
+    }
+
+    /// The next byte, in two's complement.
+    pub fn checked_eat_i8(&mut self) -> Option<i8>
+        ensures { Eats (map_read (twos_complement 1) (read_number 1 (left self.old)))
+            (left self.old) (left self.new) result }
+    {
+        let n = self.checked_eat_u8()?;
+        Some(n.cast_signed())
+    }
+
+    /// The number of the next 2 bytes, least byte first.
+    pub fn checked_eat_u16_le(&mut self) -> Option<u16>
+        ensures { Eats (read_number 2 (left self.old)) (left self.old) (left self.new) result }
+    {
+        let front = self.checked_eat_buf(2)?;
+        Some(LittleEndian::read_u16(front.0))
+    }
+
+    /// The number of the next 2 bytes, least byte first, in two's complement.
+    pub fn checked_eat_i16_le(&mut self) -> Option<i16>
+        ensures { Eats (map_read (twos_complement 2) (read_number 2 (left self.old)))
+            (left self.old) (left self.new) result }
+    {
+        let n = self.checked_eat_u16_le()?;
+        Some(n.cast_signed())
+    }
+
+    /// The number of the next 4 bytes, least byte first.
+    pub fn checked_eat_u32_le(&mut self) -> Option<u32>
+        ensures { Eats (read_number 4 (left self.old)) (left self.old) (left self.new) result }
+    {
+        let front = self.checked_eat_buf(4)?;
+        Some(LittleEndian::read_u32(front.0))
+    }
+
+    /// The number of the next 4 bytes, least byte first, in two's complement.
+    pub fn checked_eat_i32_le(&mut self) -> Option<i32>
+        ensures { Eats (map_read (twos_complement 4) (read_number 4 (left self.old)))
+            (left self.old) (left self.new) result }
+    {
+        let n = self.checked_eat_u32_le()?;
+        Some(n.cast_signed())
+    }
+
+    /// The number of the next 8 bytes, least byte first.
+    pub fn checked_eat_u64_le(&mut self) -> Option<u64>
+        ensures { Eats (read_number 8 (left self.old)) (left self.old) (left self.new) result }
+    {
+        let front = self.checked_eat_buf(8)?;
+        Some(LittleEndian::read_u64(front.0))
+    }
+
+    /// The number of the next 8 bytes, least byte first, in two's complement.
+    pub fn checked_eat_i64_le(&mut self) -> Option<i64>
+        ensures { Eats (map_read (twos_complement 8) (read_number 8 (left self.old)))
+            (left self.old) (left self.new) result }
+    {
+        let n = self.checked_eat_u64_le()?;
+        Some(n.cast_signed())
+    }
+
+    /// The next `n` bytes, as a buffer of their own.
+    pub fn checked_eat_buf(&mut self, n: usize) -> Option<ParseBuf<'a>>
+        ensures { Eats (read_bytes n (left self.old)) (left self.old) (left self.new)
+            (option_map left result) }
+    {
+        if self.0.len() < n {
+            return None;
+        }
+        let (front, rest) = self.0.split_at(n);
+        self.0 = rest;
+        Some(ParseBuf(front))
+    }
+
+    /// The next length-encoded string, as a slice of the input.
+    pub fn eat_lenenc_str(&mut self) -> Result<&'a [u8], WireError>
+        // It takes no memory, so it never answers want of it.
+        ensures read { AnswersReading (λ text. (text.now, left self.new))
+            (read_lenenc (left self.old)) ⊥ result }
+        ensures unchanged { OnErr result (left self.new ≡ left self.old) }
+    {
+        let (len, rest) = length_at(self.0)?;
+        if (rest.len() as u64) < len {
+            return Err(WireError::UnexpectedEof);
+        }
+        let (text, rest) = rest.split_at(len as usize);
+        self.0 = rest;
+        Ok(text)
+    }
+}
