@@ -2,6 +2,8 @@
 #![tactic(auto)]
 
 #[cfg(test)]
+mod literals;
+#[cfg(test)]
 mod text_cells;
 #[cfg(test)]
 mod values;
