@@ -4,6 +4,8 @@
 #[cfg(test)]
 mod all_short_queries;
 #[cfg(test)]
+mod literals;
+#[cfg(test)]
 mod program;
 #[cfg(test)]
 mod queries;

@@ -1,2 +1,11 @@
 mod ValueOrderLemmas
+pub mod ReadStringLemmas
+pub mod DigitLemmas
+pub mod ReadNumberLemmas
+pub mod HexadecimalLemmas
+pub mod ClockLemmas
+pub mod PaddedLemmas
+pub mod EscapedLemmas
+pub mod QuotedLemmas
+pub mod LiteralLemmas
 mod TextCellLemmas

@@ -1,4 +1,11 @@
 pub mod Bytes
 pub mod Value
 pub mod ValueOrder
+pub mod StringUnits
+pub mod Literal
+pub mod Content
+pub mod ReadLiteral
+pub mod ReadBack
+pub mod AsSql
+pub mod LiteralShape
 pub mod TextCell

@@ -7,6 +7,13 @@ ghost use Rattle.std.specs.declared.cmp.Ordering.TheVariants.{Equal};
 ghost use Rattle.mysql_value_core.specs.declared.value.Value as value;
 ghost use Rattle.mysql_value_core.specs.ValueOrder.{value_cmp};
 
+mod literals;
+
+pub use literals::{
+    as_sql_error_equality, escapes_read, floats_have_no_literal, literal_reads_back, literal_shape,
+    numbers_read,
+};
+
 use crate::bytes::Bytes;
 use crate::value::Value;
 use std::cmp::Ordering;

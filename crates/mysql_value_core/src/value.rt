@@ -2,13 +2,15 @@
 ghost use Rattle.std.specs.Prelude.{◌≡◌, IfOk, OnErr};
 ghost use Rattle.mysql_value_core.specs.Value.{FieldsInRange, IsBytes};
 
+mod literal;
+mod text;
+
+pub use crate::value::literal::AsSqlError;
+pub use crate::value::text::{TextValue, read_text_cells};
+
 use crate::bytes::Bytes;
 use std::alloc::AllocError;
 use std::marker::PhantomData;
-
-mod text;
-
-pub use crate::value::text::{TextValue, read_text_cells};
 
 /// A value of the MySQL client/server protocol.
 ///

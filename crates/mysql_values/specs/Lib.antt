@@ -2,3 +2,10 @@ pub use Rattle.mysql_value_core.specs.Bytes
 pub use Rattle.mysql_value_core.specs.Value
 pub use Rattle.mysql_value_core.specs.ValueOrder
 pub use Rattle.mysql_value_core.specs.TextCell
+pub use Rattle.mysql_value_core.specs.StringUnits
+pub use Rattle.mysql_value_core.specs.Literal
+pub use Rattle.mysql_value_core.specs.Content
+pub use Rattle.mysql_value_core.specs.ReadLiteral
+pub use Rattle.mysql_value_core.specs.ReadBack
+pub use Rattle.mysql_value_core.specs.AsSql
+pub use Rattle.mysql_value_core.specs.LiteralShape

@@ -1,1 +1,3 @@
-pub use mysql_value_core::value::{TextValue, Value, ValueDeserializer, read_text_cells};
+pub use mysql_value_core::value::{
+    AsSqlError, TextValue, Value, ValueDeserializer, read_text_cells,
+};

@@ -1,0 +1,27 @@
+use Rattle.std.proofs.Common.{◌≡◌, ℕ, List, sym, subst, ap, ◌∙◌, take, length, ◌++◌, arith}
+use Rattle.std.specs.Prelude.{IfSome, string_bytes, vec_items}
+use Rattle.std.specs.Str.{IsUtf8}
+use Rattle.std.proofs.Math.Seq.{take-append_seam}
+use Rattle.mysql_value_core.specs.ReadBack.{ReadsAs}
+use Rattle.mysql_value_core.proofs.LiteralLemmas.{literal_reads, literal_utf8}
+use Rattle.mysql_value_core.proofs.value.Value.as_sql.Goals as goal
+
+-- the vector holds the room that was lent, and nothing behind it
+whole_room : (len : ℕ) (room behind : List ℕ) → length room ≡ len → take len (room ++ behind) ≡ room
+whole_room len room behind whole = ap (λ n. take n (room ++ behind)) (sym whole) ∙ take-append_seam room behind
+
+pub from_utf8_unchecked-requires : goal.from_utf8_unchecked-requires
+from_utf8_unchecked-requires c =
+    let utf8 = literal_utf8 c.args.no_backslash_escape c.args.self.now c.fields_in_range.ensures in
+    subst IsUtf8 (sym (whole_room c.in_ok-text.text.len c.put_sql.new.room _ (omega arith)))
+    (subst (λ o. IfSome o IsUtf8) c.put_sql.ensures utf8)
+
+pub returns-clause-reads_back : goal.returns-clause-reads_back
+returns-clause-reads_back c =
+    let mode = c.args.no_backslash_escape in
+    let value = c.args.self.now in
+    let room = c.put_sql.new.room in
+    let text : string_bytes c.from_utf8_unchecked.result ≡ room =
+    ap vec_items c.from_utf8_unchecked.ensures.value ∙ whole_room c.in_ok-text.text.len room _ (omega arith) in
+    let reads = literal_reads mode value c.fields_in_range.ensures in
+    subst (ReadsAs mode value) (sym text) (subst (λ o. IfSome o (ReadsAs mode value)) c.put_sql.ensures reads)

@@ -1,0 +1,25 @@
+-- What a literal says, and what a value says, whatever its type: an integer of either type is a number,
+-- and a date or a time is the bytes between the quotes of its literal.
+use Rattle.std.specs.Prelude.{ℕ, ℤ, pos, List, Option, Some, None}
+use Rattle.mysql_value_core.specs.declared.value.Value.{Value}
+use Rattle.mysql_value_core.specs.declared.value.Value.TheVariants.{NULL, Bytes, Int, UInt, Float, Double, Date, Time}
+use Rattle.mysql_value_core.specs.Literal.{date_text, time_text}
+
+-- null, a whole number, or bytes
+pub data Content : Type 0 where
+  null : Content
+  number : ℤ → Content
+  byte_string : List ℕ → Content
+
+-- the content of a value; floats have none
+abbrev pub content_of : Value → Option Content
+content_of NULL = Some null
+content_of (Bytes bytes) = Some (byte_string bytes)
+content_of (Int n) = Some (number n)
+content_of (UInt n) = Some (number (pos n))
+content_of (Float bits) = None
+content_of (Double bits) = None
+content_of (Date year month day hour minute second microseconds) =
+    Some (byte_string (date_text year month day hour minute second microseconds))
+content_of (Time negative days hours minutes seconds microseconds) =
+    Some (byte_string (time_text negative days hours minutes seconds microseconds))

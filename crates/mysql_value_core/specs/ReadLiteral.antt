@@ -1,0 +1,121 @@
+-- How a literal is read (MySQL Reference Manual, "NULL Values", "Hexadecimal Literals", "Numeric
+-- Literals", "String Literals" and its table "Special Character Escape Sequences"). It shares nothing
+-- with the definition of what is written, and no code uses it. A mode is the flag
+-- `no_backslash_escape`: `true` is the mode without backslash escapes. Unlike the manual, it takes
+-- hexadecimal digits in pairs alone.
+use Rattle.std.specs.Prelude.{ℕ, ◌+◌, ◌-◌, ◌*◌, nat_le, Bool, true, false, ◌==◌, ◌&&◌, ◌||◌, List, [], ◌∷◌, ◌++◌, codes, Option, Some, None, option_map, option_and_then, ℤ, pos, neg_ℤ, if◌then◌else◌}
+use Rattle.mysql_value_core.specs.Content.{Content, null, number, byte_string}
+use Rattle.std.specs.Str.{byte}
+
+-- what follows a word at the front of a text
+abbrev pub after : List ℕ → List ℕ → Option (List ℕ)
+after [] text = Some text
+after (a ∷ word) [] = None
+after (a ∷ word) (b ∷ text) = if a == b then after word text else None
+
+-- whether a byte is an ASCII digit
+abbrev pub is_digit : ℕ → Bool
+is_digit b = nat_le (byte "0") b && nat_le b (byte "9")
+
+-- whether a byte is a hexadecimal digit, of either case
+abbrev pub is_hex_digit : ℕ → Bool
+is_hex_digit b = is_digit b
+    || ((nat_le (byte "A") b && nat_le b (byte "F")) || (nat_le (byte "a") b && nat_le b (byte "f")))
+
+-- the number that a hexadecimal digit stands for
+abbrev pub hex_digit_value : ℕ → ℕ
+hex_digit_value b =
+    if is_digit b then b - byte "0" else (
+    if nat_le b (byte "F") then 10 + (b - byte "A") else 10 + (b - byte "a"))
+
+-- the bytes of the longest run of pairs of hexadecimal digits, and what follows
+abbrev pub read_pairs : List ℕ → List ℕ × List ℕ
+read_pairs [] = ([], [])
+read_pairs (a ∷ []) = ([], a ∷ [])
+read_pairs (a ∷ b ∷ text) =
+    if is_hex_digit a && is_hex_digit b
+    then ((16 * hex_digit_value a + hex_digit_value b) ∷ (read_pairs text).0, (read_pairs text).1)
+    else ([], a ∷ b ∷ text)
+
+-- bytes, if there are any, and what follows them
+abbrev pub if_any : List ℕ × List ℕ → Option (Content × List ℕ)
+if_any ([], text) = None
+if_any (b ∷ bytes, text) = Some (byte_string (b ∷ bytes), text)
+
+-- the number that digits go on to, after the number so far, up to what is no digit
+abbrev pub read_digits : ℕ → List ℕ → ℕ × List ℕ
+read_digits n [] = (n, [])
+read_digits n (b ∷ text) =
+    if is_digit b then read_digits (10 * n + (b - byte "0")) text else (n, b ∷ text)
+
+-- the number of the longest run of digits, of which there is one at least, and what follows
+abbrev pub read_natural : List ℕ → Option (ℕ × List ℕ)
+read_natural [] = None
+read_natural (b ∷ text) = if is_digit b then Some (read_digits 0 (b ∷ text)) else None
+
+-- The bytes that a backslash and this byte stand for. Before `%` and `_` the backslash stays, and
+-- before a byte that is not named here it is ignored.
+abbrev pub unescaped : ℕ → List ℕ
+unescaped b =
+    if b == byte "0" then 0 ∷ [] else (
+    if b == byte "b" then 8 ∷ [] else (
+    if b == byte "t" then byte "\t" ∷ [] else (
+    if b == byte "n" then byte "\n" ∷ [] else (
+    if b == byte "r" then byte "\r" ∷ [] else (
+    if b == byte "Z" then 26 ∷ [] else (
+    if b == byte "%" || b == byte "_" then byte "\\" ∷ b ∷ [] else b ∷ []))))))
+
+-- whether a byte begins a pair that stands for other bytes
+abbrev pub begins_pair : Bool → ℕ → Bool
+begins_pair false b = b == byte "\\"
+begins_pair true b = false
+
+-- bytes before those that are read
+abbrev pub prefix_read : List ℕ → Option (List ℕ × List ℕ) → Option (List ℕ × List ℕ)
+prefix_read bytes read = option_map (λ r. (bytes ++ r.0, r.1)) read
+
+-- The bytes of the units behind an opening quote, up to a quote that no quote follows, and what follows
+-- that; none where no quote ends them. Two quotes in a row are one.
+abbrev pub read_units : Bool → List ℕ → Option (List ℕ × List ℕ)
+read_units mode [] = None
+read_units mode (a ∷ []) = if a == byte "'" then Some ([], []) else None
+read_units mode (a ∷ b ∷ text) =
+    if a == byte "'"
+    then (if b == byte "'" then prefix_read (codes "'") (read_units mode text) else Some ([], b ∷ text))
+    else (if begins_pair mode a then prefix_read (unescaped b) (read_units mode text)
+    else prefix_read (a ∷ []) (read_units mode (b ∷ text)))
+
+-- `NULL`
+abbrev pub read_null : List ℕ → Option (Content × List ℕ)
+read_null text = option_map (λ rest. (null, rest)) (after (codes "NULL") text)
+
+-- `0x` and at least one pair of hexadecimal digits
+abbrev pub read_hexadecimal : List ℕ → Option (Content × List ℕ)
+read_hexadecimal text = option_and_then (λ digits. if_any (read_pairs digits)) (after (codes "0x") text)
+
+-- at least one digit
+abbrev pub read_positive : List ℕ → Option (Content × List ℕ)
+read_positive text = option_map (λ r. (number (pos r.0), r.1)) (read_natural text)
+
+-- `-` and at least one digit
+abbrev pub read_negative : List ℕ → Option (Content × List ℕ)
+read_negative text =
+    option_and_then (λ digits. option_map (λ r. (number (neg_ℤ (pos r.0)), r.1)) (read_natural digits))
+    (after (codes "-") text)
+
+-- a string between single quotes
+abbrev pub read_string : Bool → List ℕ → Option (Content × List ℕ)
+read_string mode text =
+    option_and_then (λ units. option_map (λ r. (byte_string r.0, r.1)) (read_units mode units))
+    (after (codes "'") text)
+
+-- the first reading, or where there is none the other
+abbrev pub or_else : {X : Type 0} → Option X → Option X → Option X
+or_else None other = other
+or_else (Some x) other = Some x
+
+-- the content of the literal that a text begins with, and what follows it
+abbrev pub read_literal : Bool → List ℕ → Option (Content × List ℕ)
+read_literal mode text =
+    or_else (read_null text) (or_else (read_hexadecimal text)
+    (or_else (read_negative text) (or_else (read_positive text) (read_string mode text))))

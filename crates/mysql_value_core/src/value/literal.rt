@@ -1,0 +1,121 @@
+//! SQL literals of values.
+ghost use Rattle.std.specs.Prelude.{◌≡◌, length, Some, Err, IfOk, IsTrue, alloc_error, option_map, string_bytes};
+ghost use Rattle.mysql_value_core.specs.declared.value.literal.AsSqlError as AsSqlError;
+ghost use Rattle.mysql_value_core.specs.declared.value.literal.AsSqlError.TheVariants.{Memory};
+ghost use Rattle.mysql_value_core.specs.AsSql.{AnswersLiteral};
+ghost use Rattle.mysql_value_core.specs.Literal.{is_float, literal_of};
+ghost use Rattle.mysql_value_core.specs.ReadBack.{ReadsAs};
+
+mod dates;
+mod numbers;
+mod strings;
+
+use crate::value::Value;
+use std::alloc::{AllocError, Global};
+use thiserror::Error;
+
+/// Why a value has no SQL literal.
+#[derive(Debug, PartialEq, Drop, Error)]
+pub enum AsSqlError {
+    /// The value is a float, of either width.
+    #[error("Float has no SQL text")]
+    Float,
+    /// There was no memory for the text.
+    #[error("out of memory")]
+    Memory(AllocError),
+}
+
+impl From<AllocError> for AsSqlError {
+    ghost from_gives = { λ _ error. error ≡ Memory alloc_error };
+
+    fn from(error: AllocError) -> AsSqlError {
+        AsSqlError::Memory(error)
+    }
+}
+
+impl Value {
+    /// The SQL literal of the value (MySQL Reference Manual, "Literal Values").
+    ///
+    /// Bytes that are UTF-8 are a string, and others are in hexadecimal. A server that runs in the SQL
+    /// mode NO_BACKSLASH_ESCAPES is to be given the literal with `no_backslash_escape`.
+    pub fn as_sql(&self, alloc: Global, no_backslash_escape: bool) -> Result<String, AsSqlError>
+        ensures gives { AnswersLiteral (literal_of no_backslash_escape self.now) result }
+        // A float takes no memory.
+        ensures float { IsTrue (is_float self.now) → result ≡ Err AsSqlError.Float }
+        ensures reads_back { IfOk result (λ sql. ReadsAs no_backslash_escape self.now (string_bytes sql)) }
+    {
+        let Some(len) = self.sql_len(no_backslash_escape) else {
+            return Err(AsSqlError::Float);
+        };
+        let Ok(len) = usize::try_from(len) else {
+            return Err(AsSqlError::Memory(AllocError));
+        };
+        let mut text = vec![in alloc; 0u8; len]?;
+        self.fields_in_range();
+        self.put_sql(no_backslash_escape, text.as_mut_slice());
+        Ok(unsafe { String::from_utf8_unchecked(text) })
+    }
+
+    // How long the literal is; floats have none.
+    fn sql_len(&self, no_backslash_escape: bool) -> Option<u128>
+        ensures { result ≡ option_map length (literal_of no_backslash_escape self.now) }
+    {
+        match self {
+            Value::NULL => Some(4),
+            Value::Bytes(bytes) => Some(strings::literal_len(
+                bytes.as_slice(),
+                no_backslash_escape,
+            )),
+            Value::Int(number) => Some(numbers::signed_len(*number)),
+            Value::UInt(number) => Some(numbers::decimal_len(*number) as u128),
+            Value::Float(_) | Value::Double(_) => None,
+            Value::Date(year, month, day, hour, minute, second, microseconds) => {
+                Some(dates::date_len(*year, *month, *day, *hour, *minute, *second, *microseconds))
+            }
+            Value::Time(negative, days, hours, minutes, seconds, microseconds) => {
+                Some(dates::time_len(*negative, *days, *hours, *minutes, *seconds, *microseconds))
+            }
+        }
+    }
+
+    // Fills the room with the literal.
+    fn put_sql(&self, no_backslash_escape: bool, room: &mut [u8])
+        requires { option_map length (literal_of no_backslash_escape self.now) ≡ Some (length room.old) }
+        ensures { literal_of no_backslash_escape self.now ≡ Some room.new }
+    {
+        match self {
+            Value::NULL => room.copy_from_slice(b"NULL"),
+            Value::Bytes(bytes) => strings::fill_literal(
+                room,
+                bytes.as_slice(),
+                no_backslash_escape,
+            ),
+            Value::Int(number) => numbers::fill_signed(room, *number),
+            Value::UInt(number) => numbers::fill_padded(room, *number),
+            Value::Float(_) | Value::Double(_) => unreachable!(),
+            Value::Date(year, month, day, hour, minute, second, microseconds) => {
+                dates::fill_date(
+                    room,
+                    *year,
+                    *month,
+                    *day,
+                    *hour,
+                    *minute,
+                    *second,
+                    *microseconds,
+                )
+            }
+            Value::Time(negative, days, hours, minutes, seconds, microseconds) => {
+                dates::fill_time(
+                    room,
+                    *negative,
+                    *days,
+                    *hours,
+                    *minutes,
+                    *seconds,
+                    *microseconds,
+                )
+            }
+        }
+    }
+}
