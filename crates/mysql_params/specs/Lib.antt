@@ -1,4 +1,3 @@
-pub mod StringUnits
 pub mod Bytes
 pub mod Tokens
 pub mod Places

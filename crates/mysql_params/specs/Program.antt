@@ -2,7 +2,7 @@
 use Rattle.std.specs.Prelude.{◌≡◌, ◌&&◌, ℕ, nat_lt, Bool, List, [], ◌∷◌, ◌++◌, length, map, if◌then◌else◌, Result, Ok, Err, codes, String, string_bytes}
 use Rattle.std.specs.Global.{Global}
 use Rattle.std.specs.Str.{bytes_eq}
-use Rattle.mysql_params.specs.StringUnits.{with_backslashes}
+use Rattle.mysql_values.specs.StringUnits.{with_backslashes}
 use Rattle.mysql_params.specs.Bytes.{newline}
 use Rattle.mysql_params.specs.Tokens.{Token, OnTokens, text_of}
 use Rattle.mysql_params.specs.Places.{names, marks, renamed}

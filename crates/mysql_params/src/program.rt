@@ -2,7 +2,7 @@
 ghost use Rattle.std.specs.Prelude.{◌≡◌, ◌≢◌, ◌↔◌, ◌++◌, ◌∷◌, [], ℕ, List, map, Some, IsErrOf, IsErrAnd, IfOk, IfErr, OnOk, OnErr, IsOk};
 ghost use Rattle.std.specs.Io.KnownBytes.{Appends};
 ghost use Rattle.std.specs.Cow.{cow_slice_items};
-ghost use Rattle.mysql_params.specs.StringUnits.{with_backslashes};
+ghost use Rattle.mysql_values.specs.StringUnits.{with_backslashes};
 ghost use Rattle.mysql_params.specs.Bytes.{newline};
 ghost use Rattle.mysql_params.specs.Tokens.{OnTokens};
 ghost use Rattle.mysql_params.specs.NamedParamsErrors.{mixed};

@@ -1,6 +1,6 @@
 //! The token at the front of a text.
 ghost use Rattle.std.specs.Prelude.{◌≡◌, ◌+◌, ◌<◌, ◌≤◌, length, take, drop, IsTrue};
-ghost use Rattle.mysql_params.specs.StringUnits.{is_escape};
+ghost use Rattle.mysql_values.specs.StringUnits.{is_escape};
 ghost use Rattle.mysql_params.specs.Bytes.{is_white_space, is_start_byte, is_name_byte, is_quote, begins, IsUpTo};
 ghost use Rattle.mysql_params.specs.Tokens.{IsStringTail};
 ghost use Rattle.mysql_params.specs.FirstToken.{IsNameFront, IsFirstToken, opens_dash_comment, opens_block_comment};
