@@ -11,7 +11,7 @@ use crate::run_error::RunError;
 
 /// No query has two token lists in one mode.
 pub fn one_token_list()
-    ensures { (mode : Bool) (query : List ℕ) (ts us : List Token) →
+    ensures unique { (mode : Bool) (query : List ℕ) (ts us : List Token) →
         IsTokens mode query ts → IsTokens mode query us → ts ≡ us }
 {}
 
@@ -24,33 +24,33 @@ pub fn positions_of_places()
 
 /// Putting the names back in place of the marks undoes the renaming of a query without marks.
 pub fn renaming_undone()
-    ensures { (ts : List Token) → marks ts ≡ 0 → restored (renamed ts) (names ts) ≡ ts }
+    ensures undone { (ts : List Token) → marks ts ≡ 0 → restored (renamed ts) (names ts) ≡ ts }
 {}
 
 /// Errors of reading names are equal where they are the same error.
 pub fn mixed_error_equality(a: &MixedParamsError, b: &MixedParamsError) -> bool
-    ensures { IsTrue result ↔ (a.now ≡ b.now) }
+    ensures same { IsTrue result ↔ (a.now ≡ b.now) }
 {
     a == b
 }
 
 /// Errors of reading names are equal where variant and field are.
 pub fn named_params_error_equality(a: &NamedParamsError, b: &NamedParamsError) -> bool
-    ensures { IsTrue result ↔ (a.now ≡ b.now) }
+    ensures same { IsTrue result ↔ (a.now ≡ b.now) }
 {
     a == b
 }
 
 /// Parsed queries are equal where the query with marks and the names are.
 pub fn parsed_equality(a: &ParsedNamedParams<'_>, b: &ParsedNamedParams<'_>) -> bool
-    ensures { IsTrue result ↔ (a.now ≡ b.now) }
+    ensures same { IsTrue result ↔ (a.now ≡ b.now) }
 {
     a == b
 }
 
 /// Errors of a run are equal where variant and field are.
 pub fn run_error_equality(a: &RunError, b: &RunError) -> bool
-    ensures { IsTrue result ↔ (a.now ≡ b.now) }
+    ensures same { IsTrue result ↔ (a.now ≡ b.now) }
 {
     a == b
 }

@@ -145,7 +145,7 @@ impl<'a> ParsedNamedParams<'a> {
 
     /// The query with `?` in place of each name, and all else as it was.
     pub fn query(&self) -> &[u8]
-        ensures { result.now ≡ self.now.query }
+        ensures query { result.now ≡ self.now.query }
     {
         self.query.as_slice()
     }

@@ -29,7 +29,7 @@ impl RunError {
 
     /// The exit status of the program: 1 where the query is refused, and otherwise 2.
     pub fn status(&self) -> u8
-        ensures { result ≡ status_of self.now }
+        ensures status { result ≡ status_of self.now }
     {
         match self {
             RunError::Mixed => 1,

@@ -2,4 +2,4 @@ use Rattle.mysql_params.proofs.TokenListLemmas as lemmas
 use Rattle.mysql_params.proofs.laws.one_token_list.Goals as goal
 
 pub returns : goal.returns
-returns c = lemmas.one_token_list
+returns c = record { unique = lemmas.one_token_list }

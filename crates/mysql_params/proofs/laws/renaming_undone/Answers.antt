@@ -2,4 +2,4 @@ use Rattle.mysql_params.proofs.RenameLemmas.{restored_renamed}
 use Rattle.mysql_params.proofs.laws.renaming_undone.Goals as goal
 
 pub returns : goal.returns
-returns c = restored_renamed
+returns c = record { undone = restored_renamed }
