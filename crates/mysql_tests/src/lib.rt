@@ -2,6 +2,12 @@
 #![tactic(auto)]
 
 #[cfg(test)]
+mod binary;
+#[cfg(test)]
+mod binary_reading;
+#[cfg(test)]
+mod columns;
+#[cfg(test)]
 mod text_cells;
 #[cfg(test)]
 mod values;

@@ -6,8 +6,12 @@ use crate::bytes::Bytes;
 use std::alloc::AllocError;
 use std::marker::PhantomData;
 
+mod binary;
+mod side;
 mod text;
 
+pub use crate::value::binary::BinValue;
+pub use crate::value::side::{ClientSide, SerializationSide, ServerSide};
 pub use crate::value::text::{TextValue, read_text_cells};
 
 /// A value of the MySQL client/server protocol.
@@ -84,7 +88,7 @@ impl Value {
     }
 }
 
-/// A value that is read from the form that `T` names: `TextValue`.
+/// A value that is read from the form that `T` names: `TextValue` or `BinValue`.
 #[derive(Drop)]
 pub struct ValueDeserializer<T>(pub Value, PhantomData<T>);
 

@@ -1,1 +1,4 @@
-pub use mysql_value_core::value::{TextValue, Value, ValueDeserializer, read_text_cells};
+pub use mysql_value_core::value::{
+    BinValue, ClientSide, SerializationSide, ServerSide, TextValue, Value, ValueDeserializer,
+    read_text_cells,
+};
