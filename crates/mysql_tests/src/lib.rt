@@ -4,6 +4,12 @@
 #[cfg(test)]
 mod all_short_queries;
 #[cfg(test)]
+mod binary;
+#[cfg(test)]
+mod binary_reading;
+#[cfg(test)]
+mod columns;
+#[cfg(test)]
 mod literals;
 #[cfg(test)]
 mod program;

@@ -9,3 +9,4 @@ pub mod EscapedLemmas
 pub mod QuotedLemmas
 pub mod LiteralLemmas
 mod TextCellLemmas
+mod BinaryLemmas

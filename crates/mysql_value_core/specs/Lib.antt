@@ -9,3 +9,6 @@ pub mod ReadBack
 pub mod AsSql
 pub mod LiteralShape
 pub mod TextCell
+pub mod BinaryForm
+pub mod BinaryReading
+pub mod BinaryReadBack

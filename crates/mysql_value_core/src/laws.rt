@@ -15,7 +15,7 @@ pub use literals::{
 };
 
 use crate::bytes::Bytes;
-use crate::value::Value;
+use crate::value::{ClientSide, SerializationSide, ServerSide, Value};
 use std::cmp::Ordering;
 
 /// Bytes are equal where the lists are.
@@ -57,4 +57,17 @@ pub fn value_partial_order(a: &Value, b: &Value) -> Option<Ordering>
 pub fn value_order_is_total()
     ensures total { IsTotalOrder value_cmp }
     ensures equal { (a b : value.Value) → (value_cmp a b ≡ Equal) ↔ (a ≡ b) }
+{}
+
+/// Any two `ServerSide` are equal.
+pub fn server_side_equality(a: &ServerSide, b: &ServerSide) -> bool
+    ensures same { IsTrue result ↔ (a.now ≡ b.now) }
+{
+    a == b
+}
+
+/// Null bitmaps of a server begin with two bits that say nothing, those of a client with none.
+pub fn null_bitmap_offsets()
+    ensures server { ⟦<ServerSide as SerializationSide>⟧.BIT_OFFSET ≡ 2 }
+    ensures client { ⟦<ClientSide as SerializationSide>⟧.BIT_OFFSET ≡ 0 }
 {}

@@ -2,10 +2,14 @@
 ghost use Rattle.std.specs.Prelude.{◌≡◌, IfOk, OnErr};
 ghost use Rattle.mysql_value_core.specs.Value.{FieldsInRange, IsBytes};
 
+mod binary;
 mod literal;
+mod side;
 mod text;
 
+pub use crate::value::binary::BinValue;
 pub use crate::value::literal::AsSqlError;
+pub use crate::value::side::{ClientSide, SerializationSide, ServerSide};
 pub use crate::value::text::{TextValue, read_text_cells};
 
 use crate::bytes::Bytes;
@@ -86,7 +90,7 @@ impl Value {
     }
 }
 
-/// A value that is read from the form that `T` names: `TextValue`.
+/// A value that is read from the form that `T` names: `TextValue` or `BinValue`.
 #[derive(Drop)]
 pub struct ValueDeserializer<T>(pub Value, PhantomData<T>);
 

@@ -1,3 +1,4 @@
 pub use mysql_value_core::value::{
-    AsSqlError, TextValue, Value, ValueDeserializer, read_text_cells,
+    AsSqlError, BinValue, ClientSide, SerializationSide, ServerSide, TextValue, Value,
+    ValueDeserializer, read_text_cells,
 };

@@ -9,28 +9,28 @@ use crate::parse_buf::ParseBuf;
 
 /// Equality of buffers is of the bytes that are left.
 pub fn parse_buf_equality(a: &ParseBuf<'_>, b: &ParseBuf<'_>) -> bool
-    ensures { IsTrue result ↔ (left a.now ≡ left b.now) }
+    ensures same { IsTrue result ↔ (left a.now ≡ left b.now) }
 {
     a == b
 }
 
 /// Equality of column types is of variant.
 pub fn column_type_equality(a: &ColumnType, b: &ColumnType) -> bool
-    ensures { IsTrue result ↔ (a.now ≡ b.now) }
+    ensures same { IsTrue result ↔ (a.now ≡ b.now) }
 {
     a == b
 }
 
 /// Equality of column flags is of all bits.
 pub fn column_flags_equality(a: &ColumnFlags, b: &ColumnFlags) -> bool
-    ensures { IsTrue result ↔ (a.now ≡ b.now) }
+    ensures same { IsTrue result ↔ (a.now ≡ b.now) }
 {
     a == b
 }
 
 /// Equality of errors is of variant and fields.
 pub fn wire_error_equality(a: &WireError, b: &WireError) -> bool
-    ensures { IsTrue result ↔ (a.now ≡ b.now) }
+    ensures same { IsTrue result ↔ (a.now ≡ b.now) }
 {
     a == b
 }

@@ -26,7 +26,7 @@ const LEAD_OF_EIGHT: u8 = 0xFE;
 
 /// The number of bytes that these bytes take as a length-encoded string.
 pub fn lenenc_str_len(bytes: &[u8]) -> u64
-    ensures { result ≡ length (lenenc_spelling bytes.now) }
+    ensures count { result ≡ length (lenenc_spelling bytes.now) }
 {
     let len = bytes.len() as u64;
     match len {
@@ -77,7 +77,8 @@ fn length_head(len: u64) -> ([u8; 9], usize)
 
 // The length at the front of the bytes, and the bytes that follow it.
 pub(crate) fn length_at(bytes: &[u8]) -> Result<(u64, &[u8]), WireError>
-    ensures { AnswersReading (λ read. (read.0, read.1.now)) (read_length bytes.now) ⊥ result }
+    ensures read { AnswersReading (λ read. (read.0, read.1.now))
+        (read_length bytes.now) ⊥ result }
 {
     match bytes {
         [] => Err(WireError::UnexpectedEof),
@@ -93,7 +94,8 @@ pub(crate) fn length_at(bytes: &[u8]) -> Result<(u64, &[u8]), WireError>
 fn number_at(bytes: &[u8], count: usize) -> Result<(u64, &[u8]), WireError>
     requires low { 1 ≤ count }
     requires high { count ≤ 8 }
-    ensures { AnswersReading (λ read. (read.0, read.1.now)) (read_number count bytes.now) ⊥ result }
+    ensures read { AnswersReading (λ read. (read.0, read.1.now))
+        (read_number count bytes.now) ⊥ result }
 {
     if bytes.len() < count {
         return Err(WireError::UnexpectedEof);

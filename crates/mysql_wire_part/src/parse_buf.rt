@@ -15,21 +15,21 @@ pub struct ParseBuf<'a>(pub &'a [u8]);
 impl<'a> ParseBuf<'a> {
     /// Whether no bytes are left.
     pub fn is_empty(&self) -> bool
-        ensures { IsTrue result ↔ (left self.now ≡ []) }
+        ensures empty { IsTrue result ↔ (left self.now ≡ []) }
     {
         self.0.is_empty()
     }
 
     /// How many bytes are left.
     pub fn len(&self) -> usize
-        ensures { result ≡ length (left self.now) }
+        ensures count { result ≡ length (left self.now) }
     {
         self.0.len()
     }
 
     /// The next byte.
     pub fn checked_eat_u8(&mut self) -> Option<u8>
-        ensures { Eats (read_number 1 (left self.old)) (left self.old) (left self.new) result }
+        ensures eats { Eats (read_number 1 (left self.old)) (left self.old) (left self.new) result }
     {
         let front = self.checked_eat_buf(1)?;
         Some(front.0[0])
@@ -37,7 +37,7 @@ impl<'a> ParseBuf<'a> {
 
     /// The next byte, in two's complement.
     pub fn checked_eat_i8(&mut self) -> Option<i8>
-        ensures { Eats (map_read (twos_complement 1) (read_number 1 (left self.old)))
+        ensures eats { Eats (map_read (twos_complement 1) (read_number 1 (left self.old)))
             (left self.old) (left self.new) result }
     {
         let n = self.checked_eat_u8()?;
@@ -46,7 +46,7 @@ impl<'a> ParseBuf<'a> {
 
     /// The number of the next 2 bytes, least byte first.
     pub fn checked_eat_u16_le(&mut self) -> Option<u16>
-        ensures { Eats (read_number 2 (left self.old)) (left self.old) (left self.new) result }
+        ensures eats { Eats (read_number 2 (left self.old)) (left self.old) (left self.new) result }
     {
         let front = self.checked_eat_buf(2)?;
         Some(LittleEndian::read_u16(front.0))
@@ -54,7 +54,7 @@ impl<'a> ParseBuf<'a> {
 
     /// The number of the next 2 bytes, least byte first, in two's complement.
     pub fn checked_eat_i16_le(&mut self) -> Option<i16>
-        ensures { Eats (map_read (twos_complement 2) (read_number 2 (left self.old)))
+        ensures eats { Eats (map_read (twos_complement 2) (read_number 2 (left self.old)))
             (left self.old) (left self.new) result }
     {
         let n = self.checked_eat_u16_le()?;
@@ -63,7 +63,7 @@ impl<'a> ParseBuf<'a> {
 
     /// The number of the next 4 bytes, least byte first.
     pub fn checked_eat_u32_le(&mut self) -> Option<u32>
-        ensures { Eats (read_number 4 (left self.old)) (left self.old) (left self.new) result }
+        ensures eats { Eats (read_number 4 (left self.old)) (left self.old) (left self.new) result }
     {
         let front = self.checked_eat_buf(4)?;
         Some(LittleEndian::read_u32(front.0))
@@ -71,7 +71,7 @@ impl<'a> ParseBuf<'a> {
 
     /// The number of the next 4 bytes, least byte first, in two's complement.
     pub fn checked_eat_i32_le(&mut self) -> Option<i32>
-        ensures { Eats (map_read (twos_complement 4) (read_number 4 (left self.old)))
+        ensures eats { Eats (map_read (twos_complement 4) (read_number 4 (left self.old)))
             (left self.old) (left self.new) result }
     {
         let n = self.checked_eat_u32_le()?;
@@ -80,7 +80,7 @@ impl<'a> ParseBuf<'a> {
 
     /// The number of the next 8 bytes, least byte first.
     pub fn checked_eat_u64_le(&mut self) -> Option<u64>
-        ensures { Eats (read_number 8 (left self.old)) (left self.old) (left self.new) result }
+        ensures eats { Eats (read_number 8 (left self.old)) (left self.old) (left self.new) result }
     {
         let front = self.checked_eat_buf(8)?;
         Some(LittleEndian::read_u64(front.0))
@@ -88,7 +88,7 @@ impl<'a> ParseBuf<'a> {
 
     /// The number of the next 8 bytes, least byte first, in two's complement.
     pub fn checked_eat_i64_le(&mut self) -> Option<i64>
-        ensures { Eats (map_read (twos_complement 8) (read_number 8 (left self.old)))
+        ensures eats { Eats (map_read (twos_complement 8) (read_number 8 (left self.old)))
             (left self.old) (left self.new) result }
     {
         let n = self.checked_eat_u64_le()?;
@@ -97,7 +97,7 @@ impl<'a> ParseBuf<'a> {
 
     /// The next `n` bytes, as a buffer of their own.
     pub fn checked_eat_buf(&mut self, n: usize) -> Option<ParseBuf<'a>>
-        ensures { Eats (read_bytes n (left self.old)) (left self.old) (left self.new)
+        ensures eats { Eats (read_bytes n (left self.old)) (left self.old) (left self.new)
             (option_map left result) }
     {
         let (front, rest) = self.0.split_at_checked(n)?;

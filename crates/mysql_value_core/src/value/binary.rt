@@ -1,0 +1,327 @@
+//! Values of rows in binary form.
+ghost use Rattle.std.specs.Prelude.{◌≡◌, ◌≤◌, ◌++◌, length, IsOk, OnOk, OnErr};
+ghost use Rattle.mysql_wire_part.specs.Reading.{read_number, map_read};
+ghost use Rattle.mysql_wire_part.specs.ParseBuf.{left, AnswersReading};
+ghost use Rattle.mysql_wire_part.specs.Column.{is_unsigned};
+ghost use Rattle.mysql_value_core.specs.TextCell.{ReadsBytes};
+ghost use Rattle.mysql_value_core.specs.BinaryForm.{binary_form, date_form, time_form};
+ghost use Rattle.mysql_value_core.specs.BinaryReading.{integer_value, date_value, time_value, read_counted, read_text, read_binary};
+ghost use Rattle.mysql_value_core.specs.BinaryReadBack.{ReadsBackInBinary};
+ghost use Rattle.mysql_value_core.specs.declared.value.Value as value;
+
+use crate::bytes::Bytes;
+use crate::value::{Value, ValueDeserializer};
+use byteorder::{ByteOrder, LittleEndian};
+use mysql_wire_part::{
+    ColumnFlags, ColumnType, Flags, MyDeserialize, MySerialize, ParseBuf, WireError,
+    lenenc_str_len, put_lenenc_str,
+};
+use std::alloc::{AllocError, Global};
+use std::marker::PhantomData;
+
+/// The binary form of a value, which the type of its column and its unsigned flag decide.
+#[derive(Drop)]
+pub struct BinValue;
+
+impl Value {
+    /// The number of bytes of the binary form.
+    pub fn bin_len(&self) -> u64
+        ensures count { result ≡ length (binary_form self.now) }
+    {
+        match self {
+            Value::NULL => 0,
+            Value::Bytes(bytes) => lenenc_str_len(bytes.as_slice()),
+            Value::Int(_) | Value::UInt(_) | Value::Double(_) => 8,
+            Value::Float(_) => 4,
+            Value::Date(0, 0, 0, 0, 0, 0, 0) | Value::Time(_, 0, 0, 0, 0, 0) => 1,
+            Value::Date(_, _, _, 0, 0, 0, 0) => 5,
+            Value::Date(_, _, _, _, _, _, 0) => 8,
+            Value::Date(..) => 12,
+            Value::Time(_, _, _, _, _, 0) => 9,
+            Value::Time(..) => 13,
+        }
+    }
+}
+
+impl MySerialize for Value {
+    ghost spelling = { binary_form };
+
+    /// Appends the binary form, whole or not at all.
+    #[tactic(auto, using(crate::proofs::BinaryLemmas::reads_back_in_binary))]
+    fn serialize(&self, buf: &mut Vec<u8>) -> Result<(), AllocError>
+        ensures appended { OnOk result (buf.new.items ≡ buf.old.items ++ binary_form self.now) }
+        ensures unchanged { OnErr result (buf.new.items ≡ buf.old.items) }
+        ensures no_memory { self.now ≡ Value.NULL → IsOk result }
+
+        ensures reads_back { ReadsBackInBinary self.now }
+    {
+        self.fields_in_range();
+        match self {
+            Value::NULL => Ok(()),
+            Value::Bytes(bytes) => put_lenenc_str(buf, bytes.as_slice()),
+            Value::Int(number) => buf.extend_from_slice(&number.to_le_bytes()),
+            Value::UInt(number) => buf.extend_from_slice(&number.to_le_bytes()),
+            Value::Float(bits) => buf.extend_from_slice(&bits.to_le_bytes()),
+            Value::Double(bits) => buf.extend_from_slice(&bits.to_le_bytes()),
+            Value::Date(year, month, day, hour, minute, second, microseconds) => {
+                put_date(
+                    buf,
+                    *year,
+                    *month,
+                    *day,
+                    *hour,
+                    *minute,
+                    *second,
+                    *microseconds,
+                )
+            }
+            Value::Time(negative, days, hours, minutes, seconds, microseconds) => {
+                put_time(
+                    buf,
+                    *negative,
+                    *days,
+                    *hours,
+                    *minutes,
+                    *seconds,
+                    *microseconds,
+                )
+            }
+        }
+    }
+}
+
+// Appends the binary form of a date.
+fn put_date(
+    buf: &mut Vec<u8>,
+    year: u16,
+    month: u8,
+    day: u8,
+    hour: u8,
+    minute: u8,
+    second: u8,
+    microseconds: u32,
+) -> Result<(), AllocError>
+    ensures appended { OnOk result (buf.new.items
+        ≡ buf.old.items ++ date_form year month day hour minute second microseconds) }
+    ensures unchanged { OnErr result (buf.new.items ≡ buf.old.items) }
+{
+    let [y0, y1] = year.to_le_bytes();
+    if microseconds != 0 {
+        let [u0, u1, u2, u3] = microseconds.to_le_bytes();
+        let form = [11, y0, y1, month, day, hour, minute, second, u0, u1, u2, u3];
+        return buf.extend_from_slice(&form);
+    }
+    if hour != 0 || minute != 0 || second != 0 {
+        return buf.extend_from_slice(&[7, y0, y1, month, day, hour, minute, second]);
+    }
+    if year != 0 || month != 0 || day != 0 {
+        return buf.extend_from_slice(&[4, y0, y1, month, day]);
+    }
+    buf.extend_from_slice(&[0])
+}
+
+// Appends the binary form of a time.
+fn put_time(
+    buf: &mut Vec<u8>,
+    negative: bool,
+    days: u32,
+    hours: u8,
+    minutes: u8,
+    seconds: u8,
+    microseconds: u32,
+) -> Result<(), AllocError>
+    ensures appended { OnOk result (buf.new.items
+        ≡ buf.old.items ++ time_form negative days hours minutes seconds microseconds) }
+    ensures unchanged { OnErr result (buf.new.items ≡ buf.old.items) }
+{
+    let sign = u8::from(negative);
+    let [d0, d1, d2, d3] = days.to_le_bytes();
+    if microseconds != 0 {
+        let [u0, u1, u2, u3] = microseconds.to_le_bytes();
+        let form = [
+            12, sign, d0, d1, d2, d3, hours, minutes, seconds, u0, u1, u2, u3,
+        ];
+        return buf.extend_from_slice(&form);
+    }
+    if days != 0 || hours != 0 || minutes != 0 || seconds != 0 {
+        return buf.extend_from_slice(&[8, sign, d0, d1, d2, d3, hours, minutes, seconds]);
+    }
+    buf.extend_from_slice(&[0])
+}
+
+impl<'de> MyDeserialize<'de> for ValueDeserializer<BinValue> {
+    const SIZE: Option<usize> = None;
+
+    type Ctx = (ColumnType, ColumnFlags);
+
+    ghost Seen = { value.Value };
+
+    ghost seen = { λ deserializer. deserializer.0 };
+
+    ghost reads = { λ ctx bytes. read_binary ctx.0 (is_unsigned ctx.1) bytes };
+
+    ghost takes_memory = { λ ctx bytes. ReadsBytes (read_binary ctx.0 (is_unsigned ctx.1) bytes) };
+
+    fn deserialize(
+        alloc: Global,
+        ctx: (ColumnType, ColumnFlags),
+        buf: &mut ParseBuf<'de>,
+    ) -> Result<Self, WireError> {
+        let mut rest = *buf;
+        let unsigned = ctx.1.contains(ColumnFlags::UNSIGNED_FLAG);
+        let value = eat_value(alloc, ctx.0, unsigned, &mut rest)?;
+        *buf = rest;
+        Ok(ValueDeserializer(value, PhantomData))
+    }
+}
+
+// The value at the front of the buffer. A refusal may leave the buffer at any place.
+fn eat_value(
+    alloc: Global,
+    column: ColumnType,
+    unsigned: bool,
+    buf: &mut ParseBuf<'_>,
+) -> Result<Value, WireError>
+    ensures read { AnswersReading (λ value. (value, left buf.new))
+        (read_binary column unsigned (left buf.old))
+        (ReadsBytes (read_binary column unsigned (left buf.old))) result }
+{
+    match column {
+        ColumnType::MYSQL_TYPE_STRING
+        | ColumnType::MYSQL_TYPE_VAR_STRING
+        | ColumnType::MYSQL_TYPE_BLOB
+        | ColumnType::MYSQL_TYPE_TINY_BLOB
+        | ColumnType::MYSQL_TYPE_MEDIUM_BLOB
+        | ColumnType::MYSQL_TYPE_LONG_BLOB
+        | ColumnType::MYSQL_TYPE_SET
+        | ColumnType::MYSQL_TYPE_ENUM
+        | ColumnType::MYSQL_TYPE_DECIMAL
+        | ColumnType::MYSQL_TYPE_VARCHAR
+        | ColumnType::MYSQL_TYPE_BIT
+        | ColumnType::MYSQL_TYPE_NEWDECIMAL
+        | ColumnType::MYSQL_TYPE_GEOMETRY
+        | ColumnType::MYSQL_TYPE_VECTOR
+        | ColumnType::MYSQL_TYPE_JSON => eat_text(alloc, buf),
+        ColumnType::MYSQL_TYPE_TINY => eat_integer(1, unsigned, buf),
+        ColumnType::MYSQL_TYPE_SHORT | ColumnType::MYSQL_TYPE_YEAR => eat_integer(2, unsigned, buf),
+        ColumnType::MYSQL_TYPE_LONG | ColumnType::MYSQL_TYPE_INT24 => eat_integer(4, unsigned, buf),
+        ColumnType::MYSQL_TYPE_LONGLONG => eat_integer(8, unsigned, buf),
+        ColumnType::MYSQL_TYPE_FLOAT => match buf.checked_eat_u32_le() {
+            Some(bits) => Ok(Value::Float(bits)),
+            None => Err(WireError::UnexpectedEof),
+        },
+        ColumnType::MYSQL_TYPE_DOUBLE => match buf.checked_eat_u64_le() {
+            Some(bits) => Ok(Value::Double(bits)),
+            None => Err(WireError::UnexpectedEof),
+        },
+        ColumnType::MYSQL_TYPE_TIMESTAMP
+        | ColumnType::MYSQL_TYPE_DATE
+        | ColumnType::MYSQL_TYPE_NEWDATE
+        | ColumnType::MYSQL_TYPE_DATETIME => Ok(date_of(eat_counted(buf)?)),
+        ColumnType::MYSQL_TYPE_TIME => Ok(time_of(eat_counted(buf)?)),
+        ColumnType::MYSQL_TYPE_NULL => Ok(Value::NULL),
+        ColumnType::MYSQL_TYPE_TIMESTAMP2
+        | ColumnType::MYSQL_TYPE_DATETIME2
+        | ColumnType::MYSQL_TYPE_TIME2
+        | ColumnType::MYSQL_TYPE_TYPED_ARRAY
+        | ColumnType::MYSQL_TYPE_UNKNOWN => Err(WireError::UnsupportedColumn(column)),
+    }
+}
+
+// A length-encoded string, copied.
+fn eat_text(alloc: Global, buf: &mut ParseBuf<'_>) -> Result<Value, WireError>
+    ensures read { AnswersReading (λ value. (value, left buf.new)) (read_text (left buf.old))
+        (ReadsBytes (read_text (left buf.old))) result }
+{
+    let text = buf.eat_lenenc_str()?;
+    let bytes = Bytes::from(Vec::from_slice(alloc, text)?);
+    Ok(Value::Bytes(bytes))
+}
+
+// A whole number of `width` bytes.
+fn eat_integer(width: usize, unsigned: bool, buf: &mut ParseBuf<'_>) -> Result<Value, WireError>
+    requires low { 1 ≤ width }
+    requires high { width ≤ 8 }
+    ensures read { AnswersReading (λ value. (value, left buf.new))
+        (map_read (integer_value width unsigned) (read_number width (left buf.old))) ⊥ result }
+{
+    let bytes = buf.0;
+    if buf.checked_eat_buf(width).is_none() {
+        return Err(WireError::UnexpectedEof);
+    }
+    if !unsigned {
+        return Ok(Value::Int(LittleEndian::read_int(bytes, width)));
+    }
+    let number = LittleEndian::read_uint(bytes, width);
+    match i64::try_from(number) {
+        Ok(number) => Ok(Value::Int(number)),
+        Err(_) => Ok(Value::UInt(number)),
+    }
+}
+
+// A length byte and that many bytes, which are answered.
+fn eat_counted<'a>(buf: &mut ParseBuf<'a>) -> Result<&'a [u8], WireError>
+    ensures read { AnswersReading (λ fields. (fields.now, left buf.new))
+        (read_counted (left buf.old)) ⊥ result }
+{
+    let Some(count) = buf.checked_eat_u8() else {
+        return Err(WireError::UnexpectedEof);
+    };
+    match buf.checked_eat_buf(count as usize) {
+        Some(fields) => Ok(fields.0),
+        None => Err(WireError::UnexpectedEof),
+    }
+}
+
+// The date of these bytes.
+fn date_of(fields: &[u8]) -> Value
+    ensures fields { result ≡ date_value fields.now }
+{
+    match fields {
+        [y0, y1, month, day, hour, minute, second, u0, u1, u2, u3] => {
+            let year = u16::from_le_bytes([*y0, *y1]);
+            let microseconds = u32::from_le_bytes([*u0, *u1, *u2, *u3]);
+            Value::Date(year, *month, *day, *hour, *minute, *second, microseconds)
+        }
+        [y0, y1, month, day, hour, minute, second, ..] => {
+            let year = u16::from_le_bytes([*y0, *y1]);
+            Value::Date(year, *month, *day, *hour, *minute, *second, 0)
+        }
+        [y0, y1, month, day, ..] => {
+            let year = u16::from_le_bytes([*y0, *y1]);
+            Value::Date(year, *month, *day, 0, 0, 0, 0)
+        }
+        _ => Value::Date(0, 0, 0, 0, 0, 0, 0),
+    }
+}
+
+// The time of these bytes.
+fn time_of(fields: &[u8]) -> Value
+    ensures fields { result ≡ time_value fields.now }
+{
+    match fields {
+        [
+            sign,
+            d0,
+            d1,
+            d2,
+            d3,
+            hours,
+            minutes,
+            seconds,
+            u0,
+            u1,
+            u2,
+            u3,
+        ] => {
+            let days = u32::from_le_bytes([*d0, *d1, *d2, *d3]);
+            let microseconds = u32::from_le_bytes([*u0, *u1, *u2, *u3]);
+            Value::Time(*sign == 1, days, *hours, *minutes, *seconds, microseconds)
+        }
+        [sign, d0, d1, d2, d3, hours, minutes, seconds, ..] => {
+            let days = u32::from_le_bytes([*d0, *d1, *d2, *d3]);
+            Value::Time(*sign == 1, days, *hours, *minutes, *seconds, 0)
+        }
+        _ => Value::Time(false, 0, 0, 0, 0, 0),
+    }
+}
