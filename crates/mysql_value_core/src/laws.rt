@@ -9,13 +9,12 @@ ghost use Rattle.mysql_value_core.specs.ValueOrder.{value_cmp};
 
 mod literals;
 
+use crate::bytes::Bytes;
+use crate::value::Value;
 pub use literals::{
     as_sql_error_equality, escapes_read, floats_have_no_literal, literal_reads_back, literal_shape,
     numbers_read,
 };
-
-use crate::bytes::Bytes;
-use crate::value::Value;
 use std::cmp::Ordering;
 
 /// Bytes are equal where the lists are.

@@ -5,10 +5,9 @@ ghost use Rattle.mysql_value_core.specs.Value.{FieldsInRange, IsBytes};
 mod literal;
 mod text;
 
+use crate::bytes::Bytes;
 pub use crate::value::literal::AsSqlError;
 pub use crate::value::text::{TextValue, read_text_cells};
-
-use crate::bytes::Bytes;
 use std::alloc::AllocError;
 use std::marker::PhantomData;
 
