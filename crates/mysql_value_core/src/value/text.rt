@@ -65,9 +65,9 @@ fn eat_cell(alloc: Global, buf: &mut ParseBuf<'_>) -> Result<Value, WireError>
         buf.0 = rest;
         return Ok(Value::NULL);
     }
-    let mut rest = *buf;
-    let text = rest.eat_lenenc_str()?;
+    let mut after = *buf;
+    let text = after.eat_lenenc_str()?;
     let bytes = Bytes::from(Vec::from_slice(alloc, text)?);
-    *buf = rest;
+    *buf = after;
     Ok(Value::Bytes(bytes))
 }
