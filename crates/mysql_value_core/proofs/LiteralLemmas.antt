@@ -1,6 +1,6 @@
 -- What holds of the literal of every value: it reads as the value's content, has the shape of literals,
 -- and is UTF-8.
-use Rattle.std.proofs.Common.{◌≡◌, ℕ, Bool, true, false, List, [], ◌∷◌, ◌++◌, length, get_or, subst, sym, ◌∙◌, ap, arith, refl, ◌<◌, ◌^◌, ◌+◌, ◌*◌, suc, rules}
+use Rattle.std.proofs.Common.{◌≡◌, ℕ, Bool, true, false, List, [], ◌∷◌, ◌++◌, length, get_or, subst, sym, ◌∙◌, ap, arith, refl, ◌<◌, ◌^◌, ◌+◌, suc, rules}
 use Rattle.std.specs.Prelude.{IfSome, is_none, pos, negsuc, ℤ, codes}
 use Rattle.std.specs.List.{list_all}
 use Rattle.std.specs.Fmt.{decimal, signed_decimal}
@@ -17,7 +17,7 @@ use Rattle.mysql_value_core.specs.declared.value.Value.{Value}
 use Rattle.mysql_value_core.specs.declared.value.Value.TheVariants.{NULL, Bytes, Int, UInt, Float, Double, Date, Time}
 use Rattle.mysql_value_core.specs.Value.{FieldsInRange}
 use Rattle.mysql_value_core.specs.Literal.{escaped, quoted, hexadecimal, bytes_literal, date_text, time_text, literal_of, is_float}
-use Rattle.mysql_value_core.specs.Content.{Content, byte_string, content_of}
+use Rattle.mysql_value_core.specs.Content.{byte_string, content_of}
 use Rattle.mysql_value_core.specs.ReadLiteral.{is_digit, read_literal}
 use Rattle.mysql_value_core.specs.ReadBack.{is_quote, continues_literal, BeginsWithout, ReadsBefore, ReadsAs}
 use Rattle.mysql_value_core.specs.LiteralShape.{AreDigits, IsLiteral, null_literal, natural_literal, negative_literal, hexadecimal_literal, quoted_literal}

@@ -1,5 +1,5 @@
 -- A number in decimal reads as that number.
-use Rattle.std.proofs.Common.{◌≡◌, ℕ, ◌<◌, ◌^◌, Bool, false, true, ◌||◌, eqb, List, [], ◌∷◌, ◌++◌, length, refl, ◌∙◌, ap, arith, suc}
+use Rattle.std.proofs.Common.{◌≡◌, ℕ, ◌<◌, ◌^◌, Bool, false, true, eqb, List, [], ◌∷◌, ◌++◌, length, refl, ap, arith, suc}
 use Rattle.std.specs.Prelude.{Some, None, ℤ, pos, negsuc, neg_ℤ, option_map, option_and_then, Option}
 use Rattle.std.specs.List.{list_all}
 use Rattle.std.specs.Fmt.{decimal, signed_decimal}
@@ -8,7 +8,7 @@ use Rattle.std.proofs.lemmas.Bool.Decides.{nat_tests}
 use Rattle.std.proofs.lemmas.Fmt.{decimal_nonempty}
 use lib.Signed.{mag}
 use Rattle.mysql_value_core.specs.Content.{Content, number}
-use Rattle.mysql_value_core.specs.ReadLiteral.{after, if_any, read_pairs, is_digit, read_natural, read_null, read_hexadecimal, read_negative, read_positive, read_string, read_literal, or_else}
+use Rattle.mysql_value_core.specs.ReadLiteral.{if_any, read_pairs, is_digit, read_natural, read_null, read_hexadecimal, read_negative, read_positive, read_string, read_literal, or_else}
 use Rattle.mysql_value_core.specs.ReadBack.{continues_literal, BeginsWithout, ReadsBefore}
 use Rattle.mysql_value_core.proofs.DigitLemmas.{all_digits-decimal, read_natural-decimal}
 

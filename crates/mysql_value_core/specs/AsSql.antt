@@ -4,7 +4,8 @@ use Rattle.std.specs.declared.alloc.Global.{Global}
 use Rattle.mysql_value_core.specs.declared.value.literal.AsSqlError.{AsSqlError}
 use Rattle.mysql_value_core.specs.declared.value.literal.AsSqlError.TheVariants.{Float, Memory}
 
--- the answer for a value with this literal: exactly that, or want of memory; without one, a float's refusal
+-- For a value with a literal the answer is exactly that, or want of memory; for one without, it is
+-- the refusal of a float.
 abbrev pub AnswersLiteral : Option (List ℕ) → Result (String Global) AsSqlError → Type 0
 AnswersLiteral (Some literal) (Ok sql) = string_bytes sql ≡ literal
 AnswersLiteral (Some literal) (Err (Memory error)) = ⊤

@@ -1,5 +1,5 @@
--- What a literal says, and what a value says, whatever its type: an integer of either type is a number,
--- and a date or a time is the bytes between the quotes of its literal.
+-- What a literal says, and what a value says: an integer of either type says a number, and a date
+-- or a time the bytes between the quotes of its literal.
 use Rattle.std.specs.Prelude.{ℕ, ℤ, pos, List, Option, Some, None}
 use Rattle.mysql_value_core.specs.declared.value.Value.{Value}
 use Rattle.mysql_value_core.specs.declared.value.Value.TheVariants.{NULL, Bytes, Int, UInt, Float, Double, Date, Time}

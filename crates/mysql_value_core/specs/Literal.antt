@@ -13,8 +13,8 @@ abbrev pub control_z : ℕ
 control_z = 26
 
 -- What stands for a byte between single quotes. With backslash escapes a zero byte, a newline, a
--- carriage return and Ctrl-Z are a backslash and a letter or digit, and a backslash and both quotes get
--- a backslash before them; without, a single quote is doubled. Every other byte stays.
+-- carriage return and Ctrl-Z become a backslash and a letter or digit, and a backslash and both
+-- quotes get a backslash before them; without, a single quote is doubled. Every other byte stays.
 abbrev pub escaped_byte : Bool → ℕ → List ℕ
 escaped_byte false b =
     if b == 0 then codes "\\0" else (
@@ -73,7 +73,8 @@ is_midnight hour minute second microseconds =
 abbrev pub date_text : ℕ → ℕ → ℕ → ℕ → ℕ → ℕ → ℕ → List ℕ
 date_text year month day hour minute second microseconds =
     if is_midnight hour minute second microseconds then day_text year month day
-    else day_text year month day ++ codes " " ++ padded 2 hour ++ after_hours minute second microseconds
+    else day_text year month day ++ codes " "
+    ++ padded 2 hour ++ after_hours minute second microseconds
 
 -- what stands between the quotes of a time: days count as 24 hours each
 abbrev pub time_text : Bool → ℕ → ℕ → ℕ → ℕ → ℕ → List ℕ

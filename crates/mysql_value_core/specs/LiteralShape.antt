@@ -1,5 +1,5 @@
--- The shape of every literal (MySQL Reference Manual, "String Literals", "Hexadecimal Literals", "Numeric
--- Literals", "NULL Values"): what is to be known of literals where they stand in a query.
+-- The shape of every literal (MySQL Reference Manual, "String Literals", "Hexadecimal Literals",
+-- "Numeric Literals", "NULL Values"): what is to be known of literals where they stand in a query.
 use Rattle.std.specs.Prelude.{ℕ, Bool, true, false, IsTrue, List, [], ◌∷◌, ◌++◌, codes}
 use Rattle.std.specs.List.{list_all}
 use Rattle.mysql_value_core.specs.StringUnits.{AreUnits}
@@ -16,7 +16,8 @@ abbrev pub AreHexPairs : List ℕ → Type 0
 AreHexPairs [] = ⊥
 AreHexPairs (a ∷ []) = ⊥
 AreHexPairs (a ∷ b ∷ []) = IsTrue (is_hex_digit a) × IsTrue (is_hex_digit b)
-AreHexPairs (a ∷ b ∷ c ∷ bytes) = IsTrue (is_hex_digit a) × IsTrue (is_hex_digit b) × AreHexPairs (c ∷ bytes)
+AreHexPairs (a ∷ b ∷ c ∷ bytes) =
+    IsTrue (is_hex_digit a) × IsTrue (is_hex_digit b) × AreHexPairs (c ∷ bytes)
 
 -- a closed string: a single quote, units, a single quote
 pub data IsClosedString (mode : Bool) : List ℕ → Type 0 where
@@ -29,8 +30,8 @@ pub data AreClosedStrings (mode : Bool) : List ℕ → Type 0 where
   more_strings : (string rest : List ℕ) → IsClosedString mode string → AreClosedStrings mode rest
       → AreClosedStrings mode (string ++ rest)
 
--- A literal in quotes: one closed string with backslash escapes, and without them one or more, since a
--- doubled quote ends one string and begins the next.
+-- A literal in quotes: one closed string with backslash escapes, and one or more without, since
+-- there a doubled quote ends one string and begins the next.
 abbrev pub IsQuoted : Bool → List ℕ → Type 0
 IsQuoted false literal = IsClosedString false literal
 IsQuoted true literal = AreClosedStrings true literal

@@ -1,9 +1,9 @@
 -- How a literal is read (MySQL Reference Manual, "NULL Values", "Hexadecimal Literals", "Numeric
--- Literals", "String Literals" and its table "Special Character Escape Sequences"). It shares nothing
--- with the definition of what is written, and no code uses it. A mode is the flag
--- `no_backslash_escape`: `true` is the mode without backslash escapes. Unlike the manual, it takes
--- hexadecimal digits in pairs alone.
-use Rattle.std.specs.Prelude.{ℕ, ◌+◌, ◌-◌, ◌*◌, nat_le, Bool, true, false, ◌==◌, ◌&&◌, ◌||◌, List, [], ◌∷◌, ◌++◌, codes, Option, Some, None, option_map, option_and_then, ℤ, pos, neg_ℤ, if◌then◌else◌}
+-- Literals", "String Literals" and its table "Special Character Escape Sequences"). It shares
+-- nothing with the definition of what is written, and no code uses it. A mode is the flag
+-- `no_backslash_escape`: `true` is the mode without backslash escapes. Unlike the manual, this
+-- takes hexadecimal digits in pairs alone.
+use Rattle.std.specs.Prelude.{ℕ, ◌+◌, ◌-◌, ◌*◌, nat_le, Bool, true, false, ◌==◌, ◌&&◌, ◌||◌, List, [], ◌∷◌, ◌++◌, codes, Option, Some, None, option_map, option_and_then, pos, neg_ℤ, if◌then◌else◌}
 use Rattle.mysql_value_core.specs.Content.{Content, null, number, byte_string}
 use Rattle.std.specs.Str.{byte}
 
@@ -19,8 +19,10 @@ is_digit b = nat_le (byte "0") b && nat_le b (byte "9")
 
 -- whether a byte is a hexadecimal digit, of either case
 abbrev pub is_hex_digit : ℕ → Bool
-is_hex_digit b = is_digit b
-    || ((nat_le (byte "A") b && nat_le b (byte "F")) || (nat_le (byte "a") b && nat_le b (byte "f")))
+is_hex_digit b =
+    is_digit b
+    || ((nat_le (byte "A") b && nat_le b (byte "F"))
+    || (nat_le (byte "a") b && nat_le b (byte "f")))
 
 -- the number that a hexadecimal digit stands for
 abbrev pub hex_digit_value : ℕ → ℕ
@@ -74,14 +76,15 @@ begins_pair true b = false
 abbrev pub prefix_read : List ℕ → Option (List ℕ × List ℕ) → Option (List ℕ × List ℕ)
 prefix_read bytes read = option_map (λ r. (bytes ++ r.0, r.1)) read
 
--- The bytes of the units behind an opening quote, up to a quote that no quote follows, and what follows
--- that; none where no quote ends them. Two quotes in a row are one.
+-- The bytes of the units behind an opening quote, up to a quote that no quote follows, and what
+-- follows that; none where no quote ends them. Two quotes in a row are one.
 abbrev pub read_units : Bool → List ℕ → Option (List ℕ × List ℕ)
 read_units mode [] = None
 read_units mode (a ∷ []) = if a == byte "'" then Some ([], []) else None
 read_units mode (a ∷ b ∷ text) =
     if a == byte "'"
-    then (if b == byte "'" then prefix_read (codes "'") (read_units mode text) else Some ([], b ∷ text))
+    then (if b == byte "'" then prefix_read (codes "'") (read_units mode text)
+    else Some ([], b ∷ text))
     else (if begins_pair mode a then prefix_read (unescaped b) (read_units mode text)
     else prefix_read (a ∷ []) (read_units mode (b ∷ text)))
 
@@ -91,7 +94,8 @@ read_null text = option_map (λ rest. (null, rest)) (after (codes "NULL") text)
 
 -- `0x` and at least one pair of hexadecimal digits
 abbrev pub read_hexadecimal : List ℕ → Option (Content × List ℕ)
-read_hexadecimal text = option_and_then (λ digits. if_any (read_pairs digits)) (after (codes "0x") text)
+read_hexadecimal text =
+    option_and_then (λ digits. if_any (read_pairs digits)) (after (codes "0x") text)
 
 -- at least one digit
 abbrev pub read_positive : List ℕ → Option (Content × List ℕ)
@@ -100,7 +104,8 @@ read_positive text = option_map (λ r. (number (pos r.0), r.1)) (read_natural te
 -- `-` and at least one digit
 abbrev pub read_negative : List ℕ → Option (Content × List ℕ)
 read_negative text =
-    option_and_then (λ digits. option_map (λ r. (number (neg_ℤ (pos r.0)), r.1)) (read_natural digits))
+    option_and_then
+    (λ digits. option_map (λ r. (number (neg_ℤ (pos r.0)), r.1)) (read_natural digits))
     (after (codes "-") text)
 
 -- a string between single quotes

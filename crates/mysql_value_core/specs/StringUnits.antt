@@ -1,7 +1,7 @@
--- The two modes in which strings are read, and the units of a string (MySQL Reference Manual, "String
--- Literals", and "Server SQL Modes", NO_BACKSLASH_ESCAPES). A mode is the flag `no_backslash_escape`:
--- `true` is the mode without backslash escapes.
-use Rattle.std.specs.Prelude.{◌≡◌, ◌≢◌, ◌==◌, ℕ, Bool, true, false, IsTrue, IsFalse, List, [], ◌∷◌}
+-- The two modes in which strings are read, and the units of a string (MySQL Reference Manual,
+-- "String Literals", and "Server SQL Modes", NO_BACKSLASH_ESCAPES). A mode is the flag
+-- `no_backslash_escape`: `true` is the mode without backslash escapes.
+use Rattle.std.specs.Prelude.{◌≢◌, ◌==◌, ℕ, Bool, true, false, IsTrue, IsFalse, List, [], ◌∷◌}
 use Rattle.std.specs.Str.{byte}
 
 -- the mode in which a backslash escapes the byte behind it

@@ -38,7 +38,7 @@ impl Bytes {
 
     /// A copy of the bytes, on the allocator of these.
     pub fn clone(&self) -> Result<Bytes, AllocError>
-        ensures { IfOk result (λ copy. copy ≡ self.now) }
+        ensures equal { IfOk result (λ copy. copy ≡ self.now) }
     {
         let items = self.items.clone()?;
         Ok(Bytes { items })

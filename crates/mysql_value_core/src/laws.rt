@@ -9,46 +9,45 @@ ghost use Rattle.mysql_value_core.specs.ValueOrder.{value_cmp};
 
 mod literals;
 
+use crate::bytes::Bytes;
+use crate::value::{ClientSide, SerializationSide, ServerSide, Value};
 pub use literals::{
     as_sql_error_equality, escapes_read, floats_have_no_literal, literal_reads_back, literal_shape,
     numbers_read,
 };
-
-use crate::bytes::Bytes;
-use crate::value::{ClientSide, SerializationSide, ServerSide, Value};
 use std::cmp::Ordering;
 
 /// Bytes are equal where the lists are.
 pub fn bytes_equality(a: &Bytes, b: &Bytes) -> bool
-    ensures { IsTrue result ↔ (a.now ≡ b.now) }
+    ensures same { IsTrue result ↔ (a.now ≡ b.now) }
 {
     a == b
 }
 
 /// Bytes are ordered as lists are: by the first byte that differs, a beginning before the whole.
 pub fn bytes_order(a: &Bytes, b: &Bytes) -> Ordering
-    ensures { result ≡ slice_cmp nat_cmp a.now b.now }
+    ensures order { result ≡ slice_cmp nat_cmp a.now b.now }
 {
     a.cmp(b)
 }
 
 /// Values are equal where variant and fields are.
 pub fn value_equality(a: &Value, b: &Value) -> bool
-    ensures { IsTrue result ↔ (a.now ≡ b.now) }
+    ensures same { IsTrue result ↔ (a.now ≡ b.now) }
 {
     a == b
 }
 
 /// Values are ordered by variant, then by the fields.
 pub fn value_order(a: &Value, b: &Value) -> Ordering
-    ensures { result ≡ value_cmp a.now b.now }
+    ensures order { result ≡ value_cmp a.now b.now }
 {
     a.cmp(b)
 }
 
 /// Any two values have an order, and it is that of `cmp`.
 pub fn value_partial_order(a: &Value, b: &Value) -> Option<Ordering>
-    ensures { result ≡ Some (value_cmp a.now b.now) }
+    ensures order { result ≡ Some (value_cmp a.now b.now) }
 {
     a.partial_cmp(b)
 }

@@ -7,12 +7,11 @@ mod literal;
 mod side;
 mod text;
 
+use crate::bytes::Bytes;
 pub use crate::value::binary::BinValue;
 pub use crate::value::literal::AsSqlError;
 pub use crate::value::side::{ClientSide, SerializationSide, ServerSide};
 pub use crate::value::text::{TextValue, read_text_cells};
-
-use crate::bytes::Bytes;
 use std::alloc::AllocError;
 use std::marker::PhantomData;
 

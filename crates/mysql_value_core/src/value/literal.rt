@@ -36,13 +36,15 @@ impl From<AllocError> for AsSqlError {
 impl Value {
     /// The SQL literal of the value (MySQL Reference Manual, "Literal Values").
     ///
-    /// Bytes that are UTF-8 are a string, and others are in hexadecimal. A server that runs in the SQL
-    /// mode NO_BACKSLASH_ESCAPES is to be given the literal with `no_backslash_escape`.
+    /// Bytes that are UTF-8 become a string, and others hexadecimal. A date or a time becomes a
+    /// string, in which a field out of its usual range stands as it is. `no_backslash_escape` is
+    /// for a server in the SQL mode of that name, where a backslash in a string escapes nothing.
     pub fn as_sql(&self, alloc: Global, no_backslash_escape: bool) -> Result<String, AsSqlError>
         ensures gives { AnswersLiteral (literal_of no_backslash_escape self.now) result }
         // A float takes no memory.
         ensures float { IsTrue (is_float self.now) → result ≡ Err AsSqlError.Float }
-        ensures reads_back { IfOk result (λ sql. ReadsAs no_backslash_escape self.now (string_bytes sql)) }
+        ensures reads_back { IfOk result
+            (λ sql. ReadsAs no_backslash_escape self.now (string_bytes sql)) }
     {
         let Some(len) = self.sql_len(no_backslash_escape) else {
             return Err(AsSqlError::Float);
@@ -80,7 +82,8 @@ impl Value {
 
     // Fills the room with the literal.
     fn put_sql(&self, no_backslash_escape: bool, room: &mut [u8])
-        requires { option_map length (literal_of no_backslash_escape self.now) ≡ Some (length room.old) }
+        requires { option_map length (literal_of no_backslash_escape self.now)
+            ≡ Some (length room.old) }
         ensures { literal_of no_backslash_escape self.now ≡ Some room.new }
     {
         match self {

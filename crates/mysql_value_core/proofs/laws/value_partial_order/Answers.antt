@@ -3,5 +3,6 @@ use Rattle.mysql_value_core.specs.contracts.value.ValueOrd.TheImpl.Laws.{matches
 use Rattle.mysql_value_core.proofs.laws.value_partial_order.Goals as goal
 
 pub returns : goal.returns
-returns c =
-    c.partial_cmp.ensures ∙ matches_partial_cmp-law c.args.a.now c.args.b.now ∙ ap Some (search rules)
+returns c = record {
+  order = c.partial_cmp.ensures ∙ matches_partial_cmp-law c.args.a.now c.args.b.now ∙ ap Some (search rules);
+}

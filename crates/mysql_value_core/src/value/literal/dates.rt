@@ -42,7 +42,8 @@ pub(super) fn time_len(
     seconds: u8,
     microseconds: u32,
 ) -> u128
-    ensures { result ≡ length (quoted (time_text negative days hours minutes seconds microseconds)) }
+    ensures { result
+        ≡ length (quoted (time_text negative days hours minutes seconds microseconds)) }
 {
     let hours = decimal_len(days as u64 * 24 + hours as u64).max(3) as u128;
     let len = 2 + hours + after_hours_len(minutes, seconds, microseconds);
@@ -79,7 +80,8 @@ pub(super) fn fill_date(
     second: u8,
     microseconds: u32,
 )
-    requires { length room.old ≡ length (quoted (date_text year month day hour minute second microseconds)) }
+    requires { length room.old
+        ≡ length (quoted (date_text year month day hour minute second microseconds)) }
     ensures { room.new ≡ quoted (date_text year month day hour minute second microseconds) }
 {
     if is_midnight(hour, minute, second, microseconds) {
@@ -143,7 +145,8 @@ pub(super) fn fill_time(
 fn put_after_hours(room: &mut [u8], at: usize, minutes: u8, seconds: u8, microseconds: u32) -> usize
     requires { at + length (after_hours minutes seconds microseconds) ≤ length room.old }
     ensures place { result ≡ at + length (after_hours minutes seconds microseconds) }
-    ensures front { take result room.new ≡ take at room.old ++ after_hours minutes seconds microseconds }
+    ensures front { take result room.new
+        ≡ take at room.old ++ after_hours minutes seconds microseconds }
 {
     let at = put_byte(room, at, b':');
     let at = put_padded(room, at, 2, minutes as u64);

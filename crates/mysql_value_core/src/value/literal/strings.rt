@@ -84,7 +84,8 @@ fn fill_string(room: &mut [u8], text: &str, no_backslash_escape: bool)
 fn put_escaped(room: &mut [u8], start: usize, bytes: &[u8], no_backslash_escape: bool) -> usize
     requires { start + length (escaped no_backslash_escape bytes.now) ≤ length room.old }
     ensures place { result ≡ start + length (escaped no_backslash_escape bytes.now) }
-    ensures front { take result room.new ≡ take start room.old ++ escaped no_backslash_escape bytes.now }
+    ensures front { take result room.new
+        ≡ take start room.old ++ escaped no_backslash_escape bytes.now }
 {
     let mut at = start;
     for byte in bytes {
@@ -96,7 +97,8 @@ fn put_escaped(room: &mut [u8], start: usize, bytes: &[u8], no_backslash_escape:
 fn put_escaped_byte(room: &mut [u8], at: usize, byte: u8, no_backslash_escape: bool) -> usize
     requires { at + length (escaped_byte no_backslash_escape byte) ≤ length room.old }
     ensures place { result ≡ at + length (escaped_byte no_backslash_escape byte) }
-    ensures front { take result room.new ≡ take at room.old ++ escaped_byte no_backslash_escape byte }
+    ensures front { take result room.new
+        ≡ take at room.old ++ escaped_byte no_backslash_escape byte }
 {
     match escape(byte, no_backslash_escape) {
         Some((first, second)) => {
