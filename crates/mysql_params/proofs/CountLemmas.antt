@@ -79,45 +79,25 @@ pub names-append : (ts us : List Token) → names (ts ++ us) ≡ names ts ++ nam
 names-append [] us = refl
 names-append (Name name ∷ ts) us = ap (λ x. name ∷ x) (names-append ts us)
 names-append (Mark ∷ ts) us = names-append ts us
-names-append (QuotedString quote tail ∷ ts) us = names-append ts us
-names-append (QuotedIdentifier tail ∷ ts) us = names-append ts us
-names-append (HashComment tail ∷ ts) us = names-append ts us
-names-append (DashComment gap tail ∷ ts) us = names-append ts us
-names-append (BlockComment tail ∷ ts) us = names-append ts us
-names-append (Plain b ∷ ts) us = names-append ts us
+names-append (t ∷ ts) us = names-append ts us
 
 pub marks-append : (ts us : List Token) → marks (ts ++ us) ≡ marks ts + marks us
 marks-append [] us = omega arith
 marks-append (Mark ∷ ts) us = omega (arith, marks-append ts us)
 marks-append (Name name ∷ ts) us = marks-append ts us
-marks-append (QuotedString quote tail ∷ ts) us = marks-append ts us
-marks-append (QuotedIdentifier tail ∷ ts) us = marks-append ts us
-marks-append (HashComment tail ∷ ts) us = marks-append ts us
-marks-append (DashComment gap tail ∷ ts) us = marks-append ts us
-marks-append (BlockComment tail ∷ ts) us = marks-append ts us
-marks-append (Plain b ∷ ts) us = marks-append ts us
+marks-append (t ∷ ts) us = marks-append ts us
 
 pub renamed-append : (ts us : List Token) → renamed (ts ++ us) ≡ renamed ts ++ renamed us
 renamed-append [] us = refl
 renamed-append (Name name ∷ ts) us = ap (λ x. Mark ∷ x) (renamed-append ts us)
 renamed-append (Mark ∷ ts) us = ap (λ x. Mark ∷ x) (renamed-append ts us)
-renamed-append (QuotedString quote tail ∷ ts) us = ap (λ x. QuotedString quote tail ∷ x) (renamed-append ts us)
-renamed-append (QuotedIdentifier tail ∷ ts) us = ap (λ x. QuotedIdentifier tail ∷ x) (renamed-append ts us)
-renamed-append (HashComment tail ∷ ts) us = ap (λ x. HashComment tail ∷ x) (renamed-append ts us)
-renamed-append (DashComment gap tail ∷ ts) us = ap (λ x. DashComment gap tail ∷ x) (renamed-append ts us)
-renamed-append (BlockComment tail ∷ ts) us = ap (λ x. BlockComment tail ∷ x) (renamed-append ts us)
-renamed-append (Plain b ∷ ts) us = ap (λ x. Plain b ∷ x) (renamed-append ts us)
+renamed-append (t ∷ ts) us = ap (λ x. t ∷ x) (renamed-append ts us)
 
 -- what a token of each kind adds
 pub names_one : (t : Token) → kind_of t ≡ kind.Name → names (t ∷ []) ≡ drop 1 (bytes_of t) ∷ []
 names_one (Name name) e = refl
 names_one Mark e = cc
-names_one (QuotedString quote tail) e = cc
-names_one (QuotedIdentifier tail) e = cc
-names_one (HashComment tail) e = cc
-names_one (DashComment gap tail) e = cc
-names_one (BlockComment tail) e = cc
-names_one (Plain b) e = cc
+names_one t e = cc
 
 -- how many names and marks a token of a kind is
 abbrev pub names_in : TokenKind → ℕ
@@ -133,22 +113,12 @@ marks_in kind.Other = 0
 pub names_of_one : (t : Token) → length (names (t ∷ [])) ≡ names_in (kind_of t)
 names_of_one (Name name) = refl
 names_of_one Mark = refl
-names_of_one (QuotedString quote tail) = refl
-names_of_one (QuotedIdentifier tail) = refl
-names_of_one (HashComment tail) = refl
-names_of_one (DashComment gap tail) = refl
-names_of_one (BlockComment tail) = refl
-names_of_one (Plain b) = refl
+names_of_one t = refl
 
 pub marks_of_one : (t : Token) → marks (t ∷ []) ≡ marks_in (kind_of t)
 marks_of_one (Name name) = refl
 marks_of_one Mark = refl
-marks_of_one (QuotedString quote tail) = refl
-marks_of_one (QuotedIdentifier tail) = refl
-marks_of_one (HashComment tail) = refl
-marks_of_one (DashComment gap tail) = refl
-marks_of_one (BlockComment tail) = refl
-marks_of_one (Plain b) = refl
+marks_of_one t = refl
 
 -- ---- the counts so far
 

@@ -3,7 +3,7 @@ use Rattle.std.proofs.Common.{◌≡◌, ℕ, Bool, true, ◌+◌, List, [], ◌
 use Rattle.std.specs.List.{list_all}
 use Rattle.std.proofs.lemmas.Bool.{and_from}
 use Rattle.mysql_params.specs.Bytes.{begins}
-use Rattle.mysql_params.specs.Tokens.{Token, bytes_of, IsTokens, text_of, QuotedString, QuotedIdentifier, HashComment, DashComment, BlockComment, Name, Mark, Plain}
+use Rattle.mysql_params.specs.Tokens.{Token, bytes_of, IsTokens, text_of, Name, Mark}
 use Rattle.mysql_params.specs.Places.{names, marks, positions, positions_from, is_place_byte}
 
 -- as many positions as names and marks
@@ -12,12 +12,7 @@ pub length-positions_from : (at : ℕ) (ts : List Token) →
 length-positions_from at [] = omega arith
 length-positions_from at (Name name ∷ ts) = omega (arith, length-positions_from (at + length (bytes_of (Name name))) ts)
 length-positions_from at (Mark ∷ ts) = omega (arith, length-positions_from (at + length (bytes_of Mark)) ts)
-length-positions_from at (QuotedString quote tail ∷ ts) = length-positions_from (at + length (bytes_of (QuotedString quote tail))) ts
-length-positions_from at (QuotedIdentifier tail ∷ ts) = length-positions_from (at + length (bytes_of (QuotedIdentifier tail))) ts
-length-positions_from at (HashComment tail ∷ ts) = length-positions_from (at + length (bytes_of (HashComment tail))) ts
-length-positions_from at (DashComment gap tail ∷ ts) = length-positions_from (at + length (bytes_of (DashComment gap tail))) ts
-length-positions_from at (BlockComment tail ∷ ts) = length-positions_from (at + length (bytes_of (BlockComment tail))) ts
-length-positions_from at (Plain b ∷ ts) = length-positions_from (at + length (bytes_of (Plain b))) ts
+length-positions_from at (t ∷ ts) = length-positions_from (at + length (bytes_of t)) ts
 
 -- a place begins at this index of the text
 abbrev pub is_place_at : List ℕ → ℕ → Bool
@@ -44,12 +39,7 @@ places_begin front (Name name ∷ ts) =
     and_from _ _ (rw at_end refl) (behind front (Name name) ts (places_begin (front ++ bytes_of (Name name)) ts))
 places_begin front (Mark ∷ ts) =
     and_from _ _ (rw at_end refl) (behind front Mark ts (places_begin (front ++ bytes_of Mark) ts))
-places_begin front (QuotedString quote tail ∷ ts) = behind front (QuotedString quote tail) ts (places_begin (front ++ bytes_of (QuotedString quote tail)) ts)
-places_begin front (QuotedIdentifier tail ∷ ts) = behind front (QuotedIdentifier tail) ts (places_begin (front ++ bytes_of (QuotedIdentifier tail)) ts)
-places_begin front (HashComment tail ∷ ts) = behind front (HashComment tail) ts (places_begin (front ++ bytes_of (HashComment tail)) ts)
-places_begin front (DashComment gap tail ∷ ts) = behind front (DashComment gap tail) ts (places_begin (front ++ bytes_of (DashComment gap tail)) ts)
-places_begin front (BlockComment tail ∷ ts) = behind front (BlockComment tail) ts (places_begin (front ++ bytes_of (BlockComment tail)) ts)
-places_begin front (Plain b ∷ ts) = behind front (Plain b) ts (places_begin (front ++ bytes_of (Plain b)) ts)
+places_begin front (t ∷ ts) = behind front t ts (places_begin (front ++ bytes_of t) ts)
 
 -- a place begins at each position of a query
 pub positions_begin : (mode : Bool) (query : List ℕ) (ts : List Token) → IsTokens mode query ts →

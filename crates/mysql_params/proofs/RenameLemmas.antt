@@ -40,12 +40,7 @@ gains ts t = ap text_of (renamed-append ts (t ∷ [])) ∙ text_of-append (renam
 mark_for : (t : Token) → kind_of t ≡ kind.Name → text_of (renamed (t ∷ [])) ≡ question_mark ∷ []
 mark_for (Name name) e = refl
 mark_for Mark e = cc
-mark_for (QuotedString quote tail) e = cc
-mark_for (QuotedIdentifier tail) e = cc
-mark_for (HashComment tail) e = cc
-mark_for (DashComment gap tail) e = cc
-mark_for (BlockComment tail) e = cc
-mark_for (Plain b) e = cc
+mark_for t e = cc
 
 same_for : (t : Token) → (kind_of t ≡ kind.Name → ⊥) → text_of (renamed (t ∷ [])) ≡ bytes_of t
 same_for (Name name) e = absurd (e refl)
@@ -60,12 +55,7 @@ same_for (Plain b) e = refl
 no_names : (t : Token) → (kind_of t ≡ kind.Name → ⊥) → names (t ∷ []) ≡ []
 no_names (Name name) e = absurd (e refl)
 no_names Mark e = refl
-no_names (QuotedString quote tail) e = refl
-no_names (QuotedIdentifier tail) e = refl
-no_names (HashComment tail) e = refl
-no_names (DashComment gap tail) e = refl
-no_names (BlockComment tail) e = refl
-no_names (Plain b) e = refl
+no_names t e = refl
 
 -- a name: a mark, and the bytes behind the colon
 pub renamed_name : {Z : Type 0} (mode : Bool) (query rest text text' front after : List ℕ) (params params' : List (CowSlice ℕ Z)) (p : CowSlice ℕ Z) (kd : TokenKind) (n : ℕ) →
@@ -103,12 +93,7 @@ pub renamed_same : (ts : List Token) → length (names ts) ≡ 0 → renamed ts 
 renamed_same [] e = refl
 renamed_same (Name name ∷ ts) e = absurd (omega arith)
 renamed_same (Mark ∷ ts) e = ap (λ x. Mark ∷ x) (renamed_same ts e)
-renamed_same (QuotedString quote tail ∷ ts) e = ap (λ x. QuotedString quote tail ∷ x) (renamed_same ts e)
-renamed_same (QuotedIdentifier tail ∷ ts) e = ap (λ x. QuotedIdentifier tail ∷ x) (renamed_same ts e)
-renamed_same (HashComment tail ∷ ts) e = ap (λ x. HashComment tail ∷ x) (renamed_same ts e)
-renamed_same (DashComment gap tail ∷ ts) e = ap (λ x. DashComment gap tail ∷ x) (renamed_same ts e)
-renamed_same (BlockComment tail ∷ ts) e = ap (λ x. BlockComment tail ∷ x) (renamed_same ts e)
-renamed_same (Plain b ∷ ts) e = ap (λ x. Plain b ∷ x) (renamed_same ts e)
+renamed_same (t ∷ ts) e = ap (λ x. t ∷ x) (renamed_same ts e)
 
 -- a query without names is itself
 pub parsed_same : (mode : Bool) (query : List ℕ) (ts : List Token) (params : List (List ℕ)) →
@@ -133,9 +118,4 @@ pub restored_renamed : (ts : List Token) → marks ts ≡ 0 → restored (rename
 restored_renamed [] e = refl
 restored_renamed (Name name ∷ ts) e = ap (λ x. Name name ∷ x) (restored_renamed ts e)
 restored_renamed (Mark ∷ ts) e = absurd (omega arith)
-restored_renamed (QuotedString quote tail ∷ ts) e = ap (λ x. QuotedString quote tail ∷ x) (restored_renamed ts e)
-restored_renamed (QuotedIdentifier tail ∷ ts) e = ap (λ x. QuotedIdentifier tail ∷ x) (restored_renamed ts e)
-restored_renamed (HashComment tail ∷ ts) e = ap (λ x. HashComment tail ∷ x) (restored_renamed ts e)
-restored_renamed (DashComment gap tail ∷ ts) e = ap (λ x. DashComment gap tail ∷ x) (restored_renamed ts e)
-restored_renamed (BlockComment tail ∷ ts) e = ap (λ x. BlockComment tail ∷ x) (restored_renamed ts e)
-restored_renamed (Plain b ∷ ts) e = ap (λ x. Plain b ∷ x) (restored_renamed ts e)
+restored_renamed (t ∷ ts) e = ap (λ x. t ∷ x) (restored_renamed ts e)
