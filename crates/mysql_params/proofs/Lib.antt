@@ -6,5 +6,5 @@ pub mod CountLemmas
 pub mod RenameLemmas
 pub mod PositionLemmas
 pub mod ParsedLemmas
-pub mod EndsLemmas
+pub mod WriteLemmas
 pub mod ProgramLemmas

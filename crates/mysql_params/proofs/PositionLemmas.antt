@@ -1,10 +1,8 @@
 -- The positions of names and marks.
-use Rattle.std.proofs.Common.{◌≡◌, ℕ, Bool, true, ◌+◌, List, [], ◌∷◌, ◌++◌, length, drop, refl, subst, arith, append_assoc, length-append, drop_at}
-use Rattle.std.specs.List.{list_all}
-use Rattle.std.proofs.lemmas.Bool.{and_from}
-use Rattle.mysql_params.specs.Bytes.{begins}
-use Rattle.mysql_params.specs.Tokens.{Token, bytes_of, IsTokens, text_of, Name, Mark}
-use Rattle.mysql_params.specs.Places.{names, marks, positions, positions_from, is_place_byte}
+use Rattle.std.proofs.Common.{◌≡◌, ℕ, ◌+◌, ◌≤◌, List, [], ◌∷◌, ◌++◌, length, refl, ap, ◌∙◌, subst, arith, append_assoc, append-nil, length-append}
+use Rattle.mysql_params.specs.Tokens.{Token, bytes_of, text_of, QuotedString, QuotedIdentifier, HashComment, DashComment, BlockComment, Name, Mark, Plain}
+use Rattle.mysql_params.specs.Places.{names, marks, positions_from, HavePlacesAt, AscendFrom}
+use Rattle.mysql_params.proofs.RenameLemmas.{text_of-append}
 
 -- as many positions as names and marks
 pub length-positions_from : (at : ℕ) (ts : List Token) →
@@ -14,34 +12,38 @@ length-positions_from at (Name name ∷ ts) = omega (arith, length-positions_fro
 length-positions_from at (Mark ∷ ts) = omega (arith, length-positions_from (at + length (bytes_of Mark)) ts)
 length-positions_from at (t ∷ ts) = length-positions_from (at + length (bytes_of t)) ts
 
--- a place begins at this index of the text
-abbrev pub is_place_at : List ℕ → ℕ → Bool
-is_place_at text at = begins is_place_byte (drop at text)
+-- what ascends from a number ascends from a smaller one
+AscendFrom-weaker : (m n : ℕ) (ns : List ℕ) → m ≤ n → AscendFrom n ns → AscendFrom m ns
+AscendFrom-weaker m n [] le h = tt
+AscendFrom-weaker m n (k ∷ ns) le h =
+    let first : n ≤ k = h.0 in
+    (omega arith, h.1)
 
--- so it is at each position, where the tokens stand behind a front
-abbrev PlacesBegin : List ℕ → List Token → Type 0
-PlacesBegin front ts = list_all (is_place_at (front ++ text_of ts)) (positions_from (length front) ts) ≡ true
+-- the positions ascend from the index at which the tokens begin
+pub positions_ascend : (at : ℕ) (ts : List Token) → AscendFrom at (positions_from at ts)
+positions_ascend at [] = tt
+positions_ascend at (Name name ∷ ts) =
+    (omega arith, AscendFrom-weaker (at + 1) (at + length (bytes_of (Name name))) _ (omega arith) (positions_ascend (at + length (bytes_of (Name name))) ts))
+positions_ascend at (Mark ∷ ts) = (omega arith, positions_ascend (at + length (bytes_of Mark)) ts)
+positions_ascend at (t ∷ ts) =
+    AscendFrom-weaker at (at + length (bytes_of t)) _ (omega arith) (positions_ascend (at + length (bytes_of t)) ts)
 
--- a token more in the front
-behind : (front : List ℕ) (t : Token) (ts : List Token) → PlacesBegin (front ++ bytes_of t) ts →
-    list_all (is_place_at (front ++ (bytes_of t ++ text_of ts))) (positions_from (length front + length (bytes_of t)) ts) ≡ true
+-- a token more in front of the index
+behind : (front : List Token) (t : Token) (ts : List Token) →
+    HavePlacesAt ((front ++ t ∷ []) ++ ts) (positions_from (length (text_of (front ++ t ∷ []))) ts) →
+    HavePlacesAt (front ++ t ∷ ts) (positions_from (length (text_of front) + length (bytes_of t)) ts)
 behind front t ts h =
-    subst (λ x. list_all (is_place_at x) (positions_from (length front + length (bytes_of t)) ts) ≡ true) (append_assoc front (bytes_of t) (text_of ts))
-    (subst (λ n. list_all (is_place_at ((front ++ bytes_of t) ++ text_of ts)) (positions_from n ts) ≡ true) (length-append front (bytes_of t)) h)
+    let more : length (text_of (front ++ t ∷ [])) ≡ length (text_of front) + length (bytes_of t) =
+    ap length (text_of-append front (t ∷ [])) ∙ (length-append (text_of front) (text_of (t ∷ [])) ∙ ap (λ xs. length (text_of front) + length xs) (append-nil (bytes_of t))) in
+    subst (λ x. HavePlacesAt x (positions_from (length (text_of front) + length (bytes_of t)) ts)) (append_assoc front (t ∷ []) ts)
+    (subst (λ n. HavePlacesAt ((front ++ t ∷ []) ++ ts) (positions_from n ts)) more h)
 
--- what stands at the end of the front
-at_end : (front text : List ℕ) → drop (length front) (front ++ text) ≡ text
-at_end front text = drop_at front text (length front) refl
-
-places_begin : (front : List ℕ) (ts : List Token) → PlacesBegin front ts
-places_begin front [] = refl
-places_begin front (Name name ∷ ts) =
-    and_from _ _ (rw at_end refl) (behind front (Name name) ts (places_begin (front ++ bytes_of (Name name)) ts))
-places_begin front (Mark ∷ ts) =
-    and_from _ _ (rw at_end refl) (behind front Mark ts (places_begin (front ++ bytes_of Mark) ts))
-places_begin front (t ∷ ts) = behind front t ts (places_begin (front ++ bytes_of t) ts)
-
--- a place begins at each position of a query
-pub positions_begin : (mode : Bool) (query : List ℕ) (ts : List Token) → IsTokens mode query ts →
-    list_all (is_place_at query) (positions ts) ≡ true
-positions_begin mode query ts is = subst (λ x. list_all (is_place_at x) (positions ts) ≡ true) is.text (places_begin [] ts)
+-- a place begins at each position of the tokens behind a front
+pub positions_have_places : (front ts : List Token) →
+    HavePlacesAt (front ++ ts) (positions_from (length (text_of front)) ts)
+positions_have_places front [] = tt
+positions_have_places front (Name name ∷ ts) =
+    ((front, Name name, ts, refl, refl, tt), behind front (Name name) ts (positions_have_places (front ++ Name name ∷ []) ts))
+positions_have_places front (Mark ∷ ts) =
+    ((front, Mark, ts, refl, refl, tt), behind front Mark ts (positions_have_places (front ++ Mark ∷ []) ts))
+positions_have_places front (t ∷ ts) = behind front t ts (positions_have_places (front ++ t ∷ []) ts)

@@ -28,7 +28,7 @@ pub renamed_none : {Z : Type 0} (mode : Bool) (query : List ℕ) →
     RenamedSoFar {Z = Z} mode query query [] []
 renamed_none mode query = record { tokens = []; cut = cut_none mode query; text_is = refl; names_are = refl; borrowed = All-nil IsBorrowedSlice }
 
-text_of-append : (ts us : List Token) → text_of (ts ++ us) ≡ text_of ts ++ text_of us
+pub text_of-append : (ts us : List Token) → text_of (ts ++ us) ≡ text_of ts ++ text_of us
 text_of-append [] us = refl
 text_of-append (t ∷ ts) us = ap (λ x. bytes_of t ++ x) (text_of-append ts us) ∙ sym (append_assoc (bytes_of t) (text_of ts) (text_of us))
 

@@ -93,7 +93,7 @@ is_name_byte b = is_start_byte b || is_digit b
 abbrev pub is_quote : ℕ → Bool
 is_quote b = b == single_quote || b == double_quote
 
--- a byte that makes of `/*` in front of it text that is executed, and no comment
+-- a byte behind `/*` that makes it no comment: what follows is executed, or a hint
 abbrev pub is_extension : ℕ → Bool
 is_extension b = b == exclamation_mark || b == plus
 

@@ -19,8 +19,8 @@ pub data Command : Type 0 where
   names_of_query : Command
 
 -- the bytes of each word
-abbrev pub word_texts : List (String Global) → List (List ℕ)
-word_texts words = map string_bytes words
+abbrev pub word_bytes : List (String Global) → List (List ℕ)
+word_bytes words = map string_bytes words
 
 -- the command that the words are: the one word `names`
 abbrev pub command_of : List (List ℕ) → Result Command Refusal
@@ -28,7 +28,7 @@ command_of [] = Err usage
 command_of (word ∷ []) = if bytes_eq word (codes "names") then Ok names_of_query else Err usage
 command_of (word ∷ next ∷ words) = Err usage
 
--- there is a name and a mark
+-- there is a name and a mark, as a test
 abbrev pub has_both : List Token → Bool
 has_both ts = nat_lt 0 (length (names ts)) && nat_lt 0 (marks ts)
 
@@ -50,4 +50,4 @@ answer_of (Ok command) ts = output_of command ts
 -- the program's answer to these words and this whole input is this text or this refusal
 abbrev pub Answers : List (String Global) → List ℕ → Result (List ℕ) Refusal → Type 0
 Answers words input answer =
-    OnTokens with_backslashes input (λ ts. answer_of (command_of (word_texts words)) ts ≡ answer)
+    OnTokens with_backslashes input (λ ts. answer_of (command_of (word_bytes words)) ts ≡ answer)

@@ -1,10 +1,8 @@
 //! Laws of the definitions that the contracts cite, and of equality. The functions that have no
 //! result do nothing: each is called for what it ensures.
-ghost use Rattle.std.specs.Prelude.{◌≡◌, ℕ, ◌+◌, ◌↔◌, Bool, List, length, drop, IsTrue};
-ghost use Rattle.std.specs.List.{list_all};
-ghost use Rattle.mysql_params.specs.Bytes.{begins};
+ghost use Rattle.std.specs.Prelude.{◌≡◌, ℕ, ◌+◌, ◌↔◌, Bool, List, length, IsTrue};
 ghost use Rattle.mysql_params.specs.Tokens.{Token, IsTokens};
-ghost use Rattle.mysql_params.specs.Places.{names, marks, positions, is_place_byte, renamed, restored};
+ghost use Rattle.mysql_params.specs.Places.{names, marks, positions, HavePlacesAt, AscendFrom, renamed, restored};
 
 use crate::named_params::{MixedParamsError, NamedParamsError, ParsedNamedParams};
 use crate::run_error::RunError;
@@ -15,11 +13,12 @@ pub fn one_token_list()
         IsTokens mode query ts → IsTokens mode query us → ts ≡ us }
 {}
 
-/// Each name and mark has a position, and stands there in the query with its first byte.
+/// The positions are those of the names and marks: as many, one behind another, and at each the
+/// bytes of the tokens before a name or a mark end.
 pub fn positions_of_places()
     ensures count { (ts : List Token) → length (positions ts) ≡ length (names ts) + marks ts }
-    ensures bytes { (mode : Bool) (query : List ℕ) (ts : List Token) → IsTokens mode query ts →
-        IsTrue (list_all (λ at. begins is_place_byte (drop at query)) (positions ts)) }
+    ensures ascending { (ts : List Token) → AscendFrom 0 (positions ts) }
+    ensures places { (ts : List Token) → HavePlacesAt ts (positions ts) }
 {}
 
 /// Putting the names back in place of the marks undoes the renaming of a query without marks.

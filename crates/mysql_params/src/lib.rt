@@ -4,10 +4,10 @@
 //! identifiers and comments; [`run`] is the program over them, for any reader and writer.
 #![tactic(auto)]
 
-mod ends;
 pub mod laws;
 pub mod named_params;
 mod program;
+mod readers_and_writers;
 mod run_error;
 mod tokens;
 

@@ -116,14 +116,14 @@ fn rename<'a>(
 impl<'a> ParsedNamedParams<'a> {
     /// Finds the names outside strings, quoted identifiers and comments, in the mode in which a
     /// backslash escapes. A name is `:`, one of `a` to `z` and `_`, and then as many of these and
-    /// `0` to `9` as follow. `Mixed` if the query has a `?` of its own there too.
+    /// `0` to `9` as follow. A query that has a name and a `?` there is refused as `Mixed`.
     // A query has one token list (`laws::one_token_list`), so the clauses speak of the same `ts`.
     pub fn parse(alloc: Global, query: &'a [u8]) -> Result<ParsedNamedParams<'a>, NamedParamsError>
         ensures ok { OnTokens with_backslashes query.now (λ ts. IfOk result (λ p. p ≡ parsed ts)) }
         ensures mixed { OnTokens with_backslashes query.now (λ ts.
             IsErrOf result (NamedParamsError.Mixed mixed) ↔ (HasName ts × HasMark ts)) }
 
-        // Memory is taken for names without marks alone.
+        // Want of memory is answered for names without marks alone.
         ensures memory { OnTokens with_backslashes query.now (λ ts.
             IsErrOf result (NamedParamsError.Memory alloc_error) → HasName ts × (marks ts ≡ 0)) }
     {

@@ -6,12 +6,12 @@ ghost use Rattle.mysql_values.specs.StringUnits.{with_backslashes};
 ghost use Rattle.mysql_params.specs.Bytes.{newline};
 ghost use Rattle.mysql_params.specs.Tokens.{OnTokens};
 ghost use Rattle.mysql_params.specs.NamedParamsErrors.{mixed};
-ghost use Rattle.mysql_params.specs.Program.{Refusal, names_of_query, mixed_query, word_texts, command_of, lines_of, output_of, Answers};
+ghost use Rattle.mysql_params.specs.Program.{Refusal, names_of_query, mixed_query, word_bytes, command_of, lines_of, output_of, Answers};
 ghost use Rattle.mysql_params.specs.RunErrors.{refusal_of};
 ghost use Rattle.mysql_params.specs.ReadersAndWriters.{ReadsWhole, AppendsBeginning};
 
-use crate::ends::{ReadError, read_whole, write_whole};
 use crate::named_params::{NamedParamsError, ParsedNamedParams};
+use crate::readers_and_writers::{ReadError, read_whole, write_whole};
 use crate::run_error::RunError;
 use std::alloc::{AllocError, Global};
 use std::borrow::CowSlice;
@@ -19,10 +19,10 @@ use std::io::{Read, Write};
 
 /// Judges the words: they have to be the one word `names`.
 fn judge(words: &[String]) -> Result<(), RunError>
-    ensures ok { OnOk result (command_of (word_texts words.now) ≡ Ok names_of_query) }
-    ensures refused { IfErr result (λ e. IfErr (command_of (word_texts words.now)) (λ why.
+    ensures ok { OnOk result (command_of (word_bytes words.now) ≡ Ok names_of_query) }
+    ensures refused { IfErr result (λ e. IfErr (command_of (word_bytes words.now)) (λ why.
         refusal_of e ≡ Some why)) }
-    ensures accepted { IfOk (command_of (word_texts words.now)) (λ _. IsOk result) }
+    ensures accepted { IfOk (command_of (word_bytes words.now)) (λ _. IsOk result) }
 {
     match words {
         [word] if word.as_str() == "names" => Ok(()),
@@ -94,12 +94,12 @@ pub fn run<R: Read, W: Write>(
         × Appends (W.contents output.old) (W.contents output.new) text) }
 
     // Words that are refused are refused before anything is read.
-    ensures words { IfErr (command_of (word_texts words.now)) (λ why.
+    ensures words { IfErr (command_of (word_bytes words.now)) (λ why.
         IsErrAnd result (λ e. refusal_of e ≡ Some why) × (input.new ≡ input.old)) }
 
-    // Any other refusal that has a name is that of the whole input.
+    // Where the words are taken, a refusal of the query is the answer to the whole input.
     ensures refused { (why : Refusal) → IsErrAnd result (λ e. refusal_of e ≡ Some why)
-        → IsOk (command_of (word_texts words.now)) → (bytes : List ℕ)
+        → IsOk (command_of (word_bytes words.now)) → (bytes : List ℕ)
         × ReadsWhole (R.remaining input.old) (R.remaining input.new) bytes
         × Answers words.now bytes (Err why) }
 

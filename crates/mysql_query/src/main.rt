@@ -5,7 +5,7 @@ use mysql_params::{RunError, run};
 use std::env;
 use std::process::ExitCode;
 
-/// The arguments without the program's own name. Arguments that can't be had are no words of its own.
+/// The arguments without the program's own name; usage where they can't be had.
 fn words(rt: &HostRuntime) -> Result<Vec<String>, RunError> {
     let Ok(mut arguments) = env::args(rt) else {
         return Err(RunError::Usage);

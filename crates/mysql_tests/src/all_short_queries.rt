@@ -1,10 +1,10 @@
-//! Every query of up to three bytes over the bytes that the grammar names, against a plain reading of
-//! the grammar that shares no code with the crate.
+//! Every query of up to three bytes over the bytes that the grammar names, alone and before a name,
+//! against a plain reading of the grammar that shares no code with the crate.
 use mysql_params::named_params::{NamedParamsError, ParsedNamedParams};
 use std::alloc::{AllocError, Global};
 use std::test::Fail;
 
-/// Each byte that the grammar names, and one of each kind of other byte.
+/// The bytes that the grammar names but the form feed, and one of each kind of other byte.
 const ALPHABET: &[u8] = b"'\"\\`#-/*!+:?a_Z0 \t\n\x0b\r\xc3";
 
 /// How many bytes there are up to and with the first place of a word of one or two bytes, or all.
@@ -116,6 +116,8 @@ fn parse_agrees_with_a_plain_reading(rt: HostRuntime) -> Result<(), Fail> {
             for third in ALPHABET {
                 let query = [*first, *second, *third];
                 assert!(rt; agrees(alloc, &query)?, "of {first} {second} {third}");
+                let before_a_name = [*first, *second, *third, b':', b'b'];
+                assert!(rt; agrees(alloc, &before_a_name)?, "of {first} {second} {third} :b");
             }
         }
     }
@@ -123,8 +125,13 @@ fn parse_agrees_with_a_plain_reading(rt: HostRuntime) -> Result<(), Fail> {
 }
 
 #[test]
-fn parse_agrees_on_every_two_bytes(rt: HostRuntime) -> Result<(), Fail> {
+fn parse_agrees_on_all_bytes(rt: HostRuntime) -> Result<(), Fail> {
+    let alloc = rt.alloc();
     for first in 0..=255u8 {
+        assert!(rt; agrees(alloc, &[first])?, "of {first}");
+        assert!(rt; agrees(alloc, &[b'-', b'-', first, b':', b'a'])?, "of -- {first} :a");
+        assert!(rt; agrees(alloc, &[b'/', b'*', first, b':', b'a'])?, "of /* {first} :a");
+        assert!(rt; agrees(alloc, &[b':', first, b':', b'a'])?, "of : {first} :a");
         for second in 0..=255u8 {
             assert!(rt;
                 agrees(rt.alloc(), &[first, second])?,

@@ -183,6 +183,21 @@ fn small_pieces_change_no_answer(rt: HostRuntime) -> Result<(), Fail> {
 }
 
 #[test]
+fn a_query_longer_than_one_read(rt: HostRuntime) -> Result<(), Fail> {
+    let words = words(rt.alloc(), &["names"])?;
+    let mut query = vec![in rt.alloc(); b' '; 4095]?;
+    let mut wanted = query.clone()?;
+    query.extend_from_slice(b":a")?;
+    wanted.extend_from_slice(b"?\na\n")?;
+    let mut input = SlowReader::new(&query, 5000, 0);
+    let mut output = SlowWriter::new(rt.alloc(), 5000, Fault::Fails, 0);
+    let answer = run(rt.alloc(), &words, &mut input, &mut output);
+    assert_eq!(rt; answer, Ok(()));
+    assert!(rt; output.taken.as_slice() == wanted.as_slice());
+    Ok(())
+}
+
+#[test]
 fn a_failed_write_is_told_and_not_repeated(rt: HostRuntime) -> Result<(), Fail> {
     let words = words(rt.alloc(), &["names"])?;
     for fault in [Fault::Fails, Fault::TakesNothing] {

@@ -24,7 +24,7 @@ fn shown(alloc: Global, query: &[u8]) -> Result<Vec<u8>, AllocError> {
 
 #[test]
 fn names_of_queries(rt: HostRuntime) -> Result<(), Fail> {
-    let cases: [(&str, &str); 30] = [
+    let cases: [(&str, &str); 41] = [
         ("", ""),
         (":a_Aa:b", "?Aa?\na_\nb"),
         ("/**/:a", "/**/?\na"),
@@ -69,6 +69,18 @@ fn names_of_queries(rt: HostRuntime) -> Result<(), Fail> {
         ("*/*:a", "*/*:a"),
         ("`a\\`:b", "`a\\`?\nb"),
         (":a`:b`:c", "?`:b`?\na\nc"),
+        // What stands right behind a name or a lone colon is read as anywhere.
+        (":a:b", "??\na\nb"),
+        (":a#:b\n:c", "?#:b\n?\na\nc"),
+        (":a-- :b\n:c", "?-- :b\n?\na\nc"),
+        (":a/*:b*/:c", "?/*:b*/?\na\nc"),
+        (":a-:b", "?-?\na\nb"),
+        (":a/:b", "?/?\na\nb"),
+        (":#:b\n:c", ":#:b\n?\nc"),
+        (":-- :b\n:c", ":-- :b\n?\nc"),
+        (":/*:b*/:c", ":/*:b*/?\nc"),
+        (":`:b`:c", ":`:b`?\nc"),
+        (":?:a", "mixed"),
         (
             "SELECT 1 FROM my_table WHERE thing = :param;/* question\n  mark '?' in multiline\n\
              comment? */\n# ??- sharp comment -??\n-- dash-dash?\n/*! extention param :param2 */\n\
