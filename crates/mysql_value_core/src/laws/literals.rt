@@ -12,14 +12,15 @@ use crate::value::{AsSqlError, Value};
 
 /// The literal of a value has the shape of literals.
 pub fn literal_shape(value: &Value)
-    ensures { (mode : Bool) → IfSome (literal_of mode value.now) (IsLiteral mode) }
+    ensures shape { (mode : Bool) → IfSome (literal_of mode value.now) (IsLiteral mode) }
 {
     value.fields_in_range();
 }
 
 /// The literal of a value reads as the content of the value.
 pub fn literal_reads_back(value: &Value)
-    ensures { (mode : Bool) → IfSome (literal_of mode value.now) (ReadsAs mode value.now) }
+    ensures reads_back { (mode : Bool) →
+        IfSome (literal_of mode value.now) (ReadsAs mode value.now) }
 {
     value.fields_in_range();
 }
@@ -33,7 +34,7 @@ pub fn floats_have_no_literal()
 
 /// Refusals of `as_sql` are equal where the variants are.
 pub fn as_sql_error_equality(a: &AsSqlError, b: &AsSqlError) -> bool
-    ensures { IsTrue result ↔ (a.now ≡ b.now) }
+    ensures equal { IsTrue result ↔ (a.now ≡ b.now) }
 {
     a == b
 }
