@@ -20,7 +20,7 @@ pub enum AsSqlError {
     /// The value is a float, of either width.
     #[error("Float has no SQL text")]
     Float,
-    /// There was no memory for the text.
+    /// There was no memory for the text, or it is longer than any text can be.
     #[error("out of memory")]
     Memory(AllocError),
 }
