@@ -18,8 +18,8 @@ abbrev pub integer_value : ℕ → Bool → ℕ → Value
 integer_value width true number = unsigned_integer number
 integer_value width false number = Int (twos_complement width number)
 
--- The value of a date's bytes. Fields that are not wholly there are 0, and so are the microseconds
--- unless there are exactly 11 bytes.
+-- The date of these bytes. It has its day from 4 bytes on, its clock from 7 on, and its microseconds
+-- only of exactly 11. What it does not have is 0.
 abbrev pub date_value : List ℕ → Value
 date_value (y0 ∷ y1 ∷ month ∷ day ∷ hour ∷ minute ∷ second ∷ u0 ∷ u1 ∷ u2 ∷ u3 ∷ []) =
     Date (little_number 2 (y0 ∷ y1 ∷ [])) month day hour minute second
@@ -30,8 +30,8 @@ date_value (y0 ∷ y1 ∷ month ∷ day ∷ more) =
     Date (little_number 2 (y0 ∷ y1 ∷ [])) month day 0 0 0 0
 date_value fields = Date 0 0 0 0 0 0 0
 
--- The value of a time's bytes, negative only for the sign 1. With fewer than 8 bytes it is zero, and
--- the microseconds are 0 unless there are exactly 12.
+-- The time of these bytes. It has all but its microseconds from 8 bytes on, and these only of exactly
+-- 12. What it does not have is 0. It is negative only for the sign 1.
 abbrev pub time_value : List ℕ → Value
 time_value (sign ∷ d0 ∷ d1 ∷ d2 ∷ d3 ∷ hours ∷ minutes ∷ seconds ∷ u0 ∷ u1 ∷ u2 ∷ u3 ∷ []) =
     Time (sign == 1) (little_number 4 (d0 ∷ d1 ∷ d2 ∷ d3 ∷ [])) hours minutes seconds
@@ -45,8 +45,8 @@ abbrev pub read_counted : List ℕ → Reading (List ℕ)
 read_counted bytes = and_then_read (read_number 1 bytes) read_bytes
 
 -- bytes are read as a length-encoded string
-abbrev pub read_text : List ℕ → Reading Value
-read_text bytes = map_read Bytes (read_lenenc bytes)
+abbrev pub read_string : List ℕ → Reading Value
+read_string bytes = map_read Bytes (read_lenenc bytes)
 
 -- a whole number is read least byte first
 abbrev pub read_integer : ℕ → Bool → List ℕ → Reading Value
@@ -63,21 +63,21 @@ read_time bytes = map_read time_value (read_counted bytes)
 
 -- a value of each column type; values of five types are not read
 abbrev pub read_binary : ColumnType → Bool → List ℕ → Reading Value
-read_binary MYSQL_TYPE_STRING unsigned bytes = read_text bytes
-read_binary MYSQL_TYPE_VAR_STRING unsigned bytes = read_text bytes
-read_binary MYSQL_TYPE_BLOB unsigned bytes = read_text bytes
-read_binary MYSQL_TYPE_TINY_BLOB unsigned bytes = read_text bytes
-read_binary MYSQL_TYPE_MEDIUM_BLOB unsigned bytes = read_text bytes
-read_binary MYSQL_TYPE_LONG_BLOB unsigned bytes = read_text bytes
-read_binary MYSQL_TYPE_SET unsigned bytes = read_text bytes
-read_binary MYSQL_TYPE_ENUM unsigned bytes = read_text bytes
-read_binary MYSQL_TYPE_DECIMAL unsigned bytes = read_text bytes
-read_binary MYSQL_TYPE_VARCHAR unsigned bytes = read_text bytes
-read_binary MYSQL_TYPE_BIT unsigned bytes = read_text bytes
-read_binary MYSQL_TYPE_NEWDECIMAL unsigned bytes = read_text bytes
-read_binary MYSQL_TYPE_GEOMETRY unsigned bytes = read_text bytes
-read_binary MYSQL_TYPE_VECTOR unsigned bytes = read_text bytes
-read_binary MYSQL_TYPE_JSON unsigned bytes = read_text bytes
+read_binary MYSQL_TYPE_STRING unsigned bytes = read_string bytes
+read_binary MYSQL_TYPE_VAR_STRING unsigned bytes = read_string bytes
+read_binary MYSQL_TYPE_BLOB unsigned bytes = read_string bytes
+read_binary MYSQL_TYPE_TINY_BLOB unsigned bytes = read_string bytes
+read_binary MYSQL_TYPE_MEDIUM_BLOB unsigned bytes = read_string bytes
+read_binary MYSQL_TYPE_LONG_BLOB unsigned bytes = read_string bytes
+read_binary MYSQL_TYPE_SET unsigned bytes = read_string bytes
+read_binary MYSQL_TYPE_ENUM unsigned bytes = read_string bytes
+read_binary MYSQL_TYPE_DECIMAL unsigned bytes = read_string bytes
+read_binary MYSQL_TYPE_VARCHAR unsigned bytes = read_string bytes
+read_binary MYSQL_TYPE_BIT unsigned bytes = read_string bytes
+read_binary MYSQL_TYPE_NEWDECIMAL unsigned bytes = read_string bytes
+read_binary MYSQL_TYPE_GEOMETRY unsigned bytes = read_string bytes
+read_binary MYSQL_TYPE_VECTOR unsigned bytes = read_string bytes
+read_binary MYSQL_TYPE_JSON unsigned bytes = read_string bytes
 read_binary MYSQL_TYPE_TINY unsigned bytes = read_integer 1 unsigned bytes
 read_binary MYSQL_TYPE_SHORT unsigned bytes = read_integer 2 unsigned bytes
 read_binary MYSQL_TYPE_YEAR unsigned bytes = read_integer 2 unsigned bytes

@@ -1,11 +1,10 @@
 //! Values of rows in binary form.
 ghost use Rattle.std.specs.Prelude.{◌≡◌, ◌≤◌, ◌++◌, length, IsOk, OnOk, OnErr};
-ghost use Rattle.mysql_wire_part.specs.Reading.{read_number, map_read};
 ghost use Rattle.mysql_wire_part.specs.ParseBuf.{left, AnswersReading};
 ghost use Rattle.mysql_wire_part.specs.Column.{is_unsigned};
 ghost use Rattle.mysql_value_core.specs.TextCell.{ReadsBytes};
 ghost use Rattle.mysql_value_core.specs.BinaryForm.{binary_form, date_form, time_form};
-ghost use Rattle.mysql_value_core.specs.BinaryReading.{integer_value, date_value, time_value, read_counted, read_text, read_binary};
+ghost use Rattle.mysql_value_core.specs.BinaryReading.{date_value, time_value, read_counted, read_string, read_integer, read_binary};
 ghost use Rattle.mysql_value_core.specs.BinaryReadBack.{ReadsBackInBinary};
 ghost use Rattle.mysql_value_core.specs.declared.value.Value as value;
 
@@ -166,7 +165,13 @@ impl<'de> MyDeserialize<'de> for ValueDeserializer<BinValue> {
         alloc: Global,
         ctx: (ColumnType, ColumnFlags),
         buf: &mut ParseBuf<'de>,
-    ) -> Result<Self, WireError> {
+    ) -> Result<Self, WireError>
+        // Only a reading of bytes takes memory, so nothing else answers want of it.
+        ensures read { AnswersReading (λ read. (read.0, left buf.new))
+            (read_binary ctx.0 (is_unsigned ctx.1) (left buf.old))
+            (ReadsBytes (read_binary ctx.0 (is_unsigned ctx.1) (left buf.old))) result }
+        ensures unchanged { OnErr result (left buf.new ≡ left buf.old) }
+    {
         let mut rest = *buf;
         let unsigned = ctx.1.contains(ColumnFlags::UNSIGNED_FLAG);
         let value = eat_value(alloc, ctx.0, unsigned, &mut rest)?;
@@ -201,7 +206,7 @@ fn eat_value(
         | ColumnType::MYSQL_TYPE_NEWDECIMAL
         | ColumnType::MYSQL_TYPE_GEOMETRY
         | ColumnType::MYSQL_TYPE_VECTOR
-        | ColumnType::MYSQL_TYPE_JSON => eat_text(alloc, buf),
+        | ColumnType::MYSQL_TYPE_JSON => eat_string(alloc, buf),
         ColumnType::MYSQL_TYPE_TINY => eat_integer(1, unsigned, buf),
         ColumnType::MYSQL_TYPE_SHORT | ColumnType::MYSQL_TYPE_YEAR => eat_integer(2, unsigned, buf),
         ColumnType::MYSQL_TYPE_LONG | ColumnType::MYSQL_TYPE_INT24 => eat_integer(4, unsigned, buf),
@@ -229,9 +234,9 @@ fn eat_value(
 }
 
 // A length-encoded string, copied.
-fn eat_text(alloc: Global, buf: &mut ParseBuf<'_>) -> Result<Value, WireError>
-    ensures read { AnswersReading (λ value. (value, left buf.new)) (read_text (left buf.old))
-        (ReadsBytes (read_text (left buf.old))) result }
+fn eat_string(alloc: Global, buf: &mut ParseBuf<'_>) -> Result<Value, WireError>
+    ensures read { AnswersReading (λ value. (value, left buf.new)) (read_string (left buf.old))
+        (ReadsBytes (read_string (left buf.old))) result }
 {
     let text = buf.eat_lenenc_str()?;
     let bytes = Bytes::from(Vec::from_slice(alloc, text)?);
@@ -243,7 +248,7 @@ fn eat_integer(width: usize, unsigned: bool, buf: &mut ParseBuf<'_>) -> Result<V
     requires low { 1 ≤ width }
     requires high { width ≤ 8 }
     ensures read { AnswersReading (λ value. (value, left buf.new))
-        (map_read (integer_value width unsigned) (read_number width (left buf.old))) ⊥ result }
+        (read_integer width unsigned (left buf.old)) ⊥ result }
 {
     let bytes = buf.0;
     if buf.checked_eat_buf(width).is_none() {
