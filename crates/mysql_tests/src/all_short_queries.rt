@@ -117,7 +117,10 @@ fn parse_agrees_with_a_plain_reading(rt: HostRuntime) -> Result<(), Fail> {
                 let query = [*first, *second, *third];
                 assert!(rt; agrees(alloc, &query)?, "of {first} {second} {third}");
                 let before_a_name = [*first, *second, *third, b':', b'b'];
-                assert!(rt; agrees(alloc, &before_a_name)?, "of {first} {second} {third} :b");
+                assert!(rt;
+                    agrees(alloc, &before_a_name)?,
+                    "of {first} {second} {third} :b"
+                );
             }
         }
     }
@@ -129,9 +132,18 @@ fn parse_agrees_on_all_bytes(rt: HostRuntime) -> Result<(), Fail> {
     let alloc = rt.alloc();
     for first in 0..=255u8 {
         assert!(rt; agrees(alloc, &[first])?, "of {first}");
-        assert!(rt; agrees(alloc, &[b'-', b'-', first, b':', b'a'])?, "of -- {first} :a");
-        assert!(rt; agrees(alloc, &[b'/', b'*', first, b':', b'a'])?, "of /* {first} :a");
-        assert!(rt; agrees(alloc, &[b':', first, b':', b'a'])?, "of : {first} :a");
+        assert!(rt;
+            agrees(alloc, &[b'-', b'-', first, b':', b'a'])?,
+            "of -- {first} :a"
+        );
+        assert!(rt;
+            agrees(alloc, &[b'/', b'*', first, b':', b'a'])?,
+            "of /* {first} :a"
+        );
+        assert!(rt;
+            agrees(alloc, &[b':', first, b':', b'a'])?,
+            "of : {first} :a"
+        );
         for second in 0..=255u8 {
             assert!(rt;
                 agrees(rt.alloc(), &[first, second])?,

@@ -1,5 +1,5 @@
 //! Values in binary form: as they are written, and what comes back of them.
-use crate::columns::{SIGNED, UNSIGNED, bytes, read};
+use crate::shared::{SIGNED, UNSIGNED, bytes, read};
 use mysql_values::value::{
     BinValue, ClientSide, SerializationSide, ServerSide, TextValue, Value, ValueDeserializer,
 };

@@ -1,5 +1,5 @@
 //! Values in binary form: as the types of columns read them.
-use crate::columns::{SIGNED, UNSIGNED, bytes, read};
+use crate::shared::{SIGNED, UNSIGNED, bytes, read};
 use mysql_values::value::Value;
 use mysql_wire_part::{ColumnType, ParseBuf, WireError};
 use std::test::Fail;
@@ -7,7 +7,7 @@ use std::test::Fail;
 #[test]
 fn read_integers(rt: HostRuntime) -> Result<(), Fail> {
     let alloc = rt.alloc();
-    let table: [(ColumnType, &[u8], Value, Value); 12] = [
+    let table: [(ColumnType, &[u8], Value, Value); 15] = [
         (
             ColumnType::MYSQL_TYPE_TINY,
             &[0xFF],
@@ -61,6 +61,24 @@ fn read_integers(rt: HostRuntime) -> Result<(), Fail> {
             &[255, 255, 255, 255],
             Value::Int(-1),
             Value::Int(4294967295),
+        ),
+        (
+            ColumnType::MYSQL_TYPE_SHORT,
+            &[0xFF, 0x7F],
+            Value::Int(32767),
+            Value::Int(32767),
+        ),
+        (
+            ColumnType::MYSQL_TYPE_LONG,
+            &[255, 255, 255, 0x7F],
+            Value::Int(2147483647),
+            Value::Int(2147483647),
+        ),
+        (
+            ColumnType::MYSQL_TYPE_INT24,
+            &[0, 0, 0, 0x80],
+            Value::Int(-2147483648),
+            Value::Int(2147483648),
         ),
         (
             ColumnType::MYSQL_TYPE_INT24,
@@ -236,4 +254,32 @@ fn refused_values_leave_the_buffer(rt: HostRuntime) {
         assert_eq!(rt; refused, Err(error), "{column:?} of {bytes:?}");
         assert_eq!(rt; buf, ParseBuf(bytes), "{column:?} of {bytes:?}");
     }
+}
+
+#[test]
+fn types_that_are_read_as_strings(rt: HostRuntime) -> Result<(), Fail> {
+    let alloc = rt.alloc();
+    for column in [
+        ColumnType::MYSQL_TYPE_STRING,
+        ColumnType::MYSQL_TYPE_VAR_STRING,
+        ColumnType::MYSQL_TYPE_BLOB,
+        ColumnType::MYSQL_TYPE_TINY_BLOB,
+        ColumnType::MYSQL_TYPE_MEDIUM_BLOB,
+        ColumnType::MYSQL_TYPE_LONG_BLOB,
+        ColumnType::MYSQL_TYPE_SET,
+        ColumnType::MYSQL_TYPE_ENUM,
+        ColumnType::MYSQL_TYPE_DECIMAL,
+        ColumnType::MYSQL_TYPE_VARCHAR,
+        ColumnType::MYSQL_TYPE_BIT,
+        ColumnType::MYSQL_TYPE_NEWDECIMAL,
+        ColumnType::MYSQL_TYPE_GEOMETRY,
+        ColumnType::MYSQL_TYPE_VECTOR,
+        ColumnType::MYSQL_TYPE_JSON,
+    ] {
+        let mut buf = ParseBuf(&[1, 0x41, 0x2A]);
+        let value = read(alloc, column, UNSIGNED, &mut buf)?;
+        assert_eq!(rt; value, bytes(alloc, b"A")?, "{column:?}");
+        assert_eq!(rt; buf.0, [0x2A].as_slice(), "{column:?}");
+    }
+    Ok(())
 }

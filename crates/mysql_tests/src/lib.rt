@@ -8,13 +8,13 @@ mod binary;
 #[cfg(test)]
 mod binary_reading;
 #[cfg(test)]
-mod columns;
-#[cfg(test)]
 mod literals;
 #[cfg(test)]
 mod program;
 #[cfg(test)]
 mod queries;
+#[cfg(test)]
+mod shared;
 #[cfg(test)]
 mod text_cells;
 #[cfg(test)]

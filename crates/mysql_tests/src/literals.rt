@@ -1,13 +1,8 @@
 //! SQL literals of values.
-use mysql_values::bytes::Bytes;
+use crate::shared::bytes;
 use mysql_values::value::{AsSqlError, Value};
 use std::alloc::{AllocError, Global};
 use std::test::Fail;
-
-// The value that holds these bytes.
-fn bytes(alloc: Global, text: &[u8]) -> Result<Value, AllocError> {
-    Ok(Value::Bytes(Bytes::from(Vec::from_slice(alloc, text)?)))
-}
 
 #[test]
 fn literals_of_bytes(rt: HostRuntime) -> Result<(), Fail> {

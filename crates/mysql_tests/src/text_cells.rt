@@ -1,14 +1,8 @@
 //! Values of rows in text form.
-use mysql_values::bytes::Bytes;
+use crate::shared::bytes;
 use mysql_values::value::{TextValue, Value, ValueDeserializer, read_text_cells};
 use mysql_wire_part::{MyDeserialize, ParseBuf, WireError};
-use std::alloc::{AllocError, Global};
 use std::test::Fail;
-
-// The value that holds these bytes.
-fn bytes(alloc: Global, text: &[u8]) -> Result<Value, AllocError> {
-    Ok(Value::Bytes(Bytes::from(Vec::from_slice(alloc, text)?)))
-}
 
 #[test]
 fn rows(rt: HostRuntime) -> Result<(), Fail> {
@@ -38,6 +32,13 @@ fn rows(rt: HostRuntime) -> Result<(), Fail> {
         row.as_slice()
     );
     assert_eq!(rt; buf.0, [7].as_slice());
+
+    let mut single = ParseBuf(&[0xFC, 1, 0, 0x41]);
+    assert_eq!(rt;
+        read_text_cells(alloc, &mut single, 1)?.as_slice(),
+        [bytes(alloc, b"A")?].as_slice()
+    );
+    assert!(rt; single.is_empty());
 
     assert!(rt; read_text_cells(alloc, &mut buf, 0)?.is_empty());
     assert_eq!(rt; buf.0, [7].as_slice());

@@ -1,14 +1,10 @@
 //! Values: how they are shown, compared and copied.
+use crate::shared::bytes;
 use mysql_values::bytes::Bytes;
 use mysql_values::value::Value;
 use std::alloc::{AllocError, Global};
 use std::cmp::Ordering;
 use std::test::Fail;
-
-// The value that holds these bytes.
-fn bytes(alloc: Global, text: &[u8]) -> Result<Value, AllocError> {
-    Ok(Value::Bytes(Bytes::from(Vec::from_slice(alloc, text)?)))
-}
 
 #[test]
 fn debug_texts(rt: HostRuntime) -> Result<(), Fail> {
@@ -104,6 +100,11 @@ fn copies(rt: HostRuntime) -> Result<(), Fail> {
     for value in &ascending(alloc)? {
         assert_eq!(rt; value.clone()?, *value);
     }
+    // The copy of a vector goes by the trait.
+    let mut held = Vec::new(alloc);
+    held.push(Value::Int(-3))?;
+    held.push(bytes(alloc, b"text")?)?;
+    assert_eq!(rt; held.clone()?.as_slice(), held.as_slice());
     let text = Bytes::from(Vec::from_slice(alloc, b"text")?);
     assert_eq!(rt; text.clone()?, text);
     assert_eq!(rt; text.as_slice(), b"text".as_slice());

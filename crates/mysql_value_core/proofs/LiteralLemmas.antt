@@ -17,14 +17,14 @@ use Rattle.mysql_value_core.specs.declared.value.Value.{Value}
 use Rattle.mysql_value_core.specs.declared.value.Value.TheVariants.{NULL, Bytes, Int, UInt, Float, Double, Date, Time}
 use Rattle.mysql_value_core.specs.Value.{FieldsInRange}
 use Rattle.mysql_value_core.specs.Literal.{escaped, quoted, hexadecimal, bytes_literal, date_text, time_text, literal_of, is_float}
-use Rattle.mysql_value_core.specs.Content.{byte_string, content_of}
-use Rattle.mysql_value_core.specs.ReadLiteral.{is_digit, read_literal}
+use Rattle.mysql_value_core.specs.ReadLiteral.{byte_string, is_digit, read_literal}
+use Rattle.mysql_value_core.specs.Content.{content_of}
 use Rattle.mysql_value_core.specs.ReadBack.{is_quote, continues_literal, BeginsWithout, ReadsBefore, ReadsAs}
 use Rattle.mysql_value_core.specs.LiteralShape.{AreDigits, IsLiteral, null_literal, natural_literal, negative_literal, hexadecimal_literal, quoted_literal}
 use Rattle.mysql_value_core.proofs.DigitLemmas.{all_digits-decimal}
 use Rattle.mysql_value_core.proofs.ReadStringLemmas.{read_quoted}
 use Rattle.mysql_value_core.proofs.ReadNumberLemmas.{begins_narrower, decimal_reads, signed_reads}
-use Rattle.mysql_value_core.proofs.HexadecimalLemmas.{hexadecimal_reads, AreHexPairs-hexadecimal, IsAscii-hexadecimal}
+use Rattle.mysql_value_core.proofs.HexadecimalLemmas.{hexadecimal_reads, AreHexadecimalPairs-hexadecimal, IsAscii-hexadecimal}
 use Rattle.mysql_value_core.proofs.ClockLemmas.{IsClockText, IsClockText-date_text, IsClockText-time_text, escaped-clock, IsAscii-clock}
 use Rattle.mysql_value_core.proofs.EscapedLemmas.{IsUtf8-escaped, IsUtf8-quoted}
 use Rattle.mysql_value_core.proofs.QuotedLemmas.{IsQuoted-escaped}
@@ -101,7 +101,7 @@ IsLiteral-bytes : (mode : Bool) (bytes : List ℕ) → ((i : ℕ) → get_or byt
 IsLiteral-bytes mode bytes small =
     cond_both (is_utf8 bytes) _ _ (IsLiteral mode)
     (λ _. quoted_literal _ (IsQuoted-escaped mode bytes))
-    (λ other. hexadecimal_literal (hexadecimal bytes) (AreHexPairs-hexadecimal bytes small (nonempty bytes other)))
+    (λ other. hexadecimal_literal (hexadecimal bytes) (AreHexadecimalPairs-hexadecimal bytes small (nonempty bytes other)))
 
 IsLiteral-clock : (mode : Bool) (text : List ℕ) → IsClockText text → IsLiteral mode (quoted text)
 IsLiteral-clock mode text clock =

@@ -7,8 +7,7 @@ use Rattle.std.proofs.lemmas.Bool.{cond_both, cond-false, and_parts}
 use Rattle.std.proofs.lemmas.Bool.Decides.{nat_tests}
 use Rattle.std.proofs.lemmas.Fmt.{decimal_nonempty}
 use lib.Signed.{mag}
-use Rattle.mysql_value_core.specs.Content.{Content, number}
-use Rattle.mysql_value_core.specs.ReadLiteral.{if_any, read_pairs, is_digit, read_natural, read_null, read_hexadecimal, read_negative, read_positive, read_string, read_literal, or_else}
+use Rattle.mysql_value_core.specs.ReadLiteral.{Content, number, if_any, read_pairs, is_digit, read_natural, read_null, read_hexadecimal, read_negative, read_positive, read_string, read_literal, or_else}
 use Rattle.mysql_value_core.specs.ReadBack.{continues_literal, BeginsWithout, ReadsBefore}
 use Rattle.mysql_value_core.proofs.DigitLemmas.{all_digits-decimal, read_natural-decimal}
 

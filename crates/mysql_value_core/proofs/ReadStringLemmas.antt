@@ -3,8 +3,7 @@ use Rattle.std.proofs.Common.{◌≡◌, ℕ, Bool, true, false, eqb, List, [], 
 use Rattle.std.specs.Prelude.{Some, option_map}
 use Rattle.std.proofs.lemmas.Bool.{cond_both, eqb-true, cond-false}
 use Rattle.mysql_value_core.specs.Literal.{escaped_byte, escaped, quoted}
-use Rattle.mysql_value_core.specs.Content.{byte_string}
-use Rattle.mysql_value_core.specs.ReadLiteral.{begins_pair, prefix_read, read_units, read_literal}
+use Rattle.mysql_value_core.specs.ReadLiteral.{byte_string, begins_pair, prefix_read, read_units, read_literal}
 use Rattle.mysql_value_core.specs.ReadBack.{is_quote, BeginsWithout}
 
 -- a byte that is no quote and begins no pair stands for itself

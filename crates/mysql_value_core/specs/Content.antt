@@ -1,15 +1,10 @@
--- What a literal says, and what a value says: an integer of either type says a number, and a date
--- or a time the bytes between the quotes of its literal.
-use Rattle.std.specs.Prelude.{ℕ, ℤ, pos, List, Option, Some, None}
+-- What a value says, in the terms in which a literal is read: an integer of either type says a number,
+-- and a date or a time the bytes between the quotes of its literal.
+use Rattle.std.specs.Prelude.{pos, Option, Some, None}
+use Rattle.mysql_value_core.specs.ReadLiteral.{Content, null, number, byte_string}
 use Rattle.mysql_value_core.specs.declared.value.Value.{Value}
 use Rattle.mysql_value_core.specs.declared.value.Value.TheVariants.{NULL, Bytes, Int, UInt, Float, Double, Date, Time}
 use Rattle.mysql_value_core.specs.Literal.{date_text, time_text}
-
--- null, a whole number, or bytes
-pub data Content : Type 0 where
-  null : Content
-  number : ℤ → Content
-  byte_string : List ℕ → Content
 
 -- the content of a value; floats have none
 abbrev pub content_of : Value → Option Content

@@ -3,8 +3,8 @@ pub mod Value
 pub mod ValueOrder
 pub mod StringUnits
 pub mod Literal
-pub mod Content
 pub mod ReadLiteral
+pub mod Content
 pub mod ReadBack
 pub mod AsSql
 pub mod LiteralShape

@@ -35,12 +35,12 @@ abbrev pub quoted : List ℕ → List ℕ
 quoted text = codes "'" ++ text ++ codes "'"
 
 -- the hexadecimal digit of a number below 16, in upper case
-abbrev pub hex_digit : ℕ → ℕ
-hex_digit n = if nat_lt n 10 then byte "0" + n else byte "A" + (n - 10)
+abbrev pub hexadecimal_digit : ℕ → ℕ
+hexadecimal_digit n = if nat_lt n 10 then byte "0" + n else byte "A" + (n - 10)
 
 -- two hexadecimal digits for each of the bytes, the higher first
 abbrev pub hexadecimal : List ℕ → List ℕ
-hexadecimal bytes = flat_map (λ b. hex_digit (b / 16) ∷ hex_digit (b % 16) ∷ []) bytes
+hexadecimal bytes = flat_map (λ b. hexadecimal_digit (b / 16) ∷ hexadecimal_digit (b % 16) ∷ []) bytes
 
 -- the literal of bytes: a string where they are UTF-8, and else hexadecimal
 abbrev pub bytes_literal : Bool → List ℕ → List ℕ

@@ -3,7 +3,7 @@
 use Rattle.std.specs.Prelude.{ℕ, Bool, true, false, IsTrue, List, [], ◌∷◌, ◌++◌, codes}
 use Rattle.std.specs.List.{list_all}
 use Rattle.mysql_value_core.specs.StringUnits.{AreUnits}
-use Rattle.mysql_value_core.specs.ReadLiteral.{is_digit, is_hex_digit}
+use Rattle.mysql_value_core.specs.ReadLiteral.{is_digit, is_hexadecimal_digit}
 use Rattle.std.specs.Str.{byte}
 
 -- one or more digits
@@ -12,12 +12,12 @@ AreDigits [] = ⊥
 AreDigits (b ∷ bytes) = IsTrue (is_digit b) × IsTrue (list_all is_digit bytes)
 
 -- one or more pairs of hexadecimal digits
-abbrev pub AreHexPairs : List ℕ → Type 0
-AreHexPairs [] = ⊥
-AreHexPairs (a ∷ []) = ⊥
-AreHexPairs (a ∷ b ∷ []) = IsTrue (is_hex_digit a) × IsTrue (is_hex_digit b)
-AreHexPairs (a ∷ b ∷ c ∷ bytes) =
-    IsTrue (is_hex_digit a) × IsTrue (is_hex_digit b) × AreHexPairs (c ∷ bytes)
+abbrev pub AreHexadecimalPairs : List ℕ → Type 0
+AreHexadecimalPairs [] = ⊥
+AreHexadecimalPairs (a ∷ []) = ⊥
+AreHexadecimalPairs (a ∷ b ∷ []) = IsTrue (is_hexadecimal_digit a) × IsTrue (is_hexadecimal_digit b)
+AreHexadecimalPairs (a ∷ b ∷ c ∷ bytes) =
+    IsTrue (is_hexadecimal_digit a) × IsTrue (is_hexadecimal_digit b) × AreHexadecimalPairs (c ∷ bytes)
 
 -- a closed string: a single quote, units, a single quote
 pub data IsClosedString (mode : Bool) : List ℕ → Type 0 where
@@ -41,5 +41,5 @@ pub data IsLiteral (mode : Bool) : List ℕ → Type 0 where
   null_literal : IsLiteral mode (codes "NULL")
   natural_literal : (digits : List ℕ) → AreDigits digits → IsLiteral mode digits
   negative_literal : (digits : List ℕ) → AreDigits digits → IsLiteral mode (codes "-" ++ digits)
-  hexadecimal_literal : (pairs : List ℕ) → AreHexPairs pairs → IsLiteral mode (codes "0x" ++ pairs)
+  hexadecimal_literal : (pairs : List ℕ) → AreHexadecimalPairs pairs → IsLiteral mode (codes "0x" ++ pairs)
   quoted_literal : (literal : List ℕ) → IsQuoted mode literal → IsLiteral mode literal

@@ -1,10 +1,10 @@
--- That the literal of a value reads as what the value says, whatever stands behind it.
+-- That the literal of a value reads as what the value says, before all that may stand behind it.
 use Rattle.std.specs.Prelude.{◌≡◌, ℕ, nat_le, Bool, ◌==◌, ◌&&◌, ◌||◌, List, [], ◌∷◌, ◌++◌, Some, IsFalse, IsTrue, IsSomeAnd, ⊤}
 use Rattle.std.specs.Str.{byte, is_utf8}
 use Rattle.mysql_value_core.specs.declared.value.Value.{Value}
 use Rattle.mysql_value_core.specs.declared.value.Value.TheVariants.{Bytes}
-use Rattle.mysql_value_core.specs.Content.{Content, byte_string, content_of}
-use Rattle.mysql_value_core.specs.ReadLiteral.{is_digit, read_literal}
+use Rattle.mysql_value_core.specs.ReadLiteral.{Content, byte_string, is_digit, read_literal}
+use Rattle.mysql_value_core.specs.Content.{content_of}
 
 -- whether a byte is a single quote
 abbrev pub is_quote : ℕ → Bool

@@ -3,9 +3,14 @@
 -- nothing with the definition of what is written, and no code uses it. A mode is the flag
 -- `no_backslash_escape`: `true` is the mode without backslash escapes. Unlike the manual, this
 -- takes hexadecimal digits in pairs alone.
-use Rattle.std.specs.Prelude.{ℕ, ◌+◌, ◌-◌, ◌*◌, nat_le, Bool, true, false, ◌==◌, ◌&&◌, ◌||◌, List, [], ◌∷◌, ◌++◌, codes, Option, Some, None, option_map, option_and_then, pos, neg_ℤ, if◌then◌else◌}
-use Rattle.mysql_value_core.specs.Content.{Content, null, number, byte_string}
+use Rattle.std.specs.Prelude.{ℕ, ◌+◌, ◌-◌, ◌*◌, nat_le, Bool, true, false, ◌==◌, ◌&&◌, ◌||◌, List, [], ◌∷◌, ◌++◌, codes, Option, Some, None, option_map, option_and_then, ℤ, pos, neg_ℤ, if◌then◌else◌}
 use Rattle.std.specs.Str.{byte}
+
+-- what a literal says: null, a whole number, or bytes
+pub data Content : Type 0 where
+  null : Content
+  number : ℤ → Content
+  byte_string : List ℕ → Content
 
 -- what follows a word at the front of a text
 abbrev pub after : List ℕ → List ℕ → Option (List ℕ)
@@ -18,15 +23,15 @@ abbrev pub is_digit : ℕ → Bool
 is_digit b = nat_le (byte "0") b && nat_le b (byte "9")
 
 -- whether a byte is a hexadecimal digit, of either case
-abbrev pub is_hex_digit : ℕ → Bool
-is_hex_digit b =
+abbrev pub is_hexadecimal_digit : ℕ → Bool
+is_hexadecimal_digit b =
     is_digit b
     || ((nat_le (byte "A") b && nat_le b (byte "F"))
     || (nat_le (byte "a") b && nat_le b (byte "f")))
 
 -- the number that a hexadecimal digit stands for
-abbrev pub hex_digit_value : ℕ → ℕ
-hex_digit_value b =
+abbrev pub hexadecimal_digit_value : ℕ → ℕ
+hexadecimal_digit_value b =
     if is_digit b then b - byte "0" else (
     if nat_le b (byte "F") then 10 + (b - byte "A") else 10 + (b - byte "a"))
 
@@ -35,8 +40,8 @@ abbrev pub read_pairs : List ℕ → List ℕ × List ℕ
 read_pairs [] = ([], [])
 read_pairs (a ∷ []) = ([], a ∷ [])
 read_pairs (a ∷ b ∷ text) =
-    if is_hex_digit a && is_hex_digit b
-    then ((16 * hex_digit_value a + hex_digit_value b) ∷ (read_pairs text).0, (read_pairs text).1)
+    if is_hexadecimal_digit a && is_hexadecimal_digit b
+    then ((16 * hexadecimal_digit_value a + hexadecimal_digit_value b) ∷ (read_pairs text).0, (read_pairs text).1)
     else ([], a ∷ b ∷ text)
 
 -- bytes, if there are any, and what follows them

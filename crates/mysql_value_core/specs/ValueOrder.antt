@@ -25,15 +25,15 @@ value_cmp (Int number) (Int number') = int_cmp number number'
 value_cmp (UInt number) (UInt number') = nat_cmp number number'
 value_cmp (Float bits) (Float bits') = nat_cmp bits bits'
 value_cmp (Double bits) (Double bits') = nat_cmp bits bits'
-value_cmp (Date year month day hour minute second micros)
-    (Date year' month' day' hour' minute' second' micros') =
+value_cmp (Date year month day hour minute second microseconds)
+    (Date year' month' day' hour' minute' second' microseconds') =
     ordering_then (nat_cmp year year') (ordering_then (nat_cmp month month')
     (ordering_then (nat_cmp day day') (ordering_then (nat_cmp hour hour')
     (ordering_then (nat_cmp minute minute') (ordering_then (nat_cmp second second')
-    (nat_cmp micros micros'))))))
-value_cmp (Time negative days hours minutes seconds micros)
-    (Time negative' days' hours' minutes' seconds' micros') =
+    (nat_cmp microseconds microseconds'))))))
+value_cmp (Time negative days hours minutes seconds microseconds)
+    (Time negative' days' hours' minutes' seconds' microseconds') =
     ordering_then (bool_cmp negative negative') (ordering_then (nat_cmp days days')
     (ordering_then (nat_cmp hours hours') (ordering_then (nat_cmp minutes minutes')
-    (ordering_then (nat_cmp seconds seconds') (nat_cmp micros micros')))))
+    (ordering_then (nat_cmp seconds seconds') (nat_cmp microseconds microseconds')))))
 value_cmp value value' = nat_cmp (variant_place value) (variant_place value')

@@ -19,7 +19,8 @@ pub trait MySerialize {
 
 /// What can be read from the front of a buffer.
 pub trait MyDeserialize<'de>: Sized {
-    /// The number of bytes that a value takes, where all values take the same.
+    /// The number of bytes that a value takes, where all values take the same. No contract speaks
+    /// of it.
     const SIZE: Option<usize>;
 
     /// What has to be known to read a value.

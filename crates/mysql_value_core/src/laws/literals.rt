@@ -3,8 +3,8 @@ ghost use Rattle.std.specs.Prelude.{◌≡◌, ◌↔◌, [], ◌∷◌, Bool, I
 ghost use Rattle.mysql_value_core.specs.declared.value.Value as value;
 ghost use Rattle.mysql_value_core.specs.StringUnits.{with_backslashes, without_backslashes};
 ghost use Rattle.mysql_value_core.specs.Literal.{is_float, literal_of};
-ghost use Rattle.mysql_value_core.specs.Content.{byte_string, content_of, null, number};
-ghost use Rattle.mysql_value_core.specs.ReadLiteral.{read_literal};
+ghost use Rattle.mysql_value_core.specs.ReadLiteral.{byte_string, null, number, read_literal};
+ghost use Rattle.mysql_value_core.specs.Content.{content_of};
 ghost use Rattle.mysql_value_core.specs.ReadBack.{ReadsAs};
 ghost use Rattle.mysql_value_core.specs.LiteralShape.{IsLiteral};
 
@@ -17,9 +17,10 @@ pub fn literal_shape(value: &Value)
     value.fields_in_range();
 }
 
-/// The literal of a value reads as the content of the value.
+/// The literal of a value reads as the content of the value, before what may stand behind it.
 pub fn literal_reads_back(value: &Value)
-    ensures reads_back { (mode : Bool) → IfSome (literal_of mode value.now) (ReadsAs mode value.now) }
+    ensures reads_back { (mode : Bool) →
+        IfSome (literal_of mode value.now) (ReadsAs mode value.now) }
 {
     value.fields_in_range();
 }

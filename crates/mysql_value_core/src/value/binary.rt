@@ -1,5 +1,6 @@
 //! Values of rows in binary form.
 ghost use Rattle.std.specs.Prelude.{◌≡◌, ◌≤◌, ◌++◌, length, IsOk, OnOk, OnErr};
+ghost use Rattle.mysql_wire_part.specs.Reading.{read_number, map_read};
 ghost use Rattle.mysql_wire_part.specs.ParseBuf.{left, AnswersReading};
 ghost use Rattle.mysql_wire_part.specs.Column.{is_unsigned};
 ghost use Rattle.mysql_value_core.specs.TextCell.{ReadsBytes};
@@ -211,14 +212,8 @@ fn eat_value(
         ColumnType::MYSQL_TYPE_SHORT | ColumnType::MYSQL_TYPE_YEAR => eat_integer(2, unsigned, buf),
         ColumnType::MYSQL_TYPE_LONG | ColumnType::MYSQL_TYPE_INT24 => eat_integer(4, unsigned, buf),
         ColumnType::MYSQL_TYPE_LONGLONG => eat_integer(8, unsigned, buf),
-        ColumnType::MYSQL_TYPE_FLOAT => match buf.checked_eat_u32_le() {
-            Some(bits) => Ok(Value::Float(bits)),
-            None => Err(WireError::UnexpectedEof),
-        },
-        ColumnType::MYSQL_TYPE_DOUBLE => match buf.checked_eat_u64_le() {
-            Some(bits) => Ok(Value::Double(bits)),
-            None => Err(WireError::UnexpectedEof),
-        },
+        ColumnType::MYSQL_TYPE_FLOAT => eat_float(buf),
+        ColumnType::MYSQL_TYPE_DOUBLE => eat_double(buf),
         ColumnType::MYSQL_TYPE_TIMESTAMP
         | ColumnType::MYSQL_TYPE_DATE
         | ColumnType::MYSQL_TYPE_NEWDATE
@@ -261,6 +256,28 @@ fn eat_integer(width: usize, unsigned: bool, buf: &mut ParseBuf<'_>) -> Result<V
     match i64::try_from(number) {
         Ok(number) => Ok(Value::Int(number)),
         Err(_) => Ok(Value::UInt(number)),
+    }
+}
+
+// The 4 bytes of a `Float`.
+fn eat_float(buf: &mut ParseBuf<'_>) -> Result<Value, WireError>
+    ensures read { AnswersReading (λ value. (value, left buf.new))
+        (map_read (λ bits. Value.Float bits) (read_number 4 (left buf.old))) ⊥ result }
+{
+    match buf.checked_eat_u32_le() {
+        Some(bits) => Ok(Value::Float(bits)),
+        None => Err(WireError::UnexpectedEof),
+    }
+}
+
+// The 8 bytes of a `Double`.
+fn eat_double(buf: &mut ParseBuf<'_>) -> Result<Value, WireError>
+    ensures read { AnswersReading (λ value. (value, left buf.new))
+        (map_read (λ bits. Value.Double bits) (read_number 8 (left buf.old))) ⊥ result }
+{
+    match buf.checked_eat_u64_le() {
+        Some(bits) => Ok(Value::Double(bits)),
+        None => Err(WireError::UnexpectedEof),
     }
 }
 

@@ -1,6 +1,6 @@
 //! Literals of bytes: strings with their escapes, and hexadecimal.
 ghost use Rattle.std.specs.Prelude.{◌≡◌, [], ◌∷◌, ◌++◌, ◌+◌, ◌*◌, ◌<◌, ◌≤◌, length, take, codes, MatchOption};
-ghost use Rattle.mysql_value_core.specs.Literal.{bytes_literal, escaped, escaped_byte, hex_digit, hexadecimal, quoted};
+ghost use Rattle.mysql_value_core.specs.Literal.{bytes_literal, escaped, escaped_byte, hexadecimal_digit, hexadecimal, quoted};
 
 use super::numbers::put_byte;
 
@@ -141,7 +141,7 @@ fn fill_pairs(room: &mut [u8], bytes: &[u8])
 // The hexadecimal digit of a number, in upper case.
 fn digit(number: u8) -> u8
     requires { number < 16 }
-    ensures { result ≡ hex_digit number }
+    ensures { result ≡ hexadecimal_digit number }
 {
     if number < 10 {
         b'0' + number

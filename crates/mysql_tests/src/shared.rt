@@ -1,4 +1,4 @@
-//! What the tests of binary values share.
+//! What several tests share.
 use mysql_values::bytes::Bytes;
 use mysql_values::value::{BinValue, Value, ValueDeserializer};
 use mysql_wire_part::{ColumnFlags, ColumnType, Flags, MyDeserialize, ParseBuf, WireError};
