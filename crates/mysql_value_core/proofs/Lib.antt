@@ -1,2 +1,3 @@
 mod ValueOrderLemmas
 mod TextCellLemmas
+mod TextLemmas

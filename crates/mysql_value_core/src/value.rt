@@ -6,6 +6,7 @@ use crate::bytes::Bytes;
 use std::alloc::AllocError;
 use std::marker::PhantomData;
 
+pub mod convert;
 mod text;
 
 pub use crate::value::text::{TextValue, read_text_cells};
