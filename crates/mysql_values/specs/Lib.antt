@@ -2,3 +2,11 @@ pub use Rattle.mysql_value_core.specs.Bytes
 pub use Rattle.mysql_value_core.specs.Value
 pub use Rattle.mysql_value_core.specs.ValueOrder
 pub use Rattle.mysql_value_core.specs.TextCell
+pub use Rattle.mysql_value_core.specs.ValueOf
+pub use Rattle.mysql_value_core.specs.FromValue
+pub mod Decimal
+pub mod Intermediate
+pub mod Rollback
+pub mod WholeNumber
+pub mod Truth
+pub mod OptionConversion
