@@ -8,7 +8,10 @@ mod binary;
 #[cfg(test)]
 mod binary_reading;
 #[cfg(test)]
+mod conversions;
+#[cfg(test)]
 mod literals;
+pub mod own_type;
 #[cfg(test)]
 mod program;
 #[cfg(test)]
@@ -19,6 +22,8 @@ mod shared;
 mod text_cells;
 #[cfg(test)]
 mod values;
+#[cfg(test)]
+mod whole_numbers;
 #[cfg(test)]
 mod wire;
 #[cfg(test)]

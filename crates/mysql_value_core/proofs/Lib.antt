@@ -10,3 +10,4 @@ pub mod QuotedLemmas
 pub mod LiteralLemmas
 mod TextCellLemmas
 mod BinaryLemmas
+mod TextLemmas

@@ -12,3 +12,5 @@ pub mod TextCell
 pub mod BinaryForm
 pub mod BinaryReading
 pub mod BinaryReadBack
+pub mod ValueOf
+pub mod FromValue

@@ -10,6 +10,7 @@ ghost use Rattle.mysql_value_core.specs.ValueOrder.{value_cmp};
 mod literals;
 
 use crate::bytes::Bytes;
+use crate::value::convert::{FromValueError, ToValueError};
 use crate::value::{ClientSide, SerializationSide, ServerSide, Value};
 pub use literals::{
     as_sql_error_equality, escapes_read, floats_have_no_literal, literal_reads_back, literal_shape,
@@ -50,6 +51,20 @@ pub fn value_partial_order(a: &Value, b: &Value) -> Option<Ordering>
     ensures order { result ≡ Some (value_cmp a.now b.now) }
 {
     a.partial_cmp(b)
+}
+
+/// Refused conversions are equal where the values are that they hold.
+pub fn from_value_error_equality(a: &FromValueError, b: &FromValueError) -> bool
+    ensures { IsTrue result ↔ (a.now ≡ b.now) }
+{
+    a == b
+}
+
+/// Errors of `ToValue` are equal where variant and fields are.
+pub fn to_value_error_equality(a: &ToValueError, b: &ToValueError) -> bool
+    ensures { IsTrue result ↔ (a.now ≡ b.now) }
+{
+    a == b
 }
 
 /// The order of values is total and transitive, and `Equal` exactly where they are equal.

@@ -3,6 +3,7 @@ ghost use Rattle.std.specs.Prelude.{◌≡◌, IfOk, OnErr};
 ghost use Rattle.mysql_value_core.specs.Value.{FieldsInRange, IsBytes};
 
 mod binary;
+pub mod convert;
 mod literal;
 mod side;
 mod text;

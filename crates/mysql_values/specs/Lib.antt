@@ -12,3 +12,11 @@ pub use Rattle.mysql_value_core.specs.ReadLiteral
 pub use Rattle.mysql_value_core.specs.ReadBack
 pub use Rattle.mysql_value_core.specs.AsSql
 pub use Rattle.mysql_value_core.specs.LiteralShape
+pub use Rattle.mysql_value_core.specs.ValueOf
+pub use Rattle.mysql_value_core.specs.FromValue
+pub mod Decimal
+pub mod Intermediate
+pub mod Rollback
+pub mod WholeNumber
+pub mod Truth
+pub mod OptionConversion

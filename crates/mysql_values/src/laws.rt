@@ -1,5 +1,72 @@
+//! Laws of the types of this crate and of the one below. No program needs to call them.
+ghost use Rattle.std.specs.Prelude.{◌≡◌, ◌↔◌, IsTrue, Some};
+ghost use Rattle.mysql_value_core.specs.ValueOf.{bool_value};
+ghost use Rattle.mysql_value_core.specs.ValueOrder.{value_cmp};
+ghost use Rattle.mysql_values.specs.Intermediate.{committed, AreEqualParsed};
+ghost use Rattle.mysql_values.specs.OptionConversion.{AreEqualOptions};
+ghost use Rattle.mysql_values.specs.Rollback.{ConvertsBack};
+ghost use Rattle.mysql_values.specs.Truth.{truth_conversion};
+ghost use Rattle.mysql_values.specs.WholeNumber.{whole_conversion};
+
+use crate::value::convert::{FromValue, OptionIr2, ParseIr, ParseIrOpt, ValueIr, WholeNumber};
 pub use mysql_value_core::laws::{
     as_sql_error_equality, bytes_equality, bytes_order, escapes_read, floats_have_no_literal,
-    literal_reads_back, literal_shape, null_bitmap_offsets, numbers_read, server_side_equality,
-    value_equality, value_order, value_order_is_total, value_partial_order,
+    from_value_error_equality, literal_reads_back, literal_shape, null_bitmap_offsets,
+    numbers_read, server_side_equality, to_value_error_equality, value_equality, value_order,
+    value_order_is_total, value_partial_order,
 };
+use std::cmp::Ordering;
+
+/// Intermediates of values are equal where the values are.
+pub fn value_ir_equality(a: &ValueIr, b: &ValueIr) -> bool
+    ensures { IsTrue result ↔ (a.now ≡ b.now) }
+{
+    a == b
+}
+
+/// Intermediates of values are ordered as the values.
+pub fn value_ir_order(a: &ValueIr, b: &ValueIr) -> Option<Ordering>
+    ensures { result ≡ Some (value_cmp a.now.0 b.now.0) }
+{
+    a.partial_cmp(b)
+}
+
+/// Converted things with their values are equal where thing and value are.
+pub fn parse_ir_equality<T: PartialEq>(a: &ParseIr<T>, b: &ParseIr<T>) -> bool
+    ensures { IsTrue result ↔ (IsTrue (T.eq a.now.0 b.now.0) × (a.now.1 ≡ b.now.1)) }
+{
+    a == b
+}
+
+/// Converted things, with their values where they are kept, are equal where variant, thing and
+/// value are.
+pub fn parse_ir_opt_equality<T: PartialEq>(a: &ParseIrOpt<T>, b: &ParseIrOpt<T>) -> bool
+    ensures { IsTrue result ↔ AreEqualParsed T.eq a.now b.now }
+{
+    a == b
+}
+
+/// Intermediates of optional things are equal where both are none, or those of the things are.
+pub fn option_ir_equality<T: FromValue>(a: &OptionIr2<T>, b: &OptionIr2<T>) -> bool
+where
+    T::Intermediate: PartialEq,
+    ensures { IsTrue result ↔ AreEqualOptions T.Intermediate.eq a.now b.now }
+{
+    a == b
+}
+
+/// A whole number converts back from its value.
+pub fn whole_number_converts_back<T: WholeNumber + Drop>(number: &T)
+    ensures { ConvertsBack (whole_conversion T.is_signed T.width T.of_number) committed
+        (T.value_of number.now) number.now }
+{
+    let (negative, magnitude) = number.to_parts();
+    let _same = T::from_parts(negative, magnitude);
+}
+
+/// A truth value converts back from its value.
+pub fn truth_converts_back(truth: &bool)
+    ensures { ConvertsBack truth_conversion committed (bool_value truth.now) truth.now }
+{
+    let _truth = *truth;
+}

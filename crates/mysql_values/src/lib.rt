@@ -1,4 +1,5 @@
-//! Values of the MySQL client/server protocol: all of `mysql_value_core`, handed on by name.
+//! Values of the MySQL client/server protocol: all of `mysql_value_core`, handed on by name, and
+//! conversions of values with their way back.
 #![tactic(auto)]
 
 pub mod bytes;

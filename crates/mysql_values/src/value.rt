@@ -1,3 +1,5 @@
+pub mod convert;
+
 pub use mysql_value_core::value::{
     AsSqlError, BinValue, ClientSide, SerializationSide, ServerSide, TextValue, Value,
     ValueDeserializer, read_text_cells,

@@ -1,0 +1,68 @@
+//! A type of a user's own that values convert to.
+ghost use Rattle.std.specs.Prelude.{⊤};
+ghost use Rattle.mysql_tests.specs.Zero.{zero_conversion};
+
+use mysql_values::value::Value;
+use mysql_values::value::convert::{FromValue, FromValueError, ValueIr};
+
+/// The number 0, for which NULL stands too.
+#[derive(Drop)]
+pub struct Zero;
+
+impl From<ValueIr> for Zero {
+    fn from(ir: ValueIr) -> Zero {
+        Zero::commit_intermediate(ir)
+    }
+}
+
+impl FromValue for Zero {
+    type Intermediate = ValueIr;
+
+    ghost Seen = { ⊤ };
+
+    ghost seen = { λ _. tt };
+
+    ghost SeenIr = { ⊤ };
+
+    ghost seen_ir = { λ _. tt };
+
+    ghost conversion = { zero_conversion };
+
+    ghost commit = { λ zero. zero };
+
+    fn commit_intermediate(_ir: ValueIr) -> Zero {
+        Zero
+    }
+
+    fn get_intermediate(v: Value) -> Result<ValueIr, FromValueError> {
+        match v {
+            Value::NULL => Ok(ValueIr(Value::NULL)),
+            Value::Int(0) => Ok(ValueIr(Value::Int(0))),
+            other => Err(FromValueError(other)),
+        }
+    }
+}
+
+#[cfg(test)]
+mod tests {
+    use super::*;
+    use mysql_values::value::convert::{IntoValue, from_value_opt};
+    use std::test::Fail;
+
+    #[test]
+    fn own_type(rt: HostRuntime) -> Result<(), Fail> {
+        let alloc = rt.alloc();
+        for value in [Value::Int(0), Value::NULL] {
+            let back = Zero::get_intermediate(value.clone()?)?.into_value(alloc)?;
+            assert_eq!(rt; back, value);
+        }
+        let _zero: Zero = from_value_opt(Value::Int(0))?;
+        let optional: Option<Zero> = from_value_opt(Value::Int(0))?;
+        assert!(rt; optional.is_some());
+        let optional: Option<Zero> = from_value_opt(Value::NULL)?;
+        assert!(rt; optional.is_none());
+        let refusal = from_value_opt::<Zero>(Value::Int(1)).err();
+        assert_eq!(rt; refusal, Some(FromValueError(Value::Int(1))));
+        Ok(())
+    }
+}

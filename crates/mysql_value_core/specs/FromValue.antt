@@ -1,0 +1,51 @@
+-- Conversions of values to the types of Rust: what comes out, and what a refusal hands back.
+use Rattle.std.specs.Prelude.{◌≡◌, ℕ, ◌==◌, Bool, true, false, List, length, if◌then◌else◌, string_bytes, Option, None, Some, Result, Ok, Err}
+use Rattle.std.specs.Str.{is_utf8}
+use Rattle.std.specs.Option.{option_map}
+use Rattle.std.specs.declared.borrow.CowSlice.{CowSlice}
+use Rattle.std.specs.declared.borrow.CowSlice.TheVariants as cow_slice
+use Rattle.std.specs.declared.borrow.CowStr.{CowStr}
+use Rattle.std.specs.declared.borrow.CowStr.TheVariants as cow_str
+use Rattle.mysql_value_core.specs.declared.value.Value.{Value}
+use Rattle.mysql_value_core.specs.declared.value.Value.TheVariants.{Bytes}
+use Rattle.mysql_value_core.specs.declared.value.convert.FromValueError.{FromValueError}
+
+-- The value converts to what the answer is seen as; or it doesn't convert, and the refusal holds
+-- exactly this value.
+abbrev pub ConvertsOrHandsBack : {X Seen : Type 0} → (X → Seen) → Option Seen → Value
+    → Result X FromValueError → Type 0
+ConvertsOrHandsBack seen converted value (Ok x) = converted ≡ Some (seen x)
+ConvertsOrHandsBack seen converted value (Err error) = (converted ≡ None) × (error.0 ≡ value)
+
+-- the bytes of a value
+abbrev pub bytes_of : Value → Option (List ℕ)
+bytes_of (Bytes bytes) = Some bytes
+bytes_of _ = None
+
+-- the bytes of a value that are UTF-8
+abbrev pub text_of : Value → Option (List ℕ)
+text_of (Bytes bytes) = if is_utf8 bytes then Some bytes else None
+text_of _ = None
+
+-- the bytes of a value that are so many
+abbrev pub array_of : ℕ → Value → Option (List ℕ)
+array_of count (Bytes bytes) = if length bytes == count then Some bytes else None
+array_of count _ = None
+
+-- bytes, and whether a `Cow` owns them
+abbrev pub CowSeen : Type 0
+CowSeen = Bool × List ℕ
+
+-- what is seen of a `Cow` of bytes
+abbrev pub cow_bytes : {Z : Type 0} → CowSlice ℕ Z → CowSeen
+cow_bytes (cow_slice.Owned bytes) = (true, bytes.items)
+cow_bytes (cow_slice.Borrowed bytes) = (false, bytes.now)
+
+-- what is seen of a `Cow` of text
+abbrev pub cow_text : {Z : Type 0} → CowStr Z → CowSeen
+cow_text (cow_str.Owned text) = (true, string_bytes text)
+cow_text (cow_str.Borrowed text) = (false, text.now)
+
+-- a `Cow` that owns the bytes
+abbrev pub owned : List ℕ → CowSeen
+owned bytes = (true, bytes)

@@ -1,0 +1,58 @@
+//! Conversions between values and the types of Rust.
+ghost use Rattle.std.specs.Prelude.{◌≡◌, IfOk, OnErr, alloc_error};
+ghost use Rattle.mysql_value_core.specs.Value.{IsBytes};
+ghost use Rattle.mysql_value_core.specs.ValueOf.{Meaning, MeansBytes, AnswersValue};
+ghost use Rattle.mysql_value_core.specs.declared.value.convert.ToValueError.TheVariants.{Memory};
+
+use crate::value::Value;
+use std::alloc::{AllocError, Global};
+use std::time::Duration;
+use thiserror::Error;
+
+mod from;
+mod to_value;
+mod try_from;
+
+/// A value that a conversion refused: exactly the value handed in.
+#[derive(Debug, PartialEq, Drop, Error)]
+#[error("Couldn't convert the value `{0:?}` to a desired type")]
+pub struct FromValueError(pub Value);
+
+impl FromValueError {
+    /// A copy of the error. Only that of `Bytes` takes memory, on the allocator that they hold.
+    pub fn clone(&self) -> Result<FromValueError, AllocError>
+        ensures equal { IfOk result (λ copy. copy ≡ self.now) }
+        ensures memory { OnErr result (IsBytes self.now.0) }
+    {
+        Ok(FromValueError(self.0.clone()?))
+    }
+}
+
+/// Why a thing has no value.
+#[derive(Debug, PartialEq, Drop, Error)]
+pub enum ToValueError {
+    /// The duration, rounded to microseconds, has more days than a `Time` holds.
+    #[error("Duration has too many days")]
+    DurationTooLong(Duration),
+    /// Memory for the value was refused.
+    #[error("out of memory")]
+    Memory(AllocError),
+}
+
+impl From<AllocError> for ToValueError {
+    ghost from_gives = { λ _ error. error ≡ Memory alloc_error };
+
+    fn from(error: AllocError) -> ToValueError {
+        ToValueError::Memory(error)
+    }
+}
+
+/// What has a value.
+pub trait ToValue {
+    // the value of the thing, or why it has none
+    ghost value_of: { Self → Meaning };
+
+    /// The value of the thing. It takes memory only where the value is `Bytes`.
+    fn to_value(&self, alloc: Global) -> Result<Value, ToValueError>
+        ensures { AnswersValue (value_of self.now) (MeansBytes (value_of self.now)) result };
+}

@@ -1,0 +1,124 @@
+//! The values of whole numbers and truth values.
+ghost use Rattle.mysql_value_core.specs.ValueOf.{bool_value, int_value, uint_value, wide_int_value, wide_uint_value};
+
+use crate::bytes::Bytes;
+use crate::value::Value;
+use crate::value::convert::{ToValue, ToValueError};
+use std::alloc::Global;
+
+impl ToValue for i8 {
+    ghost value_of = { int_value };
+
+    fn to_value(&self, _alloc: Global) -> Result<Value, ToValueError> {
+        Ok(Value::Int(i64::from(*self)))
+    }
+}
+
+impl ToValue for i16 {
+    ghost value_of = { int_value };
+
+    fn to_value(&self, _alloc: Global) -> Result<Value, ToValueError> {
+        Ok(Value::Int(i64::from(*self)))
+    }
+}
+
+impl ToValue for i32 {
+    ghost value_of = { int_value };
+
+    fn to_value(&self, _alloc: Global) -> Result<Value, ToValueError> {
+        Ok(Value::Int(i64::from(*self)))
+    }
+}
+
+impl ToValue for i64 {
+    ghost value_of = { int_value };
+
+    fn to_value(&self, _alloc: Global) -> Result<Value, ToValueError> {
+        Ok(Value::Int(*self))
+    }
+}
+
+impl ToValue for isize {
+    ghost value_of = { int_value };
+
+    fn to_value(&self, _alloc: Global) -> Result<Value, ToValueError> {
+        Ok(Value::Int(*self as i64))
+    }
+}
+
+impl ToValue for u8 {
+    ghost value_of = { uint_value };
+
+    fn to_value(&self, _alloc: Global) -> Result<Value, ToValueError> {
+        Ok(Value::UInt(u64::from(*self)))
+    }
+}
+
+impl ToValue for u16 {
+    ghost value_of = { uint_value };
+
+    fn to_value(&self, _alloc: Global) -> Result<Value, ToValueError> {
+        Ok(Value::UInt(u64::from(*self)))
+    }
+}
+
+impl ToValue for u32 {
+    ghost value_of = { uint_value };
+
+    fn to_value(&self, _alloc: Global) -> Result<Value, ToValueError> {
+        Ok(Value::UInt(u64::from(*self)))
+    }
+}
+
+impl ToValue for u64 {
+    ghost value_of = { uint_value };
+
+    fn to_value(&self, _alloc: Global) -> Result<Value, ToValueError> {
+        Ok(Value::UInt(*self))
+    }
+}
+
+impl ToValue for usize {
+    ghost value_of = { uint_value };
+
+    fn to_value(&self, _alloc: Global) -> Result<Value, ToValueError> {
+        Ok(Value::UInt(*self as u64))
+    }
+}
+
+impl ToValue for i128 {
+    ghost value_of = { wide_int_value };
+
+    fn to_value(&self, alloc: Global) -> Result<Value, ToValueError> {
+        let number = *self;
+        if number >= i64::MIN as i128 && number <= i64::MAX as i128 {
+            return Ok(Value::Int(number as i64));
+        }
+        if number >= 0 && number <= u64::MAX as i128 {
+            return Ok(Value::UInt(number as u64));
+        }
+        let text = number.to_string(alloc)?;
+        Ok(Value::Bytes(Bytes::from(text.into_bytes())))
+    }
+}
+
+impl ToValue for u128 {
+    ghost value_of = { wide_uint_value };
+
+    fn to_value(&self, alloc: Global) -> Result<Value, ToValueError> {
+        let number = *self;
+        if number <= u64::MAX as u128 {
+            return Ok(Value::UInt(number as u64));
+        }
+        let text = number.to_string(alloc)?;
+        Ok(Value::Bytes(Bytes::from(text.into_bytes())))
+    }
+}
+
+impl ToValue for bool {
+    ghost value_of = { bool_value };
+
+    fn to_value(&self, _alloc: Global) -> Result<Value, ToValueError> {
+        Ok(Value::Int(i64::from(*self)))
+    }
+}

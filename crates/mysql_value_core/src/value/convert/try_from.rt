@@ -1,0 +1,83 @@
+//! Values that become texts and bytes of the standard library. No memory is taken.
+ghost use Rattle.std.specs.Prelude.{string_bytes};
+ghost use Rattle.std.specs.Option.{option_map};
+ghost use Rattle.mysql_value_core.specs.FromValue.{ConvertsOrHandsBack, array_of, bytes_of, cow_bytes, cow_text, owned, text_of};
+
+use crate::bytes::Bytes;
+use crate::value::Value;
+use crate::value::convert::FromValueError;
+use std::borrow::{CowSlice, CowStr};
+
+impl TryFrom<Value> for Vec<u8> {
+    type Error = FromValueError;
+
+    ghost try_from_gives = { λ v r. ConvertsOrHandsBack (λ bytes. bytes.items) (bytes_of v) v r };
+
+    fn try_from(value: Value) -> Result<Vec<u8>, FromValueError> {
+        match value {
+            Value::Bytes(bytes) => Ok(Vec::<u8>::from(bytes)),
+            other => Err(FromValueError(other)),
+        }
+    }
+}
+
+impl TryFrom<Value> for CowSlice<'static, u8> {
+    type Error = FromValueError;
+
+    ghost try_from_gives = { λ v r. ConvertsOrHandsBack cow_bytes (option_map owned (bytes_of v)) v r };
+
+    fn try_from(value: Value) -> Result<CowSlice<'static, u8>, FromValueError> {
+        match value {
+            Value::Bytes(bytes) => Ok(CowSlice::Owned(Vec::<u8>::from(bytes))),
+            other => Err(FromValueError(other)),
+        }
+    }
+}
+
+impl<const N: usize> TryFrom<Value> for [u8; N] {
+    type Error = FromValueError;
+
+    ghost try_from_gives = { λ v r. ConvertsOrHandsBack (λ array. array) (array_of N v) v r };
+
+    fn try_from(value: Value) -> Result<[u8; N], FromValueError> {
+        match value {
+            Value::Bytes(bytes) => match <[u8; N]>::try_from(bytes.as_slice()) {
+                Ok(array) => Ok(array),
+                Err(_) => Err(FromValueError(Value::Bytes(bytes))),
+            },
+            other => Err(FromValueError(other)),
+        }
+    }
+}
+
+impl TryFrom<Value> for String {
+    type Error = FromValueError;
+
+    ghost try_from_gives = { λ v r. ConvertsOrHandsBack string_bytes (text_of v) v r };
+
+    fn try_from(value: Value) -> Result<String, FromValueError> {
+        match value {
+            Value::Bytes(bytes) => match String::from_utf8(Vec::<u8>::from(bytes)) {
+                Ok(text) => {
+                    let _text = text.as_str();
+                    Ok(text)
+                }
+                Err(error) => Err(FromValueError(Value::Bytes(Bytes::from(error.into_bytes())))),
+            },
+            other => Err(FromValueError(other)),
+        }
+    }
+}
+
+impl TryFrom<Value> for CowStr<'static> {
+    type Error = FromValueError;
+
+    ghost try_from_gives = { λ v r. ConvertsOrHandsBack cow_text (option_map owned (text_of v)) v r };
+
+    fn try_from(value: Value) -> Result<CowStr<'static>, FromValueError> {
+        match String::try_from(value) {
+            Ok(text) => Ok(CowStr::Owned(text)),
+            Err(error) => Err(error),
+        }
+    }
+}

@@ -1,0 +1,26 @@
+-- Converted things beside the values that they were made of.
+use Rattle.std.specs.Prelude.{◌≡◌, Bool, IsTrue, Ok}
+use Rattle.mysql_value_core.specs.ValueOf.{Meaning, MeansBytes}
+use Rattle.mysql_values.specs.declared.value.convert.intermediate.ParseIrOpt.{ParseIrOpt}
+use Rattle.mysql_values.specs.declared.value.convert.intermediate.ParseIrOpt.TheVariants.{Ready, Parsed}
+
+-- the converted thing
+abbrev pub committed : {T : Type 0} → ParseIrOpt T → T
+committed (Ready x) = x
+committed (Parsed x value) = x
+
+-- the stored value, or else the value of the thing
+abbrev pub rolled_back : {T : Type 0} → (T → Meaning) → ParseIrOpt T → Meaning
+rolled_back value_of (Ready x) = value_of x
+rolled_back value_of (Parsed x value) = Ok value
+
+-- handing the value back takes memory only for the bytes of a thing
+abbrev pub RollbackTakesMemory : {T : Type 0} → (T → Meaning) → ParseIrOpt T → Type 0
+RollbackTakesMemory value_of (Ready x) = MeansBytes (value_of x)
+RollbackTakesMemory value_of (Parsed x value) = ⊥
+
+-- the same variant, equal things, and the same value
+abbrev pub AreEqualParsed : {T : Type 0} → (T → T → Bool) → ParseIrOpt T → ParseIrOpt T → Type 0
+AreEqualParsed eq (Ready x) (Ready y) = IsTrue (eq x y)
+AreEqualParsed eq (Parsed x value) (Parsed y value') = IsTrue (eq x y) × (value ≡ value')
+AreEqualParsed eq _ _ = ⊥

@@ -1,0 +1,43 @@
+-- Conversions to an optional thing: NULL is none, and other values convert as the thing does.
+use Rattle.std.specs.Prelude.{Bool, IsTrue, ⊤, Result, Ok, Option, None, Some}
+use Rattle.std.specs.Option.{option_map}
+use Rattle.mysql_value_core.specs.declared.value.Value.{Value}
+use Rattle.mysql_value_core.specs.declared.value.Value.TheVariants.{NULL}
+use Rattle.mysql_value_core.specs.declared.value.convert.FromValueError.{FromValueError}
+use Rattle.mysql_value_core.specs.FromValue.{ConvertsOrHandsBack}
+use Rattle.mysql_value_core.specs.ValueOf.{Meaning}
+use Rattle.mysql_values.specs.declared.value.convert.option.OptionIr2.{OptionIr2}
+use Rattle.mysql_values.specs.declared.value.convert.option.OptionIr2.TheVariants as option_ir
+
+-- what is seen of the intermediate, by what is seen of the thing's own
+abbrev pub seen_option : {T Ir Seen : Type 0} → (Ir → Seen) → OptionIr2 T Ir → Option Seen
+seen_option seen option_ir.None = None
+seen_option seen (option_ir.Some ir) = Some (seen ir)
+
+-- the conversion, by that of the thing
+abbrev pub option_conversion : {Ir : Type 0} → (Value → Option Ir) → Value → Option (Option Ir)
+option_conversion conversion NULL = Some None
+option_conversion conversion value = option_map Some (conversion value)
+
+-- the value converts to the intermediate, or is handed back
+abbrev pub ConvertsToOption : {T Ir Seen : Type 0} → (Ir → Seen) → (Value → Option Seen) → Value
+    → Result (OptionIr2 T Ir) FromValueError → Type 0
+ConvertsToOption seen conversion value result =
+    ConvertsOrHandsBack (seen_option seen) (option_conversion conversion value) value result
+
+-- the value that it is undone to, by that of the thing's own intermediate
+abbrev pub option_undone : {T Ir : Type 0} → (Ir → Meaning) → OptionIr2 T Ir → Meaning
+option_undone undo option_ir.None = Ok NULL
+option_undone undo (option_ir.Some ir) = undo ir
+
+-- undoing it takes memory where that of the thing's own intermediate does
+abbrev pub OptionTakesMemory : {T Ir : Type 0} → (Ir → Type 0) → OptionIr2 T Ir → Type 0
+OptionTakesMemory takes_memory option_ir.None = ⊥
+OptionTakesMemory takes_memory (option_ir.Some ir) = takes_memory ir
+
+-- both are none, or both are things' own, and equal
+abbrev pub AreEqualOptions : {T Ir : Type 0} → (Ir → Ir → Bool) → OptionIr2 T Ir → OptionIr2 T Ir
+    → Type 0
+AreEqualOptions eq option_ir.None option_ir.None = ⊤
+AreEqualOptions eq (option_ir.Some ir) (option_ir.Some ir') = IsTrue (eq ir ir')
+AreEqualOptions eq _ _ = ⊥

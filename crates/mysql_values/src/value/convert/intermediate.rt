@@ -1,0 +1,152 @@
+//! What values are converted to before it is known whether the thing or the value is wanted.
+ghost use Rattle.std.specs.Prelude.{◌≡◌, IfOk, Ok, OnErr, Some};
+ghost use Rattle.mysql_value_core.specs.Value.{IsBytes};
+ghost use Rattle.mysql_value_core.specs.ValueOf.{AnswersValue};
+ghost use Rattle.mysql_value_core.specs.declared.value.Value as value;
+
+use crate::value::Value;
+use crate::value::convert::{FromValue, FromValueError, IntoValue, ToValue, ToValueError};
+use std::alloc::{AllocError, Global};
+
+/// A converted thing and the value that it was made of.
+#[derive(Debug, PartialEq, Drop)]
+pub struct ParseIr<T>(pub T, pub Value);
+
+impl<T> ParseIr<T> {
+    /// The thing.
+    pub fn commit(self) -> T
+        ensures { result ≡ self.0 }
+    {
+        let ParseIr(x, _) = self;
+        x
+    }
+
+    /// The value.
+    pub fn rollback(self) -> Value
+    where
+        T: Drop,
+        ensures { result ≡ self.1 }
+    {
+        let ParseIr(_, value) = self;
+        value
+    }
+}
+
+/// A converted thing, with the value that it was made of where it is kept.
+#[derive(Debug, PartialEq, Drop)]
+pub enum ParseIrOpt<T> {
+    /// The thing alone: its own value stands for the one that it was made of.
+    Ready(T),
+    /// The thing and the value that it was made of.
+    Parsed(T, Value),
+}
+
+impl<T> ParseIrOpt<T> {
+    ghost use Rattle.mysql_values.specs.Intermediate.{committed};
+
+    /// The thing.
+    pub fn commit(self) -> T
+        ensures { result ≡ committed self }
+    {
+        match self {
+            ParseIrOpt::Ready(x) => x,
+            ParseIrOpt::Parsed(x, _) => x,
+        }
+    }
+}
+
+impl<T: ToValue + Drop> ParseIrOpt<T> {
+    ghost use Rattle.mysql_values.specs.Intermediate.{rolled_back, RollbackTakesMemory};
+
+    /// The value that is kept, or else that of the thing, which takes memory where it is `Bytes`.
+    pub fn rollback(self, alloc: Global) -> Result<Value, ToValueError>
+        ensures { AnswersValue (rolled_back T.value_of self)
+            (RollbackTakesMemory T.value_of self) result }
+    {
+        match self {
+            ParseIrOpt::Ready(x) => x.to_value(alloc),
+            ParseIrOpt::Parsed(_, value) => Ok(value),
+        }
+    }
+}
+
+impl<T: ToValue + Drop> IntoValue for ParseIrOpt<T> {
+    ghost use Rattle.mysql_values.specs.Intermediate.{rolled_back, RollbackTakesMemory};
+
+    ghost undo = { rolled_back T.value_of };
+
+    ghost takes_memory = { RollbackTakesMemory T.value_of };
+
+    fn into_value(self, alloc: Global) -> Result<Value, ToValueError> {
+        self.rollback(alloc)
+    }
+}
+
+/// The intermediate of a value: itself. It is ordered as the value.
+#[derive(Debug, PartialEq, PartialOrd, Drop)]
+pub struct ValueIr(pub Value);
+
+impl ValueIr {
+    /// A copy. Only that of `Bytes` takes memory, on the allocator that they hold.
+    pub fn clone(&self) -> Result<ValueIr, AllocError>
+        ensures equal { IfOk result (λ copy. copy ≡ self.now) }
+        ensures memory { OnErr result (IsBytes self.now.0) }
+    {
+        Ok(ValueIr(self.0.clone()?))
+    }
+}
+
+impl IntoValue for ValueIr {
+    ghost undo = { λ ir. Ok ir.0 };
+
+    ghost takes_memory = { λ _. ⊥ };
+
+    fn into_value(self, _alloc: Global) -> Result<Value, ToValueError> {
+        let ValueIr(value) = self;
+        Ok(value)
+    }
+}
+
+impl TryFrom<Value> for ValueIr {
+    type Error = FromValueError;
+
+    ghost try_from_gives = { λ value result. result ≡ Ok (record { 0 = value }) };
+
+    fn try_from(value: Value) -> Result<ValueIr, FromValueError> {
+        Ok(ValueIr(value))
+    }
+}
+
+impl From<ValueIr> for Value {
+    ghost from_gives = { λ ir value. value ≡ ir.0 };
+
+    fn from(ir: ValueIr) -> Value {
+        let ValueIr(value) = ir;
+        value
+    }
+}
+
+impl FromValue for Value {
+    type Intermediate = ValueIr;
+
+    ghost Seen = { value.Value };
+
+    ghost seen = { λ v. v };
+
+    ghost SeenIr = { value.Value };
+
+    ghost seen_ir = { λ ir. ir.0 };
+
+    ghost conversion = { λ v. Some v };
+
+    ghost commit = { λ v. v };
+
+    fn commit_intermediate(ir: ValueIr) -> Value {
+        let ValueIr(value) = ir;
+        value
+    }
+
+    fn get_intermediate(v: Value) -> Result<ValueIr, FromValueError> {
+        Ok(ValueIr(v))
+    }
+}

@@ -1,0 +1,183 @@
+//! The six whole-number types with negative numbers.
+ghost use Rattle.std.specs.Prelude.{◌≡◌, true};
+ghost use Rattle.std.specs.Option.{SomeIff};
+ghost use Rattle.std.proofs.Common.{lit≤};
+ghost use Rattle.mysql_values.specs.Decimal.{signed};
+ghost use Rattle.mysql_values.specs.Intermediate.{committed};
+ghost use Rattle.mysql_values.specs.WholeNumber.{holds};
+
+use crate::value::convert::{ParseIrOpt, WholeNumber};
+
+// The number of a type with negative ones, of up to 128 bits.
+fn with_sign(negative: bool, magnitude: u128) -> Option<i128>
+    ensures { SomeIff result (holds true 128 (signed negative magnitude) ≡ true)
+        (signed negative magnitude) }
+{
+    if negative {
+        0i128.checked_sub_unsigned(magnitude)
+    } else {
+        0i128.checked_add_unsigned(magnitude)
+    }
+}
+
+impl WholeNumber for i8 {
+    ghost is_signed = { true };
+
+    ghost width = { 8 };
+
+    ghost at_most_wide = { lit≤ tt };
+
+    ghost of_number = { λ number. number };
+
+    #[tactic(auto, using(crate::proofs::WholeNumberLemmas::int_converts_back))]
+    fn from_parts(negative: bool, magnitude: u128) -> Option<i8> {
+        i8::try_from(with_sign(negative, magnitude)?).ok()
+    }
+
+    fn to_parts(&self) -> (bool, u128) {
+        (*self < 0, u128::from(self.unsigned_abs()))
+    }
+}
+
+impl WholeNumber for i16 {
+    ghost is_signed = { true };
+
+    ghost width = { 16 };
+
+    ghost at_most_wide = { lit≤ tt };
+
+    ghost of_number = { λ number. number };
+
+    #[tactic(auto, using(crate::proofs::WholeNumberLemmas::int_converts_back))]
+    fn from_parts(negative: bool, magnitude: u128) -> Option<i16> {
+        i16::try_from(with_sign(negative, magnitude)?).ok()
+    }
+
+    fn to_parts(&self) -> (bool, u128) {
+        (*self < 0, u128::from(self.unsigned_abs()))
+    }
+}
+
+impl WholeNumber for i32 {
+    ghost is_signed = { true };
+
+    ghost width = { 32 };
+
+    ghost at_most_wide = { lit≤ tt };
+
+    ghost of_number = { λ number. number };
+
+    #[tactic(auto, using(crate::proofs::WholeNumberLemmas::int_converts_back))]
+    fn from_parts(negative: bool, magnitude: u128) -> Option<i32> {
+        i32::try_from(with_sign(negative, magnitude)?).ok()
+    }
+
+    fn to_parts(&self) -> (bool, u128) {
+        (*self < 0, u128::from(self.unsigned_abs()))
+    }
+}
+
+impl WholeNumber for i64 {
+    ghost is_signed = { true };
+
+    ghost width = { 64 };
+
+    ghost at_most_wide = { lit≤ tt };
+
+    ghost of_number = { λ number. number };
+
+    #[tactic(auto, using(crate::proofs::WholeNumberLemmas::int_converts_back))]
+    fn from_parts(negative: bool, magnitude: u128) -> Option<i64> {
+        i64::try_from(with_sign(negative, magnitude)?).ok()
+    }
+
+    fn to_parts(&self) -> (bool, u128) {
+        (*self < 0, u128::from(self.unsigned_abs()))
+    }
+}
+
+impl WholeNumber for i128 {
+    ghost is_signed = { true };
+
+    ghost width = { 128 };
+
+    ghost at_most_wide = { lit≤ tt };
+
+    ghost of_number = { λ number. number };
+
+    #[tactic(auto, using(crate::proofs::WholeNumberLemmas::wide_int_converts_back))]
+    fn from_parts(negative: bool, magnitude: u128) -> Option<i128> {
+        with_sign(negative, magnitude)
+    }
+
+    fn to_parts(&self) -> (bool, u128) {
+        (*self < 0, self.unsigned_abs())
+    }
+}
+
+impl WholeNumber for isize {
+    ghost is_signed = { true };
+
+    ghost width = { 64 };
+
+    ghost at_most_wide = { lit≤ tt };
+
+    ghost of_number = { λ number. number };
+
+    #[tactic(auto, using(crate::proofs::WholeNumberLemmas::int_converts_back))]
+    fn from_parts(negative: bool, magnitude: u128) -> Option<isize> {
+        isize::try_from(with_sign(negative, magnitude)?).ok()
+    }
+
+    fn to_parts(&self) -> (bool, u128) {
+        (*self < 0, self.unsigned_abs() as u128)
+    }
+}
+
+impl From<ParseIrOpt<i8>> for i8 {
+    ghost from_gives = { λ ir x. x ≡ committed ir };
+
+    fn from(ir: ParseIrOpt<i8>) -> i8 {
+        ir.commit()
+    }
+}
+
+impl From<ParseIrOpt<i16>> for i16 {
+    ghost from_gives = { λ ir x. x ≡ committed ir };
+
+    fn from(ir: ParseIrOpt<i16>) -> i16 {
+        ir.commit()
+    }
+}
+
+impl From<ParseIrOpt<i32>> for i32 {
+    ghost from_gives = { λ ir x. x ≡ committed ir };
+
+    fn from(ir: ParseIrOpt<i32>) -> i32 {
+        ir.commit()
+    }
+}
+
+impl From<ParseIrOpt<i64>> for i64 {
+    ghost from_gives = { λ ir x. x ≡ committed ir };
+
+    fn from(ir: ParseIrOpt<i64>) -> i64 {
+        ir.commit()
+    }
+}
+
+impl From<ParseIrOpt<i128>> for i128 {
+    ghost from_gives = { λ ir x. x ≡ committed ir };
+
+    fn from(ir: ParseIrOpt<i128>) -> i128 {
+        ir.commit()
+    }
+}
+
+impl From<ParseIrOpt<isize>> for isize {
+    ghost from_gives = { λ ir x. x ≡ committed ir };
+
+    fn from(ir: ParseIrOpt<isize>) -> isize {
+        ir.commit()
+    }
+}

@@ -1,0 +1,85 @@
+//! Conversions to texts.
+ghost use Rattle.std.specs.Prelude.{◌≡◌, ℕ, List, Ok, false, string_bytes};
+ghost use Rattle.std.specs.Option.{option_map};
+ghost use Rattle.mysql_value_core.specs.FromValue.{CowSeen, cow_text, owned, text_of};
+ghost use Rattle.mysql_value_core.specs.declared.value.Value.TheVariants.{Bytes as BytesOf};
+
+use crate::bytes::Bytes;
+use crate::value::Value;
+use crate::value::convert::{FromValue, FromValueError, IntoValue, ToValueError};
+use std::alloc::Global;
+use std::borrow::CowStr;
+
+impl IntoValue for String {
+    ghost undo = { λ text. Ok (BytesOf (string_bytes text)) };
+
+    ghost takes_memory = { λ _. ⊥ };
+
+    fn into_value(self, _alloc: Global) -> Result<Value, ToValueError> {
+        Ok(Value::Bytes(Bytes::from(self.into_bytes())))
+    }
+}
+
+impl FromValue for String {
+    type Intermediate = String;
+
+    ghost Seen = { List ℕ };
+
+    ghost seen = { string_bytes };
+
+    ghost SeenIr = { List ℕ };
+
+    ghost seen_ir = { string_bytes };
+
+    ghost conversion = { text_of };
+
+    ghost commit = { λ text. text };
+
+    fn commit_intermediate(ir: String) -> String {
+        ir
+    }
+
+    fn get_intermediate(v: Value) -> Result<String, FromValueError> {
+        String::try_from(v)
+    }
+}
+
+impl<'a> IntoValue for CowStr<'a> {
+    ghost undo = { λ text. Ok (BytesOf (cow_text text).1) };
+
+    ghost takes_memory = { λ text. (cow_text text).0 ≡ false };
+
+    fn into_value(self, alloc: Global) -> Result<Value, ToValueError> {
+        match self {
+            CowStr::Owned(text) => Ok(Value::Bytes(Bytes::from(text.into_bytes()))),
+            CowStr::Borrowed(text) => {
+                let bytes = Vec::from_slice(alloc, text.as_bytes())?;
+                Ok(Value::Bytes(Bytes::from(bytes)))
+            }
+        }
+    }
+}
+
+impl FromValue for CowStr<'static> {
+    type Intermediate = CowStr<'static>;
+
+    ghost Seen = { CowSeen };
+
+    ghost seen = { cow_text };
+
+    ghost SeenIr = { CowSeen };
+
+    ghost seen_ir = { cow_text };
+
+    ghost conversion = { λ v. option_map owned (text_of v) };
+
+    ghost commit = { λ text. text };
+
+    fn commit_intermediate(ir: CowStr<'static>) -> CowStr<'static> {
+        ir
+    }
+
+    fn get_intermediate(v: Value) -> Result<CowStr<'static>, FromValueError> {
+        CowStr::<'static>::try_from(v)
+    }
+}

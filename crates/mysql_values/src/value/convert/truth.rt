@@ -1,0 +1,77 @@
+//! Conversions to truth values.
+ghost use Rattle.std.specs.Prelude.{◌≡◌, Bool, IfOk};
+ghost use Rattle.mysql_value_core.specs.FromValue.{ConvertsOrHandsBack};
+ghost use Rattle.mysql_value_core.specs.ValueOf.{bool_value};
+ghost use Rattle.mysql_values.specs.Intermediate.{committed, rolled_back, RollbackTakesMemory};
+ghost use Rattle.mysql_values.specs.Rollback.{RollsBack, NullFromNull};
+ghost use Rattle.mysql_values.specs.Truth.{truth_conversion, truth_of_text};
+ghost use Rattle.mysql_values.specs.declared.value.convert.intermediate.ParseIrOpt as parsed_ir;
+
+use crate::value::Value;
+use crate::value::convert::{FromValue, FromValueError, ParseIrOpt};
+
+fn read_truth(text: &[u8]) -> Option<bool>
+    ensures { result ≡ truth_of_text text.now }
+{
+    match text {
+        b"0" => Some(false),
+        b"1" => Some(true),
+        _ => None,
+    }
+}
+
+impl TryFrom<Value> for ParseIrOpt<bool> {
+    type Error = FromValueError;
+
+    ghost try_from_gives = { λ v r. ConvertsOrHandsBack (λ ir. ir) (truth_conversion v) v r };
+
+    fn try_from(value: Value) -> Result<ParseIrOpt<bool>, FromValueError> {
+        match value {
+            Value::Int(number) => Ok(ParseIrOpt::Ready(number != 0)),
+            Value::UInt(number) => Ok(ParseIrOpt::Ready(number != 0)),
+            Value::Bytes(bytes) => match read_truth(bytes.as_slice()) {
+                Some(truth) => Ok(ParseIrOpt::Parsed(truth, Value::Bytes(bytes))),
+                None => Err(FromValueError(Value::Bytes(bytes))),
+            },
+            other => Err(FromValueError(other)),
+        }
+    }
+}
+
+impl From<ParseIrOpt<bool>> for bool {
+    ghost from_gives = { λ ir truth. truth ≡ committed ir };
+
+    fn from(ir: ParseIrOpt<bool>) -> bool {
+        ir.commit()
+    }
+}
+
+impl FromValue for bool {
+    type Intermediate = ParseIrOpt<bool>;
+
+    ghost Seen = { Bool };
+
+    ghost seen = { λ truth. truth };
+
+    ghost SeenIr = { parsed_ir.ParseIrOpt Bool };
+
+    ghost seen_ir = { λ ir. ir };
+
+    ghost conversion = { truth_conversion };
+
+    ghost commit = { committed };
+
+    fn commit_intermediate(ir: ParseIrOpt<bool>) -> bool {
+        ir.commit()
+    }
+
+    fn get_intermediate(v: Value) -> Result<ParseIrOpt<bool>, FromValueError>
+        ensures converts { ConvertsOrHandsBack (λ ir. ir) (truth_conversion v) v result }
+        ensures rolls_back { IfOk result (λ ir.
+            RollsBack truth_conversion committed (rolled_back bool_value ir) ir) }
+        ensures null { IfOk result (λ ir. NullFromNull (rolled_back bool_value ir) v) }
+        ensures no_memory { IfOk result (λ ir. ¬ (RollbackTakesMemory bool_value ir)) }
+    {
+        ParseIrOpt::<bool>::try_from(v)
+    }
+}

@@ -1,0 +1,154 @@
+//! Conversions to whole numbers: what the twelve types have in common.
+ghost use Rattle.std.specs.Prelude.{◌≡◌, ℕ, ◌≤◌, Bool, ℤ, true, Some, Option, IfOk, IfSome};
+ghost use Rattle.std.specs.Option.{option_map};
+ghost use Rattle.mysql_value_core.specs.FromValue.{ConvertsOrHandsBack};
+ghost use Rattle.mysql_value_core.specs.ValueOf.{MeansBytes};
+ghost use Rattle.mysql_values.specs.Decimal.{signed};
+ghost use Rattle.mysql_values.specs.Intermediate.{committed, rolled_back, RollbackTakesMemory};
+ghost use Rattle.mysql_values.specs.Rollback.{RollsBack, NullFromNull, ConvertsBack};
+ghost use Rattle.mysql_values.specs.WholeNumber.{is_of_64_bits, narrowed, whole_conversion};
+ghost use Rattle.mysql_values.specs.declared.value.convert.intermediate.ParseIrOpt as parsed_ir;
+
+use crate::bytes::Bytes;
+use crate::value::Value;
+use crate::value::convert::decimal::decimal_parts;
+use crate::value::convert::{FromValue, FromValueError, ParseIrOpt, ToValue};
+
+/// A whole-number type: which numbers it holds. It stands for the twelve types of Rust, so that
+/// their conversions are written once.
+pub trait WholeNumber: ToValue + Sized {
+    // whether the type has negative numbers
+    ghost is_signed: { Bool };
+
+    // the bits of a number of the type
+    ghost width: { ℕ };
+
+    ghost at_most_wide: { width ≤ 128 };
+
+    // a number that the type holds, as one of the type
+    ghost of_number: { ℤ → Self };
+
+    /// The number of this magnitude, negative or not, where the type holds it.
+    fn from_parts(negative: bool, magnitude: u128) -> Option<Self>
+        ensures number { result ≡ narrowed is_signed width of_number (signed negative magnitude) }
+        ensures converts_back { IfSome result (λ x.
+            ConvertsBack (whole_conversion is_signed width of_number) committed
+            (Self.value_of x) x) }
+        ensures no_memory { IfSome result (λ x.
+            is_of_64_bits (signed negative magnitude) ≡ true → ¬ (MeansBytes (Self.value_of x))) };
+
+    /// Whether the number is negative, and its magnitude.
+    fn to_parts(&self) -> (bool, u128)
+        ensures { narrowed is_signed width of_number (signed result.0 result.1) ≡ Some self.now };
+}
+
+// The intermediate of an `Int` or a `UInt`, whose number is given by its parts.
+fn ready<T: WholeNumber>(
+    negative: bool,
+    magnitude: u128,
+    v: Value,
+) -> Result<ParseIrOpt<T>, FromValueError>
+    requires number { whole_conversion T.is_signed T.width T.of_number v
+        ≡ option_map ParseIrOpt.Ready (narrowed T.is_signed T.width T.of_number (signed negative magnitude)) }
+    requires of_64_bits { is_of_64_bits (signed negative magnitude) ≡ true }
+    ensures converts { ConvertsOrHandsBack (λ ir. ir)
+        (whole_conversion T.is_signed T.width T.of_number v) v result }
+    ensures rolls_back { IfOk result (λ ir.
+        RollsBack (whole_conversion T.is_signed T.width T.of_number) committed
+        (rolled_back T.value_of ir) ir) }
+    ensures null { IfOk result (λ ir. NullFromNull (rolled_back T.value_of ir) v) }
+    ensures no_memory { IfOk result (λ ir. ¬ (RollbackTakesMemory T.value_of ir)) }
+{
+    match T::from_parts(negative, magnitude) {
+        Some(x) => Ok(ParseIrOpt::Ready(x)),
+        None => Err(FromValueError(v)),
+    }
+}
+
+// The intermediate of bytes.
+fn parsed<T: WholeNumber>(bytes: Bytes) -> Result<ParseIrOpt<T>, FromValueError>
+    ensures converts { ConvertsOrHandsBack (λ ir. ir)
+        (whole_conversion T.is_signed T.width T.of_number (Value.Bytes bytes))
+        (Value.Bytes bytes) result }
+    ensures rolls_back { IfOk result (λ ir.
+        RollsBack (whole_conversion T.is_signed T.width T.of_number) committed
+        (rolled_back T.value_of ir) ir) }
+    ensures null { IfOk result (λ ir.
+        NullFromNull (rolled_back T.value_of ir) (Value.Bytes bytes)) }
+    ensures no_memory { IfOk result (λ ir. ¬ (RollbackTakesMemory T.value_of ir)) }
+{
+    match decimal_parts(bytes.as_slice()) {
+        Some((negative, magnitude)) => match T::from_parts(negative, magnitude) {
+            Some(x) => Ok(ParseIrOpt::Parsed(x, Value::Bytes(bytes))),
+            None => Err(FromValueError(Value::Bytes(bytes))),
+        },
+        None => Err(FromValueError(Value::Bytes(bytes))),
+    }
+}
+
+// The intermediate of a value.
+fn read_whole<T: WholeNumber>(v: Value) -> Result<ParseIrOpt<T>, FromValueError>
+    ensures converts { ConvertsOrHandsBack (λ ir. ir)
+        (whole_conversion T.is_signed T.width T.of_number v) v result }
+    ensures rolls_back { IfOk result (λ ir.
+        RollsBack (whole_conversion T.is_signed T.width T.of_number) committed
+        (rolled_back T.value_of ir) ir) }
+    ensures null { IfOk result (λ ir. NullFromNull (rolled_back T.value_of ir) v) }
+    ensures no_memory { IfOk result (λ ir. ¬ (RollbackTakesMemory T.value_of ir)) }
+{
+    match v {
+        Value::Int(number) => {
+            ready(
+                number < 0,
+                u128::from(number.unsigned_abs()),
+                Value::Int(number),
+            )
+        }
+        Value::UInt(number) => ready(false, u128::from(number), Value::UInt(number)),
+        Value::Bytes(bytes) => parsed(bytes),
+        other => Err(FromValueError(other)),
+    }
+}
+
+impl<T: WholeNumber> TryFrom<Value> for ParseIrOpt<T> {
+    type Error = FromValueError;
+
+    ghost try_from_gives = { λ value result. ConvertsOrHandsBack (λ ir. ir)
+        (whole_conversion T.is_signed T.width T.of_number value) value result };
+
+    fn try_from(value: Value) -> Result<ParseIrOpt<T>, FromValueError> {
+        read_whole(value)
+    }
+}
+
+impl<T: WholeNumber + Drop + From<ParseIrOpt<T>>> FromValue for T {
+    type Intermediate = ParseIrOpt<T>;
+
+    ghost Seen = { T };
+
+    ghost seen = { λ x. x };
+
+    ghost SeenIr = { parsed_ir.ParseIrOpt T };
+
+    ghost seen_ir = { λ ir. ir };
+
+    ghost conversion = { whole_conversion T.is_signed T.width T.of_number };
+
+    ghost commit = { committed };
+
+    fn commit_intermediate(ir: ParseIrOpt<T>) -> T {
+        ir.commit()
+    }
+
+    fn get_intermediate(v: Value) -> Result<ParseIrOpt<T>, FromValueError>
+        ensures converts { ConvertsOrHandsBack (λ ir. ir)
+            (whole_conversion T.is_signed T.width T.of_number v) v result }
+        ensures rolls_back { IfOk result (λ ir.
+            RollsBack (whole_conversion T.is_signed T.width T.of_number) committed
+            (rolled_back T.value_of ir) ir) }
+        ensures null { IfOk result (λ ir. NullFromNull (rolled_back T.value_of ir) v) }
+        ensures no_memory { IfOk result (λ ir. ¬ (RollbackTakesMemory T.value_of ir)) }
+    {
+        read_whole(v)
+    }
+}
