@@ -1,7 +1,6 @@
 -- Conversions of values to the types of Rust: what comes out, and what a refusal hands back.
 use Rattle.std.specs.Prelude.{◌≡◌, ℕ, ◌==◌, Bool, true, false, List, length, if◌then◌else◌, string_bytes, Option, None, Some, Result, Ok, Err}
 use Rattle.std.specs.Str.{is_utf8}
-use Rattle.std.specs.Option.{option_map}
 use Rattle.std.specs.declared.borrow.CowSlice.{CowSlice}
 use Rattle.std.specs.declared.borrow.CowSlice.TheVariants as cow_slice
 use Rattle.std.specs.declared.borrow.CowStr.{CowStr}

@@ -49,7 +49,8 @@ fn ready<T: WholeNumber>(
     v: Value,
 ) -> Result<ParseIrOpt<T>, FromValueError>
     requires number { whole_conversion T.is_signed T.width T.of_number v
-        ≡ option_map ParseIrOpt.Ready (narrowed T.is_signed T.width T.of_number (signed negative magnitude)) }
+        ≡ option_map ParseIrOpt.Ready
+        (narrowed T.is_signed T.width T.of_number (signed negative magnitude)) }
     requires of_64_bits { is_of_64_bits (signed negative magnitude) ≡ true }
     ensures converts { ConvertsOrHandsBack (λ ir. ir)
         (whole_conversion T.is_signed T.width T.of_number v) v result }
