@@ -52,7 +52,8 @@ read_date-date_form : (y m d h i s u : ℕ) (rest : List ℕ) → y < 2 ^ 16 →
 read_date-date_form y m d h i s u rest year_fits microseconds_fit =
     let day = y == 0 && m == 0 && d == 0 in
     let clock = h == 0 && i == 0 && s == 0 in
-    let Reads : List ℕ → Type 0 = λ form. read_date (form ++ rest) ≡ Ok (Date y m d h i s u, rest) in
+    let Reads : List ℕ → Type 0 =
+    λ form. read_date (form ++ rest) ≡ Ok (Date y m d h i s u, rest) in
     let year = little_number-reads_back 2 y [] year_fits in
     let microseconds = little_number-reads_back 4 u [] microseconds_fit in
     cond_both (day && (clock && u == 0)) _ _ Reads (λ zeros.

@@ -32,7 +32,8 @@ abbrev pub time_form : Bool → ℕ → ℕ → ℕ → ℕ → ℕ → List ℕ
 time_form negative days hours minutes seconds microseconds =
     let no_microseconds = microseconds == 0 in
     let no_time = days == 0 && hours == 0 && minutes == 0 && seconds == 0 && no_microseconds in
-    let whole_seconds = sign_byte negative ∷ (little_bytes 4 days ++ hours ∷ minutes ∷ seconds ∷ []) in
+    let whole_seconds =
+    sign_byte negative ∷ (little_bytes 4 days ++ hours ∷ minutes ∷ seconds ∷ []) in
     if no_time then 0 ∷ [] else (
     if no_microseconds then 8 ∷ whole_seconds else
     12 ∷ (whole_seconds ++ little_bytes 4 microseconds))

@@ -23,8 +23,8 @@ abbrev pub own_unsigned : Value → Bool
 own_unsigned (UInt number) = true
 own_unsigned value = false
 
--- the value itself; but `UInt` comes back as `Int` where that has the number, and a negative time of
--- zero comes back as not negative
+-- the value itself; but `UInt` comes back as `Int` where that has the number, and a negative time
+-- of zero comes back as not negative
 abbrev pub read_back : Value → Value
 read_back (UInt number) = unsigned_integer number
 read_back (Time negative days hours minutes seconds microseconds) =

@@ -32,8 +32,8 @@ length_spelling n =
 abbrev pub lenenc_spelling : List ℕ → List ℕ
 lenenc_spelling text = length_spelling (length text) ++ text
 
--- a length is read from any of the four spellings, also from one longer than needed; FB and FF begin
--- none
+-- a length is read from any of the four spellings, also from one longer than needed; FB and FF
+-- begin none
 abbrev pub read_length : List ℕ → Reading ℕ
 read_length [] = Err unexpected_eof
 read_length (lead ∷ bytes) =

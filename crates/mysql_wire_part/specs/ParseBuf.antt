@@ -17,7 +17,8 @@ Eats read old new None = (read ≡ Err unexpected_eof) × (new ≡ old)
 
 -- The answer is what is read, as contracts see it; or the refusal; or want of memory, only where
 -- memory is taken.
-abbrev pub AnswersReading : {X Seen : Type 0} → (X → Seen) → Result Seen ReadRefusal → Type 0 → Result X WireError → Type 0
+abbrev pub AnswersReading : {X Seen : Type 0} → (X → Seen) → Result Seen ReadRefusal
+    → Type 0 → Result X WireError → Type 0
 AnswersReading seen read takes_memory (Ok x) = read ≡ Ok (seen x)
 AnswersReading seen read takes_memory (Err UnexpectedEof) = read ≡ Err unexpected_eof
 AnswersReading seen read takes_memory (Err (BadLengthLead lead)) = read ≡ Err (bad_length_lead lead)
