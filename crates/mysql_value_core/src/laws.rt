@@ -55,14 +55,14 @@ pub fn value_partial_order(a: &Value, b: &Value) -> Option<Ordering>
 
 /// Refused conversions are equal where the values are that they hold.
 pub fn from_value_error_equality(a: &FromValueError, b: &FromValueError) -> bool
-    ensures { IsTrue result ↔ (a.now ≡ b.now) }
+    ensures same { IsTrue result ↔ (a.now ≡ b.now) }
 {
     a == b
 }
 
 /// Errors of `ToValue` are equal where variant and fields are.
 pub fn to_value_error_equality(a: &ToValueError, b: &ToValueError) -> bool
-    ensures { IsTrue result ↔ (a.now ≡ b.now) }
+    ensures same { IsTrue result ↔ (a.now ≡ b.now) }
 {
     a == b
 }
