@@ -1,29 +1,14 @@
 //! Conversions to truth values, texts, bytes and optional things, and their way back.
-use mysql_values::bytes::Bytes;
+use crate::shared::{bytes, refused, refuses_other_variants};
 use mysql_values::value::Value;
 use mysql_values::value::convert::{
     FromValue, FromValueError, IntoValue, OptionIr2, ParseIr, ParseIrOpt, ToValue, ToValueError,
     ValueIr, from_value, from_value_opt,
 };
-use std::alloc::{AllocError, Global};
+use std::alloc::AllocError;
 use std::borrow::{CowSlice, CowStr};
-use std::process::Abort;
 use std::test::Fail;
 use std::time::Duration;
-
-fn bytes(alloc: Global, text: &[u8]) -> Result<Value, AllocError> {
-    Ok(Value::Bytes(Bytes::from(Vec::from_slice(alloc, text)?)))
-}
-
-// A value that doesn't convert is handed back.
-fn refused<T: FromValue + Drop>(rt: &impl Abort, value: Value) -> Result<(), Fail> {
-    let same = value.clone()?;
-    match from_value_opt::<T>(value) {
-        Ok(_) => assert!(rt; false, "{same:?} converts"),
-        Err(error) => assert_eq!(rt; error.0, same),
-    }
-    Ok(())
-}
 
 #[test]
 fn truth_values(rt: HostRuntime) -> Result<(), Fail> {
@@ -74,6 +59,7 @@ fn way_back(rt: HostRuntime) -> Result<(), Fail> {
         bool::get_intermediate(one.clone()?)?.into_value(alloc)?,
         one
     );
+    assert_eq!(rt; bool::get_intermediate(one.clone()?)?.rollback(alloc)?, one);
     let wide = ParseIrOpt::Ready(18446744073709551616u128);
     assert_eq!(rt;
         wide.rollback(alloc)?,
@@ -86,14 +72,52 @@ fn way_back(rt: HostRuntime) -> Result<(), Fail> {
     let present = Option::<u8>::get_intermediate(Value::Int(5))?;
     assert_eq!(rt; present, OptionIr2::Some(ParseIrOpt::Ready(5)));
     assert_eq!(rt; present.into_value(alloc)?, Value::UInt(5));
+    Ok(())
+}
 
+#[test]
+fn kept_values(rt: HostRuntime) -> Result<(), Fail> {
     assert_eq!(rt; ParseIr(5, Value::Int(5)).commit(), 5);
     assert_eq!(rt; ParseIr(5, Value::Int(6)).rollback(), Value::Int(6));
+    let ir = ValueIr(bytes(rt.alloc(), b"ab")?);
+    assert_eq!(rt; ir.clone()?, ir);
     let ir = Value::get_intermediate(Value::Float(7))?;
     assert_eq!(rt; ir.clone()?, ir);
     assert!(rt; ValueIr(Value::NULL) < ir);
     assert_eq!(rt; Value::from(ir), Value::Float(7));
     Ok(())
+}
+
+#[test]
+fn conversions_by_std_traits(rt: HostRuntime) -> Result<(), Fail> {
+    let alloc = rt.alloc();
+    let ir = ParseIrOpt::<u8>::try_from(Value::Int(5))?;
+    assert_eq!(rt; ir, ParseIrOpt::Ready(5));
+    assert_eq!(rt; u8::from(ir), 5);
+    let refusal = ParseIrOpt::<u8>::try_from(Value::Int(300)).err();
+    assert_eq!(rt; refusal, Some(FromValueError(Value::Int(300))));
+    let ir = ParseIrOpt::<bool>::try_from(bytes(alloc, b"1")?)?;
+    assert!(rt; bool::from(ir));
+    let ir = OptionIr2::<u8>::try_from(Value::NULL)?;
+    assert_eq!(rt; Option::<u8>::from(ir), None);
+    let ir = OptionIr2::<u8>::try_from(Value::UInt(5))?;
+    assert_eq!(rt; Option::<u8>::from(ir), Some(5));
+    assert_eq!(rt; ValueIr::try_from(Value::NULL)?, ValueIr(Value::NULL));
+    let text = String::try_from(bytes(alloc, b"ab")?)?;
+    assert_eq!(rt; text.as_str(), "ab");
+    let array = <[u8; 2]>::try_from(bytes(alloc, b"ab")?)?;
+    assert_eq!(rt; array, *b"ab");
+    Ok(())
+}
+
+#[test]
+fn other_variants_are_refused(rt: HostRuntime) -> Result<(), Fail> {
+    refuses_other_variants::<u8>(&rt)?;
+    refuses_other_variants::<i128>(&rt)?;
+    refuses_other_variants::<bool>(&rt)?;
+    refuses_other_variants::<String>(&rt)?;
+    refuses_other_variants::<Vec<u8>>(&rt)?;
+    refuses_other_variants::<[u8; 0]>(&rt)
 }
 
 #[test]
@@ -120,6 +144,10 @@ fn texts_and_bytes(rt: HostRuntime) -> Result<(), Fail> {
     assert_eq!(rt; array.into_value(alloc)?, bytes(alloc, b"ab")?);
     assert_eq!(rt;
         CowStr::Borrowed("ab").into_value(alloc)?,
+        bytes(alloc, b"ab")?
+    );
+    assert_eq!(rt;
+        CowSlice::Borrowed(b"ab".as_slice()).into_value(alloc)?,
         bytes(alloc, b"ab")?
     );
 

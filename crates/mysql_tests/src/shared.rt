@@ -1,8 +1,11 @@
 //! What several tests share.
 use mysql_values::bytes::Bytes;
+use mysql_values::value::convert::{FromValue, from_value_opt};
 use mysql_values::value::{BinValue, Value, ValueDeserializer};
 use mysql_wire_part::{ColumnFlags, ColumnType, Flags, MyDeserialize, ParseBuf, WireError};
 use std::alloc::{AllocError, Global};
+use std::process::Abort;
+use std::test::Fail;
 
 pub const SIGNED: u16 = 0;
 
@@ -23,4 +26,23 @@ pub fn read(
 // The value that holds these bytes.
 pub fn bytes(alloc: Global, text: &[u8]) -> Result<Value, AllocError> {
     Ok(Value::Bytes(Bytes::from(Vec::from_slice(alloc, text)?)))
+}
+
+// A value that doesn't convert is handed back.
+pub fn refused<T: FromValue + Drop>(rt: &impl Abort, value: Value) -> Result<(), Fail> {
+    let same = value.clone()?;
+    match from_value_opt::<T>(value) {
+        Ok(_) => assert!(rt; false, "{same:?} converts"),
+        Err(error) => assert_eq!(rt; error.0, same),
+    }
+    Ok(())
+}
+
+// The values of no number, no text and no bytes are handed back.
+pub fn refuses_other_variants<T: FromValue + Drop>(rt: &impl Abort) -> Result<(), Fail> {
+    refused::<T>(rt, Value::NULL)?;
+    refused::<T>(rt, Value::Float(0))?;
+    refused::<T>(rt, Value::Double(0))?;
+    refused::<T>(rt, Value::Date(0, 0, 0, 0, 0, 0, 0))?;
+    refused::<T>(rt, Value::Time(false, 0, 0, 0, 0, 0))
 }

@@ -1,13 +1,13 @@
 //! Conversions to whole numbers, and back.
-use mysql_values::bytes::Bytes;
+use crate::shared::{bytes, refused};
 use mysql_values::value::Value;
 use mysql_values::value::convert::{FromValue, ToValue, from_value_opt};
 use std::alloc::{AllocError, Global};
 use std::process::Abort;
 use std::test::Fail;
 
-fn bytes(alloc: Global, text: &str) -> Result<Value, AllocError> {
-    Ok(Value::Bytes(Bytes::from(Vec::from_slice(alloc, text.as_bytes())?)))
+fn text_value(alloc: Global, text: &str) -> Result<Value, AllocError> {
+    bytes(alloc, text.as_bytes())
 }
 
 // Whatever stands for the number converts to a thing whose value is the wanted one.
@@ -18,7 +18,7 @@ fn reads_back<T: FromValue + ToValue + Drop>(
     wanted: &Value,
 ) -> Result<(), Fail> {
     let text = number.to_string(alloc)?;
-    let x: T = from_value_opt(bytes(alloc, text.as_str())?)?;
+    let x: T = from_value_opt(text_value(alloc, text.as_str())?)?;
     assert_eq!(rt; x.to_value(alloc)?, *wanted, "of the text of {number}");
     if let Ok(int) = i64::try_from(number) {
         let x: T = from_value_opt(Value::Int(int))?;
@@ -41,7 +41,7 @@ fn signed<T: FromValue + ToValue + Drop>(
         reads_back::<T>(rt, alloc, number as i128, &Value::Int(number))?;
     }
     for beyond in [least as i128 - 1, greatest as i128 + 1] {
-        refused::<T>(rt, bytes(alloc, beyond.to_string(alloc)?.as_str())?)?;
+        refused::<T>(rt, text_value(alloc, beyond.to_string(alloc)?.as_str())?)?;
     }
     Ok(())
 }
@@ -56,20 +56,10 @@ fn unsigned<T: FromValue + ToValue + Drop>(
     }
     refused::<T>(
         rt,
-        bytes(alloc, (greatest as i128 + 1).to_string(alloc)?.as_str())?,
+        text_value(alloc, (greatest as i128 + 1).to_string(alloc)?.as_str())?,
     )?;
     refused::<T>(rt, Value::Int(-1))?;
-    refused::<T>(rt, bytes(alloc, "-1")?)
-}
-
-// A value that doesn't convert is handed back.
-fn refused<T: FromValue + Drop>(rt: &impl Abort, value: Value) -> Result<(), Fail> {
-    let same = value.clone()?;
-    match from_value_opt::<T>(value) {
-        Ok(_) => assert!(rt; false, "{same:?} converts"),
-        Err(error) => assert_eq!(rt; error.0, same),
-    }
-    Ok(())
+    refused::<T>(rt, text_value(alloc, "-1")?)
 }
 
 #[test]
@@ -98,15 +88,26 @@ fn wide_numbers(rt: HostRuntime) -> Result<(), Fail> {
         text,
         negative,
         least,
+        "170141183460469231731687303715884105727",
         "-9223372036854775809",
         "18446744073709551616",
     ] {
-        let number: i128 = from_value_opt(bytes(alloc, text)?)?;
-        assert_eq!(rt; number.to_value(alloc)?, bytes(alloc, text)?);
+        let number: i128 = from_value_opt(text_value(alloc, text)?)?;
+        assert_eq!(rt; number.to_value(alloc)?, text_value(alloc, text)?);
     }
-    let number: u128 = from_value_opt(bytes(alloc, text)?)?;
-    assert_eq!(rt; number.to_value(alloc)?, bytes(alloc, text)?);
+    for text in [text, "340282366920938463463374607431768211455"] {
+        let number: u128 = from_value_opt(text_value(alloc, text)?)?;
+        assert_eq!(rt; number.to_value(alloc)?, text_value(alloc, text)?);
+    }
+    refused::<i128>(
+        &rt,
+        text_value(alloc, "170141183460469231731687303715884105728")?,
+    )
+}
 
+#[test]
+fn wide_numbers_of_64_bits(rt: HostRuntime) -> Result<(), Fail> {
+    let alloc = rt.alloc();
     for (value, wanted) in [
         (
             Value::UInt(9223372036854775808),
@@ -138,24 +139,28 @@ fn wide_numbers(rt: HostRuntime) -> Result<(), Fail> {
 fn texts(rt: HostRuntime) -> Result<(), Fail> {
     let alloc = rt.alloc();
     for (text, number) in [("0000000255", 255), ("-0", 0), ("+7", 7), ("-000", 0)] {
-        let read: u8 = from_value_opt(bytes(alloc, text)?)?;
+        let read: u8 = from_value_opt(text_value(alloc, text)?)?;
         assert_eq!(rt; read, number, "of {text}");
     }
     for text in [
         "", "+", "-", "--1", "+-1", "256", "1a", " 1", "1 ", "0x1", "1.0", "\u{0661}",
     ] {
-        refused::<u8>(&rt, bytes(alloc, text)?)?;
+        refused::<u8>(&rt, text_value(alloc, text)?)?;
     }
-    refused::<u64>(&rt, bytes(alloc, "-1")?)?;
+    refused::<u64>(&rt, text_value(alloc, "-1")?)?;
     refused::<u8>(&rt, Value::NULL)?;
     refused::<u8>(&rt, Value::UInt(300))?;
+    refused::<u8>(&rt, Value::Int(300))?;
+    refused::<i8>(&rt, Value::Int(-129))?;
+    refused::<i8>(&rt, Value::UInt(128))?;
+    refused::<u128>(&rt, Value::Int(-1))?;
     refused::<u8>(&rt, Value::Float(0))?;
     refused::<i64>(&rt, Value::UInt(9223372036854775808))?;
     Ok(())
 }
 
 #[test]
-fn texts_beyond_128_bits(rt: HostRuntime) -> Result<(), Fail> {
+fn texts_that_no_type_holds(rt: HostRuntime) -> Result<(), Fail> {
     let alloc = rt.alloc();
     for text in [
         "340282366920938463463374607431768211456",
@@ -163,18 +168,18 @@ fn texts_beyond_128_bits(rt: HostRuntime) -> Result<(), Fail> {
         "-340282366920938463463374607431768211457",
         "9999999999999999999999999999999999999999999999999999",
     ] {
-        refused::<i8>(&rt, bytes(alloc, text)?)?;
-        refused::<i16>(&rt, bytes(alloc, text)?)?;
-        refused::<i32>(&rt, bytes(alloc, text)?)?;
-        refused::<i64>(&rt, bytes(alloc, text)?)?;
-        refused::<i128>(&rt, bytes(alloc, text)?)?;
-        refused::<isize>(&rt, bytes(alloc, text)?)?;
-        refused::<u8>(&rt, bytes(alloc, text)?)?;
-        refused::<u16>(&rt, bytes(alloc, text)?)?;
-        refused::<u32>(&rt, bytes(alloc, text)?)?;
-        refused::<u64>(&rt, bytes(alloc, text)?)?;
-        refused::<u128>(&rt, bytes(alloc, text)?)?;
-        refused::<usize>(&rt, bytes(alloc, text)?)?;
+        refused::<i8>(&rt, text_value(alloc, text)?)?;
+        refused::<i16>(&rt, text_value(alloc, text)?)?;
+        refused::<i32>(&rt, text_value(alloc, text)?)?;
+        refused::<i64>(&rt, text_value(alloc, text)?)?;
+        refused::<i128>(&rt, text_value(alloc, text)?)?;
+        refused::<isize>(&rt, text_value(alloc, text)?)?;
+        refused::<u8>(&rt, text_value(alloc, text)?)?;
+        refused::<u16>(&rt, text_value(alloc, text)?)?;
+        refused::<u32>(&rt, text_value(alloc, text)?)?;
+        refused::<u64>(&rt, text_value(alloc, text)?)?;
+        refused::<u128>(&rt, text_value(alloc, text)?)?;
+        refused::<usize>(&rt, text_value(alloc, text)?)?;
     }
     Ok(())
 }

@@ -34,5 +34,5 @@ abbrev pub whole_conversion : {T : Type 0} → Bool → ℕ → (ℤ → T) → 
 whole_conversion is_signed width of_number = conversion_by (narrowed is_signed width of_number)
 
 -- the number is that of an `Int` or a `UInt`
-abbrev pub is_of_64_bits : ℤ → Bool
-is_of_64_bits number = is_int number || is_uint number
+abbrev pub is_int_or_uint : ℤ → Bool
+is_int_or_uint number = is_int number || is_uint number

@@ -1,5 +1,7 @@
 //! Laws of the types of this crate and of the one below. No program needs to call them.
-ghost use Rattle.std.specs.Prelude.{◌≡◌, ◌↔◌, IsTrue, Some};
+ghost use Rattle.std.specs.Prelude.{◌≡◌, ◌↔◌, IsTrue, Some, Ok, string_bytes};
+ghost use Rattle.mysql_value_core.specs.FromValue.{array_of, bytes_of, text_of};
+ghost use Rattle.mysql_value_core.specs.declared.value.Value.TheVariants.{Bytes as BytesOf};
 ghost use Rattle.mysql_value_core.specs.ValueOf.{bool_value};
 ghost use Rattle.mysql_value_core.specs.ValueOrder.{value_cmp};
 ghost use Rattle.mysql_values.specs.Intermediate.{committed, AreEqualParsed};
@@ -19,21 +21,21 @@ use std::cmp::Ordering;
 
 /// Intermediates of values are equal where the values are.
 pub fn value_ir_equality(a: &ValueIr, b: &ValueIr) -> bool
-    ensures { IsTrue result ↔ (a.now ≡ b.now) }
+    ensures same { IsTrue result ↔ (a.now ≡ b.now) }
 {
     a == b
 }
 
 /// Intermediates of values are ordered as the values.
 pub fn value_ir_order(a: &ValueIr, b: &ValueIr) -> Option<Ordering>
-    ensures { result ≡ Some (value_cmp a.now.0 b.now.0) }
+    ensures order { result ≡ Some (value_cmp a.now.0 b.now.0) }
 {
     a.partial_cmp(b)
 }
 
 /// Converted things with their values are equal where thing and value are.
 pub fn parse_ir_equality<T: PartialEq>(a: &ParseIr<T>, b: &ParseIr<T>) -> bool
-    ensures { IsTrue result ↔ (IsTrue (T.eq a.now.0 b.now.0) × (a.now.1 ≡ b.now.1)) }
+    ensures same { IsTrue result ↔ (IsTrue (T.eq a.now.0 b.now.0) × (a.now.1 ≡ b.now.1)) }
 {
     a == b
 }
@@ -41,7 +43,7 @@ pub fn parse_ir_equality<T: PartialEq>(a: &ParseIr<T>, b: &ParseIr<T>) -> bool
 /// Converted things, with their values where they are kept, are equal where variant, thing and
 /// value are.
 pub fn parse_ir_opt_equality<T: PartialEq>(a: &ParseIrOpt<T>, b: &ParseIrOpt<T>) -> bool
-    ensures { IsTrue result ↔ AreEqualParsed T.eq a.now b.now }
+    ensures same { IsTrue result ↔ AreEqualParsed T.eq a.now b.now }
 {
     a == b
 }
@@ -50,14 +52,14 @@ pub fn parse_ir_opt_equality<T: PartialEq>(a: &ParseIrOpt<T>, b: &ParseIrOpt<T>)
 pub fn option_ir_equality<T: FromValue>(a: &OptionIr2<T>, b: &OptionIr2<T>) -> bool
 where
     T::Intermediate: PartialEq,
-    ensures { IsTrue result ↔ AreEqualOptions T.Intermediate.eq a.now b.now }
+    ensures same { IsTrue result ↔ AreEqualOptions T.Intermediate.eq a.now b.now }
 {
     a == b
 }
 
 /// A whole number converts back from its value.
 pub fn whole_number_converts_back<T: WholeNumber + Drop>(number: &T)
-    ensures { ConvertsBack (whole_conversion T.is_signed T.width T.of_number) committed
+    ensures converts_back { ConvertsBack (whole_conversion T.is_signed T.width T.of_number) committed
         (T.value_of number.now) number.now }
 {
     let (negative, magnitude) = number.to_parts();
@@ -66,7 +68,27 @@ pub fn whole_number_converts_back<T: WholeNumber + Drop>(number: &T)
 
 /// A truth value converts back from its value.
 pub fn truth_converts_back(truth: &bool)
-    ensures { ConvertsBack truth_conversion committed (bool_value truth.now) truth.now }
+    ensures converts_back { ConvertsBack truth_conversion committed (bool_value truth.now) truth.now }
 {
     let _truth = *truth;
 }
+
+/// A text converts back from its bytes.
+pub fn text_converts_back(text: &String)
+    ensures converts_back { ConvertsBack text_of (λ seen. seen)
+        (Ok (BytesOf (string_bytes text.now))) (string_bytes text.now) }
+{
+    let _text = text.as_str();
+}
+
+/// Bytes convert back from the value that holds them.
+pub fn bytes_convert_back(bytes: &Vec<u8>)
+    ensures converts_back { ConvertsBack bytes_of (λ seen. seen)
+        (Ok (BytesOf bytes.now.items)) bytes.now.items }
+{}
+
+/// An array of bytes converts back from the value that holds them.
+pub fn array_converts_back<const N: usize>(bytes: &[u8; N])
+    ensures converts_back { ConvertsBack (array_of N) (λ seen. seen)
+        (Ok (BytesOf bytes.now)) bytes.now }
+{}

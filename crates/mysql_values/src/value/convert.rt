@@ -32,7 +32,8 @@ pub trait IntoValue {
     // where handing it back takes memory
     ghost takes_memory: { Self → Type 0 };
 
-    /// The value that it was made of, or one that converts to the same thing.
+    /// The value that it is undone to. Of what `get_intermediate` gave, it converts to the same
+    /// thing.
     fn into_value(self, alloc: Global) -> Result<Value, ToValueError>
         ensures { AnswersValue (undo self) (takes_memory self) result };
 }

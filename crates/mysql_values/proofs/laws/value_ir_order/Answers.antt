@@ -3,7 +3,6 @@ use Rattle.mysql_value_core.specs.contracts.value.ValueOrd.TheImpl.Laws.{matches
 use Rattle.mysql_values.proofs.laws.value_ir_order.Goals as goal
 
 pub returns : goal.returns
-returns c =
-    c.partial_cmp.ensures
-    ∙ matches_partial_cmp-law c.args.a.now.0 c.args.b.now.0
-    ∙ ap Some (search rules)
+returns c = record {
+  order = c.partial_cmp.ensures ∙ matches_partial_cmp-law c.args.a.now.0 c.args.b.now.0 ∙ ap Some (search rules);
+}

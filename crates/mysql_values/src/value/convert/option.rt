@@ -50,7 +50,8 @@ impl<T: FromValue> TryFrom<Value> for OptionIr2<T> {
 impl<T: FromValue> From<OptionIr2<T>> for Option<T> {
     ghost use Rattle.mysql_values.specs.OptionConversion.{seen_option};
 
-    ghost from_gives = { λ ir x. option_map T.seen x ≡ option_map T.commit (seen_option T.seen_ir ir) };
+    ghost from_gives = { λ ir x.
+        option_map T.seen x ≡ option_map T.commit (seen_option T.seen_ir ir) };
 
     fn from(ir: OptionIr2<T>) -> Option<T> {
         match ir {

@@ -25,7 +25,7 @@ impl WholeNumber for i8 {
 
     ghost width = { 8 };
 
-    ghost at_most_wide = { lit≤ tt };
+    ghost width_at_most_128 = { lit≤ tt };
 
     ghost of_number = { λ number. number };
 
@@ -44,7 +44,7 @@ impl WholeNumber for i16 {
 
     ghost width = { 16 };
 
-    ghost at_most_wide = { lit≤ tt };
+    ghost width_at_most_128 = { lit≤ tt };
 
     ghost of_number = { λ number. number };
 
@@ -63,7 +63,7 @@ impl WholeNumber for i32 {
 
     ghost width = { 32 };
 
-    ghost at_most_wide = { lit≤ tt };
+    ghost width_at_most_128 = { lit≤ tt };
 
     ghost of_number = { λ number. number };
 
@@ -82,7 +82,7 @@ impl WholeNumber for i64 {
 
     ghost width = { 64 };
 
-    ghost at_most_wide = { lit≤ tt };
+    ghost width_at_most_128 = { lit≤ tt };
 
     ghost of_number = { λ number. number };
 
@@ -101,7 +101,7 @@ impl WholeNumber for i128 {
 
     ghost width = { 128 };
 
-    ghost at_most_wide = { lit≤ tt };
+    ghost width_at_most_128 = { lit≤ tt };
 
     ghost of_number = { λ number. number };
 
@@ -120,7 +120,7 @@ impl WholeNumber for isize {
 
     ghost width = { 64 };
 
-    ghost at_most_wide = { lit≤ tt };
+    ghost width_at_most_128 = { lit≤ tt };
 
     ghost of_number = { λ number. number };
 

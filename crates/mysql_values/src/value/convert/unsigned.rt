@@ -24,7 +24,7 @@ impl WholeNumber for u8 {
 
     ghost width = { 8 };
 
-    ghost at_most_wide = { lit≤ tt };
+    ghost width_at_most_128 = { lit≤ tt };
 
     ghost of_number = { unsigned_abs };
 
@@ -43,7 +43,7 @@ impl WholeNumber for u16 {
 
     ghost width = { 16 };
 
-    ghost at_most_wide = { lit≤ tt };
+    ghost width_at_most_128 = { lit≤ tt };
 
     ghost of_number = { unsigned_abs };
 
@@ -62,7 +62,7 @@ impl WholeNumber for u32 {
 
     ghost width = { 32 };
 
-    ghost at_most_wide = { lit≤ tt };
+    ghost width_at_most_128 = { lit≤ tt };
 
     ghost of_number = { unsigned_abs };
 
@@ -81,7 +81,7 @@ impl WholeNumber for u64 {
 
     ghost width = { 64 };
 
-    ghost at_most_wide = { lit≤ tt };
+    ghost width_at_most_128 = { lit≤ tt };
 
     ghost of_number = { unsigned_abs };
 
@@ -100,7 +100,7 @@ impl WholeNumber for u128 {
 
     ghost width = { 128 };
 
-    ghost at_most_wide = { lit≤ tt };
+    ghost width_at_most_128 = { lit≤ tt };
 
     ghost of_number = { unsigned_abs };
 
@@ -119,7 +119,7 @@ impl WholeNumber for usize {
 
     ghost width = { 64 };
 
-    ghost at_most_wide = { lit≤ tt };
+    ghost width_at_most_128 = { lit≤ tt };
 
     ghost of_number = { unsigned_abs };
 

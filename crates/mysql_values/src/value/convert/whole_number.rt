@@ -6,7 +6,7 @@ ghost use Rattle.mysql_value_core.specs.ValueOf.{MeansBytes};
 ghost use Rattle.mysql_values.specs.Decimal.{signed};
 ghost use Rattle.mysql_values.specs.Intermediate.{committed, rolled_back, RollbackTakesMemory};
 ghost use Rattle.mysql_values.specs.Rollback.{RollsBack, NullFromNull, ConvertsBack};
-ghost use Rattle.mysql_values.specs.WholeNumber.{is_of_64_bits, narrowed, whole_conversion};
+ghost use Rattle.mysql_values.specs.WholeNumber.{is_int_or_uint, narrowed, whole_conversion};
 ghost use Rattle.mysql_values.specs.declared.value.convert.intermediate.ParseIrOpt as parsed_ir;
 
 use crate::bytes::Bytes;
@@ -23,7 +23,8 @@ pub trait WholeNumber: ToValue + Sized {
     // the bits of a number of the type
     ghost width: { ℕ };
 
-    ghost at_most_wide: { width ≤ 128 };
+    // no type is wider than 128 bits
+    ghost width_at_most_128: { width ≤ 128 };
 
     // a number that the type holds, as one of the type
     ghost of_number: { ℤ → Self };
@@ -35,7 +36,7 @@ pub trait WholeNumber: ToValue + Sized {
             ConvertsBack (whole_conversion is_signed width of_number) committed
             (Self.value_of x) x) }
         ensures no_memory { IfSome result (λ x.
-            is_of_64_bits (signed negative magnitude) ≡ true → ¬ (MeansBytes (Self.value_of x))) };
+            is_int_or_uint (signed negative magnitude) ≡ true → ¬ (MeansBytes (Self.value_of x))) };
 
     /// Whether the number is negative, and its magnitude.
     fn to_parts(&self) -> (bool, u128)
@@ -51,7 +52,7 @@ fn ready<T: WholeNumber>(
     requires number { whole_conversion T.is_signed T.width T.of_number v
         ≡ option_map ParseIrOpt.Ready
         (narrowed T.is_signed T.width T.of_number (signed negative magnitude)) }
-    requires of_64_bits { is_of_64_bits (signed negative magnitude) ≡ true }
+    requires of_64_bits { is_int_or_uint (signed negative magnitude) ≡ true }
     ensures converts { ConvertsOrHandsBack (λ ir. ir)
         (whole_conversion T.is_signed T.width T.of_number v) v result }
     ensures rolls_back { IfOk result (λ ir.
