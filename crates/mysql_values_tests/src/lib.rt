@@ -1,0 +1,19 @@
+//! Tests of the wire part, values and literals, through public calls alone.
+#![tactic(auto)]
+
+#[cfg(test)]
+mod binary;
+#[cfg(test)]
+mod binary_reading;
+#[cfg(test)]
+mod literals;
+#[cfg(test)]
+mod shared;
+#[cfg(test)]
+mod text_cells;
+#[cfg(test)]
+mod values;
+#[cfg(test)]
+mod wire;
+#[cfg(test)]
+mod wire_types;
