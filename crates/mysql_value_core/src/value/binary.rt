@@ -193,21 +193,21 @@ fn eat_value(
         (ReadsBytes (read_binary column unsigned (left buf.old))) result }
 {
     match column {
-        ColumnType::MYSQL_TYPE_STRING
-        | ColumnType::MYSQL_TYPE_VAR_STRING
+        ColumnType::MYSQL_TYPE_BIT
         | ColumnType::MYSQL_TYPE_BLOB
-        | ColumnType::MYSQL_TYPE_TINY_BLOB
-        | ColumnType::MYSQL_TYPE_MEDIUM_BLOB
-        | ColumnType::MYSQL_TYPE_LONG_BLOB
-        | ColumnType::MYSQL_TYPE_SET
-        | ColumnType::MYSQL_TYPE_ENUM
         | ColumnType::MYSQL_TYPE_DECIMAL
-        | ColumnType::MYSQL_TYPE_VARCHAR
-        | ColumnType::MYSQL_TYPE_BIT
-        | ColumnType::MYSQL_TYPE_NEWDECIMAL
+        | ColumnType::MYSQL_TYPE_ENUM
         | ColumnType::MYSQL_TYPE_GEOMETRY
-        | ColumnType::MYSQL_TYPE_VECTOR
-        | ColumnType::MYSQL_TYPE_JSON => eat_string(alloc, buf),
+        | ColumnType::MYSQL_TYPE_JSON
+        | ColumnType::MYSQL_TYPE_LONG_BLOB
+        | ColumnType::MYSQL_TYPE_MEDIUM_BLOB
+        | ColumnType::MYSQL_TYPE_NEWDECIMAL
+        | ColumnType::MYSQL_TYPE_SET
+        | ColumnType::MYSQL_TYPE_STRING
+        | ColumnType::MYSQL_TYPE_TINY_BLOB
+        | ColumnType::MYSQL_TYPE_VARCHAR
+        | ColumnType::MYSQL_TYPE_VAR_STRING
+        | ColumnType::MYSQL_TYPE_VECTOR => eat_string(alloc, buf),
         ColumnType::MYSQL_TYPE_TINY => eat_integer(1, unsigned, buf),
         ColumnType::MYSQL_TYPE_SHORT | ColumnType::MYSQL_TYPE_YEAR => eat_integer(2, unsigned, buf),
         ColumnType::MYSQL_TYPE_LONG | ColumnType::MYSQL_TYPE_INT24 => eat_integer(4, unsigned, buf),
