@@ -214,12 +214,12 @@ fn eat_value(
         ColumnType::MYSQL_TYPE_LONGLONG => eat_integer(8, unsigned, buf),
         ColumnType::MYSQL_TYPE_FLOAT => eat_float(buf),
         ColumnType::MYSQL_TYPE_DOUBLE => eat_double(buf),
-        ColumnType::MYSQL_TYPE_TIMESTAMP
-        | ColumnType::MYSQL_TYPE_DATE
-        | ColumnType::MYSQL_TYPE_NEWDATE
-        | ColumnType::MYSQL_TYPE_DATETIME => Ok(date_of(eat_counted(buf)?)),
-        ColumnType::MYSQL_TYPE_TIME => Ok(time_of(eat_counted(buf)?)),
         ColumnType::MYSQL_TYPE_NULL => Ok(Value::NULL),
+        ColumnType::MYSQL_TYPE_TIME => Ok(time_of(eat_counted(buf)?)),
+        ColumnType::MYSQL_TYPE_DATE
+        | ColumnType::MYSQL_TYPE_DATETIME
+        | ColumnType::MYSQL_TYPE_NEWDATE
+        | ColumnType::MYSQL_TYPE_TIMESTAMP => Ok(date_of(eat_counted(buf)?)),
         ColumnType::MYSQL_TYPE_TIMESTAMP2
         | ColumnType::MYSQL_TYPE_DATETIME2
         | ColumnType::MYSQL_TYPE_TIME2
