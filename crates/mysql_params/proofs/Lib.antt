@@ -1,10 +1,2 @@
-pub mod TokenEnds
-pub mod TokenEndLemmas
-pub mod TokenListLemmas
-pub mod FirstTokenLemmas
-pub mod CountLemmas
-pub mod RenameLemmas
-pub mod PositionLemmas
-pub mod ParsedLemmas
 pub mod WriteLemmas
 pub mod ProgramLemmas

@@ -1,10 +1,9 @@
-pub mod Bytes
-pub mod Tokens
-pub mod Places
-pub mod FirstToken
-pub mod Parsed
-pub mod SameParsed
-pub mod NamedParamsErrors
+pub use Rattle.mysql_named_params.specs.Bytes
+pub use Rattle.mysql_named_params.specs.Tokens
+pub use Rattle.mysql_named_params.specs.Places
+pub use Rattle.mysql_named_params.specs.Parsed
+pub use Rattle.mysql_named_params.specs.SameParsed
+pub use Rattle.mysql_named_params.specs.NamedParamsErrors
 pub mod Program
 pub mod RunErrors
 pub mod ReadersAndWriters

@@ -9,7 +9,6 @@ pub mod named_params;
 mod program;
 mod readers_and_writers;
 mod run_error;
-mod tokens;
 
 pub use program::run;
 pub use run_error::RunError;

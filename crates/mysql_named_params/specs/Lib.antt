@@ -1,0 +1,7 @@
+pub mod Bytes
+pub mod Tokens
+pub mod Places
+pub mod FirstToken
+pub mod Parsed
+pub mod SameParsed
+pub mod NamedParamsErrors
