@@ -6,3 +6,7 @@ pub mod CountLemmas
 pub mod RenameLemmas
 pub mod PositionLemmas
 pub mod ParsedLemmas
+pub mod PlainLemmas
+pub mod AheadLemmas
+pub mod LocalityLemmas
+pub mod ReparsedLemmas

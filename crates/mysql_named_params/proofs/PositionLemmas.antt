@@ -1,6 +1,6 @@
 -- The positions of names and marks.
 use Rattle.std.proofs.Common.{◌≡◌, ℕ, ◌+◌, ◌≤◌, List, [], ◌∷◌, ◌++◌, length, refl, ap, ◌∙◌, subst, arith, append_assoc, append-nil, length-append}
-use Rattle.mysql_named_params.specs.Tokens.{Token, bytes_of, text_of, QuotedString, QuotedIdentifier, HashComment, DashComment, BlockComment, Name, Mark, Plain}
+use Rattle.mysql_named_params.specs.Tokens.{Token, bytes_of, text_of, Name, Mark}
 use Rattle.mysql_named_params.specs.Places.{names, marks, positions_from, HavePlacesAt, AscendFrom}
 use Rattle.mysql_named_params.proofs.RenameLemmas.{text_of-append}
 

@@ -1,6 +1,7 @@
 pub mod Bytes
 pub mod Tokens
 pub mod Places
+pub mod Locality
 pub mod FirstToken
 pub mod Parsed
 pub mod SameParsed

@@ -15,6 +15,13 @@ marks [] = 0
 marks (Mark ∷ ts) = marks ts + 1
 marks (t ∷ ts) = marks ts
 
+-- how many names and marks there are
+abbrev pub place_count : List Token → ℕ
+place_count [] = 0
+place_count (Name name ∷ ts) = place_count ts + 1
+place_count (Mark ∷ ts) = place_count ts + 1
+place_count (t ∷ ts) = place_count ts
+
 -- the index of the first byte of each name and mark, where the tokens begin at this index
 abbrev pub positions_from : ℕ → List Token → List ℕ
 positions_from at [] = []

@@ -1,7 +1,8 @@
 //! Laws of the definitions that the contracts cite, and of equality. The functions that have no
 //! result do nothing: each is called for what it ensures.
 ghost use Rattle.std.specs.Prelude.{◌≡◌, ℕ, ◌+◌, ◌↔◌, Bool, List, length, IsTrue};
-ghost use Rattle.mysql_named_params.specs.Tokens.{Token, IsTokens};
+ghost use Rattle.mysql_named_params.specs.Tokens.{Token, IsToken, IsTokens};
+ghost use Rattle.mysql_named_params.specs.Locality.{LooksAlike};
 ghost use Rattle.mysql_named_params.specs.Places.{names, marks, positions, HavePlacesAt, AscendFrom, renamed, restored};
 
 use crate::named_params::{MixedParamsError, NamedParamsError, ParsedNamedParams};
@@ -10,6 +11,13 @@ use crate::named_params::{MixedParamsError, NamedParamsError, ParsedNamedParams}
 pub fn one_token_list()
     ensures unique { (mode : Bool) (query : List ℕ) (ts us : List Token) →
         IsTokens mode query ts → IsTokens mode query us → ts ≡ us }
+{}
+
+/// A token looks at no more than two of the bytes behind it, and an open one at whether there are any:
+/// what follows it otherwise may be any bytes.
+pub fn locality()
+    ensures local { (mode : Bool) (t : Token) (rest other : List ℕ) →
+        LooksAlike mode t rest other → IsToken mode t rest → IsToken mode t other }
 {}
 
 /// The positions are those of the names and marks: as many, one behind another, and at each the

@@ -3,8 +3,8 @@ ghost use Rattle.std.specs.Prelude.{◌≡◌, ◌≢◌, ◌<◌, ◌↔◌, []
 ghost use Rattle.std.specs.Cow.{cow_slice_items, IsBorrowedSlice};
 ghost use Rattle.std.specs.Cmp.{partial_equiv_from_equiv};
 ghost use Rattle.mysql_values.specs.StringUnits.{with_backslashes};
-ghost use Rattle.mysql_named_params.specs.Tokens.{OnTokens};
-ghost use Rattle.mysql_named_params.specs.Places.{names, marks, HasName, HasMark};
+ghost use Rattle.mysql_named_params.specs.Tokens.{OnTokens, text_of};
+ghost use Rattle.mysql_named_params.specs.Places.{names, marks, restored, HasName, HasMark};
 ghost use Rattle.mysql_named_params.specs.Parsed.{parsed, same_parsed};
 ghost use Rattle.mysql_named_params.specs.SameParsed.{same_parsed_is_equivalence};
 ghost use Rattle.mysql_named_params.specs.NamedParamsErrors.{mixed};
@@ -126,6 +126,15 @@ impl<'a> ParsedNamedParams<'a> {
         // Want of memory is answered for names without marks alone.
         ensures memory { OnTokens with_backslashes query.now (λ ts.
             IsErrOf result (NamedParamsError.Memory alloc_error) → HasName ts × (marks ts ≡ 0)) }
+
+        // The query with marks has no names, and where names were found it has as many marks, and
+        // putting the names back in their place gives the query that was parsed.
+        ensures nameless { IfOk result (λ p. OnTokens with_backslashes p.query (λ us.
+            names us ≡ [])) }
+        ensures marked { IfOk result (λ p. OnTokens with_backslashes p.query (λ us.
+            p.params ≢ [] → marks us ≡ length p.params)) }
+        ensures restored { IfOk result (λ p. OnTokens with_backslashes p.query (λ us.
+            p.params ≢ [] → text_of (restored us p.params) ≡ query.now)) }
     {
         let counts = count_places(query, false);
         if counts.names == 0 {

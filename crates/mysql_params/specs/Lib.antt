@@ -1,6 +1,7 @@
 pub use Rattle.mysql_named_params.specs.Bytes
 pub use Rattle.mysql_named_params.specs.Tokens
 pub use Rattle.mysql_named_params.specs.Places
+pub use Rattle.mysql_named_params.specs.Locality
 pub use Rattle.mysql_named_params.specs.Parsed
 pub use Rattle.mysql_named_params.specs.SameParsed
 pub use Rattle.mysql_named_params.specs.NamedParamsErrors

@@ -4,7 +4,7 @@ ghost use Rattle.std.specs.Prelude.{◌≡◌, ◌↔◌, IsTrue};
 
 use crate::run_error::RunError;
 pub use mysql_named_params::laws::{
-    mixed_error_equality, named_params_error_equality, one_token_list, parsed_equality,
+    locality, mixed_error_equality, named_params_error_equality, one_token_list, parsed_equality,
     positions_of_places, renaming_undone,
 };
 
