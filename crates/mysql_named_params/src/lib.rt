@@ -6,4 +6,4 @@
 
 pub mod laws;
 pub mod named_params;
-mod tokens;
+pub mod tokens;

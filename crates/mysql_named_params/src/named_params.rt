@@ -9,7 +9,7 @@ ghost use Rattle.mysql_named_params.specs.Parsed.{parsed, same_parsed};
 ghost use Rattle.mysql_named_params.specs.SameParsed.{same_parsed_is_equivalence};
 ghost use Rattle.mysql_named_params.specs.NamedParamsErrors.{mixed};
 
-use crate::tokens::{TokenKind, first_token};
+use crate::tokens::{TokenKind, count_places, first_token};
 use std::alloc::{AllocError, Global};
 use std::borrow::CowSlice;
 use std::marker::Model;
@@ -29,32 +29,6 @@ pub enum NamedParamsError {
     /// Memory was refused, for a query with names and no marks.
     #[error("out of memory")]
     Memory(AllocError),
-}
-
-/// How many names and marks a query has.
-#[derive(Clone, Copy)]
-struct PlaceCounts {
-    names: usize,
-    marks: usize,
-}
-
-fn count_places(query: &[u8], no_backslash_escape: bool) -> PlaceCounts
-    ensures { OnTokens no_backslash_escape query.now (λ ts.
-        (result.names ≡ length (names ts)) × (result.marks ≡ marks ts)) }
-{
-    let mut names = 0;
-    let mut marks = 0;
-    let mut rest = query;
-    while !rest.is_empty() {
-        let (kind, len) = first_token(rest, no_backslash_escape);
-        match kind {
-            TokenKind::Name => names += 1,
-            TokenKind::Mark => marks += 1,
-            TokenKind::Other => {}
-        }
-        rest = &rest[len..];
-    }
-    PlaceCounts { names, marks }
 }
 
 /// A query with `?` in place of each named parameter, and the names.

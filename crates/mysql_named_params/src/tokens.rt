@@ -1,13 +1,15 @@
-//! The token at the front of a text.
+//! The token at the front of a text, and how many names and marks a query has. `mysql_params` binds
+//! values by these; no user of it needs them.
 ghost use Rattle.std.specs.Prelude.{◌≡◌, ◌+◌, ◌<◌, ◌≤◌, length, take, drop, IsTrue};
 ghost use Rattle.mysql_values.specs.StringUnits.{is_escape};
 ghost use Rattle.mysql_named_params.specs.Bytes.{is_white_space, is_start_byte, is_name_byte, is_quote, begins, IsUpTo};
-ghost use Rattle.mysql_named_params.specs.Tokens.{IsStringTail};
+ghost use Rattle.mysql_named_params.specs.Tokens.{IsStringTail, OnTokens};
+ghost use Rattle.mysql_named_params.specs.Places.{names, marks};
 ghost use Rattle.mysql_named_params.specs.FirstToken.{IsNameFront, IsFirstToken, opens_dash_comment, opens_block_comment};
 
 /// What a reader of names and marks wants to know of a token.
 #[derive(Clone, Copy, Debug, PartialEq, Eq)]
-pub(crate) enum TokenKind {
+pub enum TokenKind {
     Name,
     Mark,
     Other,
@@ -116,7 +118,7 @@ fn opens_name(text: &[u8]) -> bool
 }
 
 /// The kind of the token at the front of the text, and its length.
-pub(crate) fn first_token(text: &[u8], no_backslash_escape: bool) -> (TokenKind, usize)
+pub fn first_token(text: &[u8], no_backslash_escape: bool) -> (TokenKind, usize)
     requires { 0 < length text.now }
     ensures { IsFirstToken no_backslash_escape text.now result.0 result.1 }
 {
@@ -137,4 +139,33 @@ pub(crate) fn first_token(text: &[u8], no_backslash_escape: bool) -> (TokenKind,
         b'/' => (TokenKind::Other, 1),
         _ => (TokenKind::Other, 1),
     }
+}
+
+/// How many names and marks a query has.
+#[derive(Clone, Copy)]
+pub struct PlaceCounts {
+    /// Names, with repeats.
+    pub names: usize,
+    /// Marks.
+    pub marks: usize,
+}
+
+/// Counts the names and marks of a query.
+pub fn count_places(query: &[u8], no_backslash_escape: bool) -> PlaceCounts
+    ensures { OnTokens no_backslash_escape query.now (λ ts.
+        (result.names ≡ length (names ts)) × (result.marks ≡ marks ts)) }
+{
+    let mut names = 0;
+    let mut marks = 0;
+    let mut rest = query;
+    while !rest.is_empty() {
+        let (kind, len) = first_token(rest, no_backslash_escape);
+        match kind {
+            TokenKind::Name => names += 1,
+            TokenKind::Mark => marks += 1,
+            TokenKind::Other => {}
+        }
+        rest = &rest[len..];
+    }
+    PlaceCounts { names, marks }
 }

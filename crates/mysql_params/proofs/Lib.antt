@@ -1,2 +1,12 @@
 pub mod WriteLemmas
 pub mod ProgramLemmas
+pub mod TokenRowLemmas
+pub mod LiteralTokenLemmas
+pub mod BoundText
+pub mod PieceLemmas
+pub mod ReplacedLemmas
+pub mod ByteTestLemmas
+pub mod ContentsLemmas
+pub mod PutLemmas
+pub mod StandsAloneLemmas
+pub mod ValueLiteralLemmas

@@ -8,3 +8,9 @@ pub use Rattle.mysql_named_params.specs.NamedParamsErrors
 pub mod Program
 pub mod RunErrors
 pub mod ReadersAndWriters
+pub mod StandsAlone
+pub mod Pieces
+pub mod Contents
+pub mod Replaced
+pub mod FirstCause
+pub mod ValueLiterals

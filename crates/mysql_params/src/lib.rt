@@ -4,6 +4,7 @@
 //! identifiers and comments; [`run`] is the program over them, for any reader and writer.
 #![tactic(auto)]
 
+mod binding;
 pub mod laws;
 pub mod named_params;
 mod program;

@@ -1,6 +1,6 @@
 use Rattle.mysql_named_params.proofs.CountLemmas.{counted_name, counted_mark, counted_other}
-use Rattle.mysql_named_params.proofs.named_params.count_places.Goals as goal
-use Rattle.mysql_named_params.proofs.named_params.count_places.Goals.{in-Name, in-Mark, in-Other}
+use Rattle.mysql_named_params.proofs.tokens.count_places.Goals as goal
+use Rattle.mysql_named_params.proofs.tokens.count_places.Goals.{in-Name, in-Mark, in-Other}
 
 pub loop-rest-preserved : goal.loop-rest-preserved
 loop-rest-preserved c =
