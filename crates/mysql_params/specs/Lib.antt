@@ -5,6 +5,12 @@ pub use Rattle.mysql_named_params.specs.Locality
 pub use Rattle.mysql_named_params.specs.Parsed
 pub use Rattle.mysql_named_params.specs.SameParsed
 pub use Rattle.mysql_named_params.specs.NamedParamsErrors
+pub use Rattle.mysql_params_core.specs.Given
+pub use Rattle.mysql_params_core.specs.Answer
+pub use Rattle.mysql_params_core.specs.Names
+pub use Rattle.mysql_params_core.specs.Lookup
+pub use Rattle.mysql_params_core.specs.Made
+pub use Rattle.mysql_params_core.specs.Errors
 pub mod Program
 pub mod RunErrors
 pub mod ReadersAndWriters
@@ -14,3 +20,5 @@ pub mod Contents
 pub mod Replaced
 pub mod FirstCause
 pub mod ValueLiterals
+pub mod BindErrors
+pub mod Isolation

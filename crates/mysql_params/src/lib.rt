@@ -4,12 +4,16 @@
 //! identifiers and comments; [`run`] is the program over them, for any reader and writer.
 #![tactic(auto)]
 
+mod bind_error;
 mod binding;
 pub mod laws;
 pub mod named_params;
+pub mod params;
 mod program;
 mod readers_and_writers;
 mod run_error;
 
+pub use bind_error::BindError;
+pub use binding::bind_text;
 pub use program::run;
 pub use run_error::RunError;
