@@ -16,6 +16,8 @@ use Rattle.mysql_params.specs.FirstCause.{Cause, mixed_cause, later_cause, first
 use Rattle.mysql_params.specs.declared.bind_error.BindError.{BindError}
 use Rattle.mysql_params.specs.BindErrors.{IsRefusal, cause_of}
 use Rattle.mysql_params.specs.Isolation.{IsBoundText}
+use Rattle.mysql_params.specs.Contents.{contents as contents_of}
+use Rattle.mysql_named_params.proofs.TokenListLemmas.{one_token_list}
 use Rattle.mysql_params.specs.Pieces.{pieces, woven}
 use Rattle.mysql_params.specs.Replaced.{AreLiterals, replaced}
 use Rattle.mysql_params.specs.ValueLiterals.{AreLiteralsOf, AreReadAs}
@@ -164,3 +166,15 @@ bound_on mode query given values texts text h written shapes reads exact =
     on_map mode query (λ ts. IsLookedUp ts given values × (woven (pieces ts) texts ≡ Some text)) (λ ts. IsBoundText mode ts given text)
     (λ ts is k. is_bound_text mode query ts given values texts text is k.0.0 k.0.1 k.0.2 written shapes reads k.1)
     (on_both mode query (λ ts. IsLookedUp ts given values) (λ ts. woven (pieces ts) texts ≡ Some text) h exact)
+
+-- ---- equal texts
+
+pub equal_contents : (mode : Bool) (query text : List ℕ) (ts us : List Token) (a b : Given) →
+    IsTokens mode query ts → IsTokens mode query us →
+    (x : IsBoundText mode ts a text) → (y : IsBoundText mode us b text) →
+    map content_of x.values ≡ map content_of y.values
+equal_contents mode query text ts us a b is is' x y =
+    let tokens : ts ≡ us = one_token_list mode query ts us is is' in
+    let same : Some x.said ≡ Some y.said = sym x.read_back ∙ (ap (λ l. contents_of mode (pieces l) text) tokens ∙ y.read_back) in
+    let said : x.said ≡ y.said = cc in
+    x.says ∙ (ap (map Some) said ∙ sym y.says)
