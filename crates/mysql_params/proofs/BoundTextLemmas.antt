@@ -12,7 +12,7 @@ use Rattle.mysql_named_params.specs.Places.{names, marks, renamed, place_count}
 use Rattle.mysql_named_params.proofs.ReparsedLemmas.{places_are, renamed_are, renamed_names, renamed_marks}
 use Rattle.mysql_params_core.specs.Given.{Given}
 use Rattle.mysql_params_core.specs.Lookup.{lookup}
-use Rattle.mysql_params.specs.FirstCause.{Cause, mixed_cause, later_cause, first_cause, first_float}
+use Rattle.mysql_params.specs.FirstCause.{Cause, mixed_cause, later_cause, first_cause}
 use Rattle.mysql_params.specs.declared.bind_error.BindError.{BindError}
 use Rattle.mysql_params.specs.BindErrors.{IsRefusal, cause_of}
 use Rattle.mysql_params.specs.Isolation.{IsBoundText}
@@ -22,7 +22,7 @@ use Rattle.mysql_params.specs.Pieces.{pieces, woven}
 use Rattle.mysql_params.specs.Replaced.{AreLiterals, replaced}
 use Rattle.mysql_params.specs.ValueLiterals.{AreLiteralsOf, AreReadAs}
 use Rattle.mysql_params.proofs.BoundText.{bound}
-use Rattle.mysql_params.proofs.CauseLemmas.{first_by, no_cause_left, no_cause_renamed, no_float_cause, no_first_float, no_place_out, on_both, on_map, value_each}
+use Rattle.mysql_params.proofs.CauseLemmas.{first_by, no_cause_left, no_cause_renamed, no_float_cause, no_place_out, on_both, on_map, value_each}
 use Rattle.mysql_params.proofs.ContentsLemmas as contents
 use Rattle.mysql_params.proofs.PieceLemmas.{bound_none, renamed_bound, woven_is, woven_pieces}
 use Rattle.mysql_params.proofs.ReplacedLemmas.{isolated, isolated_places, literal_lists}
@@ -143,11 +143,6 @@ looked_up mode query given ns values listed looked later =
     on_map mode query (λ ts. AreNames ns ts × (None ≡ option_map Some (later_cause ts values))) (λ ts. IsLookedUp ts given values)
     (λ ts is h. (h.0.0, ap (lookup given) (sym h.0.1) ∙ looked, no_later_is (later_cause ts values) h.1))
     (on_both mode query (AreNames ns) (λ ts. None ≡ option_map Some (later_cause ts values)) listed later)
-
--- none of the values is a float
-pub no_float_on : (mode : Bool) (query : List ℕ) (given : Given) (values : List Value) →
-    OnTokens mode query (λ ts. IsLookedUp ts given values) → first_float values ≡ None
-no_float_on mode query given values h = no_first_float h.0 values h.2.2
 
 -- there is a literal for each place
 pub room_on : (mode : Bool) (query : List ℕ) (given : Given) (values : List Value) (texts : List (List ℕ)) (count : ℕ) →

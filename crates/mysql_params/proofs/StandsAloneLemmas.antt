@@ -41,7 +41,6 @@ other_alone t ts place before e = refl
 
 -- the query as far as behind the token
 take_token : (mode : Bool) (query : List ℕ) (at : ℕ) (k : TokenKind) (n : ℕ) (f : IsFirstToken mode (drop at query) k n) →
-    
     take at query ++ bytes_of f.token ≡ take (at + n) query
 take_token mode query at k n f = ap (λ x. take at query ++ x) (sym (first_bytes mode (drop at query) k n f)) ∙ sym (take-add at n query)
 
@@ -184,7 +183,7 @@ found_at (t ∷ ts) place number at before e =
     found_after place number at before (bytes_of t) ts (found_at ts place number at (before ++ bytes_of t) e)
 
 pub first_position : (ts : List Token) (place at : ℕ) →
-    ◌≡◌ {A = Option (ℕ × ℕ)} (first_not_alone ts) (Some (place, at)) → 
+    ◌≡◌ {A = Option (ℕ × ℕ)} (first_not_alone ts) (Some (place, at)) →
     slice_get (positions ts) place ≡ Some at
 first_position ts place at e =
     let h = found_at ts 0 place at [] e in
