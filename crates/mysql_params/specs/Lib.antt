@@ -1,3 +1,8 @@
+pub use Rattle.mysql_params_core.specs.Given
+pub use Rattle.mysql_params_core.specs.Answer
+pub use Rattle.mysql_params_core.specs.Lookup
+pub use Rattle.mysql_params_core.specs.Made
+pub use Rattle.mysql_params_core.specs.Errors
 pub mod Bytes
 pub mod Tokens
 pub mod Places

@@ -6,6 +6,11 @@ ghost use Rattle.mysql_params.specs.Places.{names, marks, positions, HavePlacesA
 
 use crate::named_params::{MixedParamsError, NamedParamsError, ParsedNamedParams};
 use crate::run_error::RunError;
+pub use mysql_params_core::laws::{
+    beginnings_are_found, into_positional_error_equality, lookups_agree,
+    missing_named_parameter_error_equality, params_confusion_error_equality, params_equality,
+    params_error_equality, to_params_error_equality,
+};
 
 /// No query has two token lists in one mode.
 pub fn one_token_list()

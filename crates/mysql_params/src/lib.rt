@@ -6,6 +6,7 @@
 
 pub mod laws;
 pub mod named_params;
+pub mod params;
 mod program;
 mod readers_and_writers;
 mod run_error;
