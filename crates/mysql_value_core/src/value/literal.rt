@@ -6,11 +6,8 @@ ghost use Rattle.mysql_value_core.specs.AsSql.{AnswersLiteral};
 ghost use Rattle.mysql_value_core.specs.Literal.{is_float, literal_of};
 ghost use Rattle.mysql_value_core.specs.ReadBack.{ReadsAs};
 
-mod dates;
-mod numbers;
-mod strings;
-
 use crate::value::Value;
+use mysql_literal_text::{dates, numbers, strings};
 use std::alloc::{AllocError, Global};
 use thiserror::Error;
 
