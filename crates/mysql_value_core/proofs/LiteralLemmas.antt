@@ -1,5 +1,5 @@
--- What holds of the literal of every value: it reads as the value's content, has the shape of literals,
--- and is UTF-8.
+-- What holds of the literal of every value: it reads as the value's content, has the shape of
+-- literals, is UTF-8, and for many times is a time text between quotes.
 use Rattle.std.proofs.Common.{◌≡◌, ℕ, Bool, true, false, List, [], ◌∷◌, ◌++◌, length, get_or, subst, sym, ◌∙◌, ap, arith, refl, ◌<◌, ◌^◌, suc, rules}
 use Rattle.std.specs.Prelude.{IfSome, is_none, pos, negsuc, ℤ, codes}
 use Rattle.std.specs.List.{list_all}
@@ -20,6 +20,10 @@ use Rattle.mysql_value_core.specs.Literal.{literal_of, is_float}
 use Rattle.mysql_value_core.specs.ReadLiteral.{byte_string, is_digit, read_literal}
 use Rattle.mysql_value_core.specs.Content.{content_of}
 use Rattle.mysql_value_core.specs.ReadBack.{is_quote, continues_literal, BeginsWithout, ReadsBefore, ReadsAs}
+use Rattle.mysql_value_core.specs.TimeLiteral.{WritesTimeText}
+use Rattle.mysql_literal_text.specs.TimeText.{total_microseconds}
+use Rattle.mysql_literal_text.proofs.TimeTextLemmas.{time_texts_are_read}
+use Rattle.mysql_literal_text.proofs.WrittenTimeLemmas.{times_read_back}
 use Rattle.mysql_value_core.specs.LiteralShape.{AreDigits, IsLiteral, null_literal, natural_literal, negative_literal, hexadecimal_literal, quoted_literal}
 use Rattle.mysql_value_core.proofs.DigitLemmas.{all_digits-decimal}
 use Rattle.mysql_value_core.proofs.ReadStringLemmas.{read_quoted}
@@ -163,3 +167,22 @@ is_none-content_of (Date y m d h i s u) = refl
 is_none-content_of (Time n d h m s u) = refl
 
 -- the literal of bytes, by whether they are UTF-8
+
+-- times
+
+pub literal_writes_time : (mode : Bool) (value : Value) → IfSome (literal_of mode value) (WritesTimeText value)
+literal_writes_time mode NULL = tt
+literal_writes_time mode (Bytes bytes) = tt
+literal_writes_time mode (Int n) = tt
+literal_writes_time mode (UInt n) = tt
+literal_writes_time mode (Float bits) = tt
+literal_writes_time mode (Double bits) = tt
+literal_writes_time mode (Date y m d h i s u) = tt
+literal_writes_time mode (Time true d h m s u) = tt
+literal_writes_time mode (Time false d h m s u) =
+    λ hours minutes seconds microseconds. (
+      time_text false d h m s u,
+      refl,
+      (time_texts_are_read (time_text false d h m s u) false (total_microseconds d h m s u)).0
+          (times_read_back d h m s u hours minutes seconds microseconds),
+    )
