@@ -4,6 +4,7 @@ use mysql_values::value::Value;
 use mysql_values::value::convert::{ToValue, ToValueError, from_value_opt};
 use std::alloc::Global;
 use std::borrow::{CowSlice, CowStr};
+use std::process::Abort;
 use std::test::Fail;
 
 // By the bound alone, as generic callers do it.
@@ -11,23 +12,26 @@ fn value_of<T: ToValue>(alloc: Global, thing: &T) -> Result<Value, ToValueError>
     thing.to_value(alloc)
 }
 
+fn has_value(rt: &impl Abort, alloc: Global, text: &str) -> Result<(), Fail> {
+    let value = bytes(alloc, text.as_bytes())?;
+    let owned = String::from_str(alloc, text)?;
+    assert_eq!(rt; value_of(alloc, &text)?, value, "of {text:?}");
+    assert_eq!(rt; value_of(alloc, &owned)?, value, "of {text:?}");
+    assert_eq!(rt;
+        CowStr::Borrowed(text).to_value(alloc)?,
+        value,
+        "of {text:?}"
+    );
+    assert_eq!(rt; from_value_opt::<String>(value_of(alloc, &owned)?)?, owned);
+    assert_eq!(rt; CowStr::Owned(owned).to_value(alloc)?, value, "of {text:?}");
+    Ok(())
+}
+
 #[test]
 fn texts_to_values(rt: HostRuntime) -> Result<(), Fail> {
-    let alloc = rt.alloc();
-    for text in ["", "x", "it's", "\u{e9}t\u{e9}"] {
-        let value = bytes(alloc, text.as_bytes())?;
-        let owned = String::from_str(alloc, text)?;
-        assert_eq!(rt; value_of(alloc, &text)?, value, "of {text:?}");
-        assert_eq!(rt; value_of(alloc, &owned)?, value, "of {text:?}");
-        assert_eq!(rt;
-            CowStr::Borrowed(text).to_value(alloc)?,
-            value,
-            "of {text:?}"
-        );
-        assert_eq!(rt; from_value_opt::<String>(value_of(alloc, &owned)?)?, owned);
-        assert_eq!(rt; CowStr::Owned(owned).to_value(alloc)?, value, "of {text:?}");
-    }
-    Ok(())
+    has_value(&rt, rt.alloc(), "")?;
+    has_value(&rt, rt.alloc(), "it's")?;
+    has_value(&rt, rt.alloc(), "\u{e9}t\u{e9}")
 }
 
 #[test]
