@@ -1,10 +1,10 @@
 -- The values of the types of Rust.
-use Rattle.std.specs.Prelude.{◌≡◌, ℕ, ◌-◌, ◌^◌, ℤ, pos, negsuc, int_lt, int_le, unsigned_abs, nat_lt, ◌&&◌, Bool, true, false, if◌then◌else◌, List, Result, Ok, Err}
+use Rattle.std.specs.Prelude.{◌≡◌, ℕ, ◌-◌, ◌^◌, ℤ, pos, negsuc, int_lt, int_le, unsigned_abs, nat_lt, ◌&&◌, Bool, true, false, if◌then◌else◌, List, Option, None, Some, Result, Ok, Err}
 use Rattle.std.specs.Fmt.{decimal, signed_decimal}
 use Rattle.std.specs.declared.time.Duration.{Duration}
 use Rattle.mysql_value_core.specs.Value.{IsBytes}
 use Rattle.mysql_value_core.specs.declared.value.Value.{Value}
-use Rattle.mysql_value_core.specs.declared.value.Value.TheVariants.{Bytes, Int, UInt}
+use Rattle.mysql_value_core.specs.declared.value.Value.TheVariants.{NULL, Bytes, Int, UInt}
 use Rattle.mysql_value_core.specs.declared.value.convert.ToValueError.{ToValueError}
 use Rattle.mysql_value_core.specs.declared.value.convert.ToValueError.TheVariants.{DurationTooLong, Memory}
 
@@ -59,3 +59,8 @@ bool_value false = Ok (Int (pos 0))
 -- the value of bytes, and of a text
 abbrev pub bytes_value : List ℕ → Meaning
 bytes_value bytes = Ok (Bytes bytes)
+
+-- the value of a thing that may be lacking, by that of the thing: NULL stands for none
+abbrev pub option_value : {T : Type 0} → (T → Meaning) → Option T → Meaning
+option_value value_of None = Ok NULL
+option_value value_of (Some thing) = value_of thing

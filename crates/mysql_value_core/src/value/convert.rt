@@ -10,6 +10,7 @@ use std::time::Duration;
 use thiserror::Error;
 
 mod from;
+mod nested;
 mod to_value;
 mod try_from;
 

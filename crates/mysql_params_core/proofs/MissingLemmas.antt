@@ -1,0 +1,113 @@
+-- Which name is missing, by the place of the first that is not in the map.
+use Rattle.std.proofs.Common.{◌≡◌, ◌<◌, ◌-◌, ◌+◌, ◌||◌, ℕ, zero, suc, Bool, true, false, not, cond, List, [], ◌∷◌, map, length, take, drop, get_or, refl, sym, ap, ◌∙◌, arith, add-one}
+use Rattle.std.specs.Prelude.{Option, Some, None, unwrap_or, find, slice_index_or, is_some}
+use Rattle.std.specs.Option.{option_map, option_and_then, ok_or}
+use Rattle.std.specs.Cmp.{first_so, second_so}
+use Rattle.std.specs.Global.{Vec}
+use Rattle.std.specs.List.{list_all, list_any}
+use Rattle.std.specs.FinMap.{contains_key, get}
+use Rattle.std.proofs.lemmas.List.{get_or-map, length-map, drop-map, take_all, length-drop}
+use Rattle.mysql_value_core.specs.declared.value.Value.{Value}
+use Rattle.mysql_params_core.specs.Names.{names_of, is_beginning, missing_name, first_missing, last_name}
+use Rattle.mysql_params_core.specs.FirstAbsent.{IsFirstAbsent}
+use Rattle.mysql_params_core.specs.Given.{ValueMap, named}
+use Rattle.mysql_params_core.specs.Lookup.{values_at, lookup, missing}
+
+module _ {X : Type 0} (p : X → Bool) where
+  pub list_any-map : {Y : Type 0} (f : Y → X) (ys : List Y) → list_any p (map f ys) ≡ list_any (λ y. p (f y)) ys
+  list_any-map f [] = refl
+  list_any-map f (y ∷ ys) = ap (λ b. p (f y) || b) (list_any-map f ys)
+
+  -- whether the elements that pass are a beginning, where the first that fails stands at i
+  pub is_beginning-at : (xs : List X) (i : ℕ) (d : X) → i < length xs → list_all p (take i xs) ≡ true
+      → p (get_or xs i d) ≡ false → is_beginning p xs ≡ not (list_any p (drop (suc i) xs))
+  is_beginning-at [] i d h all fails = absurd (omega arith)
+  is_beginning-at (x ∷ xs) zero d h all fails =
+      ap (λ b. cond b (is_beginning p xs) (not (list_any p xs))) fails
+  is_beginning-at (x ∷ xs) (suc i) d h all fails =
+      ap (λ b. cond b (is_beginning p xs) (not (list_any p xs))) (first_so (p x) (list_all p (take i xs)) all)
+      ∙ is_beginning-at xs i d (omega arith) (second_so (p x) (list_all p (take i xs)) all) fails
+
+  -- the first element that fails
+  pub find-at : (xs : List X) (i : ℕ) (d : X) → i < length xs → list_all p (take i xs) ≡ true
+      → p (get_or xs i d) ≡ false → find (λ x. not (p x)) xs ≡ Some (get_or xs i d)
+  find-at [] i d h all fails = absurd (omega arith)
+  find-at (x ∷ xs) zero d h all fails = ap (λ b. cond (not b) (Some x) (find (λ y. not (p y)) xs)) fails
+  find-at (x ∷ xs) (suc i) d h all fails =
+      ap (λ b. cond (not b) (Some x) (find (λ y. not (p y)) xs)) (first_so (p x) (list_all p (take i xs)) all)
+      ∙ find-at xs i d (omega arith) (second_so (p x) (list_all p (take i xs)) all) fails
+
+-- no value at a name, no values
+pub values_at-none : (m : ValueMap) (ns : List (List ℕ)) (i : ℕ) → i < length ns
+    → contains_key m (slice_index_or ns i []) ≡ false → values_at m ns ≡ None
+values_at-none m [] i h absent = absurd (omega arith)
+values_at-none m (n ∷ ns) zero h absent = ap (option_and_then _) (no_value (get m n) absent)
+  where
+    no_value : (o : Option Value) → is_some o ≡ false → o ≡ None
+    no_value None e = refl
+    no_value (Some v) e = cc
+values_at-none m (n ∷ ns) (suc i) h absent =
+    by_value (get m n) (values_at-none m ns i (omega arith) absent)
+  where
+    by_value : (o : Option Value) → values_at m ns ≡ None
+        → option_and_then (λ value. option_map (λ rest. value ∷ rest) (values_at m ns)) o ≡ None
+    by_value None e = refl
+    by_value (Some v) e = ap (option_map (λ rest. v ∷ rest)) e
+
+module _ (m : ValueMap) (ns : List (List ℕ)) (i : ℕ) (at : IsFirstAbsent m ns (Some i)) where
+  pub first_missing-at : first_missing m ns ≡ slice_index_or ns i []
+  first_missing-at = ap (λ o. unwrap_or o []) (find-at (contains_key m) ns i [] at.0 at.1 at.2)
+
+  pub no_values : values_at m ns ≡ None
+  no_values = values_at-none m ns i at.0 at.2
+
+  -- a later name is in the map
+  pub missing_name-then : list_any (contains_key m) (drop (suc i) ns) ≡ true → missing_name m ns ≡ slice_index_or ns i []
+  missing_name-then later =
+      ap (λ b. cond b (last_name ns) (first_missing m ns)) (is_beginning-at (contains_key m) ns i [] at.0 at.1 at.2 ∙ ap not later)
+      ∙ first_missing-at
+
+  -- no later name is
+  pub missing_name-else : list_any (contains_key m) (drop (suc i) ns) ≡ false → missing_name m ns ≡ last_name ns
+  missing_name-else later =
+      ap (λ b. cond b (last_name ns) (first_missing m ns))
+      (is_beginning-at (contains_key m) ns i [] at.0 at.1 at.2 ∙ ap not later)
+
+-- the same over names as vectors, as the code reads them
+module _ (m : ValueMap) (ns : List (Vec ℕ)) (i : ℕ) (at : IsFirstAbsent m (names_of ns) (Some i)) where
+  later_names : list_any (λ n. contains_key m n.items) (take (length ns - (i + 1)) (drop (i + 1) ns))
+      ≡ list_any (contains_key m) (drop (suc i) (names_of ns))
+  later_names =
+      ap (list_any (λ n. contains_key m n.items)) (take_all _ (drop (i + 1) ns) (omega (arith, length-drop (i + 1) ns)))
+      ∙ ap (λ k. list_any (λ n. contains_key m n.items) (drop k ns)) (add-one i)
+      ∙ sym (list_any-map (contains_key m) (λ n. n.items) (drop (suc i) ns))
+      ∙ ap (list_any (contains_key m)) (sym (drop-map (λ n. n.items) (suc i) ns))
+
+  pub in_list : i < length ns
+  in_list = omega (arith, length-map ns (λ n. n.items), at.0)
+
+  at_name : (k : ℕ) (n : Vec ℕ) → k < length ns → n ≡ get_or ns k n → n.items ≡ slice_index_or (names_of ns) k []
+  at_name k n h e = ap (λ n. n.items) e ∙ sym (get_or-map (λ n. n.items) ns k n [] h)
+
+  pub reported-then : (b : Bool) (n : Vec ℕ)
+      → b ≡ list_any (λ n. contains_key m n.items) (take (length ns - (i + 1)) (drop (i + 1) ns)) → b ≡ true
+      → n ≡ get_or ns i n → n.items ≡ missing_name m (names_of ns)
+  reported-then b n e met is =
+      at_name i n in_list is ∙ sym (missing_name-then m (names_of ns) i at (sym later_names ∙ sym e ∙ met))
+
+  pub reported-else : (b : Bool) (n : Vec ℕ)
+      → b ≡ list_any (λ n. contains_key m n.items) (take (length ns - (i + 1)) (drop (i + 1) ns)) → b ≡ false
+      → n ≡ get_or ns (length ns - 1) n → n.items ≡ missing_name m (names_of ns)
+  reported-else b n e unmet is =
+      at_name (length ns - 1) n (omega (arith, in_list)) is
+      ∙ ap (λ k. slice_index_or (names_of ns) (k - 1) []) (sym (length-map ns (λ n. n.items)))
+      ∙ sym (missing_name-else m (names_of ns) i at (sym later_names ∙ sym e ∙ unmet))
+
+  pub first-at : (n : Vec ℕ) → n ≡ get_or ns i n → n.items ≡ first_missing m (names_of ns)
+  first-at n is = at_name i n in_list is ∙ sym (first_missing-at m (names_of ns) i at)
+
+-- a lookup of a list with names, in one equation
+pub lookup-some : (m : ValueMap) (ns : List (Vec ℕ)) → 0 < length ns
+    → lookup (named m) (names_of ns) ≡ ok_or (values_at m (names_of ns)) (missing (missing_name m (names_of ns)))
+lookup-some m [] h = absurd (omega arith)
+lookup-some m (n ∷ ns) h = refl

@@ -1,0 +1,59 @@
+-- What the errors of parameters hold: when two are equal, and which refusal of the definitions each is.
+use Rattle.std.specs.Prelude.{◌≡◌, ℕ, List, Option, None, Some, ⊤}
+use Rattle.mysql_value_core.specs.declared.value.convert.ToValueError.{ToValueError}
+use Rattle.mysql_value_core.specs.declared.value.convert.ToValueError.TheVariants as to_value
+use Rattle.mysql_params_core.specs.Lookup.{LookupRefusal, missing, confused}
+use Rattle.mysql_params_core.specs.Made.{MakerRefusal, redefined, too_long}
+use Rattle.mysql_params_core.specs.declared.params.errors.ParamsError.{ParamsError}
+use Rattle.mysql_params_core.specs.declared.params.errors.ParamsError.TheVariants.{Missing, Confusion, Memory}
+use Rattle.mysql_params_core.specs.declared.params.errors.IntoPositionalError.{IntoPositionalError}
+use Rattle.mysql_params_core.specs.declared.params.errors.IntoPositionalError.TheVariants as positional
+use Rattle.mysql_params_core.specs.declared.params.errors.ToParamsError.{ToParamsError}
+use Rattle.mysql_params_core.specs.declared.params.errors.ToParamsError.TheVariants as maker
+
+-- the refusal of a lookup that the error is; none for want of memory
+abbrev pub lookup_refusal : ParamsError → Option LookupRefusal
+lookup_refusal (Missing error) = Some (missing error.0.items)
+lookup_refusal (Confusion confusion) = Some (confused confusion)
+lookup_refusal (Memory error) = None
+
+-- the missing name that the error holds; none for want of memory
+abbrev pub absent_name : IntoPositionalError → Option (List ℕ)
+absent_name (positional.Missing error) = Some error.0.items
+absent_name (positional.Memory error) = None
+
+-- the refusal of a thing without a value that the error is; none for want of memory
+abbrev pub value_refusal : ToValueError → Option MakerRefusal
+value_refusal (to_value.DurationTooLong duration) = Some (too_long duration)
+value_refusal (to_value.Memory error) = None
+
+-- the refusal of a maker that the error is; none for want of memory
+abbrev pub maker_refusal : ToParamsError → Option MakerRefusal
+maker_refusal (maker.Redefined name) = Some (redefined name.items)
+maker_refusal (maker.Value error) = value_refusal error
+maker_refusal (maker.Memory error) = None
+
+-- a name is missing
+abbrev pub IsMissing : ParamsError → Type 0
+IsMissing (Missing error) = ⊤
+IsMissing _ = ⊥
+
+-- the same variant, and the same name or confusion
+abbrev pub AreEqualParamsErrors : ParamsError → ParamsError → Type 0
+AreEqualParamsErrors (Missing a) (Missing b) = a.0.items ≡ b.0.items
+AreEqualParamsErrors (Confusion a) (Confusion b) = a ≡ b
+AreEqualParamsErrors (Memory a) (Memory b) = ⊤
+AreEqualParamsErrors _ _ = ⊥
+
+-- the same variant, and the same name
+abbrev pub AreEqualPositionalErrors : IntoPositionalError → IntoPositionalError → Type 0
+AreEqualPositionalErrors (positional.Missing a) (positional.Missing b) = a.0.items ≡ b.0.items
+AreEqualPositionalErrors (positional.Memory a) (positional.Memory b) = ⊤
+AreEqualPositionalErrors _ _ = ⊥
+
+-- the same variant, and the same name or error of the value
+abbrev pub AreEqualMakerErrors : ToParamsError → ToParamsError → Type 0
+AreEqualMakerErrors (maker.Redefined a) (maker.Redefined b) = a.items ≡ b.items
+AreEqualMakerErrors (maker.Value a) (maker.Value b) = a ≡ b
+AreEqualMakerErrors (maker.Memory a) (maker.Memory b) = ⊤
+AreEqualMakerErrors _ _ = ⊥

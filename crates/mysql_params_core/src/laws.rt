@@ -1,0 +1,69 @@
+//! Laws of the definitions that the contracts cite, and of equality. The functions that have no
+//! result do nothing: each is called for what it ensures.
+ghost use Rattle.std.specs.Prelude.{◌≡◌, ◌↔◌, IsTrue};
+ghost use Rattle.mysql_params_core.specs.Errors.{AreEqualMakerErrors, AreEqualParamsErrors, AreEqualPositionalErrors};
+ghost use Rattle.mysql_params_core.specs.Given.{given};
+ghost use Rattle.mysql_params_core.specs.Lookup.{LookupsAgree};
+ghost use Rattle.mysql_params_core.specs.Names.{BeginningsAreFound};
+
+use crate::params::{
+    IntoPositionalError, MissingNamedParameterError, Params, ParamsConfusionError, ParamsError,
+    ToParamsError,
+};
+
+/// Parameters are equal where the variants are, and the list or the map.
+pub fn params_equality(a: &Params, b: &Params) -> bool
+    ensures same { IsTrue result ↔ (given a.now ≡ given b.now) }
+{
+    a == b
+}
+
+/// Errors of a missing name are equal where the names are.
+pub fn missing_named_parameter_error_equality(
+    a: &MissingNamedParameterError,
+    b: &MissingNamedParameterError,
+) -> bool
+    ensures same { IsTrue result ↔ (a.now.0.items ≡ b.now.0.items) }
+{
+    a == b
+}
+
+/// Errors of the kind of parameters are equal where the variants are.
+pub fn params_confusion_error_equality(a: &ParamsConfusionError, b: &ParamsConfusionError) -> bool
+    ensures same { IsTrue result ↔ (a.now ≡ b.now) }
+{
+    a == b
+}
+
+/// Errors of `into_values` are equal where variant and field are.
+pub fn params_error_equality(a: &ParamsError, b: &ParamsError) -> bool
+    ensures same { IsTrue result ↔ AreEqualParamsErrors a.now b.now }
+{
+    a == b
+}
+
+/// Errors of `into_positional` are equal where variant and field are.
+pub fn into_positional_error_equality(a: &IntoPositionalError, b: &IntoPositionalError) -> bool
+    ensures same { IsTrue result ↔ AreEqualPositionalErrors a.now b.now }
+{
+    a == b
+}
+
+/// Errors of the makers of parameters are equal where variant and field are.
+pub fn to_params_error_equality(a: &ToParamsError, b: &ToParamsError) -> bool
+    ensures same { IsTrue result ↔ AreEqualMakerErrors a.now b.now }
+{
+    a == b
+}
+
+/// For named parameters and a list with names, `into_values` and `into_positional` give the same
+/// values or both refuse.
+pub fn lookups_agree()
+    ensures agree { LookupsAgree }
+{}
+
+/// Names that are in a map are found to be a beginning of a list exactly where their places are those
+/// below some count.
+pub fn beginnings_are_found()
+    ensures found { BeginningsAreFound }
+{}

@@ -1,0 +1,39 @@
+//! Parameters of queries, what makes them, and the values that they give.
+ghost use Rattle.std.specs.Prelude.{◌≡◌, ◌≢◌, IfOk, OnErr};
+ghost use Rattle.mysql_params_core.specs.Given.{given, empty};
+
+mod errors;
+mod lookup;
+
+pub use errors::{
+    IntoPositionalError, MissingNamedParameterError, ParamsConfusionError, ParamsError,
+    ToParamsError,
+};
+use mysql_values::value::Value;
+use std::alloc::AllocError;
+use std::collections::HashMap;
+
+/// The parameters of a query: none, values by name, or values by position.
+///
+/// Two are equal where the variants are, and the list or the map; in a map the order of the entries
+/// doesn't count.
+#[derive(PartialEq, Drop)]
+pub enum Params {
+    Empty,
+    Named(HashMap<Vec<u8>, Value>),
+    Positional(Vec<Value>),
+}
+
+impl Params {
+    /// A copy of the parameters, on the allocator that they hold.
+    pub fn clone(&self) -> Result<Params, AllocError>
+        ensures equal { IfOk result (λ copy. given copy ≡ given self.now) }
+        ensures memory { OnErr result (given self.now ≢ empty) }
+    {
+        match self {
+            Params::Empty => Ok(Params::Empty),
+            Params::Named(entries) => Ok(Params::Named(entries.clone()?)),
+            Params::Positional(values) => Ok(Params::Positional(values.clone()?)),
+        }
+    }
+}

@@ -1,0 +1,104 @@
+//! Why parameters are refused.
+ghost use Rattle.std.specs.Prelude.{◌≡◌, IfOk, OnErr};
+ghost use Rattle.mysql_params_core.specs.Errors.{AreEqualParamsErrors, IsMissing};
+ghost use Rattle.mysql_params_core.specs.declared.params.errors.ParamsError.TheVariants.{Missing, Confusion};
+
+use mysql_values::show::Shown;
+use mysql_values::value::convert::ToValueError;
+use std::alloc::AllocError;
+use thiserror::Error;
+
+/// The name of a query that the parameters have no value for.
+#[derive(Debug, PartialEq, Eq, Drop, Error)]
+#[error("Missing named parameter `{}` for statement", Shown(.0.as_slice()))]
+pub struct MissingNamedParameterError(pub Vec<u8>);
+
+impl MissingNamedParameterError {
+    /// A copy of the error, on the allocator that the name holds.
+    pub fn clone(&self) -> Result<MissingNamedParameterError, AllocError>
+        ensures equal { IfOk result (λ copy. copy.0.items ≡ self.now.0.items) }
+    {
+        let name = self.0.clone()?;
+        Ok(MissingNamedParameterError(name))
+    }
+}
+
+/// Parameters of one kind stand where the query wants the other.
+#[derive(Debug, Clone, Copy, PartialEq, Eq, Hash, Error)]
+pub enum ParamsConfusionError {
+    /// The query has no names, and the parameters are named.
+    #[error("Named params given where positional params are expected")]
+    NamedParamsForPositionalQuery,
+    /// The query has names, and the parameters are positional.
+    #[error("Positional params given where named params are expected")]
+    PositionalParamsForNamedQuery,
+}
+
+/// Why parameters don't give the values of a query.
+#[derive(Debug, PartialEq, Eq, Drop, Error)]
+pub enum ParamsError {
+    /// A name of the query has no value.
+    #[error(transparent)]
+    Missing(MissingNamedParameterError),
+    /// The parameters are of the other kind.
+    #[error(transparent)]
+    Confusion(ParamsConfusionError),
+    /// Memory was refused.
+    #[error("out of memory")]
+    Memory(AllocError),
+}
+
+impl ParamsError {
+    /// A copy of the error. Only that of a missing name takes memory, on the allocator that it holds.
+    pub fn clone(&self) -> Result<ParamsError, AllocError>
+        ensures equal { IfOk result (λ copy. AreEqualParamsErrors copy self.now) }
+        ensures memory { OnErr result (IsMissing self.now) }
+    {
+        match self {
+            ParamsError::Missing(missing) => Ok(ParamsError::Missing(missing.clone()?)),
+            ParamsError::Confusion(confusion) => Ok(ParamsError::Confusion(*confusion)),
+            ParamsError::Memory(error) => Ok(ParamsError::Memory(*error)),
+        }
+    }
+}
+
+impl From<MissingNamedParameterError> for ParamsError {
+    ghost from_gives = { λ missing error. error ≡ Missing missing };
+
+    fn from(missing: MissingNamedParameterError) -> ParamsError {
+        ParamsError::Missing(missing)
+    }
+}
+
+impl From<ParamsConfusionError> for ParamsError {
+    ghost from_gives = { λ confusion error. error ≡ Confusion confusion };
+
+    fn from(confusion: ParamsConfusionError) -> ParamsError {
+        ParamsError::Confusion(confusion)
+    }
+}
+
+/// Why named parameters don't become positional.
+#[derive(Debug, PartialEq, Eq, Drop, Error)]
+pub enum IntoPositionalError {
+    /// A name of the list has no value.
+    #[error(transparent)]
+    Missing(MissingNamedParameterError),
+    /// Memory was refused.
+    #[error("out of memory")]
+    Memory(AllocError),
+}
+
+/// Why things make no parameters.
+#[derive(Debug, PartialEq, Drop, Error)]
+pub enum ToParamsError {
+    /// A name stood before.
+    #[error("Redefinition of named parameter `{}'", Shown(.0.as_slice()))]
+    Redefined(Vec<u8>),
+    /// A thing has no value. It is never want of memory.
+    #[error(transparent)]
+    Value(ToValueError),
+    /// Memory was refused.
+    #[error("out of memory")]
+    Memory(AllocError),
+}

@@ -1,0 +1,191 @@
+//! The values of the names of a query.
+ghost use Rattle.std.specs.Prelude.{◌≡◌, ◌<◌, ◌+◌, true, length, Some, IfOk, OnErr, IsErrOf, alloc_error};
+ghost use Rattle.std.specs.List.{list_all, list_any};
+ghost use Rattle.std.specs.FinMap.{contains_key};
+ghost use Rattle.mysql_params_core.specs.Answer.{IsAnswer};
+ghost use Rattle.mysql_params_core.specs.Errors.{lookup_refusal, absent_name};
+ghost use Rattle.mysql_params_core.specs.FirstAbsent.{IsFirstAbsent};
+ghost use Rattle.mysql_params_core.specs.Given.{given, value_map, named};
+ghost use Rattle.mysql_params_core.specs.Lookup.{lookup, positioned, values_at, LookupTakesMemory, PositionTakesMemory};
+ghost use Rattle.mysql_params_core.specs.Names.{names_of, listed_names, missing_name, first_missing};
+
+use crate::params::{
+    IntoPositionalError, MissingNamedParameterError, Params, ParamsConfusionError, ParamsError,
+};
+use mysql_values::value::Value;
+use std::alloc::{AllocError, Global};
+use std::collections::HashMap;
+
+// Whether the name is in the map.
+fn has_name(entries: &HashMap<Vec<u8>, Value>, name: &[u8]) -> bool
+    ensures { result ≡ contains_key (value_map entries.now.entries) name.now }
+{
+    entries.contains_key(name)
+}
+
+// The place of the first name that is not in the map.
+fn first_absent(entries: &HashMap<Vec<u8>, Value>, names: &[Vec<u8>]) -> Option<usize>
+    ensures { IsFirstAbsent (value_map entries.now.entries) (names_of names.now) result }
+{
+    for (i, name) in names.iter().enumerate() {
+        if !has_name(entries, name.as_slice()) {
+            return Some(i);
+        }
+    }
+    None
+}
+
+// Whether any of the names is in the map.
+fn has_any(entries: &HashMap<Vec<u8>, Value>, names: &[Vec<u8>]) -> bool
+    ensures { result ≡ list_any (λ name. contains_key (value_map entries.now.entries) name.items)
+        names.now }
+{
+    names.iter().any(|name| has_name(entries, name.as_slice()))
+}
+
+// The name that is reported as missing, where the first that is not in the map stands at `first`.
+fn reported<'a>(entries: &HashMap<Vec<u8>, Value>, names: &'a [Vec<u8>], first: usize) -> &'a [u8]
+    requires { IsFirstAbsent (value_map entries.now.entries) (names_of names.now) (Some first) }
+    ensures { result.now ≡ missing_name (value_map entries.now.entries) (names_of names.now) }
+{
+    if has_any(entries, &names[first + 1..]) {
+        names[first].as_slice()
+    } else {
+        names[names.len() - 1].as_slice()
+    }
+}
+
+// The values of the names, all of which are in the map.
+fn take_values(
+    alloc: Global,
+    entries: HashMap<Vec<u8>, Value>,
+    names: &[Vec<u8>],
+) -> Result<Vec<Value>, AllocError>
+    requires { list_all (contains_key (value_map entries.entries)) (names_of names.now) ≡ true }
+    ensures values { IfOk result (λ values.
+        values_at (value_map entries.entries) (names_of names.now) ≡ Some values.items) }
+    ensures memory { OnErr result (0 < length names.now) }
+{
+    let mut values = Vec::new(alloc);
+    for name in names {
+        match entries.get(name.as_slice()) {
+            Some(value) => values.push(value.clone()?)?,
+            None => unreachable!(),
+        }
+    }
+    Ok(values)
+}
+
+fn missing(alloc: Global, name: &[u8]) -> Result<MissingNamedParameterError, AllocError>
+    ensures { IfOk result (λ error. error.0.items ≡ name.now) }
+{
+    let name = Vec::from_slice(alloc, name)?;
+    Ok(MissingNamedParameterError(name))
+}
+
+fn named_values(
+    alloc: Global,
+    entries: HashMap<Vec<u8>, Value>,
+    names: &[Vec<u8>],
+) -> Result<Vec<Value>, ParamsError>
+    requires { 0 < length names.now }
+    ensures { IsAnswer (λ values. values.items) lookup_refusal
+        (lookup (named (value_map entries.entries)) (names_of names.now)) result }
+{
+    match first_absent(&entries, names) {
+        None => match take_values(alloc, entries, names) {
+            Ok(values) => Ok(values),
+            Err(error) => Err(ParamsError::Memory(error)),
+        },
+        Some(first) => match missing(alloc, reported(&entries, names, first)) {
+            Ok(error) => Err(ParamsError::Missing(error)),
+            Err(error) => Err(ParamsError::Memory(error)),
+        },
+    }
+}
+
+fn named_positional(
+    alloc: Global,
+    entries: HashMap<Vec<u8>, Value>,
+    names: &[Vec<u8>],
+) -> Result<Params, IntoPositionalError>
+    ensures positioned { IsAnswer given absent_name
+        (positioned (named (value_map entries.entries)) (names_of names.now)) result }
+    ensures memory { IsErrOf result (IntoPositionalError.Memory alloc_error) → 0 < length names.now }
+{
+    match first_absent(&entries, names) {
+        None => match take_values(alloc, entries, names) {
+            Ok(values) => Ok(Params::Positional(values)),
+            Err(error) => Err(IntoPositionalError::Memory(error)),
+        },
+        Some(first) => match missing(alloc, names[first].as_slice()) {
+            Ok(error) => Err(IntoPositionalError::Missing(error)),
+            Err(error) => Err(IntoPositionalError::Memory(error)),
+        },
+    }
+}
+
+impl Params {
+    /// The values for the names of a query, in their order, with a repeated name's value at each of
+    /// its places. Names in the map that are not listed are ignored. `None` and an empty list mean a
+    /// query without names: it takes positional parameters as they are.
+    ///
+    /// `Missing` holds the name that has no value. Where several have none: if the places of the
+    /// names that have one are exactly a beginning of the list, possibly empty, it is the last name
+    /// of the list, and else the first that has none. The parameters are consumed, also where the
+    /// call refuses.
+    pub fn into_values(
+        self,
+        alloc: Global,
+        named_params: Option<&[Vec<u8>]>,
+    ) -> Result<Vec<Value>, ParamsError>
+        ensures values { IsAnswer (λ values. values.items) lookup_refusal
+            (lookup (given self) (listed_names named_params.entry)) result }
+        ensures memory { IsErrOf result (ParamsError.Memory alloc_error) →
+            LookupTakesMemory (given self) (listed_names named_params.entry) }
+    {
+        let names = named_params.unwrap_or(&[]);
+        match self {
+            Params::Empty => match names.first() {
+                None => Ok(Vec::new(alloc)),
+                Some(name) => match missing(alloc, name.as_slice()) {
+                    Ok(error) => Err(ParamsError::Missing(error)),
+                    Err(error) => Err(ParamsError::Memory(error)),
+                },
+            },
+            Params::Positional(values) => {
+                if names.is_empty() {
+                    Ok(values)
+                } else {
+                    Err(ParamsError::Confusion(ParamsConfusionError::PositionalParamsForNamedQuery))
+                }
+            }
+            Params::Named(entries) => {
+                if names.is_empty() {
+                    Err(ParamsError::Confusion(ParamsConfusionError::NamedParamsForPositionalQuery))
+                } else {
+                    named_values(alloc, entries, names)
+                }
+            }
+        }
+    }
+
+    /// The same parameters by position: of named ones the values for the names, in their order, or
+    /// the first name that has none. Others come back unchanged. The parameters are consumed, also
+    /// where the call refuses.
+    pub fn into_positional(
+        self,
+        alloc: Global,
+        named_params: &[Vec<u8>],
+    ) -> Result<Params, IntoPositionalError>
+        ensures positioned { IsAnswer given absent_name
+            (positioned (given self) (names_of named_params.now)) result }
+        ensures memory { IsErrOf result (IntoPositionalError.Memory alloc_error) →
+            PositionTakesMemory (given self) (names_of named_params.now) }
+    {
+        match self {
+            Params::Named(entries) => named_positional(alloc, entries, named_params),
+            params => Ok(params),
+        }
+    }
+}
