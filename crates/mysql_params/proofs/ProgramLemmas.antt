@@ -6,7 +6,7 @@ use Rattle.mysql_params.specs.Tokens.{Token, IsTokens, text_of}
 use Rattle.mysql_params.specs.Places.{names, marks, renamed, HasName, HasMark}
 use Rattle.mysql_params.specs.Parsed.{Parsed, parsed}
 use Rattle.mysql_params.specs.Program.{names_of_query, has_both, lines_of, output_of}
-use Rattle.mysql_params.proofs.TokenListLemmas.{one_token_list}
+use Rattle.mysql_named_params.proofs.TokenListLemmas.{one_token_list}
 
 -- tokens that have not both kinds of places are found not to
 has_both-not : (ts : List Token) → (HasName ts × HasMark ts → ⊥) → has_both ts ≡ false

@@ -1,56 +1,34 @@
-//! Laws of the definitions that the contracts cite, and of equality. The functions that have no
-//! result do nothing: each is called for what it ensures.
-ghost use Rattle.std.specs.Prelude.{◌≡◌, ℕ, ◌+◌, ◌↔◌, Bool, List, length, IsTrue};
-ghost use Rattle.mysql_params.specs.Tokens.{Token, IsTokens};
-ghost use Rattle.mysql_params.specs.Places.{names, marks, positions, HavePlacesAt, AscendFrom, renamed, restored};
+//! Laws of the definitions that the contracts cite, and of equality, of this crate and of those
+//! below. No program needs to call them.
+ghost use Rattle.std.specs.Prelude.{◌≡◌, ◌↔◌, ℕ, Bool, List, Some, IsTrue};
+ghost use Rattle.mysql_named_params.specs.Tokens.{Token, IsTokens};
+ghost use Rattle.mysql_named_params.specs.Places.{place_count};
+ghost use Rattle.mysql_params.specs.Pieces.{pieces, woven};
+ghost use Rattle.mysql_params.specs.Replaced.{AreLiterals, AreTokensOf, replaced};
 
-use crate::named_params::{MixedParamsError, NamedParamsError, ParsedNamedParams};
 use crate::run_error::RunError;
+pub use mysql_named_params::laws::{
+    locality, mixed_error_equality, named_params_error_equality, one_token_list, parsed_equality,
+    positions_of_places, renaming_undone,
+};
 pub use mysql_params_core::laws::{
     beginnings_are_found, into_positional_error_equality, lookups_agree,
     missing_named_parameter_error_equality, params_confusion_error_equality, params_equality,
     params_error_equality, to_params_error_equality,
 };
 
-/// No query has two token lists in one mode.
-pub fn one_token_list()
-    ensures unique { (mode : Bool) (query : List ℕ) (ts us : List Token) →
-        IsTokens mode query ts → IsTokens mode query us → ts ≡ us }
+/// Whatever texts of the shape of literals stand in the places of a query, the tokens are the query's
+/// with those of each text in the stead of its place, and no place is left among them.
+pub fn isolation()
+    ensures tokens { (mode : Bool) (query text : List ℕ) (ts : List Token)
+        (literals : List (List ℕ)) (lists : List (List Token)) →
+        IsTokens mode query ts → AreLiterals mode literals → AreTokensOf mode literals lists →
+        woven (pieces ts) literals ≡ Some text → IsTokens mode text (replaced ts lists) }
+    ensures no_place { (mode : Bool) (text : List ℕ) (ts : List Token)
+        (literals : List (List ℕ)) (lists : List (List Token)) →
+        AreLiterals mode literals → AreTokensOf mode literals lists →
+        woven (pieces ts) literals ≡ Some text → place_count (replaced ts lists) ≡ 0 }
 {}
-
-/// The positions are those of the names and marks: as many, one behind another, and at each the
-/// bytes of the tokens before a name or a mark end.
-pub fn positions_of_places()
-    ensures count { (ts : List Token) → length (positions ts) ≡ length (names ts) + marks ts }
-    ensures ascending { (ts : List Token) → AscendFrom 0 (positions ts) }
-    ensures places { (ts : List Token) → HavePlacesAt ts (positions ts) }
-{}
-
-/// Putting the names back in place of the marks undoes the renaming of a query without marks.
-pub fn renaming_undone()
-    ensures undone { (ts : List Token) → marks ts ≡ 0 → restored (renamed ts) (names ts) ≡ ts }
-{}
-
-/// Errors of reading names are equal where they are the same error.
-pub fn mixed_error_equality(a: &MixedParamsError, b: &MixedParamsError) -> bool
-    ensures same { IsTrue result ↔ (a.now ≡ b.now) }
-{
-    a == b
-}
-
-/// Errors of reading names are equal where variant and field are.
-pub fn named_params_error_equality(a: &NamedParamsError, b: &NamedParamsError) -> bool
-    ensures same { IsTrue result ↔ (a.now ≡ b.now) }
-{
-    a == b
-}
-
-/// Parsed queries are equal where the query with marks and the names are.
-pub fn parsed_equality(a: &ParsedNamedParams<'_>, b: &ParsedNamedParams<'_>) -> bool
-    ensures same { IsTrue result ↔ (a.now ≡ b.now) }
-{
-    a == b
-}
 
 /// Errors of a run are equal where variant and field are.
 pub fn run_error_equality(a: &RunError, b: &RunError) -> bool

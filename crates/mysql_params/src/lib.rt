@@ -4,13 +4,13 @@
 //! identifiers and comments; [`run`] is the program over them, for any reader and writer.
 #![tactic(auto)]
 
+mod binding;
 pub mod laws;
 pub mod named_params;
 pub mod params;
 mod program;
 mod readers_and_writers;
 mod run_error;
-mod tokens;
 
 pub use program::run;
 pub use run_error::RunError;

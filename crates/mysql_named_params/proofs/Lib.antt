@@ -1,0 +1,12 @@
+pub mod TokenEnds
+pub mod TokenEndLemmas
+pub mod TokenListLemmas
+pub mod FirstTokenLemmas
+pub mod CountLemmas
+pub mod RenameLemmas
+pub mod PositionLemmas
+pub mod ParsedLemmas
+pub mod PlainLemmas
+pub mod AheadLemmas
+pub mod LocalityLemmas
+pub mod ReparsedLemmas

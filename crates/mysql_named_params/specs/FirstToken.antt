@@ -1,0 +1,37 @@
+-- The token at the front of a text, as the private function `first_token` finds it.
+use Rattle.std.specs.Prelude.{◌≡◌, ℕ, IsTrue, IsFalse, List, [], ◌∷◌, ◌++◌, length, drop, Bool, false, not, ◌&&◌, ◌==◌}
+use Rattle.std.specs.List.{list_all}
+use Rattle.mysql_named_params.specs.Bytes.{asterisk, dash, newline, is_white_space, is_name_byte, is_extension, begins}
+use Rattle.mysql_named_params.specs.Tokens.{Token, bytes_of, IsToken, Name, Mark}
+use Rattle.mysql_named_params.specs.declared.tokens.TokenKind.{TokenKind}
+use Rattle.mysql_named_params.specs.declared.tokens.TokenKind.TheVariants as kind
+
+-- what a query's readers want to know of a token: a name, a mark, or neither
+abbrev pub kind_of : Token → TokenKind
+kind_of (Name name) = kind.Name
+kind_of Mark = kind.Mark
+kind_of t = kind.Other
+
+-- a `-` and then this text open a comment
+abbrev pub opens_dash_comment : List ℕ → Bool
+opens_dash_comment [] = false
+opens_dash_comment (b ∷ []) = false
+opens_dash_comment (b ∷ gap ∷ bs) = b == dash && (is_white_space gap && not (gap == newline))
+
+-- a `/` and then this text open a comment
+abbrev pub opens_block_comment : List ℕ → Bool
+opens_block_comment [] = false
+opens_block_comment (b ∷ bs) = b == asterisk && not (begins is_extension bs)
+
+-- name bytes, before a rest that begins with none
+pub record IsNameFront (front rest : List ℕ) : Type 0 where
+  pub each : IsTrue (list_all is_name_byte front)
+  pub ends : IsFalse (begins is_name_byte rest)
+
+-- the first bytes of the text, so many, are a token of this kind before what follows them
+pub record IsFirstToken (mode : Bool) (text : List ℕ) (kind : TokenKind) (len : ℕ) : Type 0 where
+  pub token : Token
+  pub bytes : bytes_of token ++ drop len text ≡ text
+  pub len_is : length (bytes_of token) ≡ len
+  pub kind_is : kind_of token ≡ kind
+  pub holds : IsToken mode token (drop len text)

@@ -1,0 +1,20 @@
+-- What contracts see of a parsed query: its two texts.
+use Rattle.std.specs.Prelude.{ℕ, List, Bool, ◌&&◌, nat_eq}
+use Rattle.std.specs.Cmp.Lexicographic.{pointwise}
+use Rattle.mysql_named_params.specs.Tokens.{Token, text_of}
+use Rattle.mysql_named_params.specs.Places.{names, renamed}
+
+pub record Parsed : Type 0 where
+  -- the query with a mark in place of each name
+  pub query : List ℕ
+  -- the names without their colons, in order, with repeats
+  pub params : List (List ℕ)
+
+-- the parsed query of these tokens
+abbrev pub parsed : List Token → Parsed
+parsed ts = record { query = text_of (renamed ts); params = names ts }
+
+-- the two are equal, as a test
+abbrev pub same_parsed : Parsed → Parsed → Bool
+same_parsed p q =
+    pointwise nat_eq p.query q.query && pointwise (pointwise nat_eq) p.params q.params

@@ -1,0 +1,9 @@
+//! The tokens of MySQL queries, and their named and positional parameters.
+//!
+//! A query is bytes. [`named_params`] finds the names and marks outside its strings, quoted
+//! identifiers and comments. The crate above hands all of this on.
+#![tactic(auto)]
+
+pub mod laws;
+pub mod named_params;
+pub mod tokens;

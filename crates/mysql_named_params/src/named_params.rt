@@ -1,0 +1,180 @@
+//! Queries with named parameters.
+ghost use Rattle.std.specs.Prelude.{◌≡◌, ◌≢◌, ◌<◌, ◌↔◌, [], length, map, All, IfOk, IsErrOf, IsTrue, OnErr, alloc_error};
+ghost use Rattle.std.specs.Cow.{cow_slice_items, IsBorrowedSlice};
+ghost use Rattle.std.specs.Cmp.{partial_equiv_from_equiv};
+ghost use Rattle.mysql_values.specs.StringUnits.{with_backslashes};
+ghost use Rattle.mysql_named_params.specs.Tokens.{OnTokens, text_of};
+ghost use Rattle.mysql_named_params.specs.Places.{names, marks, restored, HasName, HasMark};
+ghost use Rattle.mysql_named_params.specs.Parsed.{parsed, same_parsed};
+ghost use Rattle.mysql_named_params.specs.SameParsed.{same_parsed_is_equivalence};
+ghost use Rattle.mysql_named_params.specs.NamedParamsErrors.{mixed};
+
+use crate::tokens::{TokenKind, count_places, first_token};
+use std::alloc::{AllocError, Global};
+use std::borrow::CowSlice;
+use std::marker::Model;
+use thiserror::Error;
+
+/// A query has both named and positional parameters.
+#[derive(Debug, Clone, Copy, PartialEq, Eq, Error)]
+#[error("Named and positional params in one query")]
+pub struct MixedParamsError;
+
+/// Why the names of a query can't be had.
+#[derive(Debug, PartialEq, Drop, Error)]
+pub enum NamedParamsError {
+    /// The query has both named and positional parameters.
+    #[error(transparent)]
+    Mixed(MixedParamsError),
+    /// Memory was refused, for a query with names and no marks.
+    #[error("out of memory")]
+    Memory(AllocError),
+}
+
+/// A query with `?` in place of each named parameter, and the names.
+///
+/// The names are slices of the query that was parsed; a query without names is that very slice.
+#[derive(Debug, Drop)]
+pub struct ParsedNamedParams<'a> {
+    query: CowSlice<'a, u8>,
+    params: Vec<CowSlice<'a, u8>>,
+}
+
+impl<'a> Model for ParsedNamedParams<'a> {
+    ghost use Rattle.std.specs.Prelude.{◌≡◌, [], map, All};
+    ghost use Rattle.std.specs.Cow.{cow_slice_items, IsBorrowedSlice};
+    ghost use Rattle.mysql_named_params.specs.Parsed.{Parsed};
+
+    ghost Value = { Parsed };
+
+    ghost view = { λ p. record {
+      query = cow_slice_items p.query;
+      params = map cow_slice_items p.params.items;
+    } };
+
+    // The names are borrowed, and without names so is the query.
+    ghost invariant = { λ p. All IsBorrowedSlice p.params.items
+        × (p.params.items ≡ [] → IsBorrowedSlice p.query) };
+}
+
+/// The query with `?` in place of each name, and the names.
+fn rename<'a>(
+    alloc: Global,
+    query: &'a [u8],
+    no_backslash_escape: bool,
+) -> Result<ParsedNamedParams<'a>, AllocError>
+    requires { OnTokens no_backslash_escape query.now HasName }
+    ensures { IfOk result (λ p. OnTokens no_backslash_escape query.now (λ ts. p ≡ parsed ts)) }
+{
+    let mut renamed = Vec::new(alloc);
+    let mut params = Vec::new(alloc);
+    let mut rest = query;
+    while !rest.is_empty() {
+        let (kind, len) = first_token(rest, no_backslash_escape);
+        let (token, after) = rest.split_at(len);
+        match kind {
+            TokenKind::Name => {
+                renamed.push(b'?')?;
+                params.push(CowSlice::Borrowed(&token[1..]))?;
+            }
+            TokenKind::Mark | TokenKind::Other => renamed.extend_from_slice(token)?,
+        }
+        rest = after;
+    }
+    Ok(ParsedNamedParams {
+        query: CowSlice::Owned(renamed),
+        params,
+    })
+}
+
+impl<'a> ParsedNamedParams<'a> {
+    /// Finds the names outside strings, quoted identifiers and comments, in the mode in which a
+    /// backslash escapes. A name is `:`, one of `a` to `z` and `_`, and then as many of these and
+    /// `0` to `9` as follow. A query that has a name and a `?` there is refused as `Mixed`.
+    // A query has one token list (`laws::one_token_list`), so the clauses speak of the same `ts`.
+    pub fn parse(alloc: Global, query: &'a [u8]) -> Result<ParsedNamedParams<'a>, NamedParamsError>
+        ensures ok { OnTokens with_backslashes query.now (λ ts. IfOk result (λ p. p ≡ parsed ts)) }
+        ensures mixed { OnTokens with_backslashes query.now (λ ts.
+            IsErrOf result (NamedParamsError.Mixed mixed) ↔ (HasName ts × HasMark ts)) }
+
+        // Want of memory is answered for names without marks alone.
+        ensures memory { OnTokens with_backslashes query.now (λ ts.
+            IsErrOf result (NamedParamsError.Memory alloc_error) → HasName ts × (marks ts ≡ 0)) }
+
+        // The query with marks has no names, and where names were found it has as many marks, and
+        // putting the names back in their place gives the query that was parsed.
+        ensures nameless { IfOk result (λ p. OnTokens with_backslashes p.query (λ us.
+            names us ≡ [])) }
+        ensures marked { IfOk result (λ p. OnTokens with_backslashes p.query (λ us.
+            p.params ≢ [] → marks us ≡ length p.params)) }
+        ensures restored { IfOk result (λ p. OnTokens with_backslashes p.query (λ us.
+            p.params ≢ [] → text_of (restored us p.params) ≡ query.now)) }
+    {
+        let counts = count_places(query, false);
+        if counts.names == 0 {
+            return Ok(ParsedNamedParams {
+                query: CowSlice::Borrowed(query),
+                params: Vec::new(alloc),
+            });
+        }
+        if counts.marks > 0 {
+            return Err(NamedParamsError::Mixed(MixedParamsError));
+        }
+        match rename(alloc, query, false) {
+            Ok(parsed) => Ok(parsed),
+            Err(error) => Err(NamedParamsError::Memory(error)),
+        }
+    }
+
+    /// The query with `?` in place of each name, and all else as it was.
+    pub fn query(&self) -> &[u8]
+        ensures query { result.now ≡ self.now.query }
+    {
+        self.query.as_slice()
+    }
+
+    /// The names without the colon, in the order of the query, with repeats.
+    pub fn params(&self) -> &[CowSlice<'a, u8>]
+        ensures names { map cow_slice_items result.now ≡ self.now.params }
+        ensures borrowed { All IsBorrowedSlice result.now }
+    {
+        self.params.as_slice()
+    }
+
+    /// A copy over the same query. The names are borrowed as before.
+    pub fn clone(&self) -> Result<ParsedNamedParams<'a>, AllocError>
+        ensures equal { IfOk result (λ copy. copy ≡ self.now) }
+        ensures memory { OnErr result (self.now.params ≢ []) }
+    {
+        let alloc = *self.params.allocator();
+        let mut params = Vec::new(alloc);
+        for param in &self.params {
+            match param {
+                CowSlice::Borrowed(name) => params.push(CowSlice::Borrowed(*name))?,
+                CowSlice::Owned(_) => unreachable!(),
+            }
+        }
+        let query = match &self.query {
+            CowSlice::Borrowed(query) => CowSlice::Borrowed(*query),
+            CowSlice::Owned(query) => CowSlice::Owned(query.clone()?),
+        };
+        Ok(ParsedNamedParams { query, params })
+    }
+}
+
+impl<'a> PartialEq for ParsedNamedParams<'a> {
+    ghost eq = { same_parsed };
+
+    ghost laws = { partial_equiv_from_equiv same_parsed_is_equivalence };
+
+    fn eq(&self, other: &Self) -> bool
+        ensures test { result ≡ same_parsed self.now other.now }
+        ensures equal { IsTrue result ↔ (self.now ≡ other.now) }
+    {
+        self.query == other.query && self.params == other.params
+    }
+}
+
+impl<'a> Eq for ParsedNamedParams<'a> {
+    ghost laws = { same_parsed_is_equivalence };
+}

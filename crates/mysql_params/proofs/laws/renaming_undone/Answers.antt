@@ -1,5 +1,0 @@
-use Rattle.mysql_params.proofs.RenameLemmas.{restored_renamed}
-use Rattle.mysql_params.proofs.laws.renaming_undone.Goals as goal
-
-pub returns : goal.returns
-returns c = record { undone = restored_renamed }

@@ -1,0 +1,21 @@
+-- What a text says in the places of a query: the contents of the literals between its pieces, read by
+-- the reader of literals alone.
+use Rattle.std.specs.Prelude.{ℕ, Bool, List, [], ◌∷◌, Option, Some, None, option_map, option_and_then}
+use Rattle.mysql_values.specs.ReadLiteral.{Content, after, read_literal}
+
+-- the contents of literals, each with a piece of the query behind it, which are the whole text
+abbrev pub contents_before : Bool → List (List ℕ) → List ℕ → Option (List Content)
+contents_before mode [] [] = Some []
+contents_before mode [] (b ∷ text) = None
+contents_before mode (piece ∷ pieces) text =
+    option_and_then (λ r. option_and_then (λ rest.
+    option_map (λ contents. r.0 ∷ contents) (contents_before mode pieces rest))
+    (after piece r.1))
+    (read_literal mode text)
+
+-- The contents of the literals between these pieces of a query: none where the text is not the first
+-- piece, a literal, the second piece, and so on to the last piece.
+abbrev pub contents : Bool → List (List ℕ) → List ℕ → Option (List Content)
+contents mode [] text = None
+contents mode (piece ∷ pieces) text =
+    option_and_then (contents_before mode pieces) (after piece text)

@@ -1,6 +1,0 @@
--- The errors of `ParsedNamedParams::parse`.
-use Rattle.mysql_params.specs.declared.named_params.MixedParamsError.{MixedParamsError}
-
--- the one value of its type
-abbrev pub mixed : MixedParamsError
-mixed = record {}

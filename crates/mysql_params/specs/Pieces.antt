@@ -1,0 +1,27 @@
+-- What is left of a query between its places, and the text with literals in their stead.
+use Rattle.std.specs.Prelude.{◌++◌, ℕ, List, [], ◌∷◌, Option, Some, None, option_map}
+use Rattle.mysql_named_params.specs.Tokens.{Token, bytes_of, Name, Mark}
+
+-- the pieces between the places of these tokens, where the first piece begins with this text
+abbrev pub pieces_from : List ℕ → List Token → List (List ℕ)
+pieces_from piece [] = piece ∷ []
+pieces_from piece (Name name ∷ ts) = piece ∷ pieces_from [] ts
+pieces_from piece (Mark ∷ ts) = piece ∷ pieces_from [] ts
+pieces_from piece (t ∷ ts) = pieces_from (piece ++ bytes_of t) ts
+
+-- what is left of a query between its places: one text more than places
+abbrev pub pieces : List Token → List (List ℕ)
+pieces = pieces_from []
+
+-- the piece, where no other follows it
+abbrev pub last_piece : List ℕ → List (List ℕ) → Option (List ℕ)
+last_piece piece [] = Some piece
+last_piece piece (next ∷ pieces) = None
+
+-- the first piece, the first literal, the second piece, and so on to the last piece; there has to be
+-- one literal between each piece and the next
+abbrev pub woven : List (List ℕ) → List (List ℕ) → Option (List ℕ)
+woven [] literals = None
+woven (piece ∷ pieces) [] = last_piece piece pieces
+woven (piece ∷ pieces) (literal ∷ literals) =
+    option_map (λ text. piece ++ (literal ++ text)) (woven pieces literals)
