@@ -7,6 +7,7 @@ use mysql_values::value::Value;
 use std::test::Fail;
 
 // The numbers of the names, or the name that is missing, by `into_values` and `into_positional`.
+#[derive(Drop)]
 struct Row {
     given: &'static [u8],
     names: &'static [u8],

@@ -9,6 +9,7 @@ use std::process::Abort;
 use std::test::Fail;
 
 // A type of the test's own, which counts how often it is asked for its value.
+#[derive(Drop)]
 struct Counted<'a> {
     calls: &'a Cell<u32>,
 }
@@ -135,8 +136,7 @@ fn objects(rt: HostRuntime) -> Result<(), Fail> {
     let alloc = rt.alloc();
     let calls = Cell::new(0);
     let own = Counted { calls: &calls };
-    let text = bytes(alloc, b"x")?;
-    let objects: [&dyn ToValue; 4] = [&1u8, &text, &None::<i64>, &own];
+    let objects: [&dyn ToValue; 4] = [&1u8, &"x", &None::<i64>, &own];
     let params = made(alloc, &objects.as_slice())?;
     let wanted = Vec::from_array(
         alloc,
@@ -158,8 +158,7 @@ fn pairs(rt: HostRuntime) -> Result<(), Fail> {
     let error = ToParamsError::Redefined(Vec::from_slice(alloc, b"a")?);
     assert_eq!(rt; Params::from_pairs(alloc, &pairs).err(), Some(error));
 
-    let text = bytes(alloc, b"x")?;
-    let pairs: [(&[u8], &dyn ToValue); 2] = [(b"a", &1u8), (b"b", &text)];
+    let pairs: [(&[u8], &dyn ToValue); 2] = [(b"a", &1u8), (b"b", &"x")];
     let values = [("a", Value::UInt(1)), ("b", bytes(alloc, b"x")?)];
     assert_eq!(rt;
         Params::from_objects(alloc, &pairs)?,
