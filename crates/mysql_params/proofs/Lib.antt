@@ -10,3 +10,4 @@ pub mod ContentsLemmas
 pub mod PutLemmas
 pub mod StandsAloneLemmas
 pub mod ValueLiteralLemmas
+pub mod WordLemmas

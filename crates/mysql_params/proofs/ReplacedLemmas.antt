@@ -44,7 +44,6 @@ list_text : (mode : Bool) (literal : List ℕ) (list ts : List Token) (rest : Li
 list_text mode literal list ts rest h e = rw (text_then-append list ts [], text_then-text list (text_of ts), e, h.text)
 
 pub replaced_text : (mode : Bool) (ts : List Token) (literals : List (List ℕ)) (lists : List (List Token)) →
-    
     AreTokensOf mode literals lists → length literals ≡ place_count ts →
     text_of (replaced ts lists) ≡ bound ts literals
 replaced_text mode [] literals lists a l = refl
@@ -57,14 +56,12 @@ replaced_text mode (Mark ∷ ts) (literal ∷ literals) (list ∷ lists) a l = l
 replaced_text mode (t ∷ ts) literals lists a l = ap (λ u. bytes_of t ++ u) (replaced_text mode ts literals lists a l)
 
 replaced_ahead : (mode : Bool) (ts : List Token) (literals : List (List ℕ)) (lists : List (List Token)) →
-    
     AreLiterals mode literals → AreTokensOf mode literals lists → length literals ≡ place_count ts →
     Ahead (text_of ts) (text_of (replaced ts lists))
 replaced_ahead mode ts literals lists s a l = subst (λ u. Ahead (text_of ts) u) (sym (replaced_text mode ts literals lists a l)) (bound_ahead mode ts literals s)
 
 -- isolation: the tokens of the bound text
 pub replaced_tokens : (mode : Bool) (ts : List Token) (literals : List (List ℕ)) (lists : List (List Token)) →
-    
     AreTokensBefore mode [] ts → AreLiterals mode literals → AreTokensOf mode literals lists →
     length literals ≡ place_count ts → AreTokensBefore mode [] (replaced ts lists)
 replaced_tokens mode [] literals lists h s a l = tt
@@ -84,7 +81,6 @@ list_places : (mode : Bool) (literal : List ℕ) (list ts : List Token) → IsLi
 list_places mode literal list ts i h e = rw (place_count-append list ts, (IsLiteral-tokens mode literal list i h).cut_places, e) refl
 
 pub replaced_places : (mode : Bool) (ts : List Token) (literals : List (List ℕ)) (lists : List (List Token)) →
-    
     AreLiterals mode literals → AreTokensOf mode literals lists → length literals ≡ place_count ts →
     place_count (replaced ts lists) ≡ 0
 replaced_places mode [] literals lists s a l = refl
@@ -98,7 +94,6 @@ replaced_places mode (t ∷ ts) literals lists s a l = replaced_places mode ts l
 
 -- the same of the woven text
 pub isolated : (mode : Bool) (query text : List ℕ) (ts : List Token) (literals : List (List ℕ)) (lists : List (List Token)) →
-    
     IsTokens mode query ts → AreLiterals mode literals → AreTokensOf mode literals lists →
     woven (pieces ts) literals ≡ Some text → IsTokens mode text (replaced ts lists)
 isolated mode query text ts literals lists is s a e =
@@ -109,7 +104,6 @@ isolated mode query text ts literals lists is s a e =
     }
 
 pub isolated_places : (mode : Bool) (text : List ℕ) (ts : List Token) (literals : List (List ℕ)) (lists : List (List Token)) →
-    
     AreLiterals mode literals → AreTokensOf mode literals lists → woven (pieces ts) literals ≡ Some text →
     place_count (replaced ts lists) ≡ 0
 isolated_places mode text ts literals lists s a e =

@@ -11,6 +11,8 @@ pub use Rattle.mysql_named_params.specs.Locality
 pub use Rattle.mysql_named_params.specs.Parsed
 pub use Rattle.mysql_named_params.specs.SameParsed
 pub use Rattle.mysql_named_params.specs.NamedParamsErrors
+pub mod Words
+pub mod WordErrors
 pub mod Program
 pub mod RunErrors
 pub mod ReadersAndWriters

@@ -11,6 +11,7 @@ pub mod params;
 mod program;
 mod readers_and_writers;
 mod run_error;
+mod words;
 
 pub use program::run;
 pub use run_error::RunError;
