@@ -11,3 +11,6 @@ pub mod PutLemmas
 pub mod StandsAloneLemmas
 pub mod ValueLiteralLemmas
 pub mod WordLemmas
+pub mod RenamedPlaceLemmas
+pub mod CauseLemmas
+pub mod BoundTextLemmas

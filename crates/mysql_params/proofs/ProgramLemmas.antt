@@ -3,13 +3,13 @@ use Rattle.std.proofs.Common.{◌≡◌, ◌∷◌, ℕ, nat_lt, List, length, O
 use Rattle.std.specs.Prelude.{Bool, false}
 use Rattle.std.proofs.lemmas.Bool.{cases_Bool, and_parts, ltb-true}
 use Rattle.mysql_params.specs.Tokens.{Token, IsTokens, text_of}
-use Rattle.mysql_params.specs.Places.{names, marks, renamed, HasName, HasMark}
+use Rattle.mysql_params.specs.Places.{names, marks, renamed, has_both, HasName, HasMark}
 use Rattle.mysql_params.specs.Parsed.{Parsed, parsed}
-use Rattle.mysql_params.specs.Program.{names_of_query, has_both, lines_of, output_of}
+use Rattle.mysql_params.specs.Program.{names_of_query, lines_of, output_of}
 use Rattle.mysql_named_params.proofs.TokenListLemmas.{one_token_list}
 
 -- tokens that have not both kinds of places are found not to
-has_both-not : (ts : List Token) → (HasName ts × HasMark ts → ⊥) → has_both ts ≡ false
+pub has_both-not : (ts : List Token) → (HasName ts × HasMark ts → ⊥) → has_both ts ≡ false
 has_both-not ts not_both =
     elim (cases_Bool (has_both ts)) [
       | inl h ↦

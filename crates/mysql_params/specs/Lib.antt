@@ -22,3 +22,5 @@ pub mod Contents
 pub mod Replaced
 pub mod FirstCause
 pub mod ValueLiterals
+pub mod BindErrors
+pub mod Isolation

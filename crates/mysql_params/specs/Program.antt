@@ -1,11 +1,11 @@
 -- What the program answers to its words and its input, over definitions of the query alone.
-use Rattle.std.specs.Prelude.{◌≡◌, ◌&&◌, ℕ, nat_lt, Bool, List, [], ◌∷◌, ◌++◌, length, map, if◌then◌else◌, Result, Ok, Err, codes, String, string_bytes}
+use Rattle.std.specs.Prelude.{◌≡◌, ℕ, List, [], ◌∷◌, ◌++◌, map, if◌then◌else◌, Result, Ok, Err, codes, String, string_bytes}
 use Rattle.std.specs.Global.{Global}
 use Rattle.std.specs.Str.{bytes_eq}
 use Rattle.mysql_values.specs.StringUnits.{with_backslashes}
 use Rattle.mysql_params.specs.Bytes.{newline}
 use Rattle.mysql_params.specs.Tokens.{Token, OnTokens, text_of}
-use Rattle.mysql_params.specs.Places.{names, marks, renamed}
+use Rattle.mysql_params.specs.Places.{names, renamed, has_both}
 
 -- why the program refuses its words or its input
 pub data Refusal : Type 0 where
@@ -27,10 +27,6 @@ abbrev pub command_of : List (List ℕ) → Result Command Refusal
 command_of [] = Err usage
 command_of (word ∷ []) = if bytes_eq word (codes "names") then Ok names_of_query else Err usage
 command_of (word ∷ next ∷ words) = Err usage
-
--- there is a name and a mark, as a test
-abbrev pub has_both : List Token → Bool
-has_both ts = nat_lt 0 (length (names ts)) && nat_lt 0 (marks ts)
 
 -- each text and a newline
 abbrev pub lines_of : List (List ℕ) → List ℕ

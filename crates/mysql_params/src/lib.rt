@@ -4,6 +4,7 @@
 //! identifiers and comments; [`run`] is the program over them, for any reader and writer.
 #![tactic(auto)]
 
+mod bind_error;
 mod binding;
 pub mod laws;
 pub mod named_params;
@@ -13,5 +14,7 @@ mod readers_and_writers;
 mod run_error;
 mod words;
 
+pub use bind_error::BindError;
+pub use binding::bind_text;
 pub use program::run;
 pub use run_error::RunError;
