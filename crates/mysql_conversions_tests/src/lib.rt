@@ -2,7 +2,11 @@
 #![tactic(auto)]
 
 #[cfg(test)]
+mod byte_values;
+#[cfg(test)]
 mod conversions;
+#[cfg(test)]
+mod durations;
 pub mod own_type;
 #[cfg(test)]
 mod shared;

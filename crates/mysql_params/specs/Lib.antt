@@ -1,3 +1,9 @@
+pub use Rattle.mysql_params_core.specs.Given
+pub use Rattle.mysql_params_core.specs.Answer
+pub use Rattle.mysql_params_core.specs.Names
+pub use Rattle.mysql_params_core.specs.Lookup
+pub use Rattle.mysql_params_core.specs.Made
+pub use Rattle.mysql_params_core.specs.Errors
 pub use Rattle.mysql_named_params.specs.Bytes
 pub use Rattle.mysql_named_params.specs.Tokens
 pub use Rattle.mysql_named_params.specs.Places
@@ -5,12 +11,8 @@ pub use Rattle.mysql_named_params.specs.Locality
 pub use Rattle.mysql_named_params.specs.Parsed
 pub use Rattle.mysql_named_params.specs.SameParsed
 pub use Rattle.mysql_named_params.specs.NamedParamsErrors
-pub use Rattle.mysql_params_core.specs.Given
-pub use Rattle.mysql_params_core.specs.Answer
-pub use Rattle.mysql_params_core.specs.Names
-pub use Rattle.mysql_params_core.specs.Lookup
-pub use Rattle.mysql_params_core.specs.Made
-pub use Rattle.mysql_params_core.specs.Errors
+pub mod Words
+pub mod WordErrors
 pub mod Program
 pub mod RunErrors
 pub mod ReadersAndWriters

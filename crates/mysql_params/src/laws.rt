@@ -1,4 +1,4 @@
-//! Laws of the definitions that the contracts cite, and of equality, of this crate and of the one
+//! Laws of the definitions that the contracts cite, and of equality, of this crate and of those
 //! below. No program needs to call them.
 ghost use Rattle.std.specs.Prelude.{◌≡◌, ◌↔◌, ℕ, Bool, List, Some, IsTrue, map, slice_get};
 ghost use Rattle.mysql_values.specs.Content.{content_of};
@@ -16,6 +16,11 @@ use crate::run_error::RunError;
 pub use mysql_named_params::laws::{
     locality, mixed_error_equality, named_params_error_equality, one_token_list, parsed_equality,
     positions_of_places, renaming_undone,
+};
+pub use mysql_params_core::laws::{
+    beginnings_are_found, into_positional_error_equality, lookups_agree,
+    missing_named_parameter_error_equality, params_confusion_error_equality, params_equality,
+    params_error_equality, to_params_error_equality,
 };
 
 /// Whatever texts of the shape of literals stand in the places of a query, the tokens are the query's

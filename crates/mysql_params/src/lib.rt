@@ -13,6 +13,7 @@ pub mod params;
 mod program;
 mod readers_and_writers;
 mod run_error;
+mod words;
 
 pub use bind_error::BindError;
 pub use binding::bind_text;

@@ -1,5 +1,7 @@
-//! Parameters of queries: all of `mysql_params_core`, handed on by name.
+//! Parameters of queries, what makes them, and the values that they give: all of
+//! `mysql_params_core::params`, handed on by name.
+
 pub use mysql_params_core::params::{
     IntoPositionalError, MissingNamedParameterError, Params, ParamsConfusionError, ParamsError,
-    ToParamsError,
+    ToName, ToParams, ToParamsError,
 };

@@ -1,10 +1,11 @@
 -- What a call answers that may want memory.
-use Rattle.std.specs.Prelude.{◌≡◌, Option, Result, Ok, Err, IfSome}
+use Rattle.std.specs.Prelude.{◌≡◌, ◌⊎◌, Option, None, Some, Result, Ok, Err, MatchResult}
 
--- The answer is, by what contracts see of it, this result; or its error is no refusal, so it is want of
--- memory.
+-- The answer is, by what contracts see of it, this result, where the error is the refusal of the result;
+-- or the error is no refusal, so it is want of memory.
 abbrev pub IsAnswer : {A Seen E Refusal : Type 0} → (A → Seen) → (E → Option Refusal)
     → Result Seen Refusal → Result A E → Type 0
-IsAnswer seen refusal_of expected (Ok answer) = expected ≡ Ok (seen answer)
-IsAnswer seen refusal_of expected (Err error) =
-    IfSome (refusal_of error) (λ refusal. expected ≡ Err refusal)
+IsAnswer {Refusal = Refusal} seen refusal_of expected result =
+    MatchResult result (λ answer. expected ≡ Ok (seen answer))
+    (λ error. (refusal_of error ≡ None)
+    ⊎ ((refusal : Refusal) × (expected ≡ Err refusal) × (refusal_of error ≡ Some refusal)))

@@ -4,14 +4,20 @@ ghost use Rattle.mysql_params_core.specs.Given.{given, empty};
 
 mod errors;
 mod lookup;
+mod pairs;
+mod shown;
+mod to_params;
+mod tuples;
 
 pub use errors::{
     IntoPositionalError, MissingNamedParameterError, ParamsConfusionError, ParamsError,
     ToParamsError,
 };
 use mysql_values::value::Value;
+pub use pairs::ToName;
 use std::alloc::AllocError;
 use std::collections::HashMap;
+pub use to_params::ToParams;
 
 /// The parameters of a query: none, values by name, or values by position.
 ///

@@ -9,7 +9,7 @@ use Rattle.std.proofs.lemmas.Bool.{cond_both, and_parts, and_from}
 use Rattle.std.proofs.lemmas.Bool.Decides.{nat_tests}
 use Rattle.std.proofs.lemmas.List.Folds.{list_all-append}
 use Rattle.std.proofs.lemmas.Str.Ascii.{IsAscii-cons, IsAscii-nil}
-use Rattle.mysql_value_core.specs.Literal.{escaped_byte, escaped, padded, fraction, after_hours, day_text, is_midnight, date_text, time_text}
+use Rattle.mysql_literal_text.specs.LiteralText.{escaped_byte, escaped, padded, fraction, after_hours, day_text, is_midnight, date_text, time_text}
 use Rattle.mysql_value_core.specs.ReadLiteral.{is_digit}
 use Rattle.mysql_value_core.proofs.DigitLemmas.{all_digits-decimal}
 

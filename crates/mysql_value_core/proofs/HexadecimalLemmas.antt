@@ -4,15 +4,11 @@ use Rattle.std.specs.Str.{IsAscii}
 use Rattle.std.proofs.lemmas.Bool.{eqb-true, cond-false, cond-true, and_from, agree_below_at}
 use Rattle.std.proofs.lemmas.Bool.Decides.{nat_tests}
 use Rattle.std.proofs.lemmas.Str.Ascii.{IsAscii-cons, IsAscii-nil}
-use Rattle.mysql_value_core.specs.Literal.{hexadecimal_digit, hexadecimal}
+use Rattle.mysql_literal_text.specs.LiteralText.{hexadecimal_digit, hexadecimal}
 use Rattle.mysql_value_core.specs.ReadLiteral.{byte_string, is_hexadecimal_digit, hexadecimal_digit_value, read_pairs, if_any, or_else, read_negative, read_positive, read_string}
 use Rattle.mysql_value_core.specs.ReadBack.{continues_literal, BeginsWithout, ReadsBefore}
 use Rattle.mysql_value_core.specs.LiteralShape.{AreHexadecimalPairs}
 use Rattle.mysql_value_core.proofs.ReadNumberLemmas.{begins_narrower}
-
-pub length-hexadecimal : (bytes : List ℕ) → length (hexadecimal bytes) ≡ 2 * length bytes
-length-hexadecimal [] = refl
-length-hexadecimal (b ∷ bytes) = omega (arith, length-hexadecimal bytes)
 
 is_hexadecimal_digit-hexadecimal_digit : (n : ℕ) → n < 16 → is_hexadecimal_digit (hexadecimal_digit n) ≡ true
 is_hexadecimal_digit-hexadecimal_digit n h = agree_below_at (λ k. is_hexadecimal_digit (hexadecimal_digit k)) (λ _. true) 16 n refl h

@@ -4,7 +4,6 @@ pub mod DigitLemmas
 pub mod ReadNumberLemmas
 pub mod HexadecimalLemmas
 pub mod ClockLemmas
-pub mod PaddedLemmas
 pub mod EscapedLemmas
 pub mod QuotedLemmas
 pub mod LiteralLemmas

@@ -1,13 +1,12 @@
--- What holds of the literal of every value: it reads as the value's content, has the shape of literals,
--- and is UTF-8.
-use Rattle.std.proofs.Common.{◌≡◌, ℕ, Bool, true, false, List, [], ◌∷◌, ◌++◌, length, get_or, subst, sym, ◌∙◌, ap, arith, refl, ◌<◌, ◌^◌, ◌+◌, suc, rules}
+-- What holds of the literal of every value: it reads as the value's content, has the shape of
+-- literals, is UTF-8, and for many times is a time text between quotes.
+use Rattle.std.proofs.Common.{◌≡◌, ℕ, Bool, true, false, List, [], ◌∷◌, ◌++◌, length, get_or, subst, sym, ◌∙◌, ap, arith, refl, ◌<◌, ◌^◌, suc, rules}
 use Rattle.std.specs.Prelude.{IfSome, is_none, pos, negsuc, ℤ, codes}
 use Rattle.std.specs.List.{list_all}
 use Rattle.std.specs.Fmt.{decimal, signed_decimal}
 use Rattle.std.specs.Str.{IsUtf8, is_utf8}
-use Rattle.std.proofs.Common.{length-append}
 use Rattle.std.proofs.lemmas.Int.{ints}
-use Rattle.std.proofs.lemmas.Bool.{cond_both, cond-true, cond-false, both_ways, and_parts, false_from_ne_true}
+use Rattle.std.proofs.lemmas.Bool.{cond_both, cond-true, both_ways, and_parts}
 use Rattle.std.proofs.lemmas.Bool.Decides.{nat_tests}
 use Rattle.std.proofs.lemmas.Fmt.{IsAscii-decimal, IsAscii-signed, decimal_nonempty}
 use Rattle.std.proofs.lemmas.Str.{IsUtf8-nil, IsUtf8-from_ascii, IsUtf8-from_is_utf8, is_utf8-from_IsUtf8}
@@ -16,10 +15,15 @@ use lib.Signed.{mag}
 use Rattle.mysql_value_core.specs.declared.value.Value.{Value}
 use Rattle.mysql_value_core.specs.declared.value.Value.TheVariants.{NULL, Bytes, Int, UInt, Float, Double, Date, Time}
 use Rattle.mysql_value_core.specs.Value.{FieldsInRange}
-use Rattle.mysql_value_core.specs.Literal.{escaped, quoted, hexadecimal, bytes_literal, date_text, time_text, literal_of, is_float}
+use Rattle.mysql_literal_text.specs.LiteralText.{escaped, quoted, hexadecimal, bytes_literal, date_text, time_text}
+use Rattle.mysql_value_core.specs.Literal.{literal_of, is_float}
 use Rattle.mysql_value_core.specs.ReadLiteral.{byte_string, is_digit, read_literal}
 use Rattle.mysql_value_core.specs.Content.{content_of}
 use Rattle.mysql_value_core.specs.ReadBack.{is_quote, continues_literal, BeginsWithout, ReadsBefore, ReadsAs}
+use Rattle.mysql_value_core.specs.TimeLiteral.{WritesTimeText}
+use Rattle.mysql_literal_text.specs.TimeText.{total_microseconds}
+use Rattle.mysql_literal_text.proofs.TimeTextLemmas.{time_texts_are_read}
+use Rattle.mysql_literal_text.proofs.WrittenTimeLemmas.{times_read_back}
 use Rattle.mysql_value_core.specs.LiteralShape.{AreDigits, IsLiteral, null_literal, natural_literal, negative_literal, hexadecimal_literal, quoted_literal}
 use Rattle.mysql_value_core.proofs.DigitLemmas.{all_digits-decimal}
 use Rattle.mysql_value_core.proofs.ReadStringLemmas.{read_quoted}
@@ -164,12 +168,21 @@ is_none-content_of (Time n d h m s u) = refl
 
 -- the literal of bytes, by whether they are UTF-8
 
-pub bytes_literal-utf8 : (mode : Bool) (bytes : List ℕ) → IsUtf8 bytes → bytes_literal mode bytes ≡ quoted (escaped mode bytes)
-bytes_literal-utf8 mode bytes utf8 = cond-true (is_utf8 bytes) _ _ (is_utf8-from_IsUtf8 bytes utf8)
+-- times
 
-pub bytes_literal-other : (mode : Bool) (bytes : List ℕ) → (IsUtf8 bytes → ⊥) → bytes_literal mode bytes ≡ 48 ∷ 120 ∷ hexadecimal bytes
-bytes_literal-other mode bytes other =
-    cond-false (is_utf8 bytes) _ _ (false_from_ne_true (is_utf8 bytes) (λ utf8. other (IsUtf8-from_is_utf8 bytes utf8)))
-
-pub length-quoted : (text : List ℕ) → length (quoted text) ≡ 2 + length text
-length-quoted text = omega (arith, length-append text (39 ∷ []))
+pub literal_writes_time : (mode : Bool) (value : Value) → IfSome (literal_of mode value) (WritesTimeText value)
+literal_writes_time mode NULL = tt
+literal_writes_time mode (Bytes bytes) = tt
+literal_writes_time mode (Int n) = tt
+literal_writes_time mode (UInt n) = tt
+literal_writes_time mode (Float bits) = tt
+literal_writes_time mode (Double bits) = tt
+literal_writes_time mode (Date y m d h i s u) = tt
+literal_writes_time mode (Time true d h m s u) = tt
+literal_writes_time mode (Time false d h m s u) =
+    λ hours minutes seconds microseconds. (
+      time_text false d h m s u,
+      refl,
+      (time_texts_are_read (time_text false d h m s u) false (total_microseconds d h m s u)).0
+          (times_read_back d h m s u hours minutes seconds microseconds),
+    )

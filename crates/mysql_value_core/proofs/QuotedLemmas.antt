@@ -1,7 +1,7 @@
 -- Escaped bytes between quotes are a closed string, or without backslash escapes one or more of them.
 use Rattle.std.proofs.Common.{◌≡◌, ℕ, Bool, true, false, eqb, List, [], ◌∷◌, ◌++◌, refl, subst, append_assoc, inl, inr}
 use Rattle.std.proofs.lemmas.Bool.{cases_Bool, eqb-false, cond_both, false≢true}
-use Rattle.mysql_value_core.specs.Literal.{escaped_byte, escaped, quoted}
+use Rattle.mysql_literal_text.specs.LiteralText.{escaped_byte, escaped, quoted}
 use Rattle.mysql_value_core.specs.StringUnits.{AreUnits, no_units, byte_unit, escape_unit}
 use Rattle.mysql_value_core.specs.LiteralShape.{closed_string, AreClosedStrings, one_string, more_strings, IsQuoted}
 

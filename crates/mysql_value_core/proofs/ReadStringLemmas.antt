@@ -2,7 +2,7 @@
 use Rattle.std.proofs.Common.{◌≡◌, ℕ, Bool, true, false, eqb, List, [], ◌∷◌, ◌++◌, refl, sym, ◌∙◌, ap, append_assoc}
 use Rattle.std.specs.Prelude.{Some, option_map}
 use Rattle.std.proofs.lemmas.Bool.{cond_both, eqb-true, cond-false}
-use Rattle.mysql_value_core.specs.Literal.{escaped_byte, escaped, quoted}
+use Rattle.mysql_literal_text.specs.LiteralText.{escaped_byte, escaped, quoted}
 use Rattle.mysql_value_core.specs.ReadLiteral.{byte_string, begins_pair, prefix_read, read_units, read_literal}
 use Rattle.mysql_value_core.specs.ReadBack.{is_quote, BeginsWithout}
 

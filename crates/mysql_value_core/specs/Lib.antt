@@ -8,9 +8,11 @@ pub mod Content
 pub mod ReadBack
 pub mod AsSql
 pub mod LiteralShape
+pub mod TimeLiteral
 pub mod TextCell
 pub mod BinaryForm
 pub mod BinaryReading
 pub mod BinaryReadBack
 pub mod ValueOf
+pub mod DurationValue
 pub mod FromValue

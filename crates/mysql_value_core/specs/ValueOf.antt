@@ -1,5 +1,5 @@
 -- The values of the types of Rust.
-use Rattle.std.specs.Prelude.{◌≡◌, ℕ, ◌-◌, ◌^◌, ℤ, pos, negsuc, int_lt, int_le, unsigned_abs, nat_lt, ◌&&◌, Bool, true, false, if◌then◌else◌, Option, None, Some, Result, Ok, Err}
+use Rattle.std.specs.Prelude.{◌≡◌, ℕ, ◌-◌, ◌^◌, ℤ, pos, negsuc, int_lt, int_le, unsigned_abs, nat_lt, ◌&&◌, Bool, true, false, if◌then◌else◌, List, Option, None, Some, Result, Ok, Err}
 use Rattle.std.specs.Fmt.{decimal, signed_decimal}
 use Rattle.std.specs.declared.time.Duration.{Duration}
 use Rattle.mysql_value_core.specs.Value.{IsBytes}
@@ -55,6 +55,10 @@ wide_uint_value number =
 abbrev pub bool_value : Bool → Meaning
 bool_value true = Ok (Int (pos 1))
 bool_value false = Ok (Int (pos 0))
+
+-- the value of bytes, and of a text
+abbrev pub bytes_value : List ℕ → Meaning
+bytes_value bytes = Ok (Bytes bytes)
 
 -- the value of a thing that may be lacking, by that of the thing: NULL stands for none
 abbrev pub option_value : {T : Type 0} → (T → Meaning) → Option T → Meaning

@@ -1,2 +1,2 @@
-mod DecimalLemmas
 mod WholeNumberLemmas
+mod DurationLemmas

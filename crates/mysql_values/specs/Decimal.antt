@@ -1,8 +1,7 @@
 -- Decimal texts: an optional sign and one or more ASCII digits, of any length.
-use Rattle.std.specs.Prelude.{ℕ, ◌==◌, nat_lt, ◌&&◌, if◌then◌else◌, Bool, true, false, ℤ, pos, neg_ℤ, List, [], ◌∷◌, length, Option, None, Some}
-use Rattle.std.specs.Str.{all_ascii_digits}
+use Rattle.std.specs.Prelude.{ℕ, ◌==◌, if◌then◌else◌, Bool, true, false, ℤ, pos, neg_ℤ, List, [], ◌∷◌, Option, None}
 use Rattle.std.specs.Option.{option_map}
-use Rattle.std.specs.Str.Parse.{digits_value}
+use Rattle.mysql_literal_text.specs.Digits.{number_of_digits}
 
 -- b'+'
 abbrev pub plus_sign : ℕ
@@ -16,12 +15,6 @@ minus_sign = 45
 abbrev pub signed : Bool → ℕ → ℤ
 signed true magnitude = neg_ℤ (pos magnitude)
 signed false magnitude = pos magnitude
-
--- the number that one or more digits write
-abbrev pub number_of_digits : List ℕ → Option ℕ
-number_of_digits digits =
-    if nat_lt 0 (length digits) && all_ascii_digits digits
-    then Some (digits_value 10 digits) else None
 
 -- the number that a decimal text writes
 abbrev pub decimal_number : List ℕ → Option ℤ

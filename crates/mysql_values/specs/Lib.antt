@@ -1,3 +1,7 @@
+pub use Rattle.mysql_literal_text.specs.LiteralText
+pub use Rattle.mysql_literal_text.specs.Digits
+pub use Rattle.mysql_literal_text.specs.TimeText
+pub use Rattle.mysql_literal_text.specs.ReadTimeText
 pub use Rattle.mysql_value_core.specs.Bytes
 pub use Rattle.mysql_value_core.specs.Value
 pub use Rattle.mysql_value_core.specs.ValueOrder
@@ -12,7 +16,9 @@ pub use Rattle.mysql_value_core.specs.ReadLiteral
 pub use Rattle.mysql_value_core.specs.ReadBack
 pub use Rattle.mysql_value_core.specs.AsSql
 pub use Rattle.mysql_value_core.specs.LiteralShape
+pub use Rattle.mysql_value_core.specs.TimeLiteral
 pub use Rattle.mysql_value_core.specs.ValueOf
+pub use Rattle.mysql_value_core.specs.DurationValue
 pub use Rattle.mysql_value_core.specs.FromValue
 pub mod Decimal
 pub mod Intermediate
@@ -20,3 +26,4 @@ pub mod Rollback
 pub mod WholeNumber
 pub mod Truth
 pub mod OptionConversion
+pub mod DurationConversion

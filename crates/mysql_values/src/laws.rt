@@ -4,6 +4,7 @@ ghost use Rattle.mysql_value_core.specs.FromValue.{array_of, bytes_of, text_of};
 ghost use Rattle.mysql_value_core.specs.declared.value.Value.TheVariants.{Bytes as BytesOf};
 ghost use Rattle.mysql_value_core.specs.ValueOf.{bool_value};
 ghost use Rattle.mysql_value_core.specs.ValueOrder.{value_cmp};
+ghost use Rattle.mysql_values.specs.DurationConversion.{ConvertsBackRounded};
 ghost use Rattle.mysql_values.specs.Intermediate.{committed, AreEqualParsed};
 ghost use Rattle.mysql_values.specs.OptionConversion.{AreEqualOptions};
 ghost use Rattle.mysql_values.specs.Rollback.{ConvertsBack};
@@ -11,6 +12,7 @@ ghost use Rattle.mysql_values.specs.Truth.{truth_conversion};
 ghost use Rattle.mysql_values.specs.WholeNumber.{whole_conversion};
 
 use crate::value::convert::{FromValue, OptionIr2, ParseIr, ParseIrOpt, ValueIr, WholeNumber};
+pub use mysql_literal_text::laws::{time_texts_are_read, times_read_back};
 pub use mysql_value_core::laws::{
     as_sql_error_equality, bytes_equality, bytes_order, escapes_read, floats_have_no_literal,
     from_value_error_equality, literal_reads_back, literal_shape, null_bitmap_offsets,
@@ -18,6 +20,7 @@ pub use mysql_value_core::laws::{
     value_order_is_total, value_partial_order,
 };
 use std::cmp::Ordering;
+use std::time::Duration;
 
 /// Intermediates of values are equal where the values are.
 pub fn value_ir_equality(a: &ValueIr, b: &ValueIr) -> bool
@@ -71,6 +74,13 @@ pub fn truth_converts_back(truth: &bool)
     ensures converts_back { ConvertsBack truth_conversion committed (bool_value truth.now) truth.now }
 {
     let _truth = *truth;
+}
+
+/// A duration converts back from its value, rounded half up to microseconds.
+pub fn duration_converts_back(duration: &Duration)
+    ensures rounded { ConvertsBackRounded duration.now }
+{
+    let _duration = *duration;
 }
 
 /// A text converts back from its bytes.

@@ -12,6 +12,8 @@ mod shared;
 #[cfg(test)]
 mod text_cells;
 #[cfg(test)]
+mod time_texts;
+#[cfg(test)]
 mod values;
 #[cfg(test)]
 mod wire;

@@ -17,7 +17,7 @@ use std::alloc::{AllocError, Global};
 use std::collections::HashMap;
 
 // Whether the name is in the map.
-fn has_name(entries: &HashMap<Vec<u8>, Value>, name: &[u8]) -> bool
+pub(crate) fn has_name(entries: &HashMap<Vec<u8>, Value>, name: &[u8]) -> bool
     ensures { result ≡ contains_key (value_map entries.now.entries) name.now }
 {
     entries.contains_key(name)

@@ -5,12 +5,10 @@ ghost use Rattle.mysql_value_core.specs.declared.value.literal.AsSqlError.TheVar
 ghost use Rattle.mysql_value_core.specs.AsSql.{AnswersLiteral};
 ghost use Rattle.mysql_value_core.specs.Literal.{is_float, literal_of};
 ghost use Rattle.mysql_value_core.specs.ReadBack.{ReadsAs};
-
-mod dates;
-mod numbers;
-mod strings;
+ghost use Rattle.mysql_value_core.specs.TimeLiteral.{WritesTimeText};
 
 use crate::value::Value;
+use mysql_literal_text::{dates, numbers, strings};
 use std::alloc::{AllocError, Global};
 use thiserror::Error;
 
@@ -46,6 +44,7 @@ impl Value {
         ensures float { IsTrue (is_float self.now) → result ≡ Err AsSqlError.Float }
         ensures reads_back { IfOk result
             (λ sql. ReadsAs no_backslash_escape self.now (string_bytes sql)) }
+        ensures time { IfOk result (λ sql. WritesTimeText self.now (string_bytes sql)) }
     {
         let Some(len) = self.sql_len(no_backslash_escape) else {
             return Err(AsSqlError::Float);

@@ -11,6 +11,7 @@ use std::alloc::Global;
 
 mod byte_strings;
 mod decimal;
+mod duration;
 mod intermediate;
 mod option;
 mod signed;

@@ -6,6 +6,9 @@ use crate::value::Value;
 use crate::value::convert::{ToValue, ToValueError};
 use std::alloc::Global;
 
+mod duration;
+mod texts;
+
 impl ToValue for i8 {
     ghost value_of = { int_value };
 

@@ -1,0 +1,5 @@
+pub mod PaddedLemmas
+pub mod StringLemmas
+pub mod DigitLemmas
+pub mod TimeTextLemmas
+pub mod WrittenTimeLemmas

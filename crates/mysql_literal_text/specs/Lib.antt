@@ -1,0 +1,4 @@
+pub mod LiteralText
+pub mod Digits
+pub mod TimeText
+pub mod ReadTimeText

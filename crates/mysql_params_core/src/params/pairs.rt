@@ -1,0 +1,173 @@
+//! Pairs of a name and a thing make named parameters.
+ghost use Rattle.std.specs.Prelude.{◌≡◌, ◌≢◌, ◌⊎◌, ℕ, List, None, Some, Ok, map, IfErr, alloc_error, string_bytes};
+ghost use Rattle.mysql_value_core.specs.declared.value.convert.ToValueError.TheVariants as to_value;
+ghost use Rattle.mysql_value_core.specs.ValueOf.{Meaning, MeansBytes, AnswersValue};
+ghost use Rattle.mysql_params_core.specs.Answer.{IsAnswer};
+ghost use Rattle.mysql_params_core.specs.Errors.{maker_refusal};
+ghost use Rattle.mysql_params_core.specs.Given.{given, value_map};
+ghost use Rattle.mysql_params_core.specs.Made.{pairs_made, redefined, with_new, with_pair};
+
+use crate::params::lookup::has_name;
+use crate::params::{Params, ToParamsError};
+use mysql_values::value::Value;
+use mysql_values::value::convert::{ToValue, ToValueError};
+use std::alloc::{AllocError, Global};
+use std::collections::HashMap;
+
+/// What names a parameter.
+pub trait ToName {
+    // the bytes of the name
+    ghost name: { Self → List ℕ };
+
+    /// The bytes of the name.
+    fn name_bytes(&self) -> &[u8]
+        ensures { result.now ≡ name self.now };
+}
+
+impl ToName for &[u8] {
+    ghost name = { λ bytes. bytes.now };
+
+    fn name_bytes(&self) -> &[u8] {
+        *self
+    }
+}
+
+impl ToName for Vec<u8> {
+    ghost name = { λ bytes. bytes.items };
+
+    fn name_bytes(&self) -> &[u8] {
+        self.as_slice()
+    }
+}
+
+impl ToName for &str {
+    ghost name = { λ text. text.now };
+
+    fn name_bytes(&self) -> &[u8] {
+        self.as_bytes()
+    }
+}
+
+impl ToName for String {
+    ghost name = { string_bytes };
+
+    fn name_bytes(&self) -> &[u8] {
+        self.as_bytes()
+    }
+}
+
+// Puts a value under a new name, for a thing that means this.
+fn put_new(
+    alloc: Global,
+    entries: &mut HashMap<Vec<u8>, Value>,
+    name: &[u8],
+    answer: Result<Value, ToValueError>,
+) -> Result<(), ToParamsError>
+    ensures made { (meaning : Meaning) → AnswersValue meaning (MeansBytes meaning) answer →
+        IsAnswer (λ _. value_map entries.new.entries) maker_refusal
+        (with_new (value_map entries.old.entries) name.now meaning) result }
+    ensures value { IfErr result (λ error.
+        error ≢ ToParamsError.Value (to_value.Memory alloc_error)) }
+{
+    let value = match answer {
+        Ok(value) => value,
+        Err(ToValueError::Memory(error)) => return Err(ToParamsError::Memory(error)),
+        Err(ToValueError::DurationTooLong(duration)) => {
+            return Err(ToParamsError::Value(ToValueError::DurationTooLong(duration)));
+        }
+    };
+    let name = match Vec::from_slice(alloc, name) {
+        Ok(name) => name,
+        Err(error) => return Err(ToParamsError::Memory(error)),
+    };
+    match entries.insert(name, value) {
+        Ok(_) => Ok(()),
+        Err(_) => Err(ToParamsError::Memory(AllocError)),
+    }
+}
+
+// The refusal of a name that stood before.
+fn redefined(alloc: Global, name: &[u8]) -> ToParamsError
+    ensures refused { (maker_refusal result ≡ None)
+        ⊎ (maker_refusal result ≡ Some (redefined name.now)) }
+    ensures value { result ≢ ToParamsError.Value (to_value.Memory alloc_error) }
+{
+    match Vec::from_slice(alloc, name) {
+        Ok(name) => ToParamsError::Redefined(name),
+        Err(error) => ToParamsError::Memory(error),
+    }
+}
+
+// Puts the value of a thing under a new name.
+fn put_pair<V: ToValue>(
+    alloc: Global,
+    entries: &mut HashMap<Vec<u8>, Value>,
+    name: &[u8],
+    thing: &V,
+) -> Result<(), ToParamsError>
+    ensures made { IsAnswer (λ _. value_map entries.new.entries) maker_refusal
+        (with_pair (Ok (value_map entries.old.entries)) (name.now, V.value_of thing.now)) result }
+    ensures value { IfErr result (λ error.
+        error ≢ ToParamsError.Value (to_value.Memory alloc_error)) }
+{
+    if has_name(entries, name) {
+        return Err(redefined(alloc, name));
+    }
+    put_new(alloc, entries, name, thing.to_value(alloc))
+}
+
+// The same for an object, through its interface alone.
+fn put_named_object(
+    alloc: Global,
+    entries: &mut HashMap<Vec<u8>, Value>,
+    name: &[u8],
+    thing: &dyn ToValue,
+) -> Result<(), ToParamsError>
+    ensures made { IsAnswer (λ _. value_map entries.new.entries) maker_refusal
+        (with_pair (Ok (value_map entries.old.entries)) (name.now, value_of thing.now)) result }
+    ensures value { IfErr result (λ error.
+        error ≢ ToParamsError.Value (to_value.Memory alloc_error)) }
+{
+    if has_name(entries, name) {
+        return Err(redefined(alloc, name));
+    }
+    put_new(alloc, entries, name, thing.to_value(alloc))
+}
+
+impl Params {
+    /// Named parameters of pairs, taken in order. A pair whose name stood before is refused as
+    /// `Redefined` with that name, and its thing isn't asked for its value; else the first thing
+    /// that has no value is refused. No pairs make an empty map.
+    pub fn from_pairs<N: ToName, V: ToValue>(
+        alloc: Global,
+        pairs: &[(N, V)],
+    ) -> Result<Params, ToParamsError>
+        ensures made { IsAnswer given maker_refusal
+            (pairs_made (map (λ pair. (N.name pair.0, V.value_of pair.1)) pairs.now)) result }
+        ensures value { IfErr result (λ error.
+            error ≢ ToParamsError.Value (to_value.Memory alloc_error)) }
+    {
+        let mut entries = HashMap::new(alloc);
+        for pair in pairs {
+            put_pair(alloc, &mut entries, pair.0.name_bytes(), &pair.1)?;
+        }
+        Ok(Params::Named(entries))
+    }
+
+    /// The same of things of several types, each by what it names as its value.
+    pub fn from_objects(
+        alloc: Global,
+        pairs: &[(&[u8], &dyn ToValue)],
+    ) -> Result<Params, ToParamsError>
+        ensures made { IsAnswer given maker_refusal
+            (pairs_made (map (λ pair. (pair.0.now, value_of pair.1.now)) pairs.now)) result }
+        ensures value { IfErr result (λ error.
+            error ≢ ToParamsError.Value (to_value.Memory alloc_error)) }
+    {
+        let mut entries = HashMap::new(alloc);
+        for pair in pairs {
+            put_named_object(alloc, &mut entries, pair.0, pair.1)?;
+        }
+        Ok(Params::Named(entries))
+    }
+}

@@ -1,0 +1,171 @@
+//! What makes parameters.
+ghost use Rattle.std.specs.Prelude.{◌≡◌, ◌≢◌, ⊤, [], map, Ok, IfErr, IsErrOf, alloc_error};
+ghost use Rattle.mysql_value_core.specs.declared.value.convert.ToValueError.TheVariants as to_value;
+ghost use Rattle.mysql_params_core.specs.Answer.{IsAnswer};
+ghost use Rattle.mysql_params_core.specs.Errors.{maker_refusal};
+ghost use Rattle.mysql_params_core.specs.Given.{given, empty};
+ghost use Rattle.mysql_params_core.specs.Made.{Made, list_made, with_value};
+ghost use Rattle.mysql_value_core.specs.ValueOf.{Meaning, MeansBytes, AnswersValue};
+
+use crate::params::{Params, ToParamsError};
+use mysql_values::value::Value;
+use mysql_values::value::convert::{ToValue, ToValueError};
+use std::alloc::{AllocError, Global};
+
+/// What makes parameters.
+pub trait ToParams {
+    // the parameters that it makes, or why it makes none
+    ghost made: { Self → Made };
+
+    // where making them takes memory
+    ghost takes_memory: { Self → Type 0 };
+
+    /// The parameters that the thing makes, or the refusal of the first item that has no value.
+    fn to_params(&self, alloc: Global) -> Result<Params, ToParamsError>
+        ensures made { IsAnswer given maker_refusal (made self.now) result }
+        ensures memory { IsErrOf result (ToParamsError.Memory alloc_error) → takes_memory self.now }
+        ensures value { IfErr result (λ error.
+            error ≢ ToParamsError.Value (to_value.Memory alloc_error)) };
+}
+
+// Puts a value behind the values so far, for a thing that means this.
+fn put_answer(
+    values: &mut Vec<Value>,
+    answer: Result<Value, ToValueError>,
+) -> Result<(), ToParamsError>
+    ensures made { (meaning : Meaning) → AnswersValue meaning (MeansBytes meaning) answer →
+        IsAnswer (λ _. values.new.items) maker_refusal (with_value (Ok values.old.items) meaning) result }
+    ensures value { IfErr result (λ error.
+        error ≢ ToParamsError.Value (to_value.Memory alloc_error)) }
+{
+    match answer {
+        Ok(value) => match values.push(value) {
+            Ok(()) => Ok(()),
+            Err(_) => Err(ToParamsError::Memory(AllocError)),
+        },
+        Err(ToValueError::Memory(error)) => Err(ToParamsError::Memory(error)),
+        Err(ToValueError::DurationTooLong(duration)) => {
+            Err(ToParamsError::Value(ToValueError::DurationTooLong(duration)))
+        }
+    }
+}
+
+// Puts the value of a thing behind the values so far.
+pub(crate) fn put<T: ToValue>(
+    alloc: Global,
+    values: &mut Vec<Value>,
+    thing: &T,
+) -> Result<(), ToParamsError>
+    ensures made { IsAnswer (λ _. values.new.items) maker_refusal
+        (with_value (Ok values.old.items) (T.value_of thing.now)) result }
+    ensures value { IfErr result (λ error.
+        error ≢ ToParamsError.Value (to_value.Memory alloc_error)) }
+{
+    put_answer(values, thing.to_value(alloc))
+}
+
+// The same for an object, through its interface alone.
+fn put_object(
+    alloc: Global,
+    values: &mut Vec<Value>,
+    thing: &dyn ToValue,
+) -> Result<(), ToParamsError>
+    ensures made { IsAnswer (λ _. values.new.items) maker_refusal
+        (with_value (Ok values.old.items) (value_of thing.now)) result }
+    ensures value { IfErr result (λ error.
+        error ≢ ToParamsError.Value (to_value.Memory alloc_error)) }
+{
+    put_answer(values, thing.to_value(alloc))
+}
+
+// What a list of things makes.
+fn list_params<T: ToValue>(alloc: Global, things: &[T]) -> Result<Params, ToParamsError>
+    ensures made { IsAnswer given maker_refusal (list_made (map T.value_of things.now)) result }
+    ensures memory { IsErrOf result (ToParamsError.Memory alloc_error) → things.now ≢ [] }
+    ensures value { IfErr result (λ error.
+        error ≢ ToParamsError.Value (to_value.Memory alloc_error)) }
+{
+    if things.is_empty() {
+        return Ok(Params::Empty);
+    }
+    let mut values = Vec::new(alloc);
+    for thing in things {
+        put(alloc, &mut values, thing)?;
+    }
+    Ok(Params::Positional(values))
+}
+
+// The same for objects, through the interface of each alone.
+fn object_params(alloc: Global, things: &[&dyn ToValue]) -> Result<Params, ToParamsError>
+    ensures made { IsAnswer given maker_refusal
+        (list_made (map (λ thing. value_of thing.now) things.now)) result }
+    ensures memory { IsErrOf result (ToParamsError.Memory alloc_error) → things.now ≢ [] }
+    ensures value { IfErr result (λ error.
+        error ≢ ToParamsError.Value (to_value.Memory alloc_error)) }
+{
+    if things.is_empty() {
+        return Ok(Params::Empty);
+    }
+    let mut values = Vec::new(alloc);
+    for thing in things {
+        put_object(alloc, &mut values, *thing)?;
+    }
+    Ok(Params::Positional(values))
+}
+
+impl ToParams for () {
+    ghost made = { λ _. Ok empty };
+
+    ghost takes_memory = { λ _. ⊥ };
+
+    fn to_params(&self, _alloc: Global) -> Result<Params, ToParamsError> {
+        Ok(Params::Empty)
+    }
+}
+
+/// The copy is on the allocator that the parameters hold.
+impl ToParams for Params {
+    ghost made = { λ params. Ok (given params) };
+
+    ghost takes_memory = { λ params. given params ≢ empty };
+
+    fn to_params(&self, _alloc: Global) -> Result<Params, ToParamsError> {
+        match Params::clone(self) {
+            Ok(params) => Ok(params),
+            Err(error) => Err(ToParamsError::Memory(error)),
+        }
+    }
+}
+
+impl<T: ToParams> ToParams for &T {
+    ghost made = { λ reference. T.made reference.now };
+
+    ghost takes_memory = { λ reference. T.takes_memory reference.now };
+
+    fn to_params(&self, alloc: Global) -> Result<Params, ToParamsError> {
+        (**self).to_params(alloc)
+    }
+}
+
+impl<T: ToValue> ToParams for Vec<T> {
+    ghost made = { λ things. list_made (map T.value_of things.items) };
+
+    ghost takes_memory = { λ things. things.items ≢ [] };
+
+    fn to_params(&self, alloc: Global) -> Result<Params, ToParamsError> {
+        list_params(alloc, self.as_slice())
+    }
+}
+
+impl ToParams for &[&dyn ToValue] {
+    // What each object names as its value: `value_of thing.now` in a function's clause, as in that of
+    // `object_params`, which an implementation has to write out.
+    ghost made = { λ things.
+        list_made (map (λ thing. (ToValue-dyn thing.now).value_of thing.now.1) things.now) };
+
+    ghost takes_memory = { λ things. things.now ≢ [] };
+
+    fn to_params(&self, alloc: Global) -> Result<Params, ToParamsError> {
+        object_params(alloc, *self)
+    }
+}

@@ -1,0 +1,197 @@
+//! What things make parameters.
+use crate::shared::{bytes, named, positional};
+use mysql_params::params::{Params, ToName, ToParams, ToParamsError};
+use mysql_values::value::Value;
+use mysql_values::value::convert::{ToValue, ToValueError};
+use std::alloc::{AllocError, Global};
+use std::cell::Cell;
+use std::process::Abort;
+use std::test::Fail;
+
+// A type of the test's own, which counts how often it is asked for its value.
+#[derive(Drop)]
+struct Counted<'a> {
+    calls: &'a Cell<u32>,
+}
+
+impl ToValue for Counted<'_> {
+    ghost use Rattle.std.specs.Prelude.{Ok};
+    ghost use Rattle.mysql_values.specs.ValueOf.{uint_value};
+
+    ghost value_of = { λ _. uint_value 7 };
+
+    fn to_value(&self, _alloc: Global) -> Result<Value, ToValueError> {
+        self.calls.set(self.calls.get().wrapping_add(1));
+        Ok(Value::UInt(7))
+    }
+}
+
+// Through the bound alone.
+fn made<T: ToParams>(alloc: Global, things: &T) -> Result<Params, ToParamsError> {
+    things.to_params(alloc)
+}
+
+// Through the bound alone.
+fn value<T: ToValue>(alloc: Global, thing: &T) -> Result<Value, ToValueError> {
+    thing.to_value(alloc)
+}
+
+// Through the bound alone.
+fn has_bytes<N: ToName>(name: &N, wanted: &[u8]) -> bool {
+    name.name_bytes() == wanted
+}
+
+#[test]
+fn nested_values(rt: HostRuntime) -> Result<(), Fail> {
+    let alloc = rt.alloc();
+    assert_eq!(rt; value(alloc, &&5u8)?, Value::UInt(5));
+    assert_eq!(rt; value(alloc, &Some(-5i64))?, Value::Int(-5));
+    assert_eq!(rt; value(alloc, &None::<i64>)?, Value::NULL);
+    assert_eq!(rt; value(alloc, &Some(Some(true)))?, Value::Int(1));
+    for like in [Value::NULL, Value::Float(1), bytes(alloc, b"ab")?] {
+        assert_eq!(rt; value(alloc, &like)?, like);
+    }
+    Ok(())
+}
+
+#[test]
+fn no_things(rt: HostRuntime) -> Result<(), Fail> {
+    let alloc = rt.alloc();
+    assert_eq!(rt; made(alloc, &())?, Params::Empty);
+    assert_eq!(rt; made(alloc, &Vec::<u8>::new(alloc))?, Params::Empty);
+    let objects: [&dyn ToValue; 0] = [];
+    assert_eq!(rt; made(alloc, &objects.as_slice())?, Params::Empty);
+    let pairs: [(&[u8], u8); 0] = [];
+    assert_eq!(rt; Params::from_pairs(alloc, &pairs)?, named(alloc, b"")?);
+    let pairs: [(&[u8], &dyn ToValue); 0] = [];
+    assert_eq!(rt; Params::from_objects(alloc, &pairs)?, named(alloc, b"")?);
+    Ok(())
+}
+
+#[test]
+fn lists(rt: HostRuntime) -> Result<(), Fail> {
+    let alloc = rt.alloc();
+    let list = Vec::from_slice(alloc, &[1u64, 2, 2])?;
+    assert_eq!(rt; made(alloc, &list)?, positional(alloc, &[1, 2, 2])?);
+    assert_eq!(rt; made(alloc, &&list)?, positional(alloc, &[1, 2, 2])?);
+    assert_eq!(rt; made(alloc, &named(alloc, b"ab")?)?, named(alloc, b"ab")?);
+    assert_eq!(rt; made(alloc, &Params::Empty)?, Params::Empty);
+    Ok(())
+}
+
+#[test]
+fn tuples(rt: HostRuntime) -> Result<(), Fail> {
+    let alloc = rt.alloc();
+    assert_eq!(rt; made(alloc, &(1u8,))?, positional(alloc, &[1])?);
+    assert_eq!(rt; made(alloc, &(1u8, 2u64))?, positional(alloc, &[1, 2])?);
+    assert_eq!(rt; made(alloc, &(1u8, 2u8, 3u8))?, positional(alloc, &[1, 2, 3])?);
+    assert_eq!(rt;
+        made(alloc, &(1u8, 2u8, 3u8, 4u8))?,
+        positional(alloc, &[1, 2, 3, 4])?
+    );
+    assert_eq!(rt;
+        made(alloc, &(1u8, 2u8, 3u8, 4u8, 5u8))?,
+        positional(alloc, &[1, 2, 3, 4, 5])?
+    );
+    assert_eq!(rt;
+        made(alloc, &(1u8, 2u8, 3u8, 4u8, 5u8, 6u8))?,
+        positional(alloc, &[1, 2, 3, 4, 5, 6])?
+    );
+    Ok(())
+}
+
+#[test]
+fn long_tuples(rt: HostRuntime) -> Result<(), Fail> {
+    let alloc = rt.alloc();
+    let numbers = [1u64, 2, 3, 4, 5, 6, 7, 8, 9, 10, 11, 12];
+    assert_eq!(rt;
+        made(alloc, &(1u8, 2u16, 3u32, 4u64, 5usize, 6u8, 7u8))?,
+        positional(alloc, &numbers[..7])?
+    );
+    assert_eq!(rt;
+        made(alloc, &(1u8, 2u8, 3u8, 4u8, 5u8, 6u8, 7u8, 8u8))?,
+        positional(alloc, &numbers[..8])?
+    );
+    assert_eq!(rt;
+        made(alloc, &(1u8, 2u8, 3u8, 4u8, 5u8, 6u8, 7u8, 8u8, 9u8))?,
+        positional(alloc, &numbers[..9])?
+    );
+    assert_eq!(rt;
+        made(alloc, &(1u8, 2u8, 3u8, 4u8, 5u8, 6u8, 7u8, 8u8, 9u8, 10u8))?,
+        positional(alloc, &numbers[..10])?
+    );
+    assert_eq!(rt;
+        made(alloc, &(1u8, 2u8, 3u8, 4u8, 5u8, 6u8, 7u8, 8u8, 9u8, 10u8, 11u8))?,
+        positional(alloc, &numbers[..11])?
+    );
+    assert_eq!(rt;
+        made(alloc, &(1u8, 2u8, 3u8, 4u8, 5u8, 6u8, 7u8, 8u8, 9u8, 10u8, 11u8, 12u8))?,
+        positional(alloc, &numbers)?
+    );
+    Ok(())
+}
+
+#[test]
+fn objects(rt: HostRuntime) -> Result<(), Fail> {
+    let alloc = rt.alloc();
+    let calls = Cell::new(0);
+    let own = Counted { calls: &calls };
+    let objects: [&dyn ToValue; 4] = [&1u8, &"x", &None::<i64>, &own];
+    let params = made(alloc, &objects.as_slice())?;
+    let wanted = Vec::from_array(
+        alloc,
+        [Value::UInt(1), bytes(alloc, b"x")?, Value::NULL, Value::UInt(7)],
+    )?;
+    assert_eq!(rt; params, Params::Positional(wanted));
+    assert_eq!(rt; calls.get(), 1);
+    let twice: [&dyn ToValue; 2] = [&2u8, &2u8];
+    assert_eq!(rt; made(alloc, &twice.as_slice())?, positional(alloc, &[2, 2])?);
+    Ok(())
+}
+
+#[test]
+fn pairs(rt: HostRuntime) -> Result<(), Fail> {
+    let alloc = rt.alloc();
+    let pairs = [("a", 1u8), ("b", 2u8)];
+    assert_eq!(rt; Params::from_pairs(alloc, &pairs)?, named(alloc, b"ab")?);
+    let pairs = [("a", 1u8), ("b", 2u8), ("a", 3u8)];
+    let error = ToParamsError::Redefined(Vec::from_slice(alloc, b"a")?);
+    assert_eq!(rt; Params::from_pairs(alloc, &pairs).err(), Some(error));
+
+    let pairs: [(&[u8], &dyn ToValue); 2] = [(b"a", &1u8), (b"b", &"x")];
+    let values = [("a", Value::UInt(1)), ("b", bytes(alloc, b"x")?)];
+    assert_eq!(rt;
+        Params::from_objects(alloc, &pairs)?,
+        Params::from_pairs(alloc, &values)?
+    );
+    Ok(())
+}
+
+#[test]
+fn redefined_thing_is_not_asked(rt: HostRuntime) -> Result<(), Fail> {
+    let alloc = rt.alloc();
+    let calls = Cell::new(0);
+    let own = Counted { calls: &calls };
+    let error = ToParamsError::Redefined(Vec::from_slice(alloc, b"a")?);
+    let pairs: [(&[u8], &dyn ToValue); 2] = [(b"a", &1u8), (b"a", &own)];
+    assert_eq!(rt; Params::from_objects(alloc, &pairs).err(), Some(error));
+    assert_eq!(rt; calls.get(), 0);
+    let other = Cell::new(0);
+    let things = [Counted { calls: &other }, Counted { calls: &calls }];
+    let error = ToParamsError::Redefined(Vec::from_slice(alloc, b"a")?);
+    let pairs = [("a", &things[0]), ("a", &things[1])];
+    assert_eq!(rt; Params::from_pairs(alloc, &pairs).err(), Some(error));
+    assert_eq!(rt; calls.get(), 0);
+    assert_eq!(rt; other.get(), 1);
+    Ok(())
+}
+
+#[test]
+fn names_of_every_kind(rt: HostRuntime) -> Result<(), Fail> {
+    let alloc = rt.alloc();
+    assert!(rt; has_bytes(&b"ab".as_slice(), b"ab"));
+    assert!(rt; has_bytes(&Vec::from_slice(alloc, b"ab")?, b"ab"));
+    assert!(rt; has_bytes(&"ab", b"ab"));
+    assert!(rt; has_bytes(&String::from_str(alloc, "ab")?, b"ab"));
+    Ok(())
+}

@@ -1,0 +1,49 @@
+//! What several tests share.
+use mysql_params::params::Params;
+use mysql_values::bytes::Bytes;
+use mysql_values::value::Value;
+use std::alloc::{AllocError, Global};
+use std::collections::HashMap;
+
+// The value that holds these bytes.
+pub fn bytes(alloc: Global, text: &[u8]) -> Result<Value, AllocError> {
+    Ok(Value::Bytes(Bytes::from(Vec::from_slice(alloc, text)?)))
+}
+
+// A list of names of one byte each.
+pub fn names(alloc: Global, letters: &[u8]) -> Result<Vec<Vec<u8>>, AllocError> {
+    let mut names = Vec::new(alloc);
+    for letter in letters {
+        let name = Vec::from_slice(alloc, &[*letter])?;
+        match names.push(name) {
+            Ok(()) => {}
+            Err(_) => return Err(AllocError),
+        }
+    }
+    Ok(names)
+}
+
+// Named parameters: each letter names the number of its place, from 1 on.
+pub fn named(alloc: Global, letters: &[u8]) -> Result<Params, AllocError> {
+    let mut entries = HashMap::new(alloc);
+    for (i, letter) in letters.iter().enumerate() {
+        let name = Vec::from_slice(alloc, &[*letter])?;
+        match entries.insert(name, Value::UInt(i as u64 + 1)) {
+            Ok(_) => {}
+            Err(_) => return Err(AllocError),
+        }
+    }
+    Ok(Params::Named(entries))
+}
+
+// Positional parameters: these numbers.
+pub fn positional(alloc: Global, numbers: &[u64]) -> Result<Params, AllocError> {
+    let mut values = Vec::new(alloc);
+    for number in numbers {
+        match values.push(Value::UInt(*number)) {
+            Ok(()) => {}
+            Err(_) => return Err(AllocError),
+        }
+    }
+    Ok(Params::Positional(values))
+}

@@ -1,6 +1,0 @@
-use Rattle.std.proofs.Common.{◌≡◌, ◌*◌, take}
-use Rattle.mysql_value_core.specs.Literal.{hexadecimal}
-use Rattle.mysql_value_core.proofs.value.literal.strings.fill_pairs.Given as goal
-
-abbrev pub invariant-loop-i : goal.invariant-loop-i
-invariant-loop-i l = take (2 * l.i) l.room ≡ hexadecimal (take l.i l.bytes)

@@ -1,0 +1,48 @@
+-- Conversions to a duration, of which contracts see the nanoseconds.
+use Rattle.std.specs.Prelude.{◌≡◌, ℕ, ◌*◌, Bool, true, false, List, Ok, Err, Option, None, Some, ⊤}
+use Rattle.std.specs.Option.{option_map, option_and_then}
+use Rattle.std.specs.Duration.{as_nanos}
+use Rattle.std.specs.declared.time.Duration.{Duration}
+use Rattle.mysql_literal_text.specs.TimeText.{total_microseconds}
+use Rattle.mysql_literal_text.specs.ReadTimeText.{time_of_text}
+use Rattle.mysql_value_core.specs.ValueOf.{Meaning}
+use Rattle.mysql_value_core.specs.DurationValue.{duration_value, rounded_microseconds}
+use Rattle.mysql_value_core.specs.declared.value.Value.{Value}
+use Rattle.mysql_value_core.specs.declared.value.Value.TheVariants.{Bytes, Time}
+use Rattle.mysql_values.specs.Intermediate.{committed}
+use Rattle.mysql_values.specs.declared.value.convert.intermediate.ParseIrOpt.{ParseIrOpt}
+use Rattle.mysql_values.specs.declared.value.convert.intermediate.ParseIrOpt.TheVariants.{Ready, Parsed}
+
+-- what is seen of an intermediate, by what is seen of the thing
+abbrev pub seen_parsed : {T Seen : Type 0} → (T → Seen) → ParseIrOpt T → ParseIrOpt Seen
+seen_parsed seen (Ready x) = Ready (seen x)
+seen_parsed seen (Parsed x value) = Parsed (seen x) value
+
+-- the nanoseconds of a time that is not negative, given in microseconds
+abbrev pub positive_nanoseconds : Bool × ℕ → Option ℕ
+positive_nanoseconds (true, microseconds) = None
+positive_nanoseconds (false, microseconds) = Some (microseconds * 1000)
+
+-- the nanoseconds of a time text without `-`
+abbrev pub nanoseconds_of_text : List ℕ → Option ℕ
+nanoseconds_of_text text = option_and_then positive_nanoseconds (time_of_text text)
+
+-- the conversion of a value: of a time that is not negative, and of a time text without `-`
+abbrev pub duration_conversion : Value → Option (ParseIrOpt ℕ)
+duration_conversion (Time false days hours minutes seconds microseconds) =
+    Some (Parsed (total_microseconds days hours minutes seconds microseconds * 1000)
+    (Time false days hours minutes seconds microseconds))
+duration_conversion (Bytes bytes) =
+    option_map (λ nanoseconds. Parsed nanoseconds (Bytes bytes)) (nanoseconds_of_text bytes)
+duration_conversion _ = None
+
+-- the value, where there is one, converts to a duration of so many nanoseconds
+abbrev pub ConvertsToNanoseconds : ℕ → Meaning → Type 0
+ConvertsToNanoseconds nanoseconds (Ok value) =
+    option_map committed (duration_conversion value) ≡ Some nanoseconds
+ConvertsToNanoseconds nanoseconds (Err duration) = ⊤
+
+-- the value of a duration converts back to the duration rounded to microseconds
+abbrev pub ConvertsBackRounded : Duration → Type 0
+ConvertsBackRounded duration =
+    ConvertsToNanoseconds (rounded_microseconds duration * 1000) (duration_value duration)
