@@ -196,10 +196,19 @@ fn refused_texts_and_bytes(rt: HostRuntime) -> Result<(), Fail> {
     let alloc = rt.alloc();
     refused_bytes::<[u8; 2]>(&rt, alloc, b"abc")?;
     refused_bytes::<String>(&rt, alloc, b"\xC3\x28")?;
-    refused_bytes::<CowStr<'static>>(&rt, alloc, b"\xC3\x28")?;
     refused::<String>(&rt, Value::Int(5))?;
-    refused::<Vec<u8>>(&rt, Value::NULL)?;
-    refused::<CowSlice<'static, u8>>(&rt, Value::UInt(1))
+    refused::<Vec<u8>>(&rt, Value::NULL)
+}
+
+// `refused` can't be proved at these types: docs/DECISIONS.md says why.
+#[test]
+fn refused_cow_texts_and_bytes(rt: HostRuntime) -> Result<(), Fail> {
+    let same = bytes(rt.alloc(), b"\xC3\x28")?;
+    let refusal = from_value_opt::<CowStr<'static>>(same.clone()?).err();
+    assert_eq!(rt; refusal, Some(FromValueError(same)));
+    let refusal = from_value_opt::<CowSlice<'static, u8>>(Value::UInt(1)).err();
+    assert_eq!(rt; refusal, Some(FromValueError(Value::UInt(1))));
+    Ok(())
 }
 
 #[test]
@@ -208,11 +217,15 @@ fn optional_things(rt: HostRuntime) -> Result<(), Fail> {
     assert_eq!(rt; nested, None);
     let nested: Option<Option<u8>> = from_value_opt(Value::UInt(5))?;
     assert_eq!(rt; nested, Some(Some(5)));
+    refused::<Option<u8>>(&rt, Value::UInt(256))?;
+    refused::<Option<bool>>(&rt, Value::Time(false, 0, 0, 0, 0, 0))
+}
+
+#[test]
+fn values_that_convert(rt: HostRuntime) {
     assert_eq!(rt; from_value::<Option<u8>>(Value::NULL), None);
     let same: Value = from_value(Value::Date(1, 2, 3, 4, 5, 6, 7));
     assert_eq!(rt; same, Value::Date(1, 2, 3, 4, 5, 6, 7));
-    refused::<Option<u8>>(&rt, Value::UInt(256))?;
-    refused::<Option<bool>>(&rt, Value::Time(false, 0, 0, 0, 0, 0))
 }
 
 #[test]

@@ -172,21 +172,22 @@ fn literals_of_each_byte(rt: HostRuntime) -> Result<(), Fail> {
     Ok(())
 }
 
+// The value is refused as a float in either mode.
+fn has_no_literal(rt: &impl Abort, alloc: Global, value: &Value) {
+    for no_backslash_escape in [false, true] {
+        let answer = value.as_sql(alloc, no_backslash_escape);
+        assert_eq!(rt; answer, Err(AsSqlError::Float), "{value:?}");
+    }
+}
+
 #[test]
 fn floats_have_no_literal(rt: HostRuntime) {
     // The bits of 0.0, 1.0 and of no number.
     for bits in [0, 1065353216, 4294967295] {
-        for no_backslash_escape in [false, true] {
-            let answer = Value::Float(bits).as_sql(rt.alloc(), no_backslash_escape);
-            assert_eq!(rt; answer, Err(AsSqlError::Float), "of the float {bits}");
-        }
+        has_no_literal(&rt, rt.alloc(), &Value::Float(bits));
     }
-    for bits in [0, 18446744073709551615] {
-        for no_backslash_escape in [false, true] {
-            let answer = Value::Double(bits).as_sql(rt.alloc(), no_backslash_escape);
-            assert_eq!(rt; answer, Err(AsSqlError::Float), "of the double {bits}");
-        }
-    }
+    has_no_literal(&rt, rt.alloc(), &Value::Double(0));
+    has_no_literal(&rt, rt.alloc(), &Value::Double(18446744073709551615));
 }
 
 #[test]

@@ -187,6 +187,10 @@ fn refused_strings_leave_the_buffer(rt: HostRuntime) {
         assert_eq!(rt; read, Err(WireError::UnexpectedEof), "{bytes:?}");
         assert_eq!(rt; buf.0, *bytes, "{bytes:?}");
     }
+}
+
+#[test]
+fn refused_leads_leave_the_buffer(rt: HostRuntime) {
     for lead in [0xFB, 0xFF] {
         let bytes = [lead, 1, 2];
         let mut buf = ParseBuf(&bytes);
