@@ -55,7 +55,9 @@ fn reported<'a>(entries: &HashMap<Vec<u8>, Value>, names: &'a [Vec<u8>], first: 
     }
 }
 
-// The values of the names, all of which are in the map.
+// The values of the names, all of which are in the map. A value is moved out of the map at its name's
+// first place and copied for each later one. The names that were taken out of the map find the places of
+// their values, so that no name is copied, and none is compared with more than a few others.
 fn take_values(
     alloc: Global,
     entries: HashMap<Vec<u8>, Value>,
@@ -66,11 +68,21 @@ fn take_values(
         values_at (value_map entries.entries) (names_of names.now) ≡ Some values.items) }
     ensures memory { OnErr result (0 < length names.now) }
 {
+    let mut left = entries;
+    let mut places: HashMap<Vec<u8>, usize> = HashMap::new(alloc);
     let mut values = Vec::new(alloc);
     for name in names {
-        match entries.get(name.as_slice()) {
-            Some(value) => values.push(value.clone()?)?,
-            None => unreachable!(),
+        if let Some((key, value)) = left.remove_entry(name) {
+            match places.insert(key, values.len()) {
+                Ok(_) => {}
+                Err(_) => return Err(AllocError),
+            }
+            values.push(value)?;
+        } else if let Some(place) = places.get(name) {
+            let value = values[*place].clone()?;
+            values.push(value)?;
+        } else {
+            unreachable!();
         }
     }
     Ok(values)
