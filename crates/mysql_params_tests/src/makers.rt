@@ -7,6 +7,7 @@ use std::alloc::{AllocError, Global};
 use std::cell::Cell;
 use std::process::Abort;
 use std::test::Fail;
+use std::time::Duration;
 
 // A type of the test's own, which counts how often it is asked for its value.
 #[derive(Drop)]
@@ -184,6 +185,26 @@ fn pairs(rt: HostRuntime) -> Result<(), Fail> {
         Params::from_objects(alloc, &pairs)?,
         Params::from_pairs(alloc, &values)?
     );
+    Ok(())
+}
+
+// The first thing that has no value decides.
+#[test]
+fn refused_things(rt: HostRuntime) -> Result<(), Fail> {
+    let alloc = rt.alloc();
+    // One second more than a `Time` has days for, and two.
+    let long = Duration::from_secs(371085174374400);
+    let longer = Duration::from_secs(371085174374401);
+    let too_long = Some(ToParamsError::Value(ToValueError::DurationTooLong(long)));
+    assert_eq!(rt; made(alloc, &(1u8, long, longer)).err(), too_long);
+    let list = Vec::from_array(alloc, [long, longer])?;
+    assert_eq!(rt; made(alloc, &list).err(), too_long);
+    let objects: [&dyn ToValue; 3] = [&1u8, &long, &longer];
+    assert_eq!(rt; made(alloc, &objects.as_slice()).err(), too_long);
+    let pairs = [("a", long), ("a", longer)];
+    assert_eq!(rt; Params::from_pairs(alloc, &pairs).err(), too_long);
+    let pairs: [(&[u8], &dyn ToValue); 3] = [(b"a", &1u8), (b"b", &long), (b"a", &1u8)];
+    assert_eq!(rt; Params::from_objects(alloc, &pairs).err(), too_long);
     Ok(())
 }
 

@@ -55,9 +55,9 @@ fn reported<'a>(entries: &HashMap<Vec<u8>, Value>, names: &'a [Vec<u8>], first: 
     }
 }
 
-// The values of the names, all of which are in the map. A value is moved out of the map at its name's
-// first place and copied for each later one. The names that were taken out of the map find the places of
-// their values, so that no name is copied, and none is compared with more than a few others.
+// The values of the names, all of which are in the map. A value is moved out of the map at its
+// name's first place, and copied for each later one. By the names that were taken out with the
+// values, `places` finds where these stand, so that no name is copied and no list is searched.
 fn take_values(
     alloc: Global,
     entries: HashMap<Vec<u8>, Value>,
@@ -88,6 +88,7 @@ fn take_values(
     Ok(values)
 }
 
+// The error of a name that is missing.
 fn missing(alloc: Global, name: &[u8]) -> Result<MissingNamedParameterError, AllocError>
     ensures { IfOk result (λ error. error.0.items ≡ name.now) }
 {
@@ -95,6 +96,7 @@ fn missing(alloc: Global, name: &[u8]) -> Result<MissingNamedParameterError, All
     Ok(MissingNamedParameterError(name))
 }
 
+// What named parameters give to a list with names.
 fn named_values(
     alloc: Global,
     entries: HashMap<Vec<u8>, Value>,
@@ -116,6 +118,7 @@ fn named_values(
     }
 }
 
+// What named parameters are by position.
 fn named_positional(
     alloc: Global,
     entries: HashMap<Vec<u8>, Value>,
@@ -123,7 +126,8 @@ fn named_positional(
 ) -> Result<Params, IntoPositionalError>
     ensures positioned { IsAnswer given absent_name
         (positioned (named (value_map entries.entries)) (names_of names.now)) result }
-    ensures memory { IsErrOf result (IntoPositionalError.Memory alloc_error) → 0 < length names.now }
+    ensures memory { IsErrOf result (IntoPositionalError.Memory alloc_error) →
+        0 < length names.now }
 {
     match first_absent(&entries, names) {
         None => match take_values(alloc, entries, names) {
