@@ -68,7 +68,9 @@ pub name_first : (mode : Bool) (text : List ℕ) (n : ℕ) → 0 < length text �
 name_first mode [] n some q opens le front = absurd (omega arith)
 name_first mode (b ∷ bs) n some q opens le front = go bs (rw rest_is at opens) (rw rest_is at le) (rw rest_is at front)
   where
-    go : (bs : List ℕ) → begins is_start_byte bs ≡ true → n ≤ length (slice_from 1 bs) → IsNameFront (take n (slice_from 1 bs)) (drop n (slice_from 1 bs)) → IsFirstToken mode (b ∷ bs) kind.Name (2 + n)
+    go : (bs : List ℕ) → begins is_start_byte bs ≡ true → n ≤ length (slice_from 1 bs) →
+        IsNameFront (take n (slice_from 1 bs)) (drop n (slice_from 1 bs)) →
+        IsFirstToken mode (b ∷ bs) kind.Name (2 + n)
     go [] opens le front = cc
     go (s ∷ bs) opens le front =
         let le' : n ≤ length bs = rw rest_is at le in
@@ -82,7 +84,9 @@ pub dash_first : (mode : Bool) (text : List ℕ) (n : ℕ) → 0 < length text �
 dash_first mode [] n some q opens le tail = absurd (omega arith)
 dash_first mode (b ∷ bs) n some q opens le tail = go bs (rw rest_is at opens) (rw rest_is at le) (rw rest_is at tail)
   where
-    go : (bs : List ℕ) → opens_dash_comment bs ≡ true → n ≤ length (slice_from 2 bs) → IsUpTo (newline ∷ []) (take n (slice_from 2 bs)) (drop n (slice_from 2 bs)) → IsFirstToken mode (b ∷ bs) kind.Other (3 + n)
+    go : (bs : List ℕ) → opens_dash_comment bs ≡ true → n ≤ length (slice_from 2 bs) →
+        IsUpTo (newline ∷ []) (take n (slice_from 2 bs)) (drop n (slice_from 2 bs)) →
+        IsFirstToken mode (b ∷ bs) kind.Other (3 + n)
     go [] opens le tail = cc
     go (d ∷ []) opens le tail = cc
     go (d ∷ w ∷ bs) opens le tail =
@@ -102,7 +106,9 @@ pub block_first : (mode : Bool) (text : List ℕ) (n : ℕ) → 0 < length text 
 block_first mode [] n some q opens le tail = absurd (omega arith)
 block_first mode (b ∷ bs) n some q opens le tail = go bs (rw rest_is at opens) (rw rest_is at le) (rw rest_is at tail)
   where
-    go : (bs : List ℕ) → opens_block_comment bs ≡ true → n ≤ length (slice_from 1 bs) → IsUpTo (asterisk ∷ slash ∷ []) (take n (slice_from 1 bs)) (drop n (slice_from 1 bs)) → IsFirstToken mode (b ∷ bs) kind.Other (2 + n)
+    go : (bs : List ℕ) → opens_block_comment bs ≡ true → n ≤ length (slice_from 1 bs) →
+        IsUpTo (asterisk ∷ slash ∷ []) (take n (slice_from 1 bs)) (drop n (slice_from 1 bs)) →
+        IsFirstToken mode (b ∷ bs) kind.Other (2 + n)
     go [] opens le tail = cc
     go (s ∷ bs) opens le tail =
         let le' : n ≤ length bs = rw rest_is at le in

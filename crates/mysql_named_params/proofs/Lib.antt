@@ -7,6 +7,6 @@ pub mod RenameLemmas
 pub mod PositionLemmas
 pub mod ParsedLemmas
 pub mod PlainLemmas
-pub mod AheadLemmas
+pub mod RestLemmas
 pub mod LocalityLemmas
 pub mod ReparsedLemmas

@@ -7,7 +7,7 @@ use Rattle.mysql_named_params.specs.FirstToken.{opens_dash_comment, opens_block_
 use Rattle.mysql_named_params.specs.Locality.{looks_at, LooksAlike}
 use Rattle.mysql_named_params.proofs.TokenEnds.{not_plain_at, plain_at}
 use Rattle.mysql_named_params.proofs.PlainLemmas.{plain_none}
-use Rattle.mysql_named_params.proofs.AheadLemmas.{string-alike, up_to-alike, block-alike, cond_none, some_none, dash_none, none_dash, block_none, none_block, name_none, none_name}
+use Rattle.mysql_named_params.proofs.RestLemmas.{string-alike, up_to-alike, block-alike, cond_none, some_none, dash_none, none_dash, block_none, none_block, name_none, none_name}
 
 begins_take : (test : ℕ → Bool) (xs : List ℕ) → begins test (take 1 xs) ≡ begins test xs
 begins_take test [] = refl

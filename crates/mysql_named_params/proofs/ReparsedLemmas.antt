@@ -8,27 +8,27 @@ use Rattle.mysql_named_params.proofs.TokenListLemmas.{one_token_list}
 use Rattle.mysql_named_params.proofs.RenameLemmas.{restored_renamed}
 use Rattle.mysql_named_params.specs.Places.{names, marks, renamed, restored, place_count}
 use Rattle.mysql_named_params.specs.FirstToken.{opens_dash_comment}
-use Rattle.mysql_named_params.proofs.AheadLemmas.{Ahead, at_end, same, at_place, Ahead-append, IsToken-move, IsNeutral}
+use Rattle.mysql_named_params.proofs.RestLemmas.{SameUpToPlace, at_end, same, at_place, same-append, IsToken-move, OpensNothing}
 
-mark_neutral : (rest : List ℕ) → IsNeutral (question_mark ∷ rest)
-mark_neutral rest = record { no_line = no_line rest; no_gap = refl; no_block = refl; no_start = refl }
+mark_opens_nothing : (rest : List ℕ) → OpensNothing (question_mark ∷ rest)
+mark_opens_nothing rest = record { no_line = no_line rest; no_gap = refl; no_block = refl; no_start = refl }
   where
     no_line : (rest : List ℕ) → opens_dash_comment (question_mark ∷ rest) ≡ false
     no_line [] = refl
     no_line (w ∷ rest) = refl
 
-renamed_ahead : (ts : List Token) → Ahead (text_of ts) (text_of (renamed ts))
-renamed_ahead [] = at_end
-renamed_ahead (Name name ∷ ts) = at_place (inl refl) (mark_neutral _)
-renamed_ahead (Mark ∷ ts) = same (renamed_ahead ts)
-renamed_ahead (t ∷ ts) = Ahead-append (bytes_of t) (renamed_ahead ts)
+renamed_up_to_place : (ts : List Token) → SameUpToPlace (text_of ts) (text_of (renamed ts))
+renamed_up_to_place [] = at_end
+renamed_up_to_place (Name name ∷ ts) = at_place (inl refl) (mark_opens_nothing _)
+renamed_up_to_place (Mark ∷ ts) = same (renamed_up_to_place ts)
+renamed_up_to_place (t ∷ ts) = same-append (bytes_of t) (renamed_up_to_place ts)
 
 pub renamed_tokens : (mode : Bool) (ts : List Token) → AreTokensBefore mode [] ts →
     AreTokensBefore mode [] (renamed ts)
 renamed_tokens mode [] h = tt
 renamed_tokens mode (Name name ∷ ts) h = (tt, renamed_tokens mode ts h.1)
 renamed_tokens mode (Mark ∷ ts) h = (tt, renamed_tokens mode ts h.1)
-renamed_tokens mode (t ∷ ts) h = (IsToken-move mode t _ _ (λ p. elim p [ ]) (renamed_ahead ts) h.0, renamed_tokens mode ts h.1)
+renamed_tokens mode (t ∷ ts) h = (IsToken-move mode t _ _ (λ p. elim p [ ]) (renamed_up_to_place ts) h.0, renamed_tokens mode ts h.1)
 
 pub renamed_names : (ts : List Token) → names (renamed ts) ≡ []
 renamed_names [] = refl

@@ -1,4 +1,4 @@
--- What is computed in Scan is what the grammar says.
+-- What `TokenEnds` computes is what the grammar says.
 use Rattle.std.proofs.Common.{◌≡◌, ◌≢◌, ℕ, suc, ◌+◌, ◌-◌, ◌<◌, ◌≤◌, get_or, eq-eqb, Bool, true, false, ◌==◌, ◌&&◌, nat_eq, List, [], ◌∷◌, ◌++◌, length, take, drop, refl, sym, ap, ◌∙◌, subst, inl, inr, arith, append_assoc, length-append, ne_eqb, true≢false, take_at, take-append-drop}
 use Rattle.std.specs.List.{starts_with}
 use Rattle.std.proofs.lemmas.List.{drop_more, drop_all, take_rest}
@@ -12,7 +12,7 @@ use Rattle.mysql_named_params.proofs.TokenEnds.{begins_with, len_up_to, string_l
 
 -- ---- words
 
--- a byte_unit more in front, where the word doesn't begin with it
+-- a byte more in front, where the word doesn't begin with it
 cons_up_to : (word : List ℕ) (b : ℕ) (bytes rest : List ℕ) →
     begins_with word (b ∷ (bytes ++ rest)) ≡ false → IsUpTo word bytes rest →
     IsUpTo word (b ∷ bytes) rest
@@ -171,7 +171,8 @@ word_stops word text i n some here le inv =
     let e : len_up_to word (drop i text) ≡ length word = stops (drop i text) (sym (starts_is word (drop i text)) ∙ (rw take_rest at here)) (rw take_rest at le) in
     omega arith
   where
-    stops : (xs : List ℕ) → begins_with word xs ≡ true → length word ≤ length xs → len_up_to word xs ≡ length word
+    stops : (xs : List ℕ) → begins_with word xs ≡ true → length word ≤ length xs →
+        len_up_to word xs ≡ length word
     stops [] h le = omega arith
     stops (b ∷ bs) h le = rw h refl
 

@@ -14,12 +14,12 @@ begins_with [] text = true
 begins_with (w ∷ ws) [] = false
 begins_with (w ∷ ws) (b ∷ bs) = (w == b) && begins_with ws bs
 
--- how many bytes there are up to and with the up_to_word place of the word, or else to the end
+-- how many bytes there are up to and with the first place of the word, or else to the end
 abbrev pub len_up_to : List ℕ → List ℕ → ℕ
 len_up_to word [] = 0
 len_up_to word (b ∷ bs) = cond (begins_with word (b ∷ bs)) (length word) (suc (len_up_to word bs))
 
--- how many bytes of a string are left; the flag says that the byte_unit before was an escape_unit
+-- how many bytes of a string are left; the flag says that the byte before escapes
 abbrev pub string_len : Bool → ℕ → Bool → List ℕ → ℕ
 string_len mode quote escaped [] = 0
 string_len mode quote true (b ∷ bs) = suc (string_len mode quote false bs)
@@ -117,7 +117,7 @@ up_to_is word bytes rest some (up_to_end lacks e) =
 
 -- ---- strings
 
--- a quote is no escape_unit
+-- a quote is no escape
 pub quote_no_escape : (mode : Bool) (q : ℕ) → is_quote q ≡ true → is_escape mode q ≡ false
 quote_no_escape false q h =
     elim (or_cases (q == single_quote) (q == double_quote) h) [
@@ -163,7 +163,7 @@ name_len_is (b ∷ bs) rest h e =
 
 -- ---- tokens
 
--- the tests on the up_to_word byte_unit that fail for a quote's later rivals
+-- the front of a text, by its length
 take_front : (a rest : List ℕ) (n : ℕ) → n ≡ length a → take n (a ++ rest) ≡ a
 take_front a rest n e = take_at a rest n (sym e)
 
@@ -186,7 +186,7 @@ not_plain_at_is mode (Name (b ∷ bs)) rest h =
 not_plain_at_is mode Mark rest h = refl
 not_plain_at_is mode (Plain b) rest h = absurd h
 
--- where no_units is computed, the up_to_word byte_unit is a plain token
+-- where none is computed, the first byte is a plain token
 pub plain_at : (mode : Bool) (b : ℕ) (rest : List ℕ) → not_plain_at mode (b ∷ rest) ≡ None →
     IsToken mode (Plain b) rest
 plain_at mode b rest none_there t after h e =

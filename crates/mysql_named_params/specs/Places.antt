@@ -1,5 +1,5 @@
 -- The places of a query: the names and the marks among its tokens.
-use Rattle.std.specs.Prelude.{◌≡◌, ℕ, ◌+◌, ◌<◌, ◌≤◌, List, [], ◌∷◌, ◌++◌, length, ⊤}
+use Rattle.std.specs.Prelude.{◌≡◌, ◌&&◌, nat_lt, Bool, ℕ, ◌+◌, ◌<◌, ◌≤◌, List, [], ◌∷◌, ◌++◌, length, ⊤}
 use Rattle.mysql_named_params.specs.Tokens.{Token, bytes_of, text_of}
 use Rattle.mysql_named_params.specs.Tokens.{Name, Mark}
 
@@ -73,3 +73,7 @@ HasName ts = 0 < length (names ts)
 -- there is a mark
 abbrev pub HasMark : List Token → Type 0
 HasMark ts = 0 < marks ts
+
+-- there is a name and a mark, as a test
+abbrev pub has_both : List Token → Bool
+has_both ts = nat_lt 0 (length (names ts)) && nat_lt 0 (marks ts)

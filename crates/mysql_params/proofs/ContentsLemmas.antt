@@ -41,7 +41,6 @@ place_alone place before bytes ts e =
 
 module _ (mode : Bool) where
   one_more : (literal : List ℕ) (c : Content) (piece rest : List ℕ) (pieces : List (List ℕ)) (cs : List Content) →
-      
       ReadsBefore continues_literal mode literal c → BeginsWithout continues_literal (piece ++ rest) →
       contents_before mode pieces rest ≡ Some cs →
       contents_before mode (piece ∷ pieces) (literal ++ (piece ++ rest)) ≡ Some (c ∷ cs)
@@ -54,7 +53,6 @@ module _ (mode : Bool) where
       contents_before mode (pieces_from piece ts) (literal ++ (piece ++ bound ts literals)) ≡ Some (c ∷ cs)
 
   Goal-place : (ts : List Token) (piece : List ℕ) (b : ℕ) (more : List ℕ) (literal' : List ℕ) (literals : List (List ℕ)) (c' : Content) (cs : List Content) →
-      
       may_stand_behind b ≡ false → ReadsBefore continues_literal mode literal' c' → none_or_first may_stand_behind (text_of ts) ≡ true → Goal ts [] literals cs →
       (literal : List ℕ) (c : Content) → ReadsBefore continues_literal mode literal c → none_or_first may_stand_behind (piece ++ b ∷ more) ≡ true →
       contents_before mode (piece ∷ pieces_from [] ts) (literal ++ (piece ++ (literal' ++ bound ts literals))) ≡ Some (c ∷ c' ∷ cs)
@@ -63,7 +61,7 @@ module _ (mode : Bool) where
       one_more literal c piece (literal' ++ bound ts literals) (pieces_from [] ts) (c' ∷ cs) r (piece_ends piece _ b more f n) (g literal' c' r' n')
 
   Goal-other : (ts : List Token) (piece bytes : List ℕ) (literals : List (List ℕ)) (cs : List Content) →
-      Goal ts (piece ++ bytes) literals cs → 
+      Goal ts (piece ++ bytes) literals cs →
       (literal : List ℕ) (c : Content) → ReadsBefore continues_literal mode literal c → none_or_first may_stand_behind (piece ++ (bytes ++ text_of ts)) ≡ true →
       contents_before mode (pieces_from (piece ++ bytes) ts) (literal ++ (piece ++ (bytes ++ bound ts literals))) ≡ Some (c ∷ cs)
   unfolding Goal
@@ -71,7 +69,6 @@ module _ (mode : Bool) where
       rw (← append_assoc piece bytes (bound ts literals)) (g literal c r (rw (append_assoc piece bytes (text_of ts)) n))
 
   then_law : (ts : List Token) (place : ℕ) (before piece : List ℕ) (literals : List (List ℕ)) (cs : List Content) →
-      
       first_not_alone_from place before ts ≡ None → AreReadAs mode literals cs → length literals ≡ place_count ts → Goal ts piece literals cs
   unfolding Goal
   then_law [] place before piece [] [] a rs l literal c r n = one_more literal c piece [] [] [] r (last_piece_ends piece n) refl
@@ -91,14 +88,12 @@ module _ (mode : Bool) where
       Goal-other ts piece (bytes_of t) literals cs (then_law ts place (before ++ bytes_of t) (piece ++ bytes_of t) literals cs a rs l) literal c r n
 
   contents-other : (ts : List Token) (piece bytes : List ℕ) (literals : List (List ℕ)) (cs : List Content) →
-      
       contents mode (pieces_from (piece ++ bytes) ts) ((piece ++ bytes) ++ bound ts literals) ≡ Some cs →
       contents mode (pieces_from (piece ++ bytes) ts) (piece ++ (bytes ++ bound ts literals)) ≡ Some cs
   contents-other ts piece bytes literals cs h = rw (← append_assoc piece bytes (bound ts literals)) h
 
   -- the contents of the text are those of the literals
   pub contents_of_bound : (ts : List Token) (place : ℕ) (before piece : List ℕ) (literals : List (List ℕ)) (cs : List Content) →
-      
       first_not_alone_from place before ts ≡ None → AreReadAs mode literals cs → length literals ≡ place_count ts →
       contents mode (pieces_from piece ts) (piece ++ bound ts literals) ≡ Some cs
   unfolding Goal

@@ -10,3 +10,7 @@ pub mod ContentsLemmas
 pub mod PutLemmas
 pub mod StandsAloneLemmas
 pub mod ValueLiteralLemmas
+pub mod WordLemmas
+pub mod RenamedPlaceLemmas
+pub mod CauseLemmas
+pub mod BoundTextLemmas

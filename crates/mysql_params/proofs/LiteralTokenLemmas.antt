@@ -1,5 +1,5 @@
--- A literal, known by its shape alone: it is neutral, and its tokens, none of them a place, end where it
--- ends, whatever follows.
+-- A literal, known by its shape alone: it opens nothing with the byte before it, and its tokens, none of
+-- them a place, end where it ends, whatever follows.
 use Rattle.std.proofs.Common.{◌≡◌, ◌++◌, ◌==◌, ◌&&◌, ◌||◌, nat_le, ℕ, Bool, true, false, List, [], ◌∷◌, None, arith, inl, inr, refl, ap, ◌∙◌, sym, append-nil, append_assoc, true≢false}
 use Rattle.std.specs.List.{list_all}
 use Rattle.std.proofs.lemmas.Bool.{and_parts, and_from, cases_Bool, eqb-true}
@@ -15,11 +15,11 @@ use Rattle.mysql_named_params.specs.Places.{place_count}
 use Rattle.mysql_named_params.proofs.RenameLemmas.{text_of-append}
 use Rattle.mysql_params.proofs.TokenRowLemmas.{AreTokensBefore-append, place_count-append}
 use Rattle.mysql_named_params.proofs.TokenEnds.{plain_at, dash_comment}
-use Rattle.mysql_named_params.proofs.AheadLemmas.{IsNeutral}
+use Rattle.mysql_named_params.proofs.RestLemmas.{OpensNothing}
 
 -- a digit or a letter
-abbrev pub is_inert : ℕ → Bool
-is_inert b = is_digit b || ((nat_le 65 b && nat_le b 90) || (nat_le 97 b && nat_le b 122))
+abbrev pub is_alphanumeric : ℕ → Bool
+is_alphanumeric b = is_digit b || ((nat_le 65 b && nat_le b 90) || (nat_le 97 b && nat_le b 122))
 
 -- this text is these tokens, whatever follows
 pub record IsCutBefore (mode : Bool) (text : List ℕ) (ts : List Token) : Type 0 where
@@ -39,14 +39,14 @@ other test b k h f =
       | inr e ↦ e
     ]
 
--- a byte that is inert is plain before any rest
-is_inert-plain : (mode : Bool) (b : ℕ) → is_inert b ≡ true → (rest : List ℕ) →
+-- a digit or a letter is plain before any rest
+is_alphanumeric-plain : (mode : Bool) (b : ℕ) → is_alphanumeric b ≡ true → (rest : List ℕ) →
     IsToken mode (Plain b) rest
-is_inert-plain mode b h rest =
+is_alphanumeric-plain mode b h rest =
     plain_at mode b rest (rw (not_k single_quote refl, not_k double_quote refl, not_k backquote refl, not_k hash refl, not_k dash refl, not_k slash refl, not_k colon refl, not_k question_mark refl) refl)
   where
-    not_k : (k : ℕ) → is_inert k ≡ false → (b == k) ≡ false
-    not_k k f = other is_inert b k h f
+    not_k : (k : ℕ) → is_alphanumeric k ≡ false → (b == k) ≡ false
+    not_k k f = other is_alphanumeric b k h f
 
 plain_text : (bytes : List ℕ) → text_of (plain_tokens bytes) ≡ bytes
 plain_text [] = refl
@@ -56,35 +56,35 @@ plain_places : (bytes : List ℕ) → place_count (plain_tokens bytes) ≡ 0
 plain_places [] = refl
 plain_places (b ∷ bytes) = plain_places bytes
 
-plain_before : (mode : Bool) (bytes : List ℕ) → list_all is_inert bytes ≡ true → (rest : List ℕ) →
+plain_before : (mode : Bool) (bytes : List ℕ) → list_all is_alphanumeric bytes ≡ true → (rest : List ℕ) →
     AreTokensBefore mode rest (plain_tokens bytes)
 plain_before mode [] h rest = tt
-plain_before mode (b ∷ bytes) h rest = let p = and_parts (is_inert b) (list_all is_inert bytes) h in (is_inert-plain mode b p.0 _, plain_before mode bytes p.1 rest)
+plain_before mode (b ∷ bytes) h rest = let p = and_parts (is_alphanumeric b) (list_all is_alphanumeric bytes) h in (is_alphanumeric-plain mode b p.0 _, plain_before mode bytes p.1 rest)
 
-inert_cut : (mode : Bool) (bytes : List ℕ) → list_all is_inert bytes ≡ true →
+alphanumeric_cut : (mode : Bool) (bytes : List ℕ) → list_all is_alphanumeric bytes ≡ true →
     (ts : List Token) × IsCutBefore mode bytes ts
-inert_cut mode bytes h = (plain_tokens bytes, record { cut_text = plain_text bytes; cut_tokens = plain_before mode bytes h; cut_places = plain_places bytes })
+alphanumeric_cut mode bytes h = (plain_tokens bytes, record { cut_text = plain_text bytes; cut_tokens = plain_before mode bytes h; cut_places = plain_places bytes })
 
-digit_inert : (b : ℕ) → is_digit b ≡ true → is_inert b ≡ true
-digit_inert b h = rw h refl
+digit_alphanumeric : (b : ℕ) → is_digit b ≡ true → is_alphanumeric b ≡ true
+digit_alphanumeric b h = rw h refl
 
-hex_inert : (b : ℕ) → is_hexadecimal_digit b ≡ true → is_inert b ≡ true
-hex_inert b h = grind (arith, nat_tests)
+hexadecimal_alphanumeric : (b : ℕ) → is_hexadecimal_digit b ≡ true → is_alphanumeric b ≡ true
+hexadecimal_alphanumeric b h = grind (arith, nat_tests)
 
-digits_inert : (bytes : List ℕ) → list_all is_digit bytes ≡ true → list_all is_inert bytes ≡ true
-digits_inert [] h = refl
-digits_inert (b ∷ bytes) h = let p = and_parts (is_digit b) (list_all is_digit bytes) h in and_from _ _ (digit_inert b p.0) (digits_inert bytes p.1)
+digits_alphanumeric : (bytes : List ℕ) → list_all is_digit bytes ≡ true → list_all is_alphanumeric bytes ≡ true
+digits_alphanumeric [] h = refl
+digits_alphanumeric (b ∷ bytes) h = let p = and_parts (is_digit b) (list_all is_digit bytes) h in and_from _ _ (digit_alphanumeric b p.0) (digits_alphanumeric bytes p.1)
 
-AreDigits-inert : (bytes : List ℕ) → AreDigits bytes → list_all is_inert bytes ≡ true
-AreDigits-inert [] h = absurd h
-AreDigits-inert (b ∷ bytes) h = and_from _ _ (digit_inert b h.0) (digits_inert bytes h.1)
+AreDigits-alphanumeric : (bytes : List ℕ) → AreDigits bytes → list_all is_alphanumeric bytes ≡ true
+AreDigits-alphanumeric [] h = absurd h
+AreDigits-alphanumeric (b ∷ bytes) h = and_from _ _ (digit_alphanumeric b h.0) (digits_alphanumeric bytes h.1)
 
-AreHexadecimalPairs-inert : (bytes : List ℕ) → AreHexadecimalPairs bytes →
-    list_all is_inert bytes ≡ true
-AreHexadecimalPairs-inert [] h = absurd h
-AreHexadecimalPairs-inert (a ∷ []) h = absurd h
-AreHexadecimalPairs-inert (a ∷ b ∷ []) h = and_from _ _ (hex_inert a h.0) (and_from _ _ (hex_inert b h.1) refl)
-AreHexadecimalPairs-inert (a ∷ b ∷ c ∷ bytes) h = and_from _ _ (hex_inert a h.0) (and_from _ _ (hex_inert b h.1) (AreHexadecimalPairs-inert (c ∷ bytes) h.2))
+AreHexadecimalPairs-alphanumeric : (bytes : List ℕ) → AreHexadecimalPairs bytes →
+    list_all is_alphanumeric bytes ≡ true
+AreHexadecimalPairs-alphanumeric [] h = absurd h
+AreHexadecimalPairs-alphanumeric (a ∷ []) h = absurd h
+AreHexadecimalPairs-alphanumeric (a ∷ b ∷ []) h = and_from _ _ (hexadecimal_alphanumeric a h.0) (and_from _ _ (hexadecimal_alphanumeric b h.1) refl)
+AreHexadecimalPairs-alphanumeric (a ∷ b ∷ c ∷ bytes) h = and_from _ _ (hexadecimal_alphanumeric a h.0) (and_from _ _ (hexadecimal_alphanumeric b h.1) (AreHexadecimalPairs-alphanumeric (c ∷ bytes) h.2))
 
 -- a dash before a digit is plain
 minus_plain : (mode : Bool) (d : ℕ) (rest : List ℕ) → is_digit d ≡ true →
@@ -102,7 +102,7 @@ minus_cut mode (d ∷ digits) h = (
   plain_tokens (dash ∷ d ∷ digits),
   record {
     cut_text = plain_text (dash ∷ d ∷ digits);
-    cut_tokens = λ rest. (minus_plain mode d _ h.0, plain_before mode (d ∷ digits) (AreDigits-inert (d ∷ digits) h) rest);
+    cut_tokens = λ rest. (minus_plain mode d _ h.0, plain_before mode (d ∷ digits) (AreDigits-alphanumeric (d ∷ digits) h) rest);
     cut_places = plain_places digits;
   },
 )
@@ -146,18 +146,18 @@ quoted_cut true literal h = strings_cut true h
 
 pub IsLiteral-cut : (mode : Bool) {literal : List ℕ} → IsLiteral mode literal →
     (ts : List Token) × IsCutBefore mode literal ts
-IsLiteral-cut mode null_literal = inert_cut mode _ refl
-IsLiteral-cut mode (natural_literal digits h) = inert_cut mode _ (AreDigits-inert digits h)
+IsLiteral-cut mode null_literal = alphanumeric_cut mode _ refl
+IsLiteral-cut mode (natural_literal digits h) = alphanumeric_cut mode _ (AreDigits-alphanumeric digits h)
 IsLiteral-cut mode (negative_literal digits h) = minus_cut mode _ h
-IsLiteral-cut mode (hexadecimal_literal pairs h) = inert_cut mode _ (AreHexadecimalPairs-inert pairs h)
+IsLiteral-cut mode (hexadecimal_literal pairs h) = alphanumeric_cut mode _ (AreHexadecimalPairs-alphanumeric pairs h)
 IsLiteral-cut mode (quoted_literal literal h) = quoted_cut mode literal h
 
 -- a byte with which a literal other than a negative one begins
 abbrev first_byte : ℕ → Bool
 first_byte b = is_digit b || (b == single_quote || b == 78)
 
-first_neutral : (b : ℕ) (rest : List ℕ) → first_byte b ≡ true → IsNeutral (b ∷ rest)
-first_neutral b rest h =
+first_opens_nothing : (b : ℕ) (rest : List ℕ) → first_byte b ≡ true → OpensNothing (b ∷ rest)
+first_opens_nothing b rest h =
     record {
       no_line = no_line rest;
       no_gap = grind (arith, nat_tests);
@@ -169,33 +169,33 @@ first_neutral b rest h =
     no_line [] = refl
     no_line (w ∷ rest) = rw (other first_byte b dash h refl) refl
 
-AreDigits-neutral : (digits rest : List ℕ) → AreDigits digits → IsNeutral (digits ++ rest)
-AreDigits-neutral [] rest h = absurd h
-AreDigits-neutral (d ∷ digits) rest h = first_neutral d (digits ++ rest) (rw h.0 refl)
+AreDigits-open_nothing : (digits rest : List ℕ) → AreDigits digits → OpensNothing (digits ++ rest)
+AreDigits-open_nothing [] rest h = absurd h
+AreDigits-open_nothing (d ∷ digits) rest h = first_opens_nothing d (digits ++ rest) (rw h.0 refl)
 
-minus_neutral : (digits rest : List ℕ) → AreDigits digits → IsNeutral (dash ∷ (digits ++ rest))
-minus_neutral [] rest h = absurd h
-minus_neutral (d ∷ digits) rest h =
-    record { no_line = (AreDigits-neutral (d ∷ digits) rest h).no_gap; no_gap = refl; no_block = refl; no_start = refl }
+minus_opens_nothing : (digits rest : List ℕ) → AreDigits digits → OpensNothing (dash ∷ (digits ++ rest))
+minus_opens_nothing [] rest h = absurd h
+minus_opens_nothing (d ∷ digits) rest h =
+    record { no_line = (AreDigits-open_nothing (d ∷ digits) rest h).no_gap; no_gap = refl; no_block = refl; no_start = refl }
 
-string_neutral : {mode : Bool} {string : List ℕ} → IsClosedString mode string → (rest : List ℕ) →
-    IsNeutral (string ++ rest)
-string_neutral (closed_string body u) rest = first_neutral single_quote _ refl
+string_opens_nothing : {mode : Bool} {string : List ℕ} → IsClosedString mode string → (rest : List ℕ) →
+    OpensNothing (string ++ rest)
+string_opens_nothing (closed_string body u) rest = first_opens_nothing single_quote _ refl
 
-strings_neutral : {mode : Bool} {literal : List ℕ} → AreClosedStrings mode literal →
-    (rest : List ℕ) → IsNeutral (literal ++ rest)
-strings_neutral (one_string string h) rest = string_neutral h rest
-strings_neutral (more_strings string more h hs) rest = rw (append_assoc string more rest) (string_neutral h (more ++ rest))
+strings_open_nothing : {mode : Bool} {literal : List ℕ} → AreClosedStrings mode literal →
+    (rest : List ℕ) → OpensNothing (literal ++ rest)
+strings_open_nothing (one_string string h) rest = string_opens_nothing h rest
+strings_open_nothing (more_strings string more h hs) rest = rw (append_assoc string more rest) (string_opens_nothing h (more ++ rest))
 
-quoted_neutral : (mode : Bool) (literal : List ℕ) → IsQuoted mode literal → (rest : List ℕ) →
-    IsNeutral (literal ++ rest)
-quoted_neutral false literal h rest = string_neutral h rest
-quoted_neutral true literal h rest = strings_neutral h rest
+quoted_opens_nothing : (mode : Bool) (literal : List ℕ) → IsQuoted mode literal → (rest : List ℕ) →
+    OpensNothing (literal ++ rest)
+quoted_opens_nothing false literal h rest = string_opens_nothing h rest
+quoted_opens_nothing true literal h rest = strings_open_nothing h rest
 
-pub IsLiteral-neutral : (mode : Bool) {literal : List ℕ} → IsLiteral mode literal →
-    (rest : List ℕ) → IsNeutral (literal ++ rest)
-IsLiteral-neutral mode null_literal rest = first_neutral 78 _ refl
-IsLiteral-neutral mode (natural_literal digits h) rest = AreDigits-neutral digits rest h
-IsLiteral-neutral mode (negative_literal digits h) rest = minus_neutral digits rest h
-IsLiteral-neutral mode (hexadecimal_literal pairs h) rest = first_neutral 48 _ refl
-IsLiteral-neutral mode (quoted_literal literal h) rest = quoted_neutral mode literal h rest
+pub IsLiteral-opens_nothing : (mode : Bool) {literal : List ℕ} → IsLiteral mode literal →
+    (rest : List ℕ) → OpensNothing (literal ++ rest)
+IsLiteral-opens_nothing mode null_literal rest = first_opens_nothing 78 _ refl
+IsLiteral-opens_nothing mode (natural_literal digits h) rest = AreDigits-open_nothing digits rest h
+IsLiteral-opens_nothing mode (negative_literal digits h) rest = minus_opens_nothing digits rest h
+IsLiteral-opens_nothing mode (hexadecimal_literal pairs h) rest = first_opens_nothing 48 _ refl
+IsLiteral-opens_nothing mode (quoted_literal literal h) rest = quoted_opens_nothing mode literal h rest

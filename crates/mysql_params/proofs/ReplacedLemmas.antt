@@ -5,13 +5,13 @@ use Rattle.std.proofs.Common.{◌≡◌, ◌++◌, ℕ, List, [], ◌∷◌, len
 use Rattle.mysql_values.specs.LiteralShape.{IsLiteral}
 use Rattle.mysql_named_params.specs.Tokens.{Token, IsTokens, AreTokensBefore, text_of, bytes_of, Name, Mark}
 use Rattle.mysql_named_params.specs.Places.{place_count}
-use Rattle.mysql_named_params.proofs.AheadLemmas.{Ahead, at_end, at_place, Ahead-append, IsToken-move}
+use Rattle.mysql_named_params.proofs.RestLemmas.{SameUpToPlace, at_end, at_place, same-append, IsToken-move}
 use Rattle.mysql_named_params.proofs.TokenListLemmas.{one_token_list}
 use Rattle.mysql_params.specs.Replaced.{AreLiterals, AreTokensOf, replaced}
 use Rattle.mysql_params.specs.Pieces.{pieces, woven}
 use Rattle.mysql_params.proofs.PieceLemmas.{woven_count, woven_is}
 use Rattle.mysql_params.proofs.BoundText.{bound}
-use Rattle.mysql_params.proofs.LiteralTokenLemmas.{IsCutBefore, IsLiteral-cut, IsLiteral-neutral}
+use Rattle.mysql_params.proofs.LiteralTokenLemmas.{IsCutBefore, IsLiteral-cut, IsLiteral-opens_nothing}
 use Rattle.mysql_params.proofs.TokenRowLemmas.{text_then-append, text_then-text, AreTokensBefore-append, place_count-append}
 
 -- the tokens of a literal end where it ends, whatever follows
@@ -30,21 +30,20 @@ literal_lists mode (literal ∷ literals) h =
     let more = literal_lists mode literals h.1 in
     (cut.0 ∷ more.0, (record { text = cut.1.cut_text; each = cut.1.cut_tokens [] }, more.1))
 
-pub bound_ahead : (mode : Bool) (ts : List Token) (literals : List (List ℕ)) →
-    AreLiterals mode literals → Ahead (text_of ts) (bound ts literals)
-bound_ahead mode [] literals a = at_end
-bound_ahead mode (Name name ∷ ts) [] a = Ahead-append (bytes_of (Name name)) (bound_ahead mode ts [] a)
-bound_ahead mode (Name name ∷ ts) (literal ∷ literals) a = at_place (inl refl) (IsLiteral-neutral mode a.0 _)
-bound_ahead mode (Mark ∷ ts) [] a = Ahead-append (bytes_of Mark) (bound_ahead mode ts [] a)
-bound_ahead mode (Mark ∷ ts) (literal ∷ literals) a = at_place (inr refl) (IsLiteral-neutral mode a.0 _)
-bound_ahead mode (t ∷ ts) literals a = Ahead-append (bytes_of t) (bound_ahead mode ts literals a)
+pub bound_up_to_place : (mode : Bool) (ts : List Token) (literals : List (List ℕ)) →
+    AreLiterals mode literals → SameUpToPlace (text_of ts) (bound ts literals)
+bound_up_to_place mode [] literals a = at_end
+bound_up_to_place mode (Name name ∷ ts) [] a = same-append (bytes_of (Name name)) (bound_up_to_place mode ts [] a)
+bound_up_to_place mode (Name name ∷ ts) (literal ∷ literals) a = at_place (inl refl) (IsLiteral-opens_nothing mode a.0 _)
+bound_up_to_place mode (Mark ∷ ts) [] a = same-append (bytes_of Mark) (bound_up_to_place mode ts [] a)
+bound_up_to_place mode (Mark ∷ ts) (literal ∷ literals) a = at_place (inr refl) (IsLiteral-opens_nothing mode a.0 _)
+bound_up_to_place mode (t ∷ ts) literals a = same-append (bytes_of t) (bound_up_to_place mode ts literals a)
 
 list_text : (mode : Bool) (literal : List ℕ) (list ts : List Token) (rest : List ℕ) →
     IsTokens mode literal list → text_of ts ≡ rest → text_of (list ++ ts) ≡ literal ++ rest
 list_text mode literal list ts rest h e = rw (text_then-append list ts [], text_then-text list (text_of ts), e, h.text)
 
 pub replaced_text : (mode : Bool) (ts : List Token) (literals : List (List ℕ)) (lists : List (List Token)) →
-    
     AreTokensOf mode literals lists → length literals ≡ place_count ts →
     text_of (replaced ts lists) ≡ bound ts literals
 replaced_text mode [] literals lists a l = refl
@@ -56,15 +55,13 @@ replaced_text mode (Mark ∷ ts) (literal ∷ literals) [] a l = absurd a
 replaced_text mode (Mark ∷ ts) (literal ∷ literals) (list ∷ lists) a l = list_text mode literal list _ _ a.0 (replaced_text mode ts literals lists a.1 (omega arith))
 replaced_text mode (t ∷ ts) literals lists a l = ap (λ u. bytes_of t ++ u) (replaced_text mode ts literals lists a l)
 
-replaced_ahead : (mode : Bool) (ts : List Token) (literals : List (List ℕ)) (lists : List (List Token)) →
-    
+replaced_up_to_place : (mode : Bool) (ts : List Token) (literals : List (List ℕ)) (lists : List (List Token)) →
     AreLiterals mode literals → AreTokensOf mode literals lists → length literals ≡ place_count ts →
-    Ahead (text_of ts) (text_of (replaced ts lists))
-replaced_ahead mode ts literals lists s a l = subst (λ u. Ahead (text_of ts) u) (sym (replaced_text mode ts literals lists a l)) (bound_ahead mode ts literals s)
+    SameUpToPlace (text_of ts) (text_of (replaced ts lists))
+replaced_up_to_place mode ts literals lists s a l = subst (λ u. SameUpToPlace (text_of ts) u) (sym (replaced_text mode ts literals lists a l)) (bound_up_to_place mode ts literals s)
 
 -- isolation: the tokens of the bound text
 pub replaced_tokens : (mode : Bool) (ts : List Token) (literals : List (List ℕ)) (lists : List (List Token)) →
-    
     AreTokensBefore mode [] ts → AreLiterals mode literals → AreTokensOf mode literals lists →
     length literals ≡ place_count ts → AreTokensBefore mode [] (replaced ts lists)
 replaced_tokens mode [] literals lists h s a l = tt
@@ -77,14 +74,13 @@ replaced_tokens mode (Mark ∷ ts) (literal ∷ literals) [] h s a l = absurd a
 replaced_tokens mode (Mark ∷ ts) (literal ∷ literals) (list ∷ lists) h s a l =
     AreTokensBefore-append mode list (replaced ts lists) [] ((IsLiteral-tokens mode literal list s.0 a.0).cut_tokens _) (replaced_tokens mode ts literals lists h.1 s.1 a.1 (omega arith))
 replaced_tokens mode (t ∷ ts) literals lists h s a l =
-    (IsToken-move mode t _ _ (λ p. p) (replaced_ahead mode ts literals lists s a l) h.0, replaced_tokens mode ts literals lists h.1 s a l)
+    (IsToken-move mode t _ _ (λ p. p) (replaced_up_to_place mode ts literals lists s a l) h.0, replaced_tokens mode ts literals lists h.1 s a l)
 
 list_places : (mode : Bool) (literal : List ℕ) (list ts : List Token) → IsLiteral mode literal →
     IsTokens mode literal list → place_count ts ≡ 0 → place_count (list ++ ts) ≡ 0
 list_places mode literal list ts i h e = rw (place_count-append list ts, (IsLiteral-tokens mode literal list i h).cut_places, e) refl
 
 pub replaced_places : (mode : Bool) (ts : List Token) (literals : List (List ℕ)) (lists : List (List Token)) →
-    
     AreLiterals mode literals → AreTokensOf mode literals lists → length literals ≡ place_count ts →
     place_count (replaced ts lists) ≡ 0
 replaced_places mode [] literals lists s a l = refl
@@ -98,7 +94,6 @@ replaced_places mode (t ∷ ts) literals lists s a l = replaced_places mode ts l
 
 -- the same of the woven text
 pub isolated : (mode : Bool) (query text : List ℕ) (ts : List Token) (literals : List (List ℕ)) (lists : List (List Token)) →
-    
     IsTokens mode query ts → AreLiterals mode literals → AreTokensOf mode literals lists →
     woven (pieces ts) literals ≡ Some text → IsTokens mode text (replaced ts lists)
 isolated mode query text ts literals lists is s a e =
@@ -109,7 +104,6 @@ isolated mode query text ts literals lists is s a e =
     }
 
 pub isolated_places : (mode : Bool) (text : List ℕ) (ts : List Token) (literals : List (List ℕ)) (lists : List (List Token)) →
-    
     AreLiterals mode literals → AreTokensOf mode literals lists → woven (pieces ts) literals ≡ Some text →
     place_count (replaced ts lists) ≡ 0
 isolated_places mode text ts literals lists s a e =

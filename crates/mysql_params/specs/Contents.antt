@@ -3,14 +3,13 @@
 use Rattle.std.specs.Prelude.{ℕ, Bool, List, [], ◌∷◌, Option, Some, None, option_map, option_and_then}
 use Rattle.mysql_values.specs.ReadLiteral.{Content, after, read_literal}
 
--- the contents of literals, each with a piece of the query behind it, which are the whole text
+-- the contents of a text that is literals, each with the next of these pieces behind it
 abbrev pub contents_before : Bool → List (List ℕ) → List ℕ → Option (List Content)
 contents_before mode [] [] = Some []
 contents_before mode [] (b ∷ text) = None
 contents_before mode (piece ∷ pieces) text =
-    option_and_then (λ r. option_and_then (λ rest.
-    option_map (λ contents. r.0 ∷ contents) (contents_before mode pieces rest))
-    (after piece r.1))
+    option_and_then (λ read. option_map (λ said. read.0 ∷ said)
+    (option_and_then (contents_before mode pieces) (after piece read.1)))
     (read_literal mode text)
 
 -- The contents of the literals between these pieces of a query: none where the text is not the first

@@ -11,6 +11,8 @@ pub use Rattle.mysql_named_params.specs.Locality
 pub use Rattle.mysql_named_params.specs.Parsed
 pub use Rattle.mysql_named_params.specs.SameParsed
 pub use Rattle.mysql_named_params.specs.NamedParamsErrors
+pub mod Words
+pub mod WordErrors
 pub mod Program
 pub mod RunErrors
 pub mod ReadersAndWriters
@@ -20,3 +22,5 @@ pub mod Contents
 pub mod Replaced
 pub mod FirstCause
 pub mod ValueLiterals
+pub mod BindErrors
+pub mod Isolation

@@ -1,11 +1,18 @@
 //! Laws of the definitions that the contracts cite, and of equality, of this crate and of those
 //! below. No program needs to call them.
-ghost use Rattle.std.specs.Prelude.{◌≡◌, ◌↔◌, ℕ, Bool, List, Some, IsTrue};
+ghost use Rattle.std.specs.Prelude.{◌≡◌, ◌↔◌, ℕ, Bool, List, Some, IsTrue, map, slice_get};
+ghost use Rattle.mysql_values.specs.Content.{content_of};
 ghost use Rattle.mysql_named_params.specs.Tokens.{Token, IsTokens};
-ghost use Rattle.mysql_named_params.specs.Places.{place_count};
+ghost use Rattle.mysql_named_params.specs.Places.{place_count, positions};
+ghost use Rattle.mysql_params_core.specs.Given.{Given};
+ghost use Rattle.mysql_params.specs.BindErrors.{AreEqualBindErrors};
+ghost use Rattle.mysql_params.specs.Isolation.{IsBoundText};
 ghost use Rattle.mysql_params.specs.Pieces.{pieces, woven};
 ghost use Rattle.mysql_params.specs.Replaced.{AreLiterals, AreTokensOf, replaced};
+ghost use Rattle.mysql_params.specs.RunErrors.{AreEqualRunErrors};
+ghost use Rattle.mysql_params.specs.StandsAlone.{first_not_alone};
 
+use crate::bind_error::BindError;
 use crate::run_error::RunError;
 pub use mysql_named_params::laws::{
     locality, mixed_error_equality, named_params_error_equality, one_token_list, parsed_equality,
@@ -30,9 +37,31 @@ pub fn isolation()
         woven (pieces ts) literals ≡ Some text → place_count (replaced ts lists) ≡ 0 }
 {}
 
+/// Where the same text is bound to one query for two sets of parameters, their values say the same at
+/// every place.
+pub fn equal_texts_say_the_same()
+    ensures same { (mode : Bool) (query text : List ℕ) (ts us : List Token) (a b : Given) →
+        IsTokens mode query ts → IsTokens mode query us →
+        (x : IsBoundText mode ts a text) → (y : IsBoundText mode us b text) →
+        map content_of x.values ≡ map content_of y.values }
+{}
+
+/// The place that doesn't stand alone is one of the query's places, and its position is that place's.
+pub fn position_of_first_not_alone()
+    ensures position { (ts : List Token) (place at : ℕ) →
+        first_not_alone ts ≡ Some (place, at) → slice_get (positions ts) place ≡ Some at }
+{}
+
+/// Errors of binding are equal where variant and fields are.
+pub fn bind_error_equality(a: &BindError, b: &BindError) -> bool
+    ensures same { IsTrue result ↔ AreEqualBindErrors a.now b.now }
+{
+    a == b
+}
+
 /// Errors of a run are equal where variant and field are.
 pub fn run_error_equality(a: &RunError, b: &RunError) -> bool
-    ensures same { IsTrue result ↔ (a.now ≡ b.now) }
+    ensures same { IsTrue result ↔ AreEqualRunErrors a.now b.now }
 {
     a == b
 }

@@ -1,4 +1,4 @@
--- A token that is no place stays one where places behind it give way to texts that are neutral.
+-- A token that is no place stays one where places behind it give way to texts that open nothing.
 use Rattle.std.proofs.Common.{◌≡◌, ◌⊎◌, ◌++◌, ◌==◌, ◌&&◌, not, ℕ, Bool, true, false, cond, List, [], ◌∷◌, Option, Some, None, inl, inr, refl, true≢false, sym, ap, ◌∙◌}
 use Rattle.mysql_named_params.specs.Bytes.{is_white_space, is_start_byte, is_quote, is_extension, begins, asterisk, backquote, colon, dash, hash, newline, question_mark, slash, IsUpTo, Lacks, up_to_word, up_to_end}
 use Rattle.mysql_named_params.specs.Tokens.{Token, IsToken, IsStringTail, closed_string, open_string, open_in_escape, QuotedString, QuotedIdentifier, HashComment, DashComment, BlockComment, Name, Mark, Plain}
@@ -13,31 +13,32 @@ abbrev pub is_gap : ℕ → Bool
 is_gap w = is_white_space w && not (w == newline)
 
 -- a text that, behind a byte that is plain before a place, opens no comment and no name with it
-pub record IsNeutral (text : List ℕ) : Type 0 where
+pub record OpensNothing (text : List ℕ) : Type 0 where
   pub no_line : opens_dash_comment text ≡ false
   pub no_gap : begins is_gap text ≡ false
   pub no_block : opens_block_comment text ≡ false
   pub no_start : begins is_start_byte text ≡ false
 
--- the second text is the first up to a place, where a neutral text follows instead
-pub data Ahead : List ℕ → List ℕ → Type 0 where
-  at_end : Ahead [] []
-  same : {b : ℕ} {x y : List ℕ} → Ahead x y → Ahead (b ∷ x) (b ∷ y)
-  at_place : {b : ℕ} {x y : List ℕ} → (b ≡ colon) ⊎ (b ≡ question_mark) → IsNeutral y →
-      Ahead (b ∷ x) y
+-- the second text is the first up to a place, where another follows instead, which opens nothing
+pub data SameUpToPlace : List ℕ → List ℕ → Type 0 where
+  at_end : SameUpToPlace [] []
+  same : {b : ℕ} {x y : List ℕ} → SameUpToPlace x y → SameUpToPlace (b ∷ x) (b ∷ y)
+  at_place : {b : ℕ} {x y : List ℕ} → (b ≡ colon) ⊎ (b ≡ question_mark) → OpensNothing y →
+      SameUpToPlace (b ∷ x) y
 
-pub Ahead-refl : (x : List ℕ) → Ahead x x
-Ahead-refl [] = at_end
-Ahead-refl (b ∷ x) = same (Ahead-refl x)
+pub same-refl : (x : List ℕ) → SameUpToPlace x x
+same-refl [] = at_end
+same-refl (b ∷ x) = same (same-refl x)
 
-pub Ahead-append : (bytes : List ℕ) {x y : List ℕ} → Ahead x y → Ahead (bytes ++ x) (bytes ++ y)
-Ahead-append [] a = a
-Ahead-append (b ∷ bytes) a = same (Ahead-append bytes a)
+pub same-append : (bytes : List ℕ) {x y : List ℕ} → SameUpToPlace x y →
+    SameUpToPlace (bytes ++ x) (bytes ++ y)
+same-append [] a = a
+same-append (b ∷ bytes) a = same (same-append bytes a)
 
-pub Ahead-end : {x y : List ℕ} → Ahead x y → x ≡ [] → y ≡ []
-Ahead-end at_end e = refl
-Ahead-end (same a) e = cc
-Ahead-end (at_place p n) e = cc
+pub same-end : {x y : List ℕ} → SameUpToPlace x y → x ≡ [] → y ≡ []
+same-end at_end e = refl
+same-end (same a) e = cc
+same-end (at_place p n) e = cc
 
 and_false : (a b : Bool) → b ≡ false → (a && b) ≡ false
 and_false true b e = e
@@ -48,15 +49,16 @@ dash_second : (b : ℕ) (xs : List ℕ) → begins is_gap xs ≡ false → opens
 dash_second b [] e = refl
 dash_second b (w ∷ bs) e = and_false (b == dash) _ e
 
-pub Ahead-line : {x y : List ℕ} → Ahead x y → opens_dash_comment x ≡ false →
+pub same-line : {x y : List ℕ} → SameUpToPlace x y → opens_dash_comment x ≡ false →
     opens_dash_comment y ≡ false
-Ahead-line at_end e = e
-Ahead-line (same at_end) e = e
-Ahead-line (same (same a)) e = e
-Ahead-line (same {b = b} (at_place {y = y} p n)) e = dash_second b y n.no_gap
-Ahead-line (at_place p n) e = n.no_line
+same-line at_end e = e
+same-line (same at_end) e = e
+same-line (same (same a)) e = e
+same-line (same {b = b} (at_place {y = y} p n)) e = dash_second b y n.no_gap
+same-line (at_place p n) e = n.no_line
 
-hint : {x y : List ℕ} → Ahead x y → begins is_extension x ≡ true → begins is_extension y ≡ true
+hint : {x y : List ℕ} → SameUpToPlace x y → begins is_extension x ≡ true →
+    begins is_extension y ≡ true
 hint at_end e = e
 hint (same a) e = e
 hint (at_place p n) e = absurd (no_hint _ p e)
@@ -75,17 +77,17 @@ block_second b xs ys f e = go (b == asterisk) (begins is_extension xs) (begins i
     go true true q f e = ap not (f refl)
     go true false q f e = absurd (true≢false e)
 
-pub Ahead-block : {x y : List ℕ} → Ahead x y → opens_block_comment x ≡ false →
+pub same-block : {x y : List ℕ} → SameUpToPlace x y → opens_block_comment x ≡ false →
     opens_block_comment y ≡ false
-Ahead-block at_end e = e
-Ahead-block (same {b = b} {x = x} {y = y} a) e = block_second b x y (hint a) e
-Ahead-block (at_place p n) e = n.no_block
+same-block at_end e = e
+same-block (same {b = b} {x = x} {y = y} a) e = block_second b x y (hint a) e
+same-block (at_place p n) e = n.no_block
 
-pub Ahead-start : {x y : List ℕ} → Ahead x y → begins is_start_byte x ≡ false →
+pub same-start : {x y : List ℕ} → SameUpToPlace x y → begins is_start_byte x ≡ false →
     begins is_start_byte y ≡ false
-Ahead-start at_end e = e
-Ahead-start (same a) e = e
-Ahead-start (at_place p n) e = n.no_start
+same-start at_end e = e
+same-start (same a) e = e
+same-start (at_place p n) e = n.no_start
 
 -- ---- no comment and no name is computed, by the first bytes
 
@@ -127,15 +129,15 @@ cond_none false p q p' q' f g e = g e
 pub some_none : (t u : Token) → Some t ≡ None → Some u ≡ None
 some_none t u e = cc
 
-not_plain-move : (mode : Bool) (b : ℕ) (x y : List ℕ) → Ahead x y →
+not_plain-move : (mode : Bool) (b : ℕ) (x y : List ℕ) → SameUpToPlace x y →
     not_plain_at mode (b ∷ x) ≡ None → not_plain_at mode (b ∷ y) ≡ None
 not_plain-move mode b x y a =
     cond_none (is_quote b) _ _ _ _ (some_none _ _)
     (cond_none (b == backquote) _ _ _ _ (some_none _ _)
     (cond_none (b == hash) _ _ _ _ (some_none _ _)
-    (cond_none (b == dash) _ _ _ _ (λ e. none_dash y (Ahead-line a (dash_none x e)))
-    (cond_none (b == slash) _ _ _ _ (λ e. none_block y (Ahead-block a (block_none x e)))
-    (cond_none (b == colon) _ _ _ _ (λ e. none_name y (Ahead-start a (name_none x e)))
+    (cond_none (b == dash) _ _ _ _ (λ e. none_dash y (same-line a (dash_none x e)))
+    (cond_none (b == slash) _ _ _ _ (λ e. none_block y (same-block a (block_none x e)))
+    (cond_none (b == colon) _ _ _ _ (λ e. none_name y (same-start a (name_none x e)))
     (cond_none (b == question_mark) _ _ _ _ (some_none _ _) (λ e. refl)))))))
 
 pub string-alike : (mode : Bool) (q : ℕ) (tail x y : List ℕ) →
@@ -163,13 +165,13 @@ block-alike [] x y f (up_to_word body e ends) h = absurd (no_end body e)
 block-alike [] x y f (up_to_end lacks e) h = rw (f lacks e) refl
 
 -- a token that is no place, before what the rest becomes
-pub IsToken-move : (mode : Bool) (t : Token) (x y : List ℕ) → (IsPlace t → ⊥) → Ahead x y →
+pub IsToken-move : (mode : Bool) (t : Token) (x y : List ℕ) → (IsPlace t → ⊥) → SameUpToPlace x y →
     IsToken mode t x → IsToken mode t y
-IsToken-move mode (QuotedString quote tail) x y n a h = (h.0, string-alike mode quote tail x y (λ lacks. Ahead-end a) h.1)
-IsToken-move mode (QuotedIdentifier tail) x y n a h = up_to-alike _ tail x y (λ lacks. Ahead-end a) h
-IsToken-move mode (HashComment tail) x y n a h = up_to-alike _ tail x y (λ lacks. Ahead-end a) h
-IsToken-move mode (DashComment space tail) x y n a h = (h.0, h.1, up_to-alike _ tail x y (λ lacks. Ahead-end a) h.2)
-IsToken-move mode (BlockComment tail) x y n a h = (block-alike tail x y (λ lacks. Ahead-end a) h.1 h.0, up_to-alike _ tail x y (λ lacks. Ahead-end a) h.1)
+IsToken-move mode (QuotedString quote tail) x y n a h = (h.0, string-alike mode quote tail x y (λ lacks. same-end a) h.1)
+IsToken-move mode (QuotedIdentifier tail) x y n a h = up_to-alike _ tail x y (λ lacks. same-end a) h
+IsToken-move mode (HashComment tail) x y n a h = up_to-alike _ tail x y (λ lacks. same-end a) h
+IsToken-move mode (DashComment space tail) x y n a h = (h.0, h.1, up_to-alike _ tail x y (λ lacks. same-end a) h.2)
+IsToken-move mode (BlockComment tail) x y n a h = (block-alike tail x y (λ lacks. same-end a) h.1 h.0, up_to-alike _ tail x y (λ lacks. same-end a) h.1)
 IsToken-move mode (Name name) x y n a h = absurd (n tt)
 IsToken-move mode Mark x y n a h = absurd (n tt)
 IsToken-move mode (Plain b) x y n a h = plain_at mode b y (not_plain-move mode b x y a (plain_none mode b x h))
