@@ -1,5 +1,5 @@
--- The causes for which binding is refused, and the first that holds of a query and parameters. None of
--- them is want of memory.
+-- The causes for which binding is refused, and the first that holds of a query and parameters. None
+-- of them is want of memory.
 use Rattle.std.specs.Prelude.{◌+◌, ◌&&◌, nat_eq, not, ℕ, Bool, List, [], ◌∷◌, length, if◌then◌else◌, Option, Some, None, option_map, Result, Ok, Err}
 use Rattle.std.specs.Option.{option_or}
 use Rattle.mysql_values.specs.declared.value.Value.{Value}
@@ -55,8 +55,8 @@ first_float = first_float_from 0
 abbrev pub float_cause : List Value → Option Cause
 float_cause values = option_map float_value (first_float values)
 
--- the first cause where the values for the names are looked up: the number of marks, then the places,
--- then the values
+-- the first cause where the values for the names are looked up: the number of marks, then the
+-- places, then the values
 abbrev pub later_cause : List Token → List Value → Option Cause
 later_cause ts values =
     option_or (count_cause ts values) (option_or (alone_cause ts) (float_cause values))
