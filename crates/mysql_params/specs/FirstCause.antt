@@ -27,10 +27,11 @@ pub data Cause : Type 0 where
 abbrev pub mixed_cause : List Token → Option Cause
 mixed_cause ts = if has_both ts then Some names_and_marks else None
 
--- there are no names, and the marks are not as many as the values
+-- so many are no names, and not as many marks as values
 abbrev pub counts_differ : ℕ → ℕ → ℕ → Bool
 counts_differ names marks values = nat_eq names 0 && not (nat_eq marks values)
 
+-- there are no names, and the marks are not as many as the values
 abbrev pub count_cause : List Token → List Value → Option Cause
 count_cause ts values =
     if counts_differ (length (names ts)) (marks ts) (length values)
