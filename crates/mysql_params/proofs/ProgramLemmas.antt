@@ -5,7 +5,7 @@ use Rattle.std.proofs.lemmas.Bool.{cases_Bool, and_parts, ltb-true}
 use Rattle.mysql_params.specs.Tokens.{Token, IsTokens, text_of}
 use Rattle.mysql_params.specs.Places.{names, marks, renamed, has_both, HasName, HasMark}
 use Rattle.mysql_params.specs.Parsed.{Parsed, parsed}
-use Rattle.mysql_params.specs.Program.{names_of_query, lines_of, output_of}
+use Rattle.mysql_params.specs.Program.{lines_of, names_output}
 use Rattle.mysql_named_params.proofs.TokenListLemmas.{one_token_list}
 
 -- tokens that have not both kinds of places are found not to
@@ -21,7 +21,7 @@ has_both-not ts not_both =
 -- the lines of a parsed query are what `names` writes
 pub names_output_is : (mode : Bool) (query text : List ℕ) (p : Parsed) (ts us : List Token) →
     IsTokens mode query ts → p ≡ parsed ts → IsTokens mode query us → (HasName us × HasMark us → ⊥) →
-    text ≡ lines_of (p.query ∷ p.params) → output_of names_of_query ts ≡ Ok text
+    text ≡ lines_of (p.query ∷ p.params) → names_output ts ≡ Ok text
 names_output_is mode query text p ts us is e is' not_both text_is =
     let same : us ≡ ts = one_token_list mode query us ts is' is in
     let one : has_both ts ≡ false = has_both-not ts (subst (λ x. HasName x × HasMark x → ⊥) same not_both) in

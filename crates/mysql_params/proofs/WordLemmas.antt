@@ -1,5 +1,5 @@
 -- Words of the program.
-use Rattle.std.proofs.Common.{◌≡◌, ◌∙◌, ℕ, ◌+◌, ◌<◌, Bool, true, false, List, [], ◌∷◌, ◌++◌, length, drop, get_or, map, refl, sym, ap, append_assoc, arith, inl, inr, Option, None, Some, Result, Ok, Err, suc, zero}
+use Rattle.std.proofs.Common.{◌≡◌, ◌∙◌, ℕ, ◌+◌, ◌<◌, Bool, true, false, List, [], ◌∷◌, ◌++◌, length, drop, get_or, map, refl, sym, ap, append_assoc, arith, inl, inr, Option, None, Some, Ok, Err, suc}
 use Rattle.std.specs.Prelude.{IfSome, String, string_bytes, ok_or, option_map, option_and_then}
 use Rattle.std.specs.Global.{Global}
 use Rattle.std.specs.List.{list_all, list_any, position_or_len}

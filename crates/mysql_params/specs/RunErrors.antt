@@ -1,14 +1,19 @@
 -- What each error of `run` stands for.
-use Rattle.std.specs.Prelude.{ℕ, Option, None, Some}
-use Rattle.mysql_params.specs.Program.{Refusal, usage, mixed_query}
+use Rattle.std.specs.Prelude.{◌≡◌, ◌⊎◌, ℕ, List, Err, Option, None, Some, option_map, alloc_error}
+use Rattle.mysql_named_params.specs.Tokens.{Token}
+use Rattle.mysql_params.specs.BindErrors.{AreEqualBindErrors, cause_of}
+use Rattle.mysql_params.specs.Program.{Refusal, refused_words, mixed_query, unbound, IsOutput}
+use Rattle.mysql_params.specs.Words.{Command, usage, repeated}
 use Rattle.mysql_params.specs.declared.run_error.RunError.{RunError}
-use Rattle.mysql_params.specs.declared.run_error.RunError.TheVariants.{Usage, Mixed, Read, Write, Memory}
+use Rattle.mysql_params.specs.declared.run_error.RunError.TheVariants.{Usage, Redefined, Mixed, Bind, Read, Write, Memory}
 
--- the exit status: 1 where the query is refused; 2 for refused words, a failed read or write, and
--- want of memory
+-- the exit status: 1 where a name is repeated or the query is refused; 2 for other words, a failed read
+-- or write, and want of memory
 abbrev pub status_of : RunError → ℕ
 status_of Usage = 2
+status_of (Redefined name) = 1
 status_of Mixed = 1
+status_of (Bind error) = 1
 status_of Read = 2
 status_of Write = 2
 status_of (Memory e) = 2
@@ -16,8 +21,23 @@ status_of (Memory e) = 2
 -- the refusal of the words or the input that it is; none for a failed read or write and want of
 -- memory
 abbrev pub refusal_of : RunError → Option Refusal
-refusal_of Usage = Some usage
+refusal_of Usage = Some (refused_words usage)
+refusal_of (Redefined name) = Some (refused_words (repeated name.items))
 refusal_of Mixed = Some mixed_query
+refusal_of (Bind error) = option_map unbound (cause_of error)
 refusal_of Read = None
 refusal_of Write = None
 refusal_of (Memory e) = None
+
+-- the same variant, and the same name or error of binding
+abbrev pub AreEqualRunErrors : RunError → RunError → Type 0
+AreEqualRunErrors (Redefined a) (Redefined b) = a.items ≡ b.items
+AreEqualRunErrors (Redefined a) b = ⊥
+AreEqualRunErrors (Bind a) (Bind b) = AreEqualBindErrors a b
+AreEqualRunErrors (Bind a) b = ⊥
+AreEqualRunErrors a b = a ≡ b
+
+-- the error is the command's refusal of a query with these tokens, or want of memory
+abbrev pub IsOutputRefusal : Command → List Token → RunError → Type 0
+IsOutputRefusal command ts error = (error ≡ Memory alloc_error)
+    ⊎ ((why : Refusal) × (refusal_of error ≡ Some why) × IsOutput command ts (Err why))

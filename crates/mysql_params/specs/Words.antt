@@ -1,5 +1,5 @@
 -- What the words of the program ask for.
-use Rattle.std.specs.Prelude.{◌==◌, ℕ, nat_lt, not, Bool, true, false, List, [], ◌∷◌, length, map, codes, if◌then◌else◌, Option, None, Some, option_map, option_and_then, Result, Ok, Err, String, string_bytes, unsigned_abs, IsTrue}
+use Rattle.std.specs.Prelude.{◌==◌, ℕ, Bool, true, false, List, [], ◌∷◌, length, map, codes, if◌then◌else◌, Option, None, Some, option_map, option_and_then, Result, Ok, Err, String, string_bytes, unsigned_abs, IsTrue}
 use Rattle.std.specs.Global.{Global}
 use Rattle.std.specs.List.{after_first, before_first, list_all, list_any}
 use Rattle.std.specs.Str.{byte, bytes_eq}

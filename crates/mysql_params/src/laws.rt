@@ -9,6 +9,7 @@ ghost use Rattle.mysql_params.specs.BindErrors.{AreEqualBindErrors};
 ghost use Rattle.mysql_params.specs.Isolation.{IsBoundText};
 ghost use Rattle.mysql_params.specs.Pieces.{pieces, woven};
 ghost use Rattle.mysql_params.specs.Replaced.{AreLiterals, AreTokensOf, replaced};
+ghost use Rattle.mysql_params.specs.RunErrors.{AreEqualRunErrors};
 ghost use Rattle.mysql_params.specs.StandsAlone.{first_not_alone};
 
 use crate::bind_error::BindError;
@@ -61,7 +62,7 @@ pub fn bind_error_equality(a: &BindError, b: &BindError) -> bool
 
 /// Errors of a run are equal where variant and field are.
 pub fn run_error_equality(a: &RunError, b: &RunError) -> bool
-    ensures same { IsTrue result ↔ (a.now ≡ b.now) }
+    ensures same { IsTrue result ↔ AreEqualRunErrors a.now b.now }
 {
     a == b
 }

@@ -1,34 +1,28 @@
 //! The program, over any reader and writer.
-ghost use Rattle.std.specs.Prelude.{◌≡◌, ◌≢◌, ◌↔◌, ◌++◌, ◌∷◌, [], ℕ, List, map, Some, IsErrOf, IsErrAnd, IfOk, IfErr, OnOk, OnErr, IsOk};
+ghost use Rattle.std.specs.Prelude.{◌≡◌, ◌≢◌, ◌⊎◌, ◌++◌, ◌∷◌, [], ℕ, List, map, None, Some, Ok, Err, IsErrOf, IsErrAnd, IfOk, IfErr, OnOk, IsOk, alloc_error, option_map};
 ghost use Rattle.std.specs.Io.KnownBytes.{Appends};
 ghost use Rattle.std.specs.Cow.{cow_slice_items};
 ghost use Rattle.mysql_values.specs.StringUnits.{with_backslashes};
-ghost use Rattle.mysql_params.specs.Bytes.{newline};
-ghost use Rattle.mysql_params.specs.Tokens.{OnTokens};
-ghost use Rattle.mysql_params.specs.NamedParamsErrors.{mixed};
-ghost use Rattle.mysql_params.specs.Program.{Refusal, names_of_query, mixed_query, word_bytes, command_of, lines_of, output_of, Answers};
-ghost use Rattle.mysql_params.specs.RunErrors.{refusal_of};
+ghost use Rattle.mysql_named_params.specs.Bytes.{newline};
+ghost use Rattle.mysql_named_params.specs.Tokens.{OnTokens};
+ghost use Rattle.mysql_params_core.specs.Given.{given};
+ghost use Rattle.mysql_params.specs.BindErrors.{cause_of};
+ghost use Rattle.mysql_params.specs.Program.{Refusal, refused_words, unbound, lines_of, IsOutput, Answers};
+ghost use Rattle.mysql_params.specs.RunErrors.{refusal_of, IsOutputRefusal};
 ghost use Rattle.mysql_params.specs.ReadersAndWriters.{ReadsWhole, AppendsBeginning};
+ghost use Rattle.mysql_params.specs.WordErrors.{seen_command, words_refusal};
+ghost use Rattle.mysql_params.specs.Words.{names_of_query, bound_query, usage, word_bytes, command_of, AsksToBind};
 
+use crate::bind_error::BindError;
+use crate::binding::bind_text;
 use crate::named_params::{NamedParamsError, ParsedNamedParams};
+use crate::params::Params;
 use crate::readers_and_writers::{ReadError, read_whole, write_whole};
 use crate::run_error::RunError;
+use crate::words::{Command, WordsError, judge};
 use std::alloc::{AllocError, Global};
 use std::borrow::CowSlice;
 use std::io::{Read, Write};
-
-/// Judges the words: they have to be the one word `names`.
-fn judge(words: &[String]) -> Result<(), RunError>
-    ensures ok { OnOk result (command_of (word_bytes words.now) ≡ Ok names_of_query) }
-    ensures refused { IfErr result (λ e. IfErr (command_of (word_bytes words.now)) (λ why.
-        refusal_of e ≡ Some why)) }
-    ensures accepted { IfOk (command_of (word_bytes words.now)) (λ _. IsOk result) }
-{
-    match words {
-        [word] if word.as_str() == "names" => Ok(()),
-        _ => Err(RunError::Usage),
-    }
-}
 
 /// Appends a line and its newline.
 fn put_line(text: &mut Vec<u8>, line: &[u8]) -> Result<(), AllocError>
@@ -62,23 +56,83 @@ fn names_text(alloc: Global, parsed: &ParsedNamedParams<'_>) -> Result<Vec<u8>, 
 }
 
 /// What `names` writes for a query.
-fn names_output(alloc: Global, query: &[u8]) -> Result<Vec<u8>, NamedParamsError>
+fn names_output(alloc: Global, query: &[u8]) -> Result<Vec<u8>, RunError>
     ensures ok { IfOk result (λ text. OnTokens with_backslashes query.now (λ ts.
-        output_of names_of_query ts ≡ Ok text.items)) }
-    ensures mixed { OnTokens with_backslashes query.now (λ ts.
-        IsErrOf result (NamedParamsError.Mixed mixed)
-        ↔ (output_of names_of_query ts ≡ Err mixed_query)) }
+        IsOutput names_of_query ts (Ok text.items))) }
+    ensures refused { OnTokens with_backslashes query.now (λ ts.
+        IfErr result (IsOutputRefusal names_of_query ts)) }
 {
-    let parsed = ParsedNamedParams::parse(alloc, query)?;
+    let parsed = match ParsedNamedParams::parse(alloc, query) {
+        Ok(parsed) => parsed,
+        Err(NamedParamsError::Mixed(_)) => return Err(RunError::Mixed),
+        Err(NamedParamsError::Memory(error)) => return Err(RunError::Memory(error)),
+    };
     match names_text(alloc, &parsed) {
         Ok(text) => Ok(text),
-        Err(error) => Err(NamedParamsError::Memory(error)),
+        Err(error) => Err(RunError::Memory(error)),
+    }
+}
+
+/// A refusal of binding, as one of the program.
+fn unbound(error: BindError) -> RunError
+    ensures refusal { refusal_of result ≡ option_map unbound (cause_of error) }
+    ensures memory { error ≡ BindError.Memory alloc_error → result ≡ RunError.Memory alloc_error }
+    ensures apart { result ≢ RunError.Bind (BindError.Memory alloc_error) }
+{
+    match error {
+        BindError::Memory(error) => RunError::Memory(error),
+        error => RunError::Bind(error),
+    }
+}
+
+/// What `bind` writes for a query.
+fn bound_output(alloc: Global, query: &[u8], params: Params) -> Result<Vec<u8>, RunError>
+    ensures ok { IfOk result (λ text. OnTokens with_backslashes query.now (λ ts.
+        IsOutput (bound_query (given params)) ts (Ok text.items))) }
+    ensures refused { OnTokens with_backslashes query.now (λ ts.
+        IfErr result (IsOutputRefusal (bound_query (given params)) ts)) }
+    ensures memory { IfErr result (λ error. error ≢ RunError.Bind (BindError.Memory alloc_error)) }
+{
+    match bind_text(alloc, query, params) {
+        Ok(text) => Ok(text),
+        Err(error) => Err(unbound(error)),
+    }
+}
+
+/// What a command writes for a query.
+fn command_output(alloc: Global, command: Command, query: &[u8]) -> Result<Vec<u8>, RunError>
+    ensures ok { IfOk result (λ text. OnTokens with_backslashes query.now (λ ts.
+        IsOutput (seen_command command) ts (Ok text.items))) }
+    ensures refused { OnTokens with_backslashes query.now (λ ts.
+        IfErr result (IsOutputRefusal (seen_command command) ts)) }
+    ensures memory { IfErr result (λ error. error ≢ RunError.Bind (BindError.Memory alloc_error)) }
+{
+    match command {
+        Command::Names => names_output(alloc, query),
+        Command::Bind(params) => bound_output(alloc, query, params),
+    }
+}
+
+/// A refusal of words, as one of the program.
+fn refused_words(error: WordsError) -> RunError
+    ensures refusal { refusal_of result ≡ option_map refused_words (words_refusal error) }
+    ensures memory { words_refusal error ≡ None → result ≡ RunError.Memory alloc_error }
+{
+    match error {
+        WordsError::Usage => RunError::Usage,
+        WordsError::Redefined(name) => RunError::Redefined(name),
+        WordsError::Memory(error) => RunError::Memory(error),
     }
 }
 
 /// Runs the program on its words, without its own name.
 ///
 /// `names` writes the query with `?` in place of each name, a newline, and each name and a newline.
+/// `bind` and words `NAME=VALUE` write the query with the values bound, as
+/// [`bind_text`](crate::bind_text) binds them, and nothing else; a value is `null`, `i:` or `u:` and a
+/// decimal number of 64 bits, or `s:` and a text. Where all names are empty the values are bound by
+/// position, and where none is, by name.
+///
 /// The words are judged first, then the input is read to its end, and only when the whole output
 /// stands is it written. No failed read or write is repeated.
 pub fn run<R: Read, W: Write>(
@@ -95,7 +149,12 @@ pub fn run<R: Read, W: Write>(
 
     // Words that are refused are refused before anything is read.
     ensures words { IfErr (command_of (word_bytes words.now)) (λ why.
-        IsErrAnd result (λ e. refusal_of e ≡ Some why) × (input.new ≡ input.old)) }
+        (input.new ≡ input.old) × IsErrAnd result (λ e.
+        (e ≡ RunError.Memory alloc_error) ⊎ (refusal_of e ≡ Some (refused_words why)))) }
+
+    // They take memory only where they ask to bind.
+    ensures usage { command_of (word_bytes words.now) ≡ Err usage
+        → (AsksToBind (word_bytes words.now) → ⊥) → IsErrOf result RunError.Usage }
 
     // Where the words are taken, a refusal of the query is the answer to the whole input.
     ensures refused { (why : Refusal) → IsErrAnd result (λ e. refusal_of e ≡ Some why)
@@ -111,16 +170,19 @@ pub fn run<R: Read, W: Write>(
 
     // Every other refusal leaves the writer alone.
     ensures unwritten { IfErr result (λ e. e ≢ RunError.Write → output.new ≡ output.old) }
+    ensures memory { IfErr result (λ e. e ≢ RunError.Bind (BindError.Memory alloc_error)) }
 {
-    judge(words)?;
+    let command = match judge(alloc, words) {
+        Ok(command) => command,
+        Err(error) => return Err(refused_words(error)),
+    };
     let query = match read_whole(alloc, input) {
         Ok(query) => query,
         Err(ReadError::Read) => return Err(RunError::Read),
         Err(ReadError::Memory(error)) => return Err(RunError::Memory(error)),
     };
-    match names_output(alloc, &query) {
+    match command_output(alloc, command, &query) {
         Ok(text) => write_whole(output, &text),
-        Err(NamedParamsError::Mixed(_)) => Err(RunError::Mixed),
-        Err(NamedParamsError::Memory(error)) => Err(RunError::Memory(error)),
+        Err(error) => Err(error),
     }
 }

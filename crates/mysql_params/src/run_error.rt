@@ -1,6 +1,8 @@
 //! Why a run of the program is refused.
 ghost use Rattle.std.specs.Prelude.{◌≡◌};
 
+use crate::bind_error::BindError;
+use mysql_values::show::Shown;
 use std::alloc::AllocError;
 use thiserror::Error;
 
@@ -10,9 +12,16 @@ pub enum RunError {
     /// The words ask for nothing that the program does. Nothing was read or written.
     #[error("usage: names, or bind NAME=VALUE..")]
     Usage,
-    /// The query has both named and positional parameters. Nothing was written.
+    /// A name stood before among the parameters. Nothing was read or written.
+    #[error("Redefinition of named parameter `{}'", Shown(.0.as_slice()))]
+    Redefined(Vec<u8>),
+    /// The query whose names were asked for has both named and positional parameters. Nothing was
+    /// written.
     #[error("Named and positional params in one query")]
     Mixed,
+    /// The parameters can't be bound into the query. It is never want of memory. Nothing was written.
+    #[error(transparent)]
+    Bind(BindError),
     /// A read failed. Nothing was written.
     #[error("cannot read")]
     Read,
@@ -27,12 +36,13 @@ pub enum RunError {
 impl RunError {
     ghost use Rattle.mysql_params.specs.RunErrors.{status_of};
 
-    /// The exit status of the program: 1 where the query is refused, and otherwise 2.
+    /// The exit status of the program: 1 where a name is repeated or the query is refused, and
+    /// otherwise 2.
     pub fn status(&self) -> u8
         ensures status { result ≡ status_of self.now }
     {
         match self {
-            RunError::Mixed => 1,
+            RunError::Redefined(_) | RunError::Mixed | RunError::Bind(_) => 1,
             RunError::Usage | RunError::Read | RunError::Write | RunError::Memory(_) => 2,
         }
     }

@@ -15,12 +15,14 @@ use mysql_values::value::convert::from_value_opt;
 use std::alloc::{AllocError, Global};
 
 /// What words ask for.
+#[derive(Drop)]
 pub(crate) enum Command {
     Names,
     Bind(Params),
 }
 
 /// Why words are refused.
+#[derive(Drop)]
 pub(crate) enum WordsError {
     Usage,
     Redefined(Vec<u8>),

@@ -1,5 +1,4 @@
 use Rattle.std.proofs.Common.{rules}
-use Rattle.mysql_params.specs.Words.{is_equals_sign}
 use Rattle.mysql_params.proofs.WordLemmas.{list_any-none}
 use Rattle.mysql_params.proofs.words.cut.Goals as goal
 

@@ -1,7 +1,7 @@
-use Rattle.std.proofs.Common.{◌≡◌, ◌<◌, inr, Ok, length, map, refl, rules, subst, sym, true, false}
+use Rattle.std.proofs.Common.{◌≡◌, ◌<◌, inr, length, refl, rules, subst, sym, true, false}
 use Rattle.std.specs.List.{list_all, list_any}
 use Rattle.mysql_params_core.specs.Answer.{IsAnswer}
-use Rattle.mysql_params_core.specs.Given.{given, positional}
+use Rattle.mysql_params_core.specs.Given.{given}
 use Rattle.mysql_params.specs.Words.{usage, bound_query, is_nameless}
 use Rattle.mysql_params.specs.WordErrors.{words_refusal, seen_pair}
 use Rattle.mysql_params.proofs.WordLemmas.{pairs_by_position, pairs_of_both_kinds, pairs_by_name}
