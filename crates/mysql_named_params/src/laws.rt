@@ -13,8 +13,8 @@ pub fn one_token_list()
         IsTokens mode query ts → IsTokens mode query us → ts ≡ us }
 {}
 
-/// A token looks at no more than two of the bytes behind it, and an open one at whether there are any:
-/// what follows it otherwise may be any bytes.
+/// A token looks at no more than two of the bytes behind it, and an open one at whether there are
+/// any: what follows it otherwise may be any bytes.
 pub fn locality()
     ensures local { (mode : Bool) (t : Token) (rest other : List ℕ) →
         LooksAlike mode t rest other → IsToken mode t rest → IsToken mode t other }

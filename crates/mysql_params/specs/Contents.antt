@@ -1,5 +1,5 @@
--- What a text says in the places of a query: the contents of the literals between its pieces, read by
--- the reader of literals alone.
+-- What a text says in the places of a query: the contents of the literals between its pieces, read
+-- by the reader of literals alone.
 use Rattle.std.specs.Prelude.{ℕ, Bool, List, [], ◌∷◌, Option, Some, None, option_map, option_and_then}
 use Rattle.mysql_values.specs.ReadLiteral.{Content, after, read_literal}
 
@@ -12,8 +12,8 @@ contents_before mode (piece ∷ pieces) text =
     (option_and_then (contents_before mode pieces) (after piece read.1)))
     (read_literal mode text)
 
--- The contents of the literals between these pieces of a query: none where the text is not the first
--- piece, a literal, the second piece, and so on to the last piece.
+-- The contents of the literals between these pieces of a query: none where the text is not the
+-- first piece, a literal, the second piece, and so on to the last piece.
 abbrev pub contents : Bool → List (List ℕ) → List ℕ → Option (List Content)
 contents mode [] text = None
 contents mode (piece ∷ pieces) text =

@@ -1,5 +1,5 @@
--- The causes for which binding is refused, and the first that holds of a query and parameters. None of
--- them is want of memory.
+-- The causes for which binding is refused, and the first that holds of a query and parameters. None
+-- of them is want of memory.
 use Rattle.std.specs.Prelude.{◌+◌, ◌&&◌, nat_eq, not, ℕ, Bool, List, [], ◌∷◌, length, if◌then◌else◌, Option, Some, None, option_map, Result, Ok, Err}
 use Rattle.std.specs.Option.{option_or}
 use Rattle.mysql_values.specs.declared.value.Value.{Value}
@@ -27,10 +27,11 @@ pub data Cause : Type 0 where
 abbrev pub mixed_cause : List Token → Option Cause
 mixed_cause ts = if has_both ts then Some names_and_marks else None
 
--- there are no names, and the marks are not as many as the values
+-- so many are no names, and not as many marks as values
 abbrev pub counts_differ : ℕ → ℕ → ℕ → Bool
 counts_differ names marks values = nat_eq names 0 && not (nat_eq marks values)
 
+-- there are no names, and the marks are not as many as the values
 abbrev pub count_cause : List Token → List Value → Option Cause
 count_cause ts values =
     if counts_differ (length (names ts)) (marks ts) (length values)
@@ -55,8 +56,8 @@ first_float = first_float_from 0
 abbrev pub float_cause : List Value → Option Cause
 float_cause values = option_map float_value (first_float values)
 
--- the first cause where the values for the names are looked up: the number of marks, then the places,
--- then the values
+-- the first cause where the values for the names are looked up: the number of marks, then the
+-- places, then the values
 abbrev pub later_cause : List Token → List Value → Option Cause
 later_cause ts values =
     option_or (count_cause ts values) (option_or (alone_cause ts) (float_cause values))

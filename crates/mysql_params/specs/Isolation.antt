@@ -1,5 +1,5 @@
--- What binding promises of the text that it gives: each value stands in one literal, and nothing else
--- of the query changes.
+-- What binding promises of the text that it gives: each value stands in one literal, and nothing
+-- else of the query changes.
 use Rattle.std.specs.Prelude.{◌≡◌, ℕ, Bool, List, [], map, Some, None, Ok}
 use Rattle.mysql_values.specs.declared.value.Value.{Value}
 use Rattle.mysql_values.specs.ReadLiteral.{Content}
@@ -15,7 +15,8 @@ use Rattle.mysql_params.specs.Replaced.{AreTokensOf, replaced}
 use Rattle.mysql_params.specs.ValueLiterals.{AreLiteralsOf}
 
 -- the text of a query with these tokens and what is given to it
-pub record IsBoundText (mode : Bool) (ts : List Token) (given : Given) (text : List ℕ) : Type 0 where
+pub record IsBoundText (mode : Bool) (ts : List Token) (given : Given) (text : List ℕ)
+    : Type 0 where
   -- there is no cause to refuse
   pub no_cause : first_cause ts given ≡ None
   -- the values that are given to the places
@@ -40,8 +41,8 @@ pub record IsBoundText (mode : Bool) (ts : List Token) (given : Given) (text : L
   pub no_place : place_count (replaced ts lists) ≡ 0
   pub bound_again : first_cause (replaced ts lists) empty ≡ None
   pub same_again : woven (pieces (replaced ts lists)) [] ≡ Some text
-  -- The query with a mark in place of each name, bound to the same values by position, is not refused
-  -- and gives the same text.
+  -- The query with a mark in place of each name, bound to the same values by position, is not
+  -- refused and gives the same text.
   pub renamed_tokens : IsTokens mode (text_of (renamed ts)) (renamed ts)
   pub by_position : first_cause (renamed ts) (positional values) ≡ None
   pub same_by_position : woven (pieces (renamed ts)) literals ≡ Some text

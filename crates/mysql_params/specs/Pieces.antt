@@ -18,8 +18,8 @@ abbrev pub last_piece : List ℕ → List (List ℕ) → Option (List ℕ)
 last_piece piece [] = Some piece
 last_piece piece (next ∷ pieces) = None
 
--- the first piece, the first literal, the second piece, and so on to the last piece; there has to be
--- one literal between each piece and the next
+-- the first piece, the first literal, the second piece, and so on to the last piece; there has to
+-- be one literal between each piece and the next
 abbrev pub woven : List (List ℕ) → List (List ℕ) → Option (List ℕ)
 woven [] literals = None
 woven (piece ∷ pieces) [] = last_piece piece pieces

@@ -40,8 +40,8 @@ abbrev pub stands_alone : List ℕ → List ℕ → Bool
 stands_alone before behind =
     none_or_last may_stand_before before && none_or_first may_stand_behind behind
 
--- number and position of the first place that doesn't stand alone, where so many places and this text
--- stand before the tokens
+-- number and position of the first place that doesn't stand alone, where so many places and this
+-- text stand before the tokens
 abbrev pub first_not_alone_from : ℕ → List ℕ → List Token → Option (ℕ × ℕ)
 first_not_alone_from place before [] = None
 first_not_alone_from place before (Name name ∷ ts) =

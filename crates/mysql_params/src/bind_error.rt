@@ -3,7 +3,8 @@ use crate::params::ParamsError;
 use std::alloc::AllocError;
 use thiserror::Error;
 
-/// Why [`bind_text`](crate::bind_text) gave no text. Of several causes it is the first, in this order.
+/// Why [`bind_text`](crate::bind_text) gave no text. Of several causes it is the first, in this
+/// order.
 #[derive(Debug, PartialEq, Drop, Error)]
 pub enum BindError {
     /// The query has both named and positional parameters.
@@ -20,7 +21,8 @@ pub enum BindError {
         /// The values given.
         values: usize,
     },
-    /// A byte directly before or behind a name or mark can't stand there. It is the first such place.
+    /// A byte directly before or behind a name or mark can't stand there. It is the first such
+    /// place.
     #[error("Place {place} at byte {at} does not stand alone")]
     NotAlone {
         /// Its number among the names and marks, from 0.

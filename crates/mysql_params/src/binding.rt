@@ -97,12 +97,13 @@ fn later_error(query: &[u8], values: &[Value], no_backslash_escape: bool) -> Opt
 /// The query with the literal of a value in the place of each name and mark: the names' own, or the
 /// positional ones in their order. Nothing else of the query changes.
 ///
-/// The query is read in the mode in which a backslash escapes, as [`ParsedNamedParams`] reads it, and
-/// the literals are for a server in that mode. The first of these causes refuses it: names and marks in
-/// one query; what [`Params::into_values`] refuses for its names; without names, marks that are not as
-/// many as the values; a place that doesn't stand alone; a float. A place stands alone where the byte
-/// before it is none, white space or one of `(,=<>+*%&|^~`, and the byte behind it is none, white space
-/// or one of `),;=<>+-*/%&|^!`. The parameters are consumed, also where the call refuses.
+/// The query is read in the mode in which a backslash escapes, as [`ParsedNamedParams`] reads it,
+/// and the literals are for a server in that mode. The first of these causes refuses it: names and
+/// marks in one query; what [`Params::into_values`] refuses for its names; without names, marks
+/// that are not as many as the values; a place that doesn't stand alone; a float. A place stands
+/// alone where the byte before it is none, white space or one of `(,=<>+*%&|^~`, and the byte
+/// behind it is none, white space or one of `),;=<>+-*/%&|^!`. The parameters are consumed, also
+/// where the call refuses.
 // A query has one token list (`laws::one_token_list`), so the clauses speak of the same `ts`.
 pub fn bind_text(alloc: Global, query: &[u8], params: Params) -> Result<Vec<u8>, BindError>
     ensures bound { OnTokens with_backslashes query.now (λ ts. IfOk result (λ text.

@@ -24,8 +24,8 @@ pub use mysql_params_core::laws::{
     params_error_equality, to_params_error_equality,
 };
 
-/// Whatever texts of the shape of literals stand in the places of a query, the tokens are the query's
-/// with those of each text in the stead of its place, and no place is left among them.
+/// Whatever texts of the shape of literals stand in the places of a query, the tokens are the
+/// query's with those of each text in the stead of its place, and no place is left among them.
 pub fn isolation()
     ensures tokens { (mode : Bool) (query text : List ℕ) (ts : List Token)
         (literals : List (List ℕ)) (lists : List (List Token)) →
@@ -37,8 +37,8 @@ pub fn isolation()
         woven (pieces ts) literals ≡ Some text → place_count (replaced ts lists) ≡ 0 }
 {}
 
-/// Where the same text is bound to one query for two sets of parameters, their values say the same at
-/// every place.
+/// Where the same text is bound to one query for two sets of parameters, their values say the same
+/// at every place.
 pub fn equal_texts_say_the_same()
     ensures same { (mode : Bool) (query text : List ℕ) (ts us : List Token) (a b : Given) →
         IsTokens mode query ts → IsTokens mode query us →
@@ -46,7 +46,8 @@ pub fn equal_texts_say_the_same()
         map content_of x.values ≡ map content_of y.values }
 {}
 
-/// The place that doesn't stand alone is one of the query's places, and its position is that place's.
+/// The place that doesn't stand alone is one of the query's places, and its position is that
+/// place's.
 pub fn position_of_first_not_alone()
     ensures position { (ts : List Token) (place at : ℕ) →
         first_not_alone ts ≡ Some (place, at) → slice_get (positions ts) place ≡ Some at }

@@ -1,8 +1,9 @@
 //! Named and positional parameters of MySQL queries.
 //!
 //! A query is bytes. [`named_params`] finds the names and marks outside its strings, quoted
-//! identifiers and comments; [`params`] are what is given to them, and [`bind_text`] puts the literals
-//! of the values in their places; [`run`] is the program over names, for any reader and writer.
+//! identifiers and comments; [`params`] are what is given to them, and [`bind_text`] puts the
+//! literals of the values in their places; [`run`] is the program over names, for any reader and
+//! writer.
 #![tactic(auto)]
 
 mod bind_error;
