@@ -167,7 +167,7 @@ const OTHER_WORDS: &[&[&str]] = &[
     &["name"],
     &["names "],
     &["names", "x"],
-    &["bind"],
+    &["Bind"],
     &["names", "names"],
 ];
 

@@ -1,0 +1,205 @@
+//! Queries with values bound into them, and those that are refused.
+use crate::shared::{Given, Plain, Refused};
+use mysql_params::laws::bind_error_equality;
+use mysql_params::{BindError, bind_text};
+use std::alloc::{AllocError, Global};
+use std::process::Abort;
+use std::test::Fail;
+
+/// Queries, what is given to them, and the text.
+const TEXTS: &[(&[u8], Given<'_>, &[u8])] = &[
+    (b"", Given::Nothing, b""),
+    (b"SELECT 1", Given::Positional(&[]), b"SELECT 1"),
+    (
+        b"SELECT (:a-10)",
+        Given::Named(&[(b"a", Plain::Int(-3))]),
+        b"SELECT (-3-10)",
+    ),
+    (
+        b"SELECT ?, ?",
+        Given::Positional(&[Plain::Text(b"x' OR '1'='1"), Plain::Null]),
+        b"SELECT 'x\\' OR \\'1\\'=\\'1', NULL",
+    ),
+    (b"/*+:a", Given::Named(&[(b"a", Plain::UInt(5))]), b"/*+5"),
+    (b":a-- x", Given::Named(&[(b"a", Plain::UInt(5))]), b"5-- x"),
+    // A name that stands twice, and one that the query doesn't have.
+    (
+        b":a%:a!=1",
+        Given::Named(&[(b"b", Plain::Float), (b"a", Plain::UInt(5))]),
+        b"5%5!=1",
+    ),
+    (b"'?' = ?", Given::Positional(&[Plain::Null]), b"'?' = NULL"),
+    (
+        b"SELECT `a?`, \"?\" /* ? */ # ?\n, ? -- ?",
+        Given::Positional(&[Plain::Text(b"\xC3\x28")]),
+        b"SELECT `a?`, \"?\" /* ? */ # ?\n, 0xC328 -- ?",
+    ),
+    (
+        b"VALUES (?,?)",
+        Given::Positional(&[Plain::Text(b""), Plain::Day(2019, 11, 27)]),
+        b"VALUES ('','2019-11-27')",
+    ),
+];
+
+#[test]
+fn bound_texts(rt: HostRuntime) -> Result<(), Fail> {
+    for (query, given, wanted) in TEXTS {
+        let params = given.params(rt.alloc())?;
+        match bind_text(rt.alloc(), *query, params) {
+            Ok(text) => assert_eq!(rt; text.as_slice(), *wanted, "of {query:?} and {given:?}"),
+            Err(error) => assert!(rt; false, "{query:?} and {given:?}: {error}"),
+        }
+    }
+    Ok(())
+}
+
+/// Queries, what is given to them, and why they are refused.
+const REFUSALS: &[(&[u8], Given<'_>, Refused<'_>)] = &[
+    // Names and marks come before all other causes.
+    (b":a ?", Given::Nothing, Refused::Mixed),
+    (b":a?", Given::Positional(&[Plain::Float]), Refused::Mixed),
+    (b"? x:a", Given::Named(&[]), Refused::Mixed),
+    // Then what the lookup refuses.
+    (b"", Given::Named(&[]), Refused::NamedGiven),
+    (
+        b"SELECT ?",
+        Given::Named(&[(b"a", Plain::Null)]),
+        Refused::NamedGiven,
+    ),
+    (
+        b":a",
+        Given::Positional(&[Plain::Null]),
+        Refused::PositionalGiven,
+    ),
+    (b"x:a", Given::Positional(&[]), Refused::PositionalGiven),
+    (b":a, :b", Given::Nothing, Refused::Missing(b"a")),
+    (b"x:a", Given::Named(&[]), Refused::Missing(b"a")),
+    (
+        b":a, :b, :c",
+        Given::Named(&[(b"a", Plain::Float)]),
+        Refused::Missing(b"c"),
+    ),
+    (
+        b":a, :b, :a",
+        Given::Named(&[(b"a", Plain::Null)]),
+        Refused::Missing(b"b"),
+    ),
+    // Then the number of marks.
+    (
+        b"SELECT ?, ?",
+        Given::Positional(&[Plain::Null]),
+        Refused::MarkCount(2, 1),
+    ),
+    (b"SELECT ?, ?", Given::Nothing, Refused::MarkCount(2, 0)),
+    (
+        b"?",
+        Given::Positional(&[Plain::Null, Plain::Null]),
+        Refused::MarkCount(1, 2),
+    ),
+    (
+        b"1? ?",
+        Given::Positional(&[Plain::Float]),
+        Refused::MarkCount(2, 1),
+    ),
+    (
+        b"'?'",
+        Given::Positional(&[Plain::Null]),
+        Refused::MarkCount(0, 1),
+    ),
+    // Then the places.
+    (
+        b"1?",
+        Given::Positional(&[Plain::Float]),
+        Refused::NotAlone(0, 1),
+    ),
+    (
+        b":a_Aa:b",
+        Given::Named(&[(b"a_", Plain::Null), (b"b", Plain::Null)]),
+        Refused::NotAlone(0, 0),
+    ),
+    (
+        b"1-:a",
+        Given::Named(&[(b"a", Plain::Int(-3))]),
+        Refused::NotAlone(0, 2),
+    ),
+    (
+        b"? ?x",
+        Given::Positional(&[Plain::Float, Plain::Null]),
+        Refused::NotAlone(1, 2),
+    ),
+    (
+        b"8/:a",
+        Given::Named(&[(b"a", Plain::UInt(2))]),
+        Refused::NotAlone(0, 2),
+    ),
+    // Then the values.
+    (
+        b"1+?",
+        Given::Positional(&[Plain::Float]),
+        Refused::Float(0),
+    ),
+    (
+        b":a, :b",
+        Given::Named(&[(b"a", Plain::Null), (b"b", Plain::Double)]),
+        Refused::Float(1),
+    ),
+];
+
+#[test]
+fn first_cause_of_refusal(rt: HostRuntime) -> Result<(), Fail> {
+    for (query, given, refused) in REFUSALS {
+        let params = given.params(rt.alloc())?;
+        let wanted = refused.error(rt.alloc())?;
+        match bind_text(rt.alloc(), *query, params) {
+            Ok(_) => assert!(rt; false, "{query:?} and {given:?} are bound"),
+            Err(error) => assert_eq!(rt; error, wanted, "of {query:?} and {given:?}"),
+        }
+    }
+    Ok(())
+}
+
+/// The refusal prints the message.
+fn says(rt: &impl Abort, alloc: Global, error: BindError, message: &str) -> Result<(), Fail> {
+    assert_eq!(rt; error.to_string(alloc)?.as_str(), message);
+    Ok(())
+}
+
+#[test]
+fn messages(rt: HostRuntime) -> Result<(), Fail> {
+    let alloc = rt.alloc();
+    let mixed = "Named and positional params in one query";
+    says(&rt, alloc, Refused::Mixed.error(alloc)?, mixed)?;
+    let missing = "Missing named parameter `a\\x0a` for statement";
+    says(&rt, alloc, Refused::Missing(b"a\n").error(alloc)?, missing)?;
+    let named = "Named params given where positional params are expected";
+    says(&rt, alloc, Refused::NamedGiven.error(alloc)?, named)?;
+    let positional = "Positional params given where named params are expected";
+    says(
+        &rt,
+        alloc,
+        Refused::PositionalGiven.error(alloc)?,
+        positional,
+    )?;
+    let count = "Query has 2 marks and 1 values";
+    says(&rt, alloc, Refused::MarkCount(2, 1).error(alloc)?, count)?;
+    let alone = "Place 0 at byte 1 does not stand alone";
+    says(&rt, alloc, Refused::NotAlone(0, 1).error(alloc)?, alone)?;
+    says(
+        &rt,
+        alloc,
+        Refused::Float(0).error(alloc)?,
+        "Float at place 0",
+    )?;
+    says(&rt, alloc, BindError::Memory(AllocError), "out of memory")
+}
+
+#[test]
+fn equality_of_refusals(rt: HostRuntime) -> Result<(), Fail> {
+    let a = Refused::Missing(b"a").error(rt.alloc())?;
+    let same = Refused::Missing(b"a").error(rt.alloc())?;
+    let other = Refused::Missing(b"b").error(rt.alloc())?;
+    assert!(rt; bind_error_equality(&a, &same));
+    assert!(rt; !bind_error_equality(&a, &other));
+    assert!(rt; !bind_error_equality(&a, &BindError::Mixed));
+    Ok(())
+}

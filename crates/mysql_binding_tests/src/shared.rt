@@ -1,0 +1,106 @@
+//! Parameters and refusals as plain data, and what they stand for.
+use mysql_params::BindError;
+use mysql_params::params::{MissingNamedParameterError, Params, ParamsConfusionError, ParamsError};
+use mysql_values::bytes::Bytes;
+use mysql_values::value::Value;
+use std::alloc::{AllocError, Global};
+use std::collections::HashMap;
+
+/// A value.
+#[derive(Clone, Copy, Debug)]
+pub enum Plain<'a> {
+    Null,
+    Int(i64),
+    UInt(u64),
+    Float,
+    Double,
+    Day(u16, u8, u8),
+    Text(&'a [u8]),
+}
+
+/// What is given to a query.
+#[derive(Clone, Copy, Debug)]
+pub enum Given<'a> {
+    Nothing,
+    Named(&'a [(&'a [u8], Plain<'a>)]),
+    Positional(&'a [Plain<'a>]),
+}
+
+/// Why a query is refused.
+#[derive(Clone, Copy, Debug)]
+pub enum Refused<'a> {
+    Mixed,
+    Missing(&'a [u8]),
+    NamedGiven,
+    PositionalGiven,
+    MarkCount(usize, usize),
+    NotAlone(usize, usize),
+    Float(usize),
+}
+
+impl Plain<'_> {
+    pub fn value(self, alloc: Global) -> Result<Value, AllocError> {
+        match self {
+            Plain::Null => Ok(Value::NULL),
+            Plain::Int(number) => Ok(Value::Int(number)),
+            Plain::UInt(number) => Ok(Value::UInt(number)),
+            Plain::Float => Ok(Value::Float(0)),
+            Plain::Double => Ok(Value::Double(0)),
+            Plain::Day(year, month, day) => Ok(Value::Date(year, month, day, 0, 0, 0, 0)),
+            Plain::Text(bytes) => Ok(Value::Bytes(Bytes::from(Vec::from_slice(alloc, bytes)?))),
+        }
+    }
+}
+
+fn named(alloc: Global, pairs: &[(&[u8], Plain<'_>)]) -> Result<Params, AllocError> {
+    let mut entries = HashMap::new(alloc);
+    for (name, plain) in pairs {
+        let value = plain.value(alloc)?;
+        if entries
+            .insert(Vec::from_slice(alloc, *name)?, value)
+            .is_err()
+        {
+            return Err(AllocError);
+        }
+    }
+    Ok(Params::Named(entries))
+}
+
+fn positional(alloc: Global, plains: &[Plain<'_>]) -> Result<Params, AllocError> {
+    let mut values = Vec::new(alloc);
+    for plain in plains {
+        values.push(plain.value(alloc)?)?;
+    }
+    Ok(Params::Positional(values))
+}
+
+impl Given<'_> {
+    pub fn params(self, alloc: Global) -> Result<Params, AllocError> {
+        match self {
+            Given::Nothing => Ok(Params::Empty),
+            Given::Named(pairs) => named(alloc, pairs),
+            Given::Positional(plains) => positional(alloc, plains),
+        }
+    }
+}
+
+impl Refused<'_> {
+    pub fn error(self, alloc: Global) -> Result<BindError, AllocError> {
+        match self {
+            Refused::Mixed => Ok(BindError::Mixed),
+            Refused::Missing(name) => {
+                let missing = MissingNamedParameterError(Vec::from_slice(alloc, name)?);
+                Ok(BindError::Params(ParamsError::Missing(missing)))
+            }
+            Refused::NamedGiven => Ok(BindError::Params(ParamsError::Confusion(
+                ParamsConfusionError::NamedParamsForPositionalQuery,
+            ))),
+            Refused::PositionalGiven => Ok(BindError::Params(ParamsError::Confusion(
+                ParamsConfusionError::PositionalParamsForNamedQuery,
+            ))),
+            Refused::MarkCount(marks, values) => Ok(BindError::MarkCount { marks, values }),
+            Refused::NotAlone(place, at) => Ok(BindError::NotAlone { place, at }),
+            Refused::Float(place) => Ok(BindError::Float { place }),
+        }
+    }
+}
