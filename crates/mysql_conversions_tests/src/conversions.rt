@@ -1,78 +1,101 @@
 //! Conversions to truth values, texts, bytes and optional things, and their way back.
-use crate::shared::{bytes, refused, refuses_other_variants};
+use crate::shared::{bytes, refused, refused_bytes, refuses_other_variants};
 use mysql_values::value::Value;
 use mysql_values::value::convert::{
     FromValue, FromValueError, IntoValue, OptionIr2, ParseIr, ParseIrOpt, ToValue, ToValueError,
     ValueIr, from_value, from_value_opt,
 };
-use std::alloc::AllocError;
+use std::alloc::{AllocError, Global};
 use std::borrow::{CowSlice, CowStr};
+use std::fmt::Display;
+use std::process::Abort;
 use std::test::Fail;
 use std::time::Duration;
+
+// The value converts to the truth value, whose own value is 0 or 1.
+fn reads_truth(rt: &impl Abort, alloc: Global, value: Value, truth: bool) -> Result<(), Fail> {
+    let same = value.clone()?;
+    let read: bool = from_value_opt(value)?;
+    assert_eq!(rt; read, truth, "of {same:?}");
+    assert_eq!(rt; read.to_value(alloc)?, Value::Int(i64::from(truth)));
+    Ok(())
+}
 
 #[test]
 fn truth_values(rt: HostRuntime) -> Result<(), Fail> {
     let alloc = rt.alloc();
-    let table = [
-        (Value::UInt(0), false),
-        (Value::Int(0), false),
-        (Value::Int(-1), true),
-        (Value::UInt(2), true),
-        (bytes(alloc, b"0")?, false),
-        (bytes(alloc, b"1")?, true),
-    ];
-    for (value, truth) in &table {
-        let read: bool = from_value_opt(value.clone()?)?;
-        assert_eq!(rt; read, *truth, "of {value:?}");
-        assert_eq!(rt; read.to_value(alloc)?, Value::Int(i64::from(*truth)));
-    }
-    for value in [
-        bytes(alloc, b"2")?,
-        bytes(alloc, b"")?,
-        bytes(alloc, b"01")?,
-        Value::NULL,
-    ] {
-        refused::<bool>(&rt, value)?;
-    }
+    reads_truth(&rt, alloc, Value::UInt(0), false)?;
+    reads_truth(&rt, alloc, Value::Int(0), false)?;
+    reads_truth(&rt, alloc, Value::Int(-1), true)?;
+    reads_truth(&rt, alloc, Value::UInt(2), true)?;
+    reads_truth(&rt, alloc, bytes(alloc, b"0")?, false)?;
+    reads_truth(&rt, alloc, bytes(alloc, b"1")?, true)?;
+    refused_bytes::<bool>(&rt, alloc, b"2")?;
+    refused_bytes::<bool>(&rt, alloc, b"")?;
+    refused_bytes::<bool>(&rt, alloc, b"01")?;
+    refused::<bool>(&rt, Value::NULL)?;
     refused::<bool>(&rt, Value::Float(1065353216))
 }
 
+// The value of a whole number or a truth value that an intermediate is rolled back to.
+fn rolls_back<T: ToValue + Drop>(
+    rt: &impl Abort,
+    alloc: Global,
+    ir: ParseIrOpt<T>,
+    wanted: &Value,
+) -> Result<(), Fail> {
+    assert_eq!(rt; ir.rollback(alloc)?, *wanted);
+    Ok(())
+}
+
+// The value that a thing or an intermediate is handed back as.
+fn hands_back(
+    rt: &impl Abort,
+    alloc: Global,
+    thing: impl IntoValue,
+    wanted: &Value,
+) -> Result<(), Fail> {
+    assert_eq!(rt; thing.into_value(alloc)?, *wanted);
+    Ok(())
+}
+
 #[test]
-fn way_back(rt: HostRuntime) -> Result<(), Fail> {
+fn way_back_of_numbers(rt: HostRuntime) -> Result<(), Fail> {
     let alloc = rt.alloc();
     assert_eq!(rt; u8::get_intermediate(Value::Int(5))?.commit(), 5);
-    assert_eq!(rt;
-        u8::get_intermediate(Value::Int(5))?.rollback(alloc)?,
-        Value::UInt(5)
-    );
+    let ir = u8::get_intermediate(Value::Int(5))?;
+    rolls_back(&rt, alloc, ir, &Value::UInt(5))?;
     assert!(rt; bool::get_intermediate(Value::Int(7))?.commit());
-    assert_eq!(rt;
-        bool::get_intermediate(Value::Int(7))?.rollback(alloc)?,
-        Value::Int(1)
-    );
-    let one = bytes(alloc, b"1")?;
-    assert_eq!(rt;
-        bool::get_intermediate(one.clone()?)?,
-        ParseIrOpt::Parsed(true, one.clone()?)
-    );
-    assert_eq!(rt;
-        bool::get_intermediate(one.clone()?)?.into_value(alloc)?,
-        one
-    );
-    assert_eq!(rt; bool::get_intermediate(one.clone()?)?.rollback(alloc)?, one);
-    let wide = ParseIrOpt::Ready(18446744073709551616u128);
-    assert_eq!(rt;
-        wide.rollback(alloc)?,
-        bytes(alloc, b"18446744073709551616")?
-    );
+    let ir = bool::get_intermediate(Value::Int(7))?;
+    rolls_back(&rt, alloc, ir, &Value::Int(1))?;
+    let text = bytes(alloc, b"18446744073709551616")?;
+    rolls_back(
+        &rt,
+        alloc,
+        ParseIrOpt::Ready(18446744073709551616u128),
+        &text,
+    )
+}
 
+#[test]
+fn way_back_of_texts(rt: HostRuntime) -> Result<(), Fail> {
+    let alloc = rt.alloc();
+    let one = bytes(alloc, b"1")?;
+    let ir = bool::get_intermediate(one.clone()?)?;
+    assert_eq!(rt; ir, ParseIrOpt::Parsed(true, one.clone()?));
+    rolls_back(&rt, alloc, ir, &one)?;
+    hands_back(&rt, alloc, bool::get_intermediate(one.clone()?)?, &one)
+}
+
+#[test]
+fn way_back_of_optional_things(rt: HostRuntime) -> Result<(), Fail> {
+    let alloc = rt.alloc();
     let absent = Option::<u8>::get_intermediate(Value::NULL)?;
     assert_eq!(rt; absent, OptionIr2::None);
-    assert_eq!(rt; absent.into_value(alloc)?, Value::NULL);
+    hands_back(&rt, alloc, absent, &Value::NULL)?;
     let present = Option::<u8>::get_intermediate(Value::Int(5))?;
     assert_eq!(rt; present, OptionIr2::Some(ParseIrOpt::Ready(5)));
-    assert_eq!(rt; present.into_value(alloc)?, Value::UInt(5));
-    Ok(())
+    hands_back(&rt, alloc, present, &Value::UInt(5))
 }
 
 #[test]
@@ -81,31 +104,45 @@ fn kept_values(rt: HostRuntime) -> Result<(), Fail> {
     assert_eq!(rt; ParseIr(5, Value::Int(6)).rollback(), Value::Int(6));
     let ir = ValueIr(bytes(rt.alloc(), b"ab")?);
     assert_eq!(rt; ir.clone()?, ir);
-    let ir = Value::get_intermediate(Value::Float(7))?;
-    assert_eq!(rt; ir.clone()?, ir);
-    assert!(rt; ValueIr(Value::NULL) < ir);
-    assert_eq!(rt; Value::from(ir), Value::Float(7));
     Ok(())
 }
 
 #[test]
-fn conversions_by_std_traits(rt: HostRuntime) -> Result<(), Fail> {
-    let alloc = rt.alloc();
+fn intermediates_of_values(rt: HostRuntime) -> Result<(), Fail> {
+    let ir = Value::get_intermediate(Value::Float(7))?;
+    assert_eq!(rt; ir.clone()?, ir);
+    assert!(rt; ValueIr(Value::NULL) < ir);
+    assert_eq!(rt; Value::from(ir), Value::Float(7));
+    assert_eq!(rt; ValueIr::try_from(Value::NULL)?, ValueIr(Value::NULL));
+    Ok(())
+}
+
+#[test]
+fn numbers_by_std_traits(rt: HostRuntime) -> Result<(), Fail> {
     let ir = ParseIrOpt::<u8>::try_from(Value::Int(5))?;
     assert_eq!(rt; ir, ParseIrOpt::Ready(5));
     assert_eq!(rt; u8::from(ir), 5);
     let refusal = ParseIrOpt::<u8>::try_from(Value::Int(300)).err();
     assert_eq!(rt; refusal, Some(FromValueError(Value::Int(300))));
-    let ir = ParseIrOpt::<bool>::try_from(bytes(alloc, b"1")?)?;
+    let ir = ParseIrOpt::<bool>::try_from(bytes(rt.alloc(), b"1")?)?;
     assert!(rt; bool::from(ir));
+    Ok(())
+}
+
+#[test]
+fn optional_things_by_std_traits(rt: HostRuntime) -> Result<(), Fail> {
     let ir = OptionIr2::<u8>::try_from(Value::NULL)?;
     assert_eq!(rt; Option::<u8>::from(ir), None);
     let ir = OptionIr2::<u8>::try_from(Value::UInt(5))?;
     assert_eq!(rt; Option::<u8>::from(ir), Some(5));
-    assert_eq!(rt; ValueIr::try_from(Value::NULL)?, ValueIr(Value::NULL));
-    let text = String::try_from(bytes(alloc, b"ab")?)?;
+    Ok(())
+}
+
+#[test]
+fn texts_by_std_traits(rt: HostRuntime) -> Result<(), Fail> {
+    let text = String::try_from(bytes(rt.alloc(), b"ab")?)?;
     assert_eq!(rt; text.as_str(), "ab");
-    let array = <[u8; 2]>::try_from(bytes(alloc, b"ab")?)?;
+    let array = <[u8; 2]>::try_from(bytes(rt.alloc(), b"ab")?)?;
     assert_eq!(rt; array, *b"ab");
     Ok(())
 }
@@ -120,44 +157,55 @@ fn other_variants_are_refused(rt: HostRuntime) -> Result<(), Fail> {
     refuses_other_variants::<[u8; 0]>(&rt)
 }
 
+// The thing that bytes convert to, and its intermediate, are handed back as the same bytes.
+fn comes_back<T: FromValue + IntoValue>(
+    rt: &impl Abort,
+    alloc: Global,
+    text: &[u8],
+) -> Result<(), Fail> {
+    let value = bytes(alloc, text)?;
+    hands_back(rt, alloc, T::get_intermediate(value.clone()?)?, &value)?;
+    hands_back(rt, alloc, from_value_opt::<T>(value.clone()?)?, &value)
+}
+
 #[test]
 fn texts_and_bytes(rt: HostRuntime) -> Result<(), Fail> {
     let alloc = rt.alloc();
     for text in [b"ab".as_slice(), b"".as_slice()] {
-        let value = bytes(alloc, text)?;
-        assert_eq!(rt;
-            String::get_intermediate(value.clone()?)?.into_value(alloc)?,
-            value
-        );
-        assert_eq!(rt;
-            Vec::<u8>::get_intermediate(value.clone()?)?.into_value(alloc)?,
-            value
-        );
-        let cow: CowStr<'static> = from_value_opt(value.clone()?)?;
-        assert_eq!(rt; cow.into_value(alloc)?, value);
-        let cow: CowSlice<'static, u8> = from_value_opt(value.clone()?)?;
-        assert_eq!(rt; cow.into_value(alloc)?, value);
-        assert_eq!(rt; Value::from(Vec::from_slice(alloc, text)?), value);
+        comes_back::<String>(&rt, alloc, text)?;
+        comes_back::<Vec<u8>>(&rt, alloc, text)?;
+        comes_back::<CowStr<'static>>(&rt, alloc, text)?;
+        comes_back::<CowSlice<'static, u8>>(&rt, alloc, text)?;
     }
+    comes_back::<[u8; 2]>(&rt, alloc, b"ab")?;
     let array: [u8; 2] = from_value_opt(bytes(alloc, b"ab")?)?;
     assert_eq!(rt; array, *b"ab");
-    assert_eq!(rt; array.into_value(alloc)?, bytes(alloc, b"ab")?);
-    assert_eq!(rt;
-        CowStr::Borrowed("ab").into_value(alloc)?,
-        bytes(alloc, b"ab")?
-    );
-    assert_eq!(rt;
-        CowSlice::Borrowed(b"ab".as_slice()).into_value(alloc)?,
-        bytes(alloc, b"ab")?
-    );
+    Ok(())
+}
 
-    refused::<[u8; 2]>(&rt, bytes(alloc, b"abc")?)?;
-    refused::<String>(&rt, bytes(alloc, b"\xC3\x28")?)?;
-    let same = bytes(alloc, b"\xC3\x28")?;
+#[test]
+fn borrowed_texts_and_bytes(rt: HostRuntime) -> Result<(), Fail> {
+    let alloc = rt.alloc();
+    let value = bytes(alloc, b"ab")?;
+    hands_back(&rt, alloc, CowStr::Borrowed("ab"), &value)?;
+    hands_back(&rt, alloc, CowSlice::Borrowed(b"ab".as_slice()), &value)
+}
+
+#[test]
+fn refused_texts_and_bytes(rt: HostRuntime) -> Result<(), Fail> {
+    let alloc = rt.alloc();
+    refused_bytes::<[u8; 2]>(&rt, alloc, b"abc")?;
+    refused_bytes::<String>(&rt, alloc, b"\xC3\x28")?;
+    refused::<String>(&rt, Value::Int(5))?;
+    refused::<Vec<u8>>(&rt, Value::NULL)
+}
+
+// `refused` can't be proved at these types: docs/DECISIONS.md says why.
+#[test]
+fn refused_cow_texts_and_bytes(rt: HostRuntime) -> Result<(), Fail> {
+    let same = bytes(rt.alloc(), b"\xC3\x28")?;
     let refusal = from_value_opt::<CowStr<'static>>(same.clone()?).err();
     assert_eq!(rt; refusal, Some(FromValueError(same)));
-    refused::<String>(&rt, Value::Int(5))?;
-    refused::<Vec<u8>>(&rt, Value::NULL)?;
     let refusal = from_value_opt::<CowSlice<'static, u8>>(Value::UInt(1)).err();
     assert_eq!(rt; refusal, Some(FromValueError(Value::UInt(1))));
     Ok(())
@@ -169,35 +217,69 @@ fn optional_things(rt: HostRuntime) -> Result<(), Fail> {
     assert_eq!(rt; nested, None);
     let nested: Option<Option<u8>> = from_value_opt(Value::UInt(5))?;
     assert_eq!(rt; nested, Some(Some(5)));
-    let same: Value = from_value(Value::Date(1, 2, 3, 4, 5, 6, 7));
-    assert_eq!(rt; same, Value::Date(1, 2, 3, 4, 5, 6, 7));
-    assert_eq!(rt; from_value::<Option<u8>>(Value::NULL), None);
     refused::<Option<u8>>(&rt, Value::UInt(256))?;
     refused::<Option<bool>>(&rt, Value::Time(false, 0, 0, 0, 0, 0))
 }
 
 #[test]
-fn values_of_things(rt: HostRuntime) -> Result<(), Fail> {
-    let alloc = rt.alloc();
-    assert_eq!(rt; Value::from(-3i8), Value::Int(-3));
-    assert_eq!(rt; Value::from(-3i16), Value::Int(-3));
-    assert_eq!(rt; Value::from(-3i32), Value::Int(-3));
-    assert_eq!(rt; Value::from(-3i64), Value::Int(-3));
-    assert_eq!(rt; Value::from(-3isize), Value::Int(-3));
-    assert_eq!(rt; Value::from(3u8), Value::UInt(3));
-    assert_eq!(rt; Value::from(3u16), Value::UInt(3));
-    assert_eq!(rt; Value::from(3u32), Value::UInt(3));
-    assert_eq!(rt; Value::from(3u64), Value::UInt(3));
-    assert_eq!(rt; Value::from(3usize), Value::UInt(3));
-    assert_eq!(rt; Value::from(true), Value::Int(1));
-    let text = String::from_utf8(Vec::from_slice(alloc, b"ab")?)?;
-    assert_eq!(rt; Value::from(text), bytes(alloc, b"ab")?);
+fn values_that_convert(rt: HostRuntime) {
+    assert_eq!(rt; from_value::<Option<u8>>(Value::NULL), None);
+    let same: Value = from_value(Value::Date(1, 2, 3, 4, 5, 6, 7));
+    assert_eq!(rt; same, Value::Date(1, 2, 3, 4, 5, 6, 7));
+}
 
-    let objects: [&dyn ToValue; 3] = [&1u8, &-1i128, &false];
-    let values = [Value::UInt(1), Value::Int(-1), Value::Int(0)];
-    for (object, value) in objects.iter().zip(values.iter()) {
-        assert_eq!(rt; object.to_value(alloc)?, *value);
+#[test]
+fn values_of_numbers(rt: HostRuntime) {
+    let signed = [
+        ("i8", Value::from(-3i8)),
+        ("i16", Value::from(-3i16)),
+        ("i32", Value::from(-3i32)),
+        ("i64", Value::from(-3i64)),
+        ("isize", Value::from(-3isize)),
+    ];
+    for (name, value) in &signed {
+        assert_eq!(rt; *value, Value::Int(-3), "of {name}");
     }
+    let unsigned = [
+        ("u8", Value::from(3u8)),
+        ("u16", Value::from(3u16)),
+        ("u32", Value::from(3u32)),
+        ("u64", Value::from(3u64)),
+        ("usize", Value::from(3usize)),
+    ];
+    for (name, value) in &unsigned {
+        assert_eq!(rt; *value, Value::UInt(3), "of {name}");
+    }
+    assert_eq!(rt; Value::from(true), Value::Int(1));
+}
+
+#[test]
+fn values_of_texts_and_bytes(rt: HostRuntime) -> Result<(), Fail> {
+    let alloc = rt.alloc();
+    for text in ["ab", ""] {
+        let value = bytes(alloc, text.as_bytes())?;
+        let items = Vec::from_slice(alloc, text.as_bytes())?;
+        assert_eq!(rt; Value::from(items), value, "of {text}");
+        let string = String::from_str(alloc, text)?;
+        assert_eq!(rt; Value::from(string), value, "of {text}");
+    }
+    Ok(())
+}
+
+#[test]
+fn values_through_dyn(rt: HostRuntime) -> Result<(), Fail> {
+    let objects: [(&dyn ToValue, i64); 2] = [(&-1i128, -1), (&false, 0)];
+    for (object, number) in objects {
+        assert_eq!(rt; object.to_value(rt.alloc())?, Value::Int(number));
+    }
+    let object: &dyn ToValue = &1u8;
+    assert_eq!(rt; object.to_value(rt.alloc())?, Value::UInt(1));
+    Ok(())
+}
+
+// What is printed of a refusal.
+fn says(rt: &impl Abort, alloc: Global, refusal: &impl Display, message: &str) -> Result<(), Fail> {
+    assert_eq!(rt; refusal.to_string(alloc)?.as_str(), message);
     Ok(())
 }
 
@@ -206,23 +288,17 @@ fn messages(rt: HostRuntime) -> Result<(), Fail> {
     let alloc = rt.alloc();
     let refusal = FromValueError(bytes(alloc, b"it's long")?);
     assert_eq!(rt; refusal.clone()?, refusal);
-    assert_eq!(rt;
-        refusal.to_string(alloc)?.as_str(),
-        "Couldn't convert the value `Bytes(\"it's lon..\")` to a desired type"
-    );
+    let message = "Couldn't convert the value `Bytes(\"it's lon..\")` to a desired type";
+    says(&rt, alloc, &refusal, message)?;
     let refusal = FromValueError(Value::Time(true, 300, 8, 8, 8, 123456));
-    assert_eq!(rt;
-        refusal.to_string(alloc)?.as_str(),
-        "Couldn't convert the value `Time(\"'-7208:08:08.123456'\")` to a desired type"
-    );
+    let message = "Couldn't convert the value `Time(\"'-7208:08:08.123456'\")` to a desired type";
+    says(&rt, alloc, &refusal, message)?;
     let too_long = ToValueError::DurationTooLong(Duration::new(0, 0));
-    assert_eq!(rt;
-        too_long.to_string(alloc)?.as_str(),
-        "Duration has too many days"
-    );
-    assert_eq!(rt;
-        ToValueError::Memory(AllocError).to_string(alloc)?.as_str(),
-        "out of memory"
-    );
-    Ok(())
+    says(&rt, alloc, &too_long, "Duration has too many days")?;
+    says(
+        &rt,
+        alloc,
+        &ToValueError::Memory(AllocError),
+        "out of memory",
+    )
 }

@@ -50,12 +50,16 @@ mod tests {
     use std::test::Fail;
 
     #[test]
-    fn own_type(rt: HostRuntime) -> Result<(), Fail> {
-        let alloc = rt.alloc();
+    fn handed_back(rt: HostRuntime) -> Result<(), Fail> {
         for value in [Value::Int(0), Value::NULL] {
-            let back = Zero::get_intermediate(value.clone()?)?.into_value(alloc)?;
-            assert_eq!(rt; back, value);
+            let ir = Zero::get_intermediate(value.clone()?)?;
+            assert_eq!(rt; ir.into_value(rt.alloc())?, value);
         }
+        Ok(())
+    }
+
+    #[test]
+    fn converted(rt: HostRuntime) -> Result<(), Fail> {
         let _zero: Zero = from_value_opt(Value::Int(0))?;
         let optional: Option<Zero> = from_value_opt(Value::Int(0))?;
         assert!(rt; optional.is_some());

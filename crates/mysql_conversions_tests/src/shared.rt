@@ -1,7 +1,7 @@
 //! What several tests share.
 use mysql_values::bytes::Bytes;
 use mysql_values::value::Value;
-use mysql_values::value::convert::{FromValue, from_value_opt};
+use mysql_values::value::convert::{FromValue, ToValue, from_value_opt};
 use std::alloc::{AllocError, Global};
 use std::process::Abort;
 use std::test::Fail;
@@ -9,6 +9,19 @@ use std::test::Fail;
 // The value that holds these bytes.
 pub fn bytes(alloc: Global, text: &[u8]) -> Result<Value, AllocError> {
     Ok(Value::Bytes(Bytes::from(Vec::from_slice(alloc, text)?)))
+}
+
+// The value converts to a thing whose own value is the wanted one.
+pub fn reads<T: FromValue + ToValue + Drop>(
+    rt: &impl Abort,
+    alloc: Global,
+    value: Value,
+    wanted: &Value,
+) -> Result<(), Fail> {
+    let same = value.clone()?;
+    let thing: T = from_value_opt(value)?;
+    assert_eq!(rt; thing.to_value(alloc)?, *wanted, "of {same:?}");
+    Ok(())
 }
 
 // A value that doesn't convert is handed back.
@@ -19,6 +32,15 @@ pub fn refused<T: FromValue + Drop>(rt: &impl Abort, value: Value) -> Result<(),
         Err(error) => assert_eq!(rt; error.0, same),
     }
     Ok(())
+}
+
+// Bytes that don't convert are handed back.
+pub fn refused_bytes<T: FromValue + Drop>(
+    rt: &impl Abort,
+    alloc: Global,
+    text: &[u8],
+) -> Result<(), Fail> {
+    refused::<T>(rt, bytes(alloc, text)?)
 }
 
 // The values of no number, no text and no bytes are handed back.

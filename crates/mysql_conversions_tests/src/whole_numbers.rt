@@ -1,14 +1,10 @@
 //! Conversions to whole numbers, and back.
-use crate::shared::{bytes, refused};
+use crate::shared::{bytes, reads, refused, refused_bytes};
 use mysql_values::value::Value;
 use mysql_values::value::convert::{FromValue, ToValue, from_value_opt};
-use std::alloc::{AllocError, Global};
+use std::alloc::Global;
 use std::process::Abort;
 use std::test::Fail;
-
-fn text_value(alloc: Global, text: &str) -> Result<Value, AllocError> {
-    bytes(alloc, text.as_bytes())
-}
 
 // Whatever stands for the number converts to a thing whose value is the wanted one.
 fn reads_back<T: FromValue + ToValue + Drop>(
@@ -18,17 +14,24 @@ fn reads_back<T: FromValue + ToValue + Drop>(
     wanted: &Value,
 ) -> Result<(), Fail> {
     let text = number.to_string(alloc)?;
-    let x: T = from_value_opt(text_value(alloc, text.as_str())?)?;
-    assert_eq!(rt; x.to_value(alloc)?, *wanted, "of the text of {number}");
+    reads::<T>(rt, alloc, bytes(alloc, text.as_bytes())?, wanted)?;
     if let Ok(int) = i64::try_from(number) {
-        let x: T = from_value_opt(Value::Int(int))?;
-        assert_eq!(rt; x.to_value(alloc)?, *wanted, "of Int({number})");
+        reads::<T>(rt, alloc, Value::Int(int), wanted)?;
     }
     if let Ok(uint) = u64::try_from(number) {
-        let x: T = from_value_opt(Value::UInt(uint))?;
-        assert_eq!(rt; x.to_value(alloc)?, *wanted, "of UInt({number})");
+        reads::<T>(rt, alloc, Value::UInt(uint), wanted)?;
     }
     Ok(())
+}
+
+// The text of the number doesn't convert.
+fn refused_number<T: FromValue + Drop>(
+    rt: &impl Abort,
+    alloc: Global,
+    number: i128,
+) -> Result<(), Fail> {
+    let text = number.to_string(alloc)?;
+    refused_bytes::<T>(rt, alloc, text.as_bytes())
 }
 
 fn signed<T: FromValue + ToValue + Drop>(
@@ -40,10 +43,8 @@ fn signed<T: FromValue + ToValue + Drop>(
     for number in [least, greatest, 0, 1, -1] {
         reads_back::<T>(rt, alloc, number as i128, &Value::Int(number))?;
     }
-    for beyond in [least as i128 - 1, greatest as i128 + 1] {
-        refused::<T>(rt, text_value(alloc, beyond.to_string(alloc)?.as_str())?)?;
-    }
-    Ok(())
+    refused_number::<T>(rt, alloc, least as i128 - 1)?;
+    refused_number::<T>(rt, alloc, greatest as i128 + 1)
 }
 
 fn unsigned<T: FromValue + ToValue + Drop>(
@@ -54,12 +55,9 @@ fn unsigned<T: FromValue + ToValue + Drop>(
     for number in [greatest, 0, 1] {
         reads_back::<T>(rt, alloc, number as i128, &Value::UInt(number))?;
     }
-    refused::<T>(
-        rt,
-        text_value(alloc, (greatest as i128 + 1).to_string(alloc)?.as_str())?,
-    )?;
+    refused_number::<T>(rt, alloc, greatest as i128 + 1)?;
     refused::<T>(rt, Value::Int(-1))?;
-    refused::<T>(rt, text_value(alloc, "-1")?)
+    refused_number::<T>(rt, alloc, -1)
 }
 
 #[test]
@@ -77,61 +75,47 @@ fn least_and_greatest(rt: HostRuntime) -> Result<(), Fail> {
     unsigned::<usize>(&rt, alloc, 18446744073709551615)
 }
 
+// The text converts to a number whose value is that text.
+fn text_comes_back<T: FromValue + ToValue + Drop>(
+    rt: &impl Abort,
+    alloc: Global,
+    text: &str,
+) -> Result<(), Fail> {
+    let value = bytes(alloc, text.as_bytes())?;
+    reads::<T>(rt, alloc, value.clone()?, &value)
+}
+
 #[test]
 fn wide_numbers(rt: HostRuntime) -> Result<(), Fail> {
     let alloc = rt.alloc();
     // Beyond 64 bits, and within 127.
     let text = "169999999999999999999999999999999999999";
-    let negative = "-169999999999999999999999999999999999999";
-    let least = "-170141183460469231731687303715884105728";
     for text in [
         text,
-        negative,
-        least,
+        "-169999999999999999999999999999999999999",
+        "-170141183460469231731687303715884105728",
         "170141183460469231731687303715884105727",
         "-9223372036854775809",
         "18446744073709551616",
     ] {
-        let number: i128 = from_value_opt(text_value(alloc, text)?)?;
-        assert_eq!(rt; number.to_value(alloc)?, text_value(alloc, text)?);
+        text_comes_back::<i128>(&rt, alloc, text)?;
     }
     for text in [text, "340282366920938463463374607431768211455"] {
-        let number: u128 = from_value_opt(text_value(alloc, text)?)?;
-        assert_eq!(rt; number.to_value(alloc)?, text_value(alloc, text)?);
+        text_comes_back::<u128>(&rt, alloc, text)?;
     }
-    refused::<i128>(
-        &rt,
-        text_value(alloc, "170141183460469231731687303715884105728")?,
-    )
+    refused_bytes::<i128>(&rt, alloc, b"170141183460469231731687303715884105728")
 }
 
 #[test]
 fn wide_numbers_of_64_bits(rt: HostRuntime) -> Result<(), Fail> {
     let alloc = rt.alloc();
-    for (value, wanted) in [
-        (
-            Value::UInt(9223372036854775808),
-            Value::UInt(9223372036854775808),
-        ),
-        (Value::Int(-1), Value::Int(-1)),
-    ] {
-        let number: i128 = from_value_opt(value)?;
-        assert_eq!(rt; number.to_value(alloc)?, wanted);
-    }
-    for (value, wanted) in [
-        (
-            Value::UInt(18446744073709551615),
-            Value::UInt(18446744073709551615),
-        ),
-        (Value::Int(7), Value::UInt(7)),
-    ] {
-        let number: u128 = from_value_opt(value)?;
-        assert_eq!(rt; number.to_value(alloc)?, wanted);
-    }
-    assert_eq!(rt;
-        9223372036854775808i128.to_value(alloc)?,
-        Value::UInt(9223372036854775808)
-    );
+    let beyond = Value::UInt(9223372036854775808);
+    let greatest = Value::UInt(18446744073709551615);
+    reads::<i128>(&rt, alloc, Value::UInt(9223372036854775808), &beyond)?;
+    reads::<i128>(&rt, alloc, Value::Int(-1), &Value::Int(-1))?;
+    reads::<u128>(&rt, alloc, Value::UInt(18446744073709551615), &greatest)?;
+    reads::<u128>(&rt, alloc, Value::Int(7), &Value::UInt(7))?;
+    assert_eq!(rt; 9223372036854775808i128.to_value(alloc)?, beyond);
     Ok(())
 }
 
@@ -139,15 +123,19 @@ fn wide_numbers_of_64_bits(rt: HostRuntime) -> Result<(), Fail> {
 fn texts(rt: HostRuntime) -> Result<(), Fail> {
     let alloc = rt.alloc();
     for (text, number) in [("0000000255", 255), ("-0", 0), ("+7", 7), ("-000", 0)] {
-        let read: u8 = from_value_opt(text_value(alloc, text)?)?;
+        let read: u8 = from_value_opt(bytes(alloc, text.as_bytes())?)?;
         assert_eq!(rt; read, number, "of {text}");
     }
     for text in [
         "", "+", "-", "--1", "+-1", "256", "1a", " 1", "1 ", "0x1", "1.0", "\u{0661}",
     ] {
-        refused::<u8>(&rt, text_value(alloc, text)?)?;
+        refused_bytes::<u8>(&rt, alloc, text.as_bytes())?;
     }
-    refused::<u64>(&rt, text_value(alloc, "-1")?)?;
+    refused_bytes::<u64>(&rt, alloc, b"-1")
+}
+
+#[test]
+fn values_that_a_type_does_not_hold(rt: HostRuntime) -> Result<(), Fail> {
     refused::<u8>(&rt, Value::NULL)?;
     refused::<u8>(&rt, Value::UInt(300))?;
     refused::<u8>(&rt, Value::Int(300))?;
@@ -155,31 +143,31 @@ fn texts(rt: HostRuntime) -> Result<(), Fail> {
     refused::<i8>(&rt, Value::UInt(128))?;
     refused::<u128>(&rt, Value::Int(-1))?;
     refused::<u8>(&rt, Value::Float(0))?;
-    refused::<i64>(&rt, Value::UInt(9223372036854775808))?;
-    Ok(())
+    refused::<i64>(&rt, Value::UInt(9223372036854775808))
 }
 
 #[test]
 fn texts_that_no_type_holds(rt: HostRuntime) -> Result<(), Fail> {
     let alloc = rt.alloc();
-    for text in [
-        "340282366920938463463374607431768211456",
-        "-170141183460469231731687303715884105729",
-        "-340282366920938463463374607431768211457",
-        "9999999999999999999999999999999999999999999999999999",
-    ] {
-        refused::<i8>(&rt, text_value(alloc, text)?)?;
-        refused::<i16>(&rt, text_value(alloc, text)?)?;
-        refused::<i32>(&rt, text_value(alloc, text)?)?;
-        refused::<i64>(&rt, text_value(alloc, text)?)?;
-        refused::<i128>(&rt, text_value(alloc, text)?)?;
-        refused::<isize>(&rt, text_value(alloc, text)?)?;
-        refused::<u8>(&rt, text_value(alloc, text)?)?;
-        refused::<u16>(&rt, text_value(alloc, text)?)?;
-        refused::<u32>(&rt, text_value(alloc, text)?)?;
-        refused::<u64>(&rt, text_value(alloc, text)?)?;
-        refused::<u128>(&rt, text_value(alloc, text)?)?;
-        refused::<usize>(&rt, text_value(alloc, text)?)?;
+    let texts: [&[u8]; 4] = [
+        b"340282366920938463463374607431768211456",
+        b"-170141183460469231731687303715884105729",
+        b"-340282366920938463463374607431768211457",
+        b"9999999999999999999999999999999999999999999999999999",
+    ];
+    for text in texts {
+        refused_bytes::<i8>(&rt, alloc, text)?;
+        refused_bytes::<i16>(&rt, alloc, text)?;
+        refused_bytes::<i32>(&rt, alloc, text)?;
+        refused_bytes::<i64>(&rt, alloc, text)?;
+        refused_bytes::<i128>(&rt, alloc, text)?;
+        refused_bytes::<isize>(&rt, alloc, text)?;
+        refused_bytes::<u8>(&rt, alloc, text)?;
+        refused_bytes::<u16>(&rt, alloc, text)?;
+        refused_bytes::<u32>(&rt, alloc, text)?;
+        refused_bytes::<u64>(&rt, alloc, text)?;
+        refused_bytes::<u128>(&rt, alloc, text)?;
+        refused_bytes::<usize>(&rt, alloc, text)?;
     }
     Ok(())
 }

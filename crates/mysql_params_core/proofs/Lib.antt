@@ -4,4 +4,5 @@ pub mod InsertLemmas
 pub mod BeginningLemmas
 pub mod MissingLemmas
 pub mod WalkLemmas
+pub mod TakenLemmas
 pub mod MakingLemmas

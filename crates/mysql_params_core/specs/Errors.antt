@@ -1,4 +1,4 @@
--- What the errors of parameters hold: when two are equal, and which refusal of the definitions each is.
+-- The errors of parameters: which refusal of the definitions each is, and when two are equal.
 use Rattle.std.specs.Prelude.{◌≡◌, ℕ, List, Option, None, Some, ⊤}
 use Rattle.mysql_value_core.specs.declared.value.convert.ToValueError.{ToValueError}
 use Rattle.mysql_value_core.specs.declared.value.convert.ToValueError.TheVariants as to_value

@@ -1,5 +1,5 @@
--- What contracts see of parameters. Where their values lie in memory, and in which order a hash map holds
--- its entries, is left out.
+-- What contracts see of parameters. Where their values lie in memory, and in which order a hash map
+-- holds its entries, is left out.
 use Rattle.std.specs.Prelude.{ℕ, List, map}
 use Rattle.std.specs.Global.{Vec}
 use Rattle.std.specs.Ordering.{nat_cmp}

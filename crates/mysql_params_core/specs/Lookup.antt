@@ -56,4 +56,5 @@ PositionTakesMemory (named values) (name ∷ names) = ⊤
 -- for named parameters and a list with names, both give the same values or both refuse
 abbrev pub LookupsAgree : Type 0
 LookupsAgree = (given : ValueMap) (names : List (List ℕ)) → names ≢ [] → (values : List Value) →
-    (lookup (named given) names ≡ Ok values) ↔ (positioned (named given) names ≡ Ok (positional values))
+    (lookup (named given) names ≡ Ok values)
+    ↔ (positioned (named given) names ≡ Ok (positional values))

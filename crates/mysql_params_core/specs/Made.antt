@@ -18,7 +18,8 @@ abbrev pub Made : Type 0
 Made = Result Given MakerRefusal
 
 -- the value of one more thing behind the values so far; a refusal stays
-abbrev pub with_value : Result (List Value) MakerRefusal → Meaning → Result (List Value) MakerRefusal
+abbrev pub with_value : Result (List Value) MakerRefusal → Meaning
+    → Result (List Value) MakerRefusal
 with_value (Ok values) (Ok value) = Ok (values ++ value ∷ [])
 with_value (Ok values) (Err duration) = Err (too_long duration)
 with_value (Err refusal) meaning = Err refusal
@@ -43,9 +44,11 @@ with_new values name (Ok value) = Ok (finite.insert values name value)
 with_new values name (Err duration) = Err (too_long duration)
 
 -- the map with one more pair, whose name may not be in it yet; a refusal stays
-abbrev pub with_pair : Result ValueMap MakerRefusal → List ℕ × Meaning → Result ValueMap MakerRefusal
+abbrev pub with_pair : Result ValueMap MakerRefusal → List ℕ × Meaning
+    → Result ValueMap MakerRefusal
 with_pair (Ok values) pair =
-    if finite.contains_key values pair.0 then Err (redefined pair.0) else with_new values pair.0 pair.1
+    if finite.contains_key values pair.0 then Err (redefined pair.0)
+    else with_new values pair.0 pair.1
 with_pair (Err refusal) pair = Err refusal
 
 -- the map as named parameters

@@ -28,8 +28,8 @@ last_name names = slice_index_or names (length names - 1) []
 abbrev pub first_missing : ValueMap → List (List ℕ) → List ℕ
 first_missing values names = unwrap_or (find (λ name. not (contains_key values name)) names) []
 
--- The name that is reported where not all are in the map: where the places of the names in the map are
--- exactly a beginning of the list, its last name; else the first that is not in the map.
+-- The name that is reported where not all are in the map: if the places of the names in the map
+-- are exactly a beginning of the list, its last name; else the first that is not in the map.
 abbrev pub missing_name : ValueMap → List (List ℕ) → List ℕ
 missing_name values names =
     if is_beginning (contains_key values) names then last_name names else first_missing values names

@@ -62,8 +62,8 @@ pub fn lookups_agree()
     ensures agree { LookupsAgree }
 {}
 
-/// Names that are in a map are found to be a beginning of a list exactly where their places are those
-/// below some count.
+/// Names that are in a map are found to be a beginning of a list exactly where their places are
+/// those below some count.
 pub fn beginnings_are_found()
     ensures found { BeginningsAreFound }
 {}

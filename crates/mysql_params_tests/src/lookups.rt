@@ -20,15 +20,50 @@ fn named_parameters(rt: HostRuntime) -> Result<(), Fail> {
     let alloc = rt.alloc();
     let table = [
         // The names that are there are exactly a beginning: the last of the list is reported.
-        Row { given: b"a", names: b"abc", values: &[], missing: Some((b'c', b'b')) },
-        Row { given: b"", names: b"ab", values: &[], missing: Some((b'b', b'a')) },
-        Row { given: b"ab", names: b"abc", values: &[], missing: Some((b'c', b'c')) },
+        Row {
+            given: b"a",
+            names: b"abc",
+            values: &[],
+            missing: Some((b'c', b'b')),
+        },
+        Row {
+            given: b"",
+            names: b"ab",
+            values: &[],
+            missing: Some((b'b', b'a')),
+        },
+        Row {
+            given: b"ab",
+            names: b"abc",
+            values: &[],
+            missing: Some((b'c', b'c')),
+        },
         // They are not: it is the first that is missing.
-        Row { given: b"a", names: b"aba", values: &[], missing: Some((b'b', b'b')) },
-        Row { given: b"b", names: b"abc", values: &[], missing: Some((b'a', b'a')) },
+        Row {
+            given: b"a",
+            names: b"aba",
+            values: &[],
+            missing: Some((b'b', b'b')),
+        },
+        Row {
+            given: b"b",
+            names: b"abc",
+            values: &[],
+            missing: Some((b'a', b'a')),
+        },
         // A repeated name has its value at each place; names that are not listed are ignored.
-        Row { given: b"a", names: b"aa", values: &[1, 1], missing: None },
-        Row { given: b"abc", names: b"cac", values: &[3, 1, 3], missing: None },
+        Row {
+            given: b"a",
+            names: b"aa",
+            values: &[1, 1],
+            missing: None,
+        },
+        Row {
+            given: b"abc",
+            names: b"cac",
+            values: &[3, 1, 3],
+            missing: None,
+        },
     ];
     for row in &table {
         let case = row.names;
@@ -45,7 +80,11 @@ fn named_parameters(rt: HostRuntime) -> Result<(), Fail> {
                 let error = MissingNamedParameterError(Vec::from_slice(alloc, &[by_values])?);
                 assert_eq!(rt; values.err(), Some(ParamsError::Missing(error)), "{case:?}");
                 let error = MissingNamedParameterError(Vec::from_slice(alloc, &[first])?);
-                assert_eq!(rt; by_position.err(), Some(IntoPositionalError::Missing(error)), "{case:?}");
+                assert_eq!(rt;
+                    by_position.err(),
+                    Some(IntoPositionalError::Missing(error)),
+                    "{case:?}"
+                );
             }
         }
     }
@@ -67,7 +106,10 @@ fn without_names(rt: HostRuntime) -> Result<(), Fail> {
         assert_eq!(rt; values.err(), Some(ParamsError::Confusion(error)));
     }
     let list = none.as_slice();
-    assert_eq!(rt; named(alloc, b"a")?.into_positional(alloc, list)?, positional(alloc, &[])?);
+    assert_eq!(rt;
+        named(alloc, b"a")?.into_positional(alloc, list)?,
+        positional(alloc, &[])?
+    );
     Ok(())
 }
 

@@ -7,14 +7,15 @@ use std::alloc::{AllocError, Global};
 use std::cell::Cell;
 use std::process::Abort;
 use std::test::Fail;
+use std::time::Duration;
 
 // A type of the test's own, which counts how often it is asked for its value.
 #[derive(Drop)]
-struct Counted<'a> {
-    calls: &'a Cell<u32>,
+struct Counted {
+    calls: Cell<u32>,
 }
 
-impl ToValue for Counted<'_> {
+impl ToValue for Counted {
     ghost use Rattle.std.specs.Prelude.{Ok};
     ghost use Rattle.mysql_values.specs.ValueOf.{uint_value};
 
@@ -84,7 +85,10 @@ fn tuples(rt: HostRuntime) -> Result<(), Fail> {
     let alloc = rt.alloc();
     assert_eq!(rt; made(alloc, &(1u8,))?, positional(alloc, &[1])?);
     assert_eq!(rt; made(alloc, &(1u8, 2u64))?, positional(alloc, &[1, 2])?);
-    assert_eq!(rt; made(alloc, &(1u8, 2u8, 3u8))?, positional(alloc, &[1, 2, 3])?);
+    assert_eq!(rt;
+        made(alloc, &(1u8, 2u8, 3u8))?,
+        positional(alloc, &[1, 2, 3])?
+    );
     assert_eq!(rt;
         made(alloc, &(1u8, 2u8, 3u8, 4u8))?,
         positional(alloc, &[1, 2, 3, 4])?
@@ -121,11 +125,19 @@ fn long_tuples(rt: HostRuntime) -> Result<(), Fail> {
         positional(alloc, &numbers[..10])?
     );
     assert_eq!(rt;
-        made(alloc, &(1u8, 2u8, 3u8, 4u8, 5u8, 6u8, 7u8, 8u8, 9u8, 10u8, 11u8))?,
+        made(
+            alloc,
+            &(1u8, 2u8, 3u8, 4u8, 5u8, 6u8, 7u8, 8u8, 9u8, 10u8, 11u8)
+        )?,
         positional(alloc, &numbers[..11])?
     );
     assert_eq!(rt;
-        made(alloc, &(1u8, 2u8, 3u8, 4u8, 5u8, 6u8, 7u8, 8u8, 9u8, 10u8, 11u8, 12u8))?,
+        made(
+            alloc,
+            &(
+                1u8, 2u8, 3u8, 4u8, 5u8, 6u8, 7u8, 8u8, 9u8, 10u8, 11u8, 12u8
+            )
+        )?,
         positional(alloc, &numbers)?
     );
     Ok(())
@@ -134,18 +146,27 @@ fn long_tuples(rt: HostRuntime) -> Result<(), Fail> {
 #[test]
 fn objects(rt: HostRuntime) -> Result<(), Fail> {
     let alloc = rt.alloc();
-    let calls = Cell::new(0);
-    let own = Counted { calls: &calls };
+    let own = Counted {
+        calls: Cell::new(0),
+    };
     let objects: [&dyn ToValue; 4] = [&1u8, &"x", &None::<i64>, &own];
     let params = made(alloc, &objects.as_slice())?;
     let wanted = Vec::from_array(
         alloc,
-        [Value::UInt(1), bytes(alloc, b"x")?, Value::NULL, Value::UInt(7)],
+        [
+            Value::UInt(1),
+            bytes(alloc, b"x")?,
+            Value::NULL,
+            Value::UInt(7),
+        ],
     )?;
     assert_eq!(rt; params, Params::Positional(wanted));
-    assert_eq!(rt; calls.get(), 1);
+    assert_eq!(rt; own.calls.get(), 1);
     let twice: [&dyn ToValue; 2] = [&2u8, &2u8];
-    assert_eq!(rt; made(alloc, &twice.as_slice())?, positional(alloc, &[2, 2])?);
+    assert_eq!(rt;
+        made(alloc, &twice.as_slice())?,
+        positional(alloc, &[2, 2])?
+    );
     Ok(())
 }
 
@@ -167,22 +188,44 @@ fn pairs(rt: HostRuntime) -> Result<(), Fail> {
     Ok(())
 }
 
+// The first thing that has no value decides.
+#[test]
+fn refused_things(rt: HostRuntime) -> Result<(), Fail> {
+    let alloc = rt.alloc();
+    // One second more than a `Time` has days for, and two.
+    let long = Duration::from_secs(371085174374400);
+    let longer = Duration::from_secs(371085174374401);
+    let too_long = Some(ToParamsError::Value(ToValueError::DurationTooLong(long)));
+    assert_eq!(rt; made(alloc, &(1u8, long, longer)).err(), too_long);
+    let list = Vec::from_array(alloc, [long, longer])?;
+    assert_eq!(rt; made(alloc, &list).err(), too_long);
+    let objects: [&dyn ToValue; 3] = [&1u8, &long, &longer];
+    assert_eq!(rt; made(alloc, &objects.as_slice()).err(), too_long);
+    let pairs = [("a", long), ("a", longer)];
+    assert_eq!(rt; Params::from_pairs(alloc, &pairs).err(), too_long);
+    let pairs: [(&[u8], &dyn ToValue); 3] = [(b"a", &1u8), (b"b", &long), (b"a", &1u8)];
+    assert_eq!(rt; Params::from_objects(alloc, &pairs).err(), too_long);
+    Ok(())
+}
+
 #[test]
 fn redefined_thing_is_not_asked(rt: HostRuntime) -> Result<(), Fail> {
     let alloc = rt.alloc();
-    let calls = Cell::new(0);
-    let own = Counted { calls: &calls };
+    let own = Counted {
+        calls: Cell::new(0),
+    };
     let error = ToParamsError::Redefined(Vec::from_slice(alloc, b"a")?);
     let pairs: [(&[u8], &dyn ToValue); 2] = [(b"a", &1u8), (b"a", &own)];
     assert_eq!(rt; Params::from_objects(alloc, &pairs).err(), Some(error));
-    assert_eq!(rt; calls.get(), 0);
-    let other = Cell::new(0);
-    let things = [Counted { calls: &other }, Counted { calls: &calls }];
+    assert_eq!(rt; own.calls.get(), 0);
+    let first = Counted {
+        calls: Cell::new(0),
+    };
     let error = ToParamsError::Redefined(Vec::from_slice(alloc, b"a")?);
-    let pairs = [("a", &things[0]), ("a", &things[1])];
+    let pairs = [("a", &first), ("a", &own)];
     assert_eq!(rt; Params::from_pairs(alloc, &pairs).err(), Some(error));
-    assert_eq!(rt; calls.get(), 0);
-    assert_eq!(rt; other.get(), 1);
+    assert_eq!(rt; first.calls.get(), 1);
+    assert_eq!(rt; own.calls.get(), 0);
     Ok(())
 }
 

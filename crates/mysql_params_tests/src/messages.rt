@@ -53,7 +53,10 @@ fn messages_of_makers(rt: HostRuntime) -> Result<(), Fail> {
     let text = "Redefinition of named parameter `a\\x0a'";
     assert_eq!(rt; format!(in alloc; "{error}")?.as_str(), text);
     let error = ToParamsError::Value(ToValueError::DurationTooLong(Duration::from_secs(1)));
-    assert_eq!(rt; format!(in alloc; "{error}")?.as_str(), "Duration has too many days");
+    assert_eq!(rt;
+        format!(in alloc; "{error}")?.as_str(),
+        "Duration has too many days"
+    );
     let error = ToParamsError::Memory(AllocError);
     assert_eq!(rt; format!(in alloc; "{error}")?.as_str(), "out of memory");
     Ok(())
@@ -67,12 +70,21 @@ fn shown_parameters(rt: HostRuntime) -> Result<(), Fail> {
     let none = positional(alloc, &[])?;
     assert_eq!(rt; format!(in alloc; "{none:?}")?.as_str(), "Positional([])");
     let pair = Params::Positional(Vec::from_array(alloc, [Value::Int(1), Value::NULL])?);
-    assert_eq!(rt; format!(in alloc; "{pair:?}")?.as_str(), "Positional([Int(1), Null])");
+    assert_eq!(rt;
+        format!(in alloc; "{pair:?}")?.as_str(),
+        "Positional([Int(1), Null])"
+    );
     let none = named(alloc, b"")?;
     assert_eq!(rt; format!(in alloc; "{none:?}")?.as_str(), "Named({})");
-    let pairs = [(b"b".as_slice(), Value::NULL), (b"a".as_slice(), Value::Int(1))];
+    let pairs = [
+        (b"b".as_slice(), Value::NULL),
+        (b"a".as_slice(), Value::Int(1)),
+    ];
     let two = Params::from_pairs(alloc, &pairs)?;
-    assert_eq!(rt; format!(in alloc; "{two:?}")?.as_str(), "Named({\"a\": Int(1), \"b\": Null})");
+    assert_eq!(rt;
+        format!(in alloc; "{two:?}")?.as_str(),
+        "Named({\"a\": Int(1), \"b\": Null})"
+    );
     let pairs = [
         (b"b".as_slice(), bytes(alloc, b"x")?),
         (b"ab".as_slice(), Value::NULL),

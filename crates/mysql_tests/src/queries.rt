@@ -3,6 +3,8 @@ use mysql_params::laws::{mixed_error_equality, named_params_error_equality, pars
 use mysql_params::named_params::{MixedParamsError, NamedParamsError, ParsedNamedParams};
 use std::alloc::{AllocError, Global};
 use std::borrow::CowSlice;
+use std::fmt::Display;
+use std::process::Abort;
 use std::test::Fail;
 
 /// The query with marks, and then each name behind a newline; or `mixed`.
@@ -22,140 +24,166 @@ fn shown(alloc: Global, query: &[u8]) -> Result<Vec<u8>, AllocError> {
     Ok(text)
 }
 
+// Queries, and each with its marks and the names behind newlines, or `mixed`.
+const QUERIES: &[(&str, &str)] = &[
+    ("", ""),
+    (":a_Aa:b", "?Aa?\na_\nb"),
+    ("/**/:a", "/**/?\na"),
+    ("/*/:a", "/*/:a"),
+    ("::b", ":?\nb"),
+    (":1a :2a", ":1a :2a"),
+    ("1-:a", "1-?\na"),
+    (":a?", "mixed"),
+    (":a ?", "mixed"),
+    ("?", "?"),
+    ("--- :a", "--- :a"),
+    ("--\n:a", "--\n?\na"),
+    ("SELECT 'a\\':b", "SELECT 'a\\':b"),
+    (
+        "SELECT '\"\\':a' \"'\\\"':c\" :b",
+        "SELECT '\"\\':a' \"'\\\"':c\" ?\nb",
+    ),
+    (
+        "INSERT INTO `my:table` VALUES (:one, ':two\\\\', :three)",
+        "INSERT INTO `my:table` VALUES (?, ':two\\\\', ?)\none\nthree",
+    ),
+    (":a1 :a2", "? ?\na1\na2"),
+    (
+        "SELECT 1 FROM été WHERE thing = :param;",
+        "SELECT 1 FROM été WHERE thing = ?;\nparam",
+    ),
+    (
+        "INSERT INTO `my:table` VALUES (?)",
+        "INSERT INTO `my:table` VALUES (?)",
+    ),
+    (
+        "INSERT INTO `my:table` VALUES (:foo)",
+        "INSERT INTO `my:table` VALUES (?)\nfoo",
+    ),
+    ("/* x **/:a", "/* x **/?\na"),
+    ("-- x\n:a", "-- x\n?\na"),
+    ("SELECT (:a-10)", "SELECT (?-10)\na"),
+    ("/*! :a */ /*+ :b */", "/*! ? */ /*+ ? */\na\nb"),
+    (":a :b :a", "? ? ?\na\nb\na"),
+    ("'?' :a", "'?' ?\na"),
+    (":_ :A :a0Z", "? :A ?Z\n_\na0"),
+    ("*/*:a", "*/*:a"),
+    ("`a\\`:b", "`a\\`?\nb"),
+    (":a`:b`:c", "?`:b`?\na\nc"),
+    // What stands right behind a name or a lone colon is read as anywhere.
+    (":a:b", "??\na\nb"),
+    (":a#:b\n:c", "?#:b\n?\na\nc"),
+    (":a-- :b\n:c", "?-- :b\n?\na\nc"),
+    (":a/*:b*/:c", "?/*:b*/?\na\nc"),
+    (":a-:b", "?-?\na\nb"),
+    (":a/:b", "?/?\na\nb"),
+    (":#:b\n:c", ":#:b\n?\nc"),
+    (":-- :b\n:c", ":-- :b\n?\nc"),
+    (":/*:b*/:c", ":/*:b*/?\nc"),
+    (":`:b`:c", ":`:b`?\nc"),
+    (":?:a", "mixed"),
+    (
+        "SELECT 1 FROM my_table WHERE thing = :param;/* question\n  mark '?' in multiline\n\
+         comment? */\n# ??- sharp comment -??\n-- dash-dash?\n/*! extention param :param2 */\n\
+         /*+ optimizer hint :param3 */; select :foo; # another comment?",
+        "SELECT 1 FROM my_table WHERE thing = ?;/* question\n  mark '?' in multiline\n\
+         comment? */\n# ??- sharp comment -??\n-- dash-dash?\n/*! extention param ? */\n\
+         /*+ optimizer hint ? */; select ?; # another comment?\nparam\nparam2\nparam3\nfoo",
+    ),
+];
+
 #[test]
 fn names_of_queries(rt: HostRuntime) -> Result<(), Fail> {
-    let cases: [(&str, &str); 41] = [
-        ("", ""),
-        (":a_Aa:b", "?Aa?\na_\nb"),
-        ("/**/:a", "/**/?\na"),
-        ("/*/:a", "/*/:a"),
-        ("::b", ":?\nb"),
-        (":1a :2a", ":1a :2a"),
-        ("1-:a", "1-?\na"),
-        (":a?", "mixed"),
-        (":a ?", "mixed"),
-        ("?", "?"),
-        ("--- :a", "--- :a"),
-        ("--\n:a", "--\n?\na"),
-        ("SELECT 'a\\':b", "SELECT 'a\\':b"),
-        (
-            "SELECT '\"\\':a' \"'\\\"':c\" :b",
-            "SELECT '\"\\':a' \"'\\\"':c\" ?\nb",
-        ),
-        (
-            "INSERT INTO `my:table` VALUES (:one, ':two\\\\', :three)",
-            "INSERT INTO `my:table` VALUES (?, ':two\\\\', ?)\none\nthree",
-        ),
-        (":a1 :a2", "? ?\na1\na2"),
-        (
-            "SELECT 1 FROM été WHERE thing = :param;",
-            "SELECT 1 FROM été WHERE thing = ?;\nparam",
-        ),
-        (
-            "INSERT INTO `my:table` VALUES (?)",
-            "INSERT INTO `my:table` VALUES (?)",
-        ),
-        (
-            "INSERT INTO `my:table` VALUES (:foo)",
-            "INSERT INTO `my:table` VALUES (?)\nfoo",
-        ),
-        ("/* x **/:a", "/* x **/?\na"),
-        ("-- x\n:a", "-- x\n?\na"),
-        ("SELECT (:a-10)", "SELECT (?-10)\na"),
-        ("/*! :a */ /*+ :b */", "/*! ? */ /*+ ? */\na\nb"),
-        (":a :b :a", "? ? ?\na\nb\na"),
-        ("'?' :a", "'?' ?\na"),
-        (":_ :A :a0Z", "? :A ?Z\n_\na0"),
-        ("*/*:a", "*/*:a"),
-        ("`a\\`:b", "`a\\`?\nb"),
-        (":a`:b`:c", "?`:b`?\na\nc"),
-        // What stands right behind a name or a lone colon is read as anywhere.
-        (":a:b", "??\na\nb"),
-        (":a#:b\n:c", "?#:b\n?\na\nc"),
-        (":a-- :b\n:c", "?-- :b\n?\na\nc"),
-        (":a/*:b*/:c", "?/*:b*/?\na\nc"),
-        (":a-:b", "?-?\na\nb"),
-        (":a/:b", "?/?\na\nb"),
-        (":#:b\n:c", ":#:b\n?\nc"),
-        (":-- :b\n:c", ":-- :b\n?\nc"),
-        (":/*:b*/:c", ":/*:b*/?\nc"),
-        (":`:b`:c", ":`:b`?\nc"),
-        (":?:a", "mixed"),
-        (
-            "SELECT 1 FROM my_table WHERE thing = :param;/* question\n  mark '?' in multiline\n\
-             comment? */\n# ??- sharp comment -??\n-- dash-dash?\n/*! extention param :param2 */\n\
-             /*+ optimizer hint :param3 */; select :foo; # another comment?",
-            "SELECT 1 FROM my_table WHERE thing = ?;/* question\n  mark '?' in multiline\n\
-             comment? */\n# ??- sharp comment -??\n-- dash-dash?\n/*! extention param ? */\n\
-             /*+ optimizer hint ? */; select ?; # another comment?\nparam\nparam2\nparam3\nfoo",
-        ),
-    ];
-    for (query, wanted) in cases {
+    for (query, wanted) in QUERIES {
         let text = shown(rt.alloc(), query.as_bytes())?;
         assert_eq!(rt; text.as_slice(), wanted.as_bytes(), "of {query}");
     }
     Ok(())
 }
 
+// Behind `--`: a space, a tab, a form feed and a carriage return open a comment; a vertical tab,
+// other control bytes, a newline and the end do not.
+const COMMENTS: &[(&[u8], &[u8])] = &[
+    (b"-- :a", b"-- :a"),
+    (b"--\t:a", b"--\t:a"),
+    (b"--\x0c:a", b"--\x0c:a"),
+    (b"--\r:a", b"--\r:a"),
+    (b"--\x0b:a", b"--\x0b?\na"),
+    (b"--\x01:a", b"--\x01?\na"),
+    (b"--\x7f:a", b"--\x7f?\na"),
+    (b"--\n:a", b"--\n?\na"),
+    (b"--", b"--"),
+    // A carriage return ends no comment.
+    (b"#\r:a\n:b", b"#\r:a\n?\nb"),
+    (b"-- \r:a\n:b", b"-- \r:a\n?\nb"),
+    (b"/*", b"/*"),
+    (b":a/*! :b", b"?/*! ?\na\nb"),
+    // Bytes outside ASCII are plain.
+    (b":\xc3\xa9:a\xff", b":\xc3\xa9?\xff\na"),
+];
+
 #[test]
 fn bytes_that_open_and_close_comments(rt: HostRuntime) -> Result<(), Fail> {
-    // Behind `--`: a space, a tab, a form feed and a carriage return open a comment; a vertical tab,
-    // other control bytes, a newline and the end do not.
-    let cases: [(&[u8], &[u8]); 14] = [
-        (b"-- :a", b"-- :a"),
-        (b"--\t:a", b"--\t:a"),
-        (b"--\x0c:a", b"--\x0c:a"),
-        (b"--\r:a", b"--\r:a"),
-        (b"--\x0b:a", b"--\x0b?\na"),
-        (b"--\x01:a", b"--\x01?\na"),
-        (b"--\x7f:a", b"--\x7f?\na"),
-        (b"--\n:a", b"--\n?\na"),
-        (b"--", b"--"),
-        // A carriage return ends no comment.
-        (b"#\r:a\n:b", b"#\r:a\n?\nb"),
-        (b"-- \r:a\n:b", b"-- \r:a\n?\nb"),
-        (b"/*", b"/*"),
-        (b":a/*! :b", b"?/*! ?\na\nb"),
-        // Bytes outside ASCII are plain.
-        (b":\xc3\xa9:a\xff", b":\xc3\xa9?\xff\na"),
-    ];
-    for (query, wanted) in cases {
-        let text = shown(rt.alloc(), query)?;
-        assert_eq!(rt; text.as_slice(), wanted, "of {query:?}");
+    for (query, wanted) in COMMENTS {
+        let text = shown(rt.alloc(), *query)?;
+        assert_eq!(rt; text.as_slice(), *wanted, "of {query:?}");
     }
     Ok(())
 }
 
 #[test]
-fn copies_and_equality(rt: HostRuntime) -> Result<(), Fail> {
+fn copies(rt: HostRuntime) -> Result<(), Fail> {
     let parsed = ParsedNamedParams::parse(rt.alloc(), b"SELECT :a, :b")?;
     let copy = parsed.clone()?;
     assert!(rt; parsed == copy);
     assert!(rt; parsed_equality(&parsed, &copy));
     assert_eq!(rt; copy.params().len(), 2);
-    let other_name = ParsedNamedParams::parse(rt.alloc(), b"SELECT :a, :c")?;
-    assert!(rt; parsed != other_name, "the names differ");
-    let other_query = ParsedNamedParams::parse(rt.alloc(), b"SELECT :a; :b")?;
-    assert!(rt;
-        !parsed_equality(&parsed, &other_query),
-        "the queries differ"
-    );
+    Ok(())
+}
+
+#[test]
+fn equality(rt: HostRuntime) -> Result<(), Fail> {
+    let parsed = ParsedNamedParams::parse(rt.alloc(), b"SELECT :a, :b")?;
+    let others: [&[u8]; 2] = [b"SELECT :a, :c", b"SELECT :a; :b"];
+    for query in others {
+        let other = ParsedNamedParams::parse(rt.alloc(), query)?;
+        assert!(rt; parsed != other, "{query:?}");
+        assert!(rt; !parsed_equality(&parsed, &other), "{query:?}");
+    }
+    Ok(())
+}
+
+#[test]
+fn equality_of_refusals(rt: HostRuntime) {
     assert!(rt; mixed_error_equality(&MixedParamsError, &MixedParamsError));
     let memory = NamedParamsError::Memory(AllocError);
     let mixed = NamedParamsError::Mixed(MixedParamsError);
     assert!(rt; !named_params_error_equality(&memory, &mixed));
+}
+
+/// What is printed of a refusal.
+fn says(rt: &impl Abort, alloc: Global, refusal: &impl Display, text: &str) -> Result<(), Fail> {
+    assert_eq!(rt; refusal.to_string(alloc)?.as_str(), text);
     Ok(())
 }
 
 #[test]
 fn messages_of_refusals(rt: HostRuntime) -> Result<(), Fail> {
+    let alloc = rt.alloc();
     let mixed = "Named and positional params in one query";
-    assert_eq!(rt; MixedParamsError.to_string(rt.alloc())?.as_str(), mixed);
-    let error = NamedParamsError::Mixed(MixedParamsError);
-    assert_eq!(rt; error.to_string(rt.alloc())?.as_str(), mixed);
-    let error = NamedParamsError::Memory(AllocError);
-    assert_eq!(rt; error.to_string(rt.alloc())?.as_str(), "out of memory");
-    Ok(())
+    says(&rt, alloc, &MixedParamsError, mixed)?;
+    says(
+        &rt,
+        alloc,
+        &NamedParamsError::Mixed(MixedParamsError),
+        mixed,
+    )?;
+    says(
+        &rt,
+        alloc,
+        &NamedParamsError::Memory(AllocError),
+        "out of memory",
+    )
 }
 
 /// The first name of a query, which lives as long as the query.

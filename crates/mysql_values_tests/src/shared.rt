@@ -3,10 +3,27 @@ use mysql_values::bytes::Bytes;
 use mysql_values::value::{BinValue, Value, ValueDeserializer};
 use mysql_wire_part::{ColumnFlags, ColumnType, Flags, MyDeserialize, ParseBuf, WireError};
 use std::alloc::{AllocError, Global};
+use std::process::Abort;
+use std::test::Fail;
 
 pub const SIGNED: u16 = 0;
 
 pub const UNSIGNED: u16 = 32;
+
+// The fields of a date: year, month, day, hour, minute, second, microseconds.
+pub type DateFields = (u16, u8, u8, u8, u8, u8, u32);
+
+// The fields of a time: whether it is negative, days, hours, minutes, seconds, microseconds.
+pub type TimeFields = (bool, u32, u8, u8, u8, u32);
+
+// A table of plain data is cheaper to prove than one of values.
+pub fn date((year, month, day, hour, minute, second, microseconds): DateFields) -> Value {
+    Value::Date(year, month, day, hour, minute, second, microseconds)
+}
+
+pub fn time((negative, days, hours, minutes, seconds, microseconds): TimeFields) -> Value {
+    Value::Time(negative, days, hours, minutes, seconds, microseconds)
+}
 
 // The value that the column reads at the front of the buffer.
 pub fn read(
@@ -23,4 +40,38 @@ pub fn read(
 // The value that holds these bytes.
 pub fn bytes(alloc: Global, text: &[u8]) -> Result<Value, AllocError> {
     Ok(Value::Bytes(Bytes::from(Vec::from_slice(alloc, text)?)))
+}
+
+// The column reads the value at the front of the bytes, and leaves what is behind it.
+pub fn reads(
+    rt: &impl Abort,
+    alloc: Global,
+    (column, flags): (ColumnType, u16),
+    input: &[u8],
+    left: &[u8],
+    value: &Value,
+) -> Result<(), Fail> {
+    let mut buf = ParseBuf(input);
+    let found = read(alloc, column, flags, &mut buf)?;
+    assert_eq!(rt; found, *value, "{column:?} of {input:?}, flags {flags}");
+    assert_eq!(rt; buf.0, left, "{column:?} of {input:?}, flags {flags}");
+    Ok(())
+}
+
+// The column refuses the bytes, and leaves them.
+pub fn refuses(
+    rt: &impl Abort,
+    alloc: Global,
+    (column, flags): (ColumnType, u16),
+    input: &[u8],
+    error: WireError,
+) {
+    let mut buf = ParseBuf(input);
+    let refused = read(alloc, column, flags, &mut buf);
+    assert_eq!(rt;
+        refused,
+        Err(error),
+        "{column:?} of {input:?}, flags {flags}"
+    );
+    assert_eq!(rt; buf.0, input, "{column:?} of {input:?}, flags {flags}");
 }

@@ -2,95 +2,117 @@
 use crate::shared::bytes;
 use mysql_values::value::{TextValue, Value, ValueDeserializer, read_text_cells};
 use mysql_wire_part::{MyDeserialize, ParseBuf, WireError};
+use std::alloc::{AllocError, Global};
+use std::process::Abort;
 use std::test::Fail;
+
+// The value of a cell, where None is NULL.
+fn value_of(alloc: Global, cell: Option<&[u8]>) -> Result<Value, AllocError> {
+    match cell {
+        Some(text) => bytes(alloc, text),
+        None => Ok(Value::NULL),
+    }
+}
+
+fn values(alloc: Global, cells: &[Option<&[u8]>]) -> Result<Vec<Value>, AllocError> {
+    let mut values = Vec::new(alloc);
+    for cell in cells {
+        values.push(value_of(alloc, *cell)?)?;
+    }
+    Ok(values)
+}
+
+// Bytes, the cells in front of them, and what is left.
+const ROWS: &[(&[u8], &[Option<&[u8]>], &[u8])] = &[
+    (
+        &[1, 49, 1, 50, 1, 51, 251, 1, 52, 1, 53, 251, 1, 55],
+        &[
+            Some(b"1"),
+            Some(b"2"),
+            Some(b"3"),
+            None,
+            Some(b"4"),
+            Some(b"5"),
+            None,
+            Some(b"7"),
+        ],
+        &[],
+    ),
+    // A length in more bytes than it needs, and an empty string, which isn't NULL.
+    (&[0xFC, 1, 0, 0x41, 0, 7], &[Some(b"A"), Some(b"")], &[7]),
+    (&[0xFC, 1, 0, 0x41], &[Some(b"A")], &[]),
+    (&[7], &[], &[7]),
+];
 
 #[test]
 fn rows(rt: HostRuntime) -> Result<(), Fail> {
     let alloc = rt.alloc();
-    let mut buf = ParseBuf(&[1, 49, 1, 50, 1, 51, 251, 1, 52, 1, 53, 251, 1, 55]);
-    let row = [
-        bytes(alloc, b"1")?,
-        bytes(alloc, b"2")?,
-        bytes(alloc, b"3")?,
-        Value::NULL,
-        bytes(alloc, b"4")?,
-        bytes(alloc, b"5")?,
-        Value::NULL,
-        bytes(alloc, b"7")?,
-    ];
-    assert_eq!(rt;
-        read_text_cells(alloc, &mut buf, 8)?.as_slice(),
-        row.as_slice()
-    );
-    assert!(rt; buf.is_empty());
-
-    // A length in more bytes than it needs, and an empty string, which isn't NULL.
-    let mut buf = ParseBuf(&[0xFC, 1, 0, 0x41, 0, 7]);
-    let row = [bytes(alloc, b"A")?, bytes(alloc, b"")?];
-    assert_eq!(rt;
-        read_text_cells(alloc, &mut buf, 2)?.as_slice(),
-        row.as_slice()
-    );
-    assert_eq!(rt; buf.0, [7].as_slice());
-
-    let mut single = ParseBuf(&[0xFC, 1, 0, 0x41]);
-    assert_eq!(rt;
-        read_text_cells(alloc, &mut single, 1)?.as_slice(),
-        [bytes(alloc, b"A")?].as_slice()
-    );
-    assert!(rt; single.is_empty());
-
-    assert!(rt; read_text_cells(alloc, &mut buf, 0)?.is_empty());
-    assert_eq!(rt; buf.0, [7].as_slice());
+    for (input, cells, left) in ROWS {
+        let mut buf = ParseBuf(*input);
+        let row = read_text_cells(alloc, &mut buf, cells.len())?;
+        let wanted = values(alloc, *cells)?;
+        assert_eq!(rt; row.as_slice(), wanted.as_slice(), "of {input:?}");
+        assert_eq!(rt; buf.0, *left, "of {input:?}");
+    }
     Ok(())
 }
+
+// So many cells are refused, and the bytes are left.
+fn refuses(rt: &impl Abort, alloc: Global, input: &[u8], count: usize, error: WireError) {
+    let mut buf = ParseBuf(input);
+    let refusal = read_text_cells(alloc, &mut buf, count).err();
+    assert_eq!(rt; refusal, Some(error), "{count} cells of {input:?}");
+    assert_eq!(rt; buf.0, input, "{count} cells of {input:?}");
+}
+
+// Bytes that end before so many cells do.
+const TOO_SHORT: &[(&[u8], usize)] = &[
+    // The second cell ends too early.
+    (&[1, 0x31, 2, 0x32], 2),
+    (&[], 1),
+    (&[0xFC, 1], 1),
+    (&[0xFD, 1, 0], 1),
+    (&[0xFE, 255, 255, 255, 255, 255, 255, 255, 255, 0x41], 1),
+    (&[0xFB], usize::MAX),
+    (&[0xFB, 0], usize::MAX),
+];
 
 #[test]
 fn refused_rows_leave_the_buffer(rt: HostRuntime) {
     let alloc = rt.alloc();
-    let past_the_end = [0xFE, 255, 255, 255, 255, 255, 255, 255, 255, 0x41];
-    let table = [
-        // The second cell ends too early.
-        ([1, 0x31, 2, 0x32].as_slice(), 2, WireError::UnexpectedEof),
-        ([0xFF].as_slice(), 1, WireError::BadLengthLead(255)),
-        // The first cell that is refused decides.
-        ([0xFB, 0xFF, 1].as_slice(), 3, WireError::BadLengthLead(255)),
-        ([].as_slice(), 1, WireError::UnexpectedEof),
-        ([0xFC, 1].as_slice(), 1, WireError::UnexpectedEof),
-        ([0xFD, 1, 0].as_slice(), 1, WireError::UnexpectedEof),
-        (past_the_end.as_slice(), 1, WireError::UnexpectedEof),
-        ([0xFB].as_slice(), usize::MAX, WireError::UnexpectedEof),
-        ([0xFB, 0].as_slice(), usize::MAX, WireError::UnexpectedEof),
-    ];
-    for (input, count, error) in &table {
-        let mut buf = ParseBuf(input);
-        match read_text_cells(alloc, &mut buf, *count) {
-            Ok(row) => assert!(rt; false, "{count} cells of {input:?}: {row:?}"),
-            Err(refusal) => assert_eq!(rt; refusal, *error, "{count} cells of {input:?}"),
-        }
-        assert_eq!(rt; buf.0, *input, "{count} cells of {input:?}");
+    for (input, count) in TOO_SHORT {
+        refuses(&rt, alloc, *input, *count, WireError::UnexpectedEof);
     }
+    refuses(&rt, alloc, &[0xFF], 1, WireError::BadLengthLead(255));
+    // The first cell that is refused decides.
+    let error = WireError::BadLengthLead(255);
+    refuses(&rt, alloc, &[0xFB, 0xFF, 1], 3, error);
 }
+
+// A cell, and behind it the byte 9.
+const CELLS: &[(&[u8], Option<&[u8]>)] = &[
+    (&[0xFB, 9], None),
+    (&[0, 9], Some(b"")),
+    (&[2, 0x61, 0x62, 9], Some(b"ab")),
+];
 
 #[test]
 fn single_cells(rt: HostRuntime) -> Result<(), Fail> {
     let alloc = rt.alloc();
-    let table = [
-        ([0xFB, 9].as_slice(), Value::NULL),
-        ([0, 9].as_slice(), bytes(alloc, b"")?),
-        ([2, 0x61, 0x62, 9].as_slice(), bytes(alloc, b"ab")?),
-    ];
-    for (input, value) in &table {
-        let mut buf = ParseBuf(input);
-        let cell = ValueDeserializer::<TextValue>::deserialize(alloc, (), &mut buf)?;
-        assert_eq!(rt; cell.0, *value, "of {input:?}");
+    for (input, cell) in CELLS {
+        let mut buf = ParseBuf(*input);
+        let read = ValueDeserializer::<TextValue>::deserialize(alloc, (), &mut buf)?;
+        assert_eq!(rt; read.0, value_of(alloc, *cell)?, "of {input:?}");
         assert_eq!(rt; buf.0, [9].as_slice(), "of {input:?}");
     }
+    Ok(())
+}
 
+#[test]
+fn refused_cell(rt: HostRuntime) {
     let mut buf = ParseBuf(&[0xFF]);
-    let refused = ValueDeserializer::<TextValue>::deserialize(alloc, (), &mut buf);
+    let refused = ValueDeserializer::<TextValue>::deserialize(rt.alloc(), (), &mut buf);
     assert_eq!(rt; refused.err(), Some(WireError::BadLengthLead(255)));
     assert_eq!(rt; buf.len(), 1);
     assert!(rt; ValueDeserializer::<TextValue>::SIZE.is_none());
-    Ok(())
 }

@@ -1,57 +1,76 @@
 //! Values: how they are shown, compared and copied.
-use crate::shared::bytes;
+use crate::shared::{DateFields, TimeFields, bytes, date, time};
 use mysql_values::bytes::Bytes;
 use mysql_values::value::Value;
 use std::alloc::{AllocError, Global};
 use std::cmp::Ordering;
+use std::process::Abort;
 use std::test::Fail;
+
+// The value is shown as the text.
+fn is_shown(rt: &impl Abort, alloc: Global, value: &Value, text: &str) -> Result<(), Fail> {
+    assert_eq!(rt; format!(in alloc; "{value:?}")?.as_str(), text);
+    Ok(())
+}
+
+const SHOWN_BYTES: &[(&[u8], &str)] = &[
+    (b"", "Bytes(\"\")"),
+    (b"it's ok!", "Bytes(\"it's ok!\")"),
+    (b"123456789", "Bytes(\"12345678..\")"),
+    (
+        b"\"\\\x00\x1f ~\x7f\xff",
+        "Bytes(\"\\x22\\x5c\\x00\\x1f ~\\x7f\\xff\")",
+    ),
+];
+
+const SHOWN_DATES: &[(DateFields, &str)] = &[
+    ((2019, 11, 27, 0, 0, 0, 0), "Date(\"'2019-11-27'\")"),
+    ((1, 2, 3, 0, 0, 4, 0), "Date(\"'0001-02-03 00:00:04'\")"),
+    (
+        (2019, 11, 27, 12, 30, 0, 56),
+        "Date(\"'2019-11-27 12:30:00.000056'\")",
+    ),
+    (
+        (65535, 255, 255, 0, 0, 0, 4294967295),
+        "Date(\"'65535-255-255 00:00:00.4294967295'\")",
+    ),
+];
+
+const SHOWN_TIMES: &[(TimeFields, &str)] = &[
+    (
+        (true, 300, 8, 8, 8, 123456),
+        "Time(\"'-7208:08:08.123456'\")",
+    ),
+    ((true, 0, 0, 0, 0, 0), "Time(\"'-000:00:00'\")"),
+    (
+        (false, 4294967295, 255, 0, 0, 0),
+        "Time(\"'103079215335:00:00'\")",
+    ),
+];
 
 #[test]
 fn debug_texts(rt: HostRuntime) -> Result<(), Fail> {
     let alloc = rt.alloc();
-    let table = [
-        (Value::NULL, "Null"),
-        (bytes(alloc, b"")?, "Bytes(\"\")"),
-        (bytes(alloc, b"it's ok!")?, "Bytes(\"it's ok!\")"),
-        (bytes(alloc, b"123456789")?, "Bytes(\"12345678..\")"),
-        (
-            bytes(alloc, b"\"\\\x00\x1f ~\x7f\xff")?,
-            "Bytes(\"\\x22\\x5c\\x00\\x1f ~\\x7f\\xff\")",
-        ),
-        (Value::Int(-3), "Int(-3)"),
-        (Value::UInt(5), "UInt(5)"),
-        (Value::Float(1065353216), "Float(1065353216)"),
-        (Value::Double(0), "Double(0)"),
-        (
-            Value::Date(2019, 11, 27, 0, 0, 0, 0),
-            "Date(\"'2019-11-27'\")",
-        ),
-        (
-            Value::Date(1, 2, 3, 0, 0, 4, 0),
-            "Date(\"'0001-02-03 00:00:04'\")",
-        ),
-        (
-            Value::Date(2019, 11, 27, 12, 30, 0, 56),
-            "Date(\"'2019-11-27 12:30:00.000056'\")",
-        ),
-        (
-            Value::Date(65535, 255, 255, 0, 0, 0, 4294967295),
-            "Date(\"'65535-255-255 00:00:00.4294967295'\")",
-        ),
-        (
-            Value::Time(true, 300, 8, 8, 8, 123456),
-            "Time(\"'-7208:08:08.123456'\")",
-        ),
-        (Value::Time(true, 0, 0, 0, 0, 0), "Time(\"'-000:00:00'\")"),
-        (
-            Value::Time(false, 4294967295, 255, 0, 0, 0),
-            "Time(\"'103079215335:00:00'\")",
-        ),
-    ];
-    for (value, text) in &table {
-        assert_eq!(rt; format!(in alloc; "{value:?}")?.as_str(), *text);
+    for (held, text) in SHOWN_BYTES {
+        is_shown(&rt, alloc, &bytes(alloc, *held)?, *text)?;
+    }
+    for (fields, text) in SHOWN_DATES {
+        is_shown(&rt, alloc, &date(*fields), *text)?;
+    }
+    for (fields, text) in SHOWN_TIMES {
+        is_shown(&rt, alloc, &time(*fields), *text)?;
     }
     Ok(())
+}
+
+#[test]
+fn debug_texts_of_null_and_numbers(rt: HostRuntime) -> Result<(), Fail> {
+    let alloc = rt.alloc();
+    is_shown(&rt, alloc, &Value::NULL, "Null")?;
+    is_shown(&rt, alloc, &Value::Int(-3), "Int(-3)")?;
+    is_shown(&rt, alloc, &Value::UInt(5), "UInt(5)")?;
+    is_shown(&rt, alloc, &Value::Float(1065353216), "Float(1065353216)")?;
+    is_shown(&rt, alloc, &Value::Double(0), "Double(0)")
 }
 
 // Values in their order, no two of them equal.
@@ -96,16 +115,25 @@ fn equality_and_order(rt: HostRuntime) -> Result<(), Fail> {
 
 #[test]
 fn copies(rt: HostRuntime) -> Result<(), Fail> {
-    let alloc = rt.alloc();
-    for value in &ascending(alloc)? {
+    for value in &ascending(rt.alloc())? {
         assert_eq!(rt; value.clone()?, *value);
     }
+    Ok(())
+}
+
+#[test]
+fn copy_of_a_vector(rt: HostRuntime) -> Result<(), Fail> {
     // The copy of a vector goes by the trait.
-    let mut held = Vec::new(alloc);
+    let mut held = Vec::new(rt.alloc());
     held.push(Value::Int(-3))?;
-    held.push(bytes(alloc, b"text")?)?;
+    held.push(bytes(rt.alloc(), b"text")?)?;
     assert_eq!(rt; held.clone()?.as_slice(), held.as_slice());
-    let text = Bytes::from(Vec::from_slice(alloc, b"text")?);
+    Ok(())
+}
+
+#[test]
+fn bytes_and_vectors(rt: HostRuntime) -> Result<(), Fail> {
+    let text = Bytes::from(Vec::from_slice(rt.alloc(), b"text")?);
     assert_eq!(rt; text.clone()?, text);
     assert_eq!(rt; text.as_slice(), b"text".as_slice());
     assert_eq!(rt; Vec::<u8>::from(text).as_slice(), b"text".as_slice());

@@ -68,9 +68,13 @@ fn integers_of_each_width(rt: HostRuntime) {
 
 #[test]
 fn too_few_bytes(rt: HostRuntime) {
-    let bytes = [1, 2, 3, 4, 5, 6, 7];
     // The calls from the second number on want more bytes.
-    let table: [(&[u8], usize); 4] = [(&[], 0), (&[1], 2), (&[1, 2, 3], 4), (&bytes, 6)];
+    let table: [(&[u8], usize); 4] = [
+        (&[], 0),
+        (&[1], 2),
+        (&[1, 2, 3], 4),
+        (&[1, 2, 3, 4, 5, 6, 7], 6),
+    ];
     for (bytes, answered) in table {
         let found = integers(bytes);
         for i in 0..8 {
@@ -81,51 +85,67 @@ fn too_few_bytes(rt: HostRuntime) {
             }
         }
     }
-    let mut buf = ParseBuf(&bytes);
-    assert_eq!(rt; buf.checked_eat_buf(8), None);
-    assert_eq!(rt; buf.checked_eat_buf(usize::MAX), None);
-    assert_eq!(rt; buf.checked_eat_buf(3), Some(ParseBuf(&[1, 2, 3])));
-    assert_eq!(rt; buf, ParseBuf(&[4, 5, 6, 7]));
-    assert_eq!(rt; buf.checked_eat_buf(4), Some(ParseBuf(&[4, 5, 6, 7])));
-    assert_eq!(rt; buf.checked_eat_buf(0), Some(ParseBuf(&[])));
-    assert!(rt; buf.is_empty());
 }
 
 #[test]
-fn lengths_at_their_ends(rt: HostRuntime) -> Result<(), Fail> {
-    let alloc = rt.alloc();
-    let table: [(usize, &[u8]); 8] = [
-        (0, &[0]),
-        (250, &[0xFA]),
-        (251, &[0xFC, 0xFB, 0]),
-        (65535, &[0xFC, 0xFF, 0xFF]),
-        (65536, &[0xFD, 0, 0, 1]),
-        (16777215, &[0xFD, 0xFF, 0xFF, 0xFF]),
-        (16777216, &[0xFE, 0, 0, 0, 1, 0, 0, 0, 0]),
-        (1, &[1]),
+fn stretches_of_bytes(rt: HostRuntime) {
+    let mut buf = ParseBuf(&[1, 2, 3, 4, 5, 6, 7]);
+    // So many bytes are wanted, and these are handed out.
+    let table: [(usize, Option<&[u8]>); 5] = [
+        (8, None),
+        (usize::MAX, None),
+        (3, Some(&[1, 2, 3])),
+        (4, Some(&[4, 5, 6, 7])),
+        (0, Some(&[])),
     ];
-    for (len, head) in table {
-        let text = vec![in alloc; b'a'; len]?;
+    for (count, wanted) in table {
+        let found = buf.checked_eat_buf(count).map(|front| front.0);
+        assert_eq!(rt; found, wanted, "{count} bytes");
+    }
+    assert!(rt; buf.is_empty());
+}
+
+// Lengths of strings, and how they are written.
+const LENGTHS: &[(usize, &[u8])] = &[
+    (0, &[0]),
+    (250, &[0xFA]),
+    (251, &[0xFC, 0xFB, 0]),
+    (65535, &[0xFC, 0xFF, 0xFF]),
+    (65536, &[0xFD, 0, 0, 1]),
+    (16777215, &[0xFD, 0xFF, 0xFF, 0xFF]),
+    (16777216, &[0xFE, 0, 0, 0, 1, 0, 0, 0, 0]),
+    (1, &[1]),
+];
+
+#[test]
+fn written_lengths(rt: HostRuntime) -> Result<(), Fail> {
+    let alloc = rt.alloc();
+    for (len, head) in LENGTHS {
+        let text = vec![in alloc; b'a'; *len]?;
+        let mut wanted = vec![in alloc; 7]?;
+        wanted.extend_from_slice(*head)?;
+        wanted.extend_from_slice(&text)?;
         let mut buf = vec![in alloc; 7]?;
         put_lenenc_str(&mut buf, &text)?;
-        let whole = head.len() + len;
-        assert_eq!(rt; lenenc_str_len(&text), whole as u64, "length {len}");
-        assert_eq!(rt; buf.len(), 1 + whole, "length {len}");
-        let mut front = ParseBuf(&buf);
-        assert_eq!(rt; front.checked_eat_u8(), Some(7), "length {len}");
-        assert_eq!(rt;
-            front.checked_eat_buf(head.len()),
-            Some(ParseBuf(head)),
-            "length {len}"
-        );
-        assert!(rt; front.0 == text.as_slice(), "length {len}");
-        buf.push(0x2A)?;
-        let mut read = ParseBuf(&buf[1..]);
-        assert!(rt;
-            read.eat_lenenc_str() == Ok(text.as_slice()),
-            "length {len}"
-        );
-        assert_eq!(rt; read.0, [0x2A].as_slice(), "length {len}");
+        assert!(rt; buf.as_slice() == wanted.as_slice(), "length {len}");
+        let whole = head.len() as u64 + *len as u64;
+        assert_eq!(rt; lenenc_str_len(&text), whole, "length {len}");
+    }
+    Ok(())
+}
+
+#[test]
+fn read_lengths(rt: HostRuntime) -> Result<(), Fail> {
+    let alloc = rt.alloc();
+    for (len, head) in LENGTHS {
+        let text = vec![in alloc; b'a'; *len]?;
+        let mut spelling = Vec::from_slice(alloc, *head)?;
+        spelling.extend_from_slice(&text)?;
+        spelling.push(0x2A)?;
+        let mut buf = ParseBuf(&spelling);
+        let read = buf.eat_lenenc_str();
+        assert!(rt; read == Ok(text.as_slice()), "length {len}");
+        assert_eq!(rt; buf.0, [0x2A].as_slice(), "length {len}");
     }
     Ok(())
 }
@@ -145,31 +165,37 @@ fn longer_spellings_than_needed(rt: HostRuntime) {
     }
 }
 
+// Bytes that end before their length or their string does.
+const TOO_SHORT: &[&[u8]] = &[
+    &[],
+    &[1],
+    &[0xFA, 1, 2],
+    &[0xFC, 0],
+    &[0xFC, 1, 0],
+    &[0xFD, 0, 0],
+    &[0xFD, 2, 0, 0, 1],
+    &[0xFE, 0, 0, 0, 0, 0, 0, 0],
+    &[0xFE, 0, 0, 0, 0, 0, 0, 0, 0x80, 1],
+    &[0xFE, 255, 255, 255, 255, 255, 255, 255, 255, 1],
+];
+
 #[test]
 fn refused_strings_leave_the_buffer(rt: HostRuntime) {
-    let table: [(&[u8], WireError); 12] = [
-        (&[], WireError::UnexpectedEof),
-        (&[1], WireError::UnexpectedEof),
-        (&[0xFA, 1, 2], WireError::UnexpectedEof),
-        (&[0xFB, 1, 2], WireError::BadLengthLead(0xFB)),
-        (&[0xFF, 1, 2], WireError::BadLengthLead(0xFF)),
-        (&[0xFC, 0], WireError::UnexpectedEof),
-        (&[0xFC, 1, 0], WireError::UnexpectedEof),
-        (&[0xFD, 0, 0], WireError::UnexpectedEof),
-        (&[0xFD, 2, 0, 0, 1], WireError::UnexpectedEof),
-        (&[0xFE, 0, 0, 0, 0, 0, 0, 0], WireError::UnexpectedEof),
-        (
-            &[0xFE, 0, 0, 0, 0, 0, 0, 0, 0x80, 1],
-            WireError::UnexpectedEof,
-        ),
-        (
-            &[0xFE, 255, 255, 255, 255, 255, 255, 255, 255, 1],
-            WireError::UnexpectedEof,
-        ),
-    ];
-    for (bytes, error) in table {
-        let mut buf = ParseBuf(bytes);
-        assert_eq!(rt; buf.eat_lenenc_str(), Err(error), "{bytes:?}");
-        assert_eq!(rt; buf.0, bytes, "{bytes:?}");
+    for bytes in TOO_SHORT {
+        let mut buf = ParseBuf(*bytes);
+        let read = buf.eat_lenenc_str();
+        assert_eq!(rt; read, Err(WireError::UnexpectedEof), "{bytes:?}");
+        assert_eq!(rt; buf.0, *bytes, "{bytes:?}");
+    }
+}
+
+#[test]
+fn refused_leads_leave_the_buffer(rt: HostRuntime) {
+    for lead in [0xFB, 0xFF] {
+        let bytes = [lead, 1, 2];
+        let mut buf = ParseBuf(&bytes);
+        let read = buf.eat_lenenc_str();
+        assert_eq!(rt; read, Err(WireError::BadLengthLead(lead)));
+        assert_eq!(rt; buf.0, bytes.as_slice(), "lead {lead}");
     }
 }

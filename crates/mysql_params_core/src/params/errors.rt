@@ -49,7 +49,8 @@ pub enum ParamsError {
 }
 
 impl ParamsError {
-    /// A copy of the error. Only that of a missing name takes memory, on the allocator that it holds.
+    /// A copy of the error. Only that of a missing name takes memory, on the allocator that it
+    /// holds.
     pub fn clone(&self) -> Result<ParamsError, AllocError>
         ensures equal { IfOk result (λ copy. AreEqualParamsErrors copy self.now) }
         ensures memory { OnErr result (IsMissing self.now) }

@@ -55,7 +55,9 @@ fn reported<'a>(entries: &HashMap<Vec<u8>, Value>, names: &'a [Vec<u8>], first: 
     }
 }
 
-// The values of the names, all of which are in the map.
+// The values of the names, all of which are in the map. A value is moved out of the map at its
+// name's first place, and copied for each later one. By the names that were taken out with the
+// values, `places` finds where these stand, so that no name is copied and no list is searched.
 fn take_values(
     alloc: Global,
     entries: HashMap<Vec<u8>, Value>,
@@ -66,16 +68,27 @@ fn take_values(
         values_at (value_map entries.entries) (names_of names.now) ≡ Some values.items) }
     ensures memory { OnErr result (0 < length names.now) }
 {
+    let mut left = entries;
+    let mut places: HashMap<Vec<u8>, usize> = HashMap::new(alloc);
     let mut values = Vec::new(alloc);
     for name in names {
-        match entries.get(name.as_slice()) {
-            Some(value) => values.push(value.clone()?)?,
-            None => unreachable!(),
+        if let Some((key, value)) = left.remove_entry(name) {
+            match places.insert(key, values.len()) {
+                Ok(_) => {}
+                Err(_) => return Err(AllocError),
+            }
+            values.push(value)?;
+        } else if let Some(place) = places.get(name) {
+            let value = values[*place].clone()?;
+            values.push(value)?;
+        } else {
+            unreachable!();
         }
     }
     Ok(values)
 }
 
+// The error of a name that is missing.
 fn missing(alloc: Global, name: &[u8]) -> Result<MissingNamedParameterError, AllocError>
     ensures { IfOk result (λ error. error.0.items ≡ name.now) }
 {
@@ -83,6 +96,7 @@ fn missing(alloc: Global, name: &[u8]) -> Result<MissingNamedParameterError, All
     Ok(MissingNamedParameterError(name))
 }
 
+// What named parameters give to a list with names.
 fn named_values(
     alloc: Global,
     entries: HashMap<Vec<u8>, Value>,
@@ -104,6 +118,7 @@ fn named_values(
     }
 }
 
+// What named parameters are by position.
 fn named_positional(
     alloc: Global,
     entries: HashMap<Vec<u8>, Value>,
@@ -111,7 +126,8 @@ fn named_positional(
 ) -> Result<Params, IntoPositionalError>
     ensures positioned { IsAnswer given absent_name
         (positioned (named (value_map entries.entries)) (names_of names.now)) result }
-    ensures memory { IsErrOf result (IntoPositionalError.Memory alloc_error) → 0 < length names.now }
+    ensures memory { IsErrOf result (IntoPositionalError.Memory alloc_error) →
+        0 < length names.now }
 {
     match first_absent(&entries, names) {
         None => match take_values(alloc, entries, names) {

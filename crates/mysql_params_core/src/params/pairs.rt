@@ -121,17 +121,17 @@ fn put_named_object(
     alloc: Global,
     entries: &mut HashMap<Vec<u8>, Value>,
     name: &[u8],
-    thing: &dyn ToValue,
+    object: &dyn ToValue,
 ) -> Result<(), ToParamsError>
     ensures made { IsAnswer (λ _. value_map entries.new.entries) maker_refusal
-        (with_pair (Ok (value_map entries.old.entries)) (name.now, value_of thing.now)) result }
+        (with_pair (Ok (value_map entries.old.entries)) (name.now, value_of object.now)) result }
     ensures value { IfErr result (λ error.
         error ≢ ToParamsError.Value (to_value.Memory alloc_error)) }
 {
     if has_name(entries, name) {
         return Err(redefined(alloc, name));
     }
-    put_new(alloc, entries, name, thing.to_value(alloc))
+    put_new(alloc, entries, name, object.to_value(alloc))
 }
 
 impl Params {

@@ -34,7 +34,8 @@ fn put_answer(
     answer: Result<Value, ToValueError>,
 ) -> Result<(), ToParamsError>
     ensures made { (meaning : Meaning) → AnswersValue meaning (MeansBytes meaning) answer →
-        IsAnswer (λ _. values.new.items) maker_refusal (with_value (Ok values.old.items) meaning) result }
+        IsAnswer (λ _. values.new.items) maker_refusal
+        (with_value (Ok values.old.items) meaning) result }
     ensures value { IfErr result (λ error.
         error ≢ ToParamsError.Value (to_value.Memory alloc_error)) }
 {
@@ -68,14 +69,14 @@ pub(crate) fn put<T: ToValue>(
 fn put_object(
     alloc: Global,
     values: &mut Vec<Value>,
-    thing: &dyn ToValue,
+    object: &dyn ToValue,
 ) -> Result<(), ToParamsError>
     ensures made { IsAnswer (λ _. values.new.items) maker_refusal
-        (with_value (Ok values.old.items) (value_of thing.now)) result }
+        (with_value (Ok values.old.items) (value_of object.now)) result }
     ensures value { IfErr result (λ error.
         error ≢ ToParamsError.Value (to_value.Memory alloc_error)) }
 {
-    put_answer(values, thing.to_value(alloc))
+    put_answer(values, object.to_value(alloc))
 }
 
 // What a list of things makes.
@@ -96,19 +97,19 @@ fn list_params<T: ToValue>(alloc: Global, things: &[T]) -> Result<Params, ToPara
 }
 
 // The same for objects, through the interface of each alone.
-fn object_params(alloc: Global, things: &[&dyn ToValue]) -> Result<Params, ToParamsError>
+fn object_params(alloc: Global, objects: &[&dyn ToValue]) -> Result<Params, ToParamsError>
     ensures made { IsAnswer given maker_refusal
-        (list_made (map (λ thing. value_of thing.now) things.now)) result }
-    ensures memory { IsErrOf result (ToParamsError.Memory alloc_error) → things.now ≢ [] }
+        (list_made (map (λ object. value_of object.now) objects.now)) result }
+    ensures memory { IsErrOf result (ToParamsError.Memory alloc_error) → objects.now ≢ [] }
     ensures value { IfErr result (λ error.
         error ≢ ToParamsError.Value (to_value.Memory alloc_error)) }
 {
-    if things.is_empty() {
+    if objects.is_empty() {
         return Ok(Params::Empty);
     }
     let mut values = Vec::new(alloc);
-    for thing in things {
-        put_object(alloc, &mut values, *thing)?;
+    for object in objects {
+        put_object(alloc, &mut values, *object)?;
     }
     Ok(Params::Positional(values))
 }
@@ -158,8 +159,8 @@ impl<T: ToValue> ToParams for Vec<T> {
 }
 
 impl ToParams for &[&dyn ToValue] {
-    // What each object names as its value: `value_of thing.now` in a function's clause, as in that of
-    // `object_params`, which an implementation has to write out.
+    // What each object names as its value. A function's clause says `value_of thing.now`, as that of
+    // `object_params` does; an implementation has to write it out.
     ghost made = { λ things.
         list_made (map (λ thing. (ToValue-dyn thing.now).value_of thing.now.1) things.now) };
 

@@ -7,19 +7,19 @@ use Rattle.mysql_params_core.proofs.params.to_params.object_params.Goals as goal
 
 pub returns-in_err-put_object-clause-made : goal.returns-in_err-put_object-clause-made
 returns-in_err-put_object-clause-made g c =
-    let below : c.loop-thing.thing-index < length c.args.things.now = omega arith in
+    let below : c.loop-object.object-index < length c.args.objects.now = omega arith in
     let f = λ (o : _). (goal.ToValue-dyn g o.now).value_of o.now.1 in
-    let some : 0 < length (map f c.args.things.now) = omega (arith, length-map c.args.things.now f) in
-    rw (list_made-some (map f c.args.things.now) some)
-    (loop_handed_on with_value (λ _ _. refl) (Ok []) f c.args.things.now c.loop-thing.thing-index
-    c.thing-item.result below c.thing-item.is by_position (λ _. refl)
-    (Ok c.loop-thing.values.items) c.in_err-put_object.field-0.0 c.loop-thing.invariant
+    let some : 0 < length (map f c.args.objects.now) = omega (arith, length-map c.args.objects.now f) in
+    rw (list_made-some (map f c.args.objects.now) some)
+    (loop_handed_on with_value (λ _ _. refl) (Ok []) f c.args.objects.now c.loop-object.object-index
+    c.object-item.result below c.object-item.is by_position (λ _. refl)
+    (Ok c.loop-object.values.items) c.in_err-put_object.field-0.0 c.loop-object.invariant
     c.in_err-put_object.ensures.made c.from_residual.result c.from_residual.ensures.1)
 
-pub loop-thing-preserved : goal.loop-thing-preserved
-loop-thing-preserved g c =
-    let below : c.loop-thing.thing-index < length c.args.things.now = omega arith in
-    loop_step with_value (λ _ _. refl) (Ok []) (λ o. (goal.ToValue-dyn g o.now).value_of o.now.1) c.args.things.now
-    c.loop-thing.thing-index c.thing-item.result below c.thing-item.is
-    (Ok c.loop-thing.values.items) c.loop-thing.invariant
+pub loop-object-preserved : goal.loop-object-preserved
+loop-object-preserved g c =
+    let below : c.loop-object.object-index < length c.args.objects.now = omega arith in
+    loop_step with_value (λ _ _. refl) (Ok []) (λ o. (goal.ToValue-dyn g o.now).value_of o.now.1) c.args.objects.now
+    c.loop-object.object-index c.object-item.result below c.object-item.is
+    (Ok c.loop-object.values.items) c.loop-object.invariant
     ∙ c.in_ok-put_object.ensures.made
