@@ -1,5 +1,5 @@
 -- The first cause for which binding is refused.
-use Rattle.std.specs.Prelude.{Ok, Err, ok_or, option_map, nat_lt}
+use Rattle.std.specs.Prelude.{Ok, ok_or, option_map, nat_lt}
 use Rattle.std.specs.Option.{option_or, option_and_then}
 use Rattle.std.specs.FinMap.{get}
 use Rattle.std.proofs.Common.{◌≡◌, ◌≢◌, ◌⊎◌, ◌↔◌, ◌==◌, inl, inr, Bool, true, false, ℕ, zero, suc, ◌+◌, ◌<◌, List, [], ◌∷◌, length, refl, sym, ap, ◌∙◌, arith, subst, Option, Some, None, eq-eqb, true≢false}
@@ -13,8 +13,8 @@ use Rattle.mysql_named_params.specs.Parsed.{Parsed, parsed}
 use Rattle.mysql_named_params.proofs.ReparsedLemmas.{places_are, renamed_names, renamed_marks}
 use Rattle.mysql_named_params.proofs.TokenListLemmas.{one_token_list}
 use Rattle.mysql_params_core.specs.Given.{Given, ValueMap, empty, named, positional}
-use Rattle.mysql_params_core.specs.Lookup.{LookupRefusal, lookup, values_at}
-use Rattle.mysql_params.specs.FirstCause.{Cause, names_and_marks, refused_params, mark_count, not_alone, float_value, mixed_cause, counts_differ, count_cause, alone_cause, first_float, float_cause, later_cause, cause_behind, first_cause}
+use Rattle.mysql_params_core.specs.Lookup.{lookup, values_at}
+use Rattle.mysql_params.specs.FirstCause.{Cause, names_and_marks, mark_count, not_alone, float_value, mixed_cause, counts_differ, count_cause, alone_cause, first_float, float_cause, later_cause, cause_behind, first_cause}
 use Rattle.mysql_params.specs.StandsAlone.{first_not_alone}
 use Rattle.mysql_params.proofs.ProgramLemmas.{has_both-not}
 use Rattle.mysql_params.proofs.RenamedPlaceLemmas.{renamed_alone, no_place_alone}
@@ -162,25 +162,11 @@ pub no_float_cause : (ts : List Token) (values : List Value) → later_cause ts 
     float_cause values ≡ None
 no_float_cause ts values e = (or_none (alone_cause ts) (float_cause values) (or_none (count_cause ts values) _ e).1).1
 
-pub no_first_float : (ts : List Token) (values : List Value) → later_cause ts values ≡ None →
-    first_float values ≡ None
-no_first_float ts values e = map_none float_value (first_float values) (no_float_cause ts values e)
-
 pub first_by : (ts : List Token) (given : Given) (values : List Value) (r : Option Cause) →
     mixed_cause ts ≡ None → lookup given (names ts) ≡ Ok values → later_cause ts values ≡ r →
     first_cause ts given ≡ r
 first_by ts given values r a b c =
     ap (λ x. option_or x (cause_behind ts (lookup given (names ts)))) a ∙ (ap (cause_behind ts) b ∙ c)
-
-pub first_refused : (ts : List Token) (given : Given) (refusal : LookupRefusal) →
-    mixed_cause ts ≡ None →
-    lookup given (names ts) ≡ Err refusal → first_cause ts given ≡ Some (refused_params refusal)
-first_refused ts given refusal a b =
-    ap (λ x. option_or x (cause_behind ts (lookup given (names ts)))) a ∙ ap (cause_behind ts) b
-
-pub first_mixed : (ts : List Token) (given : Given) → mixed_cause ts ≡ Some names_and_marks →
-    first_cause ts given ≡ Some names_and_marks
-first_mixed ts given a = ap (λ x. option_or x (cause_behind ts (lookup given (names ts)))) a
 
 no_later : (ts : List Token) (values : List Value) → count_cause ts values ≡ None →
     first_not_alone ts ≡ None → float_cause values ≡ None → later_cause ts values ≡ None

@@ -24,11 +24,6 @@ pub record PutSoFar (mode : Bool) (query : List ℕ) (literals : List (List ℕ)
   pub count : length literals ≡ place + place_count left
   pub told : done ++ bound left (drop place literals) ≡ bound all literals
 
-pub puts_none : (mode : Bool) (query : List ℕ) (literals : List (List ℕ)) (ts : List Token) →
-    IsTokens mode query ts → length literals ≡ place_count ts →
-    PutSoFar mode query literals query [] 0
-puts_none mode query literals ts h e = record { all = ts; tokens = h; room = e; left = ts; text = h.text; each = h.each; count = omega arith; told = refl }
-
 -- the tokens that are left begin with this token, and these bytes follow it
 pub record BeginsWith (mode : Bool) (rest : List ℕ) (left : List Token) (t : Token) (after : List ℕ) : Type 0 where
   pub behind : List Token
