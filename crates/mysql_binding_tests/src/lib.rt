@@ -8,6 +8,8 @@ mod isolation;
 #[cfg(test)]
 mod program;
 #[cfg(test)]
+mod readme;
+#[cfg(test)]
 mod shared;
 #[cfg(test)]
 mod stands_alone;
