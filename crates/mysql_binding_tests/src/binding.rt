@@ -132,6 +132,12 @@ const REFUSALS: &[(&[u8], Given<'_>, Refused<'_>)] = &[
         Given::Named(&[(b"a", Plain::UInt(2))]),
         Refused::NotAlone(0, 2),
     ),
+    // The position is that in the query, and not in one with marks for its names.
+    (
+        b":abc, x:b",
+        Given::Named(&[(b"abc", Plain::Null), (b"b", Plain::Null)]),
+        Refused::NotAlone(1, 7),
+    ),
     // Then the values.
     (
         b"1+?",

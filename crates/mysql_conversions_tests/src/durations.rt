@@ -124,3 +124,21 @@ fn durations_too_long_for_a_value(rt: HostRuntime) -> Result<(), Fail> {
     }
     Ok(())
 }
+
+#[test]
+fn durations_by_std_traits(rt: HostRuntime) -> Result<(), Fail> {
+    let value = bytes(rt.alloc(), b"00:00:01.5")?;
+    let ir = ParseIrOpt::<Duration>::try_from(value.clone()?)?;
+    assert_eq!(rt;
+        ir,
+        ParseIrOpt::Parsed(Duration::new(1, 500_000_000), value)
+    );
+    assert_eq!(rt; Duration::from(ir), Duration::new(1, 500_000_000));
+    let ir = Duration::get_intermediate(Value::Time(false, 0, 0, 0, 2, 0))?;
+    assert_eq!(rt; Duration::commit_intermediate(ir), Duration::new(2, 0));
+    match ParseIrOpt::<Duration>::try_from(Value::Int(1)) {
+        Ok(_) => assert!(rt; false, "a number converts"),
+        Err(error) => assert_eq!(rt; error.0, Value::Int(1)),
+    }
+    Ok(())
+}

@@ -13,7 +13,7 @@ use Rattle.std.proofs.lemmas.Bool.{cases_Bool, cond_both, and_parts, ltb-true, l
 use Rattle.std.proofs.lemmas.Option.{same_Some}
 use Rattle.std.proofs.lemmas.Nat.{pow-add}
 use Rattle.std.proofs.Math.Nat.{mul-lt-mul_of_pos_right, one-le-pow}
-use Rattle.mysql_literal_text.specs.Digits.{number_of_digits}
+use Rattle.mysql_literal_text.specs.Digits.{value_of_digits}
 
 -- digits are a text
 pub numeral_is_utf8 : (digits : List ℕ) → IsNumeral 10 digits → IsUtf8 digits
@@ -24,16 +24,16 @@ by_test : IsNumeralModel (λ digits. list_all is_ascii_digit digits ≡ true) (d
 by_test = numerals_by_value _ (search rules)
 
 -- digits have their number
-pub number_of_digits-IsNumeral : (digits : List ℕ) → IsNumeral 10 digits
-    → number_of_digits digits ≡ Some (digits_value 10 digits)
-number_of_digits-IsNumeral digits numeral =
+pub value_of_digits-IsNumeral : (digits : List ℕ) → IsNumeral 10 digits
+    → value_of_digits digits ≡ Some (digits_value 10 digits)
+value_of_digits-IsNumeral digits numeral =
     let some : nat_lt 0 (length digits) ≡ true = lt-ltb 0 (length digits) numeral.0 in
     rw (some, by_test.from digits numeral.1) refl
 
 -- what has a number is one or more digits, and the number is theirs
-pub number_of_digits-found : (digits : List ℕ) (n : ℕ) → number_of_digits digits ≡ Some n
+pub value_of_digits-found : (digits : List ℕ) (n : ℕ) → value_of_digits digits ≡ Some n
     → (0 < length digits) × (list_all is_ascii_digit digits ≡ true) × (digits_value 10 digits ≡ n)
-number_of_digits-found digits n e =
+value_of_digits-found digits n e =
     elim (cases_Bool (nat_lt 0 (length digits) && list_all is_ascii_digit digits)) [
       | inl h ↦
           let p = and_parts (nat_lt 0 (length digits)) (list_all is_ascii_digit digits) h in
@@ -43,18 +43,18 @@ number_of_digits-found digits n e =
     ]
 
 -- digits of one to so many write a number below that power of ten
-pub number_of_digits-below : (digits : List ℕ) (n width : ℕ) → number_of_digits digits ≡ Some n
+pub value_of_digits-below : (digits : List ℕ) (n width : ℕ) → value_of_digits digits ≡ Some n
     → length digits ≤ width → n < 10 ^ width
-number_of_digits-below digits n width e short =
-    let is = number_of_digits-found digits n e in
+value_of_digits-below digits n width e short =
+    let is = value_of_digits-found digits n e in
     let below : digits_value 10 digits < 10 ^ width = digits_value_short by_test digits width is.1 short in
     rw is.2 at below
 
 -- what std's parser refuses is no number, or one that 128 bits don't hold
-number_of_digits-refused : (digits : List ℕ)
+value_of_digits-refused : (digits : List ℕ)
     → ¬ (IsNumeral 10 digits × (digits_value 10 digits < 2 ^ 128))
-    → IfSome (number_of_digits digits) (λ n. 2 ^ 128 ≤ n)
-number_of_digits-refused digits refused =
+    → IfSome (value_of_digits digits) (λ n. 2 ^ 128 ≤ n)
+value_of_digits-refused digits refused =
     cond_both (nat_lt 0 (length digits) && list_all is_ascii_digit digits) _ _
     (λ number. IfSome number (λ n. 2 ^ 128 ≤ n))
     (λ hold.
@@ -73,26 +73,26 @@ number_of_digits-refused digits refused =
 -- what std's parser answers is the number
 pub parsed-found : (digits : List ℕ) (answer : Option ℕ)
     → SomeIff answer (IsNumeral 10 digits × (digits_value 10 digits < 2 ^ 128)) (digits_value 10 digits)
-    → IfSome answer (λ n. number_of_digits digits ≡ Some n)
+    → IfSome answer (λ n. value_of_digits digits ≡ Some n)
 parsed-found digits None parsed = tt
 parsed-found digits (Some n) parsed =
-    number_of_digits-IsNumeral digits parsed.0.0 ∙ ap Some (sym parsed.1)
+    value_of_digits-IsNumeral digits parsed.0.0 ∙ ap Some (sym parsed.1)
 
 pub parsed-refused : (digits : List ℕ) (answer : Option ℕ)
     → SomeIff answer (IsNumeral 10 digits × (digits_value 10 digits < 2 ^ 128)) (digits_value 10 digits)
-    → IfNone answer (IfSome (number_of_digits digits) (λ n. 2 ^ 128 ≤ n))
-parsed-refused digits None parsed = number_of_digits-refused digits parsed
+    → IfNone answer (IfSome (value_of_digits digits) (λ n. 2 ^ 128 ≤ n))
+parsed-refused digits None parsed = value_of_digits-refused digits parsed
 parsed-refused digits (Some n) parsed = tt
 
 -- six digits and fewer are no number where 128 bits hold none
 pub short-refused : (digits : List ℕ) → length digits ≤ 6
-    → IfSome (number_of_digits digits) (λ n. 2 ^ 128 ≤ n) → None ≡ number_of_digits digits
-short-refused digits short large = go (number_of_digits digits) refl large
+    → IfSome (value_of_digits digits) (λ n. 2 ^ 128 ≤ n) → None ≡ value_of_digits digits
+short-refused digits short large = go (value_of_digits digits) refl large
   where
-    go : (number : Option ℕ) → number_of_digits digits ≡ number → IfSome number (λ n. 2 ^ 128 ≤ n)
-        → None ≡ number_of_digits digits
+    go : (number : Option ℕ) → value_of_digits digits ≡ number → IfSome number (λ n. 2 ^ 128 ≤ n)
+        → None ≡ value_of_digits digits
     go None e large = sym e
-    go (Some n) e large = absurd (omega (arith, number_of_digits-below digits n 6 e short))
+    go (Some n) e large = absurd (omega (arith, value_of_digits-below digits n 6 e short))
 
 -- digits behind a point, filled up to six, write a number below a million
 pub scaled_below : (n width : ℕ) → n < 10 ^ width → width ≤ 6 → n * 10 ^ (6 - width) < 1000000

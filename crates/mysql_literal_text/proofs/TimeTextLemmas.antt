@@ -1,16 +1,16 @@
 -- Exactly the time texts are read, each as what its parts say.
-use Rattle.std.proofs.Common.{◌≡◌, ℕ, ◌*◌, ◌-◌, ◌<◌, ◌≤◌, ◌^◌, Bool, true, false, List, [], ◌∷◌, ◌++◌, length, Some, None, arith, refl, ◌∙◌, sym, ap, subst, inl, inr, ◌⊎◌, nat_le, eqb}
-use Rattle.std.specs.Prelude.{Option, ◌↔◌}
+use Rattle.std.proofs.Common.{◌≡◌, ℕ, ◌*◌, ◌-◌, ◌<◌, ◌≤◌, ◌^◌, Bool, true, false, List, [], ◌∷◌, ◌++◌, length, Some, None, arith, refl, ◌∙◌, sym, ap, subst, inl, inr, nat_le, eqb}
+use Rattle.std.specs.Prelude.{IfNone, IfSome, Option, ◌↔◌}
 use Rattle.std.specs.Option.{option_map, option_or}
 use Rattle.std.specs.List.{list_all}
 use Rattle.std.specs.Char.{is_ascii_digit}
 use Rattle.std.proofs.lemmas.Bool.{cases_Bool, and_parts, eqb-true, leb-true}
 use Rattle.std.proofs.lemmas.Bool.Decides.{nat_tests}
 use Rattle.std.proofs.lemmas.Option.{same_Some}
-use Rattle.mysql_literal_text.specs.Digits.{number_of_digits}
+use Rattle.mysql_literal_text.specs.Digits.{value_of_digits}
 use Rattle.mysql_literal_text.specs.TimeText.{total_microseconds, IsField, AreHours, IsFraction, no_fraction, some_fraction, sign, IsTimeText}
-use Rattle.mysql_literal_text.specs.ReadTimeText.{at_most, scaled, fraction_of, time_of, time_after_hours, time_of_two_digits, time_of_three_digits, unsigned_time, time_of_text}
-use Rattle.mysql_literal_text.proofs.DigitLemmas.{number_of_digits-found, number_of_digits-below}
+use Rattle.mysql_literal_text.specs.ReadTimeText.{at_most, scaled, fraction_of, sum_of_fields, time_after_hours, time_of_two_digits, time_of_three_digits, unsigned_time, time_of_text}
+use Rattle.mysql_literal_text.proofs.DigitLemmas.{value_of_digits-found, value_of_digits-below}
 
 -- what has the parts of a time text is read
 
@@ -18,7 +18,7 @@ pub within : (n greatest : ℕ) → n ≤ greatest → nat_le n greatest ≡ tru
 within n greatest h = grind (arith, nat_tests)
 
 field_reads : (width greatest : ℕ) (digits : List ℕ) (n : ℕ) → IsField width greatest digits n
-    → at_most greatest (number_of_digits digits) ≡ Some n
+    → at_most greatest (value_of_digits digits) ≡ Some n
 field_reads width greatest digits n is = rw (is.value, within n greatest is.bound) refl
 
 fraction_reads : (text : List ℕ) (part : ℕ) → IsFraction text part → fraction_of text ≡ Some part
@@ -28,7 +28,7 @@ fraction_reads text part (some_fraction digits n is few value scale) =
 
 after_hours_reads : (hours : ℕ) (minutes seconds fraction : List ℕ) (m s part : ℕ)
     → length minutes ≡ 2 → length seconds ≡ 2
-    → at_most 59 (number_of_digits minutes) ≡ Some m → at_most 59 (number_of_digits seconds) ≡ Some s
+    → at_most 59 (value_of_digits minutes) ≡ Some m → at_most 59 (value_of_digits seconds) ≡ Some s
     → fraction_of fraction ≡ Some part
     → time_after_hours (Some hours) (minutes ++ 58 ∷ (seconds ++ fraction)) ≡ Some (total_microseconds 0 hours m s part)
 after_hours_reads h (a ∷ b ∷ []) (c ∷ d ∷ []) fraction m s part two two' me se fe = rw (me, se, fe) refl
@@ -64,7 +64,7 @@ three_digits_read [] rest hours us is e = absurd (omega (arith, is.count))
 three_digits_read (a ∷ []) rest hours us is e = absurd (omega (arith, is.count))
 three_digits_read (a ∷ b ∷ []) rest hours us is e = absurd (omega (arith, is.count))
 three_digits_read (a ∷ b ∷ c ∷ []) rest hours us is e =
-    let each = (number_of_digits-found (a ∷ b ∷ c ∷ []) hours is.value).1 in
+    let each = (value_of_digits-found (a ∷ b ∷ c ∷ []) hours is.value).1 in
     let digit : is_ascii_digit c ≡ true = first_digit c [] (later_digits b (c ∷ []) (later_digits a (b ∷ c ∷ []) each)) in
     rw (no_colon c digit, field_reads 3 899 (a ∷ b ∷ c ∷ []) hours is, e) refl
 three_digits_read (a ∷ b ∷ c ∷ d ∷ ds) rest hours us is e = absurd (omega (arith, is.count))
@@ -76,8 +76,8 @@ hours_read digits rest hours us (inr is) e = three_digits_read digits rest hours
 
 hours_are_digits : (digits : List ℕ) (hours : ℕ) → AreHours digits hours
     → (0 < length digits) × (list_all is_ascii_digit digits ≡ true)
-hours_are_digits digits hours (inl is) = (omega (arith, is.count), (number_of_digits-found digits hours is.value).1)
-hours_are_digits digits hours (inr is) = (omega (arith, is.count), (number_of_digits-found digits hours is.value).1)
+hours_are_digits digits hours (inl is) = (omega (arith, is.count), (value_of_digits-found digits hours is.value).1)
+hours_are_digits digits hours (inr is) = (omega (arith, is.count), (value_of_digits-found digits hours is.value).1)
 
 sign_reads : (negative : Bool) (digits rest : List ℕ) (us : ℕ) → 0 < length digits
     → list_all is_ascii_digit digits ≡ true → unsigned_time (digits ++ rest) ≡ Some us
@@ -91,9 +91,9 @@ time_text_reads : (text : List ℕ) (negative : Bool) (us : ℕ) → IsTimeText 
     → time_of_text text ≡ Some (negative, us)
 time_text_reads text negative us is =
     let after : time_after_hours (Some is.hours) (is.minute_digits ++ 58 ∷ (is.second_digits ++ is.fraction)) ≡ Some us =
-    after_hours_reads is.hours is.minute_digits is.second_digits is.fraction is.minutes is.seconds is.part
+    after_hours_reads is.hours is.minute_digits is.second_digits is.fraction is.minutes is.seconds is.fraction_microseconds
     is.are_minutes.count is.are_seconds.count (field_reads 2 59 is.minute_digits is.minutes is.are_minutes)
-    (field_reads 2 59 is.second_digits is.seconds is.are_seconds) (fraction_reads is.fraction is.part is.is_fraction)
+    (field_reads 2 59 is.second_digits is.seconds is.are_seconds) (fraction_reads is.fraction is.fraction_microseconds is.is_fraction)
     ∙ ap Some (sym is.sum) in
     let digits = hours_are_digits is.hour_digits is.hours is.are_hours in
     ap time_of_text is.parts
@@ -112,9 +112,9 @@ at_most_found greatest (Some k) n e =
     ]
 
 field_found : (width greatest : ℕ) (digits : List ℕ) (n : ℕ) → length digits ≡ width
-    → at_most greatest (number_of_digits digits) ≡ Some n → IsField width greatest digits n
+    → at_most greatest (value_of_digits digits) ≡ Some n → IsField width greatest digits n
 field_found width greatest digits n count e =
-    let found = at_most_found greatest (number_of_digits digits) n e in
+    let found = at_most_found greatest (value_of_digits digits) n e in
     record { count = count; value = found.0; bound = found.1 }
 
 map_found : {X Y : Type 0} (f : X → Y) (o : Option X) (y : Y) → option_map f o ≡ Some y
@@ -127,8 +127,8 @@ scaled_found : (point : ℕ) (digits : List ℕ) (us : ℕ) → point ≡ 46 →
 scaled_found point digits us is e =
     elim (cases_Bool (nat_le (length digits) 6)) [
       | inl h ↦
-          let v : option_map (λ n. n * 10 ^ (6 - length digits)) (number_of_digits digits) ≡ Some us = rw h at e in
-          let found = map_found (λ n. n * 10 ^ (6 - length digits)) (number_of_digits digits) us v in
+          let v : option_map (λ n. n * 10 ^ (6 - length digits)) (value_of_digits digits) ≡ Some us = rw h at e in
+          let found = map_found (λ n. n * 10 ^ (6 - length digits)) (value_of_digits digits) us v in
           some_fraction digits found.0 (ap (λ x. x ∷ digits) (sym is)) (leb-true (length digits) 6 h) found.1 (sym found.2)
       | inr h ↦ let v : None ≡ Some us = rw h at e in absurd cc
     ]
@@ -153,7 +153,7 @@ record HasFields (hours minutes seconds part : Option ℕ) (us : ℕ) : Type 0 w
   part_is : part ≡ Some f
   sum : us ≡ total_microseconds 0 h m s f
 
-fields_found : (hours minutes seconds part : Option ℕ) (us : ℕ) → time_of hours minutes seconds part ≡ Some us
+fields_found : (hours minutes seconds part : Option ℕ) (us : ℕ) → sum_of_fields hours minutes seconds part ≡ Some us
     → HasFields hours minutes seconds part us
 fields_found None minutes seconds part us e = absurd cc
 fields_found (Some h) None seconds part us e = absurd cc
@@ -196,7 +196,7 @@ rest_found hours (a ∷ b ∷ c ∷ d ∷ []) us q = absurd cc
 rest_found hours (a ∷ b ∷ c ∷ d ∷ e ∷ text) us q =
     elim (cases_Bool (eqb c 58)) [
       | inl h ↦
-          let r = fields_found hours (at_most 59 (number_of_digits (a ∷ b ∷ []))) (at_most 59 (number_of_digits (d ∷ e ∷ []))) (fraction_of text) us (rw h at q) in
+          let r = fields_found hours (at_most 59 (value_of_digits (a ∷ b ∷ []))) (at_most 59 (value_of_digits (d ∷ e ∷ []))) (fraction_of text) us (rw h at q) in
           record {
             minute_digits = a ∷ b ∷ [];
             second_digits = d ∷ e ∷ [];
@@ -226,7 +226,7 @@ with_hours hours digits rest us r is = record {
   hours = r.h;
   minutes = r.m;
   seconds = r.s;
-  part = r.f;
+  fraction_microseconds = r.f;
   parts = ap (λ t. digits ++ 58 ∷ t) r.parts;
   are_hours = is;
   are_minutes = r.are_minutes;
@@ -235,9 +235,9 @@ with_hours hours digits rest us r is = record {
   sum = r.sum;
 }
 
-two_digit_field : (a b n : ℕ) → number_of_digits (a ∷ b ∷ []) ≡ Some n → IsField 2 99 (a ∷ b ∷ []) n
+two_digit_field : (a b n : ℕ) → value_of_digits (a ∷ b ∷ []) ≡ Some n → IsField 2 99 (a ∷ b ∷ []) n
 two_digit_field a b n e =
-    let small : n < 10 ^ 2 = number_of_digits-below (a ∷ b ∷ []) n 2 e (omega arith) in
+    let small : n < 10 ^ 2 = value_of_digits-below (a ∷ b ∷ []) n 2 e (omega arith) in
     record { count = refl; value = e; bound = omega (arith, small) }
 
 two_digits_found : (text : List ℕ) (us : ℕ) → time_of_two_digits text ≡ Some us → IsTimeText text false us
@@ -247,9 +247,9 @@ two_digits_found (a ∷ b ∷ []) us e = absurd cc
 two_digits_found (a ∷ b ∷ c ∷ text) us e =
     elim (cases_Bool (eqb c 58)) [
       | inl h ↦
-          let r = rest_found (number_of_digits (a ∷ b ∷ [])) text us (rw h at e) in
+          let r = rest_found (value_of_digits (a ∷ b ∷ [])) text us (rw h at e) in
           subst (λ x. IsTimeText (a ∷ b ∷ x ∷ text) false us) (sym (eqb-true c 58 h))
-          (with_hours (number_of_digits (a ∷ b ∷ [])) (a ∷ b ∷ []) text us r (inl (two_digit_field a b r.h r.hours_are)))
+          (with_hours (value_of_digits (a ∷ b ∷ [])) (a ∷ b ∷ []) text us r (inl (two_digit_field a b r.h r.hours_are)))
       | inr h ↦ let v : None ≡ Some us = rw h at e in absurd cc
     ]
 
@@ -261,10 +261,10 @@ three_digits_found (a ∷ b ∷ c ∷ []) us e = absurd cc
 three_digits_found (a ∷ b ∷ c ∷ d ∷ text) us e =
     elim (cases_Bool (eqb d 58)) [
       | inl h ↦
-          let hours = at_most 899 (number_of_digits (a ∷ b ∷ c ∷ [])) in
-          let r = rest_found (at_most 899 (number_of_digits (a ∷ b ∷ c ∷ []))) text us (rw h at e) in
+          let hours = at_most 899 (value_of_digits (a ∷ b ∷ c ∷ [])) in
+          let r = rest_found (at_most 899 (value_of_digits (a ∷ b ∷ c ∷ []))) text us (rw h at e) in
           subst (λ x. IsTimeText (a ∷ b ∷ c ∷ x ∷ text) false us) (sym (eqb-true d 58 h))
-          (with_hours (at_most 899 (number_of_digits (a ∷ b ∷ c ∷ []))) (a ∷ b ∷ c ∷ []) text us r
+          (with_hours (at_most 899 (value_of_digits (a ∷ b ∷ c ∷ []))) (a ∷ b ∷ c ∷ []) text us r
           (inr (field_found 3 899 (a ∷ b ∷ c ∷ []) r.h refl r.hours_are)))
       | inr h ↦ let v : None ≡ Some us = rw h at e in absurd cc
     ]
@@ -287,7 +287,7 @@ with_minus text us r = record {
   hours = r.hours;
   minutes = r.minutes;
   seconds = r.seconds;
-  part = r.part;
+  fraction_microseconds = r.fraction_microseconds;
   parts = ap (λ t. 45 ∷ t) r.parts;
   are_hours = r.are_hours;
   are_minutes = r.are_minutes;
@@ -313,3 +313,16 @@ time_text_found (c ∷ text) negative us e =
 pub time_texts_are_read : (text : List ℕ) (negative : Bool) (us : ℕ)
     → (time_of_text text ≡ Some (negative, us)) ↔ IsTimeText text negative us
 time_texts_are_read text negative us = (time_text_found text negative us, time_text_reads text negative us)
+
+-- what a reader answers that answers what the function says
+
+pub read-IsTimeText : (text : List ℕ) (answer : Option (Bool × ℕ)) → answer ≡ time_of_text text
+    → IfSome answer (λ time. IsTimeText text time.0 time.1)
+read-IsTimeText text None e = tt
+read-IsTimeText text (Some (negative, us)) e = time_text_found text negative us (sym e)
+
+pub unread-IsTimeText : (text : List ℕ) (answer : Option (Bool × ℕ)) → answer ≡ time_of_text text
+    → IfNone answer ((negative : Bool) (us : ℕ) → IsTimeText text negative us → ⊥)
+unread-IsTimeText text None e =
+    λ negative us is. (let v : ◌≡◌ {A = Option (Bool × ℕ)} None (Some (negative, us)) = e ∙ time_text_reads text negative us is in cc)
+unread-IsTimeText text (Some time) e = tt

@@ -1,6 +1,6 @@
 -- What stands between the quotes of a time is a time text, which says the microseconds of the time.
 use Rattle.std.proofs.Common.{◌≡◌, ℕ, ◌+◌, ◌*◌, ◌/◌, ◌%◌, ◌^◌, ◌<◌, ◌≤◌, true, false, eqb, List, [], ◌∷◌, ◌++◌, length, length-append, append_assoc, refl, sym, ◌∙◌, ap, arith, suc, zero}
-use Rattle.std.specs.Prelude.{Some, nat_lt, nat_le}
+use Rattle.std.specs.Prelude.{Some, nat_lt}
 use Rattle.std.specs.List.{list_all}
 use Rattle.std.specs.Char.{is_ascii_digit, digit_value}
 use Rattle.std.specs.Option.{option_map}
@@ -11,10 +11,10 @@ use Rattle.std.proofs.lemmas.Fmt.{length-decimal-le}
 use Rattle.std.proofs.lemmas.Int.Digits.{digits_value_push}
 use Rattle.std.proofs.lemmas.List.Folds.{list_all-append}
 use Rattle.std.proofs.Math.Nat.{pow-succ'}
-use Rattle.mysql_literal_text.specs.Digits.{number_of_digits}
+use Rattle.mysql_literal_text.specs.Digits.{value_of_digits}
 use Rattle.mysql_literal_text.specs.LiteralText.{padded, fraction, time_text}
 use Rattle.mysql_literal_text.specs.TimeText.{total_microseconds}
-use Rattle.mysql_literal_text.specs.ReadTimeText.{at_most, fraction_of, time_of, time_after_hours, time_of_text}
+use Rattle.mysql_literal_text.specs.ReadTimeText.{at_most, fraction_of, sum_of_fields, time_after_hours, time_of_text}
 use Rattle.mysql_literal_text.proofs.PaddedLemmas.{last_digits, last_digits-padded}
 use Rattle.mysql_literal_text.proofs.TimeTextLemmas.{within}
 
@@ -46,7 +46,7 @@ digits_value-last_digits (suc width) n h =
       digits_value-last_digits width (n / 10) (omega (arith, pow-succ' 10 width)),
     )
 
-number-last_digits : (width n : ℕ) → 0 < width → n < 10 ^ width → number_of_digits (last_digits width n) ≡ Some n
+number-last_digits : (width n : ℕ) → 0 < width → n < 10 ^ width → value_of_digits (last_digits width n) ≡ Some n
 number-last_digits width n some h =
     let test : nat_lt 0 width ≡ true = grind (arith, nat_tests) in
     rw (length-last_digits width n, are_digits-last_digits width n, digits_value-last_digits width n h, test) refl
@@ -71,7 +71,7 @@ fraction_reads us h =
 
 three_digits : (a b c : ℕ) (text : List ℕ) → eqb a 45 ≡ false → eqb c 58 ≡ false
     → time_of_text (a ∷ b ∷ c ∷ 58 ∷ text)
-    ≡ option_map (λ us. (false, us)) (time_after_hours (at_most 899 (number_of_digits (a ∷ b ∷ c ∷ []))) text)
+    ≡ option_map (λ us. (false, us)) (time_after_hours (at_most 899 (value_of_digits (a ∷ b ∷ c ∷ []))) text)
 three_digits a b c text no_minus no_colon = rw (no_minus, no_colon) refl
 
 hours_read : (hours : ℕ) (text : List ℕ) → hours ≤ 899
@@ -79,16 +79,16 @@ hours_read : (hours : ℕ) (text : List ℕ) → hours ≤ 899
 hours_read hours text h =
     let digits : padded 3 hours ≡ (48 + hours / 10 / 10 % 10) ∷ (48 + hours / 10 % 10) ∷ (48 + hours % 10) ∷ [] =
     padded-last_digits 3 hours (omega arith) (omega arith) (omega arith) in
-    let number : number_of_digits ((48 + hours / 10 / 10 % 10) ∷ (48 + hours / 10 % 10) ∷ (48 + hours % 10) ∷ []) ≡ Some hours =
+    let number : value_of_digits ((48 + hours / 10 / 10 % 10) ∷ (48 + hours / 10 % 10) ∷ (48 + hours % 10) ∷ []) ≡ Some hours =
     number-last_digits 3 hours (omega arith) (omega arith) in
     ap (λ t. time_of_text (t ++ 58 ∷ text)) digits
     ∙ three_digits (48 + hours / 10 / 10 % 10) (48 + hours / 10 % 10) (48 + hours % 10) text (grind (arith, nat_tests)) (no_colon (hours % 10) (omega arith))
     ∙ ap (λ o. option_map (λ us. (false, us)) (time_after_hours (at_most 899 o) text)) number
     ∙ ap (λ o. option_map (λ us. (false, us)) (time_after_hours o text)) (at_most-within hours 899 h)
 
-sixtieths_read : (n : ℕ) → n ≤ 59 → at_most 59 (number_of_digits ((48 + n / 10 % 10) ∷ (48 + n % 10) ∷ [])) ≡ Some n
+sixtieths_read : (n : ℕ) → n ≤ 59 → at_most 59 (value_of_digits ((48 + n / 10 % 10) ∷ (48 + n % 10) ∷ [])) ≡ Some n
 sixtieths_read n h =
-    let number : number_of_digits ((48 + n / 10 % 10) ∷ (48 + n % 10) ∷ []) ≡ Some n = number-last_digits 2 n (omega arith) (omega arith) in
+    let number : value_of_digits ((48 + n / 10 % 10) ∷ (48 + n % 10) ∷ []) ≡ Some n = number-last_digits 2 n (omega arith) (omega arith) in
     ap (at_most 59) number ∙ at_most-within n 59 h
 
 two_digits : (n : ℕ) → n ≤ 59 → padded 2 n ≡ (48 + n / 10 % 10) ∷ (48 + n % 10) ∷ []
@@ -99,9 +99,9 @@ after_hours_reads : (hours m s us : ℕ) → m ≤ 59 → s ≤ 59 → us < 1000
 after_hours_reads hours m s us mh sh ush =
     ap (λ t. time_after_hours (Some hours) (t ++ 58 ∷ (padded 2 s ++ fraction us))) (two_digits m mh)
     ∙ ap (λ t. time_after_hours (Some hours) ((48 + m / 10 % 10) ∷ (48 + m % 10) ∷ 58 ∷ (t ++ fraction us))) (two_digits s sh)
-    ∙ ap (λ o. time_of (Some hours) o (at_most 59 (number_of_digits ((48 + s / 10 % 10) ∷ (48 + s % 10) ∷ []))) (fraction_of (fraction us))) (sixtieths_read m mh)
-    ∙ ap (λ o. time_of (Some hours) (Some m) o (fraction_of (fraction us))) (sixtieths_read s sh)
-    ∙ ap (λ o. time_of (Some hours) (Some m) (Some s) o) (fraction_reads us ush)
+    ∙ ap (λ o. sum_of_fields (Some hours) o (at_most 59 (value_of_digits ((48 + s / 10 % 10) ∷ (48 + s % 10) ∷ []))) (fraction_of (fraction us))) (sixtieths_read m mh)
+    ∙ ap (λ o. sum_of_fields (Some hours) (Some m) o (fraction_of (fraction us))) (sixtieths_read s sh)
+    ∙ ap (λ o. sum_of_fields (Some hours) (Some m) (Some s) o) (fraction_reads us ush)
 
 -- what stands between the quotes, part by part
 time_text-parts : (days hours minutes seconds us : ℕ)

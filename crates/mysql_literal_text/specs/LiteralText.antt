@@ -1,6 +1,6 @@
 -- The texts that SQL literals are made of (MySQL Reference Manual, "String Literals", "Hexadecimal
--- Literals", "Date and Time Literals"). A mode is the flag `no_backslash_escape`: `true` is the mode
--- without backslash escapes.
+-- Literals", "Date and Time Literals"). A mode is the flag `no_backslash_escape`: `true` is the
+-- mode without backslash escapes.
 use Rattle.std.specs.Prelude.{ℕ, ◌+◌, ◌-◌, ◌*◌, ◌/◌, ◌%◌, nat_lt, Bool, true, false, ◌==◌, ◌&&◌, List, [], ◌∷◌, ◌++◌, length, replicate, codes, if◌then◌else◌}
 use Rattle.std.specs.List.{flat_map}
 use Rattle.std.specs.Fmt.{decimal}
@@ -38,7 +38,8 @@ hexadecimal_digit n = if nat_lt n 10 then byte "0" + n else byte "A" + (n - 10)
 
 -- two hexadecimal digits for each of the bytes, the higher first
 abbrev pub hexadecimal : List ℕ → List ℕ
-hexadecimal bytes = flat_map (λ b. hexadecimal_digit (b / 16) ∷ hexadecimal_digit (b % 16) ∷ []) bytes
+hexadecimal bytes =
+    flat_map (λ b. hexadecimal_digit (b / 16) ∷ hexadecimal_digit (b % 16) ∷ []) bytes
 
 -- the literal of bytes: a string where they are UTF-8, and else hexadecimal
 abbrev pub bytes_literal : Bool → List ℕ → List ℕ

@@ -1,9 +1,9 @@
--- What a time text says, as a function: `laws::time_texts_are_read` says that it reads exactly the time
--- texts.
+-- What a time text says, as a function: `laws::time_texts_are_read` says that it reads exactly the
+-- time texts.
 use Rattle.std.specs.Prelude.{ℕ, ◌-◌, ◌*◌, ◌^◌, Bool, true, false, ◌==◌, nat_le, if◌then◌else◌, List, [], ◌∷◌, length, Option, None, Some}
 use Rattle.std.specs.Option.{option_map, option_or}
 use Rattle.std.specs.Str.{byte}
-use Rattle.mysql_literal_text.specs.Digits.{number_of_digits}
+use Rattle.mysql_literal_text.specs.Digits.{value_of_digits}
 use Rattle.mysql_literal_text.specs.TimeText.{total_microseconds}
 
 -- a number that is at most the greatest
@@ -15,7 +15,8 @@ at_most greatest (Some number) = if nat_le number greatest then Some number else
 abbrev pub scaled : List ℕ → Option ℕ
 scaled digits =
     if nat_le (length digits) 6
-    then option_map (λ number. number * 10 ^ (6 - length digits)) (number_of_digits digits) else None
+    then option_map (λ number. number * 10 ^ (6 - length digits)) (value_of_digits digits)
+    else None
 
 -- the microseconds of what stands behind the seconds: nothing, or a point and digits
 abbrev pub fraction_of : List ℕ → Option ℕ
@@ -23,31 +24,31 @@ fraction_of [] = Some 0
 fraction_of (point ∷ digits) = if point == byte "." then scaled digits else None
 
 -- the microseconds of the fields, where all four are there
-abbrev pub time_of : Option ℕ → Option ℕ → Option ℕ → Option ℕ → Option ℕ
-time_of (Some hours) (Some minutes) (Some seconds) (Some part) =
+abbrev pub sum_of_fields : Option ℕ → Option ℕ → Option ℕ → Option ℕ → Option ℕ
+sum_of_fields (Some hours) (Some minutes) (Some seconds) (Some part) =
     Some (total_microseconds 0 hours minutes seconds part)
-time_of hours minutes seconds part = None
+sum_of_fields hours minutes seconds part = None
 
 -- with these hours, the microseconds of what stands behind their colon
 abbrev pub time_after_hours : Option ℕ → List ℕ → Option ℕ
 time_after_hours hours (a ∷ b ∷ colon ∷ c ∷ d ∷ text) =
     if colon == byte ":"
-    then time_of hours (at_most 59 (number_of_digits (a ∷ b ∷ [])))
-    (at_most 59 (number_of_digits (c ∷ d ∷ []))) (fraction_of text)
+    then sum_of_fields hours (at_most 59 (value_of_digits (a ∷ b ∷ [])))
+    (at_most 59 (value_of_digits (c ∷ d ∷ []))) (fraction_of text)
     else None
 time_after_hours hours text = None
 
 -- the microseconds of a text that begins with hours in two digits
 abbrev pub time_of_two_digits : List ℕ → Option ℕ
 time_of_two_digits (a ∷ b ∷ colon ∷ text) =
-    if colon == byte ":" then time_after_hours (number_of_digits (a ∷ b ∷ [])) text else None
+    if colon == byte ":" then time_after_hours (value_of_digits (a ∷ b ∷ [])) text else None
 time_of_two_digits text = None
 
 -- the microseconds of a text that begins with hours in three digits
 abbrev pub time_of_three_digits : List ℕ → Option ℕ
 time_of_three_digits (a ∷ b ∷ c ∷ colon ∷ text) =
     if colon == byte ":"
-    then time_after_hours (at_most 899 (number_of_digits (a ∷ b ∷ c ∷ []))) text else None
+    then time_after_hours (at_most 899 (value_of_digits (a ∷ b ∷ c ∷ []))) text else None
 time_of_three_digits text = None
 
 -- the microseconds of a time text without a sign

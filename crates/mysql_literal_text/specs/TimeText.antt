@@ -1,9 +1,9 @@
 -- Time texts: an optional `-`, hours, minutes and seconds with a colon between, and a fraction of a
 -- second (MySQL Reference Manual, "Date and Time Literals", the form 'hh:mm:ss' with fractional
 -- seconds). docs/RULES.md says where this is narrower than the manual.
-use Rattle.std.specs.Prelude.{◌≡◌, ℕ, ◌+◌, ◌-◌, ◌*◌, ◌^◌, ◌<◌, ◌≤◌, Bool, true, false, List, [], ◌∷◌, ◌++◌, length, codes, Some, ◌⊎◌}
+use Rattle.std.specs.Prelude.{◌≡◌, ℕ, ◌+◌, ◌-◌, ◌*◌, ◌^◌, ◌≤◌, Bool, true, false, List, [], ◌∷◌, ◌++◌, length, codes, Some, ◌⊎◌}
 use Rattle.std.specs.Str.{byte}
-use Rattle.mysql_literal_text.specs.Digits.{number_of_digits}
+use Rattle.mysql_literal_text.specs.Digits.{value_of_digits}
 
 -- the microseconds of days, hours, minutes, seconds and microseconds
 abbrev pub total_microseconds : ℕ → ℕ → ℕ → ℕ → ℕ → ℕ
@@ -13,7 +13,7 @@ total_microseconds days hours minutes seconds microseconds =
 -- so many digits, of a number up to the greatest
 pub record IsField (width greatest : ℕ) (digits : List ℕ) (number : ℕ) : Type 0 where
   pub count : length digits ≡ width
-  pub value : number_of_digits digits ≡ Some number
+  pub value : value_of_digits digits ≡ Some number
   pub bound : number ≤ greatest
 
 -- hours: two digits, or three up to 899
@@ -24,7 +24,7 @@ AreHours digits hours = IsField 2 99 digits hours ⊎ IsField 3 899 digits hours
 pub data IsFraction (text : List ℕ) (microseconds : ℕ) : Type 0 where
   no_fraction : text ≡ [] → microseconds ≡ 0 → IsFraction text microseconds
   some_fraction : (digits : List ℕ) (number : ℕ) → codes "." ++ digits ≡ text → length digits ≤ 6
-      → number_of_digits digits ≡ Some number → microseconds ≡ number * 10 ^ (6 - length digits)
+      → value_of_digits digits ≡ Some number → microseconds ≡ number * 10 ^ (6 - length digits)
       → IsFraction text microseconds
 
 -- the sign of a time text
@@ -41,12 +41,12 @@ pub record IsTimeText (text : List ℕ) (negative : Bool) (microseconds : ℕ) :
   pub hours : ℕ
   pub minutes : ℕ
   pub seconds : ℕ
-  pub part : ℕ
+  pub fraction_microseconds : ℕ
   -- sign, hours, a colon, minutes, a colon, seconds, and what is left
   pub parts : text ≡ sign negative
       ++ (hour_digits ++ byte ":" ∷ (minute_digits ++ byte ":" ∷ (second_digits ++ fraction)))
   pub are_hours : AreHours hour_digits hours
   pub are_minutes : IsField 2 59 minute_digits minutes
   pub are_seconds : IsField 2 59 second_digits seconds
-  pub is_fraction : IsFraction fraction part
-  pub sum : microseconds ≡ total_microseconds 0 hours minutes seconds part
+  pub is_fraction : IsFraction fraction fraction_microseconds
+  pub sum : microseconds ≡ total_microseconds 0 hours minutes seconds fraction_microseconds

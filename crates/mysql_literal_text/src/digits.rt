@@ -2,7 +2,7 @@
 ghost use Rattle.std.specs.Prelude.{◌≡◌, ◌<◌, ◌≤◌, ◌^◌, Some, IfSome, IfNone};
 ghost use Rattle.std.specs.Option.{SomeIff};
 ghost use Rattle.std.specs.Str.Parse.{IsNumeral, digits_value};
-ghost use Rattle.mysql_literal_text.specs.Digits.{number_of_digits};
+ghost use Rattle.mysql_literal_text.specs.Digits.{value_of_digits};
 
 // The number by the words of the standard library's parser.
 #[tactic(auto, using(crate::proofs::DigitLemmas::numeral_is_utf8))]
@@ -20,10 +20,10 @@ fn parsed_digits(digits: &[u8]) -> Option<u128>
 }
 
 /// The number that one or more ASCII digits write, where 128 bits hold it.
-pub fn number_of_digits(digits: &[u8]) -> Option<u128>
-    ensures found { IfSome result (λ number. number_of_digits digits.now ≡ Some number) }
+pub fn value_of_digits(digits: &[u8]) -> Option<u128>
+    ensures found { IfSome result (λ number. value_of_digits digits.now ≡ Some number) }
     ensures refused { IfNone result
-        (IfSome (number_of_digits digits.now) (λ number. 2 ^ 128 ≤ number)) }
+        (IfSome (value_of_digits digits.now) (λ number. 2 ^ 128 ≤ number)) }
 {
     parsed_digits(digits)
 }

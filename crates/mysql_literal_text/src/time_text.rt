@@ -1,17 +1,18 @@
 //! Time texts, read.
-ghost use Rattle.std.specs.Prelude.{◌≡◌, ◌<◌, ◌≤◌, ◌^◌, [], ◌∷◌, length, Some, IfSome};
-ghost use Rattle.mysql_literal_text.specs.Digits.{number_of_digits};
+ghost use Rattle.std.specs.Prelude.{◌≡◌, ◌<◌, ◌≤◌, ◌^◌, ℕ, Bool, [], ◌∷◌, length, Some, IfNone, IfSome};
+ghost use Rattle.mysql_literal_text.specs.Digits.{value_of_digits};
+ghost use Rattle.mysql_literal_text.specs.TimeText.{IsTimeText};
 ghost use Rattle.mysql_literal_text.specs.ReadTimeText.{at_most, fraction_of, scaled, time_after_hours, time_of_text, time_of_three_digits, time_of_two_digits, unsigned_time};
 
-use crate::digits::number_of_digits;
+use crate::digits::value_of_digits;
 
 // The number of up to six digits.
 fn short_number(digits: &[u8]) -> Option<u32>
     requires { length digits.now ≤ 6 }
-    ensures exact { result ≡ number_of_digits digits.now }
+    ensures exact { result ≡ value_of_digits digits.now }
     ensures few { IfSome result (λ number. number < 10 ^ length digits.now) }
 {
-    match number_of_digits(digits) {
+    match value_of_digits(digits) {
         Some(number) => Some(number as u32),
         None => None,
     }
@@ -19,7 +20,7 @@ fn short_number(digits: &[u8]) -> Option<u32>
 
 // Minutes or seconds.
 fn sixtieths(a: u8, b: u8) -> Option<u32>
-    ensures exact { result ≡ at_most 59 (number_of_digits (a ∷ b ∷ [])) }
+    ensures exact { result ≡ at_most 59 (value_of_digits (a ∷ b ∷ [])) }
     ensures few { IfSome result (λ number. number < 60) }
 {
     let number = short_number(&[a, b])?;
@@ -28,7 +29,7 @@ fn sixtieths(a: u8, b: u8) -> Option<u32>
 
 // Hours in three digits.
 fn three_digit_hours(a: u8, b: u8, c: u8) -> Option<u32>
-    ensures exact { result ≡ at_most 899 (number_of_digits (a ∷ b ∷ c ∷ [])) }
+    ensures exact { result ≡ at_most 899 (value_of_digits (a ∷ b ∷ c ∷ [])) }
     ensures few { IfSome result (λ number. number < 900) }
 {
     let number = short_number(&[a, b, c])?;
@@ -110,9 +111,8 @@ fn read_unsigned(text: &[u8]) -> Option<u64>
     }
 }
 
-/// Whether a time text is negative, and how many microseconds it says; none where the bytes are no
-/// time text.
-pub fn read_time_text(text: &[u8]) -> Option<(bool, u64)>
+// The same, with a sign or without.
+fn read_signed(text: &[u8]) -> Option<(bool, u64)>
     ensures exact { result ≡ time_of_text text.now }
     ensures few { IfSome result (λ time. time.1 < 2 ^ 42) }
 {
@@ -120,4 +120,16 @@ pub fn read_time_text(text: &[u8]) -> Option<(bool, u64)>
         [b'-', text @ ..] => Some((true, read_unsigned(text)?)),
         _ => Some((false, read_unsigned(text)?)),
     }
+}
+
+/// Whether a time text is negative, and how many microseconds it says; none where the bytes are no
+/// time text.
+pub fn read_time_text(text: &[u8]) -> Option<(bool, u64)>
+    ensures reads { IfSome result (λ time. IsTimeText text.now time.0 time.1) }
+    ensures none { IfNone result ((negative : Bool) (microseconds : ℕ) →
+        IsTimeText text.now negative microseconds → ⊥) }
+    ensures exact { result ≡ time_of_text text.now }
+    ensures few { IfSome result (λ time. time.1 < 2 ^ 42) }
+{
+    read_signed(text)
 }

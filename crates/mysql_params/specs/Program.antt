@@ -37,11 +37,13 @@ IsOutput (bound_query given) ts (Err refusal) =
     (cause : Cause) × (first_cause ts given ≡ Some cause) × (unbound cause ≡ refusal)
 
 -- the same for words, which may be refused
-abbrev pub IsAnswer : Result Command WordsRefusal → List Token → Result (List ℕ) Refusal → Type 0
-IsAnswer (Err why) ts answer = Err (refused_words why) ≡ answer
-IsAnswer (Ok command) ts answer = IsOutput command ts answer
+abbrev pub IsProgramOutput : Result Command WordsRefusal → List Token → Result (List ℕ) Refusal
+    → Type 0
+IsProgramOutput (Err why) ts answer = Err (refused_words why) ≡ answer
+IsProgramOutput (Ok command) ts answer = IsOutput command ts answer
 
 -- the program's answer to these words and this whole input is this text or this refusal
 abbrev pub Answers : List (String Global) → List ℕ → Result (List ℕ) Refusal → Type 0
 Answers words input answer =
-    OnTokens with_backslashes input (λ ts. IsAnswer (command_of (word_bytes words)) ts answer)
+    OnTokens with_backslashes input
+    (λ ts. IsProgramOutput (command_of (word_bytes words)) ts answer)

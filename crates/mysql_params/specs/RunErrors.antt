@@ -1,14 +1,20 @@
 -- What each error of `run` stands for.
-use Rattle.std.specs.Prelude.{◌≡◌, ◌⊎◌, ℕ, List, Err, Option, None, Some, option_map, alloc_error}
+use Rattle.std.specs.Prelude.{◌≡◌, ◌⊎◌, ℕ, List, Err, Option, None, Some, option_map, alloc_error, ⊤}
 use Rattle.mysql_named_params.specs.Tokens.{Token}
 use Rattle.mysql_params.specs.BindErrors.{AreEqualBindErrors, cause_of}
+use Rattle.mysql_params.specs.FirstCause.{Cause}
 use Rattle.mysql_params.specs.Program.{Refusal, refused_words, mixed_query, unbound, IsOutput}
 use Rattle.mysql_params.specs.Words.{Command, usage, repeated}
 use Rattle.mysql_params.specs.declared.run_error.RunError.{RunError}
 use Rattle.mysql_params.specs.declared.run_error.RunError.TheVariants.{Usage, Redefined, Mixed, Bind, Read, Write, Memory}
 
--- the exit status: 1 where a name is repeated or the query is refused; 2 for other words, a failed read
--- or write, and want of memory
+-- what `Bind` holds is a cause to refuse, and so no want of memory, also not that of a lookup
+abbrev pub HoldsCause : RunError → Type 0
+HoldsCause (Bind error) = (cause : Cause) × (cause_of error ≡ Some cause)
+HoldsCause error = ⊤
+
+-- the exit status: 1 where a name is repeated or the query is refused; 2 for other words, a failed
+-- read or write, and want of memory
 abbrev pub status_of : RunError → ℕ
 status_of Usage = 2
 status_of (Redefined name) = 1

@@ -69,13 +69,15 @@ value_of_text text = value_of_null text
 -- name and value of a word
 abbrev pub pair_of_word : List ℕ → Option (List ℕ × Value)
 pair_of_word word =
-    option_and_then (λ parts. option_map (λ value. (parts.0, value)) (value_of_text parts.1)) (cut word)
+    option_and_then (λ parts. option_map (λ value. (parts.0, value)) (value_of_text parts.1))
+    (cut word)
 
 -- name and value of each word, where each has them
 abbrev pub pairs_of_words : List (List ℕ) → Option (List (List ℕ × Value))
 pairs_of_words [] = Some []
 pairs_of_words (word ∷ words) =
-    option_and_then (λ pair. option_map (λ pairs. pair ∷ pairs) (pairs_of_words words)) (pair_of_word word)
+    option_and_then (λ pair. option_map (λ pairs. pair ∷ pairs) (pairs_of_words words))
+    (pair_of_word word)
 
 -- the name is empty
 abbrev pub is_nameless : List ℕ × Value → Bool
@@ -100,7 +102,8 @@ command_made (Err refusal) = Err (words_refusal_of refusal)
 abbrev pub command_of_pairs : List (List ℕ × Value) → Result Command WordsRefusal
 command_of_pairs [] = Ok (bound_query empty)
 command_of_pairs (pair ∷ pairs) =
-    if list_all is_nameless (pair ∷ pairs) then Ok (bound_query (positional (map (λ p. p.1) (pair ∷ pairs))))
+    if list_all is_nameless (pair ∷ pairs)
+    then Ok (bound_query (positional (map (λ p. p.1) (pair ∷ pairs))))
     else if list_any is_nameless (pair ∷ pairs) then Err usage
     else command_made (given_by_name (pair ∷ pairs))
 

@@ -8,7 +8,7 @@ ghost use Rattle.mysql_named_params.specs.Tokens.{OnTokens};
 ghost use Rattle.mysql_params_core.specs.Given.{given};
 ghost use Rattle.mysql_params.specs.BindErrors.{cause_of};
 ghost use Rattle.mysql_params.specs.Program.{Refusal, refused_words, unbound, lines_of, IsOutput, Answers};
-ghost use Rattle.mysql_params.specs.RunErrors.{refusal_of, IsOutputRefusal};
+ghost use Rattle.mysql_params.specs.RunErrors.{refusal_of, HoldsCause, IsOutputRefusal};
 ghost use Rattle.mysql_params.specs.ReadersAndWriters.{ReadsWhole, AppendsBeginning};
 ghost use Rattle.mysql_params.specs.WordErrors.{seen_command, words_refusal};
 ghost use Rattle.mysql_params.specs.Words.{names_of_query, bound_query, usage, word_bytes, command_of, AsksToBind};
@@ -77,7 +77,6 @@ fn names_output(alloc: Global, query: &[u8]) -> Result<Vec<u8>, RunError>
 fn unbound(error: BindError) -> RunError
     ensures refusal { refusal_of result ≡ option_map unbound (cause_of error) }
     ensures memory { error ≡ BindError.Memory alloc_error → result ≡ RunError.Memory alloc_error }
-    ensures apart { result ≢ RunError.Bind (BindError.Memory alloc_error) }
 {
     match error {
         BindError::Memory(error) => RunError::Memory(error),
@@ -91,7 +90,6 @@ fn bound_output(alloc: Global, query: &[u8], params: Params) -> Result<Vec<u8>, 
         IsOutput (bound_query (given params)) ts (Ok text.items))) }
     ensures refused { OnTokens with_backslashes query.now (λ ts.
         IfErr result (IsOutputRefusal (bound_query (given params)) ts)) }
-    ensures memory { IfErr result (λ error. error ≢ RunError.Bind (BindError.Memory alloc_error)) }
 {
     match bind_text(alloc, query, params) {
         Ok(text) => Ok(text),
@@ -105,7 +103,6 @@ fn command_output(alloc: Global, command: Command, query: &[u8]) -> Result<Vec<u
         IsOutput (seen_command command) ts (Ok text.items))) }
     ensures refused { OnTokens with_backslashes query.now (λ ts.
         IfErr result (IsOutputRefusal (seen_command command) ts)) }
-    ensures memory { IfErr result (λ error. error ≢ RunError.Bind (BindError.Memory alloc_error)) }
 {
     match command {
         Command::Names => names_output(alloc, query),
@@ -129,9 +126,10 @@ fn refused_words(error: WordsError) -> RunError
 ///
 /// `names` writes the query with `?` in place of each name, a newline, and each name and a newline.
 /// `bind` and words `NAME=VALUE` write the query with the values bound, as
-/// [`bind_text`](crate::bind_text) binds them, and nothing else; a value is `null`, `i:` or `u:` and a
-/// decimal number of 64 bits, or `s:` and a text. Where all names are empty the values are bound by
-/// position, and where none is, by name.
+/// [`bind_text`](crate::bind_text) binds them, and nothing else. A value is `null`, `i:` or `u:` and
+/// a decimal number of 64 bits, or `s:` and a text. Without such words nothing is given to the query;
+/// where all names are empty the values are bound by position, where none is, by name, and else the
+/// words are refused as `Usage`.
 ///
 /// The words are judged first, then the input is read to its end, and only when the whole output
 /// stands is it written. No failed read or write is repeated.
@@ -170,7 +168,9 @@ pub fn run<R: Read, W: Write>(
 
     // Every other refusal leaves the writer alone.
     ensures unwritten { IfErr result (λ e. e ≢ RunError.Write → output.new ≡ output.old) }
-    ensures memory { IfErr result (λ e. e ≢ RunError.Bind (BindError.Memory alloc_error)) }
+
+    // Want of memory has its own answer, also that of binding.
+    ensures memory { IfErr result HoldsCause }
 {
     let command = match judge(alloc, words) {
         Ok(command) => command,

@@ -19,7 +19,8 @@ pub enum RunError {
     /// written.
     #[error("Named and positional params in one query")]
     Mixed,
-    /// The parameters can't be bound into the query. It is never want of memory. Nothing was written.
+    /// The parameters can't be bound into the query. It is never want of memory. Nothing was
+    /// written.
     #[error(transparent)]
     Bind(BindError),
     /// A read failed. Nothing was written.

@@ -205,7 +205,8 @@ fn params_of_words(alloc: Global, words: &[String]) -> Result<Params, WordsError
 fn command_of(alloc: Global, word: &str, words: &[String]) -> Result<Command, WordsError>
     ensures command { IsAnswer seen_command words_refusal
         (command_of (word.now ∷ word_bytes words.now)) result }
-    ensures memory { IsErrOf result (WordsError.Memory alloc_error) → IsTrue (bytes_eq word.now (codes "bind")) }
+    ensures memory { IsErrOf result (WordsError.Memory alloc_error) →
+        IsTrue (bytes_eq word.now (codes "bind")) }
 {
     if word == "names" {
         return if words.is_empty() {
@@ -228,7 +229,8 @@ pub(crate) fn judge(alloc: Global, words: &[String]) -> Result<Command, WordsErr
     ensures command { IsAnswer seen_command words_refusal
         (command_of (word_bytes words.now)) result }
     // Only values are copied.
-    ensures memory { IsErrOf result (WordsError.Memory alloc_error) → AsksToBind (word_bytes words.now) }
+    ensures memory { IsErrOf result (WordsError.Memory alloc_error) →
+        AsksToBind (word_bytes words.now) }
 {
     match words {
         [] => Err(WordsError::Usage),

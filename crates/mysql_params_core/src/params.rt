@@ -25,13 +25,16 @@ pub use to_params::ToParams;
 /// doesn't count.
 #[derive(PartialEq, Drop)]
 pub enum Params {
+    /// Nothing.
     Empty,
+    /// Values by name, which is bytes.
     Named(HashMap<Vec<u8>, Value>),
+    /// Values by position.
     Positional(Vec<Value>),
 }
 
 impl Params {
-    /// A copy of the parameters, on the allocator that they hold.
+    /// A copy of the parameters, on the allocator that they hold. That of `Empty` takes no memory.
     pub fn clone(&self) -> Result<Params, AllocError>
         ensures equal { IfOk result (λ copy. given copy ≡ given self.now) }
         ensures memory { OnErr result (given self.now ≢ empty) }

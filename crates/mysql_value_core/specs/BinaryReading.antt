@@ -45,8 +45,8 @@ abbrev pub read_counted : List ℕ → Reading (List ℕ)
 read_counted bytes = and_then_read (read_number 1 bytes) read_bytes
 
 -- bytes are read as a length-encoded string
-abbrev pub read_string : List ℕ → Reading Value
-read_string bytes = map_read Bytes (read_lenenc bytes)
+abbrev pub read_bytes_value : List ℕ → Reading Value
+read_bytes_value bytes = map_read Bytes (read_lenenc bytes)
 
 -- a whole number is read least byte first
 abbrev pub read_integer : ℕ → Bool → List ℕ → Reading Value
@@ -63,21 +63,21 @@ read_time bytes = map_read time_value (read_counted bytes)
 
 -- a value of each column type; values of five types are not read
 abbrev pub read_binary : ColumnType → Bool → List ℕ → Reading Value
-read_binary MYSQL_TYPE_STRING unsigned bytes = read_string bytes
-read_binary MYSQL_TYPE_VAR_STRING unsigned bytes = read_string bytes
-read_binary MYSQL_TYPE_BLOB unsigned bytes = read_string bytes
-read_binary MYSQL_TYPE_TINY_BLOB unsigned bytes = read_string bytes
-read_binary MYSQL_TYPE_MEDIUM_BLOB unsigned bytes = read_string bytes
-read_binary MYSQL_TYPE_LONG_BLOB unsigned bytes = read_string bytes
-read_binary MYSQL_TYPE_SET unsigned bytes = read_string bytes
-read_binary MYSQL_TYPE_ENUM unsigned bytes = read_string bytes
-read_binary MYSQL_TYPE_DECIMAL unsigned bytes = read_string bytes
-read_binary MYSQL_TYPE_VARCHAR unsigned bytes = read_string bytes
-read_binary MYSQL_TYPE_BIT unsigned bytes = read_string bytes
-read_binary MYSQL_TYPE_NEWDECIMAL unsigned bytes = read_string bytes
-read_binary MYSQL_TYPE_GEOMETRY unsigned bytes = read_string bytes
-read_binary MYSQL_TYPE_VECTOR unsigned bytes = read_string bytes
-read_binary MYSQL_TYPE_JSON unsigned bytes = read_string bytes
+read_binary MYSQL_TYPE_STRING unsigned bytes = read_bytes_value bytes
+read_binary MYSQL_TYPE_VAR_STRING unsigned bytes = read_bytes_value bytes
+read_binary MYSQL_TYPE_BLOB unsigned bytes = read_bytes_value bytes
+read_binary MYSQL_TYPE_TINY_BLOB unsigned bytes = read_bytes_value bytes
+read_binary MYSQL_TYPE_MEDIUM_BLOB unsigned bytes = read_bytes_value bytes
+read_binary MYSQL_TYPE_LONG_BLOB unsigned bytes = read_bytes_value bytes
+read_binary MYSQL_TYPE_SET unsigned bytes = read_bytes_value bytes
+read_binary MYSQL_TYPE_ENUM unsigned bytes = read_bytes_value bytes
+read_binary MYSQL_TYPE_DECIMAL unsigned bytes = read_bytes_value bytes
+read_binary MYSQL_TYPE_VARCHAR unsigned bytes = read_bytes_value bytes
+read_binary MYSQL_TYPE_BIT unsigned bytes = read_bytes_value bytes
+read_binary MYSQL_TYPE_NEWDECIMAL unsigned bytes = read_bytes_value bytes
+read_binary MYSQL_TYPE_GEOMETRY unsigned bytes = read_bytes_value bytes
+read_binary MYSQL_TYPE_VECTOR unsigned bytes = read_bytes_value bytes
+read_binary MYSQL_TYPE_JSON unsigned bytes = read_bytes_value bytes
 read_binary MYSQL_TYPE_TINY unsigned bytes = read_integer 1 unsigned bytes
 read_binary MYSQL_TYPE_SHORT unsigned bytes = read_integer 2 unsigned bytes
 read_binary MYSQL_TYPE_YEAR unsigned bytes = read_integer 2 unsigned bytes

@@ -1,5 +1,5 @@
--- What a value says, in the terms in which a literal is read: an integer of either type says a number,
--- and a date or a time the bytes between the quotes of its literal.
+-- What a value says, in the terms in which a literal is read: an integer of either type says a
+-- number, and a date or a time the bytes between the quotes of its literal.
 use Rattle.std.specs.Prelude.{pos, Option, Some, None}
 use Rattle.mysql_value_core.specs.ReadLiteral.{Content, null, number, byte_string}
 use Rattle.mysql_value_core.specs.declared.value.Value.{Value}

@@ -13,10 +13,12 @@ rounded_microseconds duration = (as_nanos duration + 500) / 1000
 abbrev pub carried_time : Duration → ℕ → ℕ → Meaning
 carried_time duration seconds microseconds =
     if nat_lt (seconds / 86400) (2 ^ 32)
-    then Ok (Time false (seconds / 86400) (seconds / 3600 % 24) (seconds / 60 % 60) (seconds % 60) microseconds)
+    then Ok (Time false (seconds / 86400) (seconds / 3600 % 24) (seconds / 60 % 60) (seconds % 60)
+    microseconds)
     else Err duration
 
 -- the time of the rounded duration, or the duration itself where its days are no number of 32 bits
 abbrev pub duration_value : Duration → Meaning
 duration_value duration =
-    carried_time duration (rounded_microseconds duration / 1000000) (rounded_microseconds duration % 1000000)
+    carried_time duration (rounded_microseconds duration / 1000000)
+    (rounded_microseconds duration % 1000000)

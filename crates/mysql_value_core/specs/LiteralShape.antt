@@ -17,7 +17,8 @@ AreHexadecimalPairs [] = ⊥
 AreHexadecimalPairs (a ∷ []) = ⊥
 AreHexadecimalPairs (a ∷ b ∷ []) = IsTrue (is_hexadecimal_digit a) × IsTrue (is_hexadecimal_digit b)
 AreHexadecimalPairs (a ∷ b ∷ c ∷ bytes) =
-    IsTrue (is_hexadecimal_digit a) × IsTrue (is_hexadecimal_digit b) × AreHexadecimalPairs (c ∷ bytes)
+    IsTrue (is_hexadecimal_digit a) × IsTrue (is_hexadecimal_digit b)
+    × AreHexadecimalPairs (c ∷ bytes)
 
 -- a closed string: a single quote, units, a single quote
 pub data IsClosedString (mode : Bool) : List ℕ → Type 0 where
@@ -41,5 +42,6 @@ pub data IsLiteral (mode : Bool) : List ℕ → Type 0 where
   null_literal : IsLiteral mode (codes "NULL")
   natural_literal : (digits : List ℕ) → AreDigits digits → IsLiteral mode digits
   negative_literal : (digits : List ℕ) → AreDigits digits → IsLiteral mode (codes "-" ++ digits)
-  hexadecimal_literal : (pairs : List ℕ) → AreHexadecimalPairs pairs → IsLiteral mode (codes "0x" ++ pairs)
+  hexadecimal_literal : (pairs : List ℕ) → AreHexadecimalPairs pairs
+      → IsLiteral mode (codes "0x" ++ pairs)
   quoted_literal : (literal : List ℕ) → IsQuoted mode literal → IsLiteral mode literal

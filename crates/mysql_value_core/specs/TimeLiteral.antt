@@ -10,8 +10,8 @@ abbrev pub QuotesTime : ℕ → List ℕ → Type 0
 QuotesTime microseconds literal =
     (text : List ℕ) × (quoted text ≡ literal) × IsTimeText text false microseconds
 
--- A time that is not negative, of up to 899 hours in all, of minutes and seconds up to 59 and of less
--- than a million microseconds has a time text of its microseconds for its literal. Of other values
+-- A time that is not negative, of up to 899 hours in all, of minutes and seconds up to 59 and of
+-- less than a million microseconds has a time text of its microseconds for its literal. Of other values
 -- this says nothing.
 abbrev pub WritesTimeText : Value → List ℕ → Type 0
 WritesTimeText (Time false days hours minutes seconds microseconds) literal =

@@ -15,9 +15,9 @@ use Rattle.mysql_value_core.specs.ValueOf.{int_value, uint_value, wide_int_value
 use Rattle.mysql_values.specs.Intermediate.{committed}
 use Rattle.mysql_values.specs.Rollback.{ConvertsBack}
 use Rattle.mysql_values.specs.Decimal.{decimal_number, signed, minus_sign, plus_sign}
-use Rattle.mysql_literal_text.specs.Digits.{number_of_digits}
+use Rattle.mysql_literal_text.specs.Digits.{value_of_digits}
 use Rattle.mysql_values.specs.WholeNumber.{holds, narrowed, conversion_by, whole_conversion}
-use Rattle.mysql_literal_text.proofs.DigitLemmas.{number_of_digits-IsNumeral}
+use Rattle.mysql_literal_text.proofs.DigitLemmas.{value_of_digits-IsNumeral}
 
 -- a number that a type of at most 128 bits holds is below 2^128 in magnitude
 bounded : (is_signed : Bool) (width : ℕ) → width ≤ 128 → (number : ℤ)
@@ -57,35 +57,35 @@ bytes-refused is_signed width small of_number bytes (Some z) is large =
 
 -- digits with no sign before them
 decimal_number-digit : (first : ℕ) (rest : List ℕ) → is_ascii_digit first ≡ true
-    → decimal_number (first ∷ rest) ≡ option_map (signed false) (number_of_digits (first ∷ rest))
+    → decimal_number (first ∷ rest) ≡ option_map (signed false) (value_of_digits (first ∷ rest))
 decimal_number-digit first rest digit =
     let no_minus : (first == minus_sign) ≡ false = grind (arith, nat_tests) in
     let no_plus : (first == plus_sign) ≡ false = grind (arith, nat_tests) in
     rw (no_minus, no_plus) refl
 
 decimal_number-digits : (digits : List ℕ) → 0 < length digits → AllDigits 10 digits
-    → decimal_number digits ≡ option_map (signed false) (number_of_digits digits)
+    → decimal_number digits ≡ option_map (signed false) (value_of_digits digits)
 decimal_number-digits [] some all = absurd (omega arith)
 decimal_number-digits (first ∷ rest) some all =
     decimal_number-digit first rest (grind (arith, nat_tests, digit_from_value first all.0))
 
 -- a number is read from its decimal text
-number_of_digits-decimal : (n : ℕ) → n < 2 ^ 128 → number_of_digits (decimal n) ≡ Some n
-number_of_digits-decimal n small =
+value_of_digits-decimal : (n : ℕ) → n < 2 ^ 128 → value_of_digits (decimal n) ≡ Some n
+value_of_digits-decimal n small =
     let is = decimal_is_IsNumeral_wide n (omega arith) in
-    number_of_digits-IsNumeral (decimal n) is.0 ∙ ap Some is.1
+    value_of_digits-IsNumeral (decimal n) is.0 ∙ ap Some is.1
 
 decimal_number-decimal : (n : ℕ) → n < 2 ^ 128 → decimal_number (decimal n) ≡ Some (pos n)
 decimal_number-decimal n small =
     let is = decimal_is_IsNumeral_wide n (omega arith) in
     decimal_number-digits (decimal n) is.0.0 is.0.1
-    ∙ ap (option_map (signed false)) (number_of_digits-decimal n small)
+    ∙ ap (option_map (signed false)) (value_of_digits-decimal n small)
 
 decimal_number-signed_decimal : (number : ℤ) → unsigned_abs number < 2 ^ 128
     → decimal_number (signed_decimal number) ≡ Some number
 decimal_number-signed_decimal (pos n) small = decimal_number-decimal n small
 decimal_number-signed_decimal (negsuc n) small =
-    ap (option_map (signed true)) (number_of_digits-decimal (suc n) small)
+    ap (option_map (signed true)) (value_of_digits-decimal (suc n) small)
 
 -- a number whose value is its decimal text
 text-converts_back : {T : Type 0} (to_type : ℤ → Option T) (number : ℤ) (x : T)

@@ -1,7 +1,7 @@
 -- Decimal texts: an optional sign and one or more ASCII digits, of any length.
 use Rattle.std.specs.Prelude.{ℕ, ◌==◌, if◌then◌else◌, Bool, true, false, ℤ, pos, neg_ℤ, List, [], ◌∷◌, Option, None}
 use Rattle.std.specs.Option.{option_map}
-use Rattle.mysql_literal_text.specs.Digits.{number_of_digits}
+use Rattle.mysql_literal_text.specs.Digits.{value_of_digits}
 
 -- b'+'
 abbrev pub plus_sign : ℕ
@@ -20,6 +20,6 @@ signed false magnitude = pos magnitude
 abbrev pub decimal_number : List ℕ → Option ℤ
 decimal_number [] = None
 decimal_number (first ∷ rest) =
-    if first == minus_sign then option_map (signed true) (number_of_digits rest)
-    else if first == plus_sign then option_map (signed false) (number_of_digits rest)
-    else option_map (signed false) (number_of_digits (first ∷ rest))
+    if first == minus_sign then option_map (signed true) (value_of_digits rest)
+    else if first == plus_sign then option_map (signed false) (value_of_digits rest)
+    else option_map (signed false) (value_of_digits (first ∷ rest))

@@ -62,7 +62,8 @@ where
 
 /// A whole number converts back from its value.
 pub fn whole_number_converts_back<T: WholeNumber + Drop>(number: &T)
-    ensures converts_back { ConvertsBack (whole_conversion T.is_signed T.width T.of_number) committed
+    ensures converts_back { ConvertsBack
+        (whole_conversion T.is_signed T.width T.of_number) committed
         (T.value_of number.now) number.now }
 {
     let (negative, magnitude) = number.to_parts();
@@ -71,7 +72,8 @@ pub fn whole_number_converts_back<T: WholeNumber + Drop>(number: &T)
 
 /// A truth value converts back from its value.
 pub fn truth_converts_back(truth: &bool)
-    ensures converts_back { ConvertsBack truth_conversion committed (bool_value truth.now) truth.now }
+    ensures converts_back { ConvertsBack truth_conversion committed
+        (bool_value truth.now) truth.now }
 {
     let _truth = *truth;
 }

@@ -140,7 +140,7 @@ const WITH_BACKSLASHES: &[(u8, &str)] = &[
 
 const WITHOUT_BACKSLASHES: &[(u8, &str)] = &[(b'\'', "''''")];
 
-// The literal of one byte by the rules: what the table has, or else hexadecimal from 128 on, since one
+// The literal of one byte by the rules: what the table has, or else hexadecimal from 128 on, as one
 // such byte isn't UTF-8, and below that the byte itself in quotes.
 fn literal_of_byte(alloc: Global, byte: u8, table: &[(u8, &str)]) -> Result<String, AllocError> {
     for (escaped, text) in table {

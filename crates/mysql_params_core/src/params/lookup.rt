@@ -142,14 +142,16 @@ fn named_positional(
 }
 
 impl Params {
-    /// The values for the names of a query, in their order, with a repeated name's value at each of
-    /// its places. Names in the map that are not listed are ignored. `None` and an empty list mean a
-    /// query without names: it takes positional parameters as they are.
+    /// The values for the names of a query, in their order, with a repeated name's value at each
+    /// of its places. Names in the map that are not listed are ignored. `None` and an empty list
+    /// mean a query without names: it takes positional parameters as they are.
     ///
-    /// `Missing` holds the name that has no value. Where several have none: if the places of the
-    /// names that have one are exactly a beginning of the list, possibly empty, it is the last name
-    /// of the list, and else the first that has none. The parameters are consumed, also where the
-    /// call refuses.
+    /// `Missing` holds a name that has no value: of `Empty` the first of the list; of `Named`,
+    /// where the places of the names in the map are exactly a beginning of the list (no place at all is
+    /// one too), the last of the list, and else the first that isn't in the map. `Confusion` is for
+    /// positional parameters and a list with names, and for named ones, of an empty map too, and
+    /// none. `Memory` is answered only for a list with names, of `Named` or `Empty`. The parameters
+    /// are consumed, also where the call refuses.
     pub fn into_values(
         self,
         alloc: Global,

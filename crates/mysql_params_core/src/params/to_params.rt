@@ -159,8 +159,8 @@ impl<T: ToValue> ToParams for Vec<T> {
 }
 
 impl ToParams for &[&dyn ToValue] {
-    // What each object names as its value. A function's clause says `value_of thing.now`, as that of
-    // `object_params` does; an implementation has to write it out.
+    // What each object names as its value. A function's clause says `value_of thing.now`, as that
+    // of `object_params` does; an implementation has to write it out.
     ghost made = { λ things.
         list_made (map (λ thing. (ToValue-dyn thing.now).value_of thing.now.1) things.now) };
 

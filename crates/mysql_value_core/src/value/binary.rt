@@ -5,7 +5,7 @@ ghost use Rattle.mysql_wire_part.specs.ParseBuf.{left, AnswersReading};
 ghost use Rattle.mysql_wire_part.specs.Column.{is_unsigned};
 ghost use Rattle.mysql_value_core.specs.TextCell.{ReadsBytes};
 ghost use Rattle.mysql_value_core.specs.BinaryForm.{binary_form, date_form, time_form};
-ghost use Rattle.mysql_value_core.specs.BinaryReading.{date_value, time_value, read_counted, read_string, read_integer, read_binary};
+ghost use Rattle.mysql_value_core.specs.BinaryReading.{date_value, time_value, read_counted, read_bytes_value, read_integer, read_binary};
 ghost use Rattle.mysql_value_core.specs.BinaryReadBack.{ReadsBackInBinary};
 ghost use Rattle.mysql_value_core.specs.declared.value.Value as value;
 
@@ -230,8 +230,8 @@ fn eat_value(
 
 // A length-encoded string, copied.
 fn eat_string(alloc: Global, buf: &mut ParseBuf<'_>) -> Result<Value, WireError>
-    ensures read { AnswersReading (λ value. (value, left buf.new)) (read_string (left buf.old))
-        (ReadsBytes (read_string (left buf.old))) result }
+    ensures read { AnswersReading (λ value. (value, left buf.new)) (read_bytes_value (left buf.old))
+        (ReadsBytes (read_bytes_value (left buf.old))) result }
 {
     let text = buf.eat_lenenc_str()?;
     let bytes = Bytes::from(Vec::from_slice(alloc, text)?);

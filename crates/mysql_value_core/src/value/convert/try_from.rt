@@ -24,7 +24,8 @@ impl TryFrom<Value> for Vec<u8> {
 impl TryFrom<Value> for CowSlice<'static, u8> {
     type Error = FromValueError;
 
-    ghost try_from_gives = { λ v r. ConvertsOrHandsBack cow_bytes (option_map owned (bytes_of v)) v r };
+    ghost try_from_gives = { λ v r.
+        ConvertsOrHandsBack cow_bytes (option_map owned (bytes_of v)) v r };
 
     fn try_from(value: Value) -> Result<CowSlice<'static, u8>, FromValueError> {
         match value {
@@ -72,7 +73,8 @@ impl TryFrom<Value> for String {
 impl TryFrom<Value> for CowStr<'static> {
     type Error = FromValueError;
 
-    ghost try_from_gives = { λ v r. ConvertsOrHandsBack cow_text (option_map owned (text_of v)) v r };
+    ghost try_from_gives = { λ v r.
+        ConvertsOrHandsBack cow_text (option_map owned (text_of v)) v r };
 
     fn try_from(value: Value) -> Result<CowStr<'static>, FromValueError> {
         match String::try_from(value) {

@@ -90,7 +90,8 @@ impl FromValue for Duration {
     }
 
     fn get_intermediate(v: Value) -> Result<ParseIrOpt<Duration>, FromValueError>
-        ensures converts { ConvertsOrHandsBack (seen_parsed as_nanos) (duration_conversion v) v result }
+        ensures converts { ConvertsOrHandsBack (seen_parsed as_nanos)
+            (duration_conversion v) v result }
         ensures rolls_back { IfOk result (λ ir.
             RollsBack duration_conversion committed (rolled_back duration_value ir)
             (seen_parsed as_nanos ir)) }

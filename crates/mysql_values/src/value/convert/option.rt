@@ -23,8 +23,8 @@ impl<T: FromValue> IntoValue for OptionIr2<T> {
 
     fn into_value(self, alloc: Global) -> Result<Value, ToValueError> {
         match self {
-            OptionIr2::None => Ok(Value::NULL),
             OptionIr2::Some(ir) => ir.into_value(alloc),
+            OptionIr2::None => Ok(Value::NULL),
         }
     }
 }
@@ -55,8 +55,8 @@ impl<T: FromValue> From<OptionIr2<T>> for Option<T> {
 
     fn from(ir: OptionIr2<T>) -> Option<T> {
         match ir {
-            OptionIr2::None => None,
             OptionIr2::Some(ir) => Some(T::commit_intermediate(ir)),
+            OptionIr2::None => None,
         }
     }
 }

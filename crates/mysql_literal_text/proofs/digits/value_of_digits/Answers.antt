@@ -1,5 +1,5 @@
 use Rattle.mysql_literal_text.proofs.DigitLemmas.{parsed-found, parsed-refused}
-use Rattle.mysql_literal_text.proofs.digits.number_of_digits.Goals as goal
+use Rattle.mysql_literal_text.proofs.digits.value_of_digits.Goals as goal
 
 pub returns-clause-found : goal.returns-clause-found
 returns-clause-found c = parsed-found c.args.digits.now c.parsed_digits.result c.parsed_digits.ensures
