@@ -1,4 +1,4 @@
--- Which places of a query stand alone: those whose neighbours can't run into what stands there.
+-- Which places of a query stand alone: those whose neighbouring bytes may stand beside a literal.
 use Rattle.std.specs.Prelude.{◌+◌, ◌++◌, ◌==◌, ◌&&◌, ◌||◌, ℕ, Bool, true, List, [], ◌∷◌, if◌then◌else◌, length, Option, Some, None, codes}
 use Rattle.std.specs.List.{list_any}
 use Rattle.mysql_named_params.specs.Bytes.{is_white_space}

@@ -7,7 +7,7 @@ ghost use Rattle.mysql_named_params.specs.Places.{place_count, positions};
 ghost use Rattle.mysql_params_core.specs.Given.{Given};
 ghost use Rattle.mysql_params.specs.BindErrors.{AreEqualBindErrors};
 ghost use Rattle.mysql_params.specs.Isolation.{IsBoundText};
-ghost use Rattle.mysql_params.specs.Pieces.{pieces, woven};
+ghost use Rattle.mysql_params.specs.Pieces.{pieces, interleaved};
 ghost use Rattle.mysql_params.specs.Replaced.{AreLiterals, AreTokensOf, replaced};
 ghost use Rattle.mysql_params.specs.RunErrors.{AreEqualRunErrors};
 ghost use Rattle.mysql_params.specs.StandsAlone.{first_not_alone};
@@ -25,16 +25,16 @@ pub use mysql_params_core::laws::{
 };
 
 /// Whatever texts of the shape of literals stand in the places of a query, the tokens are the
-/// query's with those of each text in the stead of its place, and no place is left among them.
+/// query's with those of each text in place of its name or mark, and no place is left among them.
 pub fn isolation()
     ensures tokens { (mode : Bool) (query text : List ℕ) (ts : List Token)
         (literals : List (List ℕ)) (lists : List (List Token)) →
         IsTokens mode query ts → AreLiterals mode literals → AreTokensOf mode literals lists →
-        woven (pieces ts) literals ≡ Some text → IsTokens mode text (replaced ts lists) }
+        interleaved (pieces ts) literals ≡ Some text → IsTokens mode text (replaced ts lists) }
     ensures no_place { (mode : Bool) (text : List ℕ) (ts : List Token)
         (literals : List (List ℕ)) (lists : List (List Token)) →
         AreLiterals mode literals → AreTokensOf mode literals lists →
-        woven (pieces ts) literals ≡ Some text → place_count (replaced ts lists) ≡ 0 }
+        interleaved (pieces ts) literals ≡ Some text → place_count (replaced ts lists) ≡ 0 }
 {}
 
 /// Where the same text is bound to one query for two sets of parameters, their values say the same
