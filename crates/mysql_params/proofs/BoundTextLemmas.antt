@@ -88,6 +88,7 @@ is_bound_text mode query ts given values texts text is mixed looked later writte
       tokens_of_literals = tokens.1;
       exact = exact;
       isolated = tokens_are;
+      in_place = contents.in_place mode ts 0 [] [] texts s.said alone s.read room';
       read_back = rw text_is (contents.contents_of_bound mode ts 0 [] [] texts s.said alone s.read room');
       no_place = left;
       bound_again = no_cause_left (replaced ts tokens.0) left;

@@ -10,7 +10,7 @@ use Rattle.mysql_params_core.specs.Given.{Given, empty, positional}
 use Rattle.mysql_params_core.specs.Lookup.{lookup}
 use Rattle.mysql_params.specs.FirstCause.{first_cause}
 use Rattle.mysql_params.specs.Pieces.{pieces, interleaved}
-use Rattle.mysql_params.specs.Contents.{contents}
+use Rattle.mysql_params.specs.Contents.{contents, AreReadInPlace}
 use Rattle.mysql_params.specs.Replaced.{AreTokensOf, replaced}
 use Rattle.mysql_params.specs.ValueLiterals.{AreLiteralsOf}
 
@@ -35,6 +35,9 @@ pub record IsBoundText (mode : Bool) (ts : List Token) (given : Given) (text : L
   pub exact : interleaved (pieces ts) literals ≡ Some text
   -- Its tokens are those of the query, with those of one literal in place of each name and mark.
   pub isolated : IsTokens mode text (replaced ts lists)
+  -- Each literal, followed by the text behind it, reads as the content of its value and leaves
+  -- exactly that text.
+  pub in_place : AreReadInPlace mode (pieces ts) literals said
   -- Between the pieces of the query it reads as what the values say.
   pub read_back : contents mode (pieces ts) text ≡ Some said
   -- No place is left in it; bound to nothing it is not refused, and stays as it is.
