@@ -1,6 +1,6 @@
 //! Laws of the definitions that the contracts cite, and of equality, of this crate and of those
 //! below. No program needs to call them.
-ghost use Rattle.std.specs.Prelude.{◌≡◌, ◌↔◌, ℕ, Bool, List, Some, IsTrue, map, slice_get};
+ghost use Rattle.std.specs.Prelude.{◌≡◌, ◌↔◌, ℕ, Bool, List, [], None, Some, IsTrue, map, slice_get};
 ghost use Rattle.mysql_values.specs.Content.{content_of};
 ghost use Rattle.mysql_named_params.specs.Tokens.{Token, IsTokens};
 ghost use Rattle.mysql_named_params.specs.Places.{place_count, positions};
@@ -10,7 +10,7 @@ ghost use Rattle.mysql_params.specs.Isolation.{IsBoundText};
 ghost use Rattle.mysql_params.specs.Pieces.{pieces, interleaved};
 ghost use Rattle.mysql_params.specs.Replaced.{AreLiterals, AreTokensOf, replaced};
 ghost use Rattle.mysql_params.specs.RunErrors.{AreEqualRunErrors};
-ghost use Rattle.mysql_params.specs.StandsAlone.{first_not_alone};
+ghost use Rattle.mysql_params.specs.StandsAlone.{AllAlone, IsFirstNotAlone, first_not_alone};
 
 use crate::bind_error::BindError;
 use crate::run_error::RunError;
@@ -51,6 +51,14 @@ pub fn equal_texts_say_the_same()
 pub fn position_of_first_not_alone()
     ensures position { (ts : List Token) (place at : ℕ) →
         first_not_alone ts ≡ Some (place, at) → slice_get (positions ts) place ≡ Some at }
+{}
+
+/// The place that doesn't stand alone is the first of the query's places that doesn't; where none is
+/// found, each of them stands alone.
+pub fn first_not_alone_is_first()
+    ensures found { (ts : List Token) (place at : ℕ) →
+        first_not_alone ts ≡ Some (place, at) → IsFirstNotAlone ts place at }
+    ensures none { (ts : List Token) → first_not_alone ts ≡ None → AllAlone ts [] }
 {}
 
 /// Errors of binding are equal where variant and fields are.
