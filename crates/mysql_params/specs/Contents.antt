@@ -13,8 +13,8 @@ contents_before mode (piece ∷ pieces) text =
     (option_and_then (contents_before mode pieces) (after piece read.1)))
     (read_literal mode text)
 
--- The contents of the literals between these pieces of a query: none where the text is not the
--- first piece, a literal, the second piece, and so on to the last piece.
+-- The contents of the literals between these pieces of a query (a query has at least one piece):
+-- none where the text is not the first piece, a literal, the second piece, and so on to the last.
 abbrev pub contents : Bool → List (List ℕ) → List ℕ → Option (List Content)
 contents mode [] text = None
 contents mode (piece ∷ pieces) text =

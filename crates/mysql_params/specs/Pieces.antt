@@ -20,7 +20,7 @@ last_piece piece [] = Some piece
 last_piece piece (next ∷ pieces) = None
 
 -- the first piece, the first literal, the second piece, and so on to the last piece; there has to
--- be one literal between each piece and the next
+-- be one literal between each piece and the next (a query has at least one piece)
 abbrev pub interleaved : List (List ℕ) → List (List ℕ) → Option (List ℕ)
 interleaved [] literals = None
 interleaved (piece ∷ pieces) [] = last_piece piece pieces

@@ -1,5 +1,5 @@
-//! Laws of the definitions that the contracts cite, and of equality, of this crate and of those
-//! below. No program needs to call them.
+//! Laws of the definitions that the contracts cite, and of equality, of this crate and of
+//! `mysql_named_params` and `mysql_params_core`. No program needs to call them.
 ghost use Rattle.std.specs.Prelude.{◌≡◌, ◌↔◌, ℕ, Bool, List, [], None, Some, IsTrue, map, slice_get};
 ghost use Rattle.mysql_values.specs.Content.{content_of};
 ghost use Rattle.mysql_named_params.specs.Tokens.{Token, IsTokens};
