@@ -1,5 +1,6 @@
 -- The bytes and classes of bytes that the grammar of queries names, and the first place of a word.
 use Rattle.std.specs.Prelude.{◌≡◌, ◌≢◌, ℕ, Bool, false, ◌==◌, ◌&&◌, ◌||◌, nat_le, List, [], ◌∷◌, ◌++◌}
+use Rattle.std.specs.Str.{byte}
 
 -- b'\t'
 abbrev pub tab : ℕ
@@ -75,11 +76,11 @@ is_white_space b = b == tab || b == newline || b == form_feed || b == carriage_r
 
 -- b'a' to b'z'
 abbrev pub is_lower_letter : ℕ → Bool
-is_lower_letter b = nat_le 97 b && nat_le b 122
+is_lower_letter b = nat_le (byte "a") b && nat_le b (byte "z")
 
 -- b'0' to b'9'
 abbrev pub is_digit : ℕ → Bool
-is_digit b = nat_le 48 b && nat_le b 57
+is_digit b = nat_le (byte "0") b && nat_le b (byte "9")
 
 -- a byte that begins a name
 abbrev pub is_start_byte : ℕ → Bool

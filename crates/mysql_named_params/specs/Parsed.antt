@@ -4,6 +4,7 @@ use Rattle.std.specs.Cmp.Lexicographic.{pointwise}
 use Rattle.mysql_named_params.specs.Tokens.{Token, text_of}
 use Rattle.mysql_named_params.specs.Places.{names, renamed}
 
+-- a parsed query: its text with marks, and its names
 pub record Parsed : Type 0 where
   -- the query with a mark in place of each name
   pub query : List ℕ

@@ -16,9 +16,13 @@ same_parsed_decides p q =
           let parts = and_parts _ _ h in
           let a : p.query ≡ q.query = query.0 parts.0 in
           let b : p.params ≡ q.params = params.0 parts.1 in
-          let same : ◌≡◌ {A = Parsed} (record { query = p.query; params = p.params }) (record { query = q.query; params = q.params }) = cc in
+          let same : ◌≡◌ {A = Parsed} (record { query = p.query; params = p.params })
+              (record { query = q.query; params = q.params }) = cc in
           same,
-      λ e. and_from _ _ (query.1 (ap (λ (r : Parsed). r.query) e)) (params.1 (ap (λ (r : Parsed). r.params) e)),
+      λ e.
+          let a : p.query ≡ q.query = ap (λ (r : Parsed). r.query) e in
+          let b : p.params ≡ q.params = ap (λ (r : Parsed). r.params) e in
+          and_from _ _ (query.1 a) (params.1 b),
     )
 
 pub same_parsed_is_equivalence : IsEquivalence same_parsed

@@ -10,8 +10,11 @@ ghost use Rattle.mysql_named_params.specs.FirstToken.{IsNameFront, IsFirstToken,
 /// What a reader of names and marks wants to know of a token.
 #[derive(Clone, Copy, Debug, PartialEq, Eq)]
 pub enum TokenKind {
+    /// A name.
     Name,
+    /// A mark.
     Mark,
+    /// A string, a quoted identifier, a comment, or one byte of anything else.
     Other,
 }
 

@@ -18,13 +18,13 @@ use Rattle.mysql_params.specs.BindErrors.{IsRefusal, cause_of}
 use Rattle.mysql_params.specs.Isolation.{IsBoundText}
 use Rattle.mysql_params.specs.Contents.{contents as contents_of}
 use Rattle.mysql_named_params.proofs.TokenListLemmas.{one_token_list}
-use Rattle.mysql_params.specs.Pieces.{pieces, woven}
+use Rattle.mysql_params.specs.Pieces.{pieces, interleaved}
 use Rattle.mysql_params.specs.Replaced.{AreLiterals, replaced}
 use Rattle.mysql_params.specs.ValueLiterals.{AreLiteralsOf, AreReadAs}
 use Rattle.mysql_params.proofs.BoundText.{bound}
 use Rattle.mysql_params.proofs.CauseLemmas.{first_by, no_cause_left, no_cause_renamed, no_float_cause, no_place_out, on_both, on_map, value_each}
 use Rattle.mysql_params.proofs.ContentsLemmas as contents
-use Rattle.mysql_params.proofs.PieceLemmas.{bound_none, renamed_bound, woven_is, woven_pieces}
+use Rattle.mysql_params.proofs.PieceLemmas.{bound_none, renamed_bound, interleaved_is, interleaved_pieces}
 use Rattle.mysql_params.proofs.ReplacedLemmas.{isolated, isolated_places, literal_lists}
 
 -- what the values say, and that their literals read so
@@ -66,7 +66,7 @@ as_many_texts mode values texts h =
 pub is_bound_text : (mode : Bool) (query : List ℕ) (ts : List Token) (given : Given) (values : List Value) (texts : List (List ℕ)) (text : List ℕ) →
     IsTokens mode query ts → mixed_cause ts ≡ None → lookup given (names ts) ≡ Ok values →
     later_cause ts values ≡ None → AreLiteralsOf mode values texts → AreLiterals mode texts →
-    AreReadAs mode values texts → woven (pieces ts) texts ≡ Some text → IsBoundText mode ts given text
+    AreReadAs mode values texts → interleaved (pieces ts) texts ≡ Some text → IsBoundText mode ts given text
 is_bound_text mode query ts given values texts text is mixed looked later written shapes reads exact =
     let s = all_said mode values texts reads in
     let tokens = literal_lists mode texts shapes in
@@ -74,7 +74,7 @@ is_bound_text mode query ts given values texts text is mixed looked later writte
     let room' : length texts ≡ place_count ts = as_many_texts mode values texts written ∙ room in
     let left : place_count (replaced ts tokens.0) ≡ 0 = isolated_places mode text ts texts tokens.0 shapes tokens.1 exact in
     let tokens_are : IsTokens mode text (replaced ts tokens.0) = isolated mode query text ts texts tokens.0 is shapes tokens.1 exact in
-    let text_is : text ≡ bound ts texts = woven_is ts texts text exact in
+    let text_is : text ≡ bound ts texts = interleaved_is ts texts text exact in
     let alone = no_place_out ts values later in
     record {
       no_cause = first_by ts given values None mixed looked later;
@@ -85,16 +85,17 @@ is_bound_text mode query ts given values texts text is mixed looked later writte
       said = s.said;
       says = s.says;
       lists = tokens.0;
-      read = tokens.1;
+      tokens_of_literals = tokens.1;
       exact = exact;
       isolated = tokens_are;
+      in_place = contents.in_place mode ts 0 [] [] texts s.said alone s.read room';
       read_back = rw text_is (contents.contents_of_bound mode ts 0 [] [] texts s.said alone s.read room');
       no_place = left;
       bound_again = no_cause_left (replaced ts tokens.0) left;
-      same_again = woven_pieces [] (replaced ts tokens.0) [] (sym left) ∙ ap Some (bound_none (replaced ts tokens.0) left ∙ tokens_are.text);
+      same_again = interleaved_pieces [] (replaced ts tokens.0) [] (sym left) ∙ ap Some (bound_none (replaced ts tokens.0) left ∙ tokens_are.text);
       renamed_tokens = renamed_are mode query ts is;
       by_position = no_cause_renamed mode ts values is.each room alone (no_float_cause ts values later);
-      same_by_position = woven_pieces [] (renamed ts) texts (room' ∙ sym (renamed_places ts)) ∙ ap Some (renamed_bound ts texts room' ∙ sym text_is);
+      same_by_position = interleaved_pieces [] (renamed ts) texts (room' ∙ sym (renamed_places ts)) ∙ ap Some (renamed_bound ts texts room' ∙ sym text_is);
     }
 
 -- ---- as the code has it
@@ -155,12 +156,12 @@ room_on mode query given values texts count h written e =
 pub bound_on : (mode : Bool) (query : List ℕ) (given : Given) (values : List Value) (texts : List (List ℕ)) (text : List ℕ) →
     OnTokens mode query (λ ts. IsLookedUp ts given values) → AreLiteralsOf mode values texts →
     AreLiterals mode texts → AreReadAs mode values texts →
-    OnTokens mode query (λ ts. woven (pieces ts) texts ≡ Some text) →
+    OnTokens mode query (λ ts. interleaved (pieces ts) texts ≡ Some text) →
     OnTokens mode query (λ ts. IsBoundText mode ts given text)
 bound_on mode query given values texts text h written shapes reads exact =
-    on_map mode query (λ ts. IsLookedUp ts given values × (woven (pieces ts) texts ≡ Some text)) (λ ts. IsBoundText mode ts given text)
+    on_map mode query (λ ts. IsLookedUp ts given values × (interleaved (pieces ts) texts ≡ Some text)) (λ ts. IsBoundText mode ts given text)
     (λ ts is k. is_bound_text mode query ts given values texts text is k.0.0 k.0.1 k.0.2 written shapes reads k.1)
-    (on_both mode query (λ ts. IsLookedUp ts given values) (λ ts. woven (pieces ts) texts ≡ Some text) h exact)
+    (on_both mode query (λ ts. IsLookedUp ts given values) (λ ts. interleaved (pieces ts) texts ≡ Some text) h exact)
 
 -- ---- equal texts
 

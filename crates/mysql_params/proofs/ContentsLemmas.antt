@@ -1,17 +1,18 @@
 -- The contents of a text with literals in the places of a query.
 use Rattle.std.specs.Prelude.{Bool, ⊤}
-use Rattle.std.proofs.Common.{◌≡◌, ◌+◌, ◌++◌, ℕ, true, false, List, [], ◌∷◌, length, if◌then◌else◌, arith, refl, append_assoc, Option, Some, None, eq-eqb}
+use Rattle.std.proofs.Common.{◌≡◌, ◌+◌, ◌++◌, ℕ, true, false, sym, true≢false, List, [], ◌∷◌, length, if◌then◌else◌, arith, refl, append_assoc, Option, Some, None, eq-eqb}
 use Rattle.std.proofs.lemmas.Bool.{and_parts}
 use Rattle.mysql_values.specs.ReadLiteral.{Content, after}
 use Rattle.mysql_values.specs.ReadBack.{BeginsWithout, ReadsBefore, continues_literal}
-use Rattle.mysql_named_params.specs.Bytes.{colon, question_mark}
-use Rattle.mysql_named_params.specs.Tokens.{Token, text_of, bytes_of, Name, Mark}
+use Rattle.mysql_named_params.specs.Bytes.{backquote, colon, dash, hash, question_mark, slash}
+use Rattle.mysql_named_params.specs.Tokens.{Token, text_of, bytes_of, QuotedString, QuotedIdentifier, HashComment, DashComment, BlockComment, Name, Mark, Plain}
 use Rattle.mysql_named_params.specs.Places.{place_count}
 use Rattle.mysql_params.specs.StandsAlone.{may_stand_before, may_stand_behind, none_or_first, none_or_last, stands_alone, first_not_alone_from}
 use Rattle.mysql_params.specs.Pieces.{pieces_from}
-use Rattle.mysql_params.specs.Contents.{contents_before, contents}
+use Rattle.mysql_params.specs.Contents.{contents_before, contents, AreReadInPlace}
 use Rattle.mysql_params.proofs.BoundText.{bound}
-use Rattle.mysql_params.proofs.ByteTestLemmas.{piece_ends, last_piece_ends}
+use Rattle.mysql_params.proofs.ByteTestLemmas.{behind_ends, piece_ends, last_piece_ends}
+use Rattle.mysql_params.proofs.PieceLemmas.{interleaved_pieces}
 
 -- each literal reads as its content, before all that doesn't continue it
 abbrev pub AreReadAs : Bool → List (List ℕ) → List Content → Type 0
@@ -39,7 +40,51 @@ place_alone place before bytes ts e =
     let p = alone_parts (stands_alone before (text_of ts)) _ _ e in
     ((and_parts (none_or_last may_stand_before before) _ p.0).1, p.1)
 
+-- what stands behind a place that stands alone doesn't continue the literal in it
+ends_before : (ts : List Token) (literals : List (List ℕ)) →
+    none_or_first may_stand_behind (text_of ts) ≡ true →
+    BeginsWithout continues_literal (bound ts literals)
+ends_before [] literals h = tt
+ends_before (QuotedString quote tail ∷ ts) literals h = behind_ends quote h
+ends_before (QuotedIdentifier tail ∷ ts) literals h = behind_ends backquote h
+ends_before (HashComment tail ∷ ts) literals h = behind_ends hash h
+ends_before (DashComment gap tail ∷ ts) literals h = behind_ends dash h
+ends_before (BlockComment tail ∷ ts) literals h = behind_ends slash h
+ends_before (Name name ∷ ts) literals h = absurd (true≢false (sym h))
+ends_before (Mark ∷ ts) literals h = absurd (true≢false (sym h))
+ends_before (Plain b ∷ ts) literals h = behind_ends b h
+
 module _ (mode : Bool) where
+  -- the first literal, and those behind it
+  in_place_more : (ts : List Token) (piece literal : List ℕ) (literals : List (List ℕ)) (c : Content) (cs : List Content) →
+      ReadsBefore continues_literal mode literal c → none_or_first may_stand_behind (text_of ts) ≡ true →
+      length literals ≡ place_count ts → AreReadInPlace mode (pieces_from [] ts) literals cs →
+      AreReadInPlace mode (piece ∷ pieces_from [] ts) (literal ∷ literals) (c ∷ cs)
+  in_place_more ts piece literal literals c cs r n l more =
+      ((bound ts literals, interleaved_pieces [] ts literals l, r (bound ts literals) (ends_before ts literals n)), more)
+
+  -- each literal reads in its place
+  pub in_place : (ts : List Token) (place : ℕ) (before piece : List ℕ) (literals : List (List ℕ)) (cs : List Content) →
+      first_not_alone_from place before ts ≡ None → AreReadAs mode literals cs → length literals ≡ place_count ts →
+      AreReadInPlace mode (pieces_from piece ts) literals cs
+  in_place [] place before piece [] [] a rs l = tt
+  in_place [] place before piece [] (c ∷ cs) a rs l = absurd rs
+  in_place [] place before piece (literal ∷ literals) cs a rs l = absurd (omega arith)
+  in_place (Name name ∷ ts) place before piece [] cs a rs l = absurd (omega arith)
+  in_place (Name name ∷ ts) place before piece (literal ∷ literals) [] a rs l = absurd rs
+  in_place (Name name ∷ ts) place before piece (literal ∷ literals) (c ∷ cs) a rs l =
+      let p = place_alone place before (bytes_of (Name name)) ts a in
+      let same : length literals ≡ place_count ts = omega arith in
+      in_place_more ts piece literal literals c cs rs.0 p.0 same (in_place ts (place + 1) (before ++ bytes_of (Name name)) [] literals cs p.1 rs.1 same)
+  in_place (Mark ∷ ts) place before piece [] cs a rs l = absurd (omega arith)
+  in_place (Mark ∷ ts) place before piece (literal ∷ literals) [] a rs l = absurd rs
+  in_place (Mark ∷ ts) place before piece (literal ∷ literals) (c ∷ cs) a rs l =
+      let p = place_alone place before (bytes_of Mark) ts a in
+      let same : length literals ≡ place_count ts = omega arith in
+      in_place_more ts piece literal literals c cs rs.0 p.0 same (in_place ts (place + 1) (before ++ bytes_of Mark) [] literals cs p.1 rs.1 same)
+  in_place (t ∷ ts) place before piece literals cs a rs l =
+      in_place ts place (before ++ bytes_of t) (piece ++ bytes_of t) literals cs a rs l
+
   one_more : (literal : List ℕ) (c : Content) (piece rest : List ℕ) (pieces : List (List ℕ)) (cs : List Content) →
       ReadsBefore continues_literal mode literal c → BeginsWithout continues_literal (piece ++ rest) →
       contents_before mode pieces rest ≡ Some cs →

@@ -9,6 +9,7 @@ pub mod ByteTestLemmas
 pub mod ContentsLemmas
 pub mod PutLemmas
 pub mod StandsAloneLemmas
+pub mod FirstNotAloneLemmas
 pub mod ValueLiteralLemmas
 pub mod WordLemmas
 pub mod RenamedPlaceLemmas

@@ -9,9 +9,9 @@ use Rattle.mysql_named_params.specs.declared.tokens.TokenKind.{TokenKind}
 use Rattle.mysql_named_params.specs.declared.tokens.TokenKind.TheVariants as kind
 use Rattle.mysql_named_params.proofs.TokenListLemmas.{one_token, some_byte}
 use Rattle.mysql_named_params.proofs.CountLemmas.{first_bytes}
-use Rattle.mysql_params.specs.Pieces.{pieces, woven}
+use Rattle.mysql_params.specs.Pieces.{pieces, interleaved}
 use Rattle.mysql_params.proofs.BoundText.{bound}
-use Rattle.mysql_params.proofs.PieceLemmas.{woven_pieces}
+use Rattle.mysql_params.proofs.PieceLemmas.{interleaved_pieces}
 
 -- what stands in the text so far, and what the tokens that are left will still add
 pub record PutSoFar (mode : Bool) (query : List ℕ) (literals : List (List ℕ)) (rest done : List ℕ) (place : ℕ) : Type 0 where
@@ -130,8 +130,8 @@ puts_text mode query literals rest done place p e = sym (append-nil done) ∙ (a
 -- the pieces with the literals between them
 pub puts_all : (mode : Bool) (query : List ℕ) (literals : List (List ℕ)) (rest done : List ℕ) (place : ℕ) →
     PutSoFar mode query literals rest done place → rest ≡ [] →
-    (ts : List Token) × IsTokens mode query ts × (woven (pieces ts) literals ≡ Some done)
-puts_all mode query literals rest done place p e = (p.all, p.tokens, woven_pieces [] p.all literals p.room ∙ ap Some (sym (puts_text mode query literals rest done place p e)))
+    (ts : List Token) × IsTokens mode query ts × (interleaved (pieces ts) literals ≡ Some done)
+puts_all mode query literals rest done place p e = (p.all, p.tokens, interleaved_pieces [] p.all literals p.room ∙ ap Some (sym (puts_text mode query literals rest done place p e)))
 
 -- ---- as the code has it
 

@@ -8,8 +8,8 @@ use Rattle.mysql_named_params.specs.Places.{place_count}
 use Rattle.mysql_named_params.proofs.RestLemmas.{SameUpToPlace, at_end, at_place, same-append, IsToken-move}
 use Rattle.mysql_named_params.proofs.TokenListLemmas.{one_token_list}
 use Rattle.mysql_params.specs.Replaced.{AreLiterals, AreTokensOf, replaced}
-use Rattle.mysql_params.specs.Pieces.{pieces, woven}
-use Rattle.mysql_params.proofs.PieceLemmas.{woven_count, woven_is}
+use Rattle.mysql_params.specs.Pieces.{pieces, interleaved}
+use Rattle.mysql_params.proofs.PieceLemmas.{interleaved_count, interleaved_is}
 use Rattle.mysql_params.proofs.BoundText.{bound}
 use Rattle.mysql_params.proofs.LiteralTokenLemmas.{IsCutBefore, IsLiteral-cut, IsLiteral-opens_nothing}
 use Rattle.mysql_params.proofs.TokenRowLemmas.{text_then-append, text_then-text, AreTokensBefore-append, place_count-append}
@@ -92,19 +92,19 @@ replaced_places mode (Mark ∷ ts) (literal ∷ literals) [] s a l = absurd a
 replaced_places mode (Mark ∷ ts) (literal ∷ literals) (list ∷ lists) s a l = list_places mode literal list _ s.0 a.0 (replaced_places mode ts literals lists s.1 a.1 (omega arith))
 replaced_places mode (t ∷ ts) literals lists s a l = replaced_places mode ts literals lists s a l
 
--- the same of the woven text
+-- the same of the interleaved text
 pub isolated : (mode : Bool) (query text : List ℕ) (ts : List Token) (literals : List (List ℕ)) (lists : List (List Token)) →
     IsTokens mode query ts → AreLiterals mode literals → AreTokensOf mode literals lists →
-    woven (pieces ts) literals ≡ Some text → IsTokens mode text (replaced ts lists)
+    interleaved (pieces ts) literals ≡ Some text → IsTokens mode text (replaced ts lists)
 isolated mode query text ts literals lists is s a e =
-    let l = woven_count [] ts literals text e in
+    let l = interleaved_count [] ts literals text e in
     record {
-      text = replaced_text mode ts literals lists a l ∙ sym (woven_is ts literals text e);
+      text = replaced_text mode ts literals lists a l ∙ sym (interleaved_is ts literals text e);
       each = replaced_tokens mode ts literals lists is.each s a l;
     }
 
 pub isolated_places : (mode : Bool) (text : List ℕ) (ts : List Token) (literals : List (List ℕ)) (lists : List (List Token)) →
-    AreLiterals mode literals → AreTokensOf mode literals lists → woven (pieces ts) literals ≡ Some text →
+    AreLiterals mode literals → AreTokensOf mode literals lists → interleaved (pieces ts) literals ≡ Some text →
     place_count (replaced ts lists) ≡ 0
 isolated_places mode text ts literals lists s a e =
-    replaced_places mode ts literals lists s a (woven_count [] ts literals text e)
+    replaced_places mode ts literals lists s a (interleaved_count [] ts literals text e)

@@ -137,7 +137,7 @@ past at query h = nil_from_length (drop at query) (rw (length-drop at query) (om
 
 -- ---- the position of what is found
 
-choice : {A : Type 0} (b : Bool) (x y : Option A) (r : Option A) →
+pub choice : {A : Type 0} (b : Bool) (x y : Option A) (r : Option A) →
     (if b then x else y) ≡ r → ((b ≡ true) × (x ≡ r)) ⊎ ((b ≡ false) × (y ≡ r))
 choice true x y r e = inl (refl, e)
 choice false x y r e = inr (refl, e)

@@ -1,4 +1,5 @@
--- What is left of a query between its places, and the text with literals in their stead.
+-- The pieces of a query, what is left of it between its places, and their text with literals
+-- between them.
 use Rattle.std.specs.Prelude.{◌++◌, ℕ, List, [], ◌∷◌, Option, Some, None, option_map}
 use Rattle.mysql_named_params.specs.Tokens.{Token, bytes_of, Name, Mark}
 
@@ -19,9 +20,9 @@ last_piece piece [] = Some piece
 last_piece piece (next ∷ pieces) = None
 
 -- the first piece, the first literal, the second piece, and so on to the last piece; there has to
--- be one literal between each piece and the next
-abbrev pub woven : List (List ℕ) → List (List ℕ) → Option (List ℕ)
-woven [] literals = None
-woven (piece ∷ pieces) [] = last_piece piece pieces
-woven (piece ∷ pieces) (literal ∷ literals) =
-    option_map (λ text. piece ++ (literal ++ text)) (woven pieces literals)
+-- be one literal between each piece and the next (a query has at least one piece)
+abbrev pub interleaved : List (List ℕ) → List (List ℕ) → Option (List ℕ)
+interleaved [] literals = None
+interleaved (piece ∷ pieces) [] = last_piece piece pieces
+interleaved (piece ∷ pieces) (literal ∷ literals) =
+    option_map (λ text. piece ++ (literal ++ text)) (interleaved pieces literals)

@@ -3,8 +3,8 @@ use Rattle.std.specs.Prelude.{ℕ, Bool, List, [], ◌∷◌, ◌++◌, ⊤}
 use Rattle.mysql_values.specs.LiteralShape.{IsLiteral}
 use Rattle.mysql_named_params.specs.Tokens.{Token, IsTokens, Name, Mark}
 
--- the tokens with the first list in the stead of the first place, and so on; all others as they
--- were
+-- the tokens with the first list in place of the first name or mark, and so on; all others as
+-- they were
 abbrev pub replaced : List Token → List (List Token) → List Token
 replaced [] lists = []
 replaced (Name name ∷ ts) (list ∷ lists) = list ++ replaced ts lists

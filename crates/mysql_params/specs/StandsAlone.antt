@@ -1,8 +1,9 @@
--- Which places of a query stand alone: those whose neighbours can't run into what stands there.
-use Rattle.std.specs.Prelude.{◌+◌, ◌++◌, ◌==◌, ◌&&◌, ◌||◌, ℕ, Bool, true, List, [], ◌∷◌, if◌then◌else◌, length, Option, Some, None, codes}
+-- Which places of a query stand alone: those whose neighbouring bytes may stand beside a literal.
+use Rattle.std.specs.Prelude.{◌≡◌, ◌+◌, ◌++◌, ◌==◌, ◌&&◌, ◌||◌, IsTrue, IsFalse, ℕ, Bool, true, List, [], ◌∷◌, if◌then◌else◌, length, Option, Some, None, codes}
 use Rattle.std.specs.List.{list_any}
 use Rattle.mysql_named_params.specs.Bytes.{is_white_space}
-use Rattle.mysql_named_params.specs.Tokens.{Token, bytes_of, text_of, Name, Mark}
+use Rattle.mysql_named_params.specs.Tokens.{Token, bytes_of, text_of, text_then, Name, Mark}
+use Rattle.mysql_named_params.specs.Places.{IsPlace, place_count}
 
 -- the byte is one of these
 abbrev pub is_one_of : List ℕ → ℕ → Bool
@@ -57,3 +58,25 @@ first_not_alone_from place before (t ∷ ts) = first_not_alone_from place (befor
 -- number and position of the first place of a query that doesn't stand alone
 abbrev pub first_not_alone : List Token → Option (ℕ × ℕ)
 first_not_alone = first_not_alone_from 0 []
+
+-- each name and mark among the tokens stands alone, where this text follows them
+abbrev pub AllAlone : List Token → List ℕ → Type 0
+AllAlone ts rest = (front : List Token) (t : Token) (back : List Token) → front ++ t ∷ back ≡ ts →
+    IsPlace t → IsTrue (stands_alone (text_of front) (text_then rest back))
+
+-- the place of this number, at this position, is the first that doesn't stand alone
+pub record IsFirstNotAlone (ts : List Token) (place at : ℕ) : Type 0 where
+  -- the tokens before it, itself, and the tokens behind it
+  pub front : List Token
+  pub found : Token
+  pub back : List Token
+  pub split : front ++ found ∷ back ≡ ts
+  -- it is a name or a mark
+  pub is_place : IsPlace found
+  -- its number is that of the places before it, its position that of the bytes before it
+  pub number : place_count front ≡ place
+  pub position : length (text_of front) ≡ at
+  -- it doesn't stand alone
+  pub not_alone : IsFalse (stands_alone (text_of front) (text_of back))
+  -- each place before it does
+  pub others_alone : AllAlone front (text_of (found ∷ back))

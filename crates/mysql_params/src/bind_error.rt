@@ -21,8 +21,7 @@ pub enum BindError {
         /// The values given.
         values: usize,
     },
-    /// A byte directly before or behind a name or mark can't stand there. It is the first such
-    /// place.
+    /// A name or mark doesn't stand alone; of several it is the first.
     #[error("Place {place} at byte {at} does not stand alone")]
     NotAlone {
         /// Its number among the names and marks, from 0.
@@ -30,7 +29,7 @@ pub enum BindError {
         /// The index of its first byte in the query.
         at: usize,
     },
-    /// A value is a float, which has no literal. It is the first.
+    /// The value for a place is a float, which has no literal; of several it is the first.
     #[error("Float at place {place}")]
     Float {
         /// The number of its place, from 0.

@@ -1,16 +1,16 @@
-//! Laws of the definitions that the contracts cite, and of equality, of this crate and of those
-//! below. No program needs to call them.
-ghost use Rattle.std.specs.Prelude.{◌≡◌, ◌↔◌, ℕ, Bool, List, Some, IsTrue, map, slice_get};
+//! Laws of the definitions that the contracts cite, and of equality, of this crate and of
+//! `mysql_named_params` and `mysql_params_core`. No program needs to call them.
+ghost use Rattle.std.specs.Prelude.{◌≡◌, ◌↔◌, ℕ, Bool, List, [], None, Some, IsTrue, map, slice_get};
 ghost use Rattle.mysql_values.specs.Content.{content_of};
 ghost use Rattle.mysql_named_params.specs.Tokens.{Token, IsTokens};
 ghost use Rattle.mysql_named_params.specs.Places.{place_count, positions};
 ghost use Rattle.mysql_params_core.specs.Given.{Given};
 ghost use Rattle.mysql_params.specs.BindErrors.{AreEqualBindErrors};
 ghost use Rattle.mysql_params.specs.Isolation.{IsBoundText};
-ghost use Rattle.mysql_params.specs.Pieces.{pieces, woven};
+ghost use Rattle.mysql_params.specs.Pieces.{pieces, interleaved};
 ghost use Rattle.mysql_params.specs.Replaced.{AreLiterals, AreTokensOf, replaced};
 ghost use Rattle.mysql_params.specs.RunErrors.{AreEqualRunErrors};
-ghost use Rattle.mysql_params.specs.StandsAlone.{first_not_alone};
+ghost use Rattle.mysql_params.specs.StandsAlone.{AllAlone, IsFirstNotAlone, first_not_alone};
 
 use crate::bind_error::BindError;
 use crate::run_error::RunError;
@@ -25,16 +25,16 @@ pub use mysql_params_core::laws::{
 };
 
 /// Whatever texts of the shape of literals stand in the places of a query, the tokens are the
-/// query's with those of each text in the stead of its place, and no place is left among them.
+/// query's with those of each text in place of its name or mark, and no place is left among them.
 pub fn isolation()
     ensures tokens { (mode : Bool) (query text : List ℕ) (ts : List Token)
         (literals : List (List ℕ)) (lists : List (List Token)) →
         IsTokens mode query ts → AreLiterals mode literals → AreTokensOf mode literals lists →
-        woven (pieces ts) literals ≡ Some text → IsTokens mode text (replaced ts lists) }
+        interleaved (pieces ts) literals ≡ Some text → IsTokens mode text (replaced ts lists) }
     ensures no_place { (mode : Bool) (text : List ℕ) (ts : List Token)
         (literals : List (List ℕ)) (lists : List (List Token)) →
         AreLiterals mode literals → AreTokensOf mode literals lists →
-        woven (pieces ts) literals ≡ Some text → place_count (replaced ts lists) ≡ 0 }
+        interleaved (pieces ts) literals ≡ Some text → place_count (replaced ts lists) ≡ 0 }
 {}
 
 /// Where the same text is bound to one query for two sets of parameters, their values say the same
@@ -51,6 +51,14 @@ pub fn equal_texts_say_the_same()
 pub fn position_of_first_not_alone()
     ensures position { (ts : List Token) (place at : ℕ) →
         first_not_alone ts ≡ Some (place, at) → slice_get (positions ts) place ≡ Some at }
+{}
+
+/// The place that doesn't stand alone is the first of the query's places that doesn't; where none is
+/// found, each of them stands alone.
+pub fn first_not_alone_is_first()
+    ensures found { (ts : List Token) (place at : ℕ) →
+        first_not_alone ts ≡ Some (place, at) → IsFirstNotAlone ts place at }
+    ensures none { (ts : List Token) → first_not_alone ts ≡ None → AllAlone ts [] }
 {}
 
 /// Errors of binding are equal where variant and fields are.

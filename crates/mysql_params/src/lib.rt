@@ -2,8 +2,8 @@
 //!
 //! A query is bytes. [`named_params`] finds the names and marks outside its strings, quoted
 //! identifiers and comments; [`params`] are what is given to them, and [`bind_text`] puts the
-//! literals of the values in their places; [`run`] is the program over names, for any reader and
-//! writer.
+//! literals of the values in their places; [`run`] is the program, with its commands `names` and
+//! `bind`, for any reader and writer.
 #![tactic(auto)]
 
 mod bind_error;

@@ -2,12 +2,12 @@
 ghost use Rattle.std.specs.Prelude.{◌≡◌, Some, IfOk, length, map, vec_items};
 ghost use Rattle.mysql_named_params.specs.Tokens.{OnTokens};
 ghost use Rattle.mysql_named_params.specs.Places.{place_count};
-ghost use Rattle.mysql_params.specs.Pieces.{pieces, woven};
+ghost use Rattle.mysql_params.specs.Pieces.{pieces, interleaved};
 
 use mysql_named_params::tokens::{TokenKind, first_token};
 use std::alloc::{AllocError, Global};
 
-/// The pieces of a query with a literal in the stead of each name and mark.
+/// The pieces of a query with a literal in place of each name and mark.
 pub(super) fn put_literals(
     alloc: Global,
     query: &[u8],
@@ -17,7 +17,7 @@ pub(super) fn put_literals(
     requires { OnTokens no_backslash_escape query.now (λ ts.
         length literals.now ≡ place_count ts) }
     ensures { IfOk result (λ text. OnTokens no_backslash_escape query.now (λ ts.
-        woven (pieces ts) (map vec_items literals.now) ≡ Some text.items)) }
+        interleaved (pieces ts) (map vec_items literals.now) ≡ Some text.items)) }
 {
     let mut text = Vec::new(alloc);
     let mut rest = query;
