@@ -168,6 +168,7 @@ fn params_by_name(alloc: Global, pairs: &[(&[u8], Value)]) -> Result<Params, Wor
     match Params::from_pairs(alloc, pairs) {
         Ok(params) => Ok(params),
         Err(ToParamsError::Redefined(name)) => Err(WordsError::Redefined(name)),
+        // No value is a duration that is too long.
         Err(ToParamsError::Value(_)) => Err(WordsError::Usage),
         Err(ToParamsError::Memory(error)) => Err(WordsError::Memory(error)),
     }
