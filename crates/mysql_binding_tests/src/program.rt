@@ -37,6 +37,11 @@ const ANSWERS: &[(&[&str], &[u8], &[u8])] = &[
         b":a",
         b"18446744073709551615",
     ),
+    (
+        &["bind", "a=s:\n\u{7f}\u{e9}=="],
+        b":a",
+        b"'\\n\x7f\xC3\xA9=='",
+    ),
     // A name need not be one that a query can have.
     (&["bind", "A=i:1", "b=i:2"], b"SELECT :b\n", b"SELECT 2\n"),
     (
