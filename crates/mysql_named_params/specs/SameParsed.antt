@@ -17,7 +17,7 @@ same_parsed_decides p q =
           let a : p.query ≡ q.query = query.0 parts.0 in
           let b : p.params ≡ q.params = params.0 parts.1 in
           let same : ◌≡◌ {A = Parsed} (record { query = p.query; params = p.params })
-              (record { query = q.query; params = q.params }) = cc in
+          (record { query = q.query; params = q.params }) = cc in
           same,
       λ e.
           let a : p.query ≡ q.query = ap (λ (r : Parsed). r.query) e in

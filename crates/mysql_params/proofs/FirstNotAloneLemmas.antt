@@ -1,5 +1,4 @@
 -- The place that is found is the first that doesn't stand alone.
-use Rattle.std.specs.Prelude.{IsTrue, IsFalse}
 use Rattle.std.proofs.Common.{◌≡◌, inl, inr, true, false, ℕ, ◌+◌, List, [], ◌∷◌, ◌++◌, length, refl, sym, ap, ◌∙◌, arith, subst, Option, Some, None, append_assoc, append-nil}
 use Rattle.mysql_named_params.specs.Tokens.{Token, bytes_of, text_of, text_then, Name, Mark}
 use Rattle.mysql_named_params.specs.Places.{IsPlace, place_count}

@@ -1,5 +1,5 @@
 //! Reading to the end and writing the whole, where no failed call is repeated.
-ghost use Rattle.std.specs.Prelude.{◌≡◌, IfOk, OnErr, OnOk, IsErrOf, alloc_error};
+ghost use Rattle.std.specs.Prelude.{◌≡◌, IfOk, OnErr, OnOk, IsErrOf};
 ghost use Rattle.std.specs.Io.KnownBytes.{Appends};
 ghost use Rattle.mysql_params.specs.ReadersAndWriters.{ReadsWhole, AppendsBeginning};
 

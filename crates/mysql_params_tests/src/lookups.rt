@@ -3,7 +3,6 @@ use crate::shared::{bytes, named, names, positional};
 use mysql_params::params::{
     IntoPositionalError, MissingNamedParameterError, Params, ParamsConfusionError, ParamsError,
 };
-use mysql_values::value::Value;
 use std::test::Fail;
 
 // The numbers of the names, or the name that is missing, by `into_values` and `into_positional`.

@@ -5,7 +5,6 @@ use mysql_values::value::Value;
 use mysql_values::value::convert::{ToValue, ToValueError};
 use std::alloc::{AllocError, Global};
 use std::cell::Cell;
-use std::process::Abort;
 use std::test::Fail;
 use std::time::Duration;
 

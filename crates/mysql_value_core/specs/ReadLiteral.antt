@@ -41,8 +41,10 @@ read_pairs [] = ([], [])
 read_pairs (a ∷ []) = ([], a ∷ [])
 read_pairs (a ∷ b ∷ text) =
     if is_hexadecimal_digit a && is_hexadecimal_digit b
-    then ((16 * hexadecimal_digit_value a + hexadecimal_digit_value b) ∷ (read_pairs text).0,
-    (read_pairs text).1)
+    then (
+      (16 * hexadecimal_digit_value a + hexadecimal_digit_value b) ∷ (read_pairs text).0,
+      (read_pairs text).1,
+    )
     else ([], a ∷ b ∷ text)
 
 -- bytes, if there are any, and what follows them

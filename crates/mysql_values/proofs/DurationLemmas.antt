@@ -1,19 +1,19 @@
 -- A duration that was converted keeps the value that it was made of.
-use Rattle.std.proofs.Common.{◌≡◌, ℕ, refl, Ok, Err, Some, None, Option, Result, ap, subst, ◌∙◌, true, false, List}
+use Rattle.std.proofs.Common.{◌≡◌, ℕ, refl, Ok, Err, Some, None, Option, Result, ap, subst, ◌∙◌, false}
 use Rattle.std.specs.Option.{option_map}
 use Rattle.std.specs.Result.{IfOk}
 use Rattle.std.specs.Duration.{as_nanos}
 use Rattle.std.specs.declared.time.Duration.{Duration}
 use Rattle.std.proofs.lemmas.Option.{same_Some}
 use Rattle.mysql_value_core.specs.declared.value.Value.{Value}
-use Rattle.mysql_value_core.specs.declared.value.Value.TheVariants.{NULL, Bytes, Int, UInt, Float, Double, Date, Time}
+use Rattle.mysql_value_core.specs.declared.value.Value.TheVariants.{Bytes, Time}
 use Rattle.mysql_value_core.specs.declared.value.convert.FromValueError.{FromValueError}
 use Rattle.mysql_value_core.specs.FromValue.{ConvertsOrHandsBack}
 use Rattle.mysql_value_core.specs.DurationValue.{duration_value}
 use Rattle.mysql_values.specs.declared.value.convert.intermediate.ParseIrOpt.{ParseIrOpt}
 use Rattle.mysql_values.specs.declared.value.convert.intermediate.ParseIrOpt.TheVariants.{Ready, Parsed}
-use Rattle.mysql_values.specs.Intermediate.{committed, rolled_back, RollbackTakesMemory}
-use Rattle.mysql_values.specs.Rollback.{RollsBack, NullFromNull}
+use Rattle.mysql_values.specs.Intermediate.{committed, rolled_back}
+use Rattle.mysql_values.specs.Rollback.{RollsBack}
 use Rattle.mysql_values.specs.DurationConversion.{seen_parsed, duration_conversion, nanoseconds_of_text}
 
 abbrev Keeps : Value → ParseIrOpt ℕ → Type 0

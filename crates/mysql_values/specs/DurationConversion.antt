@@ -1,7 +1,6 @@
 -- Conversions to a duration, of which contracts see the nanoseconds.
 use Rattle.std.specs.Prelude.{◌≡◌, ℕ, ◌*◌, Bool, true, false, List, Ok, Err, Option, None, Some, ⊤}
 use Rattle.std.specs.Option.{option_map, option_and_then}
-use Rattle.std.specs.Duration.{as_nanos}
 use Rattle.std.specs.declared.time.Duration.{Duration}
 use Rattle.mysql_literal_text.specs.TimeText.{total_microseconds}
 use Rattle.mysql_literal_text.specs.ReadTimeText.{time_of_text}

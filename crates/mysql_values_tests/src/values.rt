@@ -3,7 +3,6 @@ use crate::shared::{DateFields, TimeFields, bytes, date, time};
 use mysql_values::bytes::Bytes;
 use mysql_values::value::Value;
 use std::alloc::{AllocError, Global};
-use std::cmp::Ordering;
 use std::process::Abort;
 use std::test::Fail;
 

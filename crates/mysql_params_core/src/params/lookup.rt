@@ -7,7 +7,7 @@ ghost use Rattle.mysql_params_core.specs.Errors.{lookup_refusal, absent_name};
 ghost use Rattle.mysql_params_core.specs.FirstAbsent.{IsFirstAbsent};
 ghost use Rattle.mysql_params_core.specs.Given.{given, value_map, named};
 ghost use Rattle.mysql_params_core.specs.Lookup.{lookup, positioned, values_at, LookupTakesMemory, PositionTakesMemory};
-ghost use Rattle.mysql_params_core.specs.Names.{names_of, listed_names, missing_name, first_missing};
+ghost use Rattle.mysql_params_core.specs.Names.{names_of, listed_names, missing_name};
 
 use crate::params::{
     IntoPositionalError, MissingNamedParameterError, Params, ParamsConfusionError, ParamsError,

@@ -1,5 +1,5 @@
 //! What makes parameters.
-ghost use Rattle.std.specs.Prelude.{◌≡◌, ◌≢◌, ⊤, [], map, Ok, IfErr, IsErrOf, alloc_error};
+ghost use Rattle.std.specs.Prelude.{◌≡◌, ◌≢◌, [], map, Ok, IfErr, IsErrOf, alloc_error};
 ghost use Rattle.mysql_value_core.specs.declared.value.convert.ToValueError.TheVariants as to_value;
 ghost use Rattle.mysql_params_core.specs.Answer.{IsAnswer};
 ghost use Rattle.mysql_params_core.specs.Errors.{maker_refusal};
