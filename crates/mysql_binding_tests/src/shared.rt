@@ -8,7 +8,7 @@ use std::collections::HashMap;
 
 /// A value.
 #[derive(Clone, Copy, Debug)]
-pub enum Plain<'a> {
+pub(crate) enum Plain<'a> {
     Null,
     Int(i64),
     UInt(u64),
@@ -20,7 +20,7 @@ pub enum Plain<'a> {
 
 /// What is given to a query.
 #[derive(Clone, Copy, Debug)]
-pub enum Given<'a> {
+pub(crate) enum Given<'a> {
     Nothing,
     Named(&'a [(&'a [u8], Plain<'a>)]),
     Positional(&'a [Plain<'a>]),
@@ -28,7 +28,7 @@ pub enum Given<'a> {
 
 /// Why a query is refused.
 #[derive(Clone, Copy, Debug)]
-pub enum Refused<'a> {
+pub(crate) enum Refused<'a> {
     Mixed,
     Missing(&'a [u8]),
     NamedGiven,
@@ -39,7 +39,7 @@ pub enum Refused<'a> {
 }
 
 impl Plain<'_> {
-    pub fn value(self, alloc: Global) -> Result<Value, AllocError> {
+    pub(crate) fn value(self, alloc: Global) -> Result<Value, AllocError> {
         match self {
             Plain::Null => Ok(Value::NULL),
             Plain::Int(number) => Ok(Value::Int(number)),
@@ -75,7 +75,7 @@ fn positional(alloc: Global, plains: &[Plain<'_>]) -> Result<Params, AllocError>
 }
 
 impl Given<'_> {
-    pub fn params(self, alloc: Global) -> Result<Params, AllocError> {
+    pub(crate) fn params(self, alloc: Global) -> Result<Params, AllocError> {
         match self {
             Given::Nothing => Ok(Params::Empty),
             Given::Named(pairs) => named(alloc, pairs),
@@ -85,7 +85,7 @@ impl Given<'_> {
 }
 
 impl Refused<'_> {
-    pub fn error(self, alloc: Global) -> Result<BindError, AllocError> {
+    pub(crate) fn error(self, alloc: Global) -> Result<BindError, AllocError> {
         match self {
             Refused::Mixed => Ok(BindError::Mixed),
             Refused::Missing(name) => {

@@ -1,10 +1,10 @@
 //! Conversions to truth values, texts, bytes and optional things, and their way back.
 use crate::shared::{bytes, refused, refused_bytes, refuses_other_variants};
-use mysql_values::value::Value;
 use mysql_values::value::convert::{
     FromValue, FromValueError, IntoValue, OptionIr2, ParseIr, ParseIrOpt, ToValue, ToValueError,
     ValueIr, from_value, from_value_opt,
 };
+use mysql_values::value::{AsSqlError, Value};
 use std::alloc::{AllocError, Global};
 use std::borrow::{CowSlice, CowStr};
 use std::fmt::Display;
@@ -144,7 +144,21 @@ fn texts_by_std_traits(rt: HostRuntime) -> Result<(), Fail> {
     assert_eq!(rt; text.as_str(), "ab");
     let array = <[u8; 2]>::try_from(bytes(rt.alloc(), b"ab")?)?;
     assert_eq!(rt; array, *b"ab");
+    let vector = Vec::<u8>::try_from(bytes(rt.alloc(), b"ab")?)?;
+    assert_eq!(rt; vector.as_slice(), b"ab".as_slice());
     Ok(())
+}
+
+#[test]
+fn want_of_memory_by_std_traits(rt: HostRuntime) {
+    assert_eq!(rt;
+        ToValueError::from(AllocError),
+        ToValueError::Memory(AllocError)
+    );
+    assert_eq!(rt;
+        AsSqlError::from(AllocError),
+        AsSqlError::Memory(AllocError)
+    );
 }
 
 #[test]

@@ -7,12 +7,12 @@ use std::process::Abort;
 use std::test::Fail;
 
 // The value that holds these bytes.
-pub fn bytes(alloc: Global, text: &[u8]) -> Result<Value, AllocError> {
+pub(crate) fn bytes(alloc: Global, text: &[u8]) -> Result<Value, AllocError> {
     Ok(Value::Bytes(Bytes::from(Vec::from_slice(alloc, text)?)))
 }
 
 // The value converts to a thing whose own value is the wanted one.
-pub fn reads<T: FromValue + ToValue + Drop>(
+pub(crate) fn reads<T: FromValue + ToValue + Drop>(
     rt: &impl Abort,
     alloc: Global,
     value: Value,
@@ -25,7 +25,7 @@ pub fn reads<T: FromValue + ToValue + Drop>(
 }
 
 // A value that doesn't convert is handed back.
-pub fn refused<T: FromValue + Drop>(rt: &impl Abort, value: Value) -> Result<(), Fail> {
+pub(crate) fn refused<T: FromValue + Drop>(rt: &impl Abort, value: Value) -> Result<(), Fail> {
     let same = value.clone()?;
     match from_value_opt::<T>(value) {
         Ok(_) => assert!(rt; false, "{same:?} converts"),
@@ -35,7 +35,7 @@ pub fn refused<T: FromValue + Drop>(rt: &impl Abort, value: Value) -> Result<(),
 }
 
 // Bytes that don't convert are handed back.
-pub fn refused_bytes<T: FromValue + Drop>(
+pub(crate) fn refused_bytes<T: FromValue + Drop>(
     rt: &impl Abort,
     alloc: Global,
     text: &[u8],
@@ -44,7 +44,7 @@ pub fn refused_bytes<T: FromValue + Drop>(
 }
 
 // The values of no number, no text and no bytes are handed back.
-pub fn refuses_other_variants<T: FromValue + Drop>(rt: &impl Abort) -> Result<(), Fail> {
+pub(crate) fn refuses_other_variants<T: FromValue + Drop>(rt: &impl Abort) -> Result<(), Fail> {
     refused::<T>(rt, Value::NULL)?;
     refused::<T>(rt, Value::Float(0))?;
     refused::<T>(rt, Value::Double(0))?;

@@ -6,12 +6,12 @@ use std::alloc::{AllocError, Global};
 use std::collections::HashMap;
 
 // The value that holds these bytes.
-pub fn bytes(alloc: Global, text: &[u8]) -> Result<Value, AllocError> {
+pub(crate) fn bytes(alloc: Global, text: &[u8]) -> Result<Value, AllocError> {
     Ok(Value::Bytes(Bytes::from(Vec::from_slice(alloc, text)?)))
 }
 
 // A list of names of one byte each.
-pub fn names(alloc: Global, letters: &[u8]) -> Result<Vec<Vec<u8>>, AllocError> {
+pub(crate) fn names(alloc: Global, letters: &[u8]) -> Result<Vec<Vec<u8>>, AllocError> {
     let mut names = Vec::new(alloc);
     for letter in letters {
         let name = Vec::from_slice(alloc, &[*letter])?;
@@ -24,7 +24,7 @@ pub fn names(alloc: Global, letters: &[u8]) -> Result<Vec<Vec<u8>>, AllocError> 
 }
 
 // Named parameters: each letter names the number of its place, from 1 on.
-pub fn named(alloc: Global, letters: &[u8]) -> Result<Params, AllocError> {
+pub(crate) fn named(alloc: Global, letters: &[u8]) -> Result<Params, AllocError> {
     let mut entries = HashMap::new(alloc);
     for (i, letter) in letters.iter().enumerate() {
         let name = Vec::from_slice(alloc, &[*letter])?;
@@ -37,7 +37,7 @@ pub fn named(alloc: Global, letters: &[u8]) -> Result<Params, AllocError> {
 }
 
 // Positional parameters: these numbers.
-pub fn positional(alloc: Global, numbers: &[u64]) -> Result<Params, AllocError> {
+pub(crate) fn positional(alloc: Global, numbers: &[u64]) -> Result<Params, AllocError> {
     let mut values = Vec::new(alloc);
     for number in numbers {
         match values.push(Value::UInt(*number)) {

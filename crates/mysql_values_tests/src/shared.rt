@@ -17,16 +17,16 @@ pub type DateFields = (u16, u8, u8, u8, u8, u8, u32);
 pub type TimeFields = (bool, u32, u8, u8, u8, u32);
 
 // A table of plain data is cheaper to prove than one of values.
-pub fn date((year, month, day, hour, minute, second, microseconds): DateFields) -> Value {
+pub(crate) fn date((year, month, day, hour, minute, second, microseconds): DateFields) -> Value {
     Value::Date(year, month, day, hour, minute, second, microseconds)
 }
 
-pub fn time((negative, days, hours, minutes, seconds, microseconds): TimeFields) -> Value {
+pub(crate) fn time((negative, days, hours, minutes, seconds, microseconds): TimeFields) -> Value {
     Value::Time(negative, days, hours, minutes, seconds, microseconds)
 }
 
 // The value that the column reads at the front of the buffer.
-pub fn read(
+pub(crate) fn read(
     alloc: Global,
     column: ColumnType,
     flags: u16,
@@ -38,12 +38,12 @@ pub fn read(
 }
 
 // The value that holds these bytes.
-pub fn bytes(alloc: Global, text: &[u8]) -> Result<Value, AllocError> {
+pub(crate) fn bytes(alloc: Global, text: &[u8]) -> Result<Value, AllocError> {
     Ok(Value::Bytes(Bytes::from(Vec::from_slice(alloc, text)?)))
 }
 
 // The column reads the value at the front of the bytes, and leaves what is behind it.
-pub fn reads(
+pub(crate) fn reads(
     rt: &impl Abort,
     alloc: Global,
     (column, flags): (ColumnType, u16),
@@ -59,7 +59,7 @@ pub fn reads(
 }
 
 // The column refuses the bytes, and leaves them.
-pub fn refuses(
+pub(crate) fn refuses(
     rt: &impl Abort,
     alloc: Global,
     (column, flags): (ColumnType, u16),
