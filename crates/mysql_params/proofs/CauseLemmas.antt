@@ -14,7 +14,7 @@ use Rattle.mysql_named_params.proofs.ReparsedLemmas.{places_are, renamed_names, 
 use Rattle.mysql_named_params.proofs.TokenListLemmas.{one_token_list}
 use Rattle.mysql_params_core.specs.Given.{Given, ValueMap, empty, named, positional}
 use Rattle.mysql_params_core.specs.Lookup.{lookup, values_at}
-use Rattle.mysql_params.specs.FirstCause.{Cause, names_and_marks, mark_count, not_alone, float_value, mixed_cause, counts_differ, count_cause, alone_cause, first_float, float_cause, later_cause, cause_behind, first_cause}
+use Rattle.mysql_params.specs.FirstCause.{Cause, mixed_query, mark_count, not_alone, float_value, mixed_cause, counts_differ, count_cause, alone_cause, first_float, float_cause, later_cause, cause_behind, first_cause}
 use Rattle.mysql_params.specs.StandsAlone.{first_not_alone}
 use Rattle.mysql_params.proofs.ProgramLemmas.{has_both-not}
 use Rattle.mysql_params.proofs.RenamedPlaceLemmas.{renamed_alone, no_place_alone}
@@ -48,7 +48,7 @@ some_none x e = cc
 pub mixed_none : (ts : List Token) → (HasName ts × HasMark ts → ⊥) → mixed_cause ts ≡ None
 mixed_none ts h = rw (has_both-not ts h) refl
 
-pub mixed_some : (ts : List Token) → HasName ts × HasMark ts → mixed_cause ts ≡ Some names_and_marks
+pub mixed_some : (ts : List Token) → HasName ts × HasMark ts → mixed_cause ts ≡ Some mixed_query
 mixed_some ts h = rw (and_from _ _ (less _ h.0) (less _ h.1)) refl
   where
     less : (n : ℕ) → 0 < n → nat_lt 0 n ≡ true
@@ -61,7 +61,7 @@ unmixed ts e = go (length (names ts)) (marks ts) refl refl
     go : (n k : ℕ) → length (names ts) ≡ n → marks ts ≡ k → (n ≡ 0) ⊎ (k ≡ 0)
     go zero k a b = inl refl
     go (suc n) zero a b = inr refl
-    go (suc n) (suc k) a b = absurd (some_none names_and_marks (sym (mixed_some ts (omega (arith, a), omega (arith, b))) ∙ e))
+    go (suc n) (suc k) a b = absurd (some_none mixed_query (sym (mixed_some ts (omega (arith, a), omega (arith, b))) ∙ e))
 
 pub names_found : (mode : Bool) (query : List ℕ) (p : Parsed) (list : List (List ℕ)) (M : Type 0) →
     (M → ⊥) → OnTokens mode query (λ ts. p ≡ parsed ts) →

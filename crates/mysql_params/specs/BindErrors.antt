@@ -1,13 +1,13 @@
 -- What each error of binding stands for.
 use Rattle.std.specs.Prelude.{◌≡◌, ◌⊎◌, Option, Some, None, option_map, alloc_error}
 use Rattle.mysql_params_core.specs.Errors.{lookup_refusal, AreEqualParamsErrors}
-use Rattle.mysql_params.specs.FirstCause.{Cause, names_and_marks, refused_params, mark_count, not_alone, float_value}
+use Rattle.mysql_params.specs.FirstCause.{Cause, mixed_query, refused_params, mark_count, not_alone, float_value}
 use Rattle.mysql_params.specs.declared.bind_error.BindError.{BindError}
 use Rattle.mysql_params.specs.declared.bind_error.BindError.TheVariants.{Mixed, Params, MarkCount, NotAlone, Float, Memory}
 
 -- the cause that the error is; none for want of memory, also of a lookup
 abbrev pub cause_of : BindError → Option Cause
-cause_of Mixed = Some names_and_marks
+cause_of Mixed = Some mixed_query
 cause_of (Params error) = option_map refused_params (lookup_refusal error)
 cause_of (MarkCount marks values) = Some (mark_count marks values)
 cause_of (NotAlone place at) = Some (not_alone place at)

@@ -13,7 +13,7 @@ use Rattle.mysql_params.specs.StandsAlone.{first_not_alone}
 -- why binding is refused
 pub data Cause : Type 0 where
   -- the query has a name and a mark
-  names_and_marks : Cause
+  mixed_query : Cause
   -- the parameters don't give the values for its names
   refused_params : LookupRefusal → Cause
   -- it has no name, so many marks, and another number of values
@@ -25,7 +25,7 @@ pub data Cause : Type 0 where
 
 -- there is a name and a mark
 abbrev pub mixed_cause : List Token → Option Cause
-mixed_cause ts = if has_both ts then Some names_and_marks else None
+mixed_cause ts = if has_both ts then Some mixed_query else None
 
 -- so many are no names, and not as many marks as values
 abbrev pub counts_differ : ℕ → ℕ → ℕ → Bool

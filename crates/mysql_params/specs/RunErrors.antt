@@ -4,7 +4,7 @@ use Rattle.mysql_named_params.specs.Tokens.{Token}
 use Rattle.mysql_params.specs.BindErrors.{AreEqualBindErrors, cause_of}
 use Rattle.mysql_params.specs.FirstCause.{Cause}
 use Rattle.mysql_params.specs.Program.{Refusal, refused_words, mixed_query, unbound, IsOutput}
-use Rattle.mysql_params.specs.Words.{Command, usage, repeated}
+use Rattle.mysql_params.specs.Words.{Command, usage, redefined_name}
 use Rattle.mysql_params.specs.declared.run_error.RunError.{RunError}
 use Rattle.mysql_params.specs.declared.run_error.RunError.TheVariants.{Usage, Redefined, Mixed, Bind, Read, Write, Memory}
 
@@ -13,7 +13,7 @@ abbrev pub HoldsCause : RunError → Type 0
 HoldsCause (Bind error) = (cause : Cause) × (cause_of error ≡ Some cause)
 HoldsCause error = ⊤
 
--- the exit status: 1 where a name is repeated or the query is refused; 2 for other words, a failed
+-- the exit status: 1 where a name is redefined or the query is refused; 2 for other words, a failed
 -- read or write, and want of memory
 abbrev pub status_of : RunError → ℕ
 status_of Usage = 2
@@ -28,7 +28,7 @@ status_of (Memory e) = 2
 -- memory
 abbrev pub refusal_of : RunError → Option Refusal
 refusal_of Usage = Some (refused_words usage)
-refusal_of (Redefined name) = Some (refused_words (repeated name.items))
+refusal_of (Redefined name) = Some (refused_words (redefined_name name.items))
 refusal_of Mixed = Some mixed_query
 refusal_of (Bind error) = option_map unbound (cause_of error)
 refusal_of Read = None

@@ -4,7 +4,7 @@ use Rattle.std.specs.Borrow.{Bor}
 use Rattle.mysql_values.specs.declared.value.Value.{Value}
 use Rattle.mysql_params_core.specs.Given.{given}
 use Rattle.mysql_params.specs.Words as words
-use Rattle.mysql_params.specs.Words.{WordsRefusal, usage, repeated}
+use Rattle.mysql_params.specs.Words.{WordsRefusal, usage, redefined_name}
 use Rattle.mysql_params.specs.declared.words.Command.{Command}
 use Rattle.mysql_params.specs.declared.words.Command.TheVariants.{Names, Bind}
 use Rattle.mysql_params.specs.declared.words.WordsError.{WordsError}
@@ -13,7 +13,7 @@ use Rattle.mysql_params.specs.declared.words.WordsError.TheVariants.{Usage, Rede
 -- the refusal of the words that the error is; none for want of memory
 abbrev pub words_refusal : WordsError → Option WordsRefusal
 words_refusal Usage = Some usage
-words_refusal (Redefined name) = Some (repeated name.items)
+words_refusal (Redefined name) = Some (redefined_name name.items)
 words_refusal (Memory error) = None
 
 -- the command that the code's is

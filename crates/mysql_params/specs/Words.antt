@@ -15,7 +15,7 @@ pub data WordsRefusal : Type 0 where
   -- they ask for nothing that the program does
   usage : WordsRefusal
   -- this name stood before
-  repeated : List ℕ → WordsRefusal
+  redefined_name : List ℕ → WordsRefusal
 
 -- what words ask for
 pub data Command : Type 0 where
@@ -85,7 +85,7 @@ is_nameless (name, value) = length name == 0
 
 -- why named pairs are refused; no value is a duration that is too long
 abbrev pub words_refusal_of : MakerRefusal → WordsRefusal
-words_refusal_of (redefined name) = repeated name
+words_refusal_of (redefined name) = redefined_name name
 words_refusal_of (too_long duration) = usage
 
 -- what pairs with names give, taken in order

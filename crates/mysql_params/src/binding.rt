@@ -8,7 +8,7 @@ ghost use Rattle.mysql_params_core.specs.Errors.{lookup_refusal};
 ghost use Rattle.mysql_params_core.specs.Given.{given};
 ghost use Rattle.mysql_params_core.specs.Names.{names_of};
 ghost use Rattle.mysql_params.specs.BindErrors.{IsRefusal, cause_of};
-ghost use Rattle.mysql_params.specs.FirstCause.{counts_differ, first_cause, later_cause, mixed_cause, names_and_marks, refused_params};
+ghost use Rattle.mysql_params.specs.FirstCause.{counts_differ, first_cause, later_cause, mixed_cause, mixed_query, refused_params};
 ghost use Rattle.mysql_params.specs.Isolation.{IsBoundText};
 
 mod literals;
@@ -43,7 +43,7 @@ fn query_names(alloc: Global, query: &[u8]) -> Result<Vec<Vec<u8>>, BindError>
         (mixed_cause ts ≡ None) × (names_of list.items ≡ names ts))) }
     ensures refused { OnTokens with_backslashes query.now (λ ts. IfErr result (λ error.
         ((error ≡ BindError.Memory alloc_error) × (mixed_cause ts ≡ None))
-        ⊎ ((error ≡ BindError.Mixed) × (mixed_cause ts ≡ Some names_and_marks)))) }
+        ⊎ ((error ≡ BindError.Mixed) × (mixed_cause ts ≡ Some mixed_query)))) }
 {
     match ParsedNamedParams::parse(alloc, query) {
         Ok(parsed) => match copied(alloc, parsed.params()) {

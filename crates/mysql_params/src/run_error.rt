@@ -37,7 +37,7 @@ pub enum RunError {
 impl RunError {
     ghost use Rattle.mysql_params.specs.RunErrors.{status_of};
 
-    /// The exit status of the program: 1 where a name is repeated or the query is refused, and
+    /// The exit status of the program: 1 where a name is redefined or the query is refused, and
     /// otherwise 2.
     pub fn status(&self) -> u8
         ensures status { result ≡ status_of self.now }

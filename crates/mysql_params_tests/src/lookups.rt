@@ -3,87 +3,47 @@ use crate::shared::{bytes, named, names, positional};
 use mysql_params::params::{
     IntoPositionalError, MissingNamedParameterError, Params, ParamsConfusionError, ParamsError,
 };
+use std::alloc::{AllocError, Global};
 use std::test::Fail;
 
-// The numbers of the names, or the name that is missing, by `into_values` and `into_positional`.
-#[derive(Drop)]
-struct Row {
-    given: &'static [u8],
-    names: &'static [u8],
-    values: &'static [u64],
-    missing: Option<(u8, u8)>,
+/// The names that are given, those of the query, the numbers of these names, and where one is missing
+/// which `into_values` and which `into_positional` reports.
+const LOOKUPS: &[(&[u8], &[u8], &[u64], Option<(u8, u8)>)] = &[
+    // The names that are there are exactly a beginning: the last of the list is reported.
+    (b"a", b"abc", &[], Some((b'c', b'b'))),
+    (b"", b"ab", &[], Some((b'b', b'a'))),
+    (b"ab", b"abc", &[], Some((b'c', b'c'))),
+    // They are not: it is the first that is missing.
+    (b"a", b"aba", &[], Some((b'b', b'b'))),
+    (b"b", b"abc", &[], Some((b'a', b'a'))),
+    // A repeated name has its value at each place; names that are not listed are ignored.
+    (b"a", b"aa", &[1, 1], None),
+    (b"abc", b"cac", &[3, 1, 3], None),
+];
+
+fn misses(alloc: Global, letter: u8) -> Result<MissingNamedParameterError, AllocError> {
+    let name = Vec::from_slice(alloc, &[letter])?;
+    Ok(MissingNamedParameterError(name))
 }
 
 #[test]
 fn named_parameters(rt: HostRuntime) -> Result<(), Fail> {
     let alloc = rt.alloc();
-    let table = [
-        // The names that are there are exactly a beginning: the last of the list is reported.
-        Row {
-            given: b"a",
-            names: b"abc",
-            values: &[],
-            missing: Some((b'c', b'b')),
-        },
-        Row {
-            given: b"",
-            names: b"ab",
-            values: &[],
-            missing: Some((b'b', b'a')),
-        },
-        Row {
-            given: b"ab",
-            names: b"abc",
-            values: &[],
-            missing: Some((b'c', b'c')),
-        },
-        // They are not: it is the first that is missing.
-        Row {
-            given: b"a",
-            names: b"aba",
-            values: &[],
-            missing: Some((b'b', b'b')),
-        },
-        Row {
-            given: b"b",
-            names: b"abc",
-            values: &[],
-            missing: Some((b'a', b'a')),
-        },
-        // A repeated name has its value at each place; names that are not listed are ignored.
-        Row {
-            given: b"a",
-            names: b"aa",
-            values: &[1, 1],
-            missing: None,
-        },
-        Row {
-            given: b"abc",
-            names: b"cac",
-            values: &[3, 1, 3],
-            missing: None,
-        },
-    ];
-    for row in &table {
-        let case = row.names;
-        let wanted = positional(alloc, row.values)?;
-        let list = names(alloc, row.names)?;
-        let values = named(alloc, row.given)?.into_values(alloc, Some(list.as_slice()));
-        let by_position = named(alloc, row.given)?.into_positional(alloc, list.as_slice());
-        match row.missing {
+    for (given, case, numbers, missing) in LOOKUPS {
+        let wanted = positional(alloc, *numbers)?;
+        let list = names(alloc, *case)?;
+        let values = named(alloc, *given)?.into_values(alloc, Some(list.as_slice()));
+        let by_position = named(alloc, *given)?.into_positional(alloc, list.as_slice());
+        match missing {
             None => {
                 assert_eq!(rt; Params::Positional(values?), wanted, "{case:?}");
                 assert_eq!(rt; by_position?, wanted, "{case:?}");
             }
             Some((by_values, first)) => {
-                let error = MissingNamedParameterError(Vec::from_slice(alloc, &[by_values])?);
-                assert_eq!(rt; values.err(), Some(ParamsError::Missing(error)), "{case:?}");
-                let error = MissingNamedParameterError(Vec::from_slice(alloc, &[first])?);
-                assert_eq!(rt;
-                    by_position.err(),
-                    Some(IntoPositionalError::Missing(error)),
-                    "{case:?}"
-                );
+                let error = ParamsError::Missing(misses(alloc, *by_values)?);
+                assert_eq!(rt; values.err(), Some(error), "{case:?}");
+                let error = IntoPositionalError::Missing(misses(alloc, *first)?);
+                assert_eq!(rt; by_position.err(), Some(error), "{case:?}");
             }
         }
     }
