@@ -52,7 +52,7 @@ impl ToName for String {
     ghost name = { string_bytes };
 
     fn name_bytes(&self) -> &[u8] {
-        self.as_bytes()
+        self.as_str().as_bytes()
     }
 }
 
