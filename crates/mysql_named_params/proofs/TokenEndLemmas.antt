@@ -4,9 +4,9 @@ use Rattle.std.specs.List.{starts_with}
 use Rattle.std.proofs.lemmas.List.{drop_more, drop_all, take_rest}
 use Rattle.std.proofs.lemmas.Bool.{cases_Bool, and_from, eqb-true, eqb-false}
 use Rattle.mysql_named_params.specs.Bytes.{is_name_byte, Lacks, HoldsOnlyAtEnd, IsUpTo, up_to_word, up_to_end}
-use Rattle.mysql_values.specs.StringUnits.{is_escape}
+use Rattle.mysql_sql_text.specs.StringUnits.{is_escape}
 use Rattle.mysql_named_params.specs.Tokens.{IsStringTail, closed_string, open_string, open_in_escape}
-use Rattle.mysql_values.specs.StringUnits.{no_units, byte_unit, escape_unit}
+use Rattle.mysql_sql_text.specs.StringUnits.{no_units, byte_unit, escape_unit}
 use Rattle.mysql_named_params.specs.FirstToken.{IsNameFront}
 use Rattle.mysql_named_params.proofs.TokenEnds.{begins_with, len_up_to, string_len, name_len, begins_with_front, word_begins}
 

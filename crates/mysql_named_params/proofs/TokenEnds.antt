@@ -3,10 +3,10 @@ use Rattle.std.proofs.Common.{◌≡◌, ◌≢◌, ℕ, suc, ◌+◌, ◌≤◌
 use Rattle.std.specs.List.{list_all}
 use Rattle.std.proofs.lemmas.Bool.{cases_Bool, and_parts, or_cases, eqb-true}
 use Rattle.mysql_named_params.specs.Bytes.{asterisk, backquote, colon, dash, double_quote, hash, newline, question_mark, single_quote, slash, is_start_byte, is_name_byte, is_quote, begins, Lacks, HoldsOnlyAtEnd, IsUpTo, up_to_word, up_to_end}
-use Rattle.mysql_values.specs.StringUnits.{is_escape}
+use Rattle.mysql_sql_text.specs.StringUnits.{is_escape}
 use Rattle.mysql_named_params.specs.FirstToken.{opens_dash_comment, opens_block_comment}
 use Rattle.mysql_named_params.specs.Tokens.{Token, bytes_of, IsNotPlain, IsToken, IsStringTail, closed_string, open_string, open_in_escape, QuotedString, QuotedIdentifier, HashComment, DashComment, BlockComment, Name, Mark, Plain}
-use Rattle.mysql_values.specs.StringUnits.{AreUnits, no_units, byte_unit, escape_unit}
+use Rattle.mysql_sql_text.specs.StringUnits.{AreUnits, no_units, byte_unit, escape_unit}
 
 -- the text begins with the word
 abbrev pub begins_with : List ℕ → List ℕ → Bool

@@ -1,6 +1,6 @@
 -- How far a token looks at what follows it.
 use Rattle.std.specs.Prelude.{◌≡◌, ◌==◌, ◌||◌, ℕ, if◌then◌else◌, Bool, IsTrue, List, [], ◌∷◌, ◌++◌, take}
-use Rattle.mysql_values.specs.StringUnits.{is_escape, AreUnits}
+use Rattle.mysql_sql_text.specs.StringUnits.{is_escape, AreUnits}
 use Rattle.mysql_named_params.specs.Bytes.{asterisk, backquote, colon, dash, newline, slash, Lacks}
 use Rattle.mysql_named_params.specs.Tokens.{Token, QuotedString, QuotedIdentifier, HashComment, DashComment, BlockComment, Name, Plain}
 

@@ -4,7 +4,7 @@
 use Rattle.std.specs.Prelude.{◌≡◌, ◌≢◌, ℕ, IsTrue, IsFalse, Bool, List, [], ◌∷◌, ◌++◌, ⊤}
 use Rattle.std.specs.List.{list_all}
 use Rattle.mysql_named_params.specs.Bytes.{asterisk, backquote, colon, dash, hash, newline, question_mark, slash, is_white_space, is_start_byte, is_name_byte, is_quote, is_extension, begins, IsUpTo}
-use Rattle.mysql_values.specs.StringUnits.{is_escape, AreUnits}
+use Rattle.mysql_sql_text.specs.StringUnits.{is_escape, AreUnits}
 
 -- a token, by its kind and those of its bytes that the kind leaves open
 pub data Token : Type 0 where

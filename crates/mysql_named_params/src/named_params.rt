@@ -2,7 +2,7 @@
 ghost use Rattle.std.specs.Prelude.{◌≡◌, ◌≢◌, ◌<◌, ◌↔◌, [], length, map, All, IfOk, IsErrOf, IsTrue, OnErr, alloc_error};
 ghost use Rattle.std.specs.Cow.{cow_slice_items, IsBorrowedSlice};
 ghost use Rattle.std.specs.Cmp.{partial_equiv_from_equiv};
-ghost use Rattle.mysql_values.specs.StringUnits.{with_backslashes};
+ghost use Rattle.mysql_sql_text.specs.StringUnits.{with_backslashes};
 ghost use Rattle.mysql_named_params.specs.Tokens.{OnTokens, text_of};
 ghost use Rattle.mysql_named_params.specs.Places.{names, marks, restored, HasName, HasMark};
 ghost use Rattle.mysql_named_params.specs.Parsed.{parsed, same_parsed};

@@ -1,7 +1,7 @@
 //! The token at the front of a text, and how many names and marks a query has. `mysql_params` binds
 //! values by these; no user of it needs them.
 ghost use Rattle.std.specs.Prelude.{◌≡◌, ◌+◌, ◌<◌, ◌≤◌, length, take, drop, IsTrue};
-ghost use Rattle.mysql_values.specs.StringUnits.{is_escape};
+ghost use Rattle.mysql_sql_text.specs.StringUnits.{is_escape};
 ghost use Rattle.mysql_named_params.specs.Bytes.{is_white_space, is_start_byte, is_name_byte, is_quote, begins, IsUpTo};
 ghost use Rattle.mysql_named_params.specs.Tokens.{IsStringTail, OnTokens};
 ghost use Rattle.mysql_named_params.specs.Places.{names, marks};

@@ -1,4 +1,4 @@
-//! Named and positional parameters of MySQL queries.
+//! Named and positional parameters of MySQL queries: the front door, which hands all on by name.
 //!
 //! A query is bytes. [`named_params`] finds the names and marks outside its strings, quoted
 //! identifiers and comments; [`params`] are what is given to them, and [`bind_text`] puts the
@@ -6,17 +6,9 @@
 //! `bind`, for any reader and writer.
 #![tactic(auto)]
 
-mod bind_error;
-mod binding;
 pub mod laws;
 pub mod named_params;
 pub mod params;
-mod program;
-mod readers_and_writers;
-mod run_error;
-mod words;
 
-pub use bind_error::BindError;
-pub use binding::bind_text;
-pub use program::run;
-pub use run_error::RunError;
+pub use mysql_binding::{BindError, bind_text};
+pub use mysql_program::{RunError, run};

@@ -15,23 +15,24 @@ use lib.Signed.{mag}
 use Rattle.mysql_value_core.specs.declared.value.Value.{Value}
 use Rattle.mysql_value_core.specs.declared.value.Value.TheVariants.{NULL, Bytes, Int, UInt, Float, Double, Date, Time}
 use Rattle.mysql_value_core.specs.Value.{FieldsInRange}
-use Rattle.mysql_literal_text.specs.LiteralText.{escaped, quoted, hexadecimal, bytes_literal, date_text, time_text}
+use Rattle.mysql_sql_text.specs.LiteralText.{escaped, quoted, hexadecimal, bytes_literal, date_text, time_text}
 use Rattle.mysql_value_core.specs.Literal.{literal_of, is_float}
-use Rattle.mysql_value_core.specs.ReadLiteral.{byte_string, is_digit, read_literal}
+use Rattle.mysql_sql_text.specs.ReadLiteral.{byte_string, is_digit, read_literal}
 use Rattle.mysql_value_core.specs.Content.{content_of}
-use Rattle.mysql_value_core.specs.ReadBack.{is_quote, continues_literal, BeginsWithout, ReadsBefore, ReadsAs}
+use Rattle.mysql_sql_text.specs.LiteralEnd.{is_single_quote, continues_literal, BeginsWithout, ReadsBefore}
+use Rattle.mysql_value_core.specs.ReadBack.{ReadsAs}
 use Rattle.mysql_value_core.specs.TimeLiteral.{WritesTimeText}
-use Rattle.mysql_literal_text.specs.TimeText.{total_microseconds}
-use Rattle.mysql_literal_text.proofs.TimeTextLemmas.{time_texts_are_read}
-use Rattle.mysql_literal_text.proofs.WrittenTimeLemmas.{times_read_back}
-use Rattle.mysql_value_core.specs.LiteralShape.{AreDigits, IsLiteral, null_literal, natural_literal, negative_literal, hexadecimal_literal, quoted_literal}
-use Rattle.mysql_value_core.proofs.DigitLemmas.{all_digits-decimal}
-use Rattle.mysql_value_core.proofs.ReadStringLemmas.{read_quoted}
-use Rattle.mysql_value_core.proofs.ReadNumberLemmas.{begins_narrower, decimal_reads, signed_reads}
-use Rattle.mysql_value_core.proofs.HexadecimalLemmas.{hexadecimal_reads, AreHexadecimalPairs-hexadecimal, IsAscii-hexadecimal}
-use Rattle.mysql_value_core.proofs.ClockLemmas.{IsClockText, IsClockText-date_text, IsClockText-time_text, escaped-clock, IsAscii-clock}
-use Rattle.mysql_value_core.proofs.EscapedLemmas.{IsUtf8-escaped, IsUtf8-quoted}
-use Rattle.mysql_value_core.proofs.QuotedLemmas.{IsQuoted-escaped}
+use Rattle.mysql_sql_text.specs.TimeText.{total_microseconds}
+use Rattle.mysql_sql_text.proofs.TimeTextLemmas.{time_texts_are_read}
+use Rattle.mysql_sql_text.proofs.WrittenTimeLemmas.{times_read_back}
+use Rattle.mysql_sql_text.specs.LiteralShape.{AreDigits, IsLiteral, null_literal, natural_literal, negative_literal, hexadecimal_literal, quoted_literal}
+use Rattle.mysql_sql_text.proofs.ReadDigitLemmas.{all_digits-decimal}
+use Rattle.mysql_sql_text.proofs.ReadStringLemmas.{read_quoted}
+use Rattle.mysql_sql_text.proofs.ReadNumberLemmas.{begins_narrower, decimal_reads, signed_reads}
+use Rattle.mysql_sql_text.proofs.HexadecimalLemmas.{hexadecimal_reads, AreHexadecimalPairs-hexadecimal, IsAscii-hexadecimal}
+use Rattle.mysql_sql_text.proofs.ClockLemmas.{IsClockText, IsClockText-date_text, IsClockText-time_text, escaped-clock, IsAscii-clock}
+use Rattle.mysql_sql_text.proofs.EscapedLemmas.{IsUtf8-escaped, IsUtf8-quoted}
+use Rattle.mysql_sql_text.proofs.QuotedLemmas.{IsQuoted-escaped}
 
 -- bytes that are not UTF-8 are not empty
 nonempty : (bytes : List ℕ) → is_utf8 bytes ≡ false → 0 < length bytes
@@ -52,11 +53,11 @@ time_clock negative days hours minutes seconds micros r =
 
 -- reading back
 
-not_quote : (b : ℕ) → continues_literal b ≡ false → is_quote b ≡ false
+not_quote : (b : ℕ) → continues_literal b ≡ false → is_single_quote b ≡ false
 not_quote b h = grind (arith, nat_tests)
 
-before_no_quote : (rest : List ℕ) → BeginsWithout continues_literal rest → BeginsWithout is_quote rest
-before_no_quote rest h = begins_narrower continues_literal is_quote not_quote rest h
+before_no_quote : (rest : List ℕ) → BeginsWithout continues_literal rest → BeginsWithout is_single_quote rest
+before_no_quote rest h = begins_narrower continues_literal is_single_quote not_quote rest h
 
 clock_reads : (mode : Bool) (text : List ℕ) → IsClockText text
     → ReadsBefore continues_literal mode (quoted text) (byte_string text)
@@ -72,7 +73,7 @@ bytes_read mode bytes small =
     (λ other. hexadecimal_reads mode bytes small (nonempty bytes other))
 
 utf8_bytes_read : (mode : Bool) (bytes : List ℕ) → is_utf8 bytes ≡ true
-    → ReadsBefore is_quote mode (bytes_literal mode bytes) (byte_string bytes)
+    → ReadsBefore is_single_quote mode (bytes_literal mode bytes) (byte_string bytes)
 utf8_bytes_read mode bytes utf8 rest h =
     ap (λ t. read_literal mode (t ++ rest)) (cond-true (is_utf8 bytes) _ _ utf8) ∙ read_quoted mode bytes rest h
 

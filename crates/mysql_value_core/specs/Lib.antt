@@ -1,13 +1,10 @@
 pub mod Bytes
 pub mod Value
 pub mod ValueOrder
-pub mod StringUnits
 pub mod Literal
-pub mod ReadLiteral
 pub mod Content
 pub mod ReadBack
 pub mod AsSql
-pub mod LiteralShape
 pub mod TimeLiteral
 pub mod TextCell
 pub mod BinaryForm

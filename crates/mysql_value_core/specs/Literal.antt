@@ -1,9 +1,9 @@
 -- The SQL literal of a value (MySQL Reference Manual, "Literal Values"), of the texts that
--- mysql_literal_text defines. A mode is the flag `no_backslash_escape`: `true` is the mode without
+-- mysql_sql_text defines. A mode is the flag `no_backslash_escape`: `true` is the mode without
 -- backslash escapes.
 use Rattle.std.specs.Prelude.{ℕ, Bool, true, false, List, codes, Option, Some, None}
 use Rattle.std.specs.Fmt.{decimal, signed_decimal}
-use Rattle.mysql_literal_text.specs.LiteralText.{bytes_literal, date_text, quoted, time_text}
+use Rattle.mysql_sql_text.specs.LiteralText.{bytes_literal, date_text, quoted, time_text}
 use Rattle.mysql_value_core.specs.declared.value.Value.{Value}
 use Rattle.mysql_value_core.specs.declared.value.Value.TheVariants.{NULL, Bytes, Int, UInt, Float, Double, Date, Time}
 

@@ -13,8 +13,7 @@ use crate::bytes::Bytes;
 use crate::value::convert::{FromValueError, ToValueError};
 use crate::value::{ClientSide, SerializationSide, ServerSide, Value};
 pub use literals::{
-    as_sql_error_equality, escapes_read, floats_have_no_literal, literal_reads_back, literal_shape,
-    numbers_read,
+    as_sql_error_equality, floats_have_no_literal, literal_reads_back, literal_shape,
 };
 use std::cmp::Ordering;
 

@@ -1,7 +1,7 @@
 -- Decimal texts: an optional sign and one or more ASCII digits, of any length.
 use Rattle.std.specs.Prelude.{ℕ, ◌==◌, if◌then◌else◌, Bool, true, false, ℤ, pos, neg_ℤ, List, [], ◌∷◌, Option, None}
 use Rattle.std.specs.Option.{option_map}
-use Rattle.mysql_literal_text.specs.Digits.{value_of_digits}
+use Rattle.mysql_sql_text.specs.Digits.{value_of_digits}
 
 -- b'+'
 abbrev pub plus_sign : ℕ

@@ -2,8 +2,8 @@
 use Rattle.std.specs.Prelude.{◌≡◌, ℕ, ◌*◌, Bool, true, false, List, Ok, Err, Option, None, Some, ⊤}
 use Rattle.std.specs.Option.{option_map, option_and_then}
 use Rattle.std.specs.declared.time.Duration.{Duration}
-use Rattle.mysql_literal_text.specs.TimeText.{total_microseconds}
-use Rattle.mysql_literal_text.specs.ReadTimeText.{time_of_text}
+use Rattle.mysql_sql_text.specs.TimeText.{total_microseconds}
+use Rattle.mysql_sql_text.specs.ReadTimeText.{time_of_text}
 use Rattle.mysql_value_core.specs.ValueOf.{Meaning}
 use Rattle.mysql_value_core.specs.DurationValue.{duration_value, rounded_microseconds}
 use Rattle.mysql_value_core.specs.declared.value.Value.{Value}

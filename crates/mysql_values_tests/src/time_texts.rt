@@ -1,5 +1,5 @@
 //! The reader of time texts.
-use mysql_literal_text::time_text::read_time_text;
+use mysql_sql_text::time_text::read_time_text;
 use std::test::Fail;
 
 #[test]

@@ -1,3 +1,4 @@
+pub mod Answer
 pub mod Reading
 pub mod Lenenc
 pub mod ParseBuf

@@ -8,7 +8,7 @@ ghost use Rattle.mysql_value_core.specs.ReadBack.{ReadsAs};
 ghost use Rattle.mysql_value_core.specs.TimeLiteral.{WritesTimeText};
 
 use crate::value::Value;
-use mysql_literal_text::{dates, numbers, strings};
+use mysql_sql_text::{dates, numbers, strings};
 use std::alloc::{AllocError, Global};
 use thiserror::Error;
 

@@ -2,7 +2,7 @@
 ghost use Rattle.std.specs.Prelude.{◌≡◌, ◌≤◌, ◌^◌, Some, IfSome, IfNone, unsigned_abs};
 ghost use Rattle.mysql_values.specs.Decimal.{decimal_number, signed};
 
-use mysql_literal_text::digits::value_of_digits;
+use mysql_sql_text::digits::value_of_digits;
 
 /// Whether the number of a decimal text is negative, and its magnitude; none where the text is no
 /// decimal one or where 128 bits do not hold the magnitude.

@@ -2,7 +2,7 @@
 ghost use Rattle.std.specs.Prelude.{◌≡◌, ◌*◌, ℕ, IfOk};
 ghost use Rattle.std.specs.Option.{option_map};
 ghost use Rattle.std.specs.Duration.{as_nanos};
-ghost use Rattle.mysql_literal_text.specs.TimeText.{total_microseconds};
+ghost use Rattle.mysql_sql_text.specs.TimeText.{total_microseconds};
 ghost use Rattle.mysql_value_core.specs.DurationValue.{duration_value};
 ghost use Rattle.mysql_value_core.specs.FromValue.{ConvertsOrHandsBack};
 ghost use Rattle.mysql_values.specs.DurationConversion.{duration_conversion, nanoseconds_of_text, seen_parsed};
@@ -12,7 +12,7 @@ ghost use Rattle.mysql_values.specs.declared.value.convert.intermediate.ParseIrO
 
 use crate::value::Value;
 use crate::value::convert::{FromValue, FromValueError, ParseIrOpt};
-use mysql_literal_text::time_text::read_time_text;
+use mysql_sql_text::time_text::read_time_text;
 use std::time::Duration;
 
 const MICROSECONDS_PER_SECOND: u32 = 1_000_000;

@@ -1,0 +1,249 @@
+-- The first cause for which binding is refused.
+use Rattle.std.specs.Prelude.{Ok, ok_or, option_map, nat_lt}
+use Rattle.std.specs.Option.{option_or, option_and_then}
+use Rattle.std.specs.FinMap.{get}
+use Rattle.std.proofs.Common.{◌≡◌, ◌≢◌, ◌⊎◌, ◌↔◌, ◌==◌, inl, inr, Bool, true, false, ℕ, zero, suc, ◌+◌, ◌<◌, List, [], ◌∷◌, length, refl, sym, ap, ◌∙◌, arith, subst, Option, Some, None, eq-eqb, true≢false}
+use Rattle.std.proofs.lemmas.Bool.{cases_Bool, eqb-true, and_from}
+use Rattle.std.proofs.lemmas.Bool.Decides.{nat_tests}
+use Rattle.std.proofs.lemmas.List.{nil_from_length}
+use Rattle.mysql_values.specs.declared.value.Value.{Value}
+use Rattle.mysql_named_params.specs.Tokens.{Token, IsTokens, OnTokens, AreTokensBefore}
+use Rattle.mysql_named_params.specs.Places.{names, marks, renamed, place_count, HasName, HasMark}
+use Rattle.mysql_named_params.specs.Parsed.{Parsed, parsed}
+use Rattle.mysql_named_params.proofs.ReparsedLemmas.{places_are, renamed_names, renamed_marks}
+use Rattle.mysql_named_params.proofs.TokenListLemmas.{one_token_list}
+use Rattle.mysql_params_core.specs.Given.{Given, ValueMap, empty, named, positional}
+use Rattle.mysql_params_core.specs.Lookup.{lookup, values_at}
+use Rattle.mysql_binding.specs.FirstCause.{Cause, mixed_query, mark_count, not_alone, float_value, mixed_cause, counts_differ, count_cause, alone_cause, first_float, float_cause, later_cause, cause_behind, first_cause}
+use Rattle.mysql_binding.specs.StandsAlone.{first_not_alone}
+use Rattle.mysql_program.proofs.ProgramLemmas.{has_both-not}
+use Rattle.mysql_binding.proofs.RenamedPlaceLemmas.{renamed_alone, no_place_alone}
+
+-- ---- what several calls say of the tokens of one query
+
+pub on_both : (mode : Bool) (query : List ℕ) (P Q : List Token → Type 0) →
+    OnTokens mode query P → OnTokens mode query Q → OnTokens mode query (λ ts. P ts × Q ts)
+on_both mode query P Q a b = (a.0, a.1, (a.2, subst Q (one_token_list mode query b.0 a.0 b.1 a.1) b.2))
+
+pub on_map : (mode : Bool) (query : List ℕ) (P Q : List Token → Type 0) →
+    ((ts : List Token) → IsTokens mode query ts → P ts → Q ts) →
+    OnTokens mode query P → OnTokens mode query Q
+on_map mode query P Q f a = (a.0, a.1, f a.0 a.1 a.2)
+
+-- ---- options
+
+or_none : {A : Type 0} (a b : Option A) → option_or a b ≡ None → (a ≡ None) × (b ≡ None)
+or_none None b e = (refl, e)
+or_none (Some x) b e = cc
+
+map_none : {A B : Type 0} (f : A → B) (x : Option A) → option_map f x ≡ None → x ≡ None
+map_none f None e = refl
+map_none f (Some x) e = cc
+
+some_none : {A : Type 0} (x : A) → Some x ≢ None
+some_none x e = cc
+
+-- ---- names and marks in one query
+
+pub mixed_none : (ts : List Token) → (HasName ts × HasMark ts → ⊥) → mixed_cause ts ≡ None
+mixed_none ts h = rw (has_both-not ts h) refl
+
+pub mixed_some : (ts : List Token) → HasName ts × HasMark ts → mixed_cause ts ≡ Some mixed_query
+mixed_some ts h = rw (and_from _ _ (less _ h.0) (less _ h.1)) refl
+  where
+    less : (n : ℕ) → 0 < n → nat_lt 0 n ≡ true
+    less n h = grind (arith, nat_tests)
+
+-- without the cause there is no name, or no mark
+unmixed : (ts : List Token) → mixed_cause ts ≡ None → (length (names ts) ≡ 0) ⊎ (marks ts ≡ 0)
+unmixed ts e = go (length (names ts)) (marks ts) refl refl
+  where
+    go : (n k : ℕ) → length (names ts) ≡ n → marks ts ≡ k → (n ≡ 0) ⊎ (k ≡ 0)
+    go zero k a b = inl refl
+    go (suc n) zero a b = inr refl
+    go (suc n) (suc k) a b = absurd (some_none mixed_query (sym (mixed_some ts (omega (arith, a), omega (arith, b))) ∙ e))
+
+pub names_found : (mode : Bool) (query : List ℕ) (p : Parsed) (list : List (List ℕ)) (M : Type 0) →
+    (M → ⊥) → OnTokens mode query (λ ts. p ≡ parsed ts) →
+    OnTokens mode query (λ ts. M ↔ (HasName ts × HasMark ts)) → list ≡ p.params →
+    OnTokens mode query (λ ts. (mixed_cause ts ≡ None) × (list ≡ names ts))
+names_found mode query p list M never a b e =
+    on_map mode query _ _ (λ ts is h. (mixed_none ts (λ k. never (h.1.1 k)), e ∙ ap (λ (r : Parsed). r.params) h.0))
+    (on_both mode query (λ ts. p ≡ parsed ts) (λ ts. M ↔ (HasName ts × HasMark ts)) a b)
+
+-- ---- the number of marks
+
+counts_same : (k v : ℕ) → k ≡ v → counts_differ 0 k v ≡ false
+counts_same k v e = rw (eq-eqb k v e) refl
+
+same_counts : (k v : ℕ) → counts_differ 0 k v ≡ false → k ≡ v
+same_counts k v e = elim (cases_Bool (k == v)) [ inl h ↦ eqb-true k v h | inr h ↦ absurd (apart h) ]
+  where
+    apart : (k == v) ≡ false → ⊥
+    apart h =
+        let is : counts_differ 0 k v ≡ true = rw h refl in
+        true≢false (sym is ∙ e)
+
+count_some : (ts : List Token) (values : List Value) →
+    counts_differ (length (names ts)) (marks ts) (length values) ≡ true →
+    count_cause ts values ≡ Some (mark_count (marks ts) (length values))
+count_some ts values e = rw e refl
+
+count_none : (ts : List Token) (values : List Value) →
+    counts_differ (length (names ts)) (marks ts) (length values) ≡ false → count_cause ts values ≡ None
+count_none ts values e = rw e refl
+
+none_count : (ts : List Token) (values : List Value) → count_cause ts values ≡ None →
+    counts_differ (length (names ts)) (marks ts) (length values) ≡ false
+none_count ts values e =
+    elim (cases_Bool (counts_differ (length (names ts)) (marks ts) (length values))) [
+      | inl h ↦ absurd (some_none _ (sym (count_some ts values h) ∙ e))
+      | inr h ↦ h
+    ]
+
+-- ---- the causes behind the lookup, as the code finds them
+
+later_by : (ts : List Token) (values : List Value) (a b c : Option Cause) →
+    count_cause ts values ≡ a →
+    alone_cause ts ≡ b → float_cause values ≡ c → later_cause ts values ≡ option_or a (option_or b c)
+later_by ts values a b c e f g =
+    ap (λ x. option_or x (option_or (alone_cause ts) (float_cause values))) e
+    ∙ (ap (λ x. option_or a (option_or x (float_cause values))) f ∙ ap (λ x. option_or a (option_or b x)) g)
+
+abbrev Counted : ℕ → ℕ → List Token → Type 0
+Counted n k ts = (n ≡ length (names ts)) × (k ≡ marks ts)
+
+pub later_is_count : (mode : Bool) (query : List ℕ) (n k : ℕ) (values : List Value) →
+    OnTokens mode query (λ ts. (n ≡ length (names ts)) × (k ≡ marks ts)) →
+    counts_differ n k (length values) ≡ true →
+    OnTokens mode query (λ ts. Some (Some (mark_count k (length values))) ≡ option_map Some (later_cause ts values))
+later_is_count mode query n k values counted e =
+    on_map mode query (Counted n k) (λ ts. Some (Some (mark_count k (length values))) ≡ option_map Some (later_cause ts values))
+    (λ ts is h. sym (ap (option_map Some) (later_by ts values _ _ _ (first ts h) refl refl))) counted
+  where
+    first : (ts : List Token) → Counted n k ts →
+        count_cause ts values ≡ Some (mark_count k (length values))
+    first ts h =
+        count_some ts values (ap (λ x. counts_differ x (marks ts) (length values)) (sym h.0) ∙ (ap (λ x. counts_differ n x (length values)) (sym h.1) ∙ e))
+        ∙ ap (λ x. Some (mark_count x (length values))) (sym h.1)
+
+no_count : (ts : List Token) (n k : ℕ) (values : List Value) → Counted n k ts →
+    counts_differ n k (length values) ≡ false → count_cause ts values ≡ None
+no_count ts n k values h e =
+    count_none ts values (ap (λ x. counts_differ x (marks ts) (length values)) (sym h.0) ∙ (ap (λ x. counts_differ n x (length values)) (sym h.1) ∙ e))
+
+pub later_is_alone : (mode : Bool) (query : List ℕ) (n k place at : ℕ) (values : List Value) →
+    OnTokens mode query (λ ts. (n ≡ length (names ts)) × (k ≡ marks ts)) →
+    counts_differ n k (length values) ≡ false →
+    OnTokens mode query (λ ts. Some (place, at) ≡ first_not_alone ts) →
+    OnTokens mode query (λ ts. Some (Some (not_alone place at)) ≡ option_map Some (later_cause ts values))
+later_is_alone mode query n k place at values counted e found =
+    on_map mode query (λ ts. Counted n k ts × (Some (place, at) ≡ first_not_alone ts)) (λ ts. Some (Some (not_alone place at)) ≡ option_map Some (later_cause ts values))
+    (λ ts is h. sym (ap (option_map Some) (later_by ts values None (Some (not_alone place at)) _ (no_count ts n k values h.0 e) (ap (option_map (λ p. not_alone p.0 p.1)) (sym h.1)) refl)))
+    (on_both mode query (Counted n k) (λ ts. Some (place, at) ≡ first_not_alone ts) counted found)
+
+pub later_is_float : (mode : Bool) (query : List ℕ) (n k : ℕ) (values : List Value) (place : Option ℕ) →
+    OnTokens mode query (λ ts. (n ≡ length (names ts)) × (k ≡ marks ts)) →
+    counts_differ n k (length values) ≡ false →
+    OnTokens mode query (λ ts. None ≡ first_not_alone ts) → place ≡ first_float values →
+    OnTokens mode query (λ ts. option_map Some (option_map float_value place) ≡ option_map Some (later_cause ts values))
+later_is_float mode query n k values place counted e found f =
+    on_map mode query (λ ts. Counted n k ts × (None ≡ first_not_alone ts)) (λ ts. option_map Some (option_map float_value place) ≡ option_map Some (later_cause ts values))
+    (λ ts is h. sym (ap (option_map Some) (later_by ts values None None (option_map float_value place) (no_count ts n k values h.0 e) (ap (option_map (λ p. not_alone p.0 p.1)) (sym h.1)) (ap (option_map float_value) (sym f)))))
+    (on_both mode query (Counted n k) (λ ts. None ≡ first_not_alone ts) counted found)
+
+-- ---- no cause
+
+pub no_place_out : (ts : List Token) (values : List Value) → later_cause ts values ≡ None →
+    first_not_alone ts ≡ None
+no_place_out ts values e = map_none _ (first_not_alone ts) (or_none (alone_cause ts) (float_cause values) (or_none (count_cause ts values) _ e).1).0
+
+pub no_float_cause : (ts : List Token) (values : List Value) → later_cause ts values ≡ None →
+    float_cause values ≡ None
+no_float_cause ts values e = (or_none (alone_cause ts) (float_cause values) (or_none (count_cause ts values) _ e).1).1
+
+pub first_by : (ts : List Token) (given : Given) (values : List Value) (r : Option Cause) →
+    mixed_cause ts ≡ None → lookup given (names ts) ≡ Ok values → later_cause ts values ≡ r →
+    first_cause ts given ≡ r
+first_by ts given values r a b c =
+    ap (λ x. option_or x (cause_behind ts (lookup given (names ts)))) a ∙ (ap (cause_behind ts) b ∙ c)
+
+no_later : (ts : List Token) (values : List Value) → count_cause ts values ≡ None →
+    first_not_alone ts ≡ None → float_cause values ≡ None → later_cause ts values ≡ None
+no_later ts values a b c = later_by ts values None None None a (ap (option_map (λ p. not_alone p.0 p.1)) b) c
+
+-- there is no cause to refuse a text without places
+pub no_cause_left : (us : List Token) → place_count us ≡ 0 → first_cause us empty ≡ None
+no_cause_left us h =
+    let all : place_count us ≡ length (names us) + marks us = places_are us in
+    let none : names us ≡ [] = nil_from_length (names us) (omega (arith, h, all)) in
+    let no_mark : marks us ≡ 0 = omega (arith, h, all) in
+    let count : count_cause us [] ≡ None = count_none us [] (ap (λ ns. counts_differ (length ns) (marks us) 0) none ∙ counts_same (marks us) 0 no_mark) in
+    first_by us empty [] None (mixed_none us (λ both. absurd (omega (arith, both.1, no_mark)))) (ap (lookup empty) none)
+    (no_later us [] count (no_place_alone us 0 [] h) refl)
+
+-- nor one to refuse the renamed query with as many values
+pub no_cause_renamed : (mode : Bool) (ts : List Token) (values : List Value) →
+    AreTokensBefore mode [] ts → length values ≡ place_count ts → first_not_alone ts ≡ None →
+    float_cause values ≡ None → first_cause (renamed ts) (positional values) ≡ None
+no_cause_renamed mode ts values each room alone floats =
+    let all : place_count ts ≡ length (names ts) + marks ts = places_are ts in
+    let sum : marks (renamed ts) ≡ marks ts + length (names ts) = renamed_marks ts in
+    let same : marks (renamed ts) ≡ length values = omega (arith, all, sum, room) in
+    let none : names (renamed ts) ≡ [] = renamed_names ts in
+    let count : count_cause (renamed ts) values ≡ None = count_none (renamed ts) values (ap (λ ns. counts_differ (length ns) (marks (renamed ts)) (length values)) none ∙ counts_same _ _ same) in
+    first_by (renamed ts) (positional values) values None
+    (mixed_none (renamed ts) (λ both. absurd (omega (arith, both.0, ap length none)))) (ap (lookup (positional values)) none)
+    (no_later (renamed ts) values count (renamed_alone mode ts 0 0 [] [] each (λ e. e) alone) floats)
+
+-- ---- a value for each place
+
+values_each : (values : ValueMap) (ns : List (List ℕ)) (list : List Value) →
+    values_at values ns ≡ Some list → length list ≡ length ns
+values_each values [] list e = let same : [] ≡ list = cc in ap length (sym same)
+values_each values (n ∷ ns) list e =
+    one_more (get values n) (values_at values ns) list (length ns) (λ more r. values_each values ns more r) e
+  where
+    one_more : (v : Option Value) (rest : Option (List Value)) (list : List Value) (count : ℕ) →
+        ((more : List Value) → rest ≡ Some more → length more ≡ count) →
+        option_and_then (λ value. option_map (λ more. value ∷ more) rest) v ≡ Some list →
+        length list ≡ suc count
+    one_more None rest list count each e = cc
+    one_more (Some v) None list count each e = cc
+    one_more (Some v) (Some more) list count each e =
+        let same : v ∷ more ≡ list = cc in
+        ap length (sym same) ∙ ap suc (each more refl)
+
+ok_of : {A E : Type 0} (o : Option A) (error : E) (a : A) → ok_or o error ≡ Ok a → o ≡ Some a
+ok_of None error a e = cc
+ok_of (Some x) error a e = cc
+
+lookup_each : (given : Given) (n : List ℕ) (ns : List (List ℕ)) (values : List Value) →
+    lookup given (n ∷ ns) ≡ Ok values → length values ≡ length (n ∷ ns)
+lookup_each empty n ns values e = cc
+lookup_each (positional list) n ns values e = cc
+lookup_each (named map) n ns values e = values_each map (n ∷ ns) values (ok_of _ _ values e)
+
+pub value_each : (ts : List Token) (given : Given) (values : List Value) → mixed_cause ts ≡ None →
+    lookup given (names ts) ≡ Ok values → later_cause ts values ≡ None →
+    length values ≡ place_count ts
+value_each ts given values mixed looked later = by (names ts) refl
+  where
+    by : (ns : List (List ℕ)) → names ts ≡ ns → length values ≡ place_count ts
+    by [] e =
+        let differ = none_count ts values (or_none (count_cause ts values) _ later).0 in
+        let same : marks ts ≡ length values = same_counts (marks ts) (length values) (ap (λ n. counts_differ (length n) (marks ts) (length values)) (sym e) ∙ differ) in
+        let none : length (names ts) ≡ 0 = ap length e in
+        let all : place_count ts ≡ length (names ts) + marks ts = places_are ts in
+        omega (arith, none, same, all)
+    by (n ∷ ns) e =
+        let each : length values ≡ length (n ∷ ns) = lookup_each given n ns values (ap (lookup given) (sym e) ∙ looked) in
+        let some : length (names ts) ≡ length (n ∷ ns) = ap length e in
+        let all : place_count ts ≡ length (names ts) + marks ts = places_are ts in
+        let none : marks ts ≡ 0 = no_mark (unmixed ts mixed) some in
+        omega (arith, each, some, none, all)
+      where
+        no_mark : (length (names ts) ≡ 0) ⊎ (marks ts ≡ 0) → length (names ts) ≡ length (n ∷ ns) →
+            marks ts ≡ 0
+        no_mark (inl a) b = absurd (omega (arith, a, b))
+        no_mark (inr a) b = a

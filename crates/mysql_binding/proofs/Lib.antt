@@ -1,0 +1,14 @@
+pub mod TokenRowLemmas
+pub mod LiteralTokenLemmas
+pub mod BoundText
+pub mod PieceLemmas
+pub mod ReplacedLemmas
+pub mod ByteTestLemmas
+pub mod ContentsLemmas
+pub mod PutLemmas
+pub mod StandsAloneLemmas
+pub mod FirstNotAloneLemmas
+pub mod ValueLiteralLemmas
+pub mod RenamedPlaceLemmas
+pub mod CauseLemmas
+pub mod BoundTextLemmas

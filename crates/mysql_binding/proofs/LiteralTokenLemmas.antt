@@ -1,0 +1,201 @@
+-- A literal, known by its shape alone: it opens nothing with the byte before it, and its tokens, none of
+-- them a place, end where it ends, whatever follows.
+use Rattle.std.proofs.Common.{◌≡◌, ◌++◌, ◌==◌, ◌&&◌, ◌||◌, nat_le, ℕ, Bool, true, false, List, [], ◌∷◌, None, arith, inl, inr, refl, ap, ◌∙◌, sym, append-nil, append_assoc, true≢false}
+use Rattle.std.specs.List.{list_all}
+use Rattle.std.proofs.lemmas.Bool.{and_parts, and_from, cases_Bool, eqb-true}
+use Rattle.std.proofs.lemmas.Bool.Decides.{nat_tests}
+use Rattle.mysql_sql_text.specs.StringUnits.{AreUnits}
+use Rattle.mysql_sql_text.specs.ReadLiteral.{is_digit, is_hexadecimal_digit}
+use Rattle.mysql_sql_text.specs.LiteralShape.{AreDigits, AreHexadecimalPairs, IsClosedString, closed_string, AreClosedStrings, one_string, more_strings, IsQuoted, IsLiteral, null_literal, natural_literal, negative_literal, hexadecimal_literal, quoted_literal}
+use Rattle.mysql_named_params.specs.Bytes.{asterisk, backquote, colon, dash, double_quote, hash, question_mark, single_quote, slash}
+use Rattle.mysql_named_params.specs.Tokens.{Token, IsToken, text_of, AreTokensBefore, QuotedString, Plain}
+use Rattle.mysql_named_params.specs.Tokens.{closed_string as closed_tail}
+use Rattle.mysql_named_params.specs.FirstToken.{opens_dash_comment}
+use Rattle.mysql_named_params.specs.Places.{place_count}
+use Rattle.mysql_named_params.proofs.RenameLemmas.{text_of-append}
+use Rattle.mysql_binding.proofs.TokenRowLemmas.{AreTokensBefore-append, place_count-append}
+use Rattle.mysql_named_params.proofs.TokenEnds.{plain_at, dash_comment}
+use Rattle.mysql_named_params.proofs.RestLemmas.{OpensNothing}
+
+-- a digit or a letter
+abbrev pub is_alphanumeric : ℕ → Bool
+is_alphanumeric b = is_digit b || ((nat_le 65 b && nat_le b 90) || (nat_le 97 b && nat_le b 122))
+
+-- this text is these tokens, whatever follows
+pub record IsCutBefore (mode : Bool) (text : List ℕ) (ts : List Token) : Type 0 where
+  pub cut_text : text_of ts ≡ text
+  pub cut_tokens : (rest : List ℕ) → AreTokensBefore mode rest ts
+  pub cut_places : place_count ts ≡ 0
+
+abbrev pub plain_tokens : List ℕ → List Token
+plain_tokens [] = []
+plain_tokens (b ∷ rest) = Plain b ∷ plain_tokens rest
+
+-- a byte that passes a test is none that fails it
+other : (test : ℕ → Bool) (b k : ℕ) → test b ≡ true → test k ≡ false → (b == k) ≡ false
+other test b k h f =
+    elim (cases_Bool (b == k)) [
+      | inl e ↦ absurd (true≢false (sym h ∙ ap test (eqb-true b k e) ∙ f))
+      | inr e ↦ e
+    ]
+
+-- a digit or a letter is plain before any rest
+is_alphanumeric-plain : (mode : Bool) (b : ℕ) → is_alphanumeric b ≡ true → (rest : List ℕ) →
+    IsToken mode (Plain b) rest
+is_alphanumeric-plain mode b h rest =
+    plain_at mode b rest (rw (not_k single_quote refl, not_k double_quote refl, not_k backquote refl, not_k hash refl, not_k dash refl, not_k slash refl, not_k colon refl, not_k question_mark refl) refl)
+  where
+    not_k : (k : ℕ) → is_alphanumeric k ≡ false → (b == k) ≡ false
+    not_k k f = other is_alphanumeric b k h f
+
+plain_text : (bytes : List ℕ) → text_of (plain_tokens bytes) ≡ bytes
+plain_text [] = refl
+plain_text (b ∷ bytes) = ap (λ x. b ∷ x) (plain_text bytes)
+
+plain_places : (bytes : List ℕ) → place_count (plain_tokens bytes) ≡ 0
+plain_places [] = refl
+plain_places (b ∷ bytes) = plain_places bytes
+
+plain_before : (mode : Bool) (bytes : List ℕ) → list_all is_alphanumeric bytes ≡ true → (rest : List ℕ) →
+    AreTokensBefore mode rest (plain_tokens bytes)
+plain_before mode [] h rest = tt
+plain_before mode (b ∷ bytes) h rest = let p = and_parts (is_alphanumeric b) (list_all is_alphanumeric bytes) h in (is_alphanumeric-plain mode b p.0 _, plain_before mode bytes p.1 rest)
+
+alphanumeric_cut : (mode : Bool) (bytes : List ℕ) → list_all is_alphanumeric bytes ≡ true →
+    (ts : List Token) × IsCutBefore mode bytes ts
+alphanumeric_cut mode bytes h = (plain_tokens bytes, record { cut_text = plain_text bytes; cut_tokens = plain_before mode bytes h; cut_places = plain_places bytes })
+
+digit_alphanumeric : (b : ℕ) → is_digit b ≡ true → is_alphanumeric b ≡ true
+digit_alphanumeric b h = rw h refl
+
+hexadecimal_alphanumeric : (b : ℕ) → is_hexadecimal_digit b ≡ true → is_alphanumeric b ≡ true
+hexadecimal_alphanumeric b h = grind (arith, nat_tests)
+
+digits_alphanumeric : (bytes : List ℕ) → list_all is_digit bytes ≡ true → list_all is_alphanumeric bytes ≡ true
+digits_alphanumeric [] h = refl
+digits_alphanumeric (b ∷ bytes) h = let p = and_parts (is_digit b) (list_all is_digit bytes) h in and_from _ _ (digit_alphanumeric b p.0) (digits_alphanumeric bytes p.1)
+
+AreDigits-alphanumeric : (bytes : List ℕ) → AreDigits bytes → list_all is_alphanumeric bytes ≡ true
+AreDigits-alphanumeric [] h = absurd h
+AreDigits-alphanumeric (b ∷ bytes) h = and_from _ _ (digit_alphanumeric b h.0) (digits_alphanumeric bytes h.1)
+
+AreHexadecimalPairs-alphanumeric : (bytes : List ℕ) → AreHexadecimalPairs bytes →
+    list_all is_alphanumeric bytes ≡ true
+AreHexadecimalPairs-alphanumeric [] h = absurd h
+AreHexadecimalPairs-alphanumeric (a ∷ []) h = absurd h
+AreHexadecimalPairs-alphanumeric (a ∷ b ∷ []) h = and_from _ _ (hexadecimal_alphanumeric a h.0) (and_from _ _ (hexadecimal_alphanumeric b h.1) refl)
+AreHexadecimalPairs-alphanumeric (a ∷ b ∷ c ∷ bytes) h = and_from _ _ (hexadecimal_alphanumeric a h.0) (and_from _ _ (hexadecimal_alphanumeric b h.1) (AreHexadecimalPairs-alphanumeric (c ∷ bytes) h.2))
+
+-- a dash before a digit is plain
+minus_plain : (mode : Bool) (d : ℕ) (rest : List ℕ) → is_digit d ≡ true →
+    IsToken mode (Plain dash) (d ∷ rest)
+minus_plain mode d rest h = plain_at mode dash (d ∷ rest) (none_there rest)
+  where
+    none_there : (rest : List ℕ) → dash_comment (d ∷ rest) ≡ None
+    none_there [] = refl
+    none_there (w ∷ rest) = rw (other is_digit d dash h refl) refl
+
+minus_cut : (mode : Bool) (digits : List ℕ) → AreDigits digits →
+    (ts : List Token) × IsCutBefore mode (dash ∷ digits) ts
+minus_cut mode [] h = absurd h
+minus_cut mode (d ∷ digits) h = (
+  plain_tokens (dash ∷ d ∷ digits),
+  record {
+    cut_text = plain_text (dash ∷ d ∷ digits);
+    cut_tokens = λ rest. (minus_plain mode d _ h.0, plain_before mode (d ∷ digits) (AreDigits-alphanumeric (d ∷ digits) h) rest);
+    cut_places = plain_places digits;
+  },
+)
+
+string_before : (mode : Bool) (body rest : List ℕ) → AreUnits mode single_quote body →
+    IsToken mode (QuotedString single_quote (body ++ single_quote ∷ [])) rest
+string_before mode body rest u = (refl, closed_tail body u refl)
+
+string_cut : (mode : Bool) {string : List ℕ} → IsClosedString mode string →
+    (ts : List Token) × IsCutBefore mode string ts
+string_cut mode (closed_string body u) = (
+  QuotedString single_quote (body ++ single_quote ∷ []) ∷ [],
+  record {
+    cut_text = append-nil (single_quote ∷ (body ++ single_quote ∷ []));
+    cut_tokens = λ rest. (string_before mode body _ u, tt);
+    cut_places = refl;
+  },
+)
+
+-- tokens of one text and then of another
+cut_both : (mode : Bool) (text more : List ℕ) (ts us : List Token) → IsCutBefore mode text ts →
+    IsCutBefore mode more us → IsCutBefore mode (text ++ more) (ts ++ us)
+cut_both mode text more ts us h k = record {
+  cut_text = text_of-append ts us ∙ (ap (λ x. x ++ text_of us) h.cut_text ∙ ap (λ x. text ++ x) k.cut_text);
+  cut_tokens = λ rest. AreTokensBefore-append mode ts us rest (h.cut_tokens _) (k.cut_tokens rest);
+  cut_places = rw (place_count-append ts us, h.cut_places, k.cut_places) refl;
+}
+
+strings_cut : (mode : Bool) {literal : List ℕ} → AreClosedStrings mode literal →
+    (ts : List Token) × IsCutBefore mode literal ts
+strings_cut mode (one_string string h) = string_cut mode h
+strings_cut mode (more_strings string rest h hs) =
+    let a = string_cut mode h in
+    let b = strings_cut mode hs in
+    (a.0 ++ b.0, cut_both mode string rest a.0 b.0 a.1 b.1)
+
+quoted_cut : (mode : Bool) (literal : List ℕ) → IsQuoted mode literal →
+    (ts : List Token) × IsCutBefore mode literal ts
+quoted_cut false literal h = string_cut false h
+quoted_cut true literal h = strings_cut true h
+
+pub IsLiteral-cut : (mode : Bool) {literal : List ℕ} → IsLiteral mode literal →
+    (ts : List Token) × IsCutBefore mode literal ts
+IsLiteral-cut mode null_literal = alphanumeric_cut mode _ refl
+IsLiteral-cut mode (natural_literal digits h) = alphanumeric_cut mode _ (AreDigits-alphanumeric digits h)
+IsLiteral-cut mode (negative_literal digits h) = minus_cut mode _ h
+IsLiteral-cut mode (hexadecimal_literal pairs h) = alphanumeric_cut mode _ (AreHexadecimalPairs-alphanumeric pairs h)
+IsLiteral-cut mode (quoted_literal literal h) = quoted_cut mode literal h
+
+-- a byte with which a literal other than a negative one begins
+abbrev first_byte : ℕ → Bool
+first_byte b = is_digit b || (b == single_quote || b == 78)
+
+first_opens_nothing : (b : ℕ) (rest : List ℕ) → first_byte b ≡ true → OpensNothing (b ∷ rest)
+first_opens_nothing b rest h =
+    record {
+      no_line = no_line rest;
+      no_gap = grind (arith, nat_tests);
+      no_block = rw (other first_byte b asterisk h refl) refl;
+      no_start = grind (arith, nat_tests);
+    }
+  where
+    no_line : (rest : List ℕ) → opens_dash_comment (b ∷ rest) ≡ false
+    no_line [] = refl
+    no_line (w ∷ rest) = rw (other first_byte b dash h refl) refl
+
+AreDigits-open_nothing : (digits rest : List ℕ) → AreDigits digits → OpensNothing (digits ++ rest)
+AreDigits-open_nothing [] rest h = absurd h
+AreDigits-open_nothing (d ∷ digits) rest h = first_opens_nothing d (digits ++ rest) (rw h.0 refl)
+
+minus_opens_nothing : (digits rest : List ℕ) → AreDigits digits → OpensNothing (dash ∷ (digits ++ rest))
+minus_opens_nothing [] rest h = absurd h
+minus_opens_nothing (d ∷ digits) rest h =
+    record { no_line = (AreDigits-open_nothing (d ∷ digits) rest h).no_gap; no_gap = refl; no_block = refl; no_start = refl }
+
+string_opens_nothing : {mode : Bool} {string : List ℕ} → IsClosedString mode string → (rest : List ℕ) →
+    OpensNothing (string ++ rest)
+string_opens_nothing (closed_string body u) rest = first_opens_nothing single_quote _ refl
+
+strings_open_nothing : {mode : Bool} {literal : List ℕ} → AreClosedStrings mode literal →
+    (rest : List ℕ) → OpensNothing (literal ++ rest)
+strings_open_nothing (one_string string h) rest = string_opens_nothing h rest
+strings_open_nothing (more_strings string more h hs) rest = rw (append_assoc string more rest) (string_opens_nothing h (more ++ rest))
+
+quoted_opens_nothing : (mode : Bool) (literal : List ℕ) → IsQuoted mode literal → (rest : List ℕ) →
+    OpensNothing (literal ++ rest)
+quoted_opens_nothing false literal h rest = string_opens_nothing h rest
+quoted_opens_nothing true literal h rest = strings_open_nothing h rest
+
+pub IsLiteral-opens_nothing : (mode : Bool) {literal : List ℕ} → IsLiteral mode literal →
+    (rest : List ℕ) → OpensNothing (literal ++ rest)
+IsLiteral-opens_nothing mode null_literal rest = first_opens_nothing 78 _ refl
+IsLiteral-opens_nothing mode (natural_literal digits h) rest = AreDigits-open_nothing digits rest h
+IsLiteral-opens_nothing mode (negative_literal digits h) rest = minus_opens_nothing digits rest h
+IsLiteral-opens_nothing mode (hexadecimal_literal pairs h) rest = first_opens_nothing 48 _ refl
+IsLiteral-opens_nothing mode (quoted_literal literal h) rest = quoted_opens_nothing mode literal h rest

@@ -1,0 +1,5 @@
+use Rattle.mysql_binding.proofs.BoundTextLemmas.{equal_contents}
+use Rattle.mysql_binding.proofs.laws.equal_texts_say_the_same.Goals as goal
+
+pub returns : goal.returns
+returns c = record { same = equal_contents }

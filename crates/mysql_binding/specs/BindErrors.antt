@@ -1,0 +1,26 @@
+-- What each error of binding stands for.
+use Rattle.std.specs.Prelude.{◌≡◌, ◌⊎◌, Option, Some, None, option_map, alloc_error}
+use Rattle.mysql_params_core.specs.Errors.{lookup_refusal, AreEqualParamsErrors}
+use Rattle.mysql_binding.specs.FirstCause.{Cause, mixed_query, refused_params, mark_count, not_alone, float_value}
+use Rattle.mysql_binding.specs.declared.bind_error.BindError.{BindError}
+use Rattle.mysql_binding.specs.declared.bind_error.BindError.TheVariants.{Mixed, Params, MarkCount, NotAlone, Float, Memory}
+
+-- the cause that the error is; none for want of memory, also of a lookup
+abbrev pub cause_of : BindError → Option Cause
+cause_of Mixed = Some mixed_query
+cause_of (Params error) = option_map refused_params (lookup_refusal error)
+cause_of (MarkCount marks values) = Some (mark_count marks values)
+cause_of (NotAlone place at) = Some (not_alone place at)
+cause_of (Float place) = Some (float_value place)
+cause_of (Memory error) = None
+
+-- the error is this cause, and there is one; or it is want of memory, and never that of a lookup
+abbrev pub IsRefusal : Option Cause → BindError → Type 0
+IsRefusal cause error = (error ≡ Memory alloc_error)
+    ⊎ ((why : Cause) × (cause ≡ Some why) × (cause_of error ≡ Some why))
+
+-- the same variant, and the same fields
+abbrev pub AreEqualBindErrors : BindError → BindError → Type 0
+AreEqualBindErrors (Params a) (Params b) = AreEqualParamsErrors a b
+AreEqualBindErrors (Params a) b = ⊥
+AreEqualBindErrors a b = a ≡ b

@@ -1,0 +1,30 @@
+-- What a text says in the places of a query: the contents of the literals between its pieces, read
+-- by the reader of literals alone.
+use Rattle.std.specs.Prelude.{◌≡◌, ℕ, Bool, List, [], ◌∷◌, ◌++◌, Option, Some, None, option_map, option_and_then, ⊤}
+use Rattle.mysql_sql_text.specs.ReadLiteral.{Content, after, read_literal}
+use Rattle.mysql_binding.specs.Pieces.{interleaved}
+
+-- the contents of a text that is literals, each with the next of these pieces behind it
+abbrev pub contents_before : Bool → List (List ℕ) → List ℕ → Option (List Content)
+contents_before mode [] [] = Some []
+contents_before mode [] (b ∷ text) = None
+contents_before mode (piece ∷ pieces) text =
+    option_and_then (λ read. option_map (λ said. read.0 ∷ said)
+    (option_and_then (contents_before mode pieces) (after piece read.1)))
+    (read_literal mode text)
+
+-- The contents of the literals between these pieces of a query (a query has at least one piece):
+-- none where the text is not the first piece, a literal, the second piece, and so on to the last.
+abbrev pub contents : Bool → List (List ℕ) → List ℕ → Option (List Content)
+contents mode [] text = None
+contents mode (piece ∷ pieces) text =
+    option_and_then (contents_before mode pieces) (after piece text)
+
+-- each literal, followed by the text behind it, reads as its content and leaves exactly that text
+abbrev pub AreReadInPlace : Bool → List (List ℕ) → List (List ℕ) → List Content → Type 0
+AreReadInPlace mode pieces [] [] = ⊤
+AreReadInPlace mode (piece ∷ pieces) (literal ∷ literals) (content ∷ contents) =
+    ((behind : List ℕ) × (interleaved pieces literals ≡ Some behind)
+    × (read_literal mode (literal ++ behind) ≡ Some (content, behind)))
+    × AreReadInPlace mode pieces literals contents
+AreReadInPlace mode pieces literals contents = ⊥

@@ -1,0 +1,72 @@
+-- The causes for which binding is refused, and the first that holds of a query and parameters. None
+-- of them is want of memory.
+use Rattle.std.specs.Prelude.{◌+◌, ◌&&◌, nat_eq, not, ℕ, Bool, List, [], ◌∷◌, length, if◌then◌else◌, Option, Some, None, option_map, Result, Ok, Err}
+use Rattle.std.specs.Option.{option_or}
+use Rattle.mysql_values.specs.declared.value.Value.{Value}
+use Rattle.mysql_values.specs.Literal.{is_float}
+use Rattle.mysql_named_params.specs.Tokens.{Token}
+use Rattle.mysql_named_params.specs.Places.{names, marks, has_both}
+use Rattle.mysql_params_core.specs.Given.{Given}
+use Rattle.mysql_params_core.specs.Lookup.{LookupRefusal, lookup}
+use Rattle.mysql_binding.specs.StandsAlone.{first_not_alone}
+
+-- why binding is refused
+pub data Cause : Type 0 where
+  -- the query has a name and a mark
+  mixed_query : Cause
+  -- the parameters don't give the values for its names
+  refused_params : LookupRefusal → Cause
+  -- it has no name, so many marks, and another number of values
+  mark_count : (marks values : ℕ) → Cause
+  -- the place of this number, at this position, doesn't stand alone
+  not_alone : (place at : ℕ) → Cause
+  -- the value of the place of this number is a float
+  float_value : (place : ℕ) → Cause
+
+-- there is a name and a mark
+abbrev pub mixed_cause : List Token → Option Cause
+mixed_cause ts = if has_both ts then Some mixed_query else None
+
+-- so many are no names, and not as many marks as values
+abbrev pub counts_differ : ℕ → ℕ → ℕ → Bool
+counts_differ names marks values = nat_eq names 0 && not (nat_eq marks values)
+
+-- there are no names, and the marks are not as many as the values
+abbrev pub count_cause : List Token → List Value → Option Cause
+count_cause ts values =
+    if counts_differ (length (names ts)) (marks ts) (length values)
+    then Some (mark_count (marks ts) (length values))
+    else None
+
+-- the first place that doesn't stand alone
+abbrev pub alone_cause : List Token → Option Cause
+alone_cause ts = option_map (λ found. not_alone found.0 found.1) (first_not_alone ts)
+
+-- the place of the first float among the values, where so many values stand before them
+abbrev pub first_float_from : ℕ → List Value → Option ℕ
+first_float_from place [] = None
+first_float_from place (value ∷ values) =
+    if is_float value then Some place else first_float_from (place + 1) values
+
+-- the place of the first float
+abbrev pub first_float : List Value → Option ℕ
+first_float = first_float_from 0
+
+-- the first value that is a float
+abbrev pub float_cause : List Value → Option Cause
+float_cause values = option_map float_value (first_float values)
+
+-- the first cause where the values for the names are looked up: the number of marks, then the
+-- places, then the values
+abbrev pub later_cause : List Token → List Value → Option Cause
+later_cause ts values =
+    option_or (count_cause ts values) (option_or (alone_cause ts) (float_cause values))
+
+-- the first cause where the lookup gave this
+abbrev pub cause_behind : List Token → Result (List Value) LookupRefusal → Option Cause
+cause_behind ts (Err refusal) = Some (refused_params refusal)
+cause_behind ts (Ok values) = later_cause ts values
+
+-- the first cause that holds of a query with these tokens and what is given to it, if any
+abbrev pub first_cause : List Token → Given → Option Cause
+first_cause ts given = option_or (mixed_cause ts) (cause_behind ts (lookup given (names ts)))

@@ -1,0 +1,25 @@
+-- The tokens of a query with other tokens in its places.
+use Rattle.std.specs.Prelude.{ℕ, Bool, List, [], ◌∷◌, ◌++◌, ⊤}
+use Rattle.mysql_sql_text.specs.LiteralShape.{IsLiteral}
+use Rattle.mysql_named_params.specs.Tokens.{Token, IsTokens, Name, Mark}
+
+-- the tokens with the first list in place of the first name or mark, and so on; all others as
+-- they were
+abbrev pub replaced : List Token → List (List Token) → List Token
+replaced [] lists = []
+replaced (Name name ∷ ts) (list ∷ lists) = list ++ replaced ts lists
+replaced (Mark ∷ ts) (list ∷ lists) = list ++ replaced ts lists
+replaced (t ∷ ts) lists = t ∷ replaced ts lists
+
+-- as many lists as texts, and each the tokens of its text, read alone
+abbrev pub AreTokensOf : Bool → List (List ℕ) → List (List Token) → Type 0
+AreTokensOf mode [] [] = ⊤
+AreTokensOf mode [] (list ∷ lists) = ⊥
+AreTokensOf mode (text ∷ texts) [] = ⊥
+AreTokensOf mode (text ∷ texts) (list ∷ lists) =
+    IsTokens mode text list × AreTokensOf mode texts lists
+
+-- each of the texts has the shape of a literal
+abbrev pub AreLiterals : Bool → List (List ℕ) → Type 0
+AreLiterals mode [] = ⊤
+AreLiterals mode (text ∷ texts) = IsLiteral mode text × AreLiterals mode texts

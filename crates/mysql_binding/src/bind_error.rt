@@ -1,0 +1,41 @@
+//! Why a query and parameters give no text.
+use mysql_params_core::params::ParamsError;
+use std::alloc::AllocError;
+use thiserror::Error;
+
+/// Why [`bind_text`](crate::bind_text) gave no text. Of several causes it is the first, in this
+/// order.
+#[derive(Debug, PartialEq, Drop, Error)]
+pub enum BindError {
+    /// The query has both named and positional parameters.
+    #[error("Named and positional params in one query")]
+    Mixed,
+    /// The parameters don't give the values for the query's names. It is never want of memory.
+    #[error(transparent)]
+    Params(ParamsError),
+    /// The query has no names, and its marks are not as many as the values.
+    #[error("Query has {marks} marks and {values} values")]
+    MarkCount {
+        /// The marks of the query.
+        marks: usize,
+        /// The values given.
+        values: usize,
+    },
+    /// A name or mark doesn't stand alone; of several it is the first.
+    #[error("Place {place} at byte {at} does not stand alone")]
+    NotAlone {
+        /// Its number among the names and marks, from 0.
+        place: usize,
+        /// The index of its first byte in the query.
+        at: usize,
+    },
+    /// The value for a place is a float, which has no literal; of several it is the first.
+    #[error("Float at place {place}")]
+    Float {
+        /// The number of its place, from 0.
+        place: usize,
+    },
+    /// Memory was refused, or the text would be longer than any text can be.
+    #[error("out of memory")]
+    Memory(AllocError),
+}

@@ -1,0 +1,57 @@
+//! Laws of the definitions that the contracts cite, and of equality. No program needs to call them.
+ghost use Rattle.std.specs.Prelude.{◌≡◌, ◌↔◌, ℕ, Bool, List, [], None, Some, IsTrue, map, slice_get};
+ghost use Rattle.mysql_values.specs.Content.{content_of};
+ghost use Rattle.mysql_named_params.specs.Tokens.{Token, IsTokens};
+ghost use Rattle.mysql_named_params.specs.Places.{place_count, positions};
+ghost use Rattle.mysql_params_core.specs.Given.{Given};
+ghost use Rattle.mysql_binding.specs.BindErrors.{AreEqualBindErrors};
+ghost use Rattle.mysql_binding.specs.Isolation.{IsBoundText};
+ghost use Rattle.mysql_binding.specs.Pieces.{pieces, interleaved};
+ghost use Rattle.mysql_binding.specs.Replaced.{AreLiterals, AreTokensOf, replaced};
+ghost use Rattle.mysql_binding.specs.StandsAlone.{AllAlone, IsFirstNotAlone, first_not_alone};
+
+use crate::bind_error::BindError;
+
+/// Whatever texts of the shape of literals stand in the places of a query, the tokens are the
+/// query's with those of each text in place of its name or mark, and no place is left among them.
+pub fn isolation()
+    ensures tokens { (mode : Bool) (query text : List ℕ) (ts : List Token)
+        (literals : List (List ℕ)) (lists : List (List Token)) →
+        IsTokens mode query ts → AreLiterals mode literals → AreTokensOf mode literals lists →
+        interleaved (pieces ts) literals ≡ Some text → IsTokens mode text (replaced ts lists) }
+    ensures no_place { (mode : Bool) (text : List ℕ) (ts : List Token)
+        (literals : List (List ℕ)) (lists : List (List Token)) →
+        AreLiterals mode literals → AreTokensOf mode literals lists →
+        interleaved (pieces ts) literals ≡ Some text → place_count (replaced ts lists) ≡ 0 }
+{}
+
+/// Where the same text is bound to one query for two sets of parameters, their values say the same
+/// at every place.
+pub fn equal_texts_say_the_same()
+    ensures same { (mode : Bool) (query text : List ℕ) (ts us : List Token) (a b : Given) →
+        IsTokens mode query ts → IsTokens mode query us →
+        (x : IsBoundText mode ts a text) → (y : IsBoundText mode us b text) →
+        map content_of x.values ≡ map content_of y.values }
+{}
+
+/// The place that doesn't stand alone is one of the query's places, and its position is that
+/// place's.
+pub fn position_of_first_not_alone()
+    ensures position { (ts : List Token) (place at : ℕ) →
+        first_not_alone ts ≡ Some (place, at) → slice_get (positions ts) place ≡ Some at }
+{}
+
+/// The place that doesn't stand alone is the first of the query's places that doesn't; where none is
+/// found, each of them stands alone.
+pub fn first_not_alone_is_first()
+    ensures found { (ts : List Token) (place at : ℕ) →
+        first_not_alone ts ≡ Some (place, at) → IsFirstNotAlone ts place at }
+    ensures none { (ts : List Token) → first_not_alone ts ≡ None → AllAlone ts [] }
+{}
+
+/// Errors of binding are equal where variant and fields are.
+pub fn bind_error_equality(a: &BindError, b: &BindError) -> bool
+    ensures same { IsTrue result ↔ AreEqualBindErrors a.now b.now }
+{
+    a == b
+}

@@ -1,5 +1,0 @@
-pub mod PaddedLemmas
-pub mod StringLemmas
-pub mod DigitLemmas
-pub mod TimeTextLemmas
-pub mod WrittenTimeLemmas

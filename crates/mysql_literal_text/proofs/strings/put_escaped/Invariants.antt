@@ -1,9 +1,0 @@
-use Rattle.std.proofs.Common.{◌≡◌, ◌++◌, ◌+◌, take, length}
-use Rattle.mysql_literal_text.specs.LiteralText.{escaped}
-use Rattle.mysql_literal_text.proofs.strings.put_escaped.Given as goal
-
-abbrev pub invariant-loop-byte : goal.invariant-loop-byte
-invariant-loop-byte l = record {
-  place : l.at ≡ l.start + length (escaped l.no_backslash_escape (take l.byte-index l.bytes));
-  front : take l.at l.room ≡ take l.start l.fn.room ++ escaped l.no_backslash_escape (take l.byte-index l.bytes);
-}

@@ -1,4 +1,0 @@
-pub mod LiteralText
-pub mod Digits
-pub mod TimeText
-pub mod ReadTimeText

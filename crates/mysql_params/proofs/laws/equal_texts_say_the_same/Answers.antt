@@ -1,5 +1,0 @@
-use Rattle.mysql_params.proofs.BoundTextLemmas.{equal_contents}
-use Rattle.mysql_params.proofs.laws.equal_texts_say_the_same.Goals as goal
-
-pub returns : goal.returns
-returns c = record { same = equal_contents }

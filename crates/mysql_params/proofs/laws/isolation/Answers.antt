@@ -1,8 +1,0 @@
-use Rattle.mysql_params.proofs.ReplacedLemmas.{isolated, isolated_places}
-use Rattle.mysql_params.proofs.laws.isolation.Goals as goal
-
-pub returns-clause-tokens : goal.returns-clause-tokens
-returns-clause-tokens c = isolated
-
-pub returns-clause-no_place : goal.returns-clause-no_place
-returns-clause-no_place c = isolated_places

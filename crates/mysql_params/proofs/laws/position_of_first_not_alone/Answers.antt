@@ -1,5 +1,0 @@
-use Rattle.mysql_params.proofs.StandsAloneLemmas.{first_position}
-use Rattle.mysql_params.proofs.laws.position_of_first_not_alone.Goals as goal
-
-pub returns : goal.returns
-returns c = record { position = first_position }

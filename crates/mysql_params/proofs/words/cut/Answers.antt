@@ -1,6 +1,0 @@
-use Rattle.std.proofs.Common.{rules}
-use Rattle.mysql_params.proofs.WordLemmas.{list_any-none}
-use Rattle.mysql_params.proofs.words.cut.Goals as goal
-
-pub returns-clause-none : goal.returns-clause-none
-returns-clause-none c = search (rules, list_any-none)

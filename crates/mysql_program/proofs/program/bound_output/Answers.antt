@@ -1,0 +1,15 @@
+use Rattle.std.proofs.Common.{◌∙◌, ap, inl, inr, refl}
+use Rattle.std.specs.Prelude.{option_map}
+use Rattle.mysql_program.specs.Program.{unbound}
+use Rattle.mysql_program.proofs.program.bound_output.Goals as goal
+
+pub returns-in-Err-clause-refused : goal.returns-in-Err-clause-refused
+returns-in-Err-clause-refused c =
+    let on = c.in-Err.ensures.refused in (
+      on.0,
+      on.1,
+      elim on.2 [
+        | inl memory ↦ inl (c.unbound.ensures.memory memory)
+        | inr (why, first, is) ↦ inr (unbound why, c.unbound.ensures.refusal ∙ ap (option_map unbound) is, (why, first, refl))
+      ],
+    )

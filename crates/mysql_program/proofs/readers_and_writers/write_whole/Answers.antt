@@ -1,0 +1,9 @@
+use Rattle.std.proofs.Common.{arith, length-drop, length-take}
+use Rattle.mysql_program.proofs.WriteLemmas.{appends_more}
+use Rattle.mysql_program.proofs.readers_and_writers.write_whole.Goals as goal
+
+pub writing-preserved : goal.writing-preserved
+writing-preserved g c = record {
+  within = grind (arith, c.in-Ok.ensures.bound, length-take, length-drop);
+  taken = appends_more _ _ _ c.args.text.now c.writing.done c.in-Ok.n c.writing.invariant.taken c.in-Ok.ensures.bytes;
+}

@@ -1,0 +1,5 @@
+pub mod Words
+pub mod WordErrors
+pub mod Program
+pub mod RunErrors
+pub mod ReadersAndWriters

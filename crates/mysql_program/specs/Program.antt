@@ -1,0 +1,49 @@
+-- What the program answers to its words and its input, over definitions of the query alone.
+use Rattle.std.specs.Prelude.{◌≡◌, ℕ, List, [], ◌∷◌, ◌++◌, if◌then◌else◌, Result, Ok, Err, Some, String}
+use Rattle.std.specs.Global.{Global}
+use Rattle.mysql_sql_text.specs.StringUnits.{with_backslashes}
+use Rattle.mysql_named_params.specs.Bytes.{newline}
+use Rattle.mysql_named_params.specs.Tokens.{Token, OnTokens, text_of}
+use Rattle.mysql_named_params.specs.Places.{names, renamed, has_both}
+use Rattle.mysql_binding.specs.FirstCause.{Cause, first_cause}
+use Rattle.mysql_binding.specs.Isolation.{IsBoundText}
+use Rattle.mysql_program.specs.Words.{WordsRefusal, Command, names_of_query, bound_query, word_bytes, command_of}
+
+-- why the program refuses its words or its input
+pub data Refusal : Type 0 where
+  -- the words ask for nothing that the program does, or name a parameter twice
+  refused_words : WordsRefusal → Refusal
+  -- the query has a name and a mark, and its names were asked for
+  mixed_query : Refusal
+  -- the parameters can't be bound into the query
+  unbound : Cause → Refusal
+
+-- each text and a newline
+abbrev pub lines_of : List (List ℕ) → List ℕ
+lines_of [] = []
+lines_of (text ∷ texts) = text ++ newline ∷ lines_of texts
+
+-- what `names` writes for the tokens of a query, or its refusal
+abbrev pub names_output : List Token → Result (List ℕ) Refusal
+names_output ts =
+    if has_both ts then Err mixed_query else Ok (lines_of (text_of (renamed ts) ∷ names ts))
+
+-- what a command writes for the tokens of a query, or its refusal: `bind` writes the bound text and
+-- nothing else
+abbrev pub IsOutput : Command → List Token → Result (List ℕ) Refusal → Type 0
+IsOutput names_of_query ts answer = names_output ts ≡ answer
+IsOutput (bound_query given) ts (Ok text) = IsBoundText with_backslashes ts given text
+IsOutput (bound_query given) ts (Err refusal) =
+    (cause : Cause) × (first_cause ts given ≡ Some cause) × (unbound cause ≡ refusal)
+
+-- the same for words, which may be refused
+abbrev pub IsProgramOutput : Result Command WordsRefusal → List Token → Result (List ℕ) Refusal
+    → Type 0
+IsProgramOutput (Err why) ts answer = Err (refused_words why) ≡ answer
+IsProgramOutput (Ok command) ts answer = IsOutput command ts answer
+
+-- the program's answer to these words and this whole input is this text or this refusal
+abbrev pub Answers : List (String Global) → List ℕ → Result (List ℕ) Refusal → Type 0
+Answers words input answer =
+    OnTokens with_backslashes input
+    (λ ts. IsProgramOutput (command_of (word_bytes words)) ts answer)

@@ -1,0 +1,54 @@
+//! Reading to the end and writing the whole, where no failed call is repeated.
+ghost use Rattle.std.specs.Prelude.{◌≡◌, IfOk, OnErr, OnOk, IsErrOf};
+ghost use Rattle.std.specs.Io.KnownBytes.{Appends};
+ghost use Rattle.mysql_program.specs.ReadersAndWriters.{ReadsWhole, AppendsBeginning};
+
+use crate::run_error::RunError;
+use std::alloc::{AllocError, Global};
+use std::io::{Read, Write};
+
+/// Why a reader can't be read to its end.
+#[derive(Drop)]
+pub(crate) enum ReadError {
+    Read,
+    Memory(AllocError),
+}
+
+/// All that the reader has left.
+pub(crate) fn read_whole<R: Read>(alloc: Global, input: &mut R) -> Result<Vec<u8>, ReadError>
+    ensures { IfOk result (λ bytes.
+        ReadsWhole (R.remaining input.old) (R.remaining input.new) bytes.items) }
+{
+    let mut bytes = Vec::new(alloc);
+    let mut chunk = [0u8; 4096];
+    'reading: loop {
+        let n = match input.read(&mut chunk) {
+            Ok(n) => n,
+            Err(_) => return Err(ReadError::Read),
+        };
+        if n == 0 {
+            return Ok(bytes);
+        }
+        bytes
+            .extend_from_slice(&chunk[..n])
+            .map_err(ReadError::Memory)?;
+    }
+}
+
+/// Writes the whole text. On an error the writer took a beginning of it.
+pub(crate) fn write_whole<W: Write>(output: &mut W, text: &[u8]) -> Result<(), RunError>
+    ensures ok { OnOk result (Appends (W.contents output.old) (W.contents output.new) text.now) }
+    ensures only_write { OnErr result (IsErrOf result RunError.Write) }
+    ensures beginning { OnErr result (
+        AppendsBeginning (W.contents output.old) (W.contents output.new) text.now) }
+{
+    let mut done = 0;
+    'writing: while done < text.len() {
+        match output.write(&text[done..]) {
+            Ok(0) => return Err(RunError::Write),
+            Ok(n) => done += n,
+            Err(_) => return Err(RunError::Write),
+        }
+    }
+    Ok(())
+}

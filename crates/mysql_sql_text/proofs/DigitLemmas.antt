@@ -1,0 +1,105 @@
+-- The number of digits: by std's parser, by the definition, and how large it is.
+use Rattle.std.proofs.Common.{◌≡◌, ◌∙◌, ap, sym, refl, ℕ, ◌+◌, ◌-◌, ◌*◌, ◌<◌, ◌≤◌, ◌^◌, Bool, true, false, ◌&&◌, nat_lt, List, length, Option, Some, None, arith, rules, inl, inr}
+use Rattle.std.specs.Prelude.{IfSome, IfNone}
+use Rattle.std.specs.Option.{SomeIff}
+use Rattle.std.specs.Char.{is_ascii_digit}
+use Rattle.std.specs.List.{list_all}
+use Rattle.std.specs.Str.{IsUtf8}
+use Rattle.std.specs.Str.Parse.{IsNumeral, digits_value}
+use Rattle.std.proofs.lemmas.Str.{IsUtf8-from_ascii}
+use Rattle.std.proofs.lemmas.Fmt.{IsAscii-from_digits}
+use Rattle.std.proofs.lemmas.Str.Parse.{IsNumeralModel, numerals_by_value, digits_value_short}
+use Rattle.std.proofs.lemmas.Bool.{cases_Bool, cond_both, and_parts, ltb-true, ltb-false, lt-ltb}
+use Rattle.std.proofs.lemmas.Option.{same_Some}
+use Rattle.std.proofs.lemmas.Nat.{pow-add}
+use Rattle.std.proofs.Math.Nat.{mul-lt-mul_of_pos_right, one-le-pow}
+use Rattle.mysql_sql_text.specs.Digits.{value_of_digits}
+
+-- digits are a text
+pub numeral_is_utf8 : (digits : List ℕ) → IsNumeral 10 digits → IsUtf8 digits
+numeral_is_utf8 digits numeral = IsUtf8-from_ascii digits (IsAscii-from_digits digits numeral.1)
+
+-- std's word for digits, and the test that the definition makes
+by_test : IsNumeralModel (λ digits. list_all is_ascii_digit digits ≡ true) (digits_value 10)
+by_test = numerals_by_value _ (search rules)
+
+-- digits have their number
+pub value_of_digits-IsNumeral : (digits : List ℕ) → IsNumeral 10 digits
+    → value_of_digits digits ≡ Some (digits_value 10 digits)
+value_of_digits-IsNumeral digits numeral =
+    let some : nat_lt 0 (length digits) ≡ true = lt-ltb 0 (length digits) numeral.0 in
+    rw (some, by_test.from digits numeral.1) refl
+
+-- what has a number is one or more digits, and the number is theirs
+pub value_of_digits-found : (digits : List ℕ) (n : ℕ) → value_of_digits digits ≡ Some n
+    → (0 < length digits) × (list_all is_ascii_digit digits ≡ true) × (digits_value 10 digits ≡ n)
+value_of_digits-found digits n e =
+    elim (cases_Bool (nat_lt 0 (length digits) && list_all is_ascii_digit digits)) [
+      | inl h ↦
+          let p = and_parts (nat_lt 0 (length digits)) (list_all is_ascii_digit digits) h in
+          let v : Some (digits_value 10 digits) ≡ Some n = rw h at e in
+          (ltb-true 0 (length digits) p.0, p.1, same_Some _ _ v)
+      | inr h ↦ let v : None ≡ Some n = rw h at e in absurd cc
+    ]
+
+-- digits of one to so many write a number below that power of ten
+pub value_of_digits-below : (digits : List ℕ) (n width : ℕ) → value_of_digits digits ≡ Some n
+    → length digits ≤ width → n < 10 ^ width
+value_of_digits-below digits n width e short =
+    let is = value_of_digits-found digits n e in
+    let below : digits_value 10 digits < 10 ^ width = digits_value_short by_test digits width is.1 short in
+    rw is.2 at below
+
+-- what std's parser refuses is no number, or one that 128 bits don't hold
+value_of_digits-refused : (digits : List ℕ)
+    → ¬ (IsNumeral 10 digits × (digits_value 10 digits < 2 ^ 128))
+    → IfSome (value_of_digits digits) (λ n. 2 ^ 128 ≤ n)
+value_of_digits-refused digits refused =
+    cond_both (nat_lt 0 (length digits) && list_all is_ascii_digit digits) _ _
+    (λ number. IfSome number (λ n. 2 ^ 128 ≤ n))
+    (λ hold.
+    let tests = and_parts (nat_lt 0 (length digits)) (list_all is_ascii_digit digits) hold in
+    let numeral : IsNumeral 10 digits =
+    (ltb-true 0 (length digits) tests.0, by_test.to digits tests.1) in
+    beyond numeral (nat_lt (digits_value 10 digits) (2 ^ 128)) refl)
+    (λ _. tt)
+  where
+    beyond : IsNumeral 10 digits → (t : Bool) → nat_lt (digits_value 10 digits) (2 ^ 128) ≡ t
+        → 2 ^ 128 ≤ digits_value 10 digits
+    beyond numeral true small =
+        absurd (refused (numeral, ltb-true (digits_value 10 digits) (2 ^ 128) small))
+    beyond numeral false large = ltb-false (digits_value 10 digits) (2 ^ 128) large
+
+-- what std's parser answers is the number
+pub parsed-found : (digits : List ℕ) (answer : Option ℕ)
+    → SomeIff answer (IsNumeral 10 digits × (digits_value 10 digits < 2 ^ 128)) (digits_value 10 digits)
+    → IfSome answer (λ n. value_of_digits digits ≡ Some n)
+parsed-found digits None parsed = tt
+parsed-found digits (Some n) parsed =
+    value_of_digits-IsNumeral digits parsed.0.0 ∙ ap Some (sym parsed.1)
+
+pub parsed-refused : (digits : List ℕ) (answer : Option ℕ)
+    → SomeIff answer (IsNumeral 10 digits × (digits_value 10 digits < 2 ^ 128)) (digits_value 10 digits)
+    → IfNone answer (IfSome (value_of_digits digits) (λ n. 2 ^ 128 ≤ n))
+parsed-refused digits None parsed = value_of_digits-refused digits parsed
+parsed-refused digits (Some n) parsed = tt
+
+-- six digits and fewer are no number where 128 bits hold none
+pub short-refused : (digits : List ℕ) → length digits ≤ 6
+    → IfSome (value_of_digits digits) (λ n. 2 ^ 128 ≤ n) → None ≡ value_of_digits digits
+short-refused digits short large = go (value_of_digits digits) refl large
+  where
+    go : (number : Option ℕ) → value_of_digits digits ≡ number → IfSome number (λ n. 2 ^ 128 ≤ n)
+        → None ≡ value_of_digits digits
+    go None e large = sym e
+    go (Some n) e large = absurd (omega (arith, value_of_digits-below digits n 6 e short))
+
+-- digits behind a point, filled up to six, write a number below a million
+pub scaled_below : (n width : ℕ) → n < 10 ^ width → width ≤ 6 → n * 10 ^ (6 - width) < 1000000
+scaled_below n width small short =
+    let more : n * 10 ^ (6 - width) < 10 ^ width * 10 ^ (6 - width) =
+    mul-lt-mul_of_pos_right small (one-le-pow (6 - width) 10 (omega arith)) in
+    let sum : 10 ^ width * 10 ^ (6 - width) ≡ 10 ^ (width + (6 - width)) = sym (pow-add 10 width (6 - width)) in
+    let whole : width + (6 - width) ≡ 6 = omega arith in
+    let six : 10 ^ (width + (6 - width)) ≡ 10 ^ 6 = ap (λ m. 10 ^ m) whole in
+    omega (arith, more, sum, six)

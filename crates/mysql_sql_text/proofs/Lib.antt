@@ -1,0 +1,12 @@
+pub mod PaddedLemmas
+pub mod StringLemmas
+pub mod DigitLemmas
+pub mod TimeTextLemmas
+pub mod WrittenTimeLemmas
+pub mod ReadDigitLemmas
+pub mod ReadStringLemmas
+pub mod ReadNumberLemmas
+pub mod HexadecimalLemmas
+pub mod ClockLemmas
+pub mod EscapedLemmas
+pub mod QuotedLemmas

@@ -1,0 +1,30 @@
+-- Where a literal ends: which bytes after it may be more of it, and what it reads as before all
+-- others.
+use Rattle.std.specs.Prelude.{◌≡◌, ℕ, nat_le, Bool, ◌==◌, ◌&&◌, ◌||◌, List, [], ◌∷◌, ◌++◌, Some, IsFalse, ⊤}
+use Rattle.std.specs.Str.{byte}
+use Rattle.mysql_sql_text.specs.ReadLiteral.{Content, is_digit, read_literal}
+
+-- whether a byte is a single quote
+abbrev pub is_single_quote : ℕ → Bool
+is_single_quote b = b == byte "'"
+
+-- whether a byte is an ASCII letter
+abbrev pub is_letter : ℕ → Bool
+is_letter b =
+    (nat_le (byte "A") b && nat_le b (byte "Z")) || (nat_le (byte "a") b && nat_le b (byte "z"))
+
+-- whether a byte may be more of the literal before it: a single quote, an ASCII digit or letter
+abbrev pub continues_literal : ℕ → Bool
+continues_literal b = is_single_quote b || (is_digit b || is_letter b)
+
+-- the text is empty, or its first byte fails the test
+abbrev pub BeginsWithout : (ℕ → Bool) → List ℕ → Type 0
+BeginsWithout test [] = ⊤
+BeginsWithout test (b ∷ text) = IsFalse (test b)
+
+-- before every text whose first byte, if any, fails the test, a literal reads as this content, and
+-- that text is left
+abbrev pub ReadsBefore : (ℕ → Bool) → Bool → List ℕ → Content → Type 0
+ReadsBefore test mode literal content =
+    (rest : List ℕ) → BeginsWithout test rest
+    → read_literal mode (literal ++ rest) ≡ Some (content, rest)
