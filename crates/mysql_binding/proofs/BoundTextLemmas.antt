@@ -8,24 +8,21 @@ use Rattle.mysql_sql_text.specs.ReadLiteral.{Content}
 use Rattle.mysql_values.specs.Content.{content_of}
 use Rattle.mysql_sql_text.specs.LiteralEnd.{ReadsBefore, continues_literal}
 use Rattle.mysql_named_params.specs.Tokens.{Token, IsTokens, OnTokens}
-use Rattle.mysql_named_params.specs.Places.{names, marks, renamed, place_count}
-use Rattle.mysql_named_params.proofs.ReparsedLemmas.{places_are, renamed_are, renamed_names, renamed_marks}
+use Rattle.mysql_named_params.specs.Places.{names, place_count}
 use Rattle.mysql_params_core.specs.Given.{Given}
 use Rattle.mysql_params_core.specs.Lookup.{lookup}
 use Rattle.mysql_binding.specs.FirstCause.{Cause, mixed_cause, later_cause, first_cause}
 use Rattle.mysql_binding.specs.declared.bind_error.BindError.{BindError}
 use Rattle.mysql_binding.specs.BindErrors.{IsRefusal, cause_of}
 use Rattle.mysql_binding.specs.Isolation.{IsBoundText}
-use Rattle.mysql_binding.specs.Contents.{contents as contents_of}
-use Rattle.mysql_named_params.proofs.TokenListLemmas.{one_token_list}
 use Rattle.mysql_binding.specs.Pieces.{pieces, interleaved}
 use Rattle.mysql_binding.specs.Replaced.{AreLiterals, replaced}
 use Rattle.mysql_binding.specs.ValueLiterals.{AreLiteralsOf, AreReadAs}
 use Rattle.mysql_binding.proofs.BoundText.{bound}
-use Rattle.mysql_binding.proofs.CauseLemmas.{first_by, no_cause_left, no_cause_renamed, no_float_cause, no_place_out, on_both, on_map, value_each}
+use Rattle.mysql_binding.proofs.CauseLemmas.{first_by, no_place_out, on_both, on_map, value_each}
 use Rattle.mysql_binding.proofs.ContentsLemmas as contents
-use Rattle.mysql_binding.proofs.PieceLemmas.{bound_none, renamed_bound, interleaved_is, interleaved_pieces}
-use Rattle.mysql_binding.proofs.ReplacedLemmas.{isolated, isolated_places, literal_lists}
+use Rattle.mysql_binding.proofs.PieceLemmas.{interleaved_is}
+use Rattle.mysql_binding.proofs.ReplacedLemmas.{isolated, literal_lists}
 
 -- what the values say, and that their literals read so
 pub record AreSaid (mode : Bool) (values : List Value) (texts : List (List ℕ)) : Type 0 where
@@ -50,14 +47,6 @@ all_said mode (v ∷ values) (text ∷ texts) h = one (content_of v) refl h.0.co
       read = (r, more.read);
     }
 
-renamed_places : (ts : List Token) → place_count (renamed ts) ≡ place_count ts
-renamed_places ts =
-    let a : place_count ts ≡ length (names ts) + marks ts = places_are ts in
-    let b : place_count (renamed ts) ≡ length (names (renamed ts)) + marks (renamed ts) = places_are (renamed ts) in
-    let c : marks (renamed ts) ≡ marks ts + length (names ts) = renamed_marks ts in
-    let d : length (names (renamed ts)) ≡ 0 = ap length (renamed_names ts) in
-    omega (arith, a, b, c, d)
-
 pub as_many_texts : (mode : Bool) (values : List Value) (texts : List (List ℕ)) →
     AreLiteralsOf mode values texts → length texts ≡ length values
 as_many_texts mode values texts h =
@@ -72,7 +61,6 @@ is_bound_text mode query ts given values texts text is mixed looked later writte
     let tokens = literal_lists mode texts shapes in
     let room : length values ≡ place_count ts = value_each ts given values mixed looked later in
     let room' : length texts ≡ place_count ts = as_many_texts mode values texts written ∙ room in
-    let left : place_count (replaced ts tokens.0) ≡ 0 = isolated_places mode text ts texts tokens.0 shapes tokens.1 exact in
     let tokens_are : IsTokens mode text (replaced ts tokens.0) = isolated mode query text ts texts tokens.0 is shapes tokens.1 exact in
     let text_is : text ≡ bound ts texts = interleaved_is ts texts text exact in
     let alone = no_place_out ts values later in
@@ -82,20 +70,15 @@ is_bound_text mode query ts given values texts text is mixed looked later writte
       looked_up = looked;
       literals = texts;
       written = written;
-      said = s.said;
-      says = s.says;
+      shapes = shapes;
+      exact = exact;
       lists = tokens.0;
       tokens_of_literals = tokens.1;
-      exact = exact;
       isolated = tokens_are;
+      said = s.said;
+      says = s.says;
       in_place = contents.in_place mode ts 0 [] [] texts s.said alone s.read room';
       read_back = rw text_is (contents.contents_of_bound mode ts 0 [] [] texts s.said alone s.read room');
-      no_place = left;
-      bound_again = no_cause_left (replaced ts tokens.0) left;
-      same_again = interleaved_pieces [] (replaced ts tokens.0) [] (sym left) ∙ ap Some (bound_none (replaced ts tokens.0) left ∙ tokens_are.text);
-      renamed_tokens = renamed_are mode query ts is;
-      by_position = no_cause_renamed mode ts values is.each room alone (no_float_cause ts values later);
-      same_by_position = interleaved_pieces [] (renamed ts) texts (room' ∙ sym (renamed_places ts)) ∙ ap Some (renamed_bound ts texts room' ∙ sym text_is);
     }
 
 -- ---- as the code has it
@@ -162,15 +145,3 @@ bound_on mode query given values texts text h written shapes reads exact =
     on_map mode query (λ ts. IsLookedUp ts given values × (interleaved (pieces ts) texts ≡ Some text)) (λ ts. IsBoundText mode ts given text)
     (λ ts is k. is_bound_text mode query ts given values texts text is k.0.0 k.0.1 k.0.2 written shapes reads k.1)
     (on_both mode query (λ ts. IsLookedUp ts given values) (λ ts. interleaved (pieces ts) texts ≡ Some text) h exact)
-
--- ---- equal texts
-
-pub equal_contents : (mode : Bool) (query text : List ℕ) (ts us : List Token) (a b : Given) →
-    IsTokens mode query ts → IsTokens mode query us →
-    (x : IsBoundText mode ts a text) → (y : IsBoundText mode us b text) →
-    map content_of x.values ≡ map content_of y.values
-equal_contents mode query text ts us a b is is' x y =
-    let tokens : ts ≡ us = one_token_list mode query ts us is is' in
-    let same : Some x.said ≡ Some y.said = sym x.read_back ∙ (ap (λ l. contents_of mode (pieces l) text) tokens ∙ y.read_back) in
-    let said : x.said ≡ y.said = cc in
-    x.says ∙ (ap (map Some) said ∙ sym y.says)

@@ -32,7 +32,7 @@ on_map mode query P Q f a = (a.0, a.1, f a.0 a.1 a.2)
 
 -- ---- options
 
-or_none : {A : Type 0} (a b : Option A) → option_or a b ≡ None → (a ≡ None) × (b ≡ None)
+pub or_none : {A : Type 0} (a b : Option A) → option_or a b ≡ None → (a ≡ None) × (b ≡ None)
 or_none None b e = (refl, e)
 or_none (Some x) b e = cc
 

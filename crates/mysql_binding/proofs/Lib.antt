@@ -12,3 +12,4 @@ pub mod ValueLiteralLemmas
 pub mod RenamedPlaceLemmas
 pub mod CauseLemmas
 pub mod BoundTextLemmas
+pub mod BoundAgainLemmas

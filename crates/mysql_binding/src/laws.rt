@@ -1,9 +1,9 @@
 //! Laws of the definitions that the contracts cite, and of equality. No program needs to call them.
 ghost use Rattle.std.specs.Prelude.{◌≡◌, ◌↔◌, ℕ, Bool, List, [], None, Some, IsTrue, map, slice_get};
 ghost use Rattle.mysql_values.specs.Content.{content_of};
-ghost use Rattle.mysql_named_params.specs.Tokens.{Token, IsTokens};
-ghost use Rattle.mysql_named_params.specs.Places.{place_count, positions};
-ghost use Rattle.mysql_params_core.specs.Given.{Given};
+ghost use Rattle.mysql_named_params.specs.Tokens.{Token, IsTokens, text_of};
+ghost use Rattle.mysql_named_params.specs.Places.{place_count, positions, renamed};
+ghost use Rattle.mysql_params_core.specs.Given.{Given, empty, positional};
 ghost use Rattle.mysql_binding.specs.BindErrors.{AreEqualBindErrors};
 ghost use Rattle.mysql_binding.specs.Isolation.{IsBoundText};
 ghost use Rattle.mysql_binding.specs.Pieces.{pieces, interleaved};
@@ -23,6 +23,28 @@ pub fn isolation()
         (literals : List (List ℕ)) (lists : List (List Token)) →
         AreLiterals mode literals → AreTokensOf mode literals lists →
         interleaved (pieces ts) literals ≡ Some text → place_count (replaced ts lists) ≡ 0 }
+{}
+
+/// No name and no mark is left in a bound text.
+pub fn no_place_is_left()
+    ensures none { (mode : Bool) (ts us : List Token) (given : Given) (text : List ℕ) →
+        IsBoundText mode ts given text → IsTokens mode text us → place_count us ≡ 0 }
+{}
+
+/// Bound again with no parameters, a bound text is not refused and stays as it is.
+pub fn bound_again_is_the_same()
+    ensures same { (mode : Bool) (ts us : List Token) (given : Given) (text : List ℕ) →
+        IsBoundText mode ts given text → IsTokens mode text us → IsBoundText mode us empty text }
+{}
+
+/// The query with a mark in place of each name, bound to the same values by position, is not refused
+/// and gives the same text.
+pub fn by_position_is_the_same()
+    ensures tokens { (mode : Bool) (query : List ℕ) (ts : List Token) →
+        IsTokens mode query ts → IsTokens mode (text_of (renamed ts)) (renamed ts) }
+    ensures same { (mode : Bool) (query text : List ℕ) (ts : List Token) (given : Given) →
+        IsTokens mode query ts → (bound : IsBoundText mode ts given text) →
+        IsBoundText mode (renamed ts) (positional bound.values) text }
 {}
 
 /// Where the same text is bound to one query for two sets of parameters, their values say the same

@@ -2,7 +2,8 @@
 //! name. No program needs to call them.
 
 pub use mysql_binding::laws::{
-    bind_error_equality, equal_texts_say_the_same, first_not_alone_is_first, isolation,
+    bind_error_equality, bound_again_is_the_same, by_position_is_the_same,
+    equal_texts_say_the_same, first_not_alone_is_first, isolation, no_place_is_left,
     position_of_first_not_alone,
 };
 pub use mysql_named_params::laws::{
