@@ -11,7 +11,9 @@ ghost use Rattle.mysql_values.specs.Rollback.{ConvertsBack};
 ghost use Rattle.mysql_values.specs.Truth.{truth_conversion};
 ghost use Rattle.mysql_values.specs.WholeNumber.{whole_conversion};
 
-use crate::value::convert::{FromValue, OptionIr2, ParseIr, ParseIrOpt, ValueIr, WholeNumber};
+use crate::value::convert::{
+    FromValue, OptionIr2, ParseIr, ParseIrOpt, ToValue, ValueIr, WholeNumber,
+};
 pub use mysql_sql_text::laws::{escapes_read, numbers_read, time_texts_are_read, times_read_back};
 pub use mysql_value_core::laws::{
     as_sql_error_equality, bytes_equality, bytes_order, floats_have_no_literal,
@@ -80,7 +82,8 @@ pub fn truth_converts_back(truth: &bool)
 
 /// A duration converts back from its value, rounded half up to microseconds.
 pub fn duration_converts_back(duration: &Duration)
-    ensures rounded { ConvertsBackRounded duration.now }
+    ensures rounded { ConvertsBackRounded duration.now
+        (⟦<Duration as ToValue>⟧.value_of duration.now) }
 {
     let _duration = *duration;
 }
