@@ -15,7 +15,7 @@ use Rattle.mysql_value_core.specs.declared.value.Value.{Value}
 use Rattle.mysql_value_core.specs.declared.value.Value.TheVariants.{NULL, Bytes, Int, UInt, Float, Double, Date, Time}
 use Rattle.mysql_value_core.specs.BinaryForm.{day_bytes, date_form, sign_byte, time_form}
 use Rattle.mysql_value_core.specs.BinaryReading.{integer_value, date_value, time_value, read_counted, read_date, read_time}
-use Rattle.mysql_value_core.specs.BinaryReadBack.{read_back, ReadsBackInBinary}
+use Rattle.mysql_value_core.specs.BinaryReadBack.{value_read_back, ReadsBackInBinary}
 
 -- a signed number reads back from its lowest eight bytes
 twos_complement-cast_unsigned : (number : ℤ) → FitsSigned w64 number
@@ -29,10 +29,10 @@ cast_unsigned_fits number fits = omega (arith, ints)
 read_counted-append : (count : ℕ) (fields rest : List ℕ) → length fields ≡ count
     → read_counted (count ∷ (fields ++ rest)) ≡ Ok (fields, rest)
 read_counted-append count fields rest same =
-    let behind = fields ++ rest in
-    let first : read_number 1 (count ∷ behind) ≡ Ok (count, behind) =
-    cond-true (leb 1 (length (count ∷ behind))) _ _ (le-leb 1 _ (omega arith))
-    ∙ ap (λ n. Ok (n, behind)) (omega arith) in
+    let left = fields ++ rest in
+    let first : read_number 1 (count ∷ left) ≡ Ok (count, left) =
+    cond-true (leb 1 (length (count ∷ left))) _ _ (le-leb 1 _ (omega arith))
+    ∙ ap (λ n. Ok (n, left)) (omega arith) in
     ap (λ read. and_then_read read read_bytes) first ∙ read_bytes-append count fields rest same
 
 same_date : (y m d h i s u y' m' d' h' i' s' u' : ℕ) → y ≡ y' → m ≡ m' → d ≡ d' → h ≡ h' → i ≡ i'
@@ -91,26 +91,26 @@ sign_byte-test true = refl
 sign_byte-test false = refl
 
 read_time-time_form : (n : Bool) (d h m s u : ℕ) (rest : List ℕ) → d < 2 ^ 32 → u < 2 ^ 32
-    → read_time (time_form n d h m s u ++ rest) ≡ Ok (read_back (Time n d h m s u), rest)
+    → read_time (time_form n d h m s u ++ rest) ≡ Ok (value_read_back (Time n d h m s u), rest)
 read_time-time_form n d h m s u rest days_fit microseconds_fit =
     let no_time = d == 0 && h == 0 && m == 0 && s == 0 && u == 0 in
     let Reads : List ℕ → Type 0 =
-    λ form. read_time (form ++ rest) ≡ Ok (read_back (Time n d h m s u), rest) in
+    λ form. read_time (form ++ rest) ≡ Ok (value_read_back (Time n d h m s u), rest) in
     let days = little_number-reads_back 4 d [] days_fit in
     let microseconds = little_number-reads_back 4 u [] microseconds_fit in
     let whole = sign_byte n ∷ (little_bytes 4 d ++ h ∷ m ∷ s ∷ []) in
     cond_both no_time _ _ Reads (λ zeros.
     ap (map_read time_value) (read_counted-append 0 [] rest refl)
     ∙ ap (λ value. Ok (value, rest)) (sym (cond-true no_time _ _ zeros)))
-    (λ some. cond_both (u == 0) _ _ Reads (λ no_microseconds.
+    (λ has_time. cond_both (u == 0) _ _ Reads (λ no_microseconds.
     ap (map_read time_value) (read_counted-append 8 whole rest refl)
     ∙ ap (λ value. Ok (value, rest)) (same_time _ n _ h m s 0 d u
-    (sign_byte-test n) days (zero_of u no_microseconds) ∙ sym (cond-false no_time _ _ some)))
+    (sign_byte-test n) days (zero_of u no_microseconds) ∙ sym (cond-false no_time _ _ has_time)))
     (λ _.
     ap (map_read time_value)
     (read_counted-append 12 (whole ++ little_bytes 4 u) rest refl)
     ∙ ap (λ value. Ok (value, rest)) (same_time _ n _ h m s _ d u
-    (sign_byte-test n) days microseconds ∙ sym (cond-false no_time _ _ some))))
+    (sign_byte-test n) days microseconds ∙ sym (cond-false no_time _ _ has_time))))
 
 pub reads_back_in_binary : (value : Value) → FieldsInRange value → ReadsBackInBinary value
 reads_back_in_binary NULL fits rest = refl

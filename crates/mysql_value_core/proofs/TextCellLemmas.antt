@@ -9,19 +9,19 @@ use Rattle.mysql_value_core.specs.declared.value.Value.{Value}
 use Rattle.mysql_value_core.specs.TextCell.{read_cell, read_cells, ReadsBytes, ReadsACell}
 
 -- the cells so far, in front of those that are read next
-abbrev pub behind : List Value → Reading (List Value) → Reading (List Value)
-behind before read = map_read (λ cells. before ++ cells) read
+abbrev pub row_after : List Value → Reading (List Value) → Reading (List Value)
+row_after before read = map_read (λ cells. before ++ cells) read
 
 -- a cell in front of those that are read next
-abbrev in_front_of : ℕ → Value → List ℕ → Reading (List Value)
-in_front_of count cell rest = map_read (λ cells. cell ∷ cells) (read_cells count rest)
+abbrev row_from_cell : ℕ → Value → List ℕ → Reading (List Value)
+row_from_cell count cell rest = map_read (λ cells. cell ∷ cells) (read_cells count rest)
 
 -- one cell more is read so far, and one fewer next
-behind-cell : (before : List Value) (cell : Value) (read : Reading (List Value))
-    → behind before (map_read (λ cells. cell ∷ cells) read) ≡ behind (before ++ cell ∷ []) read
-behind-cell before cell (Ok read) =
+row_after-cell : (before : List Value) (cell : Value) (read : Reading (List Value))
+    → row_after before (map_read (λ cells. cell ∷ cells) read) ≡ row_after (before ++ cell ∷ []) read
+row_after-cell before cell (Ok read) =
     ap (λ cells. Ok (cells, read.1)) (sym (append_assoc before (cell ∷ []) read.0))
-behind-cell before cell (Err refusal) = refl
+row_after-cell before cell (Err refusal) = refl
 
 -- a reading of bytes is one
 reads : (read : Reading Value) → ReadsBytes read → IsOk read
@@ -37,28 +37,28 @@ reads_a_cell (suc count) bytes some read = read
 -- what is known of the reading after `counter` of `count` cells
 module _ (count counter : ℕ) (bytes rest : List ℕ) (before : List Value)
     (within : counter < count)
-    (read_on : read_cells count bytes ≡ behind before (read_cells (count - counter) rest))
+    (read_on : read_cells count bytes ≡ row_after before (read_cells (count - counter) rest))
     (first : ((counter ≡ 0) × (rest ≡ bytes)) ⊎ ReadsACell count bytes) where
   one_more : read_cells count bytes
-      ≡ behind before (and_then_read (read_cell rest) (in_front_of (count - (counter + 1))))
+      ≡ row_after before (and_then_read (read_cell rest) (row_from_cell (count - (counter + 1))))
   one_more =
       let next : count - counter ≡ suc (count - (counter + 1)) = omega arith in
-      read_on ∙ ap (λ n. behind before (read_cells n rest)) next
+      read_on ∙ ap (λ n. row_after before (read_cells n rest)) next
 
-  -- where this cell is read, it stands behind those so far
+  -- where this cell is read, it stands after those so far
   pub next_cell : (cell : Value) (next : List ℕ) → read_cell rest ≡ Ok (cell, next)
       → read_cells count bytes
-      ≡ behind (before ++ cell ∷ []) (read_cells (count - (counter + 1)) next)
+      ≡ row_after (before ++ cell ∷ []) (read_cells (count - (counter + 1)) next)
   next_cell cell next read =
       one_more
-      ∙ ap (λ r. behind before (and_then_read r (in_front_of (count - (counter + 1))))) read
-      ∙ behind-cell before cell (read_cells (count - (counter + 1)) next)
+      ∙ ap (λ r. row_after before (and_then_read r (row_from_cell (count - (counter + 1))))) read
+      ∙ row_after-cell before cell (read_cells (count - (counter + 1)) next)
 
   refused_next : (refusal : ReadRefusal) → read_cell rest ≡ Err refusal
       → read_cells count bytes ≡ Err refusal
   refused_next refusal read =
       one_more
-      ∙ ap (λ r. behind before (and_then_read r (in_front_of (count - (counter + 1))))) read
+      ∙ ap (λ r. row_after before (and_then_read r (row_from_cell (count - (counter + 1))))) read
 
   -- where this cell is read, so is the first
   pub first_cell : IsOk (read_cell rest) → ReadsACell count bytes

@@ -18,24 +18,24 @@ own_column (Double bits) = MYSQL_TYPE_DOUBLE
 own_column (Date year month day hour minute second microseconds) = MYSQL_TYPE_DATETIME
 own_column (Time negative days hours minutes seconds microseconds) = MYSQL_TYPE_TIME
 
--- only `UInt` is of an unsigned column
-abbrev pub own_unsigned : Value → Bool
-own_unsigned (UInt number) = true
-own_unsigned value = false
+-- whether that column is unsigned: only that of a `UInt` is
+abbrev pub own_column_is_unsigned : Value → Bool
+own_column_is_unsigned (UInt number) = true
+own_column_is_unsigned value = false
 
 -- the value itself; but `UInt` comes back as `Int` where that has the number, and a negative time
 -- of zero comes back as not negative
-abbrev pub read_back : Value → Value
-read_back (UInt number) = unsigned_integer number
-read_back (Time negative days hours minutes seconds microseconds) =
+abbrev pub value_read_back : Value → Value
+value_read_back (UInt number) = unsigned_integer number
+value_read_back (Time negative days hours minutes seconds microseconds) =
     if days == 0 && hours == 0 && minutes == 0 && seconds == 0 && microseconds == 0
     then Time false 0 0 0 0 0
     else Time negative days hours minutes seconds microseconds
-read_back value = value
+value_read_back value = value
 
 -- before any bytes, the written value reads as the one that comes back and leaves these bytes
 abbrev pub ReadsBackInBinary : Value → Type 0
 ReadsBackInBinary value =
     (rest : List ℕ)
-    → read_binary (own_column value) (own_unsigned value) (binary_form value ++ rest)
-    ≡ Ok (read_back value, rest)
+    → read_binary (own_column value) (own_column_is_unsigned value) (binary_form value ++ rest)
+    ≡ Ok (value_read_back value, rest)

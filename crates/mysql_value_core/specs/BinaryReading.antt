@@ -13,7 +13,7 @@ use Rattle.mysql_value_core.specs.declared.value.Value.TheVariants.{NULL, Bytes,
 abbrev pub unsigned_integer : ℕ → Value
 unsigned_integer number = if nat_lt number (2 ^ 63) then Int (pos number) else UInt number
 
--- the value of a whole number in so many bytes
+-- the value of a whole number of `width` bytes
 abbrev pub integer_value : ℕ → Bool → ℕ → Value
 integer_value width true number = unsigned_integer number
 integer_value width false number = Int (twos_complement width number)

@@ -9,7 +9,7 @@ use Rattle.mysql_value_core.specs.declared.value.Value.{Value}
 use Rattle.mysql_value_core.specs.declared.value.Value.TheVariants.{Bytes}
 use Rattle.mysql_value_core.specs.declared.value.convert.FromValueError.{FromValueError}
 
--- The value converts to what the answer is seen as; or it doesn't convert, and the refusal holds
+-- The value converts to what the result is seen as; or it doesn't convert, and the refusal holds
 -- exactly this value.
 abbrev pub ConvertsOrHandsBack : {X Seen : Type 0} → (X → Seen) → Option Seen → Value
     → Result X FromValueError → Type 0
@@ -26,7 +26,7 @@ abbrev pub text_of : Value → Option (List ℕ)
 text_of (Bytes bytes) = if is_utf8 bytes then Some bytes else None
 text_of _ = None
 
--- the bytes of a value that are so many
+-- the bytes of a value, where there are `count`
 abbrev pub array_of : ℕ → Value → Option (List ℕ)
 array_of count (Bytes bytes) = if length bytes == count then Some bytes else None
 array_of count _ = None
@@ -46,5 +46,5 @@ cow_text (cow_str.Owned text) = (true, string_bytes text)
 cow_text (cow_str.Borrowed text) = (false, text.now)
 
 -- a `Cow` that owns the bytes
-abbrev pub owned : List ℕ → CowSeen
-owned bytes = (true, bytes)
+abbrev pub owned_cow : List ℕ → CowSeen
+owned_cow bytes = (true, bytes)

@@ -12,4 +12,5 @@ pub mod BinaryReading
 pub mod BinaryReadBack
 pub mod ValueOf
 pub mod DurationValue
+pub mod ValueTable
 pub mod FromValue

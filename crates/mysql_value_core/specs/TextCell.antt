@@ -6,9 +6,9 @@ use Rattle.mysql_value_core.specs.Value.{IsBytes}
 use Rattle.mysql_value_core.specs.declared.value.Value.{Value}
 use Rattle.mysql_value_core.specs.declared.value.Value.TheVariants.{NULL, Bytes}
 
--- the byte that is a cell of NULL: FB
+-- the byte that is a cell of NULL
 abbrev pub null_cell : ℕ
-null_cell = 251
+null_cell = 0xFB
 
 -- a cell is NULL, or bytes as a length-encoded string
 abbrev pub read_cell : List ℕ → Reading Value
@@ -16,7 +16,7 @@ read_cell [] = Err unexpected_eof
 read_cell (lead ∷ bytes) =
     if lead == null_cell then Ok (NULL, bytes) else map_read Bytes (read_lenenc (lead ∷ bytes))
 
--- so many cells in a row, or the refusal of the first that has one
+-- `count` cells, one after another, or the refusal of the first that has one
 abbrev pub read_cells : ℕ → List ℕ → Reading (List Value)
 read_cells zero bytes = Ok ([], bytes)
 read_cells (suc count) bytes =

@@ -5,7 +5,7 @@ use Rattle.mysql_sql_text.specs.TimeText.{IsTimeText, total_microseconds}
 use Rattle.mysql_value_core.specs.declared.value.Value.{Value}
 use Rattle.mysql_value_core.specs.declared.value.Value.TheVariants.{Time}
 
--- between the quotes stands a time text without `-`, of so many microseconds
+-- between the quotes stands a time text without `-`, of these microseconds
 abbrev pub QuotesTime : ℕ → List ℕ → Type 0
 QuotesTime microseconds literal =
     (text : List ℕ) × (quoted text ≡ literal) × IsTimeText text false microseconds

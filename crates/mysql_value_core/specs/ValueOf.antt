@@ -60,7 +60,7 @@ bool_value false = Ok (Int (pos 0))
 abbrev pub bytes_value : List ℕ → Meaning
 bytes_value bytes = Ok (Bytes bytes)
 
--- the value of a thing that may be lacking, by that of the thing: NULL stands for none
+-- the value of an optional thing, by that of the thing: NULL stands for none
 abbrev pub option_value : {T : Type 0} → (T → Meaning) → Option T → Meaning
 option_value value_of None = Ok NULL
 option_value value_of (Some thing) = value_of thing

@@ -1,20 +1,25 @@
 //! Laws of the types of this crate. No program needs to call them.
-ghost use Rattle.std.specs.Prelude.{◌≡◌, ◌↔◌, IsTrue, Some};
+ghost use Rattle.std.specs.Prelude.{◌≡◌, ◌↔◌, IsTrue, None, Some};
 ghost use Rattle.std.specs.Cmp.{IsTotalOrder};
 ghost use Rattle.std.specs.Cmp.Lexicographic.{slice_cmp};
 ghost use Rattle.std.specs.Ordering.{nat_cmp};
 ghost use Rattle.std.specs.declared.cmp.Ordering.TheVariants.{Equal};
 ghost use Rattle.mysql_value_core.specs.declared.value.Value as value;
+ghost use Rattle.mysql_value_core.specs.ValueOf.{AnswersValue, MeansBytes};
 ghost use Rattle.mysql_value_core.specs.ValueOrder.{value_cmp};
 
 mod literals;
 
 use crate::bytes::Bytes;
-use crate::value::convert::{FromValueError, ToValueError};
-use crate::value::{ClientSide, SerializationSide, ServerSide, Value};
+use crate::value::convert::{FromValueError, ToValue, ToValueError};
+use crate::value::{
+    BinValue, ClientSide, SerializationSide, ServerSide, TextValue, Value, ValueDeserializer,
+};
 pub use literals::{
     as_sql_error_equality, floats_have_no_literal, literal_reads_back, literal_shape,
 };
+use mysql_wire_part::MyDeserialize;
+use std::alloc::Global;
 use std::cmp::Ordering;
 
 /// Bytes are equal where the lists are.
@@ -71,6 +76,24 @@ pub fn value_order_is_total()
     ensures total { IsTotalOrder value_cmp }
     ensures equal { (a b : value.Value) → (value_cmp a b ≡ Equal) ↔ (a ≡ b) }
 {}
+
+/// The value of an object is the one that its own type names.
+pub fn object_value(alloc: Global, object: &dyn ToValue) -> Result<Value, ToValueError>
+    ensures value { AnswersValue (value_of object.now) (MeansBytes (value_of object.now)) result }
+{
+    object.to_value(alloc)
+}
+
+/// Neither form of a value has the same number of bytes for all values.
+pub fn sizes_of_readings() -> (Option<usize>, Option<usize>)
+    ensures text { result.0 ≡ None }
+    ensures binary { result.1 ≡ None }
+{
+    (
+        ValueDeserializer::<TextValue>::SIZE,
+        ValueDeserializer::<BinValue>::SIZE,
+    )
+}
 
 /// Any two `ServerSide` are equal.
 pub fn server_side_equality(a: &ServerSide, b: &ServerSide) -> bool

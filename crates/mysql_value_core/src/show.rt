@@ -1,4 +1,4 @@
-//! How bytes and values are shown for debugging and in messages. `Shown` is lent to the crates
+//! How bytes and values are shown for debugging and in messages. `Shown` serves the crates
 //! above, whose messages show names.
 use crate::value::Value;
 use std::fmt;

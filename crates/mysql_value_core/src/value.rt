@@ -98,7 +98,10 @@ pub struct ValueDeserializer<T>(pub Value, PhantomData<T>);
 impl Clone for Value {
     ghost is_clone = { λ value copy. copy ≡ value };
 
-    fn clone(&self) -> Result<Value, AllocError> {
+    fn clone(&self) -> Result<Value, AllocError>
+        ensures equal { IfOk result (λ copy. copy ≡ self.now) }
+        ensures memory { OnErr result (IsBytes self.now) }
+    {
         Value::clone(self)
     }
 }

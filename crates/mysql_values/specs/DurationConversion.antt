@@ -1,21 +1,23 @@
 -- Conversions to a duration, of which contracts see the nanoseconds.
-use Rattle.std.specs.Prelude.{◌≡◌, ℕ, ◌*◌, Bool, true, false, List, Ok, Err, Option, None, Some, ⊤}
+use Rattle.std.specs.Prelude.{◌≡◌, ◌≤◌, ℕ, ◌*◌, ◌/◌, ◌^◌, Bool, true, false, List, Result, Ok, Err, Option, None, Some, ⊤}
 use Rattle.std.specs.Option.{option_map, option_and_then}
+use Rattle.std.specs.Duration.{as_nanos}
 use Rattle.std.specs.declared.time.Duration.{Duration}
-use Rattle.mysql_sql_text.specs.TimeText.{total_microseconds}
+use Rattle.mysql_sql_text.specs.TimeText.{IsTimeText, total_microseconds}
 use Rattle.mysql_sql_text.specs.ReadTimeText.{time_of_text}
 use Rattle.mysql_value_core.specs.ValueOf.{Meaning}
-use Rattle.mysql_value_core.specs.DurationValue.{duration_value, rounded_microseconds}
+use Rattle.mysql_value_core.specs.DurationValue.{rounded_microseconds}
 use Rattle.mysql_value_core.specs.declared.value.Value.{Value}
 use Rattle.mysql_value_core.specs.declared.value.Value.TheVariants.{Bytes, Time}
+use Rattle.mysql_value_core.specs.declared.value.convert.FromValueError.{FromValueError}
 use Rattle.mysql_values.specs.Intermediate.{committed}
 use Rattle.mysql_values.specs.declared.value.convert.intermediate.ParseIrOpt.{ParseIrOpt}
 use Rattle.mysql_values.specs.declared.value.convert.intermediate.ParseIrOpt.TheVariants.{Ready, Parsed}
 
 -- what is seen of an intermediate, by what is seen of the thing
-abbrev pub seen_parsed : {T Seen : Type 0} → (T → Seen) → ParseIrOpt T → ParseIrOpt Seen
-seen_parsed seen (Ready x) = Ready (seen x)
-seen_parsed seen (Parsed x value) = Parsed (seen x) value
+abbrev pub seen_intermediate : {T Seen : Type 0} → (T → Seen) → ParseIrOpt T → ParseIrOpt Seen
+seen_intermediate seen (Ready x) = Ready (seen x)
+seen_intermediate seen (Parsed x value) = Parsed (seen x) value
 
 -- the nanoseconds of a time that is not negative, given in microseconds
 abbrev pub positive_nanoseconds : Bool × ℕ → Option ℕ
@@ -35,13 +37,20 @@ duration_conversion (Bytes bytes) =
     option_map (λ nanoseconds. Parsed nanoseconds (Bytes bytes)) (nanoseconds_of_text bytes)
 duration_conversion _ = None
 
--- the value, where there is one, converts to a duration of so many nanoseconds
-abbrev pub ConvertsToNanoseconds : ℕ → Meaning → Type 0
-ConvertsToNanoseconds nanoseconds (Ok value) =
-    option_map committed (duration_conversion value) ≡ Some nanoseconds
-ConvertsToNanoseconds nanoseconds (Err duration) = ⊤
+-- The value of a duration converts back to the duration rounded to microseconds. Where there is no
+-- value, the days of the rounded duration are no number of 32 bits.
+abbrev pub ConvertsBackRounded : Duration → Meaning → Type 0
+ConvertsBackRounded duration (Ok value) =
+    option_map committed (duration_conversion value) ≡ Some (rounded_microseconds duration * 1000)
+ConvertsBackRounded duration (Err too_long) =
+    2 ^ 32 ≤ rounded_microseconds duration / 1000000 / 86400
 
--- the value of a duration converts back to the duration rounded to microseconds
-abbrev pub ConvertsBackRounded : Duration → Type 0
-ConvertsBackRounded duration =
-    ConvertsToNanoseconds (rounded_microseconds duration * 1000) (duration_value duration)
+-- Bytes convert exactly where they are a time text without `-`, to a duration of its microseconds.
+-- Of other values this says nothing.
+abbrev pub ConvertsTimeTexts : Value → Result (ParseIrOpt Duration) FromValueError → Type 0
+ConvertsTimeTexts (Bytes text) (Ok ir) =
+    (microseconds : ℕ) × IsTimeText text false microseconds
+    × (as_nanos (committed ir) ≡ microseconds * 1000)
+ConvertsTimeTexts (Bytes text) (Err error) =
+    (microseconds : ℕ) → IsTimeText text false microseconds → ⊥
+ConvertsTimeTexts value result = ⊤

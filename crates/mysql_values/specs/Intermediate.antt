@@ -10,9 +10,9 @@ committed (Ready x) = x
 committed (Parsed x value) = x
 
 -- the stored value, or else the value of the thing
-abbrev pub rolled_back : {T : Type 0} → (T → Meaning) → ParseIrOpt T → Meaning
-rolled_back value_of (Ready x) = value_of x
-rolled_back value_of (Parsed x value) = Ok value
+abbrev pub rollback_value : {T : Type 0} → (T → Meaning) → ParseIrOpt T → Meaning
+rollback_value value_of (Ready x) = value_of x
+rollback_value value_of (Parsed x value) = Ok value
 
 -- handing the value back takes memory only for the bytes of a thing
 abbrev pub RollbackTakesMemory : {T : Type 0} → (T → Meaning) → ParseIrOpt T → Type 0

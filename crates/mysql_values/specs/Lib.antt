@@ -21,6 +21,7 @@ pub use Rattle.mysql_sql_text.specs.LiteralShape
 pub use Rattle.mysql_value_core.specs.TimeLiteral
 pub use Rattle.mysql_value_core.specs.ValueOf
 pub use Rattle.mysql_value_core.specs.DurationValue
+pub use Rattle.mysql_value_core.specs.ValueTable
 pub use Rattle.mysql_value_core.specs.FromValue
 pub mod Decimal
 pub mod Intermediate

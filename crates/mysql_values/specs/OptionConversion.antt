@@ -25,12 +25,12 @@ abbrev pub ConvertsToOption : {T Ir Seen : Type 0} → (Ir → Seen) → (Value 
 ConvertsToOption seen conversion value result =
     ConvertsOrHandsBack (seen_option seen) (option_conversion conversion value) value result
 
--- the value that it is undone to, by that of the thing's own intermediate
-abbrev pub option_undone : {T Ir : Type 0} → (Ir → Meaning) → OptionIr2 T Ir → Meaning
-option_undone undo option_ir.None = Ok NULL
-option_undone undo (option_ir.Some ir) = undo ir
+-- the value that it is rolled back to, by that of the thing's own intermediate
+abbrev pub option_undo : {T Ir : Type 0} → (Ir → Meaning) → OptionIr2 T Ir → Meaning
+option_undo undo option_ir.None = Ok NULL
+option_undo undo (option_ir.Some ir) = undo ir
 
--- undoing it takes memory where that of the thing's own intermediate does
+-- rolling it back takes memory where that of the thing's own intermediate does
 abbrev pub OptionTakesMemory : {T Ir : Type 0} → (Ir → Type 0) → OptionIr2 T Ir → Type 0
 OptionTakesMemory takes_memory option_ir.None = ⊥
 OptionTakesMemory takes_memory (option_ir.Some ir) = takes_memory ir

@@ -2,23 +2,16 @@
 use Rattle.std.specs.Prelude.{ℕ, ◌==◌, Bool, true, false, not, if◌then◌else◌, pos, List, [], ◌∷◌, Option, None, Some}
 use Rattle.std.specs.Ordering.{int_eq}
 use Rattle.std.specs.Option.{option_map}
+use Rattle.std.specs.Str.{byte}
 use Rattle.mysql_value_core.specs.declared.value.Value.{Value}
 use Rattle.mysql_value_core.specs.declared.value.Value.TheVariants.{Bytes, Int, UInt}
 use Rattle.mysql_values.specs.declared.value.convert.intermediate.ParseIrOpt.{ParseIrOpt}
 use Rattle.mysql_values.specs.declared.value.convert.intermediate.ParseIrOpt.TheVariants.{Ready, Parsed}
 
--- b'0'
-abbrev pub digit_zero : ℕ
-digit_zero = 48
-
--- b'1'
-abbrev pub digit_one : ℕ
-digit_one = 49
-
 -- the truth value of a text: `0` is false and `1` is true
 abbrev pub truth_of_text : List ℕ → Option Bool
-truth_of_text (byte ∷ []) =
-    if byte == digit_zero then Some false else if byte == digit_one then Some true else None
+truth_of_text (digit ∷ []) =
+    if digit == byte "0" then Some false else if digit == byte "1" then Some true else None
 truth_of_text _ = None
 
 -- the conversion of a value: a number is true where it isn't 0

@@ -1,8 +1,6 @@
 //! Laws of the types of this crate and of the one below. No program needs to call them.
-ghost use Rattle.std.specs.Prelude.{◌≡◌, ◌↔◌, IsTrue, Some, Ok, string_bytes};
+ghost use Rattle.std.specs.Prelude.{◌≡◌, ◌↔◌, IsTrue, Some, string_bytes};
 ghost use Rattle.mysql_value_core.specs.FromValue.{array_of, bytes_of, text_of};
-ghost use Rattle.mysql_value_core.specs.declared.value.Value.TheVariants.{Bytes as BytesOf};
-ghost use Rattle.mysql_value_core.specs.ValueOf.{bool_value};
 ghost use Rattle.mysql_value_core.specs.ValueOrder.{value_cmp};
 ghost use Rattle.mysql_values.specs.DurationConversion.{ConvertsBackRounded};
 ghost use Rattle.mysql_values.specs.Intermediate.{committed, AreEqualParsed};
@@ -11,13 +9,15 @@ ghost use Rattle.mysql_values.specs.Rollback.{ConvertsBack};
 ghost use Rattle.mysql_values.specs.Truth.{truth_conversion};
 ghost use Rattle.mysql_values.specs.WholeNumber.{whole_conversion};
 
-use crate::value::convert::{FromValue, OptionIr2, ParseIr, ParseIrOpt, ValueIr, WholeNumber};
+use crate::value::convert::{
+    FromValue, OptionIr2, ParseIr, ParseIrOpt, ToValue, ValueIr, WholeNumber,
+};
 pub use mysql_sql_text::laws::{escapes_read, numbers_read, time_texts_are_read, times_read_back};
 pub use mysql_value_core::laws::{
     as_sql_error_equality, bytes_equality, bytes_order, floats_have_no_literal,
     from_value_error_equality, literal_reads_back, literal_shape, null_bitmap_offsets,
-    server_side_equality, to_value_error_equality, value_equality, value_order,
-    value_order_is_total, value_partial_order,
+    object_value, server_side_equality, sizes_of_readings, to_value_error_equality, value_equality,
+    value_order, value_order_is_total, value_partial_order,
 };
 use std::cmp::Ordering;
 use std::time::Duration;
@@ -73,34 +73,35 @@ pub fn whole_number_converts_back<T: WholeNumber + Drop>(number: &T)
 /// A truth value converts back from its value.
 pub fn truth_converts_back(truth: &bool)
     ensures converts_back { ConvertsBack truth_conversion committed
-        (bool_value truth.now) truth.now }
+        (⟦<bool as ToValue>⟧.value_of truth.now) truth.now }
 {
     let _truth = *truth;
 }
 
 /// A duration converts back from its value, rounded half up to microseconds.
 pub fn duration_converts_back(duration: &Duration)
-    ensures rounded { ConvertsBackRounded duration.now }
+    ensures rounded { ConvertsBackRounded duration.now
+        (⟦<Duration as ToValue>⟧.value_of duration.now) }
 {
     let _duration = *duration;
 }
 
-/// A text converts back from its bytes.
+/// A text converts back from its value.
 pub fn text_converts_back(text: &String)
     ensures converts_back { ConvertsBack text_of (λ seen. seen)
-        (Ok (BytesOf (string_bytes text.now))) (string_bytes text.now) }
+        (⟦<String as ToValue>⟧.value_of text.now) (string_bytes text.now) }
 {
     let _text = text.as_str();
 }
 
-/// Bytes convert back from the value that holds them.
+/// Bytes convert back from their value.
 pub fn bytes_convert_back(bytes: &Vec<u8>)
     ensures converts_back { ConvertsBack bytes_of (λ seen. seen)
-        (Ok (BytesOf bytes.now.items)) bytes.now.items }
+        (⟦<Vec<u8> as ToValue>⟧.value_of bytes.now) bytes.now.items }
 {}
 
-/// An array of bytes converts back from the value that holds them.
+/// An array of bytes converts back from its value.
 pub fn array_converts_back<const N: usize>(bytes: &[u8; N])
     ensures converts_back { ConvertsBack (array_of N) (λ seen. seen)
-        (Ok (BytesOf bytes.now)) bytes.now }
+        (⟦<[u8; N] as ToValue>⟧.value_of bytes.now) bytes.now }
 {}

@@ -1,4 +1,4 @@
-//! Values of the MySQL client/server protocol: all of `mysql_value_core`, handed on by name, and
+//! Values of the MySQL client/server protocol: all of `mysql_value_core`, re-exported by name, and
 //! conversions of values with their way back.
 #![tactic(auto)]
 

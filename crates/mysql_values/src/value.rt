@@ -1,3 +1,4 @@
+//! Values, re-exported, and their conversions.
 pub mod convert;
 
 pub use mysql_value_core::value::{

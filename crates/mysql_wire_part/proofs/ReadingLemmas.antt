@@ -23,7 +23,7 @@ pub read_bytes-append : (k : ℕ) (text rest : List ℕ) → length text ≡ k
 read_bytes-append k text rest same =
     cond-true (leb k (length (text ++ rest))) _ _ (are_enough k text rest same)
     ∙ ap (λ front. Ok (front, drop k (text ++ rest))) (take-append k text rest same)
-    ∙ ap (λ behind. Ok (text, behind)) (drop-append k text rest same)
+    ∙ ap (λ left. Ok (text, left)) (drop-append k text rest same)
 
 -- a number reads back before any bytes
 pub read_number-little_bytes : (k n : ℕ) (rest : List ℕ) → n < 256 ^ k
@@ -33,4 +33,4 @@ read_number-little_bytes k n rest fits =
     cond-true (leb k (length (little_bytes k n ++ rest))) _ _
     (are_enough k (little_bytes k n) rest same)
     ∙ ap (λ x. Ok (x, drop k (little_bytes k n ++ rest))) (little_number-reads_back k n rest fits)
-    ∙ ap (λ behind. Ok (n, behind)) (drop-append k (little_bytes k n) rest same)
+    ∙ ap (λ left. Ok (n, left)) (drop-append k (little_bytes k n) rest same)

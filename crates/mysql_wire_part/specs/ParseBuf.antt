@@ -1,4 +1,4 @@
--- What a call that reads the front of a buffer answers, and what it leaves in the buffer.
+-- What a call that reads the front of a buffer returns, and what it leaves in the buffer.
 use Rattle.std.specs.Prelude.{◌≡◌, ℕ, List, Option, Some, None, Result, Ok, Err}
 use Rattle.mysql_wire_part.specs.declared.error.WireError.{WireError}
 use Rattle.mysql_wire_part.specs.declared.error.WireError.TheVariants.{UnexpectedEof, BadLengthLead, UnsupportedColumn, Memory}
@@ -9,7 +9,7 @@ use Rattle.mysql_wire_part.specs.Reading.{ReadRefusal, Reading, unexpected_eof, 
 abbrev pub left : ParseBuf → List ℕ
 left buf = buf.0.now
 
--- The call answers what is read and leaves what follows it; or too few bytes are there, and the
+-- The call returns what is read and leaves what follows it; or too few bytes are there, and the
 -- buffer is unchanged. The bytes of the buffer are `old` before the call and `new` after it.
 abbrev pub Eats : {X : Type 0} → Reading X → List ℕ → List ℕ → Option X → Type 0
 Eats read old new (Some x) = read ≡ Ok (x, new)

@@ -4,11 +4,11 @@ use Rattle.std.specs.Prelude.{ℕ, nat_le, List, length, take, drop, Result, Ok,
 use Rattle.byteorder.specs.Endian.{little_number}
 use Rattle.mysql_wire_part.specs.declared.column.ColumnType.{ColumnType}
 
--- why nothing can be read; want of memory is no such reason
+-- why nothing can be read; running out of memory is no such reason
 pub data ReadRefusal : Type 0 where
   -- too few bytes
   unexpected_eof : ReadRefusal
-  -- a byte that begins no length stands where a length is wanted
+  -- a byte that begins no length stands where a length is expected
   bad_length_lead : ℕ → ReadRefusal
   -- values of this column type are not read
   unsupported_column : ColumnType → ReadRefusal

@@ -1,3 +1,4 @@
+//! The traits of what is written to a buffer and of what is read from one.
 ghost use Rattle.std.specs.Prelude.{◌≡◌, ℕ, List, ◌++◌, OnOk, OnErr};
 ghost use Rattle.mysql_wire_part.specs.Reading.{Reading};
 ghost use Rattle.mysql_wire_part.specs.ParseBuf.{left, AnswersReading};
@@ -19,8 +20,7 @@ pub trait MySerialize {
 
 /// What can be read from the front of a buffer.
 pub trait MyDeserialize<'de>: Sized {
-    /// The number of bytes that a value takes, where all values take the same. No contract speaks
-    /// of it.
+    /// The number of bytes that a value takes, where all values take the same.
     const SIZE: Option<usize>;
 
     /// What has to be known to read a value.
@@ -34,7 +34,7 @@ pub trait MyDeserialize<'de>: Sized {
     // what stands at the front of the bytes, and what follows it, or why nothing can be read
     ghost reads: { Self.Ctx → List ℕ → Reading Seen };
 
-    // where a reading takes memory, so that want of it may be answered
+    // where a reading takes memory, so that it may run out
     ghost takes_memory: { Self.Ctx → List ℕ → Type 0 };
 
     /// Takes a value off the front of the buffer. On each error the buffer is unchanged.

@@ -1,3 +1,4 @@
+//! Types and flags of columns.
 ghost use Rattle.std.specs.Prelude.{⊤, [], ◌∷◌, codes};
 ghost use Rattle.mysql_wire_part.specs.Column.{flag_bits, unsigned_flag};
 

@@ -1,3 +1,4 @@
+//! Why nothing was read.
 ghost use Rattle.std.specs.Prelude.{◌≡◌, alloc_error};
 ghost use Rattle.mysql_wire_part.specs.declared.error.WireError.TheVariants.{Memory};
 

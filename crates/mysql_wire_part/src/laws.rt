@@ -1,5 +1,4 @@
 //! Laws of this crate's types, each the contract of a function.
-
 ghost use Rattle.std.specs.Prelude.{◌≡◌, ◌↔◌, IsTrue};
 ghost use Rattle.mysql_wire_part.specs.ParseBuf.{left};
 

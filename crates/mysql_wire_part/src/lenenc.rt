@@ -1,3 +1,4 @@
+//! Length-encoded strings, written and read.
 ghost use Rattle.std.specs.Prelude.{◌≡◌, ◌≤◌, ◌++◌, length, take, OnOk, OnErr};
 ghost use Rattle.mysql_wire_part.specs.Reading.{read_number};
 ghost use Rattle.mysql_wire_part.specs.Lenenc.{length_spelling, lenenc_spelling, read_length, LenencReadsBack};
@@ -7,7 +8,7 @@ use crate::error::WireError;
 use byteorder::{ByteOrder, LittleEndian};
 use std::alloc::AllocError;
 
-// The least lengths that take 2, 3 and 8 bytes behind a lead; a smaller one is a byte by itself.
+// The least lengths that take 2, 3 and 8 bytes after a lead; a smaller one is a byte by itself.
 const LEAST_OF_TWO: u64 = 251;
 
 const LEAST_OF_THREE: u64 = 0x1_0000;

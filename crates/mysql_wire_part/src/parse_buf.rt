@@ -1,3 +1,4 @@
+//! A buffer that is read from its front.
 ghost use Rattle.std.specs.Prelude.{◌≡◌, ◌↔◌, [], length, IsTrue, OnErr, option_map};
 ghost use Rattle.byteorder.specs.Endian.{twos_complement};
 ghost use Rattle.mysql_wire_part.specs.Reading.{read_bytes, read_number, map_read};
@@ -8,7 +9,7 @@ use crate::error::WireError;
 use crate::lenenc::length_at;
 use byteorder::{ByteOrder, LittleEndian};
 
-/// The bytes that are left of a buffer. Each call that eats takes what it answers off the front.
+/// The bytes that are left of a buffer. Each call that eats takes what it returns off the front.
 #[derive(Clone, Copy, Debug, PartialEq, Eq)]
 pub struct ParseBuf<'a>(pub &'a [u8]);
 
@@ -107,7 +108,7 @@ impl<'a> ParseBuf<'a> {
 
     /// The next length-encoded string, as a slice of the input.
     pub fn eat_lenenc_str(&mut self) -> Result<&'a [u8], WireError>
-        // It takes no memory, so it never answers want of it.
+        // It takes no memory, so it never runs out.
         ensures read { AnswersReading (λ text. (text.now, left self.new))
             (read_lenenc (left self.old)) ⊥ result }
         ensures unchanged { OnErr result (left self.new ≡ left self.old) }

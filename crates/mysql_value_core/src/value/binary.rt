@@ -167,7 +167,7 @@ impl<'de> MyDeserialize<'de> for ValueDeserializer<BinValue> {
         ctx: (ColumnType, ColumnFlags),
         buf: &mut ParseBuf<'de>,
     ) -> Result<Self, WireError>
-        // Only a reading of bytes takes memory, so nothing else answers want of it.
+        // Only a reading of bytes takes memory, so nothing else runs out of it.
         ensures read { AnswersReading (λ read. (read.0, left buf.new))
             (read_binary ctx.0 (is_unsigned ctx.1) (left buf.old))
             (ReadsBytes (read_binary ctx.0 (is_unsigned ctx.1) (left buf.old))) result }
@@ -281,7 +281,7 @@ fn eat_double(buf: &mut ParseBuf<'_>) -> Result<Value, WireError>
     }
 }
 
-// A length byte and that many bytes, which are answered.
+// A length byte and that many bytes, which are returned.
 fn eat_counted<'a>(buf: &mut ParseBuf<'a>) -> Result<&'a [u8], WireError>
     ensures read { AnswersReading (λ fields. (fields.now, left buf.new))
         (read_counted (left buf.old)) ⊥ result }

@@ -10,6 +10,9 @@ use mysql_wire_part::{MyDeserialize, ParseBuf, WireError};
 use std::alloc::{AllocError, Global};
 use std::marker::PhantomData;
 
+// The byte that is a cell of NULL.
+const NULL_CELL: u8 = 0xFB;
+
 /// The text form of a value, a cell: NULL, or bytes.
 #[derive(Drop)]
 pub struct TextValue;
@@ -33,8 +36,8 @@ impl<'de> MyDeserialize<'de> for ValueDeserializer<TextValue> {
     }
 }
 
-/// Reads so many cells. It asks for the room of a cell only once the cell is there. On each error
-/// the buffer is unchanged; it is the error of the first cell that has one, or want of memory.
+/// Reads `count` cells. It asks for the room of a cell only once the cell is there. On each error
+/// the buffer is unchanged; it is the error of the first cell that has one, or it is out of memory.
 pub fn read_text_cells(
     alloc: Global,
     buf: &mut ParseBuf<'_>,
@@ -61,7 +64,7 @@ fn eat_cell(alloc: Global, buf: &mut ParseBuf<'_>) -> Result<Value, WireError>
         (read_cell (left buf.old)) (ReadsBytes (read_cell (left buf.old))) result }
     ensures unchanged { OnErr result (left buf.new ≡ left buf.old) }
 {
-    if let [0xFB, rest @ ..] = buf.0 {
+    if let [NULL_CELL, rest @ ..] = buf.0 {
         buf.0 = rest;
         return Ok(Value::NULL);
     }

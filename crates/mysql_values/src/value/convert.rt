@@ -33,8 +33,8 @@ pub trait IntoValue {
     // where handing it back takes memory
     ghost takes_memory: { Self → Type 0 };
 
-    /// The value that it is undone to. Of what `get_intermediate` gave, it converts to the same
-    /// thing.
+    /// The value that it is rolled back to. Of what `get_intermediate` gave, that value converts to
+    /// the same thing.
     fn into_value(self, alloc: Global) -> Result<Value, ToValueError>
         ensures { AnswersValue (undo self) (takes_memory self) result };
 }
@@ -89,10 +89,8 @@ pub trait FromValue: Sized {
     fn from_value_opt(v: Value) -> Result<Self, FromValueError>
         ensures { ConvertsOrHandsBack seen (option_map commit (conversion v)) v result }
     {
-        match Self::get_intermediate(v) {
-            Ok(ir) => Ok(Self::commit_intermediate(ir)),
-            Err(error) => Err(error),
-        }
+        let ir = Self::get_intermediate(v)?;
+        Ok(Self::commit_intermediate(ir))
     }
 }
 

@@ -1,5 +1,5 @@
 //! The values of whole numbers and truth values.
-ghost use Rattle.mysql_value_core.specs.ValueOf.{bool_value, int_value, uint_value, wide_int_value, wide_uint_value};
+ghost use Rattle.mysql_value_core.specs.ValueTable.{value_of_bool, value_of_i128, value_of_i16, value_of_i32, value_of_i64, value_of_i8, value_of_isize, value_of_u128, value_of_u16, value_of_u32, value_of_u64, value_of_u8, value_of_usize};
 
 use crate::bytes::Bytes;
 use crate::value::Value;
@@ -10,7 +10,7 @@ mod duration;
 mod texts;
 
 impl ToValue for i8 {
-    ghost value_of = { int_value };
+    ghost value_of = { value_of_i8 };
 
     fn to_value(&self, _alloc: Global) -> Result<Value, ToValueError> {
         Ok(Value::Int(i64::from(*self)))
@@ -18,7 +18,7 @@ impl ToValue for i8 {
 }
 
 impl ToValue for i16 {
-    ghost value_of = { int_value };
+    ghost value_of = { value_of_i16 };
 
     fn to_value(&self, _alloc: Global) -> Result<Value, ToValueError> {
         Ok(Value::Int(i64::from(*self)))
@@ -26,7 +26,7 @@ impl ToValue for i16 {
 }
 
 impl ToValue for i32 {
-    ghost value_of = { int_value };
+    ghost value_of = { value_of_i32 };
 
     fn to_value(&self, _alloc: Global) -> Result<Value, ToValueError> {
         Ok(Value::Int(i64::from(*self)))
@@ -34,7 +34,7 @@ impl ToValue for i32 {
 }
 
 impl ToValue for i64 {
-    ghost value_of = { int_value };
+    ghost value_of = { value_of_i64 };
 
     fn to_value(&self, _alloc: Global) -> Result<Value, ToValueError> {
         Ok(Value::Int(*self))
@@ -42,7 +42,7 @@ impl ToValue for i64 {
 }
 
 impl ToValue for isize {
-    ghost value_of = { int_value };
+    ghost value_of = { value_of_isize };
 
     fn to_value(&self, _alloc: Global) -> Result<Value, ToValueError> {
         Ok(Value::Int(*self as i64))
@@ -50,7 +50,7 @@ impl ToValue for isize {
 }
 
 impl ToValue for u8 {
-    ghost value_of = { uint_value };
+    ghost value_of = { value_of_u8 };
 
     fn to_value(&self, _alloc: Global) -> Result<Value, ToValueError> {
         Ok(Value::UInt(u64::from(*self)))
@@ -58,7 +58,7 @@ impl ToValue for u8 {
 }
 
 impl ToValue for u16 {
-    ghost value_of = { uint_value };
+    ghost value_of = { value_of_u16 };
 
     fn to_value(&self, _alloc: Global) -> Result<Value, ToValueError> {
         Ok(Value::UInt(u64::from(*self)))
@@ -66,7 +66,7 @@ impl ToValue for u16 {
 }
 
 impl ToValue for u32 {
-    ghost value_of = { uint_value };
+    ghost value_of = { value_of_u32 };
 
     fn to_value(&self, _alloc: Global) -> Result<Value, ToValueError> {
         Ok(Value::UInt(u64::from(*self)))
@@ -74,7 +74,7 @@ impl ToValue for u32 {
 }
 
 impl ToValue for u64 {
-    ghost value_of = { uint_value };
+    ghost value_of = { value_of_u64 };
 
     fn to_value(&self, _alloc: Global) -> Result<Value, ToValueError> {
         Ok(Value::UInt(*self))
@@ -82,7 +82,7 @@ impl ToValue for u64 {
 }
 
 impl ToValue for usize {
-    ghost value_of = { uint_value };
+    ghost value_of = { value_of_usize };
 
     fn to_value(&self, _alloc: Global) -> Result<Value, ToValueError> {
         Ok(Value::UInt(*self as u64))
@@ -90,7 +90,7 @@ impl ToValue for usize {
 }
 
 impl ToValue for i128 {
-    ghost value_of = { wide_int_value };
+    ghost value_of = { value_of_i128 };
 
     fn to_value(&self, alloc: Global) -> Result<Value, ToValueError> {
         let number = *self;
@@ -106,7 +106,7 @@ impl ToValue for i128 {
 }
 
 impl ToValue for u128 {
-    ghost value_of = { wide_uint_value };
+    ghost value_of = { value_of_u128 };
 
     fn to_value(&self, alloc: Global) -> Result<Value, ToValueError> {
         let number = *self;
@@ -119,7 +119,7 @@ impl ToValue for u128 {
 }
 
 impl ToValue for bool {
-    ghost value_of = { bool_value };
+    ghost value_of = { value_of_bool };
 
     fn to_value(&self, _alloc: Global) -> Result<Value, ToValueError> {
         Ok(Value::Int(i64::from(*self)))

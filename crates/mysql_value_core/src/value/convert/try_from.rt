@@ -1,7 +1,7 @@
 //! Values that become texts and bytes of the standard library. No memory is taken.
 ghost use Rattle.std.specs.Prelude.{string_bytes};
 ghost use Rattle.std.specs.Option.{option_map};
-ghost use Rattle.mysql_value_core.specs.FromValue.{ConvertsOrHandsBack, array_of, bytes_of, cow_bytes, cow_text, owned, text_of};
+ghost use Rattle.mysql_value_core.specs.FromValue.{ConvertsOrHandsBack, array_of, bytes_of, cow_bytes, cow_text, owned_cow, text_of};
 
 use crate::bytes::Bytes;
 use crate::value::Value;
@@ -25,7 +25,7 @@ impl TryFrom<Value> for CowSlice<'static, u8> {
     type Error = FromValueError;
 
     ghost try_from_gives = { λ v r.
-        ConvertsOrHandsBack cow_bytes (option_map owned (bytes_of v)) v r };
+        ConvertsOrHandsBack cow_bytes (option_map owned_cow (bytes_of v)) v r };
 
     fn try_from(value: Value) -> Result<CowSlice<'static, u8>, FromValueError> {
         match value {
@@ -74,12 +74,9 @@ impl TryFrom<Value> for CowStr<'static> {
     type Error = FromValueError;
 
     ghost try_from_gives = { λ v r.
-        ConvertsOrHandsBack cow_text (option_map owned (text_of v)) v r };
+        ConvertsOrHandsBack cow_text (option_map owned_cow (text_of v)) v r };
 
     fn try_from(value: Value) -> Result<CowStr<'static>, FromValueError> {
-        match String::try_from(value) {
-            Ok(text) => Ok(CowStr::Owned(text)),
-            Err(error) => Err(error),
-        }
+        Ok(CowStr::Owned(String::try_from(value)?))
     }
 }

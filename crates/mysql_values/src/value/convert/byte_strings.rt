@@ -1,7 +1,7 @@
 //! Conversions to bytes.
 ghost use Rattle.std.specs.Prelude.{◌≡◌, ℕ, List, Ok, ⊤, false};
 ghost use Rattle.std.specs.Option.{option_map};
-ghost use Rattle.mysql_value_core.specs.FromValue.{CowSeen, array_of, bytes_of, cow_bytes, owned};
+ghost use Rattle.mysql_value_core.specs.FromValue.{CowSeen, array_of, bytes_of, cow_bytes, owned_cow};
 ghost use Rattle.mysql_value_core.specs.declared.value.Value.TheVariants.{Bytes as BytesOf};
 
 use crate::bytes::Bytes;
@@ -106,7 +106,7 @@ impl FromValue for CowSlice<'static, u8> {
 
     ghost seen_ir = { cow_bytes };
 
-    ghost conversion = { λ v. option_map owned (bytes_of v) };
+    ghost conversion = { λ v. option_map owned_cow (bytes_of v) };
 
     ghost commit = { λ bytes. bytes };
 

@@ -1,6 +1,6 @@
 //! Decimal texts of any length.
 ghost use Rattle.std.specs.Prelude.{◌≡◌, ◌≤◌, ◌^◌, Some, IfSome, IfNone, unsigned_abs};
-ghost use Rattle.mysql_values.specs.Decimal.{decimal_number, signed};
+ghost use Rattle.mysql_values.specs.Decimal.{decimal_number, signed_number};
 
 use mysql_sql_text::digits::value_of_digits;
 
@@ -8,7 +8,7 @@ use mysql_sql_text::digits::value_of_digits;
 /// decimal one or where 128 bits do not hold the magnitude.
 pub(crate) fn decimal_parts(text: &[u8]) -> Option<(bool, u128)>
     ensures found { IfSome result (λ parts.
-        decimal_number text.now ≡ Some (signed parts.0 parts.1)) }
+        decimal_number text.now ≡ Some (signed_number parts.0 parts.1)) }
     ensures refused { IfNone result (IfSome (decimal_number text.now) (λ number.
         2 ^ 128 ≤ unsigned_abs number)) }
 {

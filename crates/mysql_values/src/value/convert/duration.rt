@@ -1,13 +1,13 @@
 //! Conversions to durations.
-ghost use Rattle.std.specs.Prelude.{◌≡◌, ◌*◌, ℕ, IfOk};
+ghost use Rattle.std.specs.Prelude.{◌≡◌, ◌*◌, ℕ};
 ghost use Rattle.std.specs.Option.{option_map};
 ghost use Rattle.std.specs.Duration.{as_nanos};
 ghost use Rattle.mysql_sql_text.specs.TimeText.{total_microseconds};
-ghost use Rattle.mysql_value_core.specs.DurationValue.{duration_value};
 ghost use Rattle.mysql_value_core.specs.FromValue.{ConvertsOrHandsBack};
-ghost use Rattle.mysql_values.specs.DurationConversion.{duration_conversion, nanoseconds_of_text, seen_parsed};
-ghost use Rattle.mysql_values.specs.Intermediate.{committed, rolled_back, RollbackTakesMemory};
-ghost use Rattle.mysql_values.specs.Rollback.{NullFromNull, RollsBack};
+ghost use Rattle.mysql_value_core.specs.ValueTable.{value_of_duration};
+ghost use Rattle.mysql_values.specs.DurationConversion.{ConvertsTimeTexts, duration_conversion, nanoseconds_of_text, seen_intermediate};
+ghost use Rattle.mysql_values.specs.Intermediate.{committed};
+ghost use Rattle.mysql_values.specs.Rollback.{ConvertsAndRollsBack};
 ghost use Rattle.mysql_values.specs.declared.value.convert.intermediate.ParseIrOpt as parsed_ir;
 
 use crate::value::Value;
@@ -30,6 +30,7 @@ fn duration_of(days: u32, hours: u8, minutes: u8, seconds: u8, microseconds: u32
     Duration::new(seconds + carried, part * NANOSECONDS_PER_MICROSECOND)
 }
 
+// The duration of a time text without `-`.
 fn duration_of_text(text: &[u8]) -> Option<Duration>
     ensures { option_map as_nanos result ≡ nanoseconds_of_text text.now }
 {
@@ -43,7 +44,7 @@ impl TryFrom<Value> for ParseIrOpt<Duration> {
     type Error = FromValueError;
 
     ghost try_from_gives = { λ v r.
-        ConvertsOrHandsBack (seen_parsed as_nanos) (duration_conversion v) v r };
+        ConvertsOrHandsBack (seen_intermediate as_nanos) (duration_conversion v) v r };
 
     fn try_from(value: Value) -> Result<ParseIrOpt<Duration>, FromValueError> {
         match value {
@@ -79,7 +80,7 @@ impl FromValue for Duration {
 
     ghost SeenIr = { parsed_ir.ParseIrOpt ℕ };
 
-    ghost seen_ir = { seen_parsed as_nanos };
+    ghost seen_ir = { seen_intermediate as_nanos };
 
     ghost conversion = { duration_conversion };
 
@@ -90,13 +91,9 @@ impl FromValue for Duration {
     }
 
     fn get_intermediate(v: Value) -> Result<ParseIrOpt<Duration>, FromValueError>
-        ensures converts { ConvertsOrHandsBack (seen_parsed as_nanos)
-            (duration_conversion v) v result }
-        ensures rolls_back { IfOk result (λ ir.
-            RollsBack duration_conversion committed (rolled_back duration_value ir)
-            (seen_parsed as_nanos ir)) }
-        ensures null { IfOk result (λ ir. NullFromNull (rolled_back duration_value ir) v) }
-        ensures no_memory { IfOk result (λ ir. ¬ (RollbackTakesMemory duration_value ir)) }
+        ensures converts { ConvertsAndRollsBack (seen_intermediate as_nanos)
+            duration_conversion value_of_duration v result }
+        ensures time_texts { ConvertsTimeTexts v result }
     {
         ParseIrOpt::<Duration>::try_from(v)
     }

@@ -56,11 +56,11 @@ impl<T> ParseIrOpt<T> {
 }
 
 impl<T: ToValue + Drop> ParseIrOpt<T> {
-    ghost use Rattle.mysql_values.specs.Intermediate.{rolled_back, RollbackTakesMemory};
+    ghost use Rattle.mysql_values.specs.Intermediate.{rollback_value, RollbackTakesMemory};
 
     /// The value that is kept, or else that of the thing, which takes memory where it is `Bytes`.
     pub fn rollback(self, alloc: Global) -> Result<Value, ToValueError>
-        ensures { AnswersValue (rolled_back T.value_of self)
+        ensures { AnswersValue (rollback_value T.value_of self)
             (RollbackTakesMemory T.value_of self) result }
     {
         match self {
@@ -71,9 +71,9 @@ impl<T: ToValue + Drop> ParseIrOpt<T> {
 }
 
 impl<T: ToValue + Drop> IntoValue for ParseIrOpt<T> {
-    ghost use Rattle.mysql_values.specs.Intermediate.{rolled_back, RollbackTakesMemory};
+    ghost use Rattle.mysql_values.specs.Intermediate.{rollback_value, RollbackTakesMemory};
 
-    ghost undo = { rolled_back T.value_of };
+    ghost undo = { rollback_value T.value_of };
 
     ghost takes_memory = { RollbackTakesMemory T.value_of };
 

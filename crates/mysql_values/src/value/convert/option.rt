@@ -15,9 +15,9 @@ pub enum OptionIr2<T: FromValue> {
 }
 
 impl<T: FromValue> IntoValue for OptionIr2<T> {
-    ghost use Rattle.mysql_values.specs.OptionConversion.{option_undone, OptionTakesMemory};
+    ghost use Rattle.mysql_values.specs.OptionConversion.{option_undo, OptionTakesMemory};
 
-    ghost undo = { option_undone T.Intermediate.undo };
+    ghost undo = { option_undo T.Intermediate.undo };
 
     ghost takes_memory = { OptionTakesMemory T.Intermediate.takes_memory };
 
@@ -39,10 +39,7 @@ impl<T: FromValue> TryFrom<Value> for OptionIr2<T> {
     fn try_from(value: Value) -> Result<OptionIr2<T>, FromValueError> {
         match value {
             Value::NULL => Ok(OptionIr2::None),
-            other => match T::get_intermediate(other) {
-                Ok(ir) => Ok(OptionIr2::Some(ir)),
-                Err(error) => Err(error),
-            },
+            other => Ok(OptionIr2::Some(T::get_intermediate(other)?)),
         }
     }
 }
@@ -85,10 +82,7 @@ impl<T: FromValue> FromValue for Option<T> {
     fn get_intermediate(v: Value) -> Result<OptionIr2<T>, FromValueError> {
         match v {
             Value::NULL => Ok(OptionIr2::None),
-            other => match T::get_intermediate(other) {
-                Ok(ir) => Ok(OptionIr2::Some(ir)),
-                Err(error) => Err(error),
-            },
+            other => Ok(OptionIr2::Some(T::get_intermediate(other)?)),
         }
     }
 }

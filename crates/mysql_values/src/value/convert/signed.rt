@@ -2,16 +2,16 @@
 ghost use Rattle.std.specs.Prelude.{◌≡◌, true};
 ghost use Rattle.std.specs.Option.{SomeIff};
 ghost use Rattle.std.proofs.Common.{lit≤};
-ghost use Rattle.mysql_values.specs.Decimal.{signed};
+ghost use Rattle.mysql_values.specs.Decimal.{signed_number};
 ghost use Rattle.mysql_values.specs.Intermediate.{committed};
-ghost use Rattle.mysql_values.specs.WholeNumber.{holds};
+ghost use Rattle.mysql_values.specs.WholeNumber.{holds, i128_type, i16_type, i32_type, i64_type, i8_type, isize_type};
 
 use crate::value::convert::{ParseIrOpt, WholeNumber};
 
 // The number of a type with negative ones, of up to 128 bits.
 fn with_sign(negative: bool, magnitude: u128) -> Option<i128>
-    ensures { SomeIff result (holds true 128 (signed negative magnitude) ≡ true)
-        (signed negative magnitude) }
+    ensures { SomeIff result (holds true 128 (signed_number negative magnitude) ≡ true)
+        (signed_number negative magnitude) }
 {
     if negative {
         0i128.checked_sub_unsigned(magnitude)
@@ -21,13 +21,13 @@ fn with_sign(negative: bool, magnitude: u128) -> Option<i128>
 }
 
 impl WholeNumber for i8 {
-    ghost is_signed = { true };
+    ghost is_signed = { i8_type.is_signed };
 
-    ghost width = { 8 };
+    ghost width = { i8_type.width };
 
     ghost width_at_most_128 = { lit≤ tt };
 
-    ghost of_number = { λ number. number };
+    ghost of_number = { i8_type.of_number };
 
     #[tactic(auto, using(crate::proofs::WholeNumberLemmas::int_converts_back))]
     fn from_parts(negative: bool, magnitude: u128) -> Option<i8> {
@@ -40,13 +40,13 @@ impl WholeNumber for i8 {
 }
 
 impl WholeNumber for i16 {
-    ghost is_signed = { true };
+    ghost is_signed = { i16_type.is_signed };
 
-    ghost width = { 16 };
+    ghost width = { i16_type.width };
 
     ghost width_at_most_128 = { lit≤ tt };
 
-    ghost of_number = { λ number. number };
+    ghost of_number = { i16_type.of_number };
 
     #[tactic(auto, using(crate::proofs::WholeNumberLemmas::int_converts_back))]
     fn from_parts(negative: bool, magnitude: u128) -> Option<i16> {
@@ -59,13 +59,13 @@ impl WholeNumber for i16 {
 }
 
 impl WholeNumber for i32 {
-    ghost is_signed = { true };
+    ghost is_signed = { i32_type.is_signed };
 
-    ghost width = { 32 };
+    ghost width = { i32_type.width };
 
     ghost width_at_most_128 = { lit≤ tt };
 
-    ghost of_number = { λ number. number };
+    ghost of_number = { i32_type.of_number };
 
     #[tactic(auto, using(crate::proofs::WholeNumberLemmas::int_converts_back))]
     fn from_parts(negative: bool, magnitude: u128) -> Option<i32> {
@@ -78,13 +78,13 @@ impl WholeNumber for i32 {
 }
 
 impl WholeNumber for i64 {
-    ghost is_signed = { true };
+    ghost is_signed = { i64_type.is_signed };
 
-    ghost width = { 64 };
+    ghost width = { i64_type.width };
 
     ghost width_at_most_128 = { lit≤ tt };
 
-    ghost of_number = { λ number. number };
+    ghost of_number = { i64_type.of_number };
 
     #[tactic(auto, using(crate::proofs::WholeNumberLemmas::int_converts_back))]
     fn from_parts(negative: bool, magnitude: u128) -> Option<i64> {
@@ -97,13 +97,13 @@ impl WholeNumber for i64 {
 }
 
 impl WholeNumber for i128 {
-    ghost is_signed = { true };
+    ghost is_signed = { i128_type.is_signed };
 
-    ghost width = { 128 };
+    ghost width = { i128_type.width };
 
     ghost width_at_most_128 = { lit≤ tt };
 
-    ghost of_number = { λ number. number };
+    ghost of_number = { i128_type.of_number };
 
     #[tactic(auto, using(crate::proofs::WholeNumberLemmas::wide_int_converts_back))]
     fn from_parts(negative: bool, magnitude: u128) -> Option<i128> {
@@ -116,13 +116,13 @@ impl WholeNumber for i128 {
 }
 
 impl WholeNumber for isize {
-    ghost is_signed = { true };
+    ghost is_signed = { isize_type.is_signed };
 
-    ghost width = { 64 };
+    ghost width = { isize_type.width };
 
     ghost width_at_most_128 = { lit≤ tt };
 
-    ghost of_number = { λ number. number };
+    ghost of_number = { isize_type.of_number };
 
     #[tactic(auto, using(crate::proofs::WholeNumberLemmas::int_converts_back))]
     fn from_parts(negative: bool, magnitude: u128) -> Option<isize> {

@@ -1,7 +1,7 @@
 //! Conversions to texts.
 ghost use Rattle.std.specs.Prelude.{◌≡◌, ℕ, List, Ok, false, string_bytes};
 ghost use Rattle.std.specs.Option.{option_map};
-ghost use Rattle.mysql_value_core.specs.FromValue.{CowSeen, cow_text, owned, text_of};
+ghost use Rattle.mysql_value_core.specs.FromValue.{CowSeen, cow_text, owned_cow, text_of};
 ghost use Rattle.mysql_value_core.specs.declared.value.Value.TheVariants.{Bytes as BytesOf};
 
 use crate::bytes::Bytes;
@@ -71,7 +71,7 @@ impl FromValue for CowStr<'static> {
 
     ghost seen_ir = { cow_text };
 
-    ghost conversion = { λ v. option_map owned (text_of v) };
+    ghost conversion = { λ v. option_map owned_cow (text_of v) };
 
     ghost commit = { λ text. text };
 

@@ -1,15 +1,16 @@
 //! Conversions to truth values.
-ghost use Rattle.std.specs.Prelude.{◌≡◌, Bool, IfOk};
+ghost use Rattle.std.specs.Prelude.{◌≡◌, Bool};
 ghost use Rattle.mysql_value_core.specs.FromValue.{ConvertsOrHandsBack};
-ghost use Rattle.mysql_value_core.specs.ValueOf.{bool_value};
-ghost use Rattle.mysql_values.specs.Intermediate.{committed, rolled_back, RollbackTakesMemory};
-ghost use Rattle.mysql_values.specs.Rollback.{RollsBack, NullFromNull};
+ghost use Rattle.mysql_value_core.specs.ValueTable.{value_of_bool};
+ghost use Rattle.mysql_values.specs.Intermediate.{committed};
+ghost use Rattle.mysql_values.specs.Rollback.{ConvertsAndRollsBack};
 ghost use Rattle.mysql_values.specs.Truth.{truth_conversion, truth_of_text};
 ghost use Rattle.mysql_values.specs.declared.value.convert.intermediate.ParseIrOpt as parsed_ir;
 
 use crate::value::Value;
 use crate::value::convert::{FromValue, FromValueError, ParseIrOpt};
 
+// The truth value of a text.
 fn read_truth(text: &[u8]) -> Option<bool>
     ensures { result ≡ truth_of_text text.now }
 {
@@ -66,11 +67,7 @@ impl FromValue for bool {
     }
 
     fn get_intermediate(v: Value) -> Result<ParseIrOpt<bool>, FromValueError>
-        ensures converts { ConvertsOrHandsBack (λ ir. ir) (truth_conversion v) v result }
-        ensures rolls_back { IfOk result (λ ir.
-            RollsBack truth_conversion committed (rolled_back bool_value ir) ir) }
-        ensures null { IfOk result (λ ir. NullFromNull (rolled_back bool_value ir) v) }
-        ensures no_memory { IfOk result (λ ir. ¬ (RollbackTakesMemory bool_value ir)) }
+        ensures converts { ConvertsAndRollsBack (λ ir. ir) truth_conversion value_of_bool v result }
     {
         ParseIrOpt::<bool>::try_from(v)
     }

@@ -1,16 +1,16 @@
 //! The six whole-number types without negative numbers.
-ghost use Rattle.std.specs.Prelude.{◌≡◌, true, false, unsigned_abs};
+ghost use Rattle.std.specs.Prelude.{◌≡◌, true, false};
 ghost use Rattle.std.specs.Option.{SomeIff};
 ghost use Rattle.std.proofs.Common.{lit≤};
-ghost use Rattle.mysql_values.specs.Decimal.{signed};
+ghost use Rattle.mysql_values.specs.Decimal.{signed_number};
 ghost use Rattle.mysql_values.specs.Intermediate.{committed};
-ghost use Rattle.mysql_values.specs.WholeNumber.{holds};
+ghost use Rattle.mysql_values.specs.WholeNumber.{holds, u128_type, u16_type, u32_type, u64_type, u8_type, usize_type};
 
 use crate::value::convert::{ParseIrOpt, WholeNumber};
 
 // The number of a type without negative ones, of up to 128 bits.
 fn without_sign(negative: bool, magnitude: u128) -> Option<u128>
-    ensures { SomeIff result (holds false 128 (signed negative magnitude) ≡ true) magnitude }
+    ensures { SomeIff result (holds false 128 (signed_number negative magnitude) ≡ true) magnitude }
 {
     if negative && magnitude != 0 {
         None
@@ -20,13 +20,13 @@ fn without_sign(negative: bool, magnitude: u128) -> Option<u128>
 }
 
 impl WholeNumber for u8 {
-    ghost is_signed = { false };
+    ghost is_signed = { u8_type.is_signed };
 
-    ghost width = { 8 };
+    ghost width = { u8_type.width };
 
     ghost width_at_most_128 = { lit≤ tt };
 
-    ghost of_number = { unsigned_abs };
+    ghost of_number = { u8_type.of_number };
 
     #[tactic(auto, using(crate::proofs::WholeNumberLemmas::uint_converts_back))]
     fn from_parts(negative: bool, magnitude: u128) -> Option<u8> {
@@ -39,13 +39,13 @@ impl WholeNumber for u8 {
 }
 
 impl WholeNumber for u16 {
-    ghost is_signed = { false };
+    ghost is_signed = { u16_type.is_signed };
 
-    ghost width = { 16 };
+    ghost width = { u16_type.width };
 
     ghost width_at_most_128 = { lit≤ tt };
 
-    ghost of_number = { unsigned_abs };
+    ghost of_number = { u16_type.of_number };
 
     #[tactic(auto, using(crate::proofs::WholeNumberLemmas::uint_converts_back))]
     fn from_parts(negative: bool, magnitude: u128) -> Option<u16> {
@@ -58,13 +58,13 @@ impl WholeNumber for u16 {
 }
 
 impl WholeNumber for u32 {
-    ghost is_signed = { false };
+    ghost is_signed = { u32_type.is_signed };
 
-    ghost width = { 32 };
+    ghost width = { u32_type.width };
 
     ghost width_at_most_128 = { lit≤ tt };
 
-    ghost of_number = { unsigned_abs };
+    ghost of_number = { u32_type.of_number };
 
     #[tactic(auto, using(crate::proofs::WholeNumberLemmas::uint_converts_back))]
     fn from_parts(negative: bool, magnitude: u128) -> Option<u32> {
@@ -77,13 +77,13 @@ impl WholeNumber for u32 {
 }
 
 impl WholeNumber for u64 {
-    ghost is_signed = { false };
+    ghost is_signed = { u64_type.is_signed };
 
-    ghost width = { 64 };
+    ghost width = { u64_type.width };
 
     ghost width_at_most_128 = { lit≤ tt };
 
-    ghost of_number = { unsigned_abs };
+    ghost of_number = { u64_type.of_number };
 
     #[tactic(auto, using(crate::proofs::WholeNumberLemmas::uint_converts_back))]
     fn from_parts(negative: bool, magnitude: u128) -> Option<u64> {
@@ -96,13 +96,13 @@ impl WholeNumber for u64 {
 }
 
 impl WholeNumber for u128 {
-    ghost is_signed = { false };
+    ghost is_signed = { u128_type.is_signed };
 
-    ghost width = { 128 };
+    ghost width = { u128_type.width };
 
     ghost width_at_most_128 = { lit≤ tt };
 
-    ghost of_number = { unsigned_abs };
+    ghost of_number = { u128_type.of_number };
 
     #[tactic(auto, using(crate::proofs::WholeNumberLemmas::wide_uint_converts_back))]
     fn from_parts(negative: bool, magnitude: u128) -> Option<u128> {
@@ -115,13 +115,13 @@ impl WholeNumber for u128 {
 }
 
 impl WholeNumber for usize {
-    ghost is_signed = { false };
+    ghost is_signed = { usize_type.is_signed };
 
-    ghost width = { 64 };
+    ghost width = { usize_type.width };
 
     ghost width_at_most_128 = { lit≤ tt };
 
-    ghost of_number = { unsigned_abs };
+    ghost of_number = { usize_type.of_number };
 
     #[tactic(auto, using(crate::proofs::WholeNumberLemmas::uint_converts_back))]
     fn from_parts(negative: bool, magnitude: u128) -> Option<usize> {

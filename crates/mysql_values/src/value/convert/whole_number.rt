@@ -1,12 +1,12 @@
 //! Conversions to whole numbers: what the twelve types have in common.
-ghost use Rattle.std.specs.Prelude.{◌≡◌, ℕ, ◌≤◌, Bool, ℤ, true, Some, Option, IfOk, IfSome};
+ghost use Rattle.std.specs.Prelude.{◌≡◌, ℕ, ◌≤◌, Bool, ℤ, true, Some, Option, IfSome};
 ghost use Rattle.std.specs.Option.{option_map};
 ghost use Rattle.mysql_value_core.specs.FromValue.{ConvertsOrHandsBack};
 ghost use Rattle.mysql_value_core.specs.ValueOf.{MeansBytes};
-ghost use Rattle.mysql_values.specs.Decimal.{signed};
-ghost use Rattle.mysql_values.specs.Intermediate.{committed, rolled_back, RollbackTakesMemory};
-ghost use Rattle.mysql_values.specs.Rollback.{RollsBack, NullFromNull, ConvertsBack};
-ghost use Rattle.mysql_values.specs.WholeNumber.{is_int_or_uint, narrowed, whole_conversion};
+ghost use Rattle.mysql_values.specs.Decimal.{signed_number};
+ghost use Rattle.mysql_values.specs.Intermediate.{committed};
+ghost use Rattle.mysql_values.specs.Rollback.{ConvertsAndRollsBack, ConvertsBack};
+ghost use Rattle.mysql_values.specs.WholeNumber.{is_int_or_uint, number_in_type, whole_conversion};
 ghost use Rattle.mysql_values.specs.declared.value.convert.intermediate.ParseIrOpt as parsed_ir;
 
 use crate::bytes::Bytes;
@@ -31,35 +31,33 @@ pub trait WholeNumber: ToValue + Sized {
 
     /// The number of this magnitude, negative or not, where the type holds it.
     fn from_parts(negative: bool, magnitude: u128) -> Option<Self>
-        ensures number { result ≡ narrowed is_signed width of_number (signed negative magnitude) }
+        ensures number { result
+            ≡ number_in_type is_signed width of_number (signed_number negative magnitude) }
         ensures converts_back { IfSome result (λ x.
             ConvertsBack (whole_conversion is_signed width of_number) committed
             (Self.value_of x) x) }
         ensures no_memory { IfSome result (λ x.
-            is_int_or_uint (signed negative magnitude) ≡ true → ¬ (MeansBytes (Self.value_of x))) };
+            is_int_or_uint (signed_number negative magnitude) ≡ true →
+            ¬ (MeansBytes (Self.value_of x))) };
 
     /// Whether the number is negative, and its magnitude.
     fn to_parts(&self) -> (bool, u128)
-        ensures { narrowed is_signed width of_number (signed result.0 result.1) ≡ Some self.now };
+        ensures { number_in_type is_signed width of_number (signed_number result.0 result.1)
+            ≡ Some self.now };
 }
 
-// The intermediate of an `Int` or a `UInt`, whose number is given by its parts.
-fn ready<T: WholeNumber>(
+// The intermediate of an `Int` or a `UInt`, whose number is given by its sign and its magnitude.
+fn number_intermediate<T: WholeNumber>(
     negative: bool,
     magnitude: u128,
     v: Value,
 ) -> Result<ParseIrOpt<T>, FromValueError>
     requires number { whole_conversion T.is_signed T.width T.of_number v
         ≡ option_map ParseIrOpt.Ready
-        (narrowed T.is_signed T.width T.of_number (signed negative magnitude)) }
-    requires of_64_bits { is_int_or_uint (signed negative magnitude) ≡ true }
-    ensures converts { ConvertsOrHandsBack (λ ir. ir)
-        (whole_conversion T.is_signed T.width T.of_number v) v result }
-    ensures rolls_back { IfOk result (λ ir.
-        RollsBack (whole_conversion T.is_signed T.width T.of_number) committed
-        (rolled_back T.value_of ir) ir) }
-    ensures null { IfOk result (λ ir. NullFromNull (rolled_back T.value_of ir) v) }
-    ensures no_memory { IfOk result (λ ir. ¬ (RollbackTakesMemory T.value_of ir)) }
+        (number_in_type T.is_signed T.width T.of_number (signed_number negative magnitude)) }
+    requires of_64_bits { is_int_or_uint (signed_number negative magnitude) ≡ true }
+    ensures converts { ConvertsAndRollsBack (λ ir. ir)
+        (whole_conversion T.is_signed T.width T.of_number) T.value_of v result }
 {
     match T::from_parts(negative, magnitude) {
         Some(x) => Ok(ParseIrOpt::Ready(x)),
@@ -68,16 +66,9 @@ fn ready<T: WholeNumber>(
 }
 
 // The intermediate of bytes.
-fn parsed<T: WholeNumber>(bytes: Bytes) -> Result<ParseIrOpt<T>, FromValueError>
-    ensures converts { ConvertsOrHandsBack (λ ir. ir)
-        (whole_conversion T.is_signed T.width T.of_number (Value.Bytes bytes))
-        (Value.Bytes bytes) result }
-    ensures rolls_back { IfOk result (λ ir.
-        RollsBack (whole_conversion T.is_signed T.width T.of_number) committed
-        (rolled_back T.value_of ir) ir) }
-    ensures null { IfOk result (λ ir.
-        NullFromNull (rolled_back T.value_of ir) (Value.Bytes bytes)) }
-    ensures no_memory { IfOk result (λ ir. ¬ (RollbackTakesMemory T.value_of ir)) }
+fn bytes_intermediate<T: WholeNumber>(bytes: Bytes) -> Result<ParseIrOpt<T>, FromValueError>
+    ensures converts { ConvertsAndRollsBack (λ ir. ir)
+        (whole_conversion T.is_signed T.width T.of_number) T.value_of (Value.Bytes bytes) result }
 {
     match decimal_parts(bytes.as_slice()) {
         Some((negative, magnitude)) => match T::from_parts(negative, magnitude) {
@@ -90,24 +81,19 @@ fn parsed<T: WholeNumber>(bytes: Bytes) -> Result<ParseIrOpt<T>, FromValueError>
 
 // The intermediate of a value.
 fn read_whole<T: WholeNumber>(v: Value) -> Result<ParseIrOpt<T>, FromValueError>
-    ensures converts { ConvertsOrHandsBack (λ ir. ir)
-        (whole_conversion T.is_signed T.width T.of_number v) v result }
-    ensures rolls_back { IfOk result (λ ir.
-        RollsBack (whole_conversion T.is_signed T.width T.of_number) committed
-        (rolled_back T.value_of ir) ir) }
-    ensures null { IfOk result (λ ir. NullFromNull (rolled_back T.value_of ir) v) }
-    ensures no_memory { IfOk result (λ ir. ¬ (RollbackTakesMemory T.value_of ir)) }
+    ensures converts { ConvertsAndRollsBack (λ ir. ir)
+        (whole_conversion T.is_signed T.width T.of_number) T.value_of v result }
 {
     match v {
         Value::Int(number) => {
-            ready(
+            number_intermediate(
                 number < 0,
                 u128::from(number.unsigned_abs()),
                 Value::Int(number),
             )
         }
-        Value::UInt(number) => ready(false, u128::from(number), Value::UInt(number)),
-        Value::Bytes(bytes) => parsed(bytes),
+        Value::UInt(number) => number_intermediate(false, u128::from(number), Value::UInt(number)),
+        Value::Bytes(bytes) => bytes_intermediate(bytes),
         other => Err(FromValueError(other)),
     }
 }
@@ -143,13 +129,8 @@ impl<T: WholeNumber + Drop + From<ParseIrOpt<T>>> FromValue for T {
     }
 
     fn get_intermediate(v: Value) -> Result<ParseIrOpt<T>, FromValueError>
-        ensures converts { ConvertsOrHandsBack (λ ir. ir)
-            (whole_conversion T.is_signed T.width T.of_number v) v result }
-        ensures rolls_back { IfOk result (λ ir.
-            RollsBack (whole_conversion T.is_signed T.width T.of_number) committed
-            (rolled_back T.value_of ir) ir) }
-        ensures null { IfOk result (λ ir. NullFromNull (rolled_back T.value_of ir) v) }
-        ensures no_memory { IfOk result (λ ir. ¬ (RollbackTakesMemory T.value_of ir)) }
+        ensures converts { ConvertsAndRollsBack (λ ir. ir)
+            (whole_conversion T.is_signed T.width T.of_number) T.value_of v result }
     {
         read_whole(v)
     }

@@ -1,7 +1,7 @@
 use Rattle.std.proofs.Common.{◌≡◌, ◌∙◌, ◌++◌, ◌∷◌, [], arith, ◌+◌, ◌-◌, sym, ap, inr}
 use Rattle.std.specs.Prelude.{is_ok}
 use Rattle.std.proofs.lemmas.Bool.{cond-true}
-use Rattle.mysql_value_core.proofs.TextCellLemmas.{behind, next_cell, first_cell, cell_refused}
+use Rattle.mysql_value_core.proofs.TextCellLemmas.{row_after, next_cell, first_cell, cell_refused}
 use Rattle.mysql_wire_part.specs.ParseBuf.{left}
 use Rattle.mysql_value_core.specs.TextCell.{read_cells}
 use Rattle.mysql_value_core.proofs.value.text.read_text_cells.Goals as goal
@@ -23,7 +23,7 @@ loop-preserved c =
           next_cell c.args.count c.loop.counter (left c.args.buf.now) (left c.loop.rest)
           c.loop.cells.items (omega arith) c.loop.invariant.read_on c.loop.invariant.first
           c.in_ok-cell.cell (left c.eat_cell.new.buf) c.in_ok-cell.ensures.read
-          ∙ ap (λ cells. behind cells
+          ∙ ap (λ cells. row_after cells
           (read_cells (c.args.count - (c.loop.counter + 1)) (left c.eat_cell.new.buf)))
           (sym pushed);
       first = inr (first_cell c.args.count c.loop.counter (left c.args.buf.now) (left c.loop.rest)

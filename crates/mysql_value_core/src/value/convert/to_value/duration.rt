@@ -1,7 +1,7 @@
 //! The values of durations.
 ghost use Rattle.std.specs.Prelude.{◌≡◌, ◌<◌, ◌^◌};
 ghost use Rattle.std.specs.Duration.{as_nanos};
-ghost use Rattle.mysql_value_core.specs.DurationValue.{duration_value};
+ghost use Rattle.mysql_value_core.specs.ValueTable.{value_of_duration};
 
 use crate::value::Value;
 use crate::value::convert::{ToValue, ToValueError};
@@ -20,6 +20,7 @@ const SECONDS_PER_HOUR: u128 = 3_600;
 
 const SECONDS_PER_MINUTE: u128 = 60;
 
+// The nanoseconds of a duration.
 fn nanoseconds(duration: &Duration) -> u128
     ensures exact { result ≡ as_nanos duration.now }
     ensures few { result < 2 ^ 96 }
@@ -30,7 +31,7 @@ fn nanoseconds(duration: &Duration) -> u128
 /// The value is a `Time` that is not negative, of the duration rounded half up to microseconds.
 /// `DurationTooLong` has the duration.
 impl ToValue for Duration {
-    ghost value_of = { duration_value };
+    ghost value_of = { value_of_duration };
 
     fn to_value(&self, _alloc: Global) -> Result<Value, ToValueError> {
         let half = NANOSECONDS_PER_MICROSECOND / 2;

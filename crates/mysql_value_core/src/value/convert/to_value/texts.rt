@@ -2,6 +2,7 @@
 ghost use Rattle.std.specs.Prelude.{string_bytes, ⊤};
 ghost use Rattle.mysql_value_core.specs.FromValue.{cow_bytes, cow_text};
 ghost use Rattle.mysql_value_core.specs.ValueOf.{AnswersValue, bytes_value};
+ghost use Rattle.mysql_value_core.specs.ValueTable.{value_of_byte_array, value_of_byte_cow, value_of_byte_slice, value_of_byte_vec, value_of_str, value_of_str_cow, value_of_string};
 
 use crate::bytes::Bytes;
 use crate::value::Value;
@@ -9,70 +10,71 @@ use crate::value::convert::{ToValue, ToValueError};
 use std::alloc::Global;
 use std::borrow::{CowSlice, CowStr};
 
-fn copied(alloc: Global, bytes: &[u8]) -> Result<Value, ToValueError>
+// A copy of the bytes, as a value.
+fn bytes_value(alloc: Global, bytes: &[u8]) -> Result<Value, ToValueError>
     ensures { AnswersValue (bytes_value bytes.now) ⊤ result }
 {
     Ok(Value::Bytes(Bytes::from(Vec::from_slice(alloc, bytes)?)))
 }
 
 impl ToValue for &[u8] {
-    ghost value_of = { λ bytes. bytes_value bytes.now };
+    ghost value_of = { λ bytes. value_of_byte_slice bytes.now };
 
     fn to_value(&self, alloc: Global) -> Result<Value, ToValueError> {
-        copied(alloc, *self)
+        bytes_value(alloc, *self)
     }
 }
 
 impl ToValue for Vec<u8> {
-    ghost value_of = { λ bytes. bytes_value bytes.items };
+    ghost value_of = { λ bytes. value_of_byte_vec bytes.items };
 
     fn to_value(&self, alloc: Global) -> Result<Value, ToValueError> {
-        copied(alloc, self.as_slice())
+        bytes_value(alloc, self.as_slice())
     }
 }
 
 impl<const N: usize> ToValue for [u8; N] {
-    ghost value_of = { λ bytes. bytes_value bytes };
+    ghost value_of = { value_of_byte_array };
 
     fn to_value(&self, alloc: Global) -> Result<Value, ToValueError> {
-        copied(alloc, self)
+        bytes_value(alloc, self)
     }
 }
 
 impl<'a> ToValue for CowSlice<'a, u8> {
-    ghost value_of = { λ bytes. bytes_value (cow_bytes bytes).1 };
+    ghost value_of = { λ bytes. value_of_byte_cow (cow_bytes bytes).1 };
 
     fn to_value(&self, alloc: Global) -> Result<Value, ToValueError> {
         match self {
-            CowSlice::Borrowed(bytes) => copied(alloc, *bytes),
-            CowSlice::Owned(bytes) => copied(alloc, bytes.as_slice()),
+            CowSlice::Borrowed(bytes) => bytes_value(alloc, *bytes),
+            CowSlice::Owned(bytes) => bytes_value(alloc, bytes.as_slice()),
         }
     }
 }
 
 impl ToValue for &str {
-    ghost value_of = { λ text. bytes_value text.now };
+    ghost value_of = { λ text. value_of_str text.now };
 
     fn to_value(&self, alloc: Global) -> Result<Value, ToValueError> {
-        copied(alloc, self.as_bytes())
+        bytes_value(alloc, self.as_bytes())
     }
 }
 
 impl ToValue for String {
-    ghost value_of = { λ text. bytes_value (string_bytes text) };
+    ghost value_of = { λ text. value_of_string (string_bytes text) };
 
     fn to_value(&self, alloc: Global) -> Result<Value, ToValueError> {
-        copied(alloc, self.as_str().as_bytes())
+        bytes_value(alloc, self.as_str().as_bytes())
     }
 }
 
 impl<'a> ToValue for CowStr<'a> {
-    ghost value_of = { λ text. bytes_value (cow_text text).1 };
+    ghost value_of = { λ text. value_of_str_cow (cow_text text).1 };
 
     fn to_value(&self, alloc: Global) -> Result<Value, ToValueError> {
         match self {
-            CowStr::Borrowed(text) => copied(alloc, text.as_bytes()),
-            CowStr::Owned(text) => copied(alloc, text.as_str().as_bytes()),
+            CowStr::Borrowed(text) => bytes_value(alloc, text.as_bytes()),
+            CowStr::Owned(text) => bytes_value(alloc, text.as_str().as_bytes()),
         }
     }
 }
