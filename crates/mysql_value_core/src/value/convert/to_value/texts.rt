@@ -1,7 +1,8 @@
 //! The values of bytes and texts. Each is a copy.
 ghost use Rattle.std.specs.Prelude.{string_bytes, ⊤};
+ghost use Rattle.mysql_wire_part.specs.Answer.{IsAnswer};
 ghost use Rattle.mysql_value_core.specs.FromValue.{cow_bytes, cow_text};
-ghost use Rattle.mysql_value_core.specs.ValueOf.{AnswersValue, bytes_value};
+ghost use Rattle.mysql_value_core.specs.ValueOf.{bytes_value, too_long_duration};
 
 use crate::bytes::Bytes;
 use crate::value::Value;
@@ -10,7 +11,7 @@ use std::alloc::Global;
 use std::borrow::{CowSlice, CowStr};
 
 fn copied(alloc: Global, bytes: &[u8]) -> Result<Value, ToValueError>
-    ensures { AnswersValue (bytes_value bytes.now) ⊤ result }
+    ensures { IsAnswer (λ value. value) too_long_duration (bytes_value bytes.now) ⊤ result }
 {
     Ok(Value::Bytes(Bytes::from(Vec::from_slice(alloc, bytes)?)))
 }
