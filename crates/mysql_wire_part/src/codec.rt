@@ -44,7 +44,7 @@ pub trait MyDeserialize<'de>: Sized {
         ctx: Self::Ctx,
         buf: &mut ParseBuf<'de>,
     ) -> Result<Self, WireError>
-        ensures read { IsAnswer (λ x. (seen x, left buf.new)) read_refusal (reads ctx (left buf.old))
-            (takes_memory ctx (left buf.old)) result }
+        ensures read { IsAnswer (λ x. (seen x, left buf.new)) read_refusal
+            (reads ctx (left buf.old)) (takes_memory ctx (left buf.old)) result }
         ensures unchanged { OnErr result (left buf.new ≡ left buf.old) };
 }
