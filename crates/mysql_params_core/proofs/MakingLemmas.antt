@@ -1,14 +1,15 @@
 -- One more thing of a list, on the way through it.
-use Rattle.std.proofs.Common.{◌≡◌, ◌<◌, ◌+◌, ◌⊎◌, inl, inr, ℕ, List, [], ◌∷◌, ◌++◌, map, length, take, drop, get_or, refl, sym, ap, ◌∙◌, arith}
-use Rattle.std.specs.Prelude.{Result, Ok, Err, fold, None, Some, IsErrAnd}
+use Rattle.std.proofs.Common.{◌≡◌, ◌<◌, ◌+◌, ℕ, List, [], ◌∷◌, ◌++◌, map, length, take, drop, get_or, refl, sym, ap, ◌∙◌, subst, arith}
+use Rattle.std.specs.Prelude.{Result, Ok, Err, fold, IsErrAnd, ⊤}
 use Rattle.std.proofs.lemmas.List.{take_more, get_or-map, length-map, take-append-drop}
 use Rattle.std.proofs.lemmas.List.Sums.{fold-append}
 use Rattle.std.specs.FinMap as finite
-use Rattle.mysql_value_core.specs.ValueOf.{Meaning, MeansBytes, AnswersValue}
+use Rattle.mysql_wire_part.specs.Answer.{IsAnswer, IsExpectedRefusal}
+use Rattle.mysql_wire_part.proofs.AnswerLemmas.{refusal_expected_too}
+use Rattle.mysql_value_core.specs.ValueOf.{Meaning, MeansBytes, too_long_duration}
 use Rattle.mysql_value_core.specs.declared.value.Value.{Value}
 use Rattle.mysql_value_core.specs.declared.value.convert.ToValueError.{ToValueError}
 use Rattle.mysql_value_core.specs.declared.value.convert.ToValueError.TheVariants.{DurationTooLong, Memory}
-use Rattle.mysql_params_core.specs.Answer.{IsAnswer}
 use Rattle.mysql_params_core.specs.Errors.{maker_refusal}
 use Rattle.mysql_params_core.specs.Given.{ValueMap, given}
 use Rattle.mysql_params_core.specs.Made.{MakerRefusal, Made, values_made, by_position, list_made, with_new}
@@ -19,17 +20,12 @@ pub list_made-some : (ms : List Meaning) → 0 < length ms → list_made ms ≡ 
 list_made-some [] h = absurd (omega arith)
 list_made-some (m ∷ ms) h = refl
 
--- the error is no refusal, or that of the result
-abbrev pub IsRefused : {S : Type 0} → Result S MakerRefusal → ToParamsError → Type 0
-IsRefused {S} m e = (maker_refusal e ≡ None)
-    ⊎ ((refusal : MakerRefusal) × (m ≡ Err refusal) × (maker_refusal e ≡ Some refusal))
-
 -- a `?` hands on the error as it is
 pub handed_on : (m : Made) (r : Result Params ToParamsError) (e : ToParamsError) → IsErrAnd r (λ t. t ≡ e)
-    → IsRefused m e → IsAnswer given maker_refusal m r
+    → IsExpectedRefusal m ⊤ (maker_refusal e) → IsAnswer given maker_refusal m ⊤ r
 handed_on m (Ok p) e same refused = absurd same
-handed_on m (Err t) e same (inl none) = inl (ap maker_refusal same ∙ none)
-handed_on m (Err t) e same (inr (why, refused, says)) = inr (why, refused, ap maker_refusal same ∙ says)
+handed_on m (Err t) e same refused =
+    subst (λ t. IsExpectedRefusal m ⊤ (maker_refusal t)) (sym same) refused
 
 -- a walk by g, in which a refusal stays
 module _ {S A : Type 0} (g : Result S MakerRefusal → A → Result S MakerRefusal)
@@ -65,16 +61,17 @@ module _ {S A : Type 0} (g : Result S MakerRefusal → A → Result S MakerRefus
     -- so is its error
     pub loop_handed_on : (by : Result S MakerRefusal → Made) → ((e : MakerRefusal) → by (Err e) ≡ Err e)
         → (old : Result S MakerRefusal) (e : ToParamsError) → fold g start (take i (map f xs)) ≡ old
-        → IsRefused (g old (f x)) e → (r : Result Params ToParamsError) → IsErrAnd r (λ t. t ≡ e)
-        → IsAnswer given maker_refusal (by (fold g start (map f xs))) r
-    loop_handed_on by ends old e before (inl none) r same = handed_on (by (fold g start (map f xs))) r e same (inl none)
-    loop_handed_on by ends old e before (inr (why, refused, says)) r same =
+        → IsExpectedRefusal (g old (f x)) ⊤ (maker_refusal e)
+        → (r : Result Params ToParamsError) → IsErrAnd r (λ t. t ≡ e)
+        → IsAnswer given maker_refusal (by (fold g start (map f xs))) ⊤ r
+    loop_handed_on by ends old e before answer r same =
         handed_on (by (fold g start (map f xs))) r e same
-        (inr (why, ap by (loop_refused old why before refused) ∙ ends why, says))
+        (refusal_expected_too (g old (f x)) (by (fold g start (map f xs))) ⊤ ⊤ (maker_refusal e)
+        (λ why refused. ap by (loop_refused old why before refused) ∙ ends why) (λ _. tt) answer)
 
 -- a thing that has this value
 pub with_new-from : (m : ValueMap) (name : List ℕ) (meaning : Meaning) (answer : Result Value ToValueError) (v : Value)
-    → answer ≡ Ok v → AnswersValue meaning (MeansBytes meaning) answer
+    → answer ≡ Ok v → IsAnswer (λ value. value) too_long_duration meaning (MeansBytes meaning) answer
     → with_new m name meaning ≡ Ok (finite.insert m name v)
 with_new-from m name meaning (Ok w) v is answers =
     let same : w ≡ v = cc in

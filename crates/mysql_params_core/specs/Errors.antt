@@ -27,7 +27,9 @@ abbrev pub value_refusal : ToValueError → Option MakerRefusal
 value_refusal (to_value.DurationTooLong duration) = Some (too_long duration)
 value_refusal (to_value.Memory error) = None
 
--- the refusal of a maker that the error is; none for want of memory
+-- The refusal of a maker that the error is; none where it is out of memory. Nor is there one for a
+-- `Value` that holds out of memory: a maker never returns that, as a clause of its own says, but
+-- `Memory`.
 abbrev pub maker_refusal : ToParamsError → Option MakerRefusal
 maker_refusal (maker.Redefined name) = Some (redefined name.items)
 maker_refusal (maker.Value error) = value_refusal error

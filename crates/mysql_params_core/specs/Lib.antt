@@ -1,5 +1,5 @@
 pub mod Given
-pub mod Answer
+pub use Rattle.mysql_wire_part.specs.Answer
 pub mod Names
 pub mod FirstAbsent
 pub mod Lookup

@@ -1,10 +1,10 @@
 //! What the words of the program ask for.
 ghost use Rattle.std.specs.Str.{bytes_eq};
-ghost use Rattle.std.specs.Prelude.{◌∷◌, IsTrue, codes, ◌≡◌, Some, Ok, IfSome, IfNone, IsErrOf, alloc_error, map, ok_or};
+ghost use Rattle.std.specs.Prelude.{◌∷◌, IsTrue, codes, ◌≡◌, Some, Ok, IfSome, IfNone, IsErrOf, alloc_error, map, ok_or, ⊤};
+ghost use Rattle.mysql_wire_part.specs.Answer.{IsAnswer};
 ghost use Rattle.mysql_values.specs.declared.value.Value.TheVariants.{Bytes as BytesOf};
 ghost use Rattle.std.specs.List.{list_all, list_any};
 ghost use Rattle.mysql_params_core.specs.Given.{given, positional};
-ghost use Rattle.mysql_params_core.specs.Answer.{IsAnswer};
 ghost use Rattle.mysql_program.specs.Words.{cut, int_of_text, uint_of_text, value_of_kind, value_of_null, value_of_text, pair_of_word, pairs_of_words, is_nameless, bound_query, command_made, given_by_name, command_of_pairs, bind_command, command_of, AsksToBind, usage, word_bytes};
 ghost use Rattle.mysql_program.specs.WordErrors.{words_refusal, seen_pair, seen_command};
 
@@ -39,7 +39,7 @@ fn cut(word: &str) -> Option<(&str, &str)>
 
 // A copy of a text, as the bytes of a value.
 fn copied(alloc: Global, text: &[u8]) -> Result<Value, WordsError>
-    ensures { IsAnswer (λ value. value) words_refusal (Ok (BytesOf text.now)) result }
+    ensures { IsAnswer (λ value. value) words_refusal (Ok (BytesOf text.now)) ⊤ result }
 {
     match Vec::from_slice(alloc, text) {
         Ok(bytes) => Ok(Value::Bytes(Bytes::from(bytes))),
@@ -48,7 +48,8 @@ fn copied(alloc: Global, text: &[u8]) -> Result<Value, WordsError>
 }
 
 fn int_of_text(alloc: Global, text: &[u8]) -> Result<Value, WordsError>
-    ensures { IsAnswer (λ value. value) words_refusal (ok_or (int_of_text text.now) usage) result }
+    ensures { IsAnswer (λ value. value) words_refusal
+        (ok_or (int_of_text text.now) usage) ⊤ result }
 {
     match from_value_opt::<i64>(copied(alloc, text)?) {
         Ok(number) => Ok(Value::Int(number)),
@@ -57,7 +58,8 @@ fn int_of_text(alloc: Global, text: &[u8]) -> Result<Value, WordsError>
 }
 
 fn uint_of_text(alloc: Global, text: &[u8]) -> Result<Value, WordsError>
-    ensures { IsAnswer (λ value. value) words_refusal (ok_or (uint_of_text text.now) usage) result }
+    ensures { IsAnswer (λ value. value) words_refusal
+        (ok_or (uint_of_text text.now) usage) ⊤ result }
 {
     match from_value_opt::<u64>(copied(alloc, text)?) {
         Ok(number) => Ok(Value::UInt(number)),
@@ -68,7 +70,7 @@ fn uint_of_text(alloc: Global, text: &[u8]) -> Result<Value, WordsError>
 // The value of a text behind the letter of its kind and a colon.
 fn value_of_kind(alloc: Global, kind: u8, text: &[u8]) -> Result<Value, WordsError>
     ensures { IsAnswer (λ value. value) words_refusal
-        (ok_or (value_of_kind kind text.now) usage) result }
+        (ok_or (value_of_kind kind text.now) usage) ⊤ result }
 {
     match kind {
         b'i' => int_of_text(alloc, text),
@@ -80,7 +82,7 @@ fn value_of_kind(alloc: Global, kind: u8, text: &[u8]) -> Result<Value, WordsErr
 
 fn value_of_null(text: &[u8]) -> Result<Value, WordsError>
     ensures { IsAnswer (λ value. value) words_refusal
-        (ok_or (value_of_null text.now) usage) result }
+        (ok_or (value_of_null text.now) usage) ⊤ result }
 {
     if text == b"null".as_slice() {
         Ok(Value::NULL)
@@ -92,7 +94,7 @@ fn value_of_null(text: &[u8]) -> Result<Value, WordsError>
 // The value that a text stands for.
 fn value_of_text(alloc: Global, text: &[u8]) -> Result<Value, WordsError>
     ensures { IsAnswer (λ value. value) words_refusal
-        (ok_or (value_of_text text.now) usage) result }
+        (ok_or (value_of_text text.now) usage) ⊤ result }
 {
     match text {
         [kind, b':', text @ ..] => value_of_kind(alloc, *kind, text),
@@ -102,7 +104,7 @@ fn value_of_text(alloc: Global, text: &[u8]) -> Result<Value, WordsError>
 
 // Name and value of a word.
 fn pair_of_word<'a>(alloc: Global, word: &'a str) -> Result<(&'a [u8], Value), WordsError>
-    ensures { IsAnswer seen_pair words_refusal (ok_or (pair_of_word word.now) usage) result }
+    ensures { IsAnswer seen_pair words_refusal (ok_or (pair_of_word word.now) usage) ⊤ result }
 {
     match cut(word) {
         Some((name, text)) => match value_of_text(alloc, text.as_bytes()) {
@@ -119,7 +121,7 @@ fn pairs_of_words<'a>(
     words: &'a [String],
 ) -> Result<Vec<(&'a [u8], Value)>, WordsError>
     ensures { IsAnswer (λ pairs. map seen_pair pairs.items) words_refusal
-        (ok_or (pairs_of_words (word_bytes words.now)) usage) result }
+        (ok_or (pairs_of_words (word_bytes words.now)) usage) ⊤ result }
 {
     let mut pairs = Vec::new(alloc);
     for word in words {
@@ -149,7 +151,7 @@ fn any_nameless(pairs: &[(&[u8], Value)]) -> bool
 // The parameters that the values of pairs make by position.
 fn params_by_position(alloc: Global, pairs: Vec<(&[u8], Value)>) -> Result<Params, WordsError>
     ensures { IsAnswer (λ params. bound_query (given params)) words_refusal
-        (Ok (bound_query (positional (map (λ pair. pair.1) pairs.entry.items)))) result }
+        (Ok (bound_query (positional (map (λ pair. pair.1) pairs.entry.items)))) ⊤ result }
 {
     let mut values = Vec::new(alloc);
     for (_, value) in pairs {
@@ -163,7 +165,7 @@ fn params_by_position(alloc: Global, pairs: Vec<(&[u8], Value)>) -> Result<Param
 // The parameters that pairs with names make.
 fn params_by_name(alloc: Global, pairs: &[(&[u8], Value)]) -> Result<Params, WordsError>
     ensures { IsAnswer (λ params. bound_query (given params)) words_refusal
-        (command_made (given_by_name (map seen_pair pairs.now))) result }
+        (command_made (given_by_name (map seen_pair pairs.now))) ⊤ result }
 {
     match Params::from_pairs(alloc, pairs) {
         Ok(params) => Ok(params),
@@ -177,7 +179,7 @@ fn params_by_name(alloc: Global, pairs: &[(&[u8], Value)]) -> Result<Params, Wor
 // The parameters that pairs make.
 fn params_of_pairs(alloc: Global, pairs: Vec<(&[u8], Value)>) -> Result<Params, WordsError>
     ensures { IsAnswer (λ params. bound_query (given params)) words_refusal
-        (command_of_pairs (map seen_pair pairs.entry.items)) result }
+        (command_of_pairs (map seen_pair pairs.entry.items)) ⊤ result }
 {
     if pairs.is_empty() {
         return Ok(Params::Empty);
@@ -194,7 +196,7 @@ fn params_of_pairs(alloc: Global, pairs: Vec<(&[u8], Value)>) -> Result<Params, 
 // The parameters that words make.
 fn params_of_words(alloc: Global, words: &[String]) -> Result<Params, WordsError>
     ensures { IsAnswer (λ params. bound_query (given params)) words_refusal
-        (bind_command (pairs_of_words (word_bytes words.now))) result }
+        (bind_command (pairs_of_words (word_bytes words.now))) ⊤ result }
 {
     match pairs_of_words(alloc, words) {
         Ok(pairs) => params_of_pairs(alloc, pairs),
@@ -205,7 +207,7 @@ fn params_of_words(alloc: Global, words: &[String]) -> Result<Params, WordsError
 // The command of a first word and those behind it.
 fn command_of(alloc: Global, word: &str, words: &[String]) -> Result<Command, WordsError>
     ensures command { IsAnswer seen_command words_refusal
-        (command_of (word.now ∷ word_bytes words.now)) result }
+        (command_of (word.now ∷ word_bytes words.now)) ⊤ result }
     ensures memory { IsErrOf result (WordsError.Memory alloc_error) →
         IsTrue (bytes_eq word.now (codes "bind")) }
 {
@@ -228,7 +230,7 @@ fn command_of(alloc: Global, word: &str, words: &[String]) -> Result<Command, Wo
 /// Judges words: `names` alone, or `bind` and words of a name and a value.
 pub(crate) fn judge(alloc: Global, words: &[String]) -> Result<Command, WordsError>
     ensures command { IsAnswer seen_command words_refusal
-        (command_of (word_bytes words.now)) result }
+        (command_of (word_bytes words.now)) ⊤ result }
     // Only values are copied.
     ensures memory { IsErrOf result (WordsError.Memory alloc_error) →
         AsksToBind (word_bytes words.now) }

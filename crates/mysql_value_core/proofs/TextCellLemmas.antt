@@ -2,9 +2,10 @@
 use Rattle.std.proofs.Common.{◌≡◌, ◌∙◌, ◌⊎◌, ap, sym, refl, inl, inr, arith, ℕ, zero, suc, ◌+◌, ◌-◌, ◌<◌, List, [], ◌∷◌, ◌++◌, append_assoc, subst}
 use Rattle.std.specs.Prelude.{Result, Ok, Err, IsOk, IsErrAnd}
 use Rattle.mysql_wire_part.specs.declared.error.WireError.{WireError}
-use Rattle.mysql_wire_part.specs.declared.error.WireError.TheVariants.{UnexpectedEof, BadLengthLead, UnsupportedColumn, Memory}
-use Rattle.mysql_wire_part.specs.ParseBuf.{AnswersReading}
-use Rattle.mysql_wire_part.specs.Reading.{Reading, ReadRefusal, unexpected_eof, bad_length_lead, unsupported_column, map_read, and_then_read}
+use Rattle.mysql_wire_part.specs.Answer.{IsAnswer}
+use Rattle.mysql_wire_part.specs.ParseBuf.{read_refusal}
+use Rattle.mysql_wire_part.specs.Reading.{Reading, ReadRefusal, map_read, and_then_read}
+use Rattle.mysql_wire_part.proofs.AnswerLemmas.{refusal_expected_too}
 use Rattle.mysql_value_core.specs.declared.value.Value.{Value}
 use Rattle.mysql_value_core.specs.TextCell.{read_cell, read_cells, ReadsBytes, ReadsACell}
 
@@ -70,20 +71,21 @@ module _ (count counter : ℕ) (bytes rest : List ℕ) (before : List Value)
 
   -- the refusal of this cell is that of all of them
   refused_all : {X Y : Type 0} (seen : X → Value × List ℕ) (seen' : Y → List Value × List ℕ)
-      (e : WireError) → AnswersReading seen (read_cell rest) (ReadsBytes (read_cell rest)) (Err e)
-      → AnswersReading seen' (read_cells count bytes) (ReadsACell count bytes) (Err e)
-  refused_all seen seen' UnexpectedEof answer = refused_next unexpected_eof answer
-  refused_all seen seen' (BadLengthLead lead) answer = refused_next (bad_length_lead lead) answer
-  refused_all seen seen' (UnsupportedColumn column) answer =
-      refused_next (unsupported_column column) answer
-  refused_all seen seen' (Memory error) answer = first_cell (reads (read_cell rest) answer)
+      (e : WireError)
+      → IsAnswer seen read_refusal (read_cell rest) (ReadsBytes (read_cell rest)) (Err e)
+      → IsAnswer seen' read_refusal (read_cells count bytes) (ReadsACell count bytes) (Err e)
+  refused_all seen seen' e =
+      refusal_expected_too (read_cell rest) (read_cells count bytes) (ReadsBytes (read_cell rest))
+      (ReadsACell count bytes) (read_refusal e) refused_next
+      (λ bytes. first_cell (reads (read_cell rest) bytes))
 
   -- and so it is what `?` returns
   pub cell_refused : {X Y : Type 0} (seen : X → Value × List ℕ) (seen' : Y → List Value × List ℕ)
       (e : WireError) (result : Result Y WireError) → IsErrAnd result (λ e'. e' ≡ e)
-      → AnswersReading seen (read_cell rest) (ReadsBytes (read_cell rest)) (Err e)
-      → AnswersReading seen' (read_cells count bytes) (ReadsACell count bytes) result
+      → IsAnswer seen read_refusal (read_cell rest) (ReadsBytes (read_cell rest)) (Err e)
+      → IsAnswer seen' read_refusal (read_cells count bytes) (ReadsACell count bytes) result
   cell_refused seen seen' e (Ok cells) returned answer = absurd returned
   cell_refused seen seen' e (Err e') returned answer =
-      subst (λ e'. AnswersReading seen' (read_cells count bytes) (ReadsACell count bytes) (Err e'))
+      subst
+      (λ e'. IsAnswer seen' read_refusal (read_cells count bytes) (ReadsACell count bytes) (Err e'))
       (sym returned) (refused_all seen seen' e answer)

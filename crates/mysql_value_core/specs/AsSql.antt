@@ -1,15 +1,14 @@
--- What `Value::as_sql` answers.
-use Rattle.std.specs.Prelude.{◌≡◌, ℕ, List, Option, Some, None, Result, Ok, Err, String, string_bytes, ⊤}
-use Rattle.std.specs.declared.alloc.Global.{Global}
+-- What `Value::as_sql` returns where a value has no literal.
+use Rattle.std.specs.Prelude.{Option, Some, None}
 use Rattle.mysql_value_core.specs.declared.value.literal.AsSqlError.{AsSqlError}
 use Rattle.mysql_value_core.specs.declared.value.literal.AsSqlError.TheVariants.{Float, Memory}
 
--- For a value with a literal the answer is exactly that, or want of memory; for one without, it is
--- the refusal of a float.
-abbrev pub AnswersLiteral : Option (List ℕ) → Result (String Global) AsSqlError → Type 0
-AnswersLiteral (Some literal) (Ok sql) = string_bytes sql ≡ literal
-AnswersLiteral (Some literal) (Err (Memory error)) = ⊤
-AnswersLiteral (Some literal) (Err Float) = ⊥
-AnswersLiteral None (Ok sql) = ⊥
-AnswersLiteral None (Err (Memory error)) = ⊥
-AnswersLiteral None (Err Float) = ⊤
+-- why a value has no literal; out of memory is no such reason
+pub data LiteralRefusal : Type 0 where
+  -- it is a float
+  float : LiteralRefusal
+
+-- why a value has no literal, where the error is not out of memory
+abbrev pub literal_refusal : AsSqlError → Option LiteralRefusal
+literal_refusal Float = Some float
+literal_refusal (Memory error) = None

@@ -1,5 +1,5 @@
 -- The values of the types of Rust.
-use Rattle.std.specs.Prelude.{◌≡◌, ℕ, ◌-◌, ◌^◌, ℤ, pos, negsuc, int_lt, int_le, unsigned_abs, nat_lt, ◌&&◌, Bool, true, false, if◌then◌else◌, List, Option, None, Some, Result, Ok, Err}
+use Rattle.std.specs.Prelude.{ℕ, ◌-◌, ◌^◌, ℤ, pos, negsuc, int_lt, int_le, unsigned_abs, nat_lt, ◌&&◌, Bool, true, false, if◌then◌else◌, List, Option, None, Some, Result, Ok, Err}
 use Rattle.std.specs.Fmt.{decimal, signed_decimal}
 use Rattle.std.specs.declared.time.Duration.{Duration}
 use Rattle.mysql_value_core.specs.Value.{IsBytes}
@@ -17,11 +17,10 @@ abbrev pub MeansBytes : Meaning → Type 0
 MeansBytes (Ok value) = IsBytes value
 MeansBytes (Err duration) = ⊥
 
--- the answer is the value, or why there is none; or want of memory, only where memory is taken
-abbrev pub AnswersValue : Meaning → Type 0 → Result Value ToValueError → Type 0
-AnswersValue meaning takes_memory (Ok value) = meaning ≡ Ok value
-AnswersValue meaning takes_memory (Err (DurationTooLong duration)) = meaning ≡ Err duration
-AnswersValue meaning takes_memory (Err (Memory error)) = takes_memory
+-- the duration that is too long for a value; none where the error is out of memory
+abbrev pub too_long_duration : ToValueError → Option Duration
+too_long_duration (DurationTooLong duration) = Some duration
+too_long_duration (Memory error) = None
 
 -- the value of a whole number with a sign, of up to 64 bits
 abbrev pub int_value : ℤ → Meaning

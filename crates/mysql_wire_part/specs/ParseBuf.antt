@@ -1,5 +1,5 @@
 -- What a call that reads the front of a buffer returns, and what it leaves in the buffer.
-use Rattle.std.specs.Prelude.{◌≡◌, ℕ, List, Option, Some, None, Result, Ok, Err}
+use Rattle.std.specs.Prelude.{◌≡◌, ℕ, List, Option, Some, None, Ok, Err}
 use Rattle.mysql_wire_part.specs.declared.error.WireError.{WireError}
 use Rattle.mysql_wire_part.specs.declared.error.WireError.TheVariants.{UnexpectedEof, BadLengthLead, UnsupportedColumn, Memory}
 use Rattle.mysql_wire_part.specs.declared.parse_buf.ParseBuf.{ParseBuf}
@@ -15,13 +15,13 @@ abbrev pub Eats : {X : Type 0} → Reading X → List ℕ → List ℕ → Optio
 Eats read old new (Some x) = read ≡ Ok (x, new)
 Eats read old new None = (read ≡ Err unexpected_eof) × (new ≡ old)
 
--- The answer is what is read, as contracts see it; or the refusal; or want of memory, only where
--- memory is taken.
-abbrev pub AnswersReading : {X Seen : Type 0} → (X → Seen) → Result Seen ReadRefusal
-    → Type 0 → Result X WireError → Type 0
-AnswersReading seen read takes_memory (Ok x) = read ≡ Ok (seen x)
-AnswersReading seen read takes_memory (Err UnexpectedEof) = read ≡ Err unexpected_eof
-AnswersReading seen read takes_memory (Err (BadLengthLead lead)) = read ≡ Err (bad_length_lead lead)
-AnswersReading seen read takes_memory (Err (UnsupportedColumn column)) =
-    read ≡ Err (unsupported_column column)
-AnswersReading seen read takes_memory (Err (Memory error)) = takes_memory
+-- why the call read nothing, where it is not out of memory
+abbrev pub read_refusal : WireError → Option ReadRefusal
+-- too few bytes are left
+read_refusal UnexpectedEof = Some unexpected_eof
+-- this byte begins no length
+read_refusal (BadLengthLead lead) = Some (bad_length_lead lead)
+-- values of this column type are not read
+read_refusal (UnsupportedColumn column) = Some (unsupported_column column)
+-- out of memory is no refusal
+read_refusal (Memory error) = None

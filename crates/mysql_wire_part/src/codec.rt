@@ -1,7 +1,8 @@
 //! The traits of what is written to a buffer and of what is read from one.
 ghost use Rattle.std.specs.Prelude.{◌≡◌, ℕ, List, ◌++◌, OnOk, OnErr};
 ghost use Rattle.mysql_wire_part.specs.Reading.{Reading};
-ghost use Rattle.mysql_wire_part.specs.ParseBuf.{left, AnswersReading};
+ghost use Rattle.mysql_wire_part.specs.Answer.{IsAnswer};
+ghost use Rattle.mysql_wire_part.specs.ParseBuf.{left, read_refusal};
 
 use crate::error::WireError;
 use crate::parse_buf::ParseBuf;
@@ -43,7 +44,7 @@ pub trait MyDeserialize<'de>: Sized {
         ctx: Self::Ctx,
         buf: &mut ParseBuf<'de>,
     ) -> Result<Self, WireError>
-        ensures read { AnswersReading (λ x. (seen x, left buf.new)) (reads ctx (left buf.old))
-            (takes_memory ctx (left buf.old)) result }
+        ensures read { IsAnswer (λ x. (seen x, left buf.new)) read_refusal
+            (reads ctx (left buf.old)) (takes_memory ctx (left buf.old)) result }
         ensures unchanged { OnErr result (left buf.new ≡ left buf.old) };
 }

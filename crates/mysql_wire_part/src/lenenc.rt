@@ -2,7 +2,8 @@
 ghost use Rattle.std.specs.Prelude.{◌≡◌, ◌≤◌, ◌++◌, length, take, OnOk, OnErr};
 ghost use Rattle.mysql_wire_part.specs.Reading.{read_number};
 ghost use Rattle.mysql_wire_part.specs.Lenenc.{length_spelling, lenenc_spelling, read_length, LenencReadsBack};
-ghost use Rattle.mysql_wire_part.specs.ParseBuf.{AnswersReading};
+ghost use Rattle.mysql_wire_part.specs.Answer.{IsAnswer};
+ghost use Rattle.mysql_wire_part.specs.ParseBuf.{read_refusal};
 
 use crate::error::WireError;
 use byteorder::{ByteOrder, LittleEndian};
@@ -78,7 +79,7 @@ fn length_head(len: u64) -> ([u8; 9], usize)
 
 // The length at the front of the bytes, and the bytes that follow it.
 pub(crate) fn length_at(bytes: &[u8]) -> Result<(u64, &[u8]), WireError>
-    ensures read { AnswersReading (λ read. (read.0, read.1.now))
+    ensures read { IsAnswer (λ read. (read.0, read.1.now)) read_refusal
         (read_length bytes.now) ⊥ result }
 {
     match bytes {
@@ -95,7 +96,7 @@ pub(crate) fn length_at(bytes: &[u8]) -> Result<(u64, &[u8]), WireError>
 fn number_at(bytes: &[u8], count: usize) -> Result<(u64, &[u8]), WireError>
     requires low { 1 ≤ count }
     requires high { count ≤ 8 }
-    ensures read { AnswersReading (λ read. (read.0, read.1.now))
+    ensures read { IsAnswer (λ read. (read.0, read.1.now)) read_refusal
         (read_number count bytes.now) ⊥ result }
 {
     if bytes.len() < count {

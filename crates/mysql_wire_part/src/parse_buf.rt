@@ -3,7 +3,8 @@ ghost use Rattle.std.specs.Prelude.{◌≡◌, ◌↔◌, [], length, IsTrue, On
 ghost use Rattle.byteorder.specs.Endian.{twos_complement};
 ghost use Rattle.mysql_wire_part.specs.Reading.{read_bytes, read_number, map_read};
 ghost use Rattle.mysql_wire_part.specs.Lenenc.{read_lenenc};
-ghost use Rattle.mysql_wire_part.specs.ParseBuf.{left, Eats, AnswersReading};
+ghost use Rattle.mysql_wire_part.specs.Answer.{IsAnswer};
+ghost use Rattle.mysql_wire_part.specs.ParseBuf.{left, Eats, read_refusal};
 
 use crate::error::WireError;
 use crate::lenenc::length_at;
@@ -109,7 +110,7 @@ impl<'a> ParseBuf<'a> {
     /// The next length-encoded string, as a slice of the input.
     pub fn eat_lenenc_str(&mut self) -> Result<&'a [u8], WireError>
         // It takes no memory, so it never runs out.
-        ensures read { AnswersReading (λ text. (text.now, left self.new))
+        ensures read { IsAnswer (λ text. (text.now, left self.new)) read_refusal
             (read_lenenc (left self.old)) ⊥ result }
         ensures unchanged { OnErr result (left self.new ≡ left self.old) }
     {

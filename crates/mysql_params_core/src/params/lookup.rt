@@ -1,8 +1,8 @@
 //! The values of the names of a query.
-ghost use Rattle.std.specs.Prelude.{◌≡◌, ◌<◌, ◌+◌, true, length, Some, IfOk, OnErr, IsErrOf, alloc_error};
+ghost use Rattle.std.specs.Prelude.{◌≡◌, ◌<◌, ◌+◌, true, length, Some, IfOk, OnErr, IsErrOf, alloc_error, ⊤};
 ghost use Rattle.std.specs.List.{list_all, list_any};
 ghost use Rattle.std.specs.FinMap.{contains_key};
-ghost use Rattle.mysql_params_core.specs.Answer.{IsAnswer};
+ghost use Rattle.mysql_wire_part.specs.Answer.{IsAnswer};
 ghost use Rattle.mysql_params_core.specs.Errors.{lookup_refusal, absent_name};
 ghost use Rattle.mysql_params_core.specs.FirstAbsent.{IsFirstAbsent};
 ghost use Rattle.mysql_params_core.specs.Given.{given, value_map, named};
@@ -104,7 +104,7 @@ fn named_values(
 ) -> Result<Vec<Value>, ParamsError>
     requires { 0 < length names.now }
     ensures { IsAnswer (λ values. values.items) lookup_refusal
-        (lookup (named (value_map entries.entries)) (names_of names.now)) result }
+        (lookup (named (value_map entries.entries)) (names_of names.now)) ⊤ result }
 {
     match first_absent(&entries, names) {
         None => match take_values(alloc, entries, names) {
@@ -125,7 +125,7 @@ fn named_positional(
     names: &[Vec<u8>],
 ) -> Result<Params, IntoPositionalError>
     ensures positioned { IsAnswer given absent_name
-        (positioned (named (value_map entries.entries)) (names_of names.now)) result }
+        (positioned (named (value_map entries.entries)) (names_of names.now)) ⊤ result }
     ensures memory { IsErrOf result (IntoPositionalError.Memory alloc_error) →
         0 < length names.now }
 {
@@ -158,7 +158,7 @@ impl Params {
         named_params: Option<&[Vec<u8>]>,
     ) -> Result<Vec<Value>, ParamsError>
         ensures values { IsAnswer (λ values. values.items) lookup_refusal
-            (lookup (given self) (listed_names named_params.entry)) result }
+            (lookup (given self) (listed_names named_params.entry)) ⊤ result }
         ensures memory { IsErrOf result (ParamsError.Memory alloc_error) →
             LookupTakesMemory (given self) (listed_names named_params.entry) }
     {
@@ -197,7 +197,7 @@ impl Params {
         named_params: &[Vec<u8>],
     ) -> Result<Params, IntoPositionalError>
         ensures positioned { IsAnswer given absent_name
-            (positioned (given self) (names_of named_params.now)) result }
+            (positioned (given self) (names_of named_params.now)) ⊤ result }
         ensures memory { IsErrOf result (IntoPositionalError.Memory alloc_error) →
             PositionTakesMemory (given self) (names_of named_params.now) }
     {

@@ -1,8 +1,8 @@
 //! Pairs of a name and a thing make named parameters.
-ghost use Rattle.std.specs.Prelude.{◌≡◌, ◌≢◌, ◌⊎◌, ℕ, List, None, Some, Ok, map, IfErr, alloc_error, string_bytes};
+ghost use Rattle.std.specs.Prelude.{◌≡◌, ◌≢◌, ◌⊎◌, ℕ, List, None, Some, Ok, map, IfErr, alloc_error, string_bytes, ⊤};
+ghost use Rattle.mysql_wire_part.specs.Answer.{IsAnswer};
 ghost use Rattle.mysql_value_core.specs.declared.value.convert.ToValueError.TheVariants as to_value;
-ghost use Rattle.mysql_value_core.specs.ValueOf.{Meaning, MeansBytes, AnswersValue};
-ghost use Rattle.mysql_params_core.specs.Answer.{IsAnswer};
+ghost use Rattle.mysql_value_core.specs.ValueOf.{Meaning, MeansBytes, too_long_duration};
 ghost use Rattle.mysql_params_core.specs.Errors.{maker_refusal};
 ghost use Rattle.mysql_params_core.specs.Given.{given, value_map};
 ghost use Rattle.mysql_params_core.specs.Made.{pairs_made, redefined, with_new, with_pair};
@@ -63,9 +63,10 @@ fn put_new(
     name: &[u8],
     answer: Result<Value, ToValueError>,
 ) -> Result<(), ToParamsError>
-    ensures made { (meaning : Meaning) → AnswersValue meaning (MeansBytes meaning) answer →
+    ensures made { (meaning : Meaning) →
+        IsAnswer (λ value. value) too_long_duration meaning (MeansBytes meaning) answer →
         IsAnswer (λ _. value_map entries.new.entries) maker_refusal
-        (with_new (value_map entries.old.entries) name.now meaning) result }
+        (with_new (value_map entries.old.entries) name.now meaning) ⊤ result }
     ensures value { IfErr result (λ error.
         error ≢ ToParamsError.Value (to_value.Memory alloc_error)) }
 {
@@ -106,7 +107,7 @@ fn put_pair<V: ToValue>(
     thing: &V,
 ) -> Result<(), ToParamsError>
     ensures made { IsAnswer (λ _. value_map entries.new.entries) maker_refusal
-        (with_pair (Ok (value_map entries.old.entries)) (name.now, V.value_of thing.now)) result }
+        (with_pair (Ok (value_map entries.old.entries)) (name.now, V.value_of thing.now)) ⊤ result }
     ensures value { IfErr result (λ error.
         error ≢ ToParamsError.Value (to_value.Memory alloc_error)) }
 {
@@ -124,7 +125,7 @@ fn put_named_object(
     object: &dyn ToValue,
 ) -> Result<(), ToParamsError>
     ensures made { IsAnswer (λ _. value_map entries.new.entries) maker_refusal
-        (with_pair (Ok (value_map entries.old.entries)) (name.now, value_of object.now)) result }
+        (with_pair (Ok (value_map entries.old.entries)) (name.now, value_of object.now)) ⊤ result }
     ensures value { IfErr result (λ error.
         error ≢ ToParamsError.Value (to_value.Memory alloc_error)) }
 {
@@ -143,7 +144,7 @@ impl Params {
         pairs: &[(N, V)],
     ) -> Result<Params, ToParamsError>
         ensures made { IsAnswer given maker_refusal
-            (pairs_made (map (λ pair. (N.name pair.0, V.value_of pair.1)) pairs.now)) result }
+            (pairs_made (map (λ pair. (N.name pair.0, V.value_of pair.1)) pairs.now)) ⊤ result }
         ensures value { IfErr result (λ error.
             error ≢ ToParamsError.Value (to_value.Memory alloc_error)) }
     {
@@ -160,7 +161,7 @@ impl Params {
         pairs: &[(&[u8], &dyn ToValue)],
     ) -> Result<Params, ToParamsError>
         ensures made { IsAnswer given maker_refusal
-            (pairs_made (map (λ pair. (pair.0.now, value_of pair.1.now)) pairs.now)) result }
+            (pairs_made (map (λ pair. (pair.0.now, value_of pair.1.now)) pairs.now)) ⊤ result }
         ensures value { IfErr result (λ error.
             error ≢ ToParamsError.Value (to_value.Memory alloc_error)) }
     {

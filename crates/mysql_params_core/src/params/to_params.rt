@@ -1,11 +1,11 @@
 //! What makes parameters.
-ghost use Rattle.std.specs.Prelude.{◌≡◌, ◌≢◌, [], map, Ok, IfErr, IsErrOf, alloc_error};
+ghost use Rattle.std.specs.Prelude.{◌≡◌, ◌≢◌, [], map, Ok, IfErr, IsErrOf, alloc_error, ⊤};
+ghost use Rattle.mysql_wire_part.specs.Answer.{IsAnswer};
 ghost use Rattle.mysql_value_core.specs.declared.value.convert.ToValueError.TheVariants as to_value;
-ghost use Rattle.mysql_params_core.specs.Answer.{IsAnswer};
 ghost use Rattle.mysql_params_core.specs.Errors.{maker_refusal};
 ghost use Rattle.mysql_params_core.specs.Given.{given, empty};
 ghost use Rattle.mysql_params_core.specs.Made.{Made, list_made, with_value};
-ghost use Rattle.mysql_value_core.specs.ValueOf.{Meaning, MeansBytes, AnswersValue};
+ghost use Rattle.mysql_value_core.specs.ValueOf.{Meaning, MeansBytes, too_long_duration};
 
 use crate::params::{Params, ToParamsError};
 use mysql_values::value::Value;
@@ -22,7 +22,7 @@ pub trait ToParams {
 
     /// The parameters that the thing makes, or the refusal of the first item that has no value.
     fn to_params(&self, alloc: Global) -> Result<Params, ToParamsError>
-        ensures made { IsAnswer given maker_refusal (made self.now) result }
+        ensures made { IsAnswer given maker_refusal (made self.now) ⊤ result }
         ensures memory { IsErrOf result (ToParamsError.Memory alloc_error) → takes_memory self.now }
         ensures value { IfErr result (λ error.
             error ≢ ToParamsError.Value (to_value.Memory alloc_error)) };
@@ -33,9 +33,10 @@ fn put_answer(
     values: &mut Vec<Value>,
     answer: Result<Value, ToValueError>,
 ) -> Result<(), ToParamsError>
-    ensures made { (meaning : Meaning) → AnswersValue meaning (MeansBytes meaning) answer →
+    ensures made { (meaning : Meaning) →
+        IsAnswer (λ value. value) too_long_duration meaning (MeansBytes meaning) answer →
         IsAnswer (λ _. values.new.items) maker_refusal
-        (with_value (Ok values.old.items) meaning) result }
+        (with_value (Ok values.old.items) meaning) ⊤ result }
     ensures value { IfErr result (λ error.
         error ≢ ToParamsError.Value (to_value.Memory alloc_error)) }
 {
@@ -58,7 +59,7 @@ pub(crate) fn put<T: ToValue>(
     thing: &T,
 ) -> Result<(), ToParamsError>
     ensures made { IsAnswer (λ _. values.new.items) maker_refusal
-        (with_value (Ok values.old.items) (T.value_of thing.now)) result }
+        (with_value (Ok values.old.items) (T.value_of thing.now)) ⊤ result }
     ensures value { IfErr result (λ error.
         error ≢ ToParamsError.Value (to_value.Memory alloc_error)) }
 {
@@ -72,7 +73,7 @@ fn put_object(
     object: &dyn ToValue,
 ) -> Result<(), ToParamsError>
     ensures made { IsAnswer (λ _. values.new.items) maker_refusal
-        (with_value (Ok values.old.items) (value_of object.now)) result }
+        (with_value (Ok values.old.items) (value_of object.now)) ⊤ result }
     ensures value { IfErr result (λ error.
         error ≢ ToParamsError.Value (to_value.Memory alloc_error)) }
 {
@@ -81,7 +82,7 @@ fn put_object(
 
 // What a list of things makes.
 fn list_params<T: ToValue>(alloc: Global, things: &[T]) -> Result<Params, ToParamsError>
-    ensures made { IsAnswer given maker_refusal (list_made (map T.value_of things.now)) result }
+    ensures made { IsAnswer given maker_refusal (list_made (map T.value_of things.now)) ⊤ result }
     ensures memory { IsErrOf result (ToParamsError.Memory alloc_error) → things.now ≢ [] }
     ensures value { IfErr result (λ error.
         error ≢ ToParamsError.Value (to_value.Memory alloc_error)) }
@@ -99,7 +100,7 @@ fn list_params<T: ToValue>(alloc: Global, things: &[T]) -> Result<Params, ToPara
 // The same for objects, through the interface of each alone.
 fn object_params(alloc: Global, objects: &[&dyn ToValue]) -> Result<Params, ToParamsError>
     ensures made { IsAnswer given maker_refusal
-        (list_made (map (λ object. value_of object.now) objects.now)) result }
+        (list_made (map (λ object. value_of object.now) objects.now)) ⊤ result }
     ensures memory { IsErrOf result (ToParamsError.Memory alloc_error) → objects.now ≢ [] }
     ensures value { IfErr result (λ error.
         error ≢ ToParamsError.Value (to_value.Memory alloc_error)) }

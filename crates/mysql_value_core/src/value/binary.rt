@@ -1,7 +1,8 @@
 //! Values of rows in binary form.
 ghost use Rattle.std.specs.Prelude.{◌≡◌, ◌≤◌, ◌++◌, length, IsOk, OnOk, OnErr};
 ghost use Rattle.mysql_wire_part.specs.Reading.{read_number, map_read};
-ghost use Rattle.mysql_wire_part.specs.ParseBuf.{left, AnswersReading};
+ghost use Rattle.mysql_wire_part.specs.Answer.{IsAnswer};
+ghost use Rattle.mysql_wire_part.specs.ParseBuf.{left, read_refusal};
 ghost use Rattle.mysql_wire_part.specs.Column.{is_unsigned};
 ghost use Rattle.mysql_value_core.specs.TextCell.{ReadsBytes};
 ghost use Rattle.mysql_value_core.specs.BinaryForm.{binary_form, date_form, time_form};
@@ -168,7 +169,7 @@ impl<'de> MyDeserialize<'de> for ValueDeserializer<BinValue> {
         buf: &mut ParseBuf<'de>,
     ) -> Result<Self, WireError>
         // Only a reading of bytes takes memory, so nothing else runs out of it.
-        ensures read { AnswersReading (λ read. (read.0, left buf.new))
+        ensures read { IsAnswer (λ read. (read.0, left buf.new)) read_refusal
             (read_binary ctx.0 (is_unsigned ctx.1) (left buf.old))
             (ReadsBytes (read_binary ctx.0 (is_unsigned ctx.1) (left buf.old))) result }
         ensures unchanged { OnErr result (left buf.new ≡ left buf.old) }
@@ -188,7 +189,7 @@ fn eat_value(
     unsigned: bool,
     buf: &mut ParseBuf<'_>,
 ) -> Result<Value, WireError>
-    ensures read { AnswersReading (λ value. (value, left buf.new))
+    ensures read { IsAnswer (λ value. (value, left buf.new)) read_refusal
         (read_binary column unsigned (left buf.old))
         (ReadsBytes (read_binary column unsigned (left buf.old))) result }
 {
@@ -230,8 +231,8 @@ fn eat_value(
 
 // A length-encoded string, copied.
 fn eat_string(alloc: Global, buf: &mut ParseBuf<'_>) -> Result<Value, WireError>
-    ensures read { AnswersReading (λ value. (value, left buf.new)) (read_bytes_value (left buf.old))
-        (ReadsBytes (read_bytes_value (left buf.old))) result }
+    ensures read { IsAnswer (λ value. (value, left buf.new)) read_refusal
+        (read_bytes_value (left buf.old)) (ReadsBytes (read_bytes_value (left buf.old))) result }
 {
     let text = buf.eat_lenenc_str()?;
     let bytes = Bytes::from(Vec::from_slice(alloc, text)?);
@@ -242,7 +243,7 @@ fn eat_string(alloc: Global, buf: &mut ParseBuf<'_>) -> Result<Value, WireError>
 fn eat_integer(width: usize, unsigned: bool, buf: &mut ParseBuf<'_>) -> Result<Value, WireError>
     requires low { 1 ≤ width }
     requires high { width ≤ 8 }
-    ensures read { AnswersReading (λ value. (value, left buf.new))
+    ensures read { IsAnswer (λ value. (value, left buf.new)) read_refusal
         (read_integer width unsigned (left buf.old)) ⊥ result }
 {
     let bytes = buf.0;
@@ -261,7 +262,7 @@ fn eat_integer(width: usize, unsigned: bool, buf: &mut ParseBuf<'_>) -> Result<V
 
 // The 4 bytes of a `Float`.
 fn eat_float(buf: &mut ParseBuf<'_>) -> Result<Value, WireError>
-    ensures read { AnswersReading (λ value. (value, left buf.new))
+    ensures read { IsAnswer (λ value. (value, left buf.new)) read_refusal
         (map_read (λ bits. Value.Float bits) (read_number 4 (left buf.old))) ⊥ result }
 {
     match buf.checked_eat_u32_le() {
@@ -272,7 +273,7 @@ fn eat_float(buf: &mut ParseBuf<'_>) -> Result<Value, WireError>
 
 // The 8 bytes of a `Double`.
 fn eat_double(buf: &mut ParseBuf<'_>) -> Result<Value, WireError>
-    ensures read { AnswersReading (λ value. (value, left buf.new))
+    ensures read { IsAnswer (λ value. (value, left buf.new)) read_refusal
         (map_read (λ bits. Value.Double bits) (read_number 8 (left buf.old))) ⊥ result }
 {
     match buf.checked_eat_u64_le() {
@@ -283,7 +284,7 @@ fn eat_double(buf: &mut ParseBuf<'_>) -> Result<Value, WireError>
 
 // A length byte and that many bytes, which are returned.
 fn eat_counted<'a>(buf: &mut ParseBuf<'a>) -> Result<&'a [u8], WireError>
-    ensures read { AnswersReading (λ fields. (fields.now, left buf.new))
+    ensures read { IsAnswer (λ fields. (fields.now, left buf.new)) read_refusal
         (read_counted (left buf.old)) ⊥ result }
 {
     let Some(count) = buf.checked_eat_u8() else {

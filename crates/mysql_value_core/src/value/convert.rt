@@ -1,7 +1,8 @@
 //! Conversions between values and the types of Rust.
 ghost use Rattle.std.specs.Prelude.{◌≡◌, IfOk, OnErr, alloc_error};
+ghost use Rattle.mysql_wire_part.specs.Answer.{IsAnswer};
 ghost use Rattle.mysql_value_core.specs.Value.{IsBytes};
-ghost use Rattle.mysql_value_core.specs.ValueOf.{Meaning, MeansBytes, AnswersValue};
+ghost use Rattle.mysql_value_core.specs.ValueOf.{Meaning, MeansBytes, too_long_duration};
 ghost use Rattle.mysql_value_core.specs.declared.value.convert.ToValueError.TheVariants.{Memory};
 
 use crate::value::Value;
@@ -55,5 +56,6 @@ pub trait ToValue {
 
     /// The value of the thing. It takes memory only where the value is `Bytes`.
     fn to_value(&self, alloc: Global) -> Result<Value, ToValueError>
-        ensures { AnswersValue (value_of self.now) (MeansBytes (value_of self.now)) result };
+        ensures { IsAnswer (λ value. value) too_long_duration (value_of self.now)
+            (MeansBytes (value_of self.now)) result };
 }

@@ -1,8 +1,9 @@
 //! SQL literals of values.
-ghost use Rattle.std.specs.Prelude.{◌≡◌, length, Some, Err, IfOk, IsTrue, alloc_error, option_map, string_bytes};
+ghost use Rattle.std.specs.Prelude.{◌≡◌, length, Some, Err, IfOk, IsSome, IsTrue, alloc_error, ok_or, option_map, string_bytes};
+ghost use Rattle.mysql_wire_part.specs.Answer.{IsAnswer};
 ghost use Rattle.mysql_value_core.specs.declared.value.literal.AsSqlError as AsSqlError;
 ghost use Rattle.mysql_value_core.specs.declared.value.literal.AsSqlError.TheVariants.{Memory};
-ghost use Rattle.mysql_value_core.specs.AsSql.{AnswersLiteral};
+ghost use Rattle.mysql_value_core.specs.AsSql.{float, literal_refusal};
 ghost use Rattle.mysql_value_core.specs.Literal.{is_float, literal_of};
 ghost use Rattle.mysql_value_core.specs.ReadBack.{ReadsAs};
 ghost use Rattle.mysql_value_core.specs.TimeLiteral.{WritesTimeText};
@@ -39,7 +40,9 @@ impl Value {
     /// for a server in the SQL mode `NO_BACKSLASH_ESCAPES`, where a backslash in a string escapes
     /// nothing.
     pub fn as_sql(&self, alloc: Global, no_backslash_escape: bool) -> Result<String, AsSqlError>
-        ensures gives { AnswersLiteral (literal_of no_backslash_escape self.now) result }
+        ensures gives { IsAnswer string_bytes literal_refusal
+            (ok_or (literal_of no_backslash_escape self.now) float)
+            (IsSome (literal_of no_backslash_escape self.now)) result }
         // A float takes no memory.
         ensures float { IsTrue (is_float self.now) → result ≡ Err AsSqlError.Float }
         ensures reads_back { IfOk result

@@ -1,6 +1,7 @@
 //! Values of rows in text form.
 ghost use Rattle.std.specs.Prelude.{◌≡◌, OnErr};
-ghost use Rattle.mysql_wire_part.specs.ParseBuf.{left, AnswersReading};
+ghost use Rattle.mysql_wire_part.specs.Answer.{IsAnswer};
+ghost use Rattle.mysql_wire_part.specs.ParseBuf.{left, read_refusal};
 ghost use Rattle.mysql_value_core.specs.TextCell.{read_cell, read_cells, ReadsBytes, ReadsACell};
 ghost use Rattle.mysql_value_core.specs.declared.value.Value as value;
 
@@ -44,7 +45,7 @@ pub fn read_text_cells(
     count: usize,
 ) -> Result<Vec<Value>, WireError>
     // Memory may be refused first, but not before a cell was read.
-    ensures read { AnswersReading (λ cells. (cells.items, left buf.new))
+    ensures read { IsAnswer (λ cells. (cells.items, left buf.new)) read_refusal
         (read_cells count (left buf.old)) (ReadsACell count (left buf.old)) result }
     ensures unchanged { OnErr result (left buf.new ≡ left buf.old) }
 {
@@ -60,7 +61,7 @@ pub fn read_text_cells(
 
 // The cell at the front of the buffer.
 fn eat_cell(alloc: Global, buf: &mut ParseBuf<'_>) -> Result<Value, WireError>
-    ensures read { AnswersReading (λ cell. (cell, left buf.new))
+    ensures read { IsAnswer (λ cell. (cell, left buf.new)) read_refusal
         (read_cell (left buf.old)) (ReadsBytes (read_cell (left buf.old))) result }
     ensures unchanged { OnErr result (left buf.new ≡ left buf.old) }
 {

@@ -1,8 +1,9 @@
 //! Conversions of values to the types of Rust, with their way back.
 ghost use Rattle.std.specs.Prelude.{◌≡◌, Option, Some, IsSome, IfOk};
 ghost use Rattle.std.specs.Option.{option_map};
+ghost use Rattle.mysql_wire_part.specs.Answer.{IsAnswer};
 ghost use Rattle.mysql_value_core.specs.FromValue.{ConvertsOrHandsBack};
-ghost use Rattle.mysql_value_core.specs.ValueOf.{Meaning, AnswersValue};
+ghost use Rattle.mysql_value_core.specs.ValueOf.{Meaning, too_long_duration};
 ghost use Rattle.mysql_value_core.specs.declared.value.Value as value;
 ghost use Rattle.mysql_values.specs.Rollback.{RollsBack, NullFromNull};
 
@@ -36,7 +37,8 @@ pub trait IntoValue {
     /// The value that it is rolled back to. Of what `get_intermediate` gave, that value converts to
     /// the same thing.
     fn into_value(self, alloc: Global) -> Result<Value, ToValueError>
-        ensures { AnswersValue (undo self) (takes_memory self) result };
+        ensures { IsAnswer (λ value. value) too_long_duration (undo self)
+            (takes_memory self) result };
 }
 
 /// What values convert to.

@@ -1,4 +1,7 @@
-use Rattle.std.proofs.Common.{inl, inr}
+use Rattle.std.specs.Prelude.{ok_or, ⊤}
+use Rattle.mysql_wire_part.proofs.AnswerLemmas.{refusal_expected_too}
+use Rattle.mysql_program.specs.Words.{usage, value_of_text, pair_of_word}
+use Rattle.mysql_program.specs.WordErrors.{words_refusal}
 use Rattle.mysql_program.proofs.WordLemmas.{pair_found, pair_refused}
 use Rattle.mysql_program.proofs.words.pair_of_word.Goals as goal
 
@@ -10,13 +13,8 @@ returns-in-Ok c =
 
 pub returns-in-Err : goal.returns-in-Err
 returns-in-Err c =
-    elim c.in-Err.ensures [
-      | inl memory ↦ inl memory
-      | inr (why, refused, is) ↦
-          inr (
-            why,
-            pair_refused c.args.word.now c.in-Some.name.now c.in-Some.text.now why c.in-Some.ensures.found
-                (rw c.as_bytes.ensures.value at refused),
-            is,
-          )
-    ]
+    refusal_expected_too (ok_or (value_of_text c.as_bytes.result.now) usage)
+    (ok_or (pair_of_word c.args.word.now) usage) ⊤ ⊤ (words_refusal c.in-Err.error)
+    (λ why refused. pair_refused c.args.word.now c.in-Some.name.now c.in-Some.text.now why
+    c.in-Some.ensures.found (rw c.as_bytes.ensures.value at refused))
+    (λ _. tt) c.in-Err.ensures

@@ -1,23 +1,20 @@
-use Rattle.std.proofs.Common.{inl, inr, map, ◌≡◌, ◌∙◌, ◌+◌, ◌++◌, ◌∷◌, [], ap, subst, sym, drop, rules}
+use Rattle.std.proofs.Common.{map, ◌≡◌, ◌∙◌, ◌+◌, ◌++◌, ◌∷◌, [], ap, subst, sym, drop, rules}
 use Rattle.std.proofs.lemmas.List.{map-append}
-use Rattle.std.specs.Prelude.{option_map}
-use Rattle.mysql_program.specs.Words.{pairs_of_words, word_bytes}
-use Rattle.mysql_program.specs.WordErrors.{seen_pair}
+use Rattle.std.specs.Prelude.{option_map, ok_or, ⊤}
+use Rattle.mysql_wire_part.proofs.AnswerLemmas.{refusal_expected_too}
+use Rattle.mysql_program.specs.Words.{usage, pair_of_word, pairs_of_words, word_bytes}
+use Rattle.mysql_program.specs.WordErrors.{words_refusal, seen_pair}
 use Rattle.mysql_program.proofs.WordLemmas.{one_pair_more, no_pair}
 use Rattle.mysql_program.proofs.words.pairs_of_words.Goals as goal
 
 pub returns-in-Err : goal.returns-in-Err
 returns-in-Err c =
-    elim c.in-Err.ensures [
-      | inl memory ↦ inl memory
-      | inr (why, refused, is) ↦
-          inr (
-            why,
-            no_pair c.args.words.now c.loop-word.word-index c.word-item.result (map seen_pair c.loop-word.pairs.items) why
-                c.loop-word-test.true c.word-item.is (rw c.as_str.ensures.value at refused) c.loop-word.invariant,
-            is,
-          )
-    ]
+    refusal_expected_too (ok_or (pair_of_word c.as_str.result.now) usage)
+    (ok_or (pairs_of_words (word_bytes c.args.words.now)) usage) ⊤ ⊤ (words_refusal c.in-Err.error)
+    (λ why refused. no_pair c.args.words.now c.loop-word.word-index c.word-item.result
+    (map seen_pair c.loop-word.pairs.items) why c.loop-word-test.true c.word-item.is
+    (rw c.as_str.ensures.value at refused) c.loop-word.invariant)
+    (λ _. tt) c.in-Err.ensures
 
 pub loop-word-preserved : goal.loop-word-preserved
 loop-word-preserved c =

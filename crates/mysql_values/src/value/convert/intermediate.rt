@@ -1,7 +1,8 @@
 //! What values are converted to before it is known whether the thing or the value is wanted.
 ghost use Rattle.std.specs.Prelude.{◌≡◌, IfOk, Ok, OnErr, Some};
+ghost use Rattle.mysql_wire_part.specs.Answer.{IsAnswer};
 ghost use Rattle.mysql_value_core.specs.Value.{IsBytes};
-ghost use Rattle.mysql_value_core.specs.ValueOf.{AnswersValue};
+ghost use Rattle.mysql_value_core.specs.ValueOf.{too_long_duration};
 ghost use Rattle.mysql_value_core.specs.declared.value.Value as value;
 
 use crate::value::Value;
@@ -60,7 +61,7 @@ impl<T: ToValue + Drop> ParseIrOpt<T> {
 
     /// The value that is kept, or else that of the thing, which takes memory where it is `Bytes`.
     pub fn rollback(self, alloc: Global) -> Result<Value, ToValueError>
-        ensures { AnswersValue (rollback_value T.value_of self)
+        ensures { IsAnswer (λ value. value) too_long_duration (rollback_value T.value_of self)
             (RollbackTakesMemory T.value_of self) result }
     {
         match self {

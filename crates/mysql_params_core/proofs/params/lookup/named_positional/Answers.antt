@@ -1,4 +1,4 @@
-use Rattle.std.proofs.Common.{ap, sym, ◌∙◌, refl, inr}
+use Rattle.std.proofs.Common.{ap, sym, ◌∙◌}
 use Rattle.std.specs.Prelude.{Err}
 use Rattle.std.specs.Option.{option_map, ok_or}
 use Rattle.mysql_params_core.specs.Given.{value_map, positional}
@@ -10,11 +10,7 @@ pub returns-in-Ok-missing-clause-positioned : goal.returns-in-Ok-missing-clause-
 returns-in-Ok-missing-clause-positioned c =
     let m = value_map c.args.entries.entries in
     let ns = c.args.names.now in
-    inr (
-      _,
-      ap (λ vs. ok_or (option_map positional vs) (first_missing m (names_of ns)))
-          (no_values m (names_of ns) c.in-Some.first c.in-Some.ensures)
-          ∙ ap (λ n. Err n) (sym (c.in-Ok-missing.ensures ∙ c.as_slice.ensures.value
-          ∙ first-at m ns c.in-Some.first c.in-Some.ensures c.index-names-first.result c.index-names-first.is)),
-      refl,
-    )
+    ap (λ vs. ok_or (option_map positional vs) (first_missing m (names_of ns)))
+    (no_values m (names_of ns) c.in-Some.first c.in-Some.ensures)
+    ∙ ap (λ n. Err n) (sym (c.in-Ok-missing.ensures ∙ c.as_slice.ensures.value
+    ∙ first-at m ns c.in-Some.first c.in-Some.ensures c.index-names-first.result c.index-names-first.is))

@@ -1,4 +1,4 @@
-use Rattle.std.proofs.Common.{ap, sym, ◌∙◌, refl, inr}
+use Rattle.std.proofs.Common.{ap, sym, ◌∙◌}
 use Rattle.std.specs.Prelude.{Err}
 use Rattle.std.specs.Option.{ok_or}
 use Rattle.mysql_params_core.specs.Given.{value_map}
@@ -11,10 +11,6 @@ pub returns-in-Ok-missing : goal.returns-in-Ok-missing
 returns-in-Ok-missing c =
     let m = value_map c.args.entries.entries in
     let ns = names_of c.args.names.now in
-    inr (
-      _,
-      lookup-some m c.args.names.now c.requires
-          ∙ ap (λ vs. ok_or vs (missing (missing_name m ns))) (no_values m ns c.in-Some.first c.in-Some.ensures)
-          ∙ ap (λ n. Err (missing n)) (sym (c.in-Ok-missing.ensures ∙ c.reported.ensures)),
-      refl,
-    )
+    lookup-some m c.args.names.now c.requires
+    ∙ ap (λ vs. ok_or vs (missing (missing_name m ns))) (no_values m ns c.in-Some.first c.in-Some.ensures)
+    ∙ ap (λ n. Err (missing n)) (sym (c.in-Ok-missing.ensures ∙ c.reported.ensures))

@@ -1,7 +1,8 @@
 //! The values of bytes and texts. Each is a copy.
 ghost use Rattle.std.specs.Prelude.{string_bytes, ⊤};
+ghost use Rattle.mysql_wire_part.specs.Answer.{IsAnswer};
 ghost use Rattle.mysql_value_core.specs.FromValue.{cow_bytes, cow_text};
-ghost use Rattle.mysql_value_core.specs.ValueOf.{AnswersValue, bytes_value};
+ghost use Rattle.mysql_value_core.specs.ValueOf.{bytes_value, too_long_duration};
 ghost use Rattle.mysql_value_core.specs.ValueTable.{value_of_byte_array, value_of_byte_cow, value_of_byte_slice, value_of_byte_vec, value_of_str, value_of_str_cow, value_of_string};
 
 use crate::bytes::Bytes;
@@ -12,7 +13,7 @@ use std::borrow::{CowSlice, CowStr};
 
 // A copy of the bytes, as a value.
 fn bytes_value(alloc: Global, bytes: &[u8]) -> Result<Value, ToValueError>
-    ensures { AnswersValue (bytes_value bytes.now) ⊤ result }
+    ensures { IsAnswer (λ value. value) too_long_duration (bytes_value bytes.now) ⊤ result }
 {
     Ok(Value::Bytes(Bytes::from(Vec::from_slice(alloc, bytes)?)))
 }
