@@ -15,7 +15,7 @@ pub fn literal_shape(value: &Value)
     value.fields_in_range();
 }
 
-/// The literal of a value reads as the content of the value, before what may stand behind it.
+/// The literal of a value reads as the content of the value, before what may stand after it.
 pub fn literal_reads_back(value: &Value)
     ensures reads_back { (mode : Bool) →
         IfSome (literal_of mode value.now) (ReadsAs mode value.now) }
