@@ -1,11 +1,12 @@
 -- A literal, known by its shape alone: it opens nothing with the byte before it, and its tokens, none of
 -- them a place, end where it ends, whatever follows.
 use Rattle.std.proofs.Common.{◌≡◌, ◌++◌, ◌==◌, ◌&&◌, ◌||◌, nat_le, ℕ, Bool, true, false, List, [], ◌∷◌, None, arith, inl, inr, refl, ap, ◌∙◌, sym, append-nil, append_assoc, true≢false}
+use Rattle.std.specs.Char.{is_ascii_digit}
 use Rattle.std.specs.List.{list_all}
 use Rattle.std.proofs.lemmas.Bool.{and_parts, and_from, cases_Bool, eqb-true}
 use Rattle.std.proofs.lemmas.Bool.Decides.{nat_tests}
 use Rattle.mysql_sql_text.specs.StringUnits.{AreUnits}
-use Rattle.mysql_sql_text.specs.ReadLiteral.{is_digit, is_hexadecimal_digit}
+use Rattle.mysql_sql_text.specs.ReadLiteral.{is_hexadecimal_digit}
 use Rattle.mysql_sql_text.specs.LiteralShape.{AreDigits, AreHexadecimalPairs, IsClosedString, closed_string, AreClosedStrings, one_string, more_strings, IsQuoted, IsLiteral, null_literal, natural_literal, negative_literal, hexadecimal_literal, quoted_literal}
 use Rattle.mysql_named_params.specs.Bytes.{asterisk, backquote, colon, dash, double_quote, hash, question_mark, single_quote, slash}
 use Rattle.mysql_named_params.specs.Tokens.{Token, IsToken, text_of, AreTokensBefore, QuotedString, Plain}
@@ -19,7 +20,7 @@ use Rattle.mysql_named_params.proofs.RestLemmas.{OpensNothing}
 
 -- a digit or a letter
 abbrev pub is_alphanumeric : ℕ → Bool
-is_alphanumeric b = is_digit b || ((nat_le 65 b && nat_le b 90) || (nat_le 97 b && nat_le b 122))
+is_alphanumeric b = is_ascii_digit b || ((nat_le 65 b && nat_le b 90) || (nat_le 97 b && nat_le b 122))
 
 -- this text is these tokens, whatever follows
 pub record IsCutBefore (mode : Bool) (text : List ℕ) (ts : List Token) : Type 0 where
@@ -65,15 +66,15 @@ alphanumeric_cut : (mode : Bool) (bytes : List ℕ) → list_all is_alphanumeric
     (ts : List Token) × IsCutBefore mode bytes ts
 alphanumeric_cut mode bytes h = (plain_tokens bytes, record { cut_text = plain_text bytes; cut_tokens = plain_before mode bytes h; cut_places = plain_places bytes })
 
-digit_alphanumeric : (b : ℕ) → is_digit b ≡ true → is_alphanumeric b ≡ true
+digit_alphanumeric : (b : ℕ) → is_ascii_digit b ≡ true → is_alphanumeric b ≡ true
 digit_alphanumeric b h = rw h refl
 
 hexadecimal_alphanumeric : (b : ℕ) → is_hexadecimal_digit b ≡ true → is_alphanumeric b ≡ true
 hexadecimal_alphanumeric b h = grind (arith, nat_tests)
 
-digits_alphanumeric : (bytes : List ℕ) → list_all is_digit bytes ≡ true → list_all is_alphanumeric bytes ≡ true
+digits_alphanumeric : (bytes : List ℕ) → list_all is_ascii_digit bytes ≡ true → list_all is_alphanumeric bytes ≡ true
 digits_alphanumeric [] h = refl
-digits_alphanumeric (b ∷ bytes) h = let p = and_parts (is_digit b) (list_all is_digit bytes) h in and_from _ _ (digit_alphanumeric b p.0) (digits_alphanumeric bytes p.1)
+digits_alphanumeric (b ∷ bytes) h = let p = and_parts (is_ascii_digit b) (list_all is_ascii_digit bytes) h in and_from _ _ (digit_alphanumeric b p.0) (digits_alphanumeric bytes p.1)
 
 AreDigits-alphanumeric : (bytes : List ℕ) → AreDigits bytes → list_all is_alphanumeric bytes ≡ true
 AreDigits-alphanumeric [] h = absurd h
@@ -87,13 +88,13 @@ AreHexadecimalPairs-alphanumeric (a ∷ b ∷ []) h = and_from _ _ (hexadecimal_
 AreHexadecimalPairs-alphanumeric (a ∷ b ∷ c ∷ bytes) h = and_from _ _ (hexadecimal_alphanumeric a h.0) (and_from _ _ (hexadecimal_alphanumeric b h.1) (AreHexadecimalPairs-alphanumeric (c ∷ bytes) h.2))
 
 -- a dash before a digit is plain
-minus_plain : (mode : Bool) (d : ℕ) (rest : List ℕ) → is_digit d ≡ true →
+minus_plain : (mode : Bool) (d : ℕ) (rest : List ℕ) → is_ascii_digit d ≡ true →
     IsToken mode (Plain dash) (d ∷ rest)
 minus_plain mode d rest h = plain_at mode dash (d ∷ rest) (none_there rest)
   where
     none_there : (rest : List ℕ) → dash_comment (d ∷ rest) ≡ None
     none_there [] = refl
-    none_there (w ∷ rest) = rw (other is_digit d dash h refl) refl
+    none_there (w ∷ rest) = rw (other is_ascii_digit d dash h refl) refl
 
 minus_cut : (mode : Bool) (digits : List ℕ) → AreDigits digits →
     (ts : List Token) × IsCutBefore mode (dash ∷ digits) ts
@@ -154,7 +155,7 @@ IsLiteral-cut mode (quoted_literal literal h) = quoted_cut mode literal h
 
 -- a byte with which a literal other than a negative one begins
 abbrev first_byte : ℕ → Bool
-first_byte b = is_digit b || (b == single_quote || b == 78)
+first_byte b = is_ascii_digit b || (b == single_quote || b == 78)
 
 first_opens_nothing : (b : ℕ) (rest : List ℕ) → first_byte b ≡ true → OpensNothing (b ∷ rest)
 first_opens_nothing b rest h =

@@ -1,12 +1,14 @@
+pub mod ByteNames
 pub mod PaddedLemmas
 pub mod StringLemmas
-pub mod DigitLemmas
+pub mod ValueOfDigitsLemmas
 pub mod TimeTextLemmas
 pub mod WrittenTimeLemmas
-pub mod ReadDigitLemmas
+pub mod ReadNaturalLemmas
 pub mod ReadStringLemmas
 pub mod ReadNumberLemmas
 pub mod HexadecimalLemmas
+pub mod ReadBytesLemmas
 pub mod ClockLemmas
 pub mod EscapedLemmas
 pub mod QuotedLemmas

@@ -1,8 +1,11 @@
 -- Where a literal ends: which bytes after it may be more of it, and what it reads as before all
--- others.
+-- others. After a number or a word a server also reads on at `.`, `_`, `$` and bytes from 128 on,
+-- as in `5.5` and `5_a`. The reader of ReadLiteral stops there, and the tests below name none of
+-- these, so whoever joins texts by hand has to see that none of them follows a literal.
 use Rattle.std.specs.Prelude.{◌≡◌, ℕ, nat_le, Bool, ◌==◌, ◌&&◌, ◌||◌, List, [], ◌∷◌, ◌++◌, Some, IsFalse, ⊤}
+use Rattle.std.specs.Char.{is_ascii_digit}
 use Rattle.std.specs.Str.{byte}
-use Rattle.mysql_sql_text.specs.ReadLiteral.{Content, is_digit, read_literal}
+use Rattle.mysql_sql_text.specs.ReadLiteral.{Content, read_literal}
 
 -- whether a byte is a single quote
 abbrev pub is_single_quote : ℕ → Bool
@@ -15,7 +18,7 @@ is_letter b =
 
 -- whether a byte may be more of the literal before it: a single quote, an ASCII digit or letter
 abbrev pub continues_literal : ℕ → Bool
-continues_literal b = is_single_quote b || (is_digit b || is_letter b)
+continues_literal b = is_single_quote b || (is_ascii_digit b || is_letter b)
 
 -- the text is empty, or its first byte fails the test
 abbrev pub BeginsWithout : (ℕ → Bool) → List ℕ → Type 0

@@ -1,15 +1,16 @@
 -- The shape of every literal (MySQL Reference Manual, "String Literals", "Hexadecimal Literals",
 -- "Numeric Literals", "NULL Values"): what is to be known of literals where they stand in a query.
 use Rattle.std.specs.Prelude.{ℕ, Bool, true, false, IsTrue, List, [], ◌∷◌, ◌++◌, codes}
+use Rattle.std.specs.Char.{is_ascii_digit}
 use Rattle.std.specs.List.{list_all}
-use Rattle.mysql_sql_text.specs.StringUnits.{AreUnits}
-use Rattle.mysql_sql_text.specs.ReadLiteral.{is_digit, is_hexadecimal_digit}
 use Rattle.std.specs.Str.{byte}
+use Rattle.mysql_sql_text.specs.StringUnits.{AreUnits}
+use Rattle.mysql_sql_text.specs.ReadLiteral.{is_hexadecimal_digit}
 
 -- one or more digits
 abbrev pub AreDigits : List ℕ → Type 0
 AreDigits [] = ⊥
-AreDigits (b ∷ bytes) = IsTrue (is_digit b) × IsTrue (list_all is_digit bytes)
+AreDigits (b ∷ bytes) = IsTrue (is_ascii_digit b) × IsTrue (list_all is_ascii_digit bytes)
 
 -- one or more pairs of hexadecimal digits
 abbrev pub AreHexadecimalPairs : List ℕ → Type 0
@@ -25,7 +26,7 @@ pub data IsClosedString (mode : Bool) : List ℕ → Type 0 where
   closed_string : (body : List ℕ) → AreUnits mode (byte "'") body
       → IsClosedString mode (codes "'" ++ body ++ codes "'")
 
--- one or more closed strings, each directly behind the one before
+-- one or more closed strings, each directly after the one before
 pub data AreClosedStrings (mode : Bool) : List ℕ → Type 0 where
   one_string : (string : List ℕ) → IsClosedString mode string → AreClosedStrings mode string
   more_strings : (string rest : List ℕ) → IsClosedString mode string → AreClosedStrings mode rest
@@ -37,7 +38,7 @@ abbrev pub IsQuoted : Bool → List ℕ → Type 0
 IsQuoted false literal = IsClosedString false literal
 IsQuoted true literal = AreClosedStrings true literal
 
--- `NULL`, a whole number, hexadecimal digits behind `0x`, or a literal in quotes
+-- `NULL`, a whole number, hexadecimal digits after `0x`, or a literal in quotes
 pub data IsLiteral (mode : Bool) : List ℕ → Type 0 where
   null_literal : IsLiteral mode (codes "NULL")
   natural_literal : (digits : List ℕ) → AreDigits digits → IsLiteral mode digits

@@ -5,6 +5,8 @@ use Rattle.std.specs.Prelude.{ℕ, ◌+◌, ◌-◌, ◌*◌, ◌/◌, ◌%◌, 
 use Rattle.std.specs.List.{flat_map}
 use Rattle.std.specs.Fmt.{decimal}
 use Rattle.std.specs.Str.{byte, is_utf8}
+use Rattle.mysql_sql_text.specs.declared.dates.DateFields.{DateFields}
+use Rattle.mysql_sql_text.specs.declared.dates.TimeFields.{TimeFields}
 
 -- ASCII's character "substitute", Ctrl-Z
 abbrev pub control_z : ℕ
@@ -41,16 +43,16 @@ abbrev pub hexadecimal : List ℕ → List ℕ
 hexadecimal bytes =
     flat_map (λ b. hexadecimal_digit (b / 16) ∷ hexadecimal_digit (b % 16) ∷ []) bytes
 
--- the literal of bytes: a string where they are UTF-8, and else hexadecimal
+-- the literal of bytes: a string if they are UTF-8, else hexadecimal
 abbrev pub bytes_literal : Bool → List ℕ → List ℕ
 bytes_literal mode bytes =
     if is_utf8 bytes then quoted (escaped mode bytes) else codes "0x" ++ hexadecimal bytes
 
--- the decimal digits of a number, behind as many zeros as the width asks for
+-- the decimal digits of a number, after as many zeros as the width asks for
 abbrev pub padded : ℕ → ℕ → List ℕ
 padded width n = replicate (width - length (decimal n)) (byte "0") ++ decimal n
 
--- the fraction of a second: none where there are no microseconds, else at least six digits
+-- the fraction of a second: none if there are no microseconds, else at least six digits
 abbrev pub fraction : ℕ → List ℕ
 fraction microseconds = if microseconds == 0 then [] else codes "." ++ padded 6 microseconds
 
@@ -80,3 +82,15 @@ abbrev pub time_text : Bool → ℕ → ℕ → ℕ → ℕ → ℕ → List ℕ
 time_text negative days hours minutes seconds microseconds =
     (if negative then codes "-" else [])
     ++ padded 3 (days * 24 + hours) ++ after_hours minutes seconds microseconds
+
+-- the literal of a date
+abbrev pub date_literal : DateFields → List ℕ
+date_literal date =
+    quoted (date_text date.year date.month date.day
+    date.hour date.minute date.second date.microseconds)
+
+-- the literal of a time
+abbrev pub time_literal : TimeFields → List ℕ
+time_literal time =
+    quoted (time_text time.negative time.days time.hours
+    time.minutes time.seconds time.microseconds)

@@ -1,9 +1,12 @@
--- How a literal is read (MySQL Reference Manual, "NULL Values", "Hexadecimal Literals", "Numeric
--- Literals", "String Literals" and its table "Special Character Escape Sequences"). It shares
--- nothing with the definition of what is written, and no code uses it. A mode is the flag
--- `no_backslash_escape`: `true` is the mode without backslash escapes. Unlike the manual, this
--- takes hexadecimal digits in pairs alone.
+-- How a literal is read: by the forms that are written, and by no others (MySQL Reference Manual,
+-- "NULL Values", "Hexadecimal Literals", "Numeric Literals", "String Literals" and its table
+-- "Special Character Escape Sequences"). So this is not the manual's whole grammar: of `5.5` it
+-- reads the `5` alone, it reads no `null`, `x'41'` and `".."`, and it takes hexadecimal digits in
+-- pairs alone. It shares nothing with the definition of what is written, and no code uses it. A
+-- mode is the flag `no_backslash_escape`: `true` is the mode without backslash escapes.
 use Rattle.std.specs.Prelude.{ℕ, ◌+◌, ◌-◌, ◌*◌, nat_le, Bool, true, false, ◌==◌, ◌&&◌, ◌||◌, List, [], ◌∷◌, ◌++◌, codes, Option, Some, None, option_map, option_and_then, ℤ, pos, neg_ℤ, if◌then◌else◌}
+use Rattle.std.specs.Char.{is_ascii_digit}
+use Rattle.std.specs.Option.{option_or}
 use Rattle.std.specs.Str.{byte}
 
 -- what a literal says: null, a whole number, or bytes
@@ -18,21 +21,17 @@ after [] text = Some text
 after (a ∷ word) [] = None
 after (a ∷ word) (b ∷ text) = if a == b then after word text else None
 
--- whether a byte is an ASCII digit
-abbrev pub is_digit : ℕ → Bool
-is_digit b = nat_le (byte "0") b && nat_le b (byte "9")
-
 -- whether a byte is a hexadecimal digit, of either case
 abbrev pub is_hexadecimal_digit : ℕ → Bool
 is_hexadecimal_digit b =
-    is_digit b
+    is_ascii_digit b
     || ((nat_le (byte "A") b && nat_le b (byte "F"))
     || (nat_le (byte "a") b && nat_le b (byte "f")))
 
 -- the number that a hexadecimal digit stands for
 abbrev pub hexadecimal_digit_value : ℕ → ℕ
 hexadecimal_digit_value b =
-    if is_digit b then b - byte "0" else (
+    if is_ascii_digit b then b - byte "0" else (
     if nat_le b (byte "F") then 10 + (b - byte "A") else 10 + (b - byte "a"))
 
 -- the bytes of the longest run of pairs of hexadecimal digits, and what follows
@@ -56,12 +55,12 @@ if_any (b ∷ bytes, text) = Some (byte_string (b ∷ bytes), text)
 abbrev pub read_digits : ℕ → List ℕ → ℕ × List ℕ
 read_digits n [] = (n, [])
 read_digits n (b ∷ text) =
-    if is_digit b then read_digits (10 * n + (b - byte "0")) text else (n, b ∷ text)
+    if is_ascii_digit b then read_digits (10 * n + (b - byte "0")) text else (n, b ∷ text)
 
 -- the number of the longest run of digits, of which there is one at least, and what follows
 abbrev pub read_natural : List ℕ → Option (ℕ × List ℕ)
 read_natural [] = None
-read_natural (b ∷ text) = if is_digit b then Some (read_digits 0 (b ∷ text)) else None
+read_natural (b ∷ text) = if is_ascii_digit b then Some (read_digits 0 (b ∷ text)) else None
 
 -- The bytes that a backslash and this byte stand for. Before `%` and `_` the backslash stays, and
 -- before a byte that is not named here it is ignored.
@@ -75,7 +74,8 @@ unescaped b =
     if b == byte "Z" then 26 ∷ [] else (
     if b == byte "%" || b == byte "_" then byte "\\" ∷ b ∷ [] else b ∷ []))))))
 
--- whether a byte begins a pair that stands for other bytes
+-- Whether a byte begins a pair that stands for other bytes. `is_escape` of StringUnits is the same
+-- test: this one stands apart, since the reader shares nothing with what is written.
 abbrev pub begins_pair : Bool → ℕ → Bool
 begins_pair false b = b == byte "\\"
 begins_pair true b = false
@@ -84,17 +84,17 @@ begins_pair true b = false
 abbrev pub prefix_read : List ℕ → Option (List ℕ × List ℕ) → Option (List ℕ × List ℕ)
 prefix_read bytes read = option_map (λ r. (bytes ++ r.0, r.1)) read
 
--- The bytes of the units behind an opening quote, up to a quote that no quote follows, and what
--- follows that; none where no quote ends them. Two quotes in a row are one.
+-- The bytes of the units after an opening quote, up to a quote that no quote follows, and what
+-- follows that; none if no quote ends them. Two quotes in a row are one, a quote alone ends the
+-- units, a pair stands for what it is unescaped to, and every other byte stands for itself.
 abbrev pub read_units : Bool → List ℕ → Option (List ℕ × List ℕ)
 read_units mode [] = None
 read_units mode (a ∷ []) = if a == byte "'" then Some ([], []) else None
 read_units mode (a ∷ b ∷ text) =
-    if a == byte "'"
-    then (if b == byte "'" then prefix_read (codes "'") (read_units mode text)
-    else Some ([], b ∷ text))
-    else (if begins_pair mode a then prefix_read (unescaped b) (read_units mode text)
-    else prefix_read (a ∷ []) (read_units mode (b ∷ text)))
+    if a == byte "'" && b == byte "'" then prefix_read (codes "'") (read_units mode text) else (
+    if a == byte "'" then Some ([], b ∷ text) else (
+    if begins_pair mode a then prefix_read (unescaped b) (read_units mode text) else
+    prefix_read (a ∷ []) (read_units mode (b ∷ text))))
 
 -- `NULL`
 abbrev pub read_null : List ℕ → Option (Content × List ℕ)
@@ -122,13 +122,9 @@ read_string mode text =
     option_and_then (λ units. option_map (λ r. (byte_string r.0, r.1)) (read_units mode units))
     (after (codes "'") text)
 
--- the first reading, or where there is none the other
-abbrev pub or_else : {X : Type 0} → Option X → Option X → Option X
-or_else None other = other
-or_else (Some x) other = Some x
-
--- the content of the literal that a text begins with, and what follows it
+-- The content of the literal that a text begins with, and what follows it: the first of these
+-- readings that there is.
 abbrev pub read_literal : Bool → List ℕ → Option (Content × List ℕ)
 read_literal mode text =
-    or_else (read_null text) (or_else (read_hexadecimal text)
-    (or_else (read_negative text) (or_else (read_positive text) (read_string mode text))))
+    option_or (read_null text) (option_or (read_hexadecimal text)
+    (option_or (read_negative text) (option_or (read_positive text) (read_string mode text))))

@@ -1,5 +1,5 @@
--- What a time text says, as a function: `laws::time_texts_are_read` says that it reads exactly the
--- time texts.
+-- The same as a function: what a time text says. The meaning is `IsTimeText` of TimeText, and
+-- `laws::time_texts_are_read` says that this reads exactly the time texts, each as what it says.
 use Rattle.std.specs.Prelude.{ℕ, ◌-◌, ◌*◌, ◌^◌, Bool, true, false, ◌==◌, nat_le, if◌then◌else◌, List, [], ◌∷◌, length, Option, None, Some}
 use Rattle.std.specs.Option.{option_map, option_or}
 use Rattle.std.specs.Str.{byte}
@@ -11,14 +11,14 @@ abbrev pub at_most : ℕ → Option ℕ → Option ℕ
 at_most greatest None = None
 at_most greatest (Some number) = if nat_le number greatest then Some number else None
 
--- the microseconds of up to six digits behind the point
+-- the microseconds of up to six digits after the point
 abbrev pub scaled : List ℕ → Option ℕ
 scaled digits =
     if nat_le (length digits) 6
     then option_map (λ number. number * 10 ^ (6 - length digits)) (value_of_digits digits)
     else None
 
--- the microseconds of what stands behind the seconds: nothing, or a point and digits
+-- the microseconds of what stands after the seconds: nothing, or a point and digits
 abbrev pub fraction_of : List ℕ → Option ℕ
 fraction_of [] = Some 0
 fraction_of (point ∷ digits) = if point == byte "." then scaled digits else None
@@ -29,7 +29,7 @@ sum_of_fields (Some hours) (Some minutes) (Some seconds) (Some part) =
     Some (total_microseconds 0 hours minutes seconds part)
 sum_of_fields hours minutes seconds part = None
 
--- with these hours, the microseconds of what stands behind their colon
+-- with these hours, the microseconds of what stands after their colon
 abbrev pub time_after_hours : Option ℕ → List ℕ → Option ℕ
 time_after_hours hours (a ∷ b ∷ colon ∷ c ∷ d ∷ text) =
     if colon == byte ":"

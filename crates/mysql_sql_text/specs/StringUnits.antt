@@ -4,7 +4,7 @@
 use Rattle.std.specs.Prelude.{◌≢◌, ◌==◌, ℕ, Bool, true, false, IsTrue, IsFalse, List, [], ◌∷◌}
 use Rattle.std.specs.Str.{byte}
 
--- the mode in which a backslash escapes the byte behind it
+-- the mode in which a backslash escapes the byte after it
 abbrev pub with_backslashes : Bool
 with_backslashes = false
 
@@ -12,12 +12,12 @@ with_backslashes = false
 abbrev pub without_backslashes : Bool
 without_backslashes = true
 
--- whether a byte escapes the one behind it
+-- whether a byte escapes the one after it
 abbrev pub is_escape : Bool → ℕ → Bool
 is_escape false b = b == byte "\\"
 is_escape true b = false
 
--- Units in a row, inside of quotes of one kind: a unit is one byte that is neither the quote nor an
+-- Units in a row, inside quotes of one kind: a unit is one byte that is neither the quote nor an
 -- escape, or an escape and any one byte.
 pub data AreUnits (mode : Bool) (quote : ℕ) : List ℕ → Type 0 where
   no_units : AreUnits mode quote []

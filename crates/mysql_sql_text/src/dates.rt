@@ -1,55 +1,57 @@
 //! Literals of dates and times.
 ghost use Rattle.std.specs.Prelude.{◌≡◌, ◌++◌, ◌+◌, ◌≤◌, length, take};
-ghost use Rattle.mysql_sql_text.specs.LiteralText.{after_hours, date_text, day_text, is_midnight, padded, quoted, time_text};
+ghost use Rattle.mysql_sql_text.specs.LiteralText.{after_hours, date_literal, day_text, is_midnight, padded, quoted, time_literal};
 
-use crate::numbers::{decimal_len, put_byte, put_padded};
+use crate::numbers::{append_byte, append_padded, decimal_len};
 
-// Whether the time of day is all zero.
-fn is_midnight(hour: u8, minute: u8, second: u8, microseconds: u32) -> bool
-    ensures { result ≡ is_midnight hour minute second microseconds }
-{
-    hour == 0 && minute == 0 && second == 0 && microseconds == 0
+/// The fields of a date with its time of day. Each may be out of its usual range.
+#[derive(Clone, Copy)]
+pub struct DateFields {
+    pub year: u16,
+    pub month: u8,
+    pub day: u8,
+    pub hour: u8,
+    pub minute: u8,
+    pub second: u8,
+    pub microseconds: u32,
+}
+
+/// The fields of a time, which may be longer than a day. Each may be out of its usual range.
+#[derive(Clone, Copy)]
+pub struct TimeFields {
+    pub negative: bool,
+    pub days: u32,
+    pub hours: u8,
+    pub minutes: u8,
+    pub seconds: u8,
+    pub microseconds: u32,
 }
 
 /// How long the literal of a date is.
-pub fn date_len(
-    year: u16,
-    month: u8,
-    day: u8,
-    hour: u8,
-    minute: u8,
-    second: u8,
-    microseconds: u32,
-) -> u128
-    ensures { result ≡ length (quoted (date_text year month day hour minute second microseconds)) }
+pub fn date_len(date: DateFields) -> u128
+    ensures { result ≡ length (date_literal date) }
 {
-    let year = decimal_len(year as u64).max(4) as u128;
-    let quoted_day = 4 + year + two_digits_len(month) as u128 + two_digits_len(day) as u128;
-    if is_midnight(hour, minute, second, microseconds) {
+    let year = decimal_len(date.year as u64).max(4) as u128;
+    let month = two_digits_len(date.month) as u128;
+    let quoted_day = 4 + year + month + two_digits_len(date.day) as u128;
+    if is_midnight(date) {
         quoted_day
     } else {
-        let hour = two_digits_len(hour) as u128;
-        quoted_day + 1 + hour + after_hours_len(minute, second, microseconds)
+        let hour = two_digits_len(date.hour) as u128;
+        quoted_day + 1 + hour + after_hours_len(date.minute, date.second, date.microseconds)
     }
 }
 
 /// How long the literal of a time is.
-pub fn time_len(
-    negative: bool,
-    days: u32,
-    hours: u8,
-    minutes: u8,
-    seconds: u8,
-    microseconds: u32,
-) -> u128
-    ensures { result
-        ≡ length (quoted (time_text negative days hours minutes seconds microseconds)) }
+pub fn time_len(time: TimeFields) -> u128
+    ensures { result ≡ length (time_literal time) }
 {
-    let hours = decimal_len(days as u64 * 24 + hours as u64).max(3) as u128;
-    let len = 2 + hours + after_hours_len(minutes, seconds, microseconds);
-    if negative { len + 1 } else { len }
+    let hours = decimal_len(time.days as u64 * 24 + time.hours as u64).max(3) as u128;
+    let len = 2 + hours + after_hours_len(time.minutes, time.seconds, time.microseconds);
+    if time.negative { len + 1 } else { len }
 }
 
+// How long `:MM:SS` and the fraction are.
 fn after_hours_len(minutes: u8, seconds: u8, microseconds: u32) -> u128
     ensures exact { result ≡ length (after_hours minutes seconds microseconds) }
     ensures few { result ≤ 100 }
@@ -62,6 +64,7 @@ fn after_hours_len(minutes: u8, seconds: u8, microseconds: u32) -> u128
     }
 }
 
+// How long a number of at least two digits is.
 fn two_digits_len(number: u8) -> usize
     ensures exact { result ≡ length (padded 2 number) }
     ensures few { result ≤ 20 }
@@ -69,92 +72,88 @@ fn two_digits_len(number: u8) -> usize
     decimal_len(number as u64).max(2)
 }
 
-/// The literal of a date.
-pub fn fill_date(
-    room: &mut [u8],
-    year: u16,
-    month: u8,
-    day: u8,
-    hour: u8,
-    minute: u8,
-    second: u8,
-    microseconds: u32,
-)
-    requires { length room.old
-        ≡ length (quoted (date_text year month day hour minute second microseconds)) }
-    ensures { room.new ≡ quoted (date_text year month day hour minute second microseconds) }
+/// Fills the slice with the literal of a date.
+pub fn fill_date(room: &mut [u8], date: DateFields)
+    requires { length room.old ≡ length (date_literal date) }
+    ensures { room.new ≡ date_literal date }
 {
-    if is_midnight(hour, minute, second, microseconds) {
-        fill_day(room, year, month, day);
+    if is_midnight(date) {
+        fill_day(room, date);
     } else {
-        let at = put_byte(room, 0, b'\'');
-        let at = put_day(room, at, year, month, day);
-        let at = put_byte(room, at, b' ');
-        let at = put_padded(room, at, 2, hour as u64);
-        let at = put_after_hours(room, at, minute, second, microseconds);
-        put_byte(room, at, b'\'');
+        let at = append_byte(room, 0, b'\'');
+        let at = append_day(room, at, date);
+        let at = append_byte(room, at, b' ');
+        let at = append_padded(room, at, 2, date.hour as u64);
+        let at = append_after_hours(room, at, date.minute, date.second, date.microseconds);
+        append_byte(room, at, b'\'');
     }
 }
 
-fn fill_day(room: &mut [u8], year: u16, month: u8, day: u8)
-    requires { length room.old ≡ length (quoted (day_text year month day)) }
-    ensures { room.new ≡ quoted (day_text year month day) }
+// Whether the time of day is all zero.
+fn is_midnight(date: DateFields) -> bool
+    ensures { result ≡ is_midnight date.hour date.minute date.second date.microseconds }
 {
-    let at = put_byte(room, 0, b'\'');
-    let at = put_day(room, at, year, month, day);
-    put_byte(room, at, b'\'');
+    date.hour == 0 && date.minute == 0 && date.second == 0 && date.microseconds == 0
 }
 
-// `YYYY-MM-DD`
-fn put_day(room: &mut [u8], at: usize, year: u16, month: u8, day: u8) -> usize
-    requires { at + length (day_text year month day) ≤ length room.old }
-    ensures place { result ≡ at + length (day_text year month day) }
-    ensures front { take result room.new ≡ take at room.old ++ day_text year month day }
+// Fills the slice with the day of a date between quotes.
+fn fill_day(room: &mut [u8], date: DateFields)
+    requires { length room.old ≡ length (quoted (day_text date.year date.month date.day)) }
+    ensures { room.new ≡ quoted (day_text date.year date.month date.day) }
 {
-    let at = put_padded(room, at, 4, year as u64);
-    let at = put_byte(room, at, b'-');
-    let at = put_padded(room, at, 2, month as u64);
-    let at = put_byte(room, at, b'-');
-    put_padded(room, at, 2, day as u64)
+    let at = append_byte(room, 0, b'\'');
+    let at = append_day(room, at, date);
+    append_byte(room, at, b'\'');
 }
 
-/// The literal of a time.
-pub fn fill_time(
+// Appends `YYYY-MM-DD`.
+fn append_day(room: &mut [u8], at: usize, date: DateFields) -> usize
+    requires { at + length (day_text date.year date.month date.day) ≤ length room.old }
+    ensures place { result ≡ at + length (day_text date.year date.month date.day) }
+    ensures front { take result room.new
+        ≡ take at room.old ++ day_text date.year date.month date.day }
+{
+    let at = append_padded(room, at, 4, date.year as u64);
+    let at = append_byte(room, at, b'-');
+    let at = append_padded(room, at, 2, date.month as u64);
+    let at = append_byte(room, at, b'-');
+    append_padded(room, at, 2, date.day as u64)
+}
+
+/// Fills the slice with the literal of a time.
+pub fn fill_time(room: &mut [u8], time: TimeFields)
+    requires { length room.old ≡ length (time_literal time) }
+    ensures { room.new ≡ time_literal time }
+{
+    let mut at = append_byte(room, 0, b'\'');
+    if time.negative {
+        at = append_byte(room, at, b'-');
+    }
+    let at = append_padded(room, at, 3, time.days as u64 * 24 + time.hours as u64);
+    let at = append_after_hours(room, at, time.minutes, time.seconds, time.microseconds);
+    append_byte(room, at, b'\'');
+}
+
+// Appends `:MM:SS` and the fraction.
+fn append_after_hours(
     room: &mut [u8],
-    negative: bool,
-    days: u32,
-    hours: u8,
+    at: usize,
     minutes: u8,
     seconds: u8,
     microseconds: u32,
-)
-    requires { length room.old
-        ≡ length (quoted (time_text negative days hours minutes seconds microseconds)) }
-    ensures { room.new ≡ quoted (time_text negative days hours minutes seconds microseconds) }
-{
-    let mut at = put_byte(room, 0, b'\'');
-    if negative {
-        at = put_byte(room, at, b'-');
-    }
-    let at = put_padded(room, at, 3, days as u64 * 24 + hours as u64);
-    let at = put_after_hours(room, at, minutes, seconds, microseconds);
-    put_byte(room, at, b'\'');
-}
-
-// `:MM:SS`, and the fraction
-fn put_after_hours(room: &mut [u8], at: usize, minutes: u8, seconds: u8, microseconds: u32) -> usize
+) -> usize
     requires { at + length (after_hours minutes seconds microseconds) ≤ length room.old }
     ensures place { result ≡ at + length (after_hours minutes seconds microseconds) }
     ensures front { take result room.new
         ≡ take at room.old ++ after_hours minutes seconds microseconds }
 {
-    let at = put_byte(room, at, b':');
-    let at = put_padded(room, at, 2, minutes as u64);
-    let at = put_byte(room, at, b':');
-    let at = put_padded(room, at, 2, seconds as u64);
+    let at = append_byte(room, at, b':');
+    let at = append_padded(room, at, 2, minutes as u64);
+    let at = append_byte(room, at, b':');
+    let at = append_padded(room, at, 2, seconds as u64);
     if microseconds == 0 {
         return at;
     }
-    let at = put_byte(room, at, b'.');
-    put_padded(room, at, 6, microseconds as u64)
+    let at = append_byte(room, at, b'.');
+    append_padded(room, at, 6, microseconds as u64)
 }

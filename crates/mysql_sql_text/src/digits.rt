@@ -4,9 +4,18 @@ ghost use Rattle.std.specs.Option.{SomeIff};
 ghost use Rattle.std.specs.Str.Parse.{IsNumeral, digits_value};
 ghost use Rattle.mysql_sql_text.specs.Digits.{value_of_digits};
 
-// The number by the words of the standard library's parser.
-#[tactic(auto, using(crate::proofs::DigitLemmas::numeral_is_utf8))]
-fn parsed_digits(digits: &[u8]) -> Option<u128>
+/// The number that one or more ASCII digits write, if 128 bits hold it.
+pub fn value_of_digits(digits: &[u8]) -> Option<u128>
+    ensures found { IfSome result (λ number. value_of_digits digits.now ≡ Some number) }
+    ensures refused { IfNone result
+        (IfSome (value_of_digits digits.now) (λ number. 2 ^ 128 ≤ number)) }
+{
+    parsed_number(digits)
+}
+
+// The number, in the words of the standard library's parser.
+#[tactic(auto, using(crate::proofs::ValueOfDigitsLemmas::numeral_is_utf8))]
+fn parsed_number(digits: &[u8]) -> Option<u128>
     ensures { SomeIff result (IsNumeral 10 digits.now × (digits_value 10 digits.now < 2 ^ 128))
         (digits_value 10 digits.now) }
 {
@@ -17,13 +26,4 @@ fn parsed_digits(digits: &[u8]) -> Option<u128>
         return None;
     };
     text.parse().ok()
-}
-
-/// The number that one or more ASCII digits write, where 128 bits hold it.
-pub fn value_of_digits(digits: &[u8]) -> Option<u128>
-    ensures found { IfSome result (λ number. value_of_digits digits.now ≡ Some number) }
-    ensures refused { IfNone result
-        (IfSome (value_of_digits digits.now) (λ number. 2 ^ 128 ≤ number)) }
-{
-    parsed_digits(digits)
 }

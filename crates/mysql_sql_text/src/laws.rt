@@ -4,7 +4,7 @@ ghost use Rattle.std.specs.Prelude.{◌≡◌, ℕ, ◌↔◌, ◌≤◌, ◌+�
 ghost use Rattle.mysql_sql_text.specs.StringUnits.{with_backslashes, without_backslashes};
 ghost use Rattle.mysql_sql_text.specs.ReadLiteral.{byte_string, null, number, read_literal};
 ghost use Rattle.mysql_sql_text.specs.TimeText.{IsTimeText, total_microseconds};
-ghost use Rattle.mysql_sql_text.specs.LiteralText.{time_text};
+ghost use Rattle.mysql_sql_text.specs.LiteralText.{bytes_literal, time_text};
 ghost use Rattle.mysql_sql_text.specs.ReadTimeText.{time_of_text};
 
 /// Exactly the time texts are read, each as what its parts say.
@@ -21,6 +21,12 @@ pub fn times_read_back()
         days * 24 + hours ≤ 899 → minutes ≤ 59 → seconds ≤ 59 → microseconds < 1000000 →
         time_of_text (time_text false days hours minutes seconds microseconds)
         ≡ Some (false, total_microseconds days hours minutes seconds microseconds) }
+{}
+
+/// The literal of each single byte reads as that byte, in both modes.
+pub fn single_bytes_read_back()
+    ensures reads_back { (mode : Bool) (b : ℕ) → b < 256 →
+        read_literal mode (bytes_literal mode (b ∷ [])) ≡ Some (byte_string (b ∷ []), []) }
 {}
 
 /// What stands after a backslash in a string, as the reader of literals takes it.

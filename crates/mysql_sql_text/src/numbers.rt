@@ -1,19 +1,17 @@
 //! Decimal digits into a slice.
 //!
-//! A call that is named `fill` writes the whole slice. One that is named `put` writes from a place
-//! on, keeps what stands before it, and answers the place behind what it wrote.
+//! `fill_..` writes the whole slice. `append_..` writes from a place on, keeps what stands before
+//! it, and returns the place after what it wrote.
 ghost use Rattle.std.specs.Prelude.{◌≡◌, [], ◌∷◌, ◌++◌, ◌+◌, ◌<◌, ◌≤◌, length, take};
 ghost use Rattle.std.specs.Fmt.{decimal, signed_decimal};
 ghost use Rattle.mysql_sql_text.specs.LiteralText.{padded};
 
-/// One byte.
-pub(crate) fn put_byte(room: &mut [u8], at: usize, byte: u8) -> usize
-    requires { at < length room.old }
-    ensures place { result ≡ at + 1 }
-    ensures front { take result room.new ≡ take at room.old ++ byte ∷ [] }
+/// How long a signed number is, with its `-`.
+pub fn signed_len(number: i64) -> u128
+    ensures { result ≡ length (signed_decimal number) }
 {
-    room[at] = byte;
-    at + 1
+    let digits = decimal_len(number.unsigned_abs()) as u128;
+    if number < 0 { digits + 1 } else { digits }
 }
 
 /// How many decimal digits a number has.
@@ -29,7 +27,31 @@ pub fn decimal_len(mut number: u64) -> usize
     len
 }
 
-/// A number behind zeros.
+/// Fills the slice with a signed number.
+pub fn fill_signed(room: &mut [u8], number: i64)
+    requires { length room.old ≡ length (signed_decimal number) }
+    ensures { room.new ≡ signed_decimal number }
+{
+    if number < 0 {
+        let at = append_byte(room, 0, b'-');
+        append_decimal(room, at, number.unsigned_abs());
+    } else {
+        fill_padded(room, number.unsigned_abs());
+    }
+}
+
+// Appends a number.
+fn append_decimal(room: &mut [u8], at: usize, number: u64) -> usize
+    requires { at + length (decimal number) ≤ length room.old }
+    ensures place { result ≡ at + length (decimal number) }
+    ensures front { take result room.new ≡ take at room.old ++ decimal number }
+{
+    let end = at + decimal_len(number);
+    fill_padded(&mut room[at..end], number);
+    end
+}
+
+/// Fills the slice with a number, after zeros.
 pub fn fill_padded(room: &mut [u8], mut number: u64)
     requires { length (decimal number) ≤ length room.old }
     ensures { room.new ≡ padded (length room.old) number }
@@ -42,8 +64,8 @@ pub fn fill_padded(room: &mut [u8], mut number: u64)
     }
 }
 
-/// A number behind as many zeros as the width asks for.
-pub(crate) fn put_padded(room: &mut [u8], at: usize, width: usize, number: u64) -> usize
+// Appends a number, after as many zeros as the width asks for.
+pub(crate) fn append_padded(room: &mut [u8], at: usize, width: usize, number: u64) -> usize
     requires { at + length (padded width number) ≤ length room.old }
     ensures place { result ≡ at + length (padded width number) }
     ensures front { take result room.new ≡ take at room.old ++ padded width number }
@@ -53,33 +75,12 @@ pub(crate) fn put_padded(room: &mut [u8], at: usize, width: usize, number: u64) 
     end
 }
 
-/// How long a signed number is, with its `-`.
-pub fn signed_len(number: i64) -> u128
-    ensures { result ≡ length (signed_decimal number) }
+// Appends one byte.
+pub(crate) fn append_byte(room: &mut [u8], at: usize, byte: u8) -> usize
+    requires { at < length room.old }
+    ensures place { result ≡ at + 1 }
+    ensures front { take result room.new ≡ take at room.old ++ byte ∷ [] }
 {
-    let digits = decimal_len(number.unsigned_abs()) as u128;
-    if number < 0 { digits + 1 } else { digits }
-}
-
-/// A signed number.
-pub fn fill_signed(room: &mut [u8], number: i64)
-    requires { length room.old ≡ length (signed_decimal number) }
-    ensures { room.new ≡ signed_decimal number }
-{
-    if number < 0 {
-        let at = put_byte(room, 0, b'-');
-        put_decimal(room, at, number.unsigned_abs());
-    } else {
-        fill_padded(room, number.unsigned_abs());
-    }
-}
-
-fn put_decimal(room: &mut [u8], at: usize, number: u64) -> usize
-    requires { at + length (decimal number) ≤ length room.old }
-    ensures place { result ≡ at + length (decimal number) }
-    ensures front { take result room.new ≡ take at room.old ++ decimal number }
-{
-    let end = at + decimal_len(number);
-    fill_padded(&mut room[at..end], number);
-    end
+    room[at] = byte;
+    at + 1
 }

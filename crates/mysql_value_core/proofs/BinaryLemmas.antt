@@ -29,10 +29,10 @@ cast_unsigned_fits number fits = omega (arith, ints)
 read_counted-append : (count : ℕ) (fields rest : List ℕ) → length fields ≡ count
     → read_counted (count ∷ (fields ++ rest)) ≡ Ok (fields, rest)
 read_counted-append count fields rest same =
-    let left = fields ++ rest in
-    let first : read_number 1 (count ∷ left) ≡ Ok (count, left) =
-    cond-true (leb 1 (length (count ∷ left))) _ _ (le-leb 1 _ (omega arith))
-    ∙ ap (λ n. Ok (n, left)) (omega arith) in
+    let text = fields ++ rest in
+    let first : read_number 1 (count ∷ text) ≡ Ok (count, text) =
+    cond-true (leb 1 (length (count ∷ text))) _ _ (le-leb 1 _ (omega arith))
+    ∙ ap (λ n. Ok (n, text)) (omega arith) in
     ap (λ read. and_then_read read read_bytes) first ∙ read_bytes-append count fields rest same
 
 same_date : (y m d h i s u y' m' d' h' i' s' u' : ℕ) → y ≡ y' → m ≡ m' → d ≡ d' → h ≡ h' → i ≡ i'
@@ -102,15 +102,15 @@ read_time-time_form n d h m s u rest days_fit microseconds_fit =
     cond_both no_time _ _ Reads (λ zeros.
     ap (map_read time_value) (read_counted-append 0 [] rest refl)
     ∙ ap (λ value. Ok (value, rest)) (sym (cond-true no_time _ _ zeros)))
-    (λ has_time. cond_both (u == 0) _ _ Reads (λ no_microseconds.
+    (λ no_zeros. cond_both (u == 0) _ _ Reads (λ no_microseconds.
     ap (map_read time_value) (read_counted-append 8 whole rest refl)
     ∙ ap (λ value. Ok (value, rest)) (same_time _ n _ h m s 0 d u
-    (sign_byte-test n) days (zero_of u no_microseconds) ∙ sym (cond-false no_time _ _ has_time)))
+    (sign_byte-test n) days (zero_of u no_microseconds) ∙ sym (cond-false no_time _ _ no_zeros)))
     (λ _.
     ap (map_read time_value)
     (read_counted-append 12 (whole ++ little_bytes 4 u) rest refl)
     ∙ ap (λ value. Ok (value, rest)) (same_time _ n _ h m s _ d u
-    (sign_byte-test n) days microseconds ∙ sym (cond-false no_time _ _ has_time))))
+    (sign_byte-test n) days microseconds ∙ sym (cond-false no_time _ _ no_zeros))))
 
 pub reads_back_in_binary : (value : Value) → FieldsInRange value → ReadsBackInBinary value
 reads_back_in_binary NULL fits rest = refl

@@ -2,9 +2,10 @@
 -- literals, is UTF-8, and for many times is a time text between quotes.
 use Rattle.std.proofs.Common.{◌≡◌, ℕ, Bool, true, false, List, [], ◌∷◌, ◌++◌, length, get_or, subst, sym, ◌∙◌, ap, arith, refl, ◌<◌, ◌^◌, suc, rules}
 use Rattle.std.specs.Prelude.{IfSome, is_none, pos, negsuc, ℤ, codes}
+use Rattle.std.specs.Char.{is_ascii_digit}
 use Rattle.std.specs.List.{list_all}
 use Rattle.std.specs.Fmt.{decimal, signed_decimal}
-use Rattle.std.specs.Str.{IsUtf8, is_utf8}
+use Rattle.std.specs.Str.{IsUtf8, is_utf8, byte}
 use Rattle.std.proofs.lemmas.Int.{ints}
 use Rattle.std.proofs.lemmas.Bool.{cond_both, cond-true, both_ways, and_parts}
 use Rattle.std.proofs.lemmas.Bool.Decides.{nat_tests}
@@ -17,27 +18,23 @@ use Rattle.mysql_value_core.specs.declared.value.Value.TheVariants.{NULL, Bytes,
 use Rattle.mysql_value_core.specs.Value.{FieldsInRange}
 use Rattle.mysql_sql_text.specs.LiteralText.{escaped, quoted, hexadecimal, bytes_literal, date_text, time_text}
 use Rattle.mysql_value_core.specs.Literal.{literal_of, is_float}
-use Rattle.mysql_sql_text.specs.ReadLiteral.{byte_string, is_digit, read_literal}
+use Rattle.mysql_sql_text.specs.ReadLiteral.{byte_string, read_literal}
 use Rattle.mysql_value_core.specs.Content.{content_of}
-use Rattle.mysql_sql_text.specs.LiteralEnd.{is_single_quote, continues_literal, BeginsWithout, ReadsBefore}
+use Rattle.mysql_sql_text.specs.LiteralEnd.{continues_literal, ReadsBefore}
 use Rattle.mysql_value_core.specs.ReadBack.{ReadsAs}
 use Rattle.mysql_value_core.specs.TimeLiteral.{WritesTimeText}
 use Rattle.mysql_sql_text.specs.TimeText.{total_microseconds}
 use Rattle.mysql_sql_text.proofs.TimeTextLemmas.{time_texts_are_read}
 use Rattle.mysql_sql_text.proofs.WrittenTimeLemmas.{times_read_back}
 use Rattle.mysql_sql_text.specs.LiteralShape.{AreDigits, IsLiteral, null_literal, natural_literal, negative_literal, hexadecimal_literal, quoted_literal}
-use Rattle.mysql_sql_text.proofs.ReadDigitLemmas.{all_digits-decimal}
+use Rattle.mysql_sql_text.proofs.ReadNaturalLemmas.{all_digits-decimal}
 use Rattle.mysql_sql_text.proofs.ReadStringLemmas.{read_quoted}
-use Rattle.mysql_sql_text.proofs.ReadNumberLemmas.{begins_narrower, decimal_reads, signed_reads}
-use Rattle.mysql_sql_text.proofs.HexadecimalLemmas.{hexadecimal_reads, AreHexadecimalPairs-hexadecimal, IsAscii-hexadecimal}
+use Rattle.mysql_sql_text.proofs.ReadNumberLemmas.{decimal_reads, signed_reads}
+use Rattle.mysql_sql_text.proofs.ReadBytesLemmas.{length-not_utf8, begins_without_quote, bytes_read, utf8_bytes_read}
+use Rattle.mysql_sql_text.proofs.HexadecimalLemmas.{AreHexadecimalPairs-hexadecimal, IsAscii-hexadecimal}
 use Rattle.mysql_sql_text.proofs.ClockLemmas.{IsClockText, IsClockText-date_text, IsClockText-time_text, escaped-clock, IsAscii-clock}
 use Rattle.mysql_sql_text.proofs.EscapedLemmas.{IsUtf8-escaped, IsUtf8-quoted}
 use Rattle.mysql_sql_text.proofs.QuotedLemmas.{IsQuoted-escaped}
-
--- bytes that are not UTF-8 are not empty
-nonempty : (bytes : List ℕ) → is_utf8 bytes ≡ false → 0 < length bytes
-nonempty [] h = absurd (both_ways (is_utf8 []) h (is_utf8-from_IsUtf8 [] IsUtf8-nil))
-nonempty (b ∷ bytes) h = omega arith
 
 date_clock : (year month day hour minute second micros : ℕ) → FieldsInRange (Date year month day hour minute second micros)
     → IsClockText (date_text year month day hour minute second micros)
@@ -53,29 +50,11 @@ time_clock negative days hours minutes seconds micros r =
 
 -- reading back
 
-not_quote : (b : ℕ) → continues_literal b ≡ false → is_single_quote b ≡ false
-not_quote b h = grind (arith, nat_tests)
-
-before_no_quote : (rest : List ℕ) → BeginsWithout continues_literal rest → BeginsWithout is_single_quote rest
-before_no_quote rest h = begins_narrower continues_literal is_single_quote not_quote rest h
-
 clock_reads : (mode : Bool) (text : List ℕ) → IsClockText text
     → ReadsBefore continues_literal mode (quoted text) (byte_string text)
 clock_reads mode text clock rest h =
     ap (λ t. read_literal mode (quoted t ++ rest)) (sym (escaped-clock mode text clock))
-    ∙ read_quoted mode text rest (before_no_quote rest h)
-
-bytes_read : (mode : Bool) (bytes : List ℕ) → ((i : ℕ) → get_or bytes i 0 < 256)
-    → ReadsBefore continues_literal mode (bytes_literal mode bytes) (byte_string bytes)
-bytes_read mode bytes small =
-    cond_both (is_utf8 bytes) _ _ (λ t. ReadsBefore continues_literal mode t (byte_string bytes))
-    (λ _ rest h. read_quoted mode bytes rest (before_no_quote rest h))
-    (λ other. hexadecimal_reads mode bytes small (nonempty bytes other))
-
-utf8_bytes_read : (mode : Bool) (bytes : List ℕ) → is_utf8 bytes ≡ true
-    → ReadsBefore is_single_quote mode (bytes_literal mode bytes) (byte_string bytes)
-utf8_bytes_read mode bytes utf8 rest h =
-    ap (λ t. read_literal mode (t ++ rest)) (cond-true (is_utf8 bytes) _ _ utf8) ∙ read_quoted mode bytes rest h
+    ∙ read_quoted mode text rest (begins_without_quote rest h)
 
 pub literal_reads : (mode : Bool) (value : Value) → FieldsInRange value → IfSome (literal_of mode value) (ReadsAs mode value)
 literal_reads mode NULL r = record { content = λ rest h. refl; utf8_bytes = tt }
@@ -91,9 +70,9 @@ literal_reads mode (Time n d h m s u) r =
 
 -- the shape
 
-are_digits : (ds : List ℕ) → 0 < length ds → list_all is_digit ds ≡ true → AreDigits ds
+are_digits : (ds : List ℕ) → 0 < length ds → list_all is_ascii_digit ds ≡ true → AreDigits ds
 are_digits [] some h = absurd (omega arith)
-are_digits (d ∷ ds) some h = and_parts (is_digit d) (list_all is_digit ds) h
+are_digits (d ∷ ds) some h = and_parts (is_ascii_digit d) (list_all is_ascii_digit ds) h
 
 AreDigits-decimal : (n : ℕ) → n < 2 ^ 64 → AreDigits (decimal n)
 AreDigits-decimal n h = are_digits (decimal n) (decimal_nonempty n h) (all_digits-decimal n h)
@@ -106,7 +85,7 @@ IsLiteral-bytes : (mode : Bool) (bytes : List ℕ) → ((i : ℕ) → get_or byt
 IsLiteral-bytes mode bytes small =
     cond_both (is_utf8 bytes) _ _ (IsLiteral mode)
     (λ _. quoted_literal _ (IsQuoted-escaped mode bytes))
-    (λ other. hexadecimal_literal (hexadecimal bytes) (AreHexadecimalPairs-hexadecimal bytes small (nonempty bytes other)))
+    (λ other. hexadecimal_literal (hexadecimal bytes) (AreHexadecimalPairs-hexadecimal bytes small (length-not_utf8 bytes other)))
 
 IsLiteral-clock : (mode : Bool) (text : List ℕ) → IsClockText text → IsLiteral mode (quoted text)
 IsLiteral-clock mode text clock =
@@ -131,9 +110,9 @@ IsUtf8-bytes : (mode : Bool) (bytes : List ℕ) → ((i : ℕ) → get_or bytes 
 IsUtf8-bytes mode bytes small =
     cond_both (is_utf8 bytes) _ _ IsUtf8
     (λ utf8. IsUtf8-quoted (escaped mode bytes) (IsUtf8-escaped mode bytes (IsUtf8-from_is_utf8 bytes utf8)))
-    (λ _. IsUtf8-from_ascii (48 ∷ 120 ∷ hexadecimal bytes)
-    (IsAscii-cons 48 (120 ∷ hexadecimal bytes) (omega arith)
-    (IsAscii-cons 120 (hexadecimal bytes) (omega arith) (IsAscii-hexadecimal bytes small))))
+    (λ _. IsUtf8-from_ascii (codes "0x" ++ hexadecimal bytes)
+    (IsAscii-cons (byte "0") (byte "x" ∷ hexadecimal bytes) (omega arith)
+    (IsAscii-cons (byte "x") (hexadecimal bytes) (omega arith) (IsAscii-hexadecimal bytes small))))
 
 pub literal_utf8 : (mode : Bool) (value : Value) → FieldsInRange value → IfSome (literal_of mode value) IsUtf8
 literal_utf8 mode NULL r = IsUtf8-from_ascii (codes "NULL") (IsAscii-from_all (codes "NULL") (search rules))
@@ -166,8 +145,6 @@ is_none-content_of (Float bits) = refl
 is_none-content_of (Double bits) = refl
 is_none-content_of (Date y m d h i s u) = refl
 is_none-content_of (Time n d h m s u) = refl
-
--- the literal of bytes, by whether they are UTF-8
 
 -- times
 

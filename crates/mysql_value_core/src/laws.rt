@@ -5,7 +5,8 @@ ghost use Rattle.std.specs.Cmp.Lexicographic.{slice_cmp};
 ghost use Rattle.std.specs.Ordering.{nat_cmp};
 ghost use Rattle.std.specs.declared.cmp.Ordering.TheVariants.{Equal};
 ghost use Rattle.mysql_value_core.specs.declared.value.Value as value;
-ghost use Rattle.mysql_value_core.specs.ValueOf.{AnswersValue, MeansBytes};
+ghost use Rattle.mysql_wire_part.specs.Answer.{IsAnswer};
+ghost use Rattle.mysql_value_core.specs.ValueOf.{MeansBytes, too_long_duration};
 ghost use Rattle.mysql_value_core.specs.ValueOrder.{value_cmp};
 
 mod literals;
@@ -79,7 +80,8 @@ pub fn value_order_is_total()
 
 /// The value of an object is the one that its own type names.
 pub fn object_value(alloc: Global, object: &dyn ToValue) -> Result<Value, ToValueError>
-    ensures value { AnswersValue (value_of object.now) (MeansBytes (value_of object.now)) result }
+    ensures value { IsAnswer (λ value. value) too_long_duration
+        (value_of object.now) (MeansBytes (value_of object.now)) result }
 {
     object.to_value(alloc)
 }

@@ -17,7 +17,7 @@ use Rattle.mysql_values.specs.Rollback.{ConvertsBack}
 use Rattle.mysql_values.specs.Decimal.{decimal_number, signed_number, minus_sign, plus_sign}
 use Rattle.mysql_sql_text.specs.Digits.{value_of_digits}
 use Rattle.mysql_values.specs.WholeNumber.{holds, number_in_type, conversion_by, whole_conversion}
-use Rattle.mysql_sql_text.proofs.DigitLemmas.{value_of_digits-IsNumeral}
+use Rattle.mysql_sql_text.proofs.ValueOfDigitsLemmas.{value_of_digits-IsNumeral}
 
 -- a number that a type of at most 128 bits holds is below 2^128 in magnitude
 holds-bounded : (is_signed : Bool) (width : ℕ) → width ≤ 128 → (number : ℤ)

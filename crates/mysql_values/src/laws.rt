@@ -12,7 +12,9 @@ ghost use Rattle.mysql_values.specs.WholeNumber.{whole_conversion};
 use crate::value::convert::{
     FromValue, OptionIr2, ParseIr, ParseIrOpt, ToValue, ValueIr, WholeNumber,
 };
-pub use mysql_sql_text::laws::{escapes_read, numbers_read, time_texts_are_read, times_read_back};
+pub use mysql_sql_text::laws::{
+    escapes_read, numbers_read, single_bytes_read_back, time_texts_are_read, times_read_back,
+};
 pub use mysql_value_core::laws::{
     as_sql_error_equality, bytes_equality, bytes_order, floats_have_no_literal,
     from_value_error_equality, literal_reads_back, literal_shape, null_bitmap_offsets,

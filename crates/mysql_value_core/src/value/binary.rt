@@ -13,6 +13,7 @@ ghost use Rattle.mysql_value_core.specs.declared.value.Value as value;
 use crate::bytes::Bytes;
 use crate::value::{Value, ValueDeserializer};
 use byteorder::{ByteOrder, LittleEndian};
+use mysql_sql_text::dates::{DateFields, TimeFields};
 use mysql_wire_part::{
     ColumnFlags, ColumnType, Flags, MyDeserialize, MySerialize, ParseBuf, WireError,
     lenenc_str_len, put_lenenc_str,
@@ -64,27 +65,31 @@ impl MySerialize for Value {
             Value::UInt(number) => buf.extend_from_slice(&number.to_le_bytes()),
             Value::Float(bits) => buf.extend_from_slice(&bits.to_le_bytes()),
             Value::Double(bits) => buf.extend_from_slice(&bits.to_le_bytes()),
-            Value::Date(year, month, day, hour, minute, second, microseconds) => {
-                put_date(
+            &Value::Date(year, month, day, hour, minute, second, microseconds) => {
+                append_date(
                     buf,
-                    *year,
-                    *month,
-                    *day,
-                    *hour,
-                    *minute,
-                    *second,
-                    *microseconds,
+                    DateFields {
+                        year,
+                        month,
+                        day,
+                        hour,
+                        minute,
+                        second,
+                        microseconds,
+                    },
                 )
             }
-            Value::Time(negative, days, hours, minutes, seconds, microseconds) => {
-                put_time(
+            &Value::Time(negative, days, hours, minutes, seconds, microseconds) => {
+                append_time(
                     buf,
-                    *negative,
-                    *days,
-                    *hours,
-                    *minutes,
-                    *seconds,
-                    *microseconds,
+                    TimeFields {
+                        negative,
+                        days,
+                        hours,
+                        minutes,
+                        seconds,
+                        microseconds,
+                    },
                 )
             }
         }
@@ -92,20 +97,21 @@ impl MySerialize for Value {
 }
 
 // Appends the binary form of a date.
-fn put_date(
-    buf: &mut Vec<u8>,
-    year: u16,
-    month: u8,
-    day: u8,
-    hour: u8,
-    minute: u8,
-    second: u8,
-    microseconds: u32,
-) -> Result<(), AllocError>
-    ensures appended { OnOk result (buf.new.items
-        ≡ buf.old.items ++ date_form year month day hour minute second microseconds) }
+fn append_date(buf: &mut Vec<u8>, date: DateFields) -> Result<(), AllocError>
+    ensures appended { OnOk result (buf.new.items ≡ buf.old.items
+        ++ date_form date.year date.month date.day
+        date.hour date.minute date.second date.microseconds) }
     ensures unchanged { OnErr result (buf.new.items ≡ buf.old.items) }
 {
+    let DateFields {
+        year,
+        month,
+        day,
+        hour,
+        minute,
+        second,
+        microseconds,
+    } = date;
     let [y0, y1] = year.to_le_bytes();
     if microseconds != 0 {
         let [u0, u1, u2, u3] = microseconds.to_le_bytes();
@@ -122,19 +128,20 @@ fn put_date(
 }
 
 // Appends the binary form of a time.
-fn put_time(
-    buf: &mut Vec<u8>,
-    negative: bool,
-    days: u32,
-    hours: u8,
-    minutes: u8,
-    seconds: u8,
-    microseconds: u32,
-) -> Result<(), AllocError>
-    ensures appended { OnOk result (buf.new.items
-        ≡ buf.old.items ++ time_form negative days hours minutes seconds microseconds) }
+fn append_time(buf: &mut Vec<u8>, time: TimeFields) -> Result<(), AllocError>
+    ensures appended { OnOk result (buf.new.items ≡ buf.old.items
+        ++ time_form time.negative time.days time.hours
+        time.minutes time.seconds time.microseconds) }
     ensures unchanged { OnErr result (buf.new.items ≡ buf.old.items) }
 {
+    let TimeFields {
+        negative,
+        days,
+        hours,
+        minutes,
+        seconds,
+        microseconds,
+    } = time;
     let sign = u8::from(negative);
     let [d0, d1, d2, d3] = days.to_le_bytes();
     if microseconds != 0 {
@@ -168,7 +175,7 @@ impl<'de> MyDeserialize<'de> for ValueDeserializer<BinValue> {
         ctx: (ColumnType, ColumnFlags),
         buf: &mut ParseBuf<'de>,
     ) -> Result<Self, WireError>
-        // Only a reading of bytes takes memory, so nothing else runs out of it.
+        // Only reading bytes allocates, so nothing else returns out of memory.
         ensures read { IsAnswer (λ read. (read.0, left buf.new)) read_refusal
             (read_binary ctx.0 (is_unsigned ctx.1) (left buf.old))
             (ReadsBytes (read_binary ctx.0 (is_unsigned ctx.1) (left buf.old))) result }
@@ -182,7 +189,7 @@ impl<'de> MyDeserialize<'de> for ValueDeserializer<BinValue> {
     }
 }
 
-// The value at the front of the buffer. A refusal may leave the buffer at any place.
+// The value at the front of the buffer. An error may leave the buffer at any place.
 fn eat_value(
     alloc: Global,
     column: ColumnType,
@@ -265,10 +272,8 @@ fn eat_float(buf: &mut ParseBuf<'_>) -> Result<Value, WireError>
     ensures read { IsAnswer (λ value. (value, left buf.new)) read_refusal
         (map_read (λ bits. Value.Float bits) (read_number 4 (left buf.old))) ⊥ result }
 {
-    match buf.checked_eat_u32_le() {
-        Some(bits) => Ok(Value::Float(bits)),
-        None => Err(WireError::UnexpectedEof),
-    }
+    let bits = buf.checked_eat_u32_le().ok_or(WireError::UnexpectedEof)?;
+    Ok(Value::Float(bits))
 }
 
 // The 8 bytes of a `Double`.
@@ -276,10 +281,8 @@ fn eat_double(buf: &mut ParseBuf<'_>) -> Result<Value, WireError>
     ensures read { IsAnswer (λ value. (value, left buf.new)) read_refusal
         (map_read (λ bits. Value.Double bits) (read_number 8 (left buf.old))) ⊥ result }
 {
-    match buf.checked_eat_u64_le() {
-        Some(bits) => Ok(Value::Double(bits)),
-        None => Err(WireError::UnexpectedEof),
-    }
+    let bits = buf.checked_eat_u64_le().ok_or(WireError::UnexpectedEof)?;
+    Ok(Value::Double(bits))
 }
 
 // A length byte and that many bytes, which are returned.
@@ -287,13 +290,11 @@ fn eat_counted<'a>(buf: &mut ParseBuf<'a>) -> Result<&'a [u8], WireError>
     ensures read { IsAnswer (λ fields. (fields.now, left buf.new)) read_refusal
         (read_counted (left buf.old)) ⊥ result }
 {
-    let Some(count) = buf.checked_eat_u8() else {
-        return Err(WireError::UnexpectedEof);
-    };
-    match buf.checked_eat_buf(count as usize) {
-        Some(fields) => Ok(fields.0),
-        None => Err(WireError::UnexpectedEof),
-    }
+    let count = buf.checked_eat_u8().ok_or(WireError::UnexpectedEof)?;
+    let fields = buf
+        .checked_eat_buf(count as usize)
+        .ok_or(WireError::UnexpectedEof)?;
+    Ok(fields.0)
 }
 
 // The date of these bytes.

@@ -9,7 +9,8 @@ ghost use Rattle.mysql_value_core.specs.ReadBack.{ReadsAs};
 ghost use Rattle.mysql_value_core.specs.TimeLiteral.{WritesTimeText};
 
 use crate::value::Value;
-use mysql_sql_text::{dates, numbers, strings};
+use mysql_sql_text::dates::{self, DateFields, TimeFields};
+use mysql_sql_text::{numbers, strings};
 use std::alloc::{AllocError, Global};
 use thiserror::Error;
 
@@ -43,7 +44,7 @@ impl Value {
         ensures gives { IsAnswer string_bytes literal_refusal
             (ok_or (literal_of no_backslash_escape self.now) float)
             (IsSome (literal_of no_backslash_escape self.now)) result }
-        // A float takes no memory.
+        // A float allocates nothing.
         ensures float { IsTrue (is_float self.now) → result ≡ Err AsSqlError.Float }
         ensures reads_back { IfOk result
             (λ sql. ReadsAs no_backslash_escape self.now (string_bytes sql)) }
@@ -61,7 +62,7 @@ impl Value {
         Ok(unsafe { String::from_utf8_unchecked(text) })
     }
 
-    // How long the literal is; floats have none.
+    // The length of the literal; floats have none.
     fn sql_len(&self, no_backslash_escape: bool) -> Option<u128>
         ensures { result ≡ option_map length (literal_of no_backslash_escape self.now) }
     {
@@ -74,16 +75,31 @@ impl Value {
             Value::Int(number) => Some(numbers::signed_len(*number)),
             Value::UInt(number) => Some(numbers::decimal_len(*number) as u128),
             Value::Float(_) | Value::Double(_) => None,
-            Value::Date(year, month, day, hour, minute, second, microseconds) => {
-                Some(dates::date_len(*year, *month, *day, *hour, *minute, *second, *microseconds))
+            &Value::Date(year, month, day, hour, minute, second, microseconds) => {
+                Some(dates::date_len(DateFields {
+                    year,
+                    month,
+                    day,
+                    hour,
+                    minute,
+                    second,
+                    microseconds,
+                }))
             }
-            Value::Time(negative, days, hours, minutes, seconds, microseconds) => {
-                Some(dates::time_len(*negative, *days, *hours, *minutes, *seconds, *microseconds))
+            &Value::Time(negative, days, hours, minutes, seconds, microseconds) => {
+                Some(dates::time_len(TimeFields {
+                    negative,
+                    days,
+                    hours,
+                    minutes,
+                    seconds,
+                    microseconds,
+                }))
             }
         }
     }
 
-    // Fills the room with the literal.
+    // Fills the slice with the literal.
     fn put_sql(&self, no_backslash_escape: bool, room: &mut [u8])
         requires { option_map length (literal_of no_backslash_escape self.now)
             ≡ Some (length room.old) }
@@ -99,27 +115,31 @@ impl Value {
             Value::Int(number) => numbers::fill_signed(room, *number),
             Value::UInt(number) => numbers::fill_padded(room, *number),
             Value::Float(_) | Value::Double(_) => unreachable!(),
-            Value::Date(year, month, day, hour, minute, second, microseconds) => {
+            &Value::Date(year, month, day, hour, minute, second, microseconds) => {
                 dates::fill_date(
                     room,
-                    *year,
-                    *month,
-                    *day,
-                    *hour,
-                    *minute,
-                    *second,
-                    *microseconds,
+                    DateFields {
+                        year,
+                        month,
+                        day,
+                        hour,
+                        minute,
+                        second,
+                        microseconds,
+                    },
                 )
             }
-            Value::Time(negative, days, hours, minutes, seconds, microseconds) => {
+            &Value::Time(negative, days, hours, minutes, seconds, microseconds) => {
                 dates::fill_time(
                     room,
-                    *negative,
-                    *days,
-                    *hours,
-                    *minutes,
-                    *seconds,
-                    *microseconds,
+                    TimeFields {
+                        negative,
+                        days,
+                        hours,
+                        minutes,
+                        seconds,
+                        microseconds,
+                    },
                 )
             }
         }

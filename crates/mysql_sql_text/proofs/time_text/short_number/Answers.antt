@@ -1,5 +1,5 @@
 use Rattle.std.proofs.Common.{length, arith, ◌<◌, ◌^◌}
-use Rattle.mysql_sql_text.proofs.DigitLemmas.{value_of_digits-below, short-refused}
+use Rattle.mysql_sql_text.proofs.ValueOfDigitsLemmas.{value_of_digits-below, short-refused}
 use Rattle.mysql_sql_text.proofs.time_text.short_number.Goals as goal
 
 pub overflow_cast-result : goal.overflow_cast-result

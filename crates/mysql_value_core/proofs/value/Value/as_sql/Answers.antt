@@ -7,9 +7,9 @@ use Rattle.mysql_value_core.specs.TimeLiteral.{WritesTimeText}
 use Rattle.mysql_value_core.proofs.LiteralLemmas.{literal_reads, literal_utf8, literal_writes_time}
 use Rattle.mysql_value_core.proofs.value.Value.as_sql.Goals as goal
 
--- the vector holds the room that was lent, and nothing behind it
-whole_room : (len : ℕ) (room behind : List ℕ) → length room ≡ len → take len (room ++ behind) ≡ room
-whole_room len room behind whole = ap (λ n. take n (room ++ behind)) (sym whole) ∙ take-append_seam room behind
+-- the vector holds the slice that was lent, and nothing after it
+whole_room : (len : ℕ) (room rest : List ℕ) → length room ≡ len → take len (room ++ rest) ≡ room
+whole_room len room rest whole = ap (λ n. take n (room ++ rest)) (sym whole) ∙ take-append_seam room rest
 
 pub from_utf8_unchecked-requires : goal.from_utf8_unchecked-requires
 from_utf8_unchecked-requires c =

@@ -20,15 +20,15 @@ pub numeral_is_utf8 : (digits : List ℕ) → IsNumeral 10 digits → IsUtf8 dig
 numeral_is_utf8 digits numeral = IsUtf8-from_ascii digits (IsAscii-from_digits digits numeral.1)
 
 -- std's word for digits, and the test that the definition makes
-by_test : IsNumeralModel (λ digits. list_all is_ascii_digit digits ≡ true) (digits_value 10)
-by_test = numerals_by_value _ (search rules)
+numeral_model : IsNumeralModel (λ digits. list_all is_ascii_digit digits ≡ true) (digits_value 10)
+numeral_model = numerals_by_value _ (search rules)
 
 -- digits have their number
 pub value_of_digits-IsNumeral : (digits : List ℕ) → IsNumeral 10 digits
     → value_of_digits digits ≡ Some (digits_value 10 digits)
 value_of_digits-IsNumeral digits numeral =
-    let some : nat_lt 0 (length digits) ≡ true = lt-ltb 0 (length digits) numeral.0 in
-    rw (some, by_test.from digits numeral.1) refl
+    let nonempty : nat_lt 0 (length digits) ≡ true = lt-ltb 0 (length digits) numeral.0 in
+    rw (nonempty, numeral_model.from digits numeral.1) refl
 
 -- what has a number is one or more digits, and the number is theirs
 pub value_of_digits-found : (digits : List ℕ) (n : ℕ) → value_of_digits digits ≡ Some n
@@ -47,7 +47,7 @@ pub value_of_digits-below : (digits : List ℕ) (n width : ℕ) → value_of_dig
     → length digits ≤ width → n < 10 ^ width
 value_of_digits-below digits n width e short =
     let is = value_of_digits-found digits n e in
-    let below : digits_value 10 digits < 10 ^ width = digits_value_short by_test digits width is.1 short in
+    let below : digits_value 10 digits < 10 ^ width = digits_value_short numeral_model digits width is.1 short in
     rw is.2 at below
 
 -- what std's parser refuses is no number, or one that 128 bits don't hold
@@ -60,7 +60,7 @@ value_of_digits-refused digits refused =
     (λ hold.
     let tests = and_parts (nat_lt 0 (length digits)) (list_all is_ascii_digit digits) hold in
     let numeral : IsNumeral 10 digits =
-    (ltb-true 0 (length digits) tests.0, by_test.to digits tests.1) in
+    (ltb-true 0 (length digits) tests.0, numeral_model.to digits tests.1) in
     beyond numeral (nat_lt (digits_value 10 digits) (2 ^ 128)) refl)
     (λ _. tt)
   where
@@ -70,31 +70,31 @@ value_of_digits-refused digits refused =
         absurd (refused (numeral, ltb-true (digits_value 10 digits) (2 ^ 128) small))
     beyond numeral false large = ltb-false (digits_value 10 digits) (2 ^ 128) large
 
--- what std's parser answers is the number
-pub parsed-found : (digits : List ℕ) (answer : Option ℕ)
-    → SomeIff answer (IsNumeral 10 digits × (digits_value 10 digits < 2 ^ 128)) (digits_value 10 digits)
-    → IfSome answer (λ n. value_of_digits digits ≡ Some n)
+-- what std's parser returns is the number
+pub parsed-found : (digits : List ℕ) (result : Option ℕ)
+    → SomeIff result (IsNumeral 10 digits × (digits_value 10 digits < 2 ^ 128)) (digits_value 10 digits)
+    → IfSome result (λ n. value_of_digits digits ≡ Some n)
 parsed-found digits None parsed = tt
 parsed-found digits (Some n) parsed =
     value_of_digits-IsNumeral digits parsed.0.0 ∙ ap Some (sym parsed.1)
 
-pub parsed-refused : (digits : List ℕ) (answer : Option ℕ)
-    → SomeIff answer (IsNumeral 10 digits × (digits_value 10 digits < 2 ^ 128)) (digits_value 10 digits)
-    → IfNone answer (IfSome (value_of_digits digits) (λ n. 2 ^ 128 ≤ n))
+pub parsed-refused : (digits : List ℕ) (result : Option ℕ)
+    → SomeIff result (IsNumeral 10 digits × (digits_value 10 digits < 2 ^ 128)) (digits_value 10 digits)
+    → IfNone result (IfSome (value_of_digits digits) (λ n. 2 ^ 128 ≤ n))
 parsed-refused digits None parsed = value_of_digits-refused digits parsed
 parsed-refused digits (Some n) parsed = tt
 
--- six digits and fewer are no number where 128 bits hold none
+-- up to six digits that write no number of 128 bits write none
 pub short-refused : (digits : List ℕ) → length digits ≤ 6
     → IfSome (value_of_digits digits) (λ n. 2 ^ 128 ≤ n) → None ≡ value_of_digits digits
-short-refused digits short large = go (value_of_digits digits) refl large
+short-refused digits short large = is_none (value_of_digits digits) refl large
   where
-    go : (number : Option ℕ) → value_of_digits digits ≡ number → IfSome number (λ n. 2 ^ 128 ≤ n)
+    is_none : (number : Option ℕ) → value_of_digits digits ≡ number → IfSome number (λ n. 2 ^ 128 ≤ n)
         → None ≡ value_of_digits digits
-    go None e large = sym e
-    go (Some n) e large = absurd (omega (arith, value_of_digits-below digits n 6 e short))
+    is_none None e large = sym e
+    is_none (Some n) e large = absurd (omega (arith, value_of_digits-below digits n 6 e short))
 
--- digits behind a point, filled up to six, write a number below a million
+-- digits after a point, filled up to six, write a number below a million
 pub scaled_below : (n width : ℕ) → n < 10 ^ width → width ≤ 6 → n * 10 ^ (6 - width) < 1000000
 scaled_below n width small short =
     let more : n * 10 ^ (6 - width) < 10 ^ width * 10 ^ (6 - width) =

@@ -1,6 +1,6 @@
 use Rattle.std.proofs.Common.{length, arith}
-use Rattle.mysql_sql_text.proofs.DigitLemmas.{scaled_below}
-use Rattle.mysql_sql_text.proofs.time_text.scale.Goals as goal
+use Rattle.mysql_sql_text.proofs.ValueOfDigitsLemmas.{scaled_below}
+use Rattle.mysql_sql_text.proofs.time_text.scaled_number.Goals as goal
 
 pub returns-clause-few : goal.returns-clause-few
 returns-clause-few c =
