@@ -1,4 +1,4 @@
--- One more thing of a list, on the way through it.
+-- One more thing of a list, in a walk over it.
 use Rattle.std.proofs.Common.{◌≡◌, ◌<◌, ◌+◌, ℕ, List, [], ◌∷◌, ◌++◌, map, length, take, drop, get_or, refl, sym, ap, ◌∙◌, subst, arith}
 use Rattle.std.specs.Prelude.{Result, Ok, Err, fold, IsErrAnd, ⊤}
 use Rattle.std.proofs.lemmas.List.{take_more, get_or-map, length-map, take-append-drop}
@@ -16,65 +16,65 @@ use Rattle.mysql_params_core.specs.Made.{MakerRefusal, Made, values_made, by_pos
 use Rattle.mysql_params_core.specs.declared.params.Params.{Params}
 use Rattle.mysql_params_core.specs.declared.params.errors.ToParamsError.{ToParamsError}
 
-pub list_made-some : (ms : List Meaning) → 0 < length ms → list_made ms ≡ by_position (values_made ms)
-list_made-some [] h = absurd (omega arith)
-list_made-some (m ∷ ms) h = refl
+pub list_made-nonempty : (ms : List Meaning) → 0 < length ms → list_made ms ≡ by_position (values_made ms)
+list_made-nonempty [] h = absurd (omega arith)
+list_made-nonempty (m ∷ ms) h = refl
 
 -- a `?` hands on the error as it is
-pub handed_on : (m : Made) (r : Result Params ToParamsError) (e : ToParamsError) → IsErrAnd r (λ t. t ≡ e)
+pub error_is_handed_on : (m : Made) (r : Result Params ToParamsError) (e : ToParamsError) → IsErrAnd r (λ t. t ≡ e)
     → IsExpectedRefusal m ⊤ (maker_refusal e) → IsAnswer given maker_refusal m ⊤ r
-handed_on m (Ok p) e same refused = absurd same
-handed_on m (Err t) e same refused =
+error_is_handed_on m (Ok p) e same refused = absurd same
+error_is_handed_on m (Err t) e same refused =
     subst (λ t. IsExpectedRefusal m ⊤ (maker_refusal t)) (sym same) refused
 
--- a walk by g, in which a refusal stays
+-- a walk by g, which keeps a refusal
 module _ {S A : Type 0} (g : Result S MakerRefusal → A → Result S MakerRefusal)
     (stays : (e : MakerRefusal) (a : A) → g (Err e) a ≡ Err e) (start : Result S MakerRefusal) where
-  stays_refused : (e : MakerRefusal) (rs : List A) → fold g (Err e) rs ≡ Err e
-  stays_refused e [] = refl
-  stays_refused e (r ∷ rs) = ap (λ s. fold g s rs) (stays e r) ∙ stays_refused e rs
+  fold-refused : (e : MakerRefusal) (rs : List A) → fold g (Err e) rs ≡ Err e
+  fold-refused e [] = refl
+  fold-refused e (r ∷ rs) = ap (λ s. fold g s rs) (stays e r) ∙ fold-refused e rs
 
   -- x is the thing at i of the list xs, and f what is known of a thing
   module _ {X : Type 0} (f : X → A) (xs : List X) (i : ℕ) (x : X) (h : i < length xs) (is : x ≡ get_or xs i x) where
-    there : i < length (map f xs)
-    there = omega (arith, length-map xs f)
+    within_map : i < length (map f xs)
+    within_map = omega (arith, length-map xs f)
 
-    taken : take (i + 1) (map f xs) ≡ take i (map f xs) ++ f x ∷ []
-    taken = take_more (map f xs) i (f x) there
+    take-map-next : take (i + 1) (map f xs) ≡ take i (map f xs) ++ f x ∷ []
+    take-map-next = take_more (map f xs) i (f x) within_map
         ∙ ap (λ r. take i (map f xs) ++ r ∷ []) (get_or-map f xs i x (f x) h ∙ ap f (sym is))
 
-    -- one more thing
-    pub loop_step : (old : Result S MakerRefusal) → fold g start (take i (map f xs)) ≡ old
+    -- one more thing is one more step
+    pub fold-take-next : (old : Result S MakerRefusal) → fold g start (take i (map f xs)) ≡ old
         → fold g start (take (i + 1) (map f xs)) ≡ g old (f x)
-    loop_step old before = ap (fold g start) taken
+    fold-take-next old before = ap (fold g start) take-map-next
         ∙ fold-append g start (take i (map f xs)) (f x ∷ []) ∙ ap (λ r. g r (f x)) before
 
     -- a thing that is refused is the refusal of the whole
-    loop_refused : (old : Result S MakerRefusal) (e : MakerRefusal) → fold g start (take i (map f xs)) ≡ old
+    fold-refused_at : (old : Result S MakerRefusal) (e : MakerRefusal) → fold g start (take i (map f xs)) ≡ old
         → g old (f x) ≡ Err e → fold g start (map f xs) ≡ Err e
-    loop_refused old e before refused =
+    fold-refused_at old e before refused =
         ap (fold g start) (sym (take-append-drop (i + 1) (map f xs)))
         ∙ fold-append g start (take (i + 1) (map f xs)) (drop (i + 1) (map f xs))
-        ∙ ap (λ r. fold g r (drop (i + 1) (map f xs))) (loop_step old before ∙ refused)
-        ∙ stays_refused e (drop (i + 1) (map f xs))
+        ∙ ap (λ r. fold g r (drop (i + 1) (map f xs))) (fold-take-next old before ∙ refused)
+        ∙ fold-refused e (drop (i + 1) (map f xs))
 
-    -- so is its error
-    pub loop_handed_on : (by : Result S MakerRefusal → Made) → ((e : MakerRefusal) → by (Err e) ≡ Err e)
+    -- a `?` in the walk hands on the error of that thing
+    pub refusal_is_handed_on : (by : Result S MakerRefusal → Made) → ((e : MakerRefusal) → by (Err e) ≡ Err e)
         → (old : Result S MakerRefusal) (e : ToParamsError) → fold g start (take i (map f xs)) ≡ old
         → IsExpectedRefusal (g old (f x)) ⊤ (maker_refusal e)
         → (r : Result Params ToParamsError) → IsErrAnd r (λ t. t ≡ e)
         → IsAnswer given maker_refusal (by (fold g start (map f xs))) ⊤ r
-    loop_handed_on by ends old e before answer r same =
-        handed_on (by (fold g start (map f xs))) r e same
+    refusal_is_handed_on by ends old e before answer r same =
+        error_is_handed_on (by (fold g start (map f xs))) r e same
         (refusal_expected_too (g old (f x)) (by (fold g start (map f xs))) ⊤ ⊤ (maker_refusal e)
-        (λ why refused. ap by (loop_refused old why before refused) ∙ ends why) (λ _. tt) answer)
+        (λ why refused. ap by (fold-refused_at old why before refused) ∙ ends why) (λ _. tt) answer)
 
--- a thing that has this value
-pub with_new-from : (m : ValueMap) (name : List ℕ) (meaning : Meaning) (answer : Result Value ToValueError) (v : Value)
+-- the map with the value of a thing that has this value
+pub with_new-value : (m : ValueMap) (name : List ℕ) (meaning : Meaning) (answer : Result Value ToValueError) (v : Value)
     → answer ≡ Ok v → IsAnswer (λ value. value) too_long_duration meaning (MeansBytes meaning) answer
     → with_new m name meaning ≡ Ok (finite.insert m name v)
-with_new-from m name meaning (Ok w) v is answers =
+with_new-value m name meaning (Ok w) v is answers =
     let same : w ≡ v = cc in
     ap (with_new m name) (answers ∙ ap (λ x. Ok x) same)
-with_new-from m name meaning (Err (DurationTooLong d)) v is answers = cc
-with_new-from m name meaning (Err (Memory e)) v is answers = cc
+with_new-value m name meaning (Err (DurationTooLong d)) v is answers = cc
+with_new-value m name meaning (Err (Memory e)) v is answers = cc

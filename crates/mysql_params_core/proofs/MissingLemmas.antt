@@ -6,12 +6,13 @@ use Rattle.std.specs.Cmp.{first_so, second_so}
 use Rattle.std.specs.Global.{Vec}
 use Rattle.std.specs.List.{list_all, list_any}
 use Rattle.std.specs.FinMap.{contains_key, get}
-use Rattle.std.proofs.lemmas.List.{get_or-map, length-map, drop-map, take_all, length-drop}
+use Rattle.std.proofs.lemmas.List.{length-map, drop-map, take_all, length-drop}
 use Rattle.mysql_value_core.specs.declared.value.Value.{Value}
 use Rattle.mysql_params_core.specs.Names.{names_of, is_beginning, missing_name, first_missing, last_name}
 use Rattle.mysql_params_core.specs.FirstAbsent.{IsFirstAbsent}
 use Rattle.mysql_params_core.specs.Given.{ValueMap, named}
 use Rattle.mysql_params_core.specs.Lookup.{values_at, lookup, missing}
+use Rattle.mysql_params_core.proofs.WalkLemmas.{name_at}
 
 module _ {X : Type 0} (p : X → Bool) where
   pub list_any-map : {Y : Type 0} (f : Y → X) (ys : List Y) → list_any p (map f ys) ≡ list_any (λ y. p (f y)) ys
@@ -37,7 +38,7 @@ module _ {X : Type 0} (p : X → Bool) where
       ap (λ b. cond (not b) (Some x) (find (λ y. not (p y)) xs)) (first_so (p x) (list_all p (take i xs)) all)
       ∙ find-at xs i d (omega arith) (second_so (p x) (list_all p (take i xs)) all) fails
 
--- no value at a name, no values
+-- if a name has no value, there are no values
 pub values_at-none : (m : ValueMap) (ns : List (List ℕ)) (i : ℕ) → i < length ns
     → contains_key m (slice_index_or ns i []) ≡ false → values_at m ns ≡ None
 values_at-none m [] i h absent = absurd (omega arith)
@@ -67,13 +68,13 @@ module _ (m : ValueMap) (ns : List (List ℕ)) (i : ℕ) (at : IsFirstAbsent m n
       ap (λ b. cond b (last_name ns) (first_missing m ns)) (is_beginning-at (contains_key m) ns i [] at.0 at.1 at.2 ∙ ap not later)
       ∙ first_missing-at
 
-  -- no later name is
+  -- no later name is in the map
   pub missing_name-else : list_any (contains_key m) (drop (suc i) ns) ≡ false → missing_name m ns ≡ last_name ns
   missing_name-else later =
       ap (λ b. cond b (last_name ns) (first_missing m ns))
       (is_beginning-at (contains_key m) ns i [] at.0 at.1 at.2 ∙ ap not later)
 
--- the same over names as vectors, as the code reads them
+-- the same for names as vectors, as the code reads them
 module _ (m : ValueMap) (ns : List (Vec ℕ)) (i : ℕ) (at : IsFirstAbsent m (names_of ns) (Some i)) where
   later_names : list_any (λ n. contains_key m n.items) (take (length ns - (i + 1)) (drop (i + 1) ns))
       ≡ list_any (contains_key m) (drop (suc i) (names_of ns))
@@ -86,28 +87,23 @@ module _ (m : ValueMap) (ns : List (Vec ℕ)) (i : ℕ) (at : IsFirstAbsent m (n
   pub in_list : i < length ns
   in_list = omega (arith, length-map ns (λ n. n.items), at.0)
 
-  at_name : (k : ℕ) (n : Vec ℕ) → k < length ns → n ≡ get_or ns k n → n.items ≡ slice_index_or (names_of ns) k []
-  at_name k n h e = ap (λ n. n.items) e ∙ sym (get_or-map (λ n. n.items) ns k n [] h)
-
-  pub reported-then : (b : Bool) (n : Vec ℕ)
+  pub reported_place-then : (b : Bool)
       → b ≡ list_any (λ n. contains_key m n.items) (take (length ns - (i + 1)) (drop (i + 1) ns)) → b ≡ true
-      → n ≡ get_or ns i n → n.items ≡ missing_name m (names_of ns)
-  reported-then b n e met is =
-      at_name i n in_list is ∙ sym (missing_name-then m (names_of ns) i at (sym later_names ∙ sym e ∙ met))
+      → slice_index_or (names_of ns) i [] ≡ missing_name m (names_of ns)
+  reported_place-then b e met = sym (missing_name-then m (names_of ns) i at (sym later_names ∙ sym e ∙ met))
 
-  pub reported-else : (b : Bool) (n : Vec ℕ)
+  pub reported_place-else : (b : Bool)
       → b ≡ list_any (λ n. contains_key m n.items) (take (length ns - (i + 1)) (drop (i + 1) ns)) → b ≡ false
-      → n ≡ get_or ns (length ns - 1) n → n.items ≡ missing_name m (names_of ns)
-  reported-else b n e unmet is =
-      at_name (length ns - 1) n (omega (arith, in_list)) is
-      ∙ ap (λ k. slice_index_or (names_of ns) (k - 1) []) (sym (length-map ns (λ n. n.items)))
+      → slice_index_or (names_of ns) (length ns - 1) [] ≡ missing_name m (names_of ns)
+  reported_place-else b e unmet =
+      ap (λ k. slice_index_or (names_of ns) (k - 1) []) (sym (length-map ns (λ n. n.items)))
       ∙ sym (missing_name-else m (names_of ns) i at (sym later_names ∙ sym e ∙ unmet))
 
-  pub first-at : (n : Vec ℕ) → n ≡ get_or ns i n → n.items ≡ first_missing m (names_of ns)
-  first-at n is = at_name i n in_list is ∙ sym (first_missing-at m (names_of ns) i at)
+  pub first_is_first_missing : (n : Vec ℕ) → n ≡ get_or ns i n → n.items ≡ first_missing m (names_of ns)
+  first_is_first_missing n is = sym (name_at ns i n in_list is) ∙ sym (first_missing-at m (names_of ns) i at)
 
--- a lookup of a list with names, in one equation
-pub lookup-some : (m : ValueMap) (ns : List (Vec ℕ)) → 0 < length ns
+-- a lookup of a list with names, as one equation
+pub lookup-named : (m : ValueMap) (ns : List (Vec ℕ)) → 0 < length ns
     → lookup (named m) (names_of ns) ≡ ok_or (values_at m (names_of ns)) (missing (missing_name m (names_of ns)))
-lookup-some m [] h = absurd (omega arith)
-lookup-some m (n ∷ ns) h = refl
+lookup-named m [] h = absurd (omega arith)
+lookup-named m (n ∷ ns) h = refl

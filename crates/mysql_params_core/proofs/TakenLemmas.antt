@@ -1,10 +1,11 @@
--- The walk that takes values out of a map: each is left in the map, or stands at the place of its name.
+-- The walk that takes values out of a map: each is still in the map, or stands at the place of its name.
 use Rattle.std.proofs.Common.{◌≡◌, ◌<◌, ◌+◌, ℕ, zero, suc, Bool, true, false, cond, List, [], ◌∷◌, ◌++◌, length, map, take, get_or, refl, sym, ap, ◌∙◌, arith, length-append}
 use Rattle.std.specs.Prelude.{Option, Some, None, nat_eq, slice_get}
 use Rattle.std.specs.Global.{Vec}
 use Rattle.std.specs.Cmp.Lexicographic.{pointwise, bytes_decides}
 use Rattle.std.specs.Map.{lookup}
 use Rattle.std.specs.FinMap.{get}
+use Rattle.std.proofs.lemmas.Option.{slice_get-get_or}
 use Rattle.mysql_value_core.specs.declared.value.Value.{Value}
 use Rattle.mysql_params_core.specs.Given.{value_map}
 use Rattle.mysql_params_core.specs.Names.{names_of}
@@ -12,50 +13,45 @@ use Rattle.mysql_params_core.proofs.EqualityLemmas.{has_bytes, key_eq}
 use Rattle.mysql_params_core.proofs.MapLemmas.{get-value_map}
 use Rattle.mysql_params_core.proofs.WalkLemmas.{values_step}
 
--- what the map had at a name is left in it, or stands at the place of the name
+-- what the map had at a name is still in it, or stands at the place of the name
 abbrev pub IsTaken : Option Value → Option Value → Option ℕ → List Value → Type 0
 IsTaken had left None values = left ≡ had
 IsTaken had left (Some place) values =
     (left ≡ None) × (place < length values) × (slice_get values place ≡ had)
 
--- so it is with each name
+-- this holds for each name
 abbrev pub AreTaken : List (Vec ℕ × Value) → List (Vec ℕ × Value) → List (Vec ℕ × ℕ) → List Value → Type 0
 AreTaken had left places values = (name : Vec ℕ) →
     IsTaken (lookup (key_eq name) had) (lookup (key_eq name) left) (lookup (key_eq name) places) values
 
-slice_get_more : {X : Type 0} (xs : List X) (i : ℕ) (x : X) → i < length xs → slice_get (xs ++ x ∷ []) i ≡ slice_get xs i
-slice_get_more [] i x h = absurd (omega arith)
-slice_get_more (y ∷ xs) zero x h = refl
-slice_get_more (y ∷ xs) (suc i) x h = slice_get_more xs i x (omega arith)
+slice_get-append-below : {X : Type 0} (xs : List X) (i : ℕ) (x : X) → i < length xs → slice_get (xs ++ x ∷ []) i ≡ slice_get xs i
+slice_get-append-below [] i x h = absurd (omega arith)
+slice_get-append-below (y ∷ xs) zero x h = refl
+slice_get-append-below (y ∷ xs) (suc i) x h = slice_get-append-below xs i x (omega arith)
 
-slice_get_last : {X : Type 0} (xs : List X) (x : X) → slice_get (xs ++ x ∷ []) (length xs) ≡ Some x
-slice_get_last [] x = refl
-slice_get_last (y ∷ xs) x = slice_get_last xs x
+slice_get-append-length : {X : Type 0} (xs : List X) (x : X) → slice_get (xs ++ x ∷ []) (length xs) ≡ Some x
+slice_get-append-length [] x = refl
+slice_get-append-length (y ∷ xs) x = slice_get-append-length xs x
 
-slice_get_at : {X : Type 0} (xs : List X) (i : ℕ) (d : X) → i < length xs → slice_get xs i ≡ Some (get_or xs i d)
-slice_get_at [] i d h = absurd (omega arith)
-slice_get_at (y ∷ xs) zero d h = refl
-slice_get_at (y ∷ xs) (suc i) d h = slice_get_at xs i d (omega arith)
-
--- one more value leaves the places alone
-one_more : (had left : Option Value) (place : Option ℕ) (vs : List Value) (v : Value)
+-- one more value at the end changes no place
+IsTaken-push : (had left : Option Value) (place : Option ℕ) (vs : List Value) (v : Value)
     → IsTaken had left place vs → IsTaken had left place (vs ++ v ∷ [])
-one_more had left None vs v taken = taken
-one_more had left (Some p) vs v (gone, below, stands) =
-    (gone, omega (arith, length-append vs (v ∷ []), below), slice_get_more vs p v below ∙ stands)
+IsTaken-push had left None vs v taken = taken
+IsTaken-push had left (Some p) vs v (gone, below, stands) =
+    (gone, omega (arith, length-append vs (v ∷ []), below), slice_get-append-below vs p v below ∙ stands)
 
 module _ (had left : List (Vec ℕ × Value)) (places : List (Vec ℕ × ℕ)) (vs : List Value) (taken : AreTaken had left places vs) where
-  pub all_one_more : (v : Value) → AreTaken had left places (vs ++ v ∷ [])
-  all_one_more v q = one_more _ _ (lookup (key_eq q) places) vs v (taken q)
+  pub AreTaken-push : (v : Value) → AreTaken had left places (vs ++ v ∷ [])
+  AreTaken-push v q = IsTaken-push _ _ (lookup (key_eq q) places) vs v (taken q)
 
   module _ (n : Vec ℕ) where
-    -- a value that is left is the one that the map had
+    -- a value that is still in the map is the one that the map had
     pub was_left : (v : Value) → lookup (key_eq n) left ≡ Some v → lookup (key_eq n) had ≡ Some v
-    was_left v there = by (lookup (key_eq n) places) (taken n)
+    was_left v there = by_place (lookup (key_eq n) places) (taken n)
       where
-        by : (place : Option ℕ) → IsTaken (lookup (key_eq n) had) (lookup (key_eq n) left) place vs → lookup (key_eq n) had ≡ Some v
-        by None same = sym same ∙ there
-        by (Some p) (gone, below, stands) = cc
+        by_place : (place : Option ℕ) → IsTaken (lookup (key_eq n) had) (lookup (key_eq n) left) place vs → lookup (key_eq n) had ≡ Some v
+        by_place None same = sym same ∙ there
+        by_place (Some p) (gone, below, stands) = cc
 
     module _ (p : ℕ) (at : lookup (key_eq n) places ≡ Some p) where
       stands_at : IsTaken (lookup (key_eq n) had) (lookup (key_eq n) left) (Some p) vs
@@ -66,38 +62,38 @@ module _ (had left : List (Vec ℕ × Value)) (places : List (Vec ℕ × ℕ)) (
 
       -- a value at a place is the one that the map had
       pub was_placed : (d : Value) → lookup (key_eq n) had ≡ Some (get_or vs p d)
-      was_placed d = sym stands_at.2 ∙ slice_get_at vs p d place_below
+      was_placed d = sym stands_at.2 ∙ slice_get-get_or vs p d place_below
 
-    -- what is neither left nor has a place wasn't there
+    -- a name that is neither in the map nor has a place was never in it
     pub was_nowhere : lookup (key_eq n) left ≡ None → lookup (key_eq n) places ≡ None → lookup (key_eq n) had ≡ None
-    was_nowhere gone no_place = by (lookup (key_eq n) places) no_place (taken n)
+    was_nowhere gone no_place = by_place (lookup (key_eq n) places) no_place (taken n)
       where
-        by : (place : Option ℕ) → place ≡ None → IsTaken (lookup (key_eq n) had) (lookup (key_eq n) left) place vs → lookup (key_eq n) had ≡ None
-        by None e same = sym same ∙ gone
-        by (Some p) e same = cc
+        by_place : (place : Option ℕ) → place ≡ None → IsTaken (lookup (key_eq n) had) (lookup (key_eq n) left) place vs → lookup (key_eq n) had ≡ None
+        by_place None e same = sym same ∙ gone
+        by_place (Some p) e same = cc
 
     -- the value is taken out, and its name gets the next place
     module _ (key : Vec ℕ) (v : Value) (same : key_eq n key ≡ true) (there : lookup (key_eq n) left ≡ Some v)
         (left' : List (Vec ℕ × Value)) (places' : List (Vec ℕ × ℕ))
         (removed : (q : Vec ℕ) → lookup (key_eq q) left' ≡ cond (key_eq n q) None (lookup (key_eq q) left))
-        (put : (q : Vec ℕ) → lookup (key_eq q) places' ≡ cond (key_eq key q) (Some (length vs)) (lookup (key_eq q) places)) where
+        (inserted : (q : Vec ℕ) → lookup (key_eq q) places' ≡ cond (key_eq key q) (Some (length vs)) (lookup (key_eq q) places)) where
       same_bytes : n.items ≡ key.items
       same_bytes = (bytes_decides n.items key.items).0 same
 
-      put_at : (q : Vec ℕ) → lookup (key_eq q) places' ≡ cond (key_eq n q) (Some (length vs)) (lookup (key_eq q) places)
-      put_at q = put q ∙ ap (λ bs. cond (pointwise nat_eq bs q.items) (Some (length vs)) (lookup (key_eq q) places)) (sym same_bytes)
+      inserted_at : (q : Vec ℕ) → lookup (key_eq q) places' ≡ cond (key_eq n q) (Some (length vs)) (lookup (key_eq q) places)
+      inserted_at q = inserted q ∙ ap (λ bs. cond (pointwise nat_eq bs q.items) (Some (length vs)) (lookup (key_eq q) places)) (sym same_bytes)
 
       had_at : (q : Vec ℕ) → key_eq n q ≡ true → lookup (key_eq q) had ≡ Some v
       had_at q e = ap (λ bs. lookup (has_bytes bs) had) (sym ((bytes_decides n.items q.items).0 e)) ∙ was_left v there
 
       pub taken_out : AreTaken had left' places' (vs ++ v ∷ [])
-      taken_out q = by (key_eq n q) refl (removed q) (put_at q)
+      taken_out q = by_key (key_eq n q) refl (removed q) (inserted_at q)
         where
-          by : (b : Bool) → key_eq n q ≡ b → lookup (key_eq q) left' ≡ cond b None (lookup (key_eq q) left)
+          by_key : (b : Bool) → key_eq n q ≡ b → lookup (key_eq q) left' ≡ cond b None (lookup (key_eq q) left)
               → lookup (key_eq q) places' ≡ cond b (Some (length vs)) (lookup (key_eq q) places)
               → IsTaken (lookup (key_eq q) had) (lookup (key_eq q) left') (lookup (key_eq q) places') (vs ++ v ∷ [])
-          by true e gone placed = rw placed (gone, omega (arith, length-append vs (v ∷ [])), slice_get_last vs v ∙ sym (had_at q e))
-          by false e kept placed = rw (placed, kept) (one_more _ _ (lookup (key_eq q) places) vs v (taken q))
+          by_key true e gone placed = rw placed (gone, omega (arith, length-append vs (v ∷ [])), slice_get-append-length vs v ∙ sym (had_at q e))
+          by_key false e kept placed = rw (placed, kept) (IsTaken-push _ _ (lookup (key_eq q) places) vs v (taken q))
 
 -- the walk so far: the values of the names, and where each stands
 pub record IsWalked (had left : List (Vec ℕ × Value)) (places : List (Vec ℕ × ℕ)) (vs : List Value) (ns : List (Vec ℕ)) (i : ℕ) : Type 0 where
@@ -114,15 +110,15 @@ module _ (had left : List (Vec ℕ × Value)) (places : List (Vec ℕ × ℕ)) (
       → ((q : Vec ℕ) → lookup (key_eq q) left' ≡ cond (key_eq n q) None (lookup (key_eq q) left))
       → ((q : Vec ℕ) → lookup (key_eq q) places' ≡ cond (key_eq key q) (Some count) (lookup (key_eq q) places))
       → (vs' : List Value) → vs' ≡ vs ++ v ∷ [] → IsWalked had left' places' vs' ns (i + 1)
-  taken_step key v same there left' places' count counted removed put vs' pushed =
+  taken_step key v same there left' places' count counted removed inserted vs' pushed =
       rw pushed (record {
         so_far = values_step (value_map had) ns i n vs v below is
             (get-value_map had n.items ∙ was_left had left places vs taken n v there) so_far;
         taken = taken_out had left places vs taken n key v same there left' places' removed
-            (λ q. put q ∙ ap (λ k. cond (key_eq key q) (Some k) (lookup (key_eq q) places)) counted);
+            (λ q. inserted q ∙ ap (λ k. cond (key_eq key q) (Some k) (lookup (key_eq q) places)) counted);
       })
 
-  -- a name that stood before
+  -- a name at a later place
   pub placed_step : (p : ℕ) → lookup (key_eq n) places ≡ Some p → (v d : Value) → v ≡ get_or vs p d
       → (left' : List (Vec ℕ × Value)) → left' ≡ left
       → (vs' : List Value) → vs' ≡ vs ++ v ∷ [] → IsWalked had left' places vs' ns (i + 1)
@@ -130,5 +126,5 @@ module _ (had left : List (Vec ℕ × Value)) (places : List (Vec ℕ × ℕ)) (
       rw (pushed, kept) (record {
         so_far = values_step (value_map had) ns i n vs v below is
             (get-value_map had n.items ∙ was_placed had left places vs taken n p at d ∙ ap (λ x. Some x) (sym copied)) so_far;
-        taken = all_one_more had left places vs taken v;
+        taken = AreTaken-push had left places vs taken v;
       })

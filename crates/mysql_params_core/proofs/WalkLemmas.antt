@@ -1,4 +1,4 @@
--- One more name of a list, on the way through it.
+-- One more name of a list, in a walk over it.
 use Rattle.std.proofs.Common.{◌≡◌, ◌<◌, ◌+◌, ℕ, true, false, ◌&&◌, List, [], ◌∷◌, ◌++◌, map, length, take, get_or, sym, ap, ◌∙◌, arith, refl}
 use Rattle.std.specs.Prelude.{Some, None, is_some}
 use Rattle.std.specs.Option.{option_map, option_and_then}
@@ -56,10 +56,10 @@ pub name_at : (ns : List (Vec ℕ)) (i : ℕ) (n : Vec ℕ) → i < length ns �
     → get_or (names_of ns) i [] ≡ n.items
 name_at ns i n h e = get_or-map (λ x. x.items) ns i n [] h ∙ ap (λ x. x.items) (sym e)
 
--- where all names are in the map, none of them is lacking
-pub none_lacking : (m : ValueMap) (ns : List (Vec ℕ)) (i : ℕ) (n : Vec ℕ) → i < length ns → n ≡ get_or ns i n
+-- if all names are in the map, none of them is missing
+pub none_missing : (m : ValueMap) (ns : List (Vec ℕ)) (i : ℕ) (n : Vec ℕ) → i < length ns → n ≡ get_or ns i n
     → list_all (contains_key m) (names_of ns) ≡ true → get m n.items ≡ None → ⊥
-none_lacking m ns i n h e all none =
+none_missing m ns i n h e all none =
     let fails : list_all (contains_key m) (names_of ns) ≡ false =
     list_all_at (contains_key m) (names_of ns) i [] (omega (arith, length-map ns (λ x. x.items), h))
     (ap (contains_key m) (name_at ns i n h e) ∙ ap is_some none) in

@@ -11,23 +11,23 @@ use Rattle.mysql_params_core.specs.declared.params.errors.IntoPositionalError.Th
 use Rattle.mysql_params_core.specs.declared.params.errors.ToParamsError.{ToParamsError}
 use Rattle.mysql_params_core.specs.declared.params.errors.ToParamsError.TheVariants as maker
 
--- the refusal of a lookup that the error is; none for want of memory
+-- the refusal of a lookup that the error stands for; none for out of memory
 abbrev pub lookup_refusal : ParamsError → Option LookupRefusal
 lookup_refusal (Missing error) = Some (missing error.0.items)
 lookup_refusal (Confusion confusion) = Some (confused confusion)
 lookup_refusal (Memory error) = None
 
--- the missing name that the error holds; none for want of memory
+-- the missing name that the error holds; none for out of memory
 abbrev pub absent_name : IntoPositionalError → Option (List ℕ)
 absent_name (positional.Missing error) = Some error.0.items
 absent_name (positional.Memory error) = None
 
--- the refusal of a thing without a value that the error is; none for want of memory
+-- the refusal of a thing without a value that the error stands for; none for out of memory
 abbrev pub value_refusal : ToValueError → Option MakerRefusal
 value_refusal (to_value.DurationTooLong duration) = Some (too_long duration)
 value_refusal (to_value.Memory error) = None
 
--- The refusal of a maker that the error is; none where it is out of memory. Nor is there one for a
+-- The refusal of a maker that the error stands for; none for out of memory. Nor is there one for a
 -- `Value` that holds out of memory: a maker never returns that, as a clause of its own says, but
 -- `Memory`.
 abbrev pub maker_refusal : ToParamsError → Option MakerRefusal

@@ -4,9 +4,9 @@ use Rattle.std.specs.List.{list_all}
 use Rattle.std.specs.FinMap.{contains_key}
 use Rattle.mysql_params_core.specs.Given.{ValueMap}
 
--- the first name that is not in the map stands at this place; none where all are in it
+-- the place of the first name that is not in the map; none if all are in it
 abbrev pub IsFirstAbsent : ValueMap → List (List ℕ) → Option ℕ → Type 0
-IsFirstAbsent values names None = list_all (contains_key values) names ≡ true
-IsFirstAbsent values names (Some place) =
-    (place < length names) × (list_all (contains_key values) (take place names) ≡ true)
-    × (contains_key values (slice_index_or names place []) ≡ false)
+IsFirstAbsent entries names None = list_all (contains_key entries) names ≡ true
+IsFirstAbsent entries names (Some place) =
+    (place < length names) × (list_all (contains_key entries) (take place names) ≡ true)
+    × (contains_key entries (slice_index_or names place []) ≡ false)

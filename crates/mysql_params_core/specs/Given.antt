@@ -1,5 +1,5 @@
--- What contracts see of parameters. Where their values lie in memory, and in which order a hash map
--- holds its entries, is left out.
+-- What contracts see of parameters. They don't see where the values lie in memory, nor in which order
+-- a hash map holds its entries.
 use Rattle.std.specs.Prelude.{ℕ, List, map}
 use Rattle.std.specs.Global.{Vec}
 use Rattle.std.specs.Ordering.{nat_cmp}
@@ -21,7 +21,7 @@ by_bytes entry = (entry.0.items, entry.1)
 abbrev pub value_map : List (Vec ℕ × Value) → ValueMap
 value_map entries = from_entries (map by_bytes entries)
 
--- what is given to a query
+-- what parameters give to a query
 pub data Given : Type 0 where
   -- nothing
   empty : Given
@@ -30,7 +30,7 @@ pub data Given : Type 0 where
   -- values by position
   positional : List Value → Given
 
--- what parameters give
+-- what these parameters give
 abbrev pub given : Params → Given
 given Empty = empty
 given (Named entries) = named (value_map entries.entries)

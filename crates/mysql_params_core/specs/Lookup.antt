@@ -15,46 +15,46 @@ pub data LookupRefusal : Type 0 where
   -- the parameters are of the other kind
   confused : ParamsConfusionError → LookupRefusal
 
--- the value of each name, in order; none where a name has none
+-- the value of each name, in order; none if a name has no value
 abbrev pub values_at : ValueMap → List (List ℕ) → Option (List Value)
-values_at values [] = Some []
-values_at values (name ∷ names) =
-    option_and_then (λ value. option_map (λ rest. value ∷ rest) (values_at values names))
-    (get values name)
+values_at entries [] = Some []
+values_at entries (name ∷ names) =
+    option_and_then (λ value. option_map (λ rest. value ∷ rest) (values_at entries names))
+    (get entries name)
 
--- The values for the names of a query, or the refusal. A query without a list of names has none.
+-- the values for the names of a query, or the refusal; of a query without names the list is empty
 abbrev pub lookup : Given → List (List ℕ) → Result (List Value) LookupRefusal
 lookup empty [] = Ok []
 lookup empty (name ∷ names) = Err (missing name)
 lookup (positional values) [] = Ok values
 lookup (positional values) (name ∷ names) = Err (confused PositionalParamsForNamedQuery)
-lookup (named values) [] = Err (confused NamedParamsForPositionalQuery)
-lookup (named values) (name ∷ names) =
-    ok_or (values_at values (name ∷ names)) (missing (missing_name values (name ∷ names)))
+lookup (named entries) [] = Err (confused NamedParamsForPositionalQuery)
+lookup (named entries) (name ∷ names) =
+    ok_or (values_at entries (name ∷ names)) (missing (missing_name entries (name ∷ names)))
 
--- the parameters by position, or the first name that is missing
-abbrev pub positioned : Given → List (List ℕ) → Result Given (List ℕ)
-positioned empty names = Ok empty
-positioned (positional values) names = Ok (positional values)
-positioned (named values) names =
-    ok_or (option_map positional (values_at values names)) (first_missing values names)
+-- the same parameters by position, or the first name that is missing
+abbrev pub positional_of : Given → List (List ℕ) → Result Given (List ℕ)
+positional_of empty names = Ok empty
+positional_of (positional values) names = Ok (positional values)
+positional_of (named entries) names =
+    ok_or (option_map positional (values_at entries names)) (first_missing entries names)
 
--- a lookup takes memory only for names, of named parameters or of none
+-- a lookup takes memory only for a list with names, of named parameters or of none
 abbrev pub LookupTakesMemory : Given → List (List ℕ) → Type 0
-LookupTakesMemory given [] = ⊥
+LookupTakesMemory params [] = ⊥
 LookupTakesMemory empty (name ∷ names) = ⊤
 LookupTakesMemory (positional values) (name ∷ names) = ⊥
-LookupTakesMemory (named values) (name ∷ names) = ⊤
+LookupTakesMemory (named entries) (name ∷ names) = ⊤
 
--- to become positional takes memory only for names, of named parameters
+-- parameters by position take memory only for a list with names, of named parameters
 abbrev pub PositionTakesMemory : Given → List (List ℕ) → Type 0
 PositionTakesMemory empty names = ⊥
 PositionTakesMemory (positional values) names = ⊥
-PositionTakesMemory (named values) [] = ⊥
-PositionTakesMemory (named values) (name ∷ names) = ⊤
+PositionTakesMemory (named entries) [] = ⊥
+PositionTakesMemory (named entries) (name ∷ names) = ⊤
 
 -- for named parameters and a list with names, both give the same values or both refuse
 abbrev pub LookupsAgree : Type 0
-LookupsAgree = (given : ValueMap) (names : List (List ℕ)) → names ≢ [] → (values : List Value) →
-    (lookup (named given) names ≡ Ok values)
-    ↔ (positioned (named given) names ≡ Ok (positional values))
+LookupsAgree = (entries : ValueMap) (names : List (List ℕ)) → names ≢ [] → (values : List Value) →
+    (lookup (named entries) names ≡ Ok values)
+    ↔ (positional_of (named entries) names ≡ Ok (positional values))

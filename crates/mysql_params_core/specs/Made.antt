@@ -8,7 +8,7 @@ use Rattle.mysql_params_core.specs.Given.{ValueMap, Given, empty, named, positio
 
 -- why things make no parameters
 pub data MakerRefusal : Type 0 where
-  -- this name stood before
+  -- this is the name of an earlier pair
   redefined : List ℕ → MakerRefusal
   -- the duration is too long for a value
   too_long : Duration → MakerRefusal
@@ -17,7 +17,7 @@ pub data MakerRefusal : Type 0 where
 abbrev pub Made : Type 0
 Made = Result Given MakerRefusal
 
--- the value of one more thing behind the values so far; a refusal stays
+-- the values so far and then the value of one more thing; a refusal stays
 abbrev pub with_value : Result (List Value) MakerRefusal → Meaning
     → Result (List Value) MakerRefusal
 with_value (Ok values) (Ok value) = Ok (values ++ value ∷ [])
@@ -33,27 +33,27 @@ abbrev pub by_position : Result (List Value) MakerRefusal → Made
 by_position (Ok values) = Ok (positional values)
 by_position (Err refusal) = Err refusal
 
--- what a list of things makes; of none it is no parameters
+-- what a list of things makes; an empty list makes no parameters
 abbrev pub list_made : List Meaning → Made
 list_made [] = Ok empty
 list_made (meaning ∷ meanings) = by_position (values_made (meaning ∷ meanings))
 
 -- the map with the value of a new name, or the refusal of the thing
 abbrev pub with_new : ValueMap → List ℕ → Meaning → Result ValueMap MakerRefusal
-with_new values name (Ok value) = Ok (finite.insert values name value)
-with_new values name (Err duration) = Err (too_long duration)
+with_new entries name (Ok value) = Ok (finite.insert entries name value)
+with_new entries name (Err duration) = Err (too_long duration)
 
 -- the map with one more pair, whose name may not be in it yet; a refusal stays
 abbrev pub with_pair : Result ValueMap MakerRefusal → List ℕ × Meaning
     → Result ValueMap MakerRefusal
-with_pair (Ok values) pair =
-    if finite.contains_key values pair.0 then Err (redefined pair.0)
-    else with_new values pair.0 pair.1
+with_pair (Ok entries) pair =
+    if finite.contains_key entries pair.0 then Err (redefined pair.0)
+    else with_new entries pair.0 pair.1
 with_pair (Err refusal) pair = Err refusal
 
 -- the map as named parameters
 abbrev pub by_name : Result ValueMap MakerRefusal → Made
-by_name (Ok values) = Ok (named values)
+by_name (Ok entries) = Ok (named entries)
 by_name (Err refusal) = Err refusal
 
 -- what pairs of a name and a thing make, taken in order

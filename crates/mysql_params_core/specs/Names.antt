@@ -10,36 +10,38 @@ use Rattle.mysql_params_core.specs.Given.{ValueMap}
 abbrev pub names_of : List (Vec ℕ) → List (List ℕ)
 names_of names = map (λ name. name.items) names
 
--- the names of a list that may be lacking: then there are none
+-- the names of a list; none if there is no list
 abbrev pub listed_names : Option (Bor (List (Vec ℕ))) → List (List ℕ)
 listed_names None = []
 listed_names (Some names) = names_of names.now
 
--- the places that pass the test are exactly a beginning of the list, possibly none or all
+-- whether the places that pass the test are exactly a beginning of the list, possibly none or all
 abbrev pub is_beginning : {X : Type 0} → (X → Bool) → List X → Bool
 is_beginning test [] = true
 is_beginning test (x ∷ xs) = if test x then is_beginning test xs else not (list_any test xs)
 
--- the last name of a list (no bytes stand for that of the empty list)
+-- the last name of a list (of the empty list: no bytes)
 abbrev pub last_name : List (List ℕ) → List ℕ
 last_name names = slice_index_or names (length names - 1) []
 
--- the first name that is not in the map (no bytes stand for it where all are)
+-- the first name that is not in the map (if all are: no bytes)
 abbrev pub first_missing : ValueMap → List (List ℕ) → List ℕ
-first_missing values names = unwrap_or (find (λ name. not (contains_key values name)) names) []
+first_missing entries names = unwrap_or (find (λ name. not (contains_key entries name)) names) []
 
--- The name that is reported where not all are in the map: if the places of the names in the map
--- are exactly a beginning of the list, its last name; else the first that is not in the map.
+-- The name that is reported if not all are in the map. If the places of the names in the map are
+-- exactly a beginning of the list, it is the last name of the list; otherwise it is the first name
+-- that is not in the map.
 abbrev pub missing_name : ValueMap → List (List ℕ) → List ℕ
-missing_name values names =
-    if is_beginning (contains_key values) names then last_name names else first_missing values names
+missing_name entries names =
+    if is_beginning (contains_key entries) names then last_name names
+    else first_missing entries names
 
 -- the places that pass the test are those below the count
 abbrev pub AreBelow : {X : Type 0} → (X → Bool) → List X → ℕ → Type 0
 AreBelow test xs count = (i : ℕ) (x : _) → slice_get xs i ≡ Some x → (IsTrue (test x) ↔ (i < count))
 
--- the test for a beginning, by places
+-- `is_beginning` says what it should: the places of the names in the map are those below some count
 abbrev pub BeginningsAreFound : Type 0
-BeginningsAreFound = (values : ValueMap) (names : List (List ℕ)) →
-    IsTrue (is_beginning (contains_key values) names)
-    ↔ ((count : ℕ) × AreBelow (contains_key values) names count)
+BeginningsAreFound = (entries : ValueMap) (names : List (List ℕ)) →
+    IsTrue (is_beginning (contains_key entries) names)
+    ↔ ((count : ℕ) × AreBelow (contains_key entries) names count)

@@ -2,6 +2,7 @@
 ghost use Rattle.std.specs.Prelude.{◌≡◌, ◌≢◌, IfOk, OnErr};
 ghost use Rattle.mysql_params_core.specs.Given.{given, empty};
 
+mod entries;
 mod errors;
 mod lookup;
 mod pairs;
@@ -34,7 +35,7 @@ pub enum Params {
 }
 
 impl Params {
-    /// A copy of the parameters, on the allocator that they hold. That of `Empty` takes no memory.
+    /// A copy of the parameters, on the allocator that they hold. A copy of `Empty` takes no memory.
     pub fn clone(&self) -> Result<Params, AllocError>
         ensures equal { IfOk result (λ copy. given copy ≡ given self.now) }
         ensures memory { OnErr result (given self.now ≢ empty) }

@@ -1,12 +1,12 @@
 -- Words of the program.
 use Rattle.std.proofs.Common.{◌≡◌, ◌∙◌, ℕ, ◌+◌, ◌<◌, Bool, true, false, List, [], ◌∷◌, ◌++◌, length, drop, get_or, map, refl, sym, ap, append_assoc, arith, inl, inr, Option, None, Some, Ok, Err, suc}
-use Rattle.std.specs.Prelude.{IfSome, String, string_bytes, ok_or, option_map, option_and_then}
+use Rattle.std.specs.Prelude.{String, string_bytes, ok_or, option_map, option_and_then}
 use Rattle.std.specs.Global.{Global}
 use Rattle.std.specs.List.{list_all, list_any, position_or_len}
 use Rattle.std.proofs.lemmas.Bool.{cases_Bool, cond-true, cond-false}
 use Rattle.std.proofs.Math.Seq.{drop-cons}
 use Rattle.mysql_values.specs.declared.value.Value.{Value}
-use Rattle.mysql_program.specs.Words.{WordsRefusal, usage, cut, value_of_text, pair_of_word, pairs_of_words, word_bytes, bound_query, is_nameless, command_made, given_by_name, command_of_pairs}
+use Rattle.mysql_program.specs.Words.{WordsRefusal, usage, parts_of_word, value_of_text, pair_of_word, pairs_of_words, word_bytes, bound_query, is_nameless, command_made, given_by_name, command_of_pairs}
 use Rattle.mysql_program.specs.WordErrors.{seen_pair}
 use Rattle.mysql_params_core.specs.Given.{positional}
 use Rattle.std.specs.Borrow.{Bor}
@@ -22,33 +22,28 @@ list_any-none p (x ∷ xs) h =
       | inr e ↦ let v : 1 + position_or_len p xs ≡ length (x ∷ xs) = rw e at h in rw e (list_any-none p xs (omega (arith, v)))
     ]
 
--- a fact about what is there follows from another
-pub if_some : {X : Type 0} (P Q : X → Type 0) (o : Option X) → ((x : X) → P x → Q x) → IfSome o P → IfSome o Q
-if_some P Q None f h = tt
-if_some P Q (Some x) f h = f x h
-
 -- one word
 
-value_there : (o : Option Value) (value : Value) → ok_or o usage ≡ Ok value → o ≡ Some value
-value_there None value h = absurd cc
-value_there (Some v) value h = cc
+ok_or-found : {X : Type 0} (o : Option X) (x : X) → ok_or o usage ≡ Ok x → o ≡ Some x
+ok_or-found None x h = absurd cc
+ok_or-found (Some y) x h = cc
 
-value_lacking : (o : Option Value) (why : WordsRefusal) → ok_or o usage ≡ Err why → (o ≡ None) × (why ≡ usage)
-value_lacking None why h = (refl, cc)
-value_lacking (Some v) why h = absurd cc
+ok_or-refused : {X : Type 0} (o : Option X) (why : WordsRefusal) → ok_or o usage ≡ Err why → (o ≡ None) × (why ≡ usage)
+ok_or-refused None why h = (refl, cc)
+ok_or-refused (Some y) why h = absurd cc
 
-pub pair_found : (word name text : List ℕ) (value : Value) → cut word ≡ Some (name, text)
+pub pair_found : (word name text : List ℕ) (value : Value) → parts_of_word word ≡ Some (name, text)
     → ok_or (value_of_text text) usage ≡ Ok value → ok_or (pair_of_word word) usage ≡ Ok (name, value)
 pair_found word name text value e h =
     ap (λ parts. ok_or (option_and_then (λ p. option_map (λ v. (p.0, v)) (value_of_text p.1)) parts) usage) e
-    ∙ ap (λ o. ok_or (option_map (λ v. (name, v)) o) usage) (value_there (value_of_text text) value h)
+    ∙ ap (λ o. ok_or (option_map (λ v. (name, v)) o) usage) (ok_or-found (value_of_text text) value h)
 
-pub pair_refused : (word name text : List ℕ) (why : WordsRefusal) → cut word ≡ Some (name, text)
+pub pair_refused : (word name text : List ℕ) (why : WordsRefusal) → parts_of_word word ≡ Some (name, text)
     → ok_or (value_of_text text) usage ≡ Err why → ok_or (pair_of_word word) usage ≡ Err why
 pair_refused word name text why e h =
-    let lacks = value_lacking (value_of_text text) why h in
+    let refused_so = ok_or-refused (value_of_text text) why h in
     ap (λ parts. ok_or (option_and_then (λ p. option_map (λ v. (p.0, v)) (value_of_text p.1)) parts) usage) e
-    ∙ ap (λ o. ok_or (option_map (λ v. (name, v)) o) usage) lacks.0 ∙ ap Err (sym lacks.1)
+    ∙ ap (λ o. ok_or (option_map (λ v. (name, v)) o) usage) refused_so.0 ∙ ap Err (sym refused_so.1)
 
 -- one word after another
 
@@ -66,14 +61,6 @@ before_pairs-push : (front : List (List ℕ × Value)) (pair : List ℕ × Value
 before_pairs-push front pair None = refl
 before_pairs-push front pair (Some rest) = ap Some (sym (append_assoc front (pair ∷ []) rest))
 
-pair_there : (o : Option (List ℕ × Value)) (pair : List ℕ × Value) → ok_or o usage ≡ Ok pair → o ≡ Some pair
-pair_there None pair h = absurd cc
-pair_there (Some p) pair h = cc
-
-pair_lacking : (o : Option (List ℕ × Value)) (why : WordsRefusal) → ok_or o usage ≡ Err why → (o ≡ None) × (why ≡ usage)
-pair_lacking None why h = (refl, cc)
-pair_lacking (Some p) why h = absurd cc
-
 pub one_pair_more : (words : List (String Global)) (i : ℕ) (word : String Global) (front : List (List ℕ × Value)) (pair : List ℕ × Value)
     → i < length words → word ≡ get_or words i word → ok_or (pair_of_word (string_bytes word)) usage ≡ Ok pair
     → pairs_of_words (word_bytes words) ≡ before_pairs front (pairs_of_words (word_bytes (drop i words)))
@@ -83,7 +70,7 @@ one_pair_more words i word front pair below at found so_far =
     ∙ ap (λ ws. before_pairs front (pairs_of_words (word_bytes ws))) (drop_at words i word below)
     ∙ ap (λ w. before_pairs front (pairs_of_words (string_bytes w ∷ word_bytes (drop (i + 1) words)))) (sym at)
     ∙ ap (λ o. before_pairs front (option_and_then (λ p. option_map (λ pairs. p ∷ pairs) (pairs_of_words (word_bytes (drop (i + 1) words)))) o))
-    (pair_there (pair_of_word (string_bytes word)) pair found)
+    (ok_or-found (pair_of_word (string_bytes word)) pair found)
     ∙ before_pairs-push front pair (pairs_of_words (word_bytes (drop (i + 1) words)))
 
 pub no_pair : (words : List (String Global)) (i : ℕ) (word : String Global) (front : List (List ℕ × Value)) (why : WordsRefusal)
@@ -91,13 +78,13 @@ pub no_pair : (words : List (String Global)) (i : ℕ) (word : String Global) (f
     → pairs_of_words (word_bytes words) ≡ before_pairs front (pairs_of_words (word_bytes (drop i words)))
     → ok_or (pairs_of_words (word_bytes words)) usage ≡ Err why
 no_pair words i word front why below at refused so_far =
-    let lacks = pair_lacking (pair_of_word (string_bytes word)) why refused in
+    let refused_so = ok_or-refused (pair_of_word (string_bytes word)) why refused in
     let none : pairs_of_words (word_bytes words) ≡ None =
     so_far
     ∙ ap (λ ws. before_pairs front (pairs_of_words (word_bytes ws))) (drop_at words i word below)
     ∙ ap (λ w. before_pairs front (pairs_of_words (string_bytes w ∷ word_bytes (drop (i + 1) words)))) (sym at)
-    ∙ ap (λ o. before_pairs front (option_and_then (λ p. option_map (λ pairs. p ∷ pairs) (pairs_of_words (word_bytes (drop (i + 1) words)))) o)) lacks.0 in
-    ap (λ o. ok_or o usage) none ∙ ap Err (sym lacks.1)
+    ∙ ap (λ o. before_pairs front (option_and_then (λ p. option_map (λ pairs. p ∷ pairs) (pairs_of_words (word_bytes (drop (i + 1) words)))) o)) refused_so.0 in
+    ap (λ o. ok_or o usage) none ∙ ap Err (sym refused_so.1)
 
 -- pairs
 

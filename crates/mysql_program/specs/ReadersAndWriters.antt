@@ -1,4 +1,6 @@
--- What a run leaves of its reader and its writer, where these tell their bytes.
+-- What a run leaves of its reader and its writer. Contracts see of a reader the bytes that it has left,
+-- and of a writer the bytes that it has taken. A reader or writer that tells `None` tells no bytes, and
+-- then these definitions say nothing of what was read or written.
 use Rattle.std.specs.Prelude.{◌<◌, ℕ, List, length, take, Option}
 use Rattle.std.specs.Io.KnownBytes.{Consumes, IsAtEnd, Appends}
 

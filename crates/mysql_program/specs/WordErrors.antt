@@ -10,13 +10,13 @@ use Rattle.mysql_program.specs.declared.words.Command.TheVariants.{Names, Bind}
 use Rattle.mysql_program.specs.declared.words.WordsError.{WordsError}
 use Rattle.mysql_program.specs.declared.words.WordsError.TheVariants.{Usage, Redefined, Memory}
 
--- the refusal of the words that the error is; none for want of memory
+-- the refusal of the words that the error stands for; none for out of memory
 abbrev pub words_refusal : WordsError → Option WordsRefusal
 words_refusal Usage = Some usage
 words_refusal (Redefined name) = Some (redefined_name name.items)
 words_refusal (Memory error) = None
 
--- the command that the code's is
+-- the command that the code's command stands for
 abbrev pub seen_command : Command → words.Command
 seen_command Names = words.names_of_query
 seen_command (Bind params) = words.bound_query (given params)

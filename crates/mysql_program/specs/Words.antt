@@ -14,7 +14,7 @@ use Rattle.mysql_params_core.specs.Made.{MakerRefusal, redefined, too_long, pair
 pub data WordsRefusal : Type 0 where
   -- they ask for nothing that the program does
   usage : WordsRefusal
-  -- this name stood before
+  -- this name stands twice
   redefined_name : List ℕ → WordsRefusal
 
 -- what words ask for
@@ -32,23 +32,23 @@ word_bytes words = map string_bytes words
 abbrev pub is_equals_sign : ℕ → Bool
 is_equals_sign b = b == byte "="
 
--- what stands before and behind the first `=` of a word
-abbrev pub cut : List ℕ → Option (List ℕ × List ℕ)
-cut word =
+-- what stands before the first `=` of a word, and after it; none if the word has no `=`
+abbrev pub parts_of_word : List ℕ → Option (List ℕ × List ℕ)
+parts_of_word word =
     if list_any is_equals_sign word
     then Some (before_first is_equals_sign word, after_first is_equals_sign word) else None
 
--- the `Int` of a decimal text, where an `i64` holds its number
+-- the `Int` of a decimal text, if an `i64` holds its number
 abbrev pub int_of_text : List ℕ → Option Value
 int_of_text text =
     option_map (λ ir. Int (committed ir)) (whole_conversion true 64 (λ number. number) (Bytes text))
 
--- the `UInt` of a decimal text, where a `u64` holds its number
+-- the `UInt` of a decimal text, if a `u64` holds its number
 abbrev pub uint_of_text : List ℕ → Option Value
 uint_of_text text =
     option_map (λ ir. UInt (committed ir)) (whole_conversion false 64 unsigned_abs (Bytes text))
 
--- the value of a text behind the letter of its kind and a colon
+-- the value of a text after the letter of its kind and a colon
 abbrev pub value_of_kind : ℕ → List ℕ → Option Value
 value_of_kind kind text =
     if kind == byte "i" then int_of_text text
@@ -70,9 +70,9 @@ value_of_text text = value_of_null text
 abbrev pub pair_of_word : List ℕ → Option (List ℕ × Value)
 pair_of_word word =
     option_and_then (λ parts. option_map (λ value. (parts.0, value)) (value_of_text parts.1))
-    (cut word)
+    (parts_of_word word)
 
--- name and value of each word, where each has them
+-- name and value of each word; none if a word has none
 abbrev pub pairs_of_words : List (List ℕ) → Option (List (List ℕ × Value))
 pairs_of_words [] = Some []
 pairs_of_words (word ∷ words) =
@@ -92,13 +92,13 @@ words_refusal_of (too_long duration) = usage
 abbrev pub given_by_name : List (List ℕ × Value) → Result Given MakerRefusal
 given_by_name pairs = pairs_made (map (λ pair. (pair.0, Ok pair.1)) pairs)
 
--- the answer of a maker of parameters, as a command or a refusal of the words
+-- what a maker of parameters returns, as a command or a refusal of the words
 abbrev pub command_made : Result Given MakerRefusal → Result Command WordsRefusal
-command_made (Ok given) = Ok (bound_query given)
+command_made (Ok params) = Ok (bound_query params)
 command_made (Err refusal) = Err (words_refusal_of refusal)
 
--- What pairs ask for: where all names are empty, values by position; where none is, values by name;
--- else nothing.
+-- What pairs ask for. If all names are empty, the values by position; if no name is empty, the values
+-- by name; otherwise nothing that the program does.
 abbrev pub command_of_pairs : List (List ℕ × Value) → Result Command WordsRefusal
 command_of_pairs [] = Ok (bound_query empty)
 command_of_pairs (pair ∷ pairs) =
@@ -107,12 +107,12 @@ command_of_pairs (pair ∷ pairs) =
     else if list_any is_nameless (pair ∷ pairs) then Err usage
     else command_made (given_by_name (pair ∷ pairs))
 
--- what pairs ask for, where they are there
+-- what pairs ask for; usage if there are none because a word isn't one
 abbrev pub bind_command : Option (List (List ℕ × Value)) → Result Command WordsRefusal
 bind_command None = Err usage
 bind_command (Some pairs) = command_of_pairs pairs
 
--- `names` and nothing behind it
+-- `names` and nothing after it
 abbrev pub names_command : List (List ℕ) → Result Command WordsRefusal
 names_command [] = Ok names_of_query
 names_command (word ∷ words) = Err usage

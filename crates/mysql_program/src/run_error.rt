@@ -12,15 +12,15 @@ pub enum RunError {
     /// The words ask for nothing that the program does. Nothing was read or written.
     #[error("usage: names, or bind NAME=VALUE..")]
     Usage,
-    /// A name stood before among the parameters. Nothing was read or written.
+    /// A name stands twice among the parameters. Nothing was read or written.
     #[error("Redefinition of named parameter `{}'", Shown(.0.as_slice()))]
     Redefined(Vec<u8>),
     /// The query whose names were asked for has both named and positional parameters. Nothing was
     /// written.
     #[error("Named and positional params in one query")]
     Mixed,
-    /// The parameters can't be bound into the query. It is never want of memory. Nothing was
-    /// written.
+    /// The parameters can't be bound into the query. The error is never out of memory: that is
+    /// `Memory`. Nothing was written.
     #[error(transparent)]
     Bind(BindError),
     /// A read failed. Nothing was written.
@@ -29,7 +29,7 @@ pub enum RunError {
     /// A write failed, or took no byte. A beginning of the output was written.
     #[error("cannot write")]
     Write,
-    /// Memory was refused. Nothing was written.
+    /// Out of memory. Nothing was written.
     #[error("out of memory")]
     Memory(AllocError),
 }
@@ -37,8 +37,7 @@ pub enum RunError {
 impl RunError {
     ghost use Rattle.mysql_program.specs.RunErrors.{status_of};
 
-    /// The exit status of the program: 1 where a name is redefined or the query is refused, and
-    /// otherwise 2.
+    /// The exit status of the program: 1 if a name is redefined or the query is refused, otherwise 2.
     pub fn status(&self) -> u8
         ensures status { result ≡ status_of self.now }
     {

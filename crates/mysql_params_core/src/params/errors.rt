@@ -23,7 +23,7 @@ impl MissingNamedParameterError {
     }
 }
 
-/// Parameters of one kind stand where the query wants the other.
+/// Parameters of one kind were given where the query wants the other.
 #[derive(Debug, Clone, Copy, PartialEq, Eq, Hash, Error)]
 pub enum ParamsConfusionError {
     /// The query has no names, and the parameters are named.
@@ -43,13 +43,13 @@ pub enum ParamsError {
     /// The parameters are of the other kind.
     #[error(transparent)]
     Confusion(ParamsConfusionError),
-    /// Memory was refused.
+    /// Out of memory.
     #[error("out of memory")]
     Memory(AllocError),
 }
 
 impl ParamsError {
-    /// A copy of the error. Only that of a missing name takes memory, on the allocator that it
+    /// A copy of the error. Only a copy of `Missing` takes memory, on the allocator that the name
     /// holds.
     pub fn clone(&self) -> Result<ParamsError, AllocError>
         ensures equal { IfOk result (λ copy. AreEqualParamsErrors copy self.now) }
@@ -85,7 +85,7 @@ pub enum IntoPositionalError {
     /// A name of the list has no value.
     #[error(transparent)]
     Missing(MissingNamedParameterError),
-    /// Memory was refused.
+    /// Out of memory.
     #[error("out of memory")]
     Memory(AllocError),
 }
@@ -93,13 +93,13 @@ pub enum IntoPositionalError {
 /// Why things make no parameters.
 #[derive(Debug, PartialEq, Drop, Error)]
 pub enum ToParamsError {
-    /// A name stood before.
+    /// The name of a pair is that of an earlier one.
     #[error("Redefinition of named parameter `{}'", Shown(.0.as_slice()))]
     Redefined(Vec<u8>),
-    /// A thing has no value. It is never want of memory.
+    /// A thing has no value. The error is never out of memory: that is `Memory`.
     #[error(transparent)]
     Value(ToValueError),
-    /// Memory was refused.
+    /// Out of memory.
     #[error("out of memory")]
     Memory(AllocError),
 }

@@ -1,14 +1,15 @@
 //! The values of the names of a query.
-ghost use Rattle.std.specs.Prelude.{◌≡◌, ◌<◌, ◌+◌, true, length, Some, IfOk, OnErr, IsErrOf, alloc_error, ⊤};
+ghost use Rattle.std.specs.Prelude.{◌≡◌, ◌<◌, ◌+◌, [], true, length, slice_index_or, Some, IfOk, OnErr, IsErrOf, alloc_error, ⊤};
 ghost use Rattle.std.specs.List.{list_all, list_any};
 ghost use Rattle.std.specs.FinMap.{contains_key};
 ghost use Rattle.mysql_wire_part.specs.Answer.{IsAnswer};
 ghost use Rattle.mysql_params_core.specs.Errors.{lookup_refusal, absent_name};
 ghost use Rattle.mysql_params_core.specs.FirstAbsent.{IsFirstAbsent};
 ghost use Rattle.mysql_params_core.specs.Given.{given, value_map, named};
-ghost use Rattle.mysql_params_core.specs.Lookup.{lookup, positioned, values_at, LookupTakesMemory, PositionTakesMemory};
+ghost use Rattle.mysql_params_core.specs.Lookup.{lookup, positional_of, values_at, LookupTakesMemory, PositionTakesMemory};
 ghost use Rattle.mysql_params_core.specs.Names.{names_of, listed_names, missing_name};
 
+use crate::params::entries::has_name;
 use crate::params::{
     IntoPositionalError, MissingNamedParameterError, Params, ParamsConfusionError, ParamsError,
 };
@@ -16,11 +17,116 @@ use mysql_values::value::Value;
 use std::alloc::{AllocError, Global};
 use std::collections::HashMap;
 
-// Whether the name is in the map.
-pub(crate) fn has_name(entries: &HashMap<Vec<u8>, Value>, name: &[u8]) -> bool
-    ensures { result ≡ contains_key (value_map entries.now.entries) name.now }
+impl Params {
+    /// The values for the names of a query, in their order, with a repeated name's value at each
+    /// of its places. Names in the map that are not listed are ignored. `None` and an empty list
+    /// mean a query without names: it takes positional parameters as they are.
+    ///
+    /// `Missing` holds a name that has no value. Of `Empty` it is the first of the list. Of `Named`
+    /// it is the last of the list, if the places of the names in the map are exactly a beginning of
+    /// the list (which may have no place at all); otherwise it is the first that isn't in the map.
+    /// `Confusion` is for positional parameters and a list with names, and for named parameters (of
+    /// an empty map too) and a query without names. `Memory` is returned only for a list with names,
+    /// of `Named` or `Empty`. The parameters are consumed even if the call refuses.
+    pub fn into_values(
+        self,
+        alloc: Global,
+        named_params: Option<&[Vec<u8>]>,
+    ) -> Result<Vec<Value>, ParamsError>
+        ensures values { IsAnswer (λ values. values.items) lookup_refusal
+            (lookup (given self) (listed_names named_params.entry)) ⊤ result }
+        ensures memory { IsErrOf result (ParamsError.Memory alloc_error) →
+            LookupTakesMemory (given self) (listed_names named_params.entry) }
+    {
+        let names = named_params.unwrap_or(&[]);
+        match self {
+            Params::Empty => match names.first() {
+                None => Ok(Vec::new(alloc)),
+                Some(name) => {
+                    let error = missing_error(alloc, name.as_slice()).map_err(ParamsError::Memory)?;
+                    Err(ParamsError::Missing(error))
+                }
+            },
+            Params::Positional(values) => {
+                if names.is_empty() {
+                    Ok(values)
+                } else {
+                    Err(ParamsError::Confusion(ParamsConfusionError::PositionalParamsForNamedQuery))
+                }
+            }
+            Params::Named(entries) => {
+                if names.is_empty() {
+                    Err(ParamsError::Confusion(ParamsConfusionError::NamedParamsForPositionalQuery))
+                } else {
+                    named_values(alloc, entries, names)
+                }
+            }
+        }
+    }
+
+    /// The same parameters by position: of named ones the values for the names, in their order, or
+    /// the first name that has no value. Others are returned unchanged. The parameters are consumed
+    /// even if the call refuses.
+    pub fn into_positional(
+        self,
+        alloc: Global,
+        named_params: &[Vec<u8>],
+    ) -> Result<Params, IntoPositionalError>
+        ensures positional { IsAnswer given absent_name
+            (positional_of (given self) (names_of named_params.now)) ⊤ result }
+        ensures memory { IsErrOf result (IntoPositionalError.Memory alloc_error) →
+            PositionTakesMemory (given self) (names_of named_params.now) }
+    {
+        match self {
+            Params::Named(entries) => named_positional(alloc, entries, named_params),
+            params => Ok(params),
+        }
+    }
+}
+
+// What named parameters give to a list with names.
+fn named_values(
+    alloc: Global,
+    entries: HashMap<Vec<u8>, Value>,
+    names: &[Vec<u8>],
+) -> Result<Vec<Value>, ParamsError>
+    requires { 0 < length names.now }
+    ensures { IsAnswer (λ values. values.items) lookup_refusal
+        (lookup (named (value_map entries.entries)) (names_of names.now)) ⊤ result }
 {
-    entries.contains_key(name)
+    match first_absent(&entries, names) {
+        None => take_values(alloc, entries, names).map_err(ParamsError::Memory),
+        Some(first) => {
+            let place = reported_place(&entries, names, first);
+            match missing_error(alloc, names[place].as_slice()) {
+                Ok(error) => Err(ParamsError::Missing(error)),
+                Err(error) => Err(ParamsError::Memory(error)),
+            }
+        }
+    }
+}
+
+// What named parameters are by position.
+fn named_positional(
+    alloc: Global,
+    entries: HashMap<Vec<u8>, Value>,
+    names: &[Vec<u8>],
+) -> Result<Params, IntoPositionalError>
+    ensures positional { IsAnswer given absent_name
+        (positional_of (named (value_map entries.entries)) (names_of names.now)) ⊤ result }
+    ensures memory { IsErrOf result (IntoPositionalError.Memory alloc_error) →
+        0 < length names.now }
+{
+    match first_absent(&entries, names) {
+        None => match take_values(alloc, entries, names) {
+            Ok(values) => Ok(Params::Positional(values)),
+            Err(error) => Err(IntoPositionalError::Memory(error)),
+        },
+        Some(first) => match missing_error(alloc, names[first].as_slice()) {
+            Ok(error) => Err(IntoPositionalError::Missing(error)),
+            Err(error) => Err(IntoPositionalError::Memory(error)),
+        },
+    }
 }
 
 // The place of the first name that is not in the map.
@@ -35,6 +141,21 @@ fn first_absent(entries: &HashMap<Vec<u8>, Value>, names: &[Vec<u8>]) -> Option<
     None
 }
 
+// The place of the name that is reported as missing, where `first` is that of the first that is
+// not in the map.
+fn reported_place(entries: &HashMap<Vec<u8>, Value>, names: &[Vec<u8>], first: usize) -> usize
+    requires { IsFirstAbsent (value_map entries.now.entries) (names_of names.now) (Some first) }
+    ensures within { result < length names.now }
+    ensures reported { slice_index_or (names_of names.now) result []
+        ≡ missing_name (value_map entries.now.entries) (names_of names.now) }
+{
+    if has_any(entries, &names[first + 1..]) {
+        first
+    } else {
+        names.len() - 1
+    }
+}
+
 // Whether any of the names is in the map.
 fn has_any(entries: &HashMap<Vec<u8>, Value>, names: &[Vec<u8>]) -> bool
     ensures { result ≡ list_any (λ name. contains_key (value_map entries.now.entries) name.items)
@@ -43,21 +164,9 @@ fn has_any(entries: &HashMap<Vec<u8>, Value>, names: &[Vec<u8>]) -> bool
     names.iter().any(|name| has_name(entries, name.as_slice()))
 }
 
-// The name that is reported as missing, where the first that is not in the map stands at `first`.
-fn reported<'a>(entries: &HashMap<Vec<u8>, Value>, names: &'a [Vec<u8>], first: usize) -> &'a [u8]
-    requires { IsFirstAbsent (value_map entries.now.entries) (names_of names.now) (Some first) }
-    ensures { result.now ≡ missing_name (value_map entries.now.entries) (names_of names.now) }
-{
-    if has_any(entries, &names[first + 1..]) {
-        names[first].as_slice()
-    } else {
-        names[names.len() - 1].as_slice()
-    }
-}
-
-// The values of the names, all of which are in the map. A value is moved out of the map at its
-// name's first place, and copied for each later one. By the names that were taken out with the
-// values, `places` finds where these stand, so that no name is copied and no list is searched.
+// The values of the names, all of which are in the map. At its name's first place a value is moved
+// out of the map, together with the key; at each later place it is copied. `places` holds the keys
+// that were moved out and where their values stand, so that no name is copied and no list searched.
 fn take_values(
     alloc: Global,
     entries: HashMap<Vec<u8>, Value>,
@@ -89,121 +198,9 @@ fn take_values(
 }
 
 // The error of a name that is missing.
-fn missing(alloc: Global, name: &[u8]) -> Result<MissingNamedParameterError, AllocError>
+fn missing_error(alloc: Global, name: &[u8]) -> Result<MissingNamedParameterError, AllocError>
     ensures { IfOk result (λ error. error.0.items ≡ name.now) }
 {
     let name = Vec::from_slice(alloc, name)?;
     Ok(MissingNamedParameterError(name))
-}
-
-// What named parameters give to a list with names.
-fn named_values(
-    alloc: Global,
-    entries: HashMap<Vec<u8>, Value>,
-    names: &[Vec<u8>],
-) -> Result<Vec<Value>, ParamsError>
-    requires { 0 < length names.now }
-    ensures { IsAnswer (λ values. values.items) lookup_refusal
-        (lookup (named (value_map entries.entries)) (names_of names.now)) ⊤ result }
-{
-    match first_absent(&entries, names) {
-        None => match take_values(alloc, entries, names) {
-            Ok(values) => Ok(values),
-            Err(error) => Err(ParamsError::Memory(error)),
-        },
-        Some(first) => match missing(alloc, reported(&entries, names, first)) {
-            Ok(error) => Err(ParamsError::Missing(error)),
-            Err(error) => Err(ParamsError::Memory(error)),
-        },
-    }
-}
-
-// What named parameters are by position.
-fn named_positional(
-    alloc: Global,
-    entries: HashMap<Vec<u8>, Value>,
-    names: &[Vec<u8>],
-) -> Result<Params, IntoPositionalError>
-    ensures positioned { IsAnswer given absent_name
-        (positioned (named (value_map entries.entries)) (names_of names.now)) ⊤ result }
-    ensures memory { IsErrOf result (IntoPositionalError.Memory alloc_error) →
-        0 < length names.now }
-{
-    match first_absent(&entries, names) {
-        None => match take_values(alloc, entries, names) {
-            Ok(values) => Ok(Params::Positional(values)),
-            Err(error) => Err(IntoPositionalError::Memory(error)),
-        },
-        Some(first) => match missing(alloc, names[first].as_slice()) {
-            Ok(error) => Err(IntoPositionalError::Missing(error)),
-            Err(error) => Err(IntoPositionalError::Memory(error)),
-        },
-    }
-}
-
-impl Params {
-    /// The values for the names of a query, in their order, with a repeated name's value at each
-    /// of its places. Names in the map that are not listed are ignored. `None` and an empty list
-    /// mean a query without names: it takes positional parameters as they are.
-    ///
-    /// `Missing` holds a name that has no value: of `Empty` the first of the list; of `Named`,
-    /// where the places of the names in the map are exactly a beginning of the list (no place at all is
-    /// one too), the last of the list, and else the first that isn't in the map. `Confusion` is for
-    /// positional parameters and a list with names, and for named ones, of an empty map too, and
-    /// none. `Memory` is answered only for a list with names, of `Named` or `Empty`. The parameters
-    /// are consumed, also where the call refuses.
-    pub fn into_values(
-        self,
-        alloc: Global,
-        named_params: Option<&[Vec<u8>]>,
-    ) -> Result<Vec<Value>, ParamsError>
-        ensures values { IsAnswer (λ values. values.items) lookup_refusal
-            (lookup (given self) (listed_names named_params.entry)) ⊤ result }
-        ensures memory { IsErrOf result (ParamsError.Memory alloc_error) →
-            LookupTakesMemory (given self) (listed_names named_params.entry) }
-    {
-        let names = named_params.unwrap_or(&[]);
-        match self {
-            Params::Empty => match names.first() {
-                None => Ok(Vec::new(alloc)),
-                Some(name) => match missing(alloc, name.as_slice()) {
-                    Ok(error) => Err(ParamsError::Missing(error)),
-                    Err(error) => Err(ParamsError::Memory(error)),
-                },
-            },
-            Params::Positional(values) => {
-                if names.is_empty() {
-                    Ok(values)
-                } else {
-                    Err(ParamsError::Confusion(ParamsConfusionError::PositionalParamsForNamedQuery))
-                }
-            }
-            Params::Named(entries) => {
-                if names.is_empty() {
-                    Err(ParamsError::Confusion(ParamsConfusionError::NamedParamsForPositionalQuery))
-                } else {
-                    named_values(alloc, entries, names)
-                }
-            }
-        }
-    }
-
-    /// The same parameters by position: of named ones the values for the names, in their order, or
-    /// the first name that has none. Others come back unchanged. The parameters are consumed, also
-    /// where the call refuses.
-    pub fn into_positional(
-        self,
-        alloc: Global,
-        named_params: &[Vec<u8>],
-    ) -> Result<Params, IntoPositionalError>
-        ensures positioned { IsAnswer given absent_name
-            (positioned (given self) (names_of named_params.now)) ⊤ result }
-        ensures memory { IsErrOf result (IntoPositionalError.Memory alloc_error) →
-            PositionTakesMemory (given self) (names_of named_params.now) }
-    {
-        match self {
-            Params::Named(entries) => named_positional(alloc, entries, named_params),
-            params => Ok(params),
-        }
-    }
 }

@@ -7,7 +7,7 @@ ghost use Rattle.mysql_params_core.specs.Errors.{maker_refusal};
 ghost use Rattle.mysql_params_core.specs.Given.{given, value_map};
 ghost use Rattle.mysql_params_core.specs.Made.{pairs_made, redefined, with_new, with_pair};
 
-use crate::params::lookup::has_name;
+use crate::params::entries::has_name;
 use crate::params::{Params, ToParamsError};
 use mysql_values::value::Value;
 use mysql_values::value::convert::{ToValue, ToValueError};
@@ -56,8 +56,94 @@ impl ToName for String {
     }
 }
 
-// Puts a value under a new name, for a thing that means this.
-fn put_new(
+impl Params {
+    /// Named parameters of pairs, taken in order. A pair with the name of an earlier pair is refused
+    /// as `Redefined` with that name, and its thing isn't asked for its value; a thing that has no
+    /// value is refused as `Value`. The first refusal ends it. No pairs make an empty map.
+    pub fn from_pairs<N: ToName, V: ToValue>(
+        alloc: Global,
+        pairs: &[(N, V)],
+    ) -> Result<Params, ToParamsError>
+        ensures made { IsAnswer given maker_refusal
+            (pairs_made (map (λ pair. (N.name pair.0, V.value_of pair.1)) pairs.now)) ⊤ result }
+        ensures value { IfErr result (λ error.
+            error ≢ ToParamsError.Value (to_value.Memory alloc_error)) }
+    {
+        let mut entries = HashMap::new(alloc);
+        for pair in pairs {
+            insert_pair(alloc, &mut entries, pair.0.name_bytes(), &pair.1)?;
+        }
+        Ok(Params::Named(entries))
+    }
+
+    /// The same of things of several types, by what each names as its value.
+    pub fn from_objects(
+        alloc: Global,
+        pairs: &[(&[u8], &dyn ToValue)],
+    ) -> Result<Params, ToParamsError>
+        ensures made { IsAnswer given maker_refusal
+            (pairs_made (map (λ pair. (pair.0.now, value_of pair.1.now)) pairs.now)) ⊤ result }
+        ensures value { IfErr result (λ error.
+            error ≢ ToParamsError.Value (to_value.Memory alloc_error)) }
+    {
+        let mut entries = HashMap::new(alloc);
+        for pair in pairs {
+            insert_object_pair(alloc, &mut entries, pair.0, pair.1)?;
+        }
+        Ok(Params::Named(entries))
+    }
+}
+
+// Inserts the value of a thing under its name, which may not be in the map yet.
+fn insert_pair<V: ToValue>(
+    alloc: Global,
+    entries: &mut HashMap<Vec<u8>, Value>,
+    name: &[u8],
+    thing: &V,
+) -> Result<(), ToParamsError>
+    ensures made { IsAnswer (λ _. value_map entries.new.entries) maker_refusal
+        (with_pair (Ok (value_map entries.old.entries)) (name.now, V.value_of thing.now)) ⊤ result }
+    ensures value { IfErr result (λ error.
+        error ≢ ToParamsError.Value (to_value.Memory alloc_error)) }
+{
+    if has_name(entries, name) {
+        return Err(redefined_error(alloc, name));
+    }
+    insert_new(alloc, entries, name, thing.to_value(alloc))
+}
+
+// The same for an object, through its interface alone.
+fn insert_object_pair(
+    alloc: Global,
+    entries: &mut HashMap<Vec<u8>, Value>,
+    name: &[u8],
+    object: &dyn ToValue,
+) -> Result<(), ToParamsError>
+    ensures made { IsAnswer (λ _. value_map entries.new.entries) maker_refusal
+        (with_pair (Ok (value_map entries.old.entries)) (name.now, value_of object.now)) ⊤ result }
+    ensures value { IfErr result (λ error.
+        error ≢ ToParamsError.Value (to_value.Memory alloc_error)) }
+{
+    if has_name(entries, name) {
+        return Err(redefined_error(alloc, name));
+    }
+    insert_new(alloc, entries, name, object.to_value(alloc))
+}
+
+// The refusal of a name that is already in the map, or out of memory.
+fn redefined_error(alloc: Global, name: &[u8]) -> ToParamsError
+    ensures refused { (maker_refusal result ≡ None)
+        ⊎ (maker_refusal result ≡ Some (redefined name.now)) }
+    ensures value { result ≢ ToParamsError.Value (to_value.Memory alloc_error) }
+{
+    match Vec::from_slice(alloc, name) {
+        Ok(name) => ToParamsError::Redefined(name),
+        Err(error) => ToParamsError::Memory(error),
+    }
+}
+
+// Inserts under a new name what a thing returned as its value. A caller says what the thing means.
+fn insert_new(
     alloc: Global,
     entries: &mut HashMap<Vec<u8>, Value>,
     name: &[u8],
@@ -84,91 +170,5 @@ fn put_new(
     match entries.insert(name, value) {
         Ok(_) => Ok(()),
         Err(_) => Err(ToParamsError::Memory(AllocError)),
-    }
-}
-
-// The refusal of a name that stood before.
-fn redefined(alloc: Global, name: &[u8]) -> ToParamsError
-    ensures refused { (maker_refusal result ≡ None)
-        ⊎ (maker_refusal result ≡ Some (redefined name.now)) }
-    ensures value { result ≢ ToParamsError.Value (to_value.Memory alloc_error) }
-{
-    match Vec::from_slice(alloc, name) {
-        Ok(name) => ToParamsError::Redefined(name),
-        Err(error) => ToParamsError::Memory(error),
-    }
-}
-
-// Puts the value of a thing under a new name.
-fn put_pair<V: ToValue>(
-    alloc: Global,
-    entries: &mut HashMap<Vec<u8>, Value>,
-    name: &[u8],
-    thing: &V,
-) -> Result<(), ToParamsError>
-    ensures made { IsAnswer (λ _. value_map entries.new.entries) maker_refusal
-        (with_pair (Ok (value_map entries.old.entries)) (name.now, V.value_of thing.now)) ⊤ result }
-    ensures value { IfErr result (λ error.
-        error ≢ ToParamsError.Value (to_value.Memory alloc_error)) }
-{
-    if has_name(entries, name) {
-        return Err(redefined(alloc, name));
-    }
-    put_new(alloc, entries, name, thing.to_value(alloc))
-}
-
-// The same for an object, through its interface alone.
-fn put_named_object(
-    alloc: Global,
-    entries: &mut HashMap<Vec<u8>, Value>,
-    name: &[u8],
-    object: &dyn ToValue,
-) -> Result<(), ToParamsError>
-    ensures made { IsAnswer (λ _. value_map entries.new.entries) maker_refusal
-        (with_pair (Ok (value_map entries.old.entries)) (name.now, value_of object.now)) ⊤ result }
-    ensures value { IfErr result (λ error.
-        error ≢ ToParamsError.Value (to_value.Memory alloc_error)) }
-{
-    if has_name(entries, name) {
-        return Err(redefined(alloc, name));
-    }
-    put_new(alloc, entries, name, object.to_value(alloc))
-}
-
-impl Params {
-    /// Named parameters of pairs, taken in order. A pair whose name stood before is refused as
-    /// `Redefined` with that name, and its thing isn't asked for its value; else the first thing
-    /// that has no value is refused. No pairs make an empty map.
-    pub fn from_pairs<N: ToName, V: ToValue>(
-        alloc: Global,
-        pairs: &[(N, V)],
-    ) -> Result<Params, ToParamsError>
-        ensures made { IsAnswer given maker_refusal
-            (pairs_made (map (λ pair. (N.name pair.0, V.value_of pair.1)) pairs.now)) ⊤ result }
-        ensures value { IfErr result (λ error.
-            error ≢ ToParamsError.Value (to_value.Memory alloc_error)) }
-    {
-        let mut entries = HashMap::new(alloc);
-        for pair in pairs {
-            put_pair(alloc, &mut entries, pair.0.name_bytes(), &pair.1)?;
-        }
-        Ok(Params::Named(entries))
-    }
-
-    /// The same of things of several types, each by what it names as its value.
-    pub fn from_objects(
-        alloc: Global,
-        pairs: &[(&[u8], &dyn ToValue)],
-    ) -> Result<Params, ToParamsError>
-        ensures made { IsAnswer given maker_refusal
-            (pairs_made (map (λ pair. (pair.0.now, value_of pair.1.now)) pairs.now)) ⊤ result }
-        ensures value { IfErr result (λ error.
-            error ≢ ToParamsError.Value (to_value.Memory alloc_error)) }
-    {
-        let mut entries = HashMap::new(alloc);
-        for pair in pairs {
-            put_named_object(alloc, &mut entries, pair.0, pair.1)?;
-        }
-        Ok(Params::Named(entries))
     }
 }

@@ -5,21 +5,15 @@ use mysql_values::value::Value;
 use std::collections::HashMap;
 use std::fmt;
 
-// The entry with the least name above the one given, or with the least of all.
-fn next_entry<'a>(
-    entries: &'a HashMap<Vec<u8>, Value>,
-    after: Option<&[u8]>,
-) -> Option<(&'a [u8], &'a Value)> {
-    let mut next: Option<(&[u8], &Value)> = None;
-    for (name, value) in entries {
-        let name = name.as_slice();
-        let is_later = after.is_none_or(|after| after < name);
-        let is_before = next.is_none_or(|(least, _)| name < least);
-        if is_later && is_before {
-            next = Some((name, value));
+/// The variant, and the values by position or in the order of the names' bytes.
+impl fmt::Debug for Params {
+    fn fmt<W: fmt::Write>(&self, f: &mut fmt::Formatter<W>) -> fmt::Result {
+        match self {
+            Params::Empty => write!(f, "Empty"),
+            Params::Named(entries) => show_entries(f, entries),
+            Params::Positional(values) => write!(f, "Positional({values:?})"),
         }
     }
-    next
 }
 
 // The entries in the order of the names' bytes, found one by one.
@@ -42,13 +36,19 @@ fn show_entries<W: fmt::Write>(
     write!(f, "}})")
 }
 
-/// The variant, and the values by position or in the order of the names' bytes.
-impl fmt::Debug for Params {
-    fn fmt<W: fmt::Write>(&self, f: &mut fmt::Formatter<W>) -> fmt::Result {
-        match self {
-            Params::Empty => write!(f, "Empty"),
-            Params::Named(entries) => show_entries(f, entries),
-            Params::Positional(values) => write!(f, "Positional({values:?})"),
+// The entry with the least name above `after`, or the entry with the least name of all.
+fn next_entry<'a>(
+    entries: &'a HashMap<Vec<u8>, Value>,
+    after: Option<&[u8]>,
+) -> Option<(&'a [u8], &'a Value)> {
+    let mut next: Option<(&[u8], &Value)> = None;
+    for (name, value) in entries {
+        let name = name.as_slice();
+        let is_later = after.is_none_or(|after| after < name);
+        let is_before = next.is_none_or(|(least, _)| name < least);
+        if is_later && is_before {
+            next = Some((name, value));
         }
     }
+    next
 }

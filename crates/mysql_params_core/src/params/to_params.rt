@@ -28,93 +28,6 @@ pub trait ToParams {
             error ≢ ToParamsError.Value (to_value.Memory alloc_error)) };
 }
 
-// Puts a value behind the values so far, for a thing that means this.
-fn put_answer(
-    values: &mut Vec<Value>,
-    answer: Result<Value, ToValueError>,
-) -> Result<(), ToParamsError>
-    ensures made { (meaning : Meaning) →
-        IsAnswer (λ value. value) too_long_duration meaning (MeansBytes meaning) answer →
-        IsAnswer (λ _. values.new.items) maker_refusal
-        (with_value (Ok values.old.items) meaning) ⊤ result }
-    ensures value { IfErr result (λ error.
-        error ≢ ToParamsError.Value (to_value.Memory alloc_error)) }
-{
-    match answer {
-        Ok(value) => match values.push(value) {
-            Ok(()) => Ok(()),
-            Err(_) => Err(ToParamsError::Memory(AllocError)),
-        },
-        Err(ToValueError::Memory(error)) => Err(ToParamsError::Memory(error)),
-        Err(ToValueError::DurationTooLong(duration)) => {
-            Err(ToParamsError::Value(ToValueError::DurationTooLong(duration)))
-        }
-    }
-}
-
-// Puts the value of a thing behind the values so far.
-pub(crate) fn put<T: ToValue>(
-    alloc: Global,
-    values: &mut Vec<Value>,
-    thing: &T,
-) -> Result<(), ToParamsError>
-    ensures made { IsAnswer (λ _. values.new.items) maker_refusal
-        (with_value (Ok values.old.items) (T.value_of thing.now)) ⊤ result }
-    ensures value { IfErr result (λ error.
-        error ≢ ToParamsError.Value (to_value.Memory alloc_error)) }
-{
-    put_answer(values, thing.to_value(alloc))
-}
-
-// The same for an object, through its interface alone.
-fn put_object(
-    alloc: Global,
-    values: &mut Vec<Value>,
-    object: &dyn ToValue,
-) -> Result<(), ToParamsError>
-    ensures made { IsAnswer (λ _. values.new.items) maker_refusal
-        (with_value (Ok values.old.items) (value_of object.now)) ⊤ result }
-    ensures value { IfErr result (λ error.
-        error ≢ ToParamsError.Value (to_value.Memory alloc_error)) }
-{
-    put_answer(values, object.to_value(alloc))
-}
-
-// What a list of things makes.
-fn list_params<T: ToValue>(alloc: Global, things: &[T]) -> Result<Params, ToParamsError>
-    ensures made { IsAnswer given maker_refusal (list_made (map T.value_of things.now)) ⊤ result }
-    ensures memory { IsErrOf result (ToParamsError.Memory alloc_error) → things.now ≢ [] }
-    ensures value { IfErr result (λ error.
-        error ≢ ToParamsError.Value (to_value.Memory alloc_error)) }
-{
-    if things.is_empty() {
-        return Ok(Params::Empty);
-    }
-    let mut values = Vec::new(alloc);
-    for thing in things {
-        put(alloc, &mut values, thing)?;
-    }
-    Ok(Params::Positional(values))
-}
-
-// The same for objects, through the interface of each alone.
-fn object_params(alloc: Global, objects: &[&dyn ToValue]) -> Result<Params, ToParamsError>
-    ensures made { IsAnswer given maker_refusal
-        (list_made (map (λ object. value_of object.now) objects.now)) ⊤ result }
-    ensures memory { IsErrOf result (ToParamsError.Memory alloc_error) → objects.now ≢ [] }
-    ensures value { IfErr result (λ error.
-        error ≢ ToParamsError.Value (to_value.Memory alloc_error)) }
-{
-    if objects.is_empty() {
-        return Ok(Params::Empty);
-    }
-    let mut values = Vec::new(alloc);
-    for object in objects {
-        put_object(alloc, &mut values, *object)?;
-    }
-    Ok(Params::Positional(values))
-}
-
 impl ToParams for () {
     ghost made = { λ _. Ok empty };
 
@@ -132,10 +45,7 @@ impl ToParams for Params {
     ghost takes_memory = { λ params. given params ≢ empty };
 
     fn to_params(&self, _alloc: Global) -> Result<Params, ToParamsError> {
-        match Params::clone(self) {
-            Ok(params) => Ok(params),
-            Err(error) => Err(ToParamsError::Memory(error)),
-        }
+        Params::clone(self).map_err(ToParamsError::Memory)
     }
 }
 
@@ -160,7 +70,7 @@ impl<T: ToValue> ToParams for Vec<T> {
 }
 
 impl ToParams for &[&dyn ToValue] {
-    // What each object names as its value. A function's clause says `value_of thing.now`, as that
+    // What each object names as its value. A function's clause writes `value_of thing.now`, as that
     // of `object_params` does; an implementation has to write it out.
     ghost made = { λ things.
         list_made (map (λ thing. (ToValue-dyn thing.now).value_of thing.now.1) things.now) };
@@ -169,5 +79,92 @@ impl ToParams for &[&dyn ToValue] {
 
     fn to_params(&self, alloc: Global) -> Result<Params, ToParamsError> {
         object_params(alloc, *self)
+    }
+}
+
+// What a list of things makes.
+fn list_params<T: ToValue>(alloc: Global, things: &[T]) -> Result<Params, ToParamsError>
+    ensures made { IsAnswer given maker_refusal (list_made (map T.value_of things.now)) ⊤ result }
+    ensures memory { IsErrOf result (ToParamsError.Memory alloc_error) → things.now ≢ [] }
+    ensures value { IfErr result (λ error.
+        error ≢ ToParamsError.Value (to_value.Memory alloc_error)) }
+{
+    if things.is_empty() {
+        return Ok(Params::Empty);
+    }
+    let mut values = Vec::new(alloc);
+    for thing in things {
+        append_value(alloc, &mut values, thing)?;
+    }
+    Ok(Params::Positional(values))
+}
+
+// The same for objects, through the interface of each alone.
+fn object_params(alloc: Global, objects: &[&dyn ToValue]) -> Result<Params, ToParamsError>
+    ensures made { IsAnswer given maker_refusal
+        (list_made (map (λ object. value_of object.now) objects.now)) ⊤ result }
+    ensures memory { IsErrOf result (ToParamsError.Memory alloc_error) → objects.now ≢ [] }
+    ensures value { IfErr result (λ error.
+        error ≢ ToParamsError.Value (to_value.Memory alloc_error)) }
+{
+    if objects.is_empty() {
+        return Ok(Params::Empty);
+    }
+    let mut values = Vec::new(alloc);
+    for object in objects {
+        append_object_value(alloc, &mut values, *object)?;
+    }
+    Ok(Params::Positional(values))
+}
+
+// Appends the value of a thing.
+pub(crate) fn append_value<T: ToValue>(
+    alloc: Global,
+    values: &mut Vec<Value>,
+    thing: &T,
+) -> Result<(), ToParamsError>
+    ensures made { IsAnswer (λ _. values.new.items) maker_refusal
+        (with_value (Ok values.old.items) (T.value_of thing.now)) ⊤ result }
+    ensures value { IfErr result (λ error.
+        error ≢ ToParamsError.Value (to_value.Memory alloc_error)) }
+{
+    append_answer(values, thing.to_value(alloc))
+}
+
+// The same for an object, through its interface alone.
+fn append_object_value(
+    alloc: Global,
+    values: &mut Vec<Value>,
+    object: &dyn ToValue,
+) -> Result<(), ToParamsError>
+    ensures made { IsAnswer (λ _. values.new.items) maker_refusal
+        (with_value (Ok values.old.items) (value_of object.now)) ⊤ result }
+    ensures value { IfErr result (λ error.
+        error ≢ ToParamsError.Value (to_value.Memory alloc_error)) }
+{
+    append_answer(values, object.to_value(alloc))
+}
+
+// Appends what a thing returned as its value. A caller says what the thing means.
+fn append_answer(
+    values: &mut Vec<Value>,
+    answer: Result<Value, ToValueError>,
+) -> Result<(), ToParamsError>
+    ensures made { (meaning : Meaning) →
+        IsAnswer (λ value. value) too_long_duration meaning (MeansBytes meaning) answer →
+        IsAnswer (λ _. values.new.items) maker_refusal
+        (with_value (Ok values.old.items) meaning) ⊤ result }
+    ensures value { IfErr result (λ error.
+        error ≢ ToParamsError.Value (to_value.Memory alloc_error)) }
+{
+    match answer {
+        Ok(value) => match values.push(value) {
+            Ok(()) => Ok(()),
+            Err(_) => Err(ToParamsError::Memory(AllocError)),
+        },
+        Err(ToValueError::Memory(error)) => Err(ToParamsError::Memory(error)),
+        Err(ToValueError::DurationTooLong(duration)) => {
+            Err(ToParamsError::Value(ToValueError::DurationTooLong(duration)))
+        }
     }
 }

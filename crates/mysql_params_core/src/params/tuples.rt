@@ -2,7 +2,7 @@
 ghost use Rattle.std.specs.Prelude.{◌∷◌, [], ⊤};
 ghost use Rattle.mysql_params_core.specs.Made.{list_made};
 
-use crate::params::to_params::put;
+use crate::params::to_params::append_value;
 use crate::params::{Params, ToParams, ToParamsError};
 use mysql_values::value::convert::ToValue;
 use std::alloc::Global;
@@ -14,7 +14,7 @@ impl<A: ToValue> ToParams for (A,) {
 
     fn to_params(&self, alloc: Global) -> Result<Params, ToParamsError> {
         let mut values = Vec::new(alloc);
-        put(alloc, &mut values, &self.0)?;
+        append_value(alloc, &mut values, &self.0)?;
         Ok(Params::Positional(values))
     }
 }
@@ -26,8 +26,8 @@ impl<A: ToValue, B: ToValue> ToParams for (A, B) {
 
     fn to_params(&self, alloc: Global) -> Result<Params, ToParamsError> {
         let mut values = Vec::new(alloc);
-        put(alloc, &mut values, &self.0)?;
-        put(alloc, &mut values, &self.1)?;
+        append_value(alloc, &mut values, &self.0)?;
+        append_value(alloc, &mut values, &self.1)?;
         Ok(Params::Positional(values))
     }
 }
@@ -40,9 +40,9 @@ impl<A: ToValue, B: ToValue, C: ToValue> ToParams for (A, B, C) {
 
     fn to_params(&self, alloc: Global) -> Result<Params, ToParamsError> {
         let mut values = Vec::new(alloc);
-        put(alloc, &mut values, &self.0)?;
-        put(alloc, &mut values, &self.1)?;
-        put(alloc, &mut values, &self.2)?;
+        append_value(alloc, &mut values, &self.0)?;
+        append_value(alloc, &mut values, &self.1)?;
+        append_value(alloc, &mut values, &self.2)?;
         Ok(Params::Positional(values))
     }
 }
@@ -55,10 +55,10 @@ impl<A: ToValue, B: ToValue, C: ToValue, D: ToValue> ToParams for (A, B, C, D) {
 
     fn to_params(&self, alloc: Global) -> Result<Params, ToParamsError> {
         let mut values = Vec::new(alloc);
-        put(alloc, &mut values, &self.0)?;
-        put(alloc, &mut values, &self.1)?;
-        put(alloc, &mut values, &self.2)?;
-        put(alloc, &mut values, &self.3)?;
+        append_value(alloc, &mut values, &self.0)?;
+        append_value(alloc, &mut values, &self.1)?;
+        append_value(alloc, &mut values, &self.2)?;
+        append_value(alloc, &mut values, &self.3)?;
         Ok(Params::Positional(values))
     }
 }
@@ -72,11 +72,11 @@ impl<A: ToValue, B: ToValue, C: ToValue, D: ToValue, E: ToValue> ToParams for (A
 
     fn to_params(&self, alloc: Global) -> Result<Params, ToParamsError> {
         let mut values = Vec::new(alloc);
-        put(alloc, &mut values, &self.0)?;
-        put(alloc, &mut values, &self.1)?;
-        put(alloc, &mut values, &self.2)?;
-        put(alloc, &mut values, &self.3)?;
-        put(alloc, &mut values, &self.4)?;
+        append_value(alloc, &mut values, &self.0)?;
+        append_value(alloc, &mut values, &self.1)?;
+        append_value(alloc, &mut values, &self.2)?;
+        append_value(alloc, &mut values, &self.3)?;
+        append_value(alloc, &mut values, &self.4)?;
         Ok(Params::Positional(values))
     }
 }
@@ -91,12 +91,12 @@ impl<A: ToValue, B: ToValue, C: ToValue, D: ToValue, E: ToValue, F: ToValue> ToP
 
     fn to_params(&self, alloc: Global) -> Result<Params, ToParamsError> {
         let mut values = Vec::new(alloc);
-        put(alloc, &mut values, &self.0)?;
-        put(alloc, &mut values, &self.1)?;
-        put(alloc, &mut values, &self.2)?;
-        put(alloc, &mut values, &self.3)?;
-        put(alloc, &mut values, &self.4)?;
-        put(alloc, &mut values, &self.5)?;
+        append_value(alloc, &mut values, &self.0)?;
+        append_value(alloc, &mut values, &self.1)?;
+        append_value(alloc, &mut values, &self.2)?;
+        append_value(alloc, &mut values, &self.3)?;
+        append_value(alloc, &mut values, &self.4)?;
+        append_value(alloc, &mut values, &self.5)?;
         Ok(Params::Positional(values))
     }
 }
@@ -112,13 +112,13 @@ impl<A: ToValue, B: ToValue, C: ToValue, D: ToValue, E: ToValue, F: ToValue, G: 
 
     fn to_params(&self, alloc: Global) -> Result<Params, ToParamsError> {
         let mut values = Vec::new(alloc);
-        put(alloc, &mut values, &self.0)?;
-        put(alloc, &mut values, &self.1)?;
-        put(alloc, &mut values, &self.2)?;
-        put(alloc, &mut values, &self.3)?;
-        put(alloc, &mut values, &self.4)?;
-        put(alloc, &mut values, &self.5)?;
-        put(alloc, &mut values, &self.6)?;
+        append_value(alloc, &mut values, &self.0)?;
+        append_value(alloc, &mut values, &self.1)?;
+        append_value(alloc, &mut values, &self.2)?;
+        append_value(alloc, &mut values, &self.3)?;
+        append_value(alloc, &mut values, &self.4)?;
+        append_value(alloc, &mut values, &self.5)?;
+        append_value(alloc, &mut values, &self.6)?;
         Ok(Params::Positional(values))
     }
 }
@@ -142,14 +142,14 @@ impl<
 
     fn to_params(&self, alloc: Global) -> Result<Params, ToParamsError> {
         let mut values = Vec::new(alloc);
-        put(alloc, &mut values, &self.0)?;
-        put(alloc, &mut values, &self.1)?;
-        put(alloc, &mut values, &self.2)?;
-        put(alloc, &mut values, &self.3)?;
-        put(alloc, &mut values, &self.4)?;
-        put(alloc, &mut values, &self.5)?;
-        put(alloc, &mut values, &self.6)?;
-        put(alloc, &mut values, &self.7)?;
+        append_value(alloc, &mut values, &self.0)?;
+        append_value(alloc, &mut values, &self.1)?;
+        append_value(alloc, &mut values, &self.2)?;
+        append_value(alloc, &mut values, &self.3)?;
+        append_value(alloc, &mut values, &self.4)?;
+        append_value(alloc, &mut values, &self.5)?;
+        append_value(alloc, &mut values, &self.6)?;
+        append_value(alloc, &mut values, &self.7)?;
         Ok(Params::Positional(values))
     }
 }
@@ -175,15 +175,15 @@ impl<
 
     fn to_params(&self, alloc: Global) -> Result<Params, ToParamsError> {
         let mut values = Vec::new(alloc);
-        put(alloc, &mut values, &self.0)?;
-        put(alloc, &mut values, &self.1)?;
-        put(alloc, &mut values, &self.2)?;
-        put(alloc, &mut values, &self.3)?;
-        put(alloc, &mut values, &self.4)?;
-        put(alloc, &mut values, &self.5)?;
-        put(alloc, &mut values, &self.6)?;
-        put(alloc, &mut values, &self.7)?;
-        put(alloc, &mut values, &self.8)?;
+        append_value(alloc, &mut values, &self.0)?;
+        append_value(alloc, &mut values, &self.1)?;
+        append_value(alloc, &mut values, &self.2)?;
+        append_value(alloc, &mut values, &self.3)?;
+        append_value(alloc, &mut values, &self.4)?;
+        append_value(alloc, &mut values, &self.5)?;
+        append_value(alloc, &mut values, &self.6)?;
+        append_value(alloc, &mut values, &self.7)?;
+        append_value(alloc, &mut values, &self.8)?;
         Ok(Params::Positional(values))
     }
 }
@@ -210,16 +210,16 @@ impl<
 
     fn to_params(&self, alloc: Global) -> Result<Params, ToParamsError> {
         let mut values = Vec::new(alloc);
-        put(alloc, &mut values, &self.0)?;
-        put(alloc, &mut values, &self.1)?;
-        put(alloc, &mut values, &self.2)?;
-        put(alloc, &mut values, &self.3)?;
-        put(alloc, &mut values, &self.4)?;
-        put(alloc, &mut values, &self.5)?;
-        put(alloc, &mut values, &self.6)?;
-        put(alloc, &mut values, &self.7)?;
-        put(alloc, &mut values, &self.8)?;
-        put(alloc, &mut values, &self.9)?;
+        append_value(alloc, &mut values, &self.0)?;
+        append_value(alloc, &mut values, &self.1)?;
+        append_value(alloc, &mut values, &self.2)?;
+        append_value(alloc, &mut values, &self.3)?;
+        append_value(alloc, &mut values, &self.4)?;
+        append_value(alloc, &mut values, &self.5)?;
+        append_value(alloc, &mut values, &self.6)?;
+        append_value(alloc, &mut values, &self.7)?;
+        append_value(alloc, &mut values, &self.8)?;
+        append_value(alloc, &mut values, &self.9)?;
         Ok(Params::Positional(values))
     }
 }
@@ -248,17 +248,17 @@ impl<
 
     fn to_params(&self, alloc: Global) -> Result<Params, ToParamsError> {
         let mut values = Vec::new(alloc);
-        put(alloc, &mut values, &self.0)?;
-        put(alloc, &mut values, &self.1)?;
-        put(alloc, &mut values, &self.2)?;
-        put(alloc, &mut values, &self.3)?;
-        put(alloc, &mut values, &self.4)?;
-        put(alloc, &mut values, &self.5)?;
-        put(alloc, &mut values, &self.6)?;
-        put(alloc, &mut values, &self.7)?;
-        put(alloc, &mut values, &self.8)?;
-        put(alloc, &mut values, &self.9)?;
-        put(alloc, &mut values, &self.10)?;
+        append_value(alloc, &mut values, &self.0)?;
+        append_value(alloc, &mut values, &self.1)?;
+        append_value(alloc, &mut values, &self.2)?;
+        append_value(alloc, &mut values, &self.3)?;
+        append_value(alloc, &mut values, &self.4)?;
+        append_value(alloc, &mut values, &self.5)?;
+        append_value(alloc, &mut values, &self.6)?;
+        append_value(alloc, &mut values, &self.7)?;
+        append_value(alloc, &mut values, &self.8)?;
+        append_value(alloc, &mut values, &self.9)?;
+        append_value(alloc, &mut values, &self.10)?;
         Ok(Params::Positional(values))
     }
 }
@@ -288,18 +288,18 @@ impl<
 
     fn to_params(&self, alloc: Global) -> Result<Params, ToParamsError> {
         let mut values = Vec::new(alloc);
-        put(alloc, &mut values, &self.0)?;
-        put(alloc, &mut values, &self.1)?;
-        put(alloc, &mut values, &self.2)?;
-        put(alloc, &mut values, &self.3)?;
-        put(alloc, &mut values, &self.4)?;
-        put(alloc, &mut values, &self.5)?;
-        put(alloc, &mut values, &self.6)?;
-        put(alloc, &mut values, &self.7)?;
-        put(alloc, &mut values, &self.8)?;
-        put(alloc, &mut values, &self.9)?;
-        put(alloc, &mut values, &self.10)?;
-        put(alloc, &mut values, &self.11)?;
+        append_value(alloc, &mut values, &self.0)?;
+        append_value(alloc, &mut values, &self.1)?;
+        append_value(alloc, &mut values, &self.2)?;
+        append_value(alloc, &mut values, &self.3)?;
+        append_value(alloc, &mut values, &self.4)?;
+        append_value(alloc, &mut values, &self.5)?;
+        append_value(alloc, &mut values, &self.6)?;
+        append_value(alloc, &mut values, &self.7)?;
+        append_value(alloc, &mut values, &self.8)?;
+        append_value(alloc, &mut values, &self.9)?;
+        append_value(alloc, &mut values, &self.10)?;
+        append_value(alloc, &mut values, &self.11)?;
         Ok(Params::Positional(values))
     }
 }

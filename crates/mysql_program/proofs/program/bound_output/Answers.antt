@@ -1,6 +1,6 @@
 use Rattle.std.proofs.Common.{◌∙◌, ap, inl, inr, refl}
 use Rattle.std.specs.Prelude.{option_map}
-use Rattle.mysql_program.specs.Program.{unbound}
+use Rattle.mysql_program.specs.Program.{binding_cause}
 use Rattle.mysql_program.proofs.program.bound_output.Goals as goal
 
 pub returns-in-Err-clause-refused : goal.returns-in-Err-clause-refused
@@ -9,7 +9,7 @@ returns-in-Err-clause-refused c =
       on.0,
       on.1,
       elim on.2 [
-        | inl memory ↦ inl (c.unbound.ensures.memory memory)
-        | inr (why, first, is) ↦ inr (unbound why, c.unbound.ensures.refusal ∙ ap (option_map unbound) is, (why, first, refl))
+        | inl memory ↦ inl (c.run_error_of_binding.ensures.memory memory)
+        | inr (why, first, is) ↦ inr (binding_cause why, c.run_error_of_binding.ensures.refusal ∙ ap (option_map binding_cause) is, (why, first, refl))
       ],
     )

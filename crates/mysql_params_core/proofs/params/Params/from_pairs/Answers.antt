@@ -3,21 +3,21 @@ use Rattle.std.specs.Prelude.{Ok}
 use Rattle.std.specs.FinMap.{empty}
 use Rattle.mysql_params_core.specs.Given.{value_map}
 use Rattle.mysql_params_core.specs.Made.{with_pair, by_name}
-use Rattle.mysql_params_core.proofs.MakingLemmas.{loop_step, loop_handed_on}
+use Rattle.mysql_params_core.proofs.MakingLemmas.{fold-take-next, refusal_is_handed_on}
 use Rattle.mysql_params_core.proofs.params.Params.from_pairs.Goals as goal
 
-pub returns-in_err-put_pair-clause-made : goal.returns-in_err-put_pair-clause-made
-returns-in_err-put_pair-clause-made g c =
+pub returns-in_err-insert_pair-clause-made : goal.returns-in_err-insert_pair-clause-made
+returns-in_err-insert_pair-clause-made g c =
     let below : c.loop-pair.pair-index < length c.args.pairs.now = omega arith in
-    loop_handed_on with_pair (λ _ _. refl) (Ok empty) (λ p. (g.N.ToName.name p.0, g.V.ToValue.value_of p.1))
+    refusal_is_handed_on with_pair (λ _ _. refl) (Ok empty) (λ p. (g.N.ToName.name p.0, g.V.ToValue.value_of p.1))
     c.args.pairs.now c.loop-pair.pair-index c.pair-item.result below c.pair-item.is by_name (λ _. refl)
-    (Ok (value_map c.loop-pair.entries.entries)) c.in_err-put_pair.field-0.0 c.loop-pair.invariant
-    (rw c.name_bytes.ensures at c.in_err-put_pair.ensures.made) c.from_residual.result c.from_residual.ensures.1
+    (Ok (value_map c.loop-pair.entries.entries)) c.in_err-insert_pair.field-0.0 c.loop-pair.invariant
+    (rw c.name_bytes.ensures at c.in_err-insert_pair.ensures.made) c.from_residual.result c.from_residual.ensures.1
 
 pub loop-pair-preserved : goal.loop-pair-preserved
 loop-pair-preserved g c =
     let below : c.loop-pair.pair-index < length c.args.pairs.now = omega arith in
-    loop_step with_pair (λ _ _. refl) (Ok empty) (λ p. (g.N.ToName.name p.0, g.V.ToValue.value_of p.1))
+    fold-take-next with_pair (λ _ _. refl) (Ok empty) (λ p. (g.N.ToName.name p.0, g.V.ToValue.value_of p.1))
     c.args.pairs.now c.loop-pair.pair-index c.pair-item.result below c.pair-item.is
     (Ok (value_map c.loop-pair.entries.entries)) c.loop-pair.invariant
-    ∙ (rw c.name_bytes.ensures at c.in_ok-put_pair.ensures.made)
+    ∙ (rw c.name_bytes.ensures at c.in_ok-insert_pair.ensures.made)

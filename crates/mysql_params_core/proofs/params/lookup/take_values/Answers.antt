@@ -5,7 +5,7 @@ use Rattle.mysql_params_core.specs.Given.{value_map}
 use Rattle.mysql_params_core.specs.Names.{names_of}
 use Rattle.mysql_params_core.proofs.MapLemmas.{get-value_map}
 use Rattle.mysql_params_core.proofs.TakenLemmas.{place_below, was_nowhere, taken_step, placed_step}
-use Rattle.mysql_params_core.proofs.WalkLemmas.{none_lacking, values_at-from}
+use Rattle.mysql_params_core.proofs.WalkLemmas.{none_missing, values_at-from}
 use Rattle.mysql_params_core.proofs.params.lookup.take_values.Goals.{in-Some+in-Ok+in_ok-push, in_default+in-Some-get+in_ok-value+in_ok-push-2}
 use Rattle.mysql_params_core.proofs.params.lookup.take_values.Goals as goal
 
@@ -19,7 +19,7 @@ pub unreachable-requires : goal.unreachable-requires
 unreachable-requires c =
     let n = c.name-item.result in
     let below : c.loop-name.name-index < length c.args.names.now = omega arith in
-    none_lacking (value_map c.args.entries.entries) c.args.names.now c.loop-name.name-index n below c.name-item.is c.requires
+    none_missing (value_map c.args.entries.entries) c.args.names.now c.loop-name.name-index n below c.name-item.is c.requires
     (get-value_map c.args.entries.entries n.items
     ∙ was_nowhere c.args.entries.entries c.loop-name.left.entries c.loop-name.places.entries c.loop-name.values.items
     c.loop-name.invariant.taken n (sym c.in_default.ensures.value) (sym c.in_default-get.ensures.value))

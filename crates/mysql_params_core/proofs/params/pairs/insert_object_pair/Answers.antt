@@ -1,10 +1,10 @@
 use Rattle.std.proofs.Common.{◌≡◌, false, sym, ◌∙◌}
 use Rattle.std.specs.FinMap.{contains_key}
 use Rattle.mysql_params_core.specs.Given.{value_map}
-use Rattle.mysql_params_core.proofs.params.pairs.put_named_object.Goals as goal
+use Rattle.mysql_params_core.proofs.params.pairs.insert_object_pair.Goals as goal
 
 pub returns-clause-made : goal.returns-clause-made
 returns-clause-made g c =
     let is_new : contains_key (value_map c.args.entries.now.entries) c.args.name.now ≡ false =
     sym c.has_name.ensures ∙ c.if-has_name.false in
-    rw is_new (c.put_new.ensures.made ((goal.ToValue-dyn g c.args.object.now).value_of c.args.object.now.1) c.to_value.ensures)
+    rw is_new (c.insert_new.ensures.made ((goal.ToValue-dyn g c.args.object.now).value_of c.args.object.now.1) c.to_value.ensures)

@@ -1,7 +1,7 @@
 use Rattle.std.proofs.Common.{◌≡◌, ◌++◌, map, drop}
 use Rattle.std.specs.Cow.{cow_slice_items}
 use Rattle.mysql_program.specs.Program.{lines_of}
-use Rattle.mysql_program.proofs.program.put_names.Given as goal
+use Rattle.mysql_program.proofs.program.append_names.Given as goal
 
 -- the text, and then a line for each name that is left, is the whole
 abbrev pub invariant-loop-name : goal.invariant-loop-name

@@ -1,4 +1,0 @@
-use Rattle.mysql_params_core.proofs.params.to_params.put.Goals as goal
-
-pub returns-clause-made : goal.returns-clause-made
-returns-clause-made g c = c.put_answer.ensures.made (g.T.ToValue.value_of c.args.thing.now) c.to_value.ensures
