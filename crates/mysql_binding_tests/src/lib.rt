@@ -1,4 +1,5 @@
-//! Tests of binding, and of the program that binds, through public calls alone.
+//! Tests of binding, of the example that README gives, and of the paths that a user may name, through
+//! public calls alone.
 #![tactic(auto)]
 
 #[cfg(test)]
@@ -6,7 +7,7 @@ mod binding;
 #[cfg(test)]
 mod isolation;
 #[cfg(test)]
-mod program;
+mod paths;
 #[cfg(test)]
 mod readme;
 #[cfg(test)]

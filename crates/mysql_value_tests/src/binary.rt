@@ -38,8 +38,10 @@ const DATES: &[(DateFields, &[u8])] = &[
 ];
 
 const TIMES: &[(TimeFields, &[u8])] = &[
+    ((false, 0, 0, 0, 0, 0), &[0]),
     ((true, 0, 0, 0, 0, 0), &[0]),
     ((false, 1, 2, 3, 4, 0), &[8, 0, 1, 0, 0, 0, 2, 3, 4]),
+    ((true, 1, 2, 3, 4, 0), &[8, 1, 1, 0, 0, 0, 2, 3, 4]),
     (
         (true, 0, 0, 0, 0, 1),
         &[0x0C, 1, 0, 0, 0, 0, 0, 0, 0, 1, 0, 0, 0],
@@ -68,6 +70,9 @@ fn written_values(rt: HostRuntime) -> Result<(), Fail> {
     is_written(&rt, alloc, &Value::NULL, &[])?;
     is_written(&rt, alloc, &bytes(alloc, b"")?, &[0])?;
     is_written(&rt, alloc, &bytes(alloc, b"abc")?, &[3, 0x61, 0x62, 0x63])?;
+    let one = [1, 0, 0, 0, 0, 0, 0, 0];
+    is_written(&rt, alloc, &Value::Int(1), &one)?;
+    is_written(&rt, alloc, &Value::UInt(1), &one)?;
     let form = [0xFE, 255, 255, 255, 255, 255, 255, 255];
     is_written(&rt, alloc, &Value::Int(-2), &form)?;
     let form = [255, 255, 255, 255, 255, 255, 255, 0x7F];
