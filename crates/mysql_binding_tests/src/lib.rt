@@ -6,8 +6,7 @@
 mod binding;
 #[cfg(test)]
 mod isolation;
-#[cfg(test)]
-mod paths;
+pub mod paths;
 #[cfg(test)]
 mod readme;
 #[cfg(test)]

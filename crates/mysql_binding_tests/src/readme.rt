@@ -1,28 +1,61 @@
 //! The example that README gives.
-use mysql_params::bind_text;
-use mysql_params::params::{Params, ToParams};
-use mysql_values::value::convert::ToValue;
-use std::test::Fail;
+use mysql_params::params::{Params, ToParams, ToParamsError};
+use mysql_params::{BindError, bind_text};
+use mysql_values::value::Value;
+use mysql_values::value::convert::{ToValue, ToValueError};
+use std::alloc::Global;
+use thiserror::Error;
 
-#[test]
-fn example(rt: HostRuntime) -> Result<(), Fail> {
-    let alloc = rt.alloc();
-    let pairs: [(&[u8], &dyn ToValue); 2] = [(b"id", &42u8), (b"name", &"it's")];
-    match Params::from_objects(alloc, &pairs) {
-        Ok(params) => match bind_text(alloc, b"SELECT :id, ':id', :name", params) {
-            Ok(text) => {
-                assert_eq!(rt; text.as_slice(), b"SELECT 42, ':id', 'it\\'s'".as_slice());
-            }
-            Err(error) => assert!(rt; false, "{error}"),
-        },
-        Err(error) => assert!(rt; false, "{error}"),
+/// Why there is no query.
+#[derive(Debug, PartialEq, Drop, Error)]
+enum QueryError {
+    #[error(transparent)]
+    Value(#[from] ToValueError),
+    #[error(transparent)]
+    Params(#[from] ToParamsError),
+    #[error(transparent)]
+    Bind(#[from] BindError),
+}
+
+/// The query for a customer, by names.
+fn customer(alloc: Global, id: u64, name: &str) -> Result<Vec<u8>, QueryError> {
+    let pairs = [("id", id.to_value(alloc)?), ("name", name.to_value(alloc)?)];
+    let params = Params::from_pairs(alloc, &pairs)?;
+    let query = b"SELECT * FROM customer WHERE id = :id AND name = :name";
+    Ok(bind_text(alloc, query, params)?)
+}
+
+/// The same by position.
+fn customer_by_position(alloc: Global, id: u64, name: &str) -> Result<Vec<u8>, QueryError> {
+    let params = (id, name).to_params(alloc)?;
+    let query = b"SELECT * FROM customer WHERE id = ? AND name = ?";
+    Ok(bind_text(alloc, query, params)?)
+}
+
+/// With objects.
+fn customer_of_objects<'a>(
+    alloc: Global,
+    id: &'a u64,
+    name: &'a &'a str,
+) -> Result<Vec<u8>, QueryError> {
+    let pairs: [(&'a [u8], &'a dyn ToValue); 2] = [(b"id", id), (b"name", name)];
+    let params = Params::from_objects(alloc, &pairs)?;
+    let query = b"SELECT * FROM customer WHERE id = :id AND name = :name";
+    Ok(bind_text(alloc, query, params)?)
+}
+
+#[cfg(test)]
+mod tests {
+    use super::*;
+    use std::test::Fail;
+
+    #[test]
+    fn example(rt: HostRuntime) -> Result<(), Fail> {
+        let text = customer(rt.alloc(), 42, "x' OR '1'='1")?;
+        let wanted = b"SELECT * FROM customer WHERE id = 42 AND name = 'x\\' OR \\'1\\'=\\'1'";
+        assert_eq!(rt; text.as_slice(), wanted.as_slice());
+        let text = customer_by_position(rt.alloc(), 42, "x' OR '1'='1")?;
+        assert_eq!(rt; text.as_slice(), wanted.as_slice());
+        Ok(())
     }
-    match (42u8, None::<i64>).to_params(alloc) {
-        Ok(params) => match bind_text(alloc, b"SELECT ?, ?", params) {
-            Ok(text) => assert_eq!(rt; text.as_slice(), b"SELECT 42, NULL".as_slice()),
-            Err(error) => assert!(rt; false, "{error}"),
-        },
-        Err(error) => assert!(rt; false, "{error}"),
-    }
-    Ok(())
 }

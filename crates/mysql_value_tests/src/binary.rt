@@ -1,5 +1,7 @@
 //! Values in binary form: as they are written, and what comes back of them.
-use crate::shared::{DateFields, SIGNED, TimeFields, UNSIGNED, bytes, date, read, reads, time};
+use crate::shared::{
+    DateFields, SIGNED, TimeFields, UNSIGNED, bytes, date, read, reads, string_and_form, time,
+};
 use mysql_values::value::{
     BinValue, ClientSide, SerializationSide, ServerSide, TextValue, Value, ValueDeserializer,
 };
@@ -94,9 +96,7 @@ const LENGTHS: &[(usize, &[u8])] = &[
 fn written_lengths_of_bytes(rt: HostRuntime) -> Result<(), Fail> {
     let alloc = rt.alloc();
     for (len, head) in LENGTHS {
-        let text = vec![in alloc; b'a'; *len]?;
-        let mut form = Vec::from_slice(alloc, *head)?;
-        form.extend_from_slice(&text)?;
+        let (text, form) = string_and_form(alloc, *len, *head)?;
         let value = bytes(alloc, &text)?;
         let mut buf = Vec::new(alloc);
         value.serialize(&mut buf)?;
@@ -110,9 +110,7 @@ fn written_lengths_of_bytes(rt: HostRuntime) -> Result<(), Fail> {
 fn read_lengths_of_bytes(rt: HostRuntime) -> Result<(), Fail> {
     let alloc = rt.alloc();
     for (len, head) in LENGTHS {
-        let text = vec![in alloc; b'a'; *len]?;
-        let mut form = Vec::from_slice(alloc, *head)?;
-        form.extend_from_slice(&text)?;
+        let (text, mut form) = string_and_form(alloc, *len, *head)?;
         form.push(0x2A)?;
         let mut rest = ParseBuf(&form);
         let back = read(alloc, ColumnType::MYSQL_TYPE_BLOB, SIGNED, &mut rest)?;
