@@ -7,8 +7,7 @@ mod binding;
 #[cfg(test)]
 mod isolation;
 pub mod paths;
-#[cfg(test)]
-mod readme;
+pub mod readme;
 #[cfg(test)]
 mod shared;
 #[cfg(test)]

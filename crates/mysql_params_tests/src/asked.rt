@@ -40,12 +40,12 @@ const MAKERS: [Maker; 5] = [
     Maker::PairsOfObjects,
 ];
 
-/// Pairs of these names and the things.
-fn pairs(alloc: Global, names: [&str; 3], things: &[Counted; 3]) -> Result<Params, ToParamsError> {
+/// Pairs of the things and names of one byte each.
+fn pairs(alloc: Global, names: &[u8; 3], things: &[Counted; 3]) -> Result<Params, ToParamsError> {
     let pairs = [
-        (names[0], &things[0]),
-        (names[1], &things[1]),
-        (names[2], &things[2]),
+        (&names[0..1], &things[0]),
+        (&names[1..2], &things[1]),
+        (&names[2..3], &things[2]),
     ];
     Params::from_pairs(alloc, &pairs)
 }
@@ -53,13 +53,13 @@ fn pairs(alloc: Global, names: [&str; 3], things: &[Counted; 3]) -> Result<Param
 /// The same, by their objects.
 fn pairs_of_objects<'a>(
     alloc: Global,
-    names: [&'a str; 3],
+    names: &'a [u8; 3],
     things: &'a [Counted; 3],
 ) -> Result<Params, ToParamsError> {
     let pairs: [(&'a [u8], &'a dyn ToValue); 3] = [
-        (names[0].as_bytes(), &things[0]),
-        (names[1].as_bytes(), &things[1]),
-        (names[2].as_bytes(), &things[2]),
+        (&names[0..1], &things[0]),
+        (&names[1..2], &things[1]),
+        (&names[2..3], &things[2]),
     ];
     Params::from_objects(alloc, &pairs)
 }
@@ -76,8 +76,8 @@ fn make(alloc: Global, maker: Maker, things: &[Counted; 3]) -> Result<Params, To
             .to_params(alloc),
         Maker::Objects => objects(alloc, things),
         Maker::Tuple => (&things[0], &things[1], &things[2]).to_params(alloc),
-        Maker::Pairs => pairs(alloc, ["a", "b", "c"], things),
-        Maker::PairsOfObjects => pairs_of_objects(alloc, ["a", "b", "c"], things),
+        Maker::Pairs => pairs(alloc, b"abc", things),
+        Maker::PairsOfObjects => pairs_of_objects(alloc, b"abc", things),
     }
 }
 
@@ -107,7 +107,7 @@ fn nothing_is_asked_after_a_refused_thing(rt: HostRuntime) {
 fn is_redefined(
     rt: &impl Abort,
     alloc: Global,
-    names: [&str; 3],
+    names: &[u8; 3],
     wanted: [u32; 3],
 ) -> Result<(), Fail> {
     let error = ToParamsError::Redefined(Vec::from_slice(alloc, b"a")?);
@@ -128,7 +128,7 @@ fn is_redefined(
 
 #[test]
 fn nothing_is_asked_from_a_redefined_name_on(rt: HostRuntime) -> Result<(), Fail> {
-    is_redefined(&rt, rt.alloc(), ["a", "a", "b"], [1, 0, 0])?;
-    is_redefined(&rt, rt.alloc(), ["a", "b", "a"], [1, 1, 0])?;
-    is_redefined(&rt, rt.alloc(), ["a", "a", "a"], [1, 0, 0])
+    is_redefined(&rt, rt.alloc(), b"aab", [1, 0, 0])?;
+    is_redefined(&rt, rt.alloc(), b"aba", [1, 1, 0])?;
+    is_redefined(&rt, rt.alloc(), b"aaa", [1, 0, 0])
 }
