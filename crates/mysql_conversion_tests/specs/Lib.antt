@@ -1,0 +1,2 @@
+pub mod Percent
+pub mod Zero
