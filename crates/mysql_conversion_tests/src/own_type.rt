@@ -1,6 +1,6 @@
 //! A type of a user's own that values convert to.
 ghost use Rattle.std.specs.Prelude.{⊤};
-ghost use Rattle.mysql_conversions_tests.specs.Zero.{zero_conversion};
+ghost use Rattle.mysql_conversion_tests.specs.Zero.{zero_conversion};
 
 use mysql_values::value::Value;
 use mysql_values::value::convert::{FromValue, FromValueError, ValueIr};

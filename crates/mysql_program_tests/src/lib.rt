@@ -1,0 +1,15 @@
+//! Tests of the program over any reader and writer, through public calls alone.
+#![tactic(auto)]
+
+#[cfg(test)]
+mod bind;
+#[cfg(test)]
+mod names;
+#[cfg(test)]
+mod readers_and_writers;
+#[cfg(test)]
+mod refusals;
+#[cfg(test)]
+mod shared;
+#[cfg(test)]
+mod words;

@@ -1,0 +1,64 @@
+//! Words that ask for nothing that the program does: they are refused before anything is read.
+use crate::shared::{Fault, SlowReader, SlowWriter, run_over};
+use mysql_params::RunError;
+use std::test::Fail;
+
+/// Words that are refused as usage.
+const USAGE: &[&[&str]] = &[
+    &[],
+    &[""],
+    &["NAMES"],
+    &["name"],
+    &["names "],
+    &["names", "x"],
+    &["Bind"],
+    &["names", "names"],
+    &["bind", "a=i:1", "=null"],
+    &["bind", "=null", "a=i:1"],
+    &["bind", "a=i:9223372036854775808"],
+    &["bind", "a=i:-9223372036854775809"],
+    &["bind", "a=u:18446744073709551616"],
+    &["bind", "a=u:-1"],
+    &["bind", "a=i:"],
+    &["bind", "a=u:"],
+    &["bind", "a=i:1 "],
+    &["bind", "a=="],
+    &["bind", "a="],
+    &["bind", "a"],
+    &["bind", ""],
+    &["bind", "a=I:1"],
+    &["bind", "a=S:x"],
+    &["bind", "a=1"],
+    &["bind", "a=f:1.5"],
+    &["bind", "a=NULL"],
+    &["bind", "a=nulls"],
+    &["bind", "a:i=1"],
+    &["BIND", "a=i:1"],
+    &["bind ", "a=i:1"],
+    // Usage comes before a name that stood before.
+    &["bind", "a=i:1", "a=i:2", "b"],
+];
+
+#[test]
+fn other_words_are_refused_before_a_read(rt: HostRuntime) -> Result<(), Fail> {
+    for texts in USAGE {
+        let input = SlowReader::new(b":a", 1, 1);
+        let output = SlowWriter::new(rt.alloc(), 1, Fault::Fails, 1);
+        let ran = run_over(rt.alloc(), *texts, input, output)?;
+        assert_eq!(rt; ran.answer, Err(RunError::Usage), "to {texts:?}");
+        assert_eq!(rt; ran.calls, (0, 0), "to {texts:?}");
+    }
+    Ok(())
+}
+
+#[test]
+fn a_repeated_name_is_refused_before_a_read(rt: HostRuntime) -> Result<(), Fail> {
+    let texts = ["bind", "a=i:1", "b=i:1", "a=i:1", "b=i:2"];
+    let input = SlowReader::new(b":a", 1, 1);
+    let output = SlowWriter::new(rt.alloc(), 1, Fault::Fails, 1);
+    let ran = run_over(rt.alloc(), &texts, input, output)?;
+    let name = Vec::from_slice(rt.alloc(), b"a")?;
+    assert_eq!(rt; ran.answer, Err(RunError::Redefined(name)));
+    assert_eq!(rt; ran.calls, (0, 0));
+    Ok(())
+}

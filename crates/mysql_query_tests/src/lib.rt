@@ -1,0 +1,7 @@
+//! Tests of queries, their tokens and how they are parsed, through public calls alone.
+#![tactic(auto)]
+
+#[cfg(test)]
+mod all_short_queries;
+#[cfg(test)]
+mod queries;
