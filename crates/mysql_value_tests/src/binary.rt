@@ -1,5 +1,7 @@
 //! Values in binary form: as they are written, and what comes back of them.
-use crate::shared::{DateFields, SIGNED, TimeFields, UNSIGNED, bytes, date, read, reads, time};
+use crate::shared::{
+    DateFields, SIGNED, TimeFields, UNSIGNED, bytes, date, read, reads, string_and_form, time,
+};
 use mysql_values::value::{
     BinValue, ClientSide, SerializationSide, ServerSide, TextValue, Value, ValueDeserializer,
 };
@@ -38,8 +40,10 @@ const DATES: &[(DateFields, &[u8])] = &[
 ];
 
 const TIMES: &[(TimeFields, &[u8])] = &[
+    ((false, 0, 0, 0, 0, 0), &[0]),
     ((true, 0, 0, 0, 0, 0), &[0]),
     ((false, 1, 2, 3, 4, 0), &[8, 0, 1, 0, 0, 0, 2, 3, 4]),
+    ((true, 1, 2, 3, 4, 0), &[8, 1, 1, 0, 0, 0, 2, 3, 4]),
     (
         (true, 0, 0, 0, 0, 1),
         &[0x0C, 1, 0, 0, 0, 0, 0, 0, 0, 1, 0, 0, 0],
@@ -68,6 +72,9 @@ fn written_values(rt: HostRuntime) -> Result<(), Fail> {
     is_written(&rt, alloc, &Value::NULL, &[])?;
     is_written(&rt, alloc, &bytes(alloc, b"")?, &[0])?;
     is_written(&rt, alloc, &bytes(alloc, b"abc")?, &[3, 0x61, 0x62, 0x63])?;
+    let one = [1, 0, 0, 0, 0, 0, 0, 0];
+    is_written(&rt, alloc, &Value::Int(1), &one)?;
+    is_written(&rt, alloc, &Value::UInt(1), &one)?;
     let form = [0xFE, 255, 255, 255, 255, 255, 255, 255];
     is_written(&rt, alloc, &Value::Int(-2), &form)?;
     let form = [255, 255, 255, 255, 255, 255, 255, 0x7F];
@@ -89,9 +96,7 @@ const LENGTHS: &[(usize, &[u8])] = &[
 fn written_lengths_of_bytes(rt: HostRuntime) -> Result<(), Fail> {
     let alloc = rt.alloc();
     for (len, head) in LENGTHS {
-        let text = vec![in alloc; b'a'; *len]?;
-        let mut form = Vec::from_slice(alloc, *head)?;
-        form.extend_from_slice(&text)?;
+        let (text, form) = string_and_form(alloc, *len, *head)?;
         let value = bytes(alloc, &text)?;
         let mut buf = Vec::new(alloc);
         value.serialize(&mut buf)?;
@@ -105,9 +110,7 @@ fn written_lengths_of_bytes(rt: HostRuntime) -> Result<(), Fail> {
 fn read_lengths_of_bytes(rt: HostRuntime) -> Result<(), Fail> {
     let alloc = rt.alloc();
     for (len, head) in LENGTHS {
-        let text = vec![in alloc; b'a'; *len]?;
-        let mut form = Vec::from_slice(alloc, *head)?;
-        form.extend_from_slice(&text)?;
+        let (text, mut form) = string_and_form(alloc, *len, *head)?;
         form.push(0x2A)?;
         let mut rest = ParseBuf(&form);
         let back = read(alloc, ColumnType::MYSQL_TYPE_BLOB, SIGNED, &mut rest)?;

@@ -6,9 +6,11 @@ mod binary;
 #[cfg(test)]
 mod binary_reading;
 #[cfg(test)]
-mod literals;
+mod read_literals;
 #[cfg(test)]
 mod shared;
+#[cfg(test)]
+mod sql_literals;
 #[cfg(test)]
 mod text_cells;
 #[cfg(test)]

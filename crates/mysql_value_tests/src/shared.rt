@@ -42,6 +42,18 @@ pub(crate) fn bytes(alloc: Global, text: &[u8]) -> Result<Value, AllocError> {
     Ok(Value::Bytes(Bytes::from(Vec::from_slice(alloc, text)?)))
 }
 
+// A string of so many bytes, and its form with the head that states its length.
+pub(crate) fn string_and_form(
+    alloc: Global,
+    len: usize,
+    head: &[u8],
+) -> Result<(Vec<u8>, Vec<u8>), AllocError> {
+    let text = vec![in alloc; b'a'; len]?;
+    let mut form = Vec::from_slice(alloc, head)?;
+    form.extend_from_slice(&text)?;
+    Ok((text, form))
+}
+
 // The column reads the value at the front of the bytes, and leaves what is behind it.
 pub(crate) fn reads(
     rt: &impl Abort,

@@ -1,4 +1,5 @@
 //! The buffer: integers of each width, and length-encoded strings.
+use crate::shared::string_and_form;
 use mysql_wire_part::{ParseBuf, WireError, lenenc_str_len, put_lenenc_str};
 use std::test::Fail;
 
@@ -121,15 +122,12 @@ const LENGTHS: &[(usize, &[u8])] = &[
 fn written_lengths(rt: HostRuntime) -> Result<(), Fail> {
     let alloc = rt.alloc();
     for (len, head) in LENGTHS {
-        let text = vec![in alloc; b'a'; *len]?;
-        let mut wanted = vec![in alloc; 7]?;
-        wanted.extend_from_slice(*head)?;
-        wanted.extend_from_slice(&text)?;
+        let (text, form) = string_and_form(alloc, *len, *head)?;
         let mut buf = vec![in alloc; 7]?;
         put_lenenc_str(&mut buf, &text)?;
-        assert!(rt; buf.as_slice() == wanted.as_slice(), "length {len}");
-        let whole = head.len() as u64 + *len as u64;
-        assert_eq!(rt; lenenc_str_len(&text), whole, "length {len}");
+        assert_eq!(rt; buf[0], 7, "length {len}");
+        assert!(rt; &buf[1..] == form.as_slice(), "length {len}");
+        assert_eq!(rt; lenenc_str_len(&text), form.len() as u64, "length {len}");
     }
     Ok(())
 }
@@ -138,11 +136,9 @@ fn written_lengths(rt: HostRuntime) -> Result<(), Fail> {
 fn read_lengths(rt: HostRuntime) -> Result<(), Fail> {
     let alloc = rt.alloc();
     for (len, head) in LENGTHS {
-        let text = vec![in alloc; b'a'; *len]?;
-        let mut spelling = Vec::from_slice(alloc, *head)?;
-        spelling.extend_from_slice(&text)?;
-        spelling.push(0x2A)?;
-        let mut buf = ParseBuf(&spelling);
+        let (text, mut form) = string_and_form(alloc, *len, *head)?;
+        form.push(0x2A)?;
+        let mut buf = ParseBuf(&form);
         let read = buf.eat_lenenc_str();
         assert!(rt; read == Ok(text.as_slice()), "length {len}");
         assert_eq!(rt; buf.0, [0x2A].as_slice(), "length {len}");

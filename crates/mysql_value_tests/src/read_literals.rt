@@ -1,0 +1,236 @@
+//! Literals read back by a plain reader, which is written from docs/RULES.md, "How a literal is
+//! read", and shares no code with what writes them.
+use crate::shared::{bytes, date, time};
+use mysql_values::value::Value;
+use std::alloc::{AllocError, Global};
+use std::process::Abort;
+use std::test::Fail;
+
+/// What a literal says.
+#[derive(Debug, PartialEq, Drop)]
+enum Content {
+    Null,
+    Number(i128),
+    Bytes(Vec<u8>),
+}
+
+/// What the literal at the front of a text says, and the text that is left.
+type Reading<'a> = Option<(Content, &'a [u8])>;
+
+/// The number that a hexadecimal digit stands for.
+fn digit_of(byte: u8) -> Option<u8> {
+    match byte {
+        b'0'..=b'9' => Some(byte - b'0'),
+        b'A'..=b'F' => Some(byte - b'A' + 10),
+        b'a'..=b'f' => Some(byte - b'a' + 10),
+        _ => None,
+    }
+}
+
+/// The bytes of the longest run of pairs of hexadecimal digits, of which there has to be one.
+fn read_pairs(alloc: Global, text: &[u8]) -> Result<Reading<'_>, AllocError> {
+    let mut bytes = Vec::new(alloc);
+    let mut rest = text;
+    for _ in 0..text.len() {
+        let [high, low, after @ ..] = rest else { break };
+        let (Some(high), Some(low)) = (digit_of(*high), digit_of(*low)) else {
+            break;
+        };
+        bytes.push(high.wrapping_mul(16).wrapping_add(low))?;
+        rest = after;
+    }
+    if bytes.is_empty() {
+        return Ok(None);
+    }
+    Ok(Some((Content::Bytes(bytes), rest)))
+}
+
+/// The number of the longest run of digits, of which there has to be one; none beyond 128 bits.
+fn read_number(text: &[u8], sign: i128) -> Reading<'_> {
+    let count = text.iter().take_while(|byte| byte.is_ascii_digit()).count();
+    let (digits, rest) = text.split_at(count.min(text.len()));
+    let mut number = 0i128;
+    for digit in digits {
+        let digit = sign.checked_mul(i128::from(digit.wrapping_sub(b'0')))?;
+        number = number.checked_mul(10)?.checked_add(digit)?;
+    }
+    if digits.is_empty() {
+        return None;
+    }
+    Some((Content::Number(number), rest))
+}
+
+/// The byte that stands for a byte and the backslash before it.
+fn unescaped(byte: u8) -> u8 {
+    match byte {
+        b'0' => 0,
+        b'b' => 8,
+        b't' => 9,
+        b'n' => 10,
+        b'r' => 13,
+        b'Z' => 26,
+        other => other,
+    }
+}
+
+/// The bytes of the units up to a quote that no quote follows.
+fn read_string(
+    alloc: Global,
+    text: &[u8],
+    no_backslash_escape: bool,
+) -> Result<Reading<'_>, AllocError> {
+    let mut bytes = Vec::new(alloc);
+    let mut rest = text;
+    for _ in 0..text.len() {
+        rest = match rest {
+            [b'\'', b'\'', after @ ..] => {
+                bytes.push(b'\'')?;
+                after
+            }
+            [b'\'', after @ ..] => return Ok(Some((Content::Bytes(bytes), after))),
+            [b'\\', byte @ (b'%' | b'_'), after @ ..] if !no_backslash_escape => {
+                bytes.push(b'\\')?;
+                bytes.push(*byte)?;
+                after
+            }
+            [b'\\', byte, after @ ..] if !no_backslash_escape => {
+                bytes.push(unescaped(*byte))?;
+                after
+            }
+            [byte, after @ ..] => {
+                bytes.push(*byte)?;
+                after
+            }
+            [] => return Ok(None),
+        };
+    }
+    Ok(None)
+}
+
+/// The literal at the front of a text, by the first row of the table that fits.
+fn read_literal(
+    alloc: Global,
+    text: &[u8],
+    no_backslash_escape: bool,
+) -> Result<Reading<'_>, AllocError> {
+    if let [b'0', b'x', pairs @ ..] = text {
+        let reading = read_pairs(alloc, pairs)?;
+        if reading.is_some() {
+            return Ok(reading);
+        }
+    }
+    match text {
+        [b'N', b'U', b'L', b'L', rest @ ..] => Ok(Some((Content::Null, rest))),
+        [b'-', digits @ ..] => Ok(read_number(digits, -1)),
+        [b'\'', rest @ ..] => read_string(alloc, rest, no_backslash_escape),
+        _ => Ok(read_number(text, 1)),
+    }
+}
+
+/// Strings, and what they say with backslash escapes and without.
+const STRINGS: &[(&[u8], &[u8], &[u8])] = &[
+    (b"''", b"", b""),
+    (b"'a''b'", b"a'b", b"a'b"),
+    (b"''''", b"'", b"'"),
+    (
+        b"'\\0\\b\\t\\n\\r\\Z'",
+        b"\x00\x08\t\n\r\x1A",
+        b"\\0\\b\\t\\n\\r\\Z",
+    ),
+    (b"'\\%\\_'", b"\\%\\_", b"\\%\\_"),
+    (b"'\\a\\\\\\\"'", b"a\\\"", b"\\a\\\\\\\""),
+    (b"0xC3a9", b"\xC3\xA9", b"\xC3\xA9"),
+];
+
+// The reader itself, by the rows of the rules that no writer of this library uses too.
+#[test]
+fn the_plain_reader(rt: HostRuntime) -> Result<(), Fail> {
+    let alloc = rt.alloc();
+    for (text, with_backslashes, without_backslashes) in STRINGS {
+        let wanted = Content::Bytes(Vec::from_slice(alloc, *with_backslashes)?);
+        let found = read_literal(alloc, *text, false)?;
+        assert_eq!(rt; found, Some((wanted, b"".as_slice())), "of {text:?}");
+        let wanted = Content::Bytes(Vec::from_slice(alloc, *without_backslashes)?);
+        let found = read_literal(alloc, *text, true)?;
+        assert_eq!(rt; found, Some((wanted, b"".as_slice())), "of {text:?}");
+    }
+    let texts: [&[u8]; 6] = [b"", b"-", b"x", b"'a", b"'a\\'", b"null"];
+    for text in texts {
+        assert_eq!(rt; read_literal(alloc, text, false)?, None, "of {text:?}");
+    }
+    Ok(())
+}
+
+/// In both modes the value's literal says the content, and what follows it is left.
+fn reads_back(
+    rt: &impl Abort,
+    alloc: Global,
+    value: &Value,
+    content: &Content,
+) -> Result<(), Fail> {
+    for no_backslash_escape in [false, true] {
+        let mut text = value.as_sql(alloc, no_backslash_escape)?.into_bytes();
+        text.extend_from_slice(b", 'b'")?;
+        match read_literal(alloc, &text, no_backslash_escape)? {
+            Some((found, rest)) => {
+                assert_eq!(rt; found, *content, "of {value:?}");
+                assert_eq!(rt; rest, b", 'b'".as_slice(), "of {value:?}");
+            }
+            None => assert!(rt; false, "{value:?} has no literal"),
+        }
+    }
+    Ok(())
+}
+
+/// The value holds these bytes, and its literal says them.
+fn bytes_read_back(rt: &impl Abort, alloc: Global, held: &[u8]) -> Result<(), Fail> {
+    let content = Content::Bytes(Vec::from_slice(alloc, held)?);
+    reads_back(rt, alloc, &bytes(alloc, held)?, &content)
+}
+
+#[test]
+fn each_byte_reads_back(rt: HostRuntime) -> Result<(), Fail> {
+    for byte in 0..=255u8 {
+        bytes_read_back(&rt, rt.alloc(), &[byte])?;
+    }
+    Ok(())
+}
+
+/// Bytes that a reader may take for the end of a string, or for an escape.
+const HOSTILE: &[u8] = b"'\"\\%_0bntrZx\n\x00\x1A-\xC3\xA9";
+
+#[test]
+fn hostile_bytes_read_back(rt: HostRuntime) -> Result<(), Fail> {
+    bytes_read_back(&rt, rt.alloc(), b"")?;
+    for first in HOSTILE {
+        for second in HOSTILE {
+            bytes_read_back(&rt, rt.alloc(), &[*first, *second])?;
+            bytes_read_back(&rt, rt.alloc(), &[*first, *second, *first])?;
+        }
+    }
+    Ok(())
+}
+
+#[test]
+fn null_and_numbers_read_back(rt: HostRuntime) -> Result<(), Fail> {
+    let alloc = rt.alloc();
+    reads_back(&rt, alloc, &Value::NULL, &Content::Null)?;
+    for number in [0, 1, -1, 9223372036854775807, -9223372036854775808i64] {
+        let content = Content::Number(i128::from(number));
+        reads_back(&rt, alloc, &Value::Int(number), &content)?;
+    }
+    for number in [0, 1, 18446744073709551615u64] {
+        let content = Content::Number(i128::from(number));
+        reads_back(&rt, alloc, &Value::UInt(number), &content)?;
+    }
+    Ok(())
+}
+
+#[test]
+fn dates_and_times_read_back(rt: HostRuntime) -> Result<(), Fail> {
+    let alloc = rt.alloc();
+    let day = Content::Bytes(Vec::from_slice(alloc, b"2019-11-27")?);
+    reads_back(&rt, alloc, &date((2019, 11, 27, 0, 0, 0, 0)), &day)?;
+    let clock = Content::Bytes(Vec::from_slice(alloc, b"-7208:08:08.123456")?);
+    reads_back(&rt, alloc, &time((true, 300, 8, 8, 8, 123456)), &clock)
+}
