@@ -1,1 +1,2 @@
+pub mod Percent
 pub mod Zero

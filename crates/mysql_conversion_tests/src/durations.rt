@@ -1,9 +1,32 @@
 //! Conversions of durations, both ways.
-use crate::shared::{bytes, refused, refuses_other_variants};
+use crate::shared::{bytes, refused};
 use mysql_values::value::Value;
 use mysql_values::value::convert::{FromValue, ParseIrOpt, ToValue, ToValueError, from_value_opt};
+use std::alloc::Global;
+use std::process::Abort;
 use std::test::Fail;
 use std::time::Duration;
+
+// The value converts to the duration, and its intermediate keeps both.
+fn reads_duration(
+    rt: &impl Abort,
+    alloc: Global,
+    value: Value,
+    duration: Duration,
+) -> Result<(), Fail> {
+    let same = value.clone()?;
+    let ir = Duration::get_intermediate(value)?;
+    assert_eq!(rt;
+        ir,
+        ParseIrOpt::Parsed(duration, same.clone()?),
+        "of {same:?}"
+    );
+    assert_eq!(rt; ir.rollback(alloc)?, same);
+    let ir = Duration::get_intermediate(same.clone()?)?;
+    assert_eq!(rt; ir.commit(), duration, "of {same:?}");
+    assert_eq!(rt; from_value_opt::<Duration>(same)?, duration);
+    Ok(())
+}
 
 #[test]
 fn texts_to_durations(rt: HostRuntime) -> Result<(), Fail> {
@@ -16,15 +39,12 @@ fn texts_to_durations(rt: HostRuntime) -> Result<(), Fail> {
     ];
     for (text, seconds, nanoseconds) in &table {
         let value = bytes(rt.alloc(), *text)?;
-        let duration = Duration::new(*seconds, *nanoseconds);
-        let ir = Duration::get_intermediate(value.clone()?)?;
-        assert_eq!(rt;
-            ir,
-            ParseIrOpt::Parsed(duration, value.clone()?),
-            "of {value:?}"
-        );
-        assert_eq!(rt; ir.rollback(rt.alloc())?, value);
-        assert_eq!(rt; from_value_opt::<Duration>(value)?, duration, "of {text:?}");
+        reads_duration(
+            &rt,
+            rt.alloc(),
+            value,
+            Duration::new(*seconds, *nanoseconds),
+        )?;
     }
     Ok(())
 }
@@ -67,14 +87,7 @@ fn times_to_durations(rt: HostRuntime) -> Result<(), Fail> {
     ];
     for (days, hours, minutes, seconds, microseconds, whole, nanoseconds) in &table {
         let value = Value::Time(false, *days, *hours, *minutes, *seconds, *microseconds);
-        let duration = Duration::new(*whole, *nanoseconds);
-        let ir = Duration::get_intermediate(value.clone()?)?;
-        assert_eq!(rt;
-            ir,
-            ParseIrOpt::Parsed(duration, value.clone()?),
-            "of {value:?}"
-        );
-        assert_eq!(rt; ir.commit(), duration);
+        reads_duration(&rt, rt.alloc(), value, Duration::new(*whole, *nanoseconds))?;
     }
     refused::<Duration>(&rt, Value::Time(true, 0, 0, 0, 0, 0))?;
     refused::<Duration>(&rt, Value::Time(true, 0, 1, 0, 0, 0))?;

@@ -7,8 +7,9 @@ mod byte_values;
 mod conversions;
 #[cfg(test)]
 mod durations;
-pub mod own_type;
+pub mod percent;
 #[cfg(test)]
 mod shared;
 #[cfg(test)]
 mod whole_numbers;
+pub mod zero;

@@ -1,4 +1,4 @@
-//! A type of a user's own that values convert to.
+//! A type of a user's own that values convert to, of which contracts see nothing.
 ghost use Rattle.std.specs.Prelude.{⊤};
 ghost use Rattle.mysql_conversion_tests.specs.Zero.{zero_conversion};
 

@@ -1,0 +1,102 @@
+//! A type of a user's own that values convert to, of which contracts see its number: so "converts to
+//! the same thing" says that it is the same number.
+ghost use Rattle.std.specs.Prelude.{ℕ};
+ghost use Rattle.mysql_value_core.specs.FromValue.{ConvertsOrHandsBack};
+ghost use Rattle.mysql_value_core.specs.ValueOf.{uint_value};
+ghost use Rattle.mysql_conversion_tests.specs.Percent.{percent_conversion};
+
+use mysql_values::value::Value;
+use mysql_values::value::convert::{FromValue, FromValueError, IntoValue, ToValueError};
+use std::alloc::Global;
+
+/// A whole number of at most 100. It is its own intermediate.
+#[derive(Debug, Clone, Copy, PartialEq, Eq)]
+pub struct Percent(u8);
+
+impl TryFrom<Value> for Percent {
+    type Error = FromValueError;
+
+    ghost try_from_gives = { λ value result.
+        ConvertsOrHandsBack (λ percent. percent.0) (percent_conversion value) value result };
+
+    fn try_from(value: Value) -> Result<Percent, FromValueError> {
+        match value {
+            Value::Int(number) if number >= 0 && number <= 100 => Ok(Percent(number as u8)),
+            Value::UInt(number) if number <= 100 => Ok(Percent(number as u8)),
+            other => Err(FromValueError(other)),
+        }
+    }
+}
+
+impl IntoValue for Percent {
+    ghost undo = { λ percent. uint_value percent.0 };
+
+    ghost takes_memory = { λ _. ⊥ };
+
+    fn into_value(self, _alloc: Global) -> Result<Value, ToValueError> {
+        Ok(Value::UInt(u64::from(self.0)))
+    }
+}
+
+impl FromValue for Percent {
+    type Intermediate = Percent;
+
+    ghost Seen = { ℕ };
+
+    ghost seen = { λ percent. percent.0 };
+
+    ghost SeenIr = { ℕ };
+
+    ghost seen_ir = { λ percent. percent.0 };
+
+    ghost conversion = { percent_conversion };
+
+    ghost commit = { λ number. number };
+
+    fn commit_intermediate(ir: Percent) -> Percent {
+        ir
+    }
+
+    fn get_intermediate(v: Value) -> Result<Percent, FromValueError> {
+        Percent::try_from(v)
+    }
+}
+
+#[cfg(test)]
+mod tests {
+    use super::*;
+    use crate::shared::{bytes, refused};
+    use mysql_values::value::convert::{from_value, from_value_opt};
+    use std::test::Fail;
+
+    #[test]
+    fn handed_back_as_the_same_number(rt: HostRuntime) -> Result<(), Fail> {
+        for value in [Value::Int(42), Value::UInt(42)] {
+            let ir = Percent::get_intermediate(value.clone()?)?;
+            assert_eq!(rt; ir.into_value(rt.alloc())?, Value::UInt(42), "of {value:?}");
+            assert_eq!(rt; from_value_opt::<Percent>(value)?, Percent(42));
+        }
+        Ok(())
+    }
+
+    #[test]
+    fn least_and_greatest(rt: HostRuntime) -> Result<(), Fail> {
+        assert_eq!(rt; from_value::<Percent>(Value::Int(0)), Percent(0));
+        assert_eq!(rt; from_value_opt::<Percent>(Value::UInt(100))?, Percent(100));
+        refused::<Percent>(&rt, Value::Int(-1))?;
+        refused::<Percent>(&rt, Value::Int(101))?;
+        refused::<Percent>(&rt, Value::UInt(101))?;
+        refused::<Percent>(&rt, Value::NULL)?;
+        refused::<Percent>(&rt, bytes(rt.alloc(), b"42")?)
+    }
+
+    #[test]
+    fn optional(rt: HostRuntime) -> Result<(), Fail> {
+        assert_eq!(rt; from_value_opt::<Option<Percent>>(Value::NULL)?, None);
+        assert_eq!(rt;
+            from_value_opt::<Option<Percent>>(Value::Int(7))?,
+            Some(Percent(7))
+        );
+        Ok(())
+    }
+}
