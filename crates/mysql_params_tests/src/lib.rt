@@ -2,10 +2,13 @@
 #![tactic(auto)]
 
 #[cfg(test)]
+mod asked;
+#[cfg(test)]
 mod lookups;
 #[cfg(test)]
 mod makers;
 #[cfg(test)]
 mod messages;
+pub mod own_type;
 #[cfg(test)]
 mod shared;

@@ -3,6 +3,7 @@ use crate::shared::{bytes, named, names, positional};
 use mysql_params::params::{
     IntoPositionalError, MissingNamedParameterError, Params, ParamsConfusionError, ParamsError,
 };
+use mysql_values::value::Value;
 use std::alloc::{AllocError, Global};
 use std::test::Fail;
 
@@ -90,6 +91,19 @@ fn other_parameters(rt: HostRuntime) -> Result<(), Fail> {
 }
 
 #[test]
+fn a_value_given_twice(rt: HostRuntime) -> Result<(), Fail> {
+    let alloc = rt.alloc();
+    let params = Params::from_pairs(alloc, &[("a", Value::Int(1))])?;
+    let list = names(alloc, b"aa")?;
+    let values = params.into_values(alloc, Some(list.as_slice()))?;
+    assert_eq!(rt;
+        values.as_slice(),
+        [Value::Int(1), Value::Int(1)].as_slice()
+    );
+    Ok(())
+}
+
+#[test]
 fn values_of_bytes(rt: HostRuntime) -> Result<(), Fail> {
     let alloc = rt.alloc();
     let pairs = [(b"a".as_slice(), "x"), (b"b".as_slice(), "y")];
@@ -119,6 +133,15 @@ fn equality_and_copies(rt: HostRuntime) -> Result<(), Fail> {
     let missing = MissingNamedParameterError(Vec::from_slice(alloc, b"a")?);
     assert_eq!(rt; missing.clone()?, missing);
     let error = ParamsError::Missing(missing);
+    assert_eq!(rt; error.clone()?, error);
+    Ok(())
+}
+
+#[test]
+fn copies_of_errors_without_a_name(rt: HostRuntime) -> Result<(), Fail> {
+    let error = ParamsError::Confusion(ParamsConfusionError::PositionalParamsForNamedQuery);
+    assert_eq!(rt; error.clone()?, error);
+    let error = ParamsError::Memory(AllocError);
     assert_eq!(rt; error.clone()?, error);
     Ok(())
 }

@@ -1,30 +1,12 @@
 //! What things make parameters.
+use crate::own_type::Counted;
 use crate::shared::{bytes, named, positional};
 use mysql_params::params::{Params, ToName, ToParams, ToParamsError};
 use mysql_values::value::Value;
 use mysql_values::value::convert::{ToValue, ToValueError};
 use std::alloc::{AllocError, Global};
-use std::cell::Cell;
 use std::test::Fail;
 use std::time::Duration;
-
-// A type of the test's own, which counts how often it is asked for its value.
-#[derive(Drop)]
-struct Counted {
-    calls: Cell<u32>,
-}
-
-impl ToValue for Counted {
-    ghost use Rattle.std.specs.Prelude.{Ok};
-    ghost use Rattle.mysql_values.specs.ValueOf.{uint_value};
-
-    ghost value_of = { λ _. uint_value 7 };
-
-    fn to_value(&self, _alloc: Global) -> Result<Value, ToValueError> {
-        self.calls.set(self.calls.get().wrapping_add(1));
-        Ok(Value::UInt(7))
-    }
-}
 
 // Through the bound alone.
 fn made<T: ToParams>(alloc: Global, things: &T) -> Result<Params, ToParamsError> {
@@ -75,6 +57,8 @@ fn lists(rt: HostRuntime) -> Result<(), Fail> {
     assert_eq!(rt; made(alloc, &list)?, positional(alloc, &[1, 2, 2])?);
     assert_eq!(rt; made(alloc, &&list)?, positional(alloc, &[1, 2, 2])?);
     assert_eq!(rt; made(alloc, &named(alloc, b"ab")?)?, named(alloc, b"ab")?);
+    let numbers = positional(alloc, &[1, 2])?;
+    assert_eq!(rt; made(alloc, &numbers)?, numbers);
     assert_eq!(rt; made(alloc, &Params::Empty)?, Params::Empty);
     Ok(())
 }
@@ -145,9 +129,7 @@ fn long_tuples(rt: HostRuntime) -> Result<(), Fail> {
 #[test]
 fn objects(rt: HostRuntime) -> Result<(), Fail> {
     let alloc = rt.alloc();
-    let own = Counted {
-        calls: Cell::new(0),
-    };
+    let own = Counted::new(Duration::from_secs(7));
     let objects: [&dyn ToValue; 4] = [&1u8, &"x", &None::<i64>, &own];
     let params = made(alloc, &objects.as_slice())?;
     let wanted = Vec::from_array(
@@ -156,11 +138,11 @@ fn objects(rt: HostRuntime) -> Result<(), Fail> {
             Value::UInt(1),
             bytes(alloc, b"x")?,
             Value::NULL,
-            Value::UInt(7),
+            Value::Time(false, 0, 0, 0, 7, 0),
         ],
     )?;
     assert_eq!(rt; params, Params::Positional(wanted));
-    assert_eq!(rt; own.calls.get(), 1);
+    assert_eq!(rt; own.times_asked(), 1);
     let twice: [&dyn ToValue; 2] = [&2u8, &2u8];
     assert_eq!(rt;
         made(alloc, &twice.as_slice())?,
@@ -204,27 +186,6 @@ fn refused_things(rt: HostRuntime) -> Result<(), Fail> {
     assert_eq!(rt; Params::from_pairs(alloc, &pairs).err(), too_long);
     let pairs: [(&[u8], &dyn ToValue); 3] = [(b"a", &1u8), (b"b", &long), (b"a", &1u8)];
     assert_eq!(rt; Params::from_objects(alloc, &pairs).err(), too_long);
-    Ok(())
-}
-
-#[test]
-fn redefined_thing_is_not_asked(rt: HostRuntime) -> Result<(), Fail> {
-    let alloc = rt.alloc();
-    let own = Counted {
-        calls: Cell::new(0),
-    };
-    let error = ToParamsError::Redefined(Vec::from_slice(alloc, b"a")?);
-    let pairs: [(&[u8], &dyn ToValue); 2] = [(b"a", &1u8), (b"a", &own)];
-    assert_eq!(rt; Params::from_objects(alloc, &pairs).err(), Some(error));
-    assert_eq!(rt; own.calls.get(), 0);
-    let first = Counted {
-        calls: Cell::new(0),
-    };
-    let error = ToParamsError::Redefined(Vec::from_slice(alloc, b"a")?);
-    let pairs = [("a", &first), ("a", &own)];
-    assert_eq!(rt; Params::from_pairs(alloc, &pairs).err(), Some(error));
-    assert_eq!(rt; first.calls.get(), 1);
-    assert_eq!(rt; own.calls.get(), 0);
     Ok(())
 }
 

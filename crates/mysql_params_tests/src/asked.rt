@@ -1,0 +1,134 @@
+//! Which things are asked for their value, and how often: each once, up to the first that decides.
+use crate::own_type::Counted;
+use mysql_params::params::{Params, ToParams, ToParamsError};
+use mysql_values::value::convert::{ToValue, ToValueError};
+use std::alloc::{AllocError, Global};
+use std::process::Abort;
+use std::test::Fail;
+use std::time::Duration;
+
+/// Three things, of which the second may have no value.
+fn three_things(second: Duration) -> [Counted; 3] {
+    let one = Duration::from_secs(1);
+    [Counted::new(one), Counted::new(second), Counted::new(one)]
+}
+
+/// How often each was asked for its value.
+fn times_asked(things: &[Counted; 3]) -> [u32; 3] {
+    [
+        things[0].times_asked(),
+        things[1].times_asked(),
+        things[2].times_asked(),
+    ]
+}
+
+/// What makes parameters of three things.
+#[derive(Clone, Copy, Debug)]
+enum Maker {
+    List,
+    Objects,
+    Tuple,
+    Pairs,
+    PairsOfObjects,
+}
+
+const MAKERS: [Maker; 5] = [
+    Maker::List,
+    Maker::Objects,
+    Maker::Tuple,
+    Maker::Pairs,
+    Maker::PairsOfObjects,
+];
+
+/// Pairs of the things and names of one byte each.
+fn pairs(alloc: Global, names: &[u8; 3], things: &[Counted; 3]) -> Result<Params, ToParamsError> {
+    let pairs = [
+        (&names[0..1], &things[0]),
+        (&names[1..2], &things[1]),
+        (&names[2..3], &things[2]),
+    ];
+    Params::from_pairs(alloc, &pairs)
+}
+
+/// The same, by their objects.
+fn pairs_of_objects<'a>(
+    alloc: Global,
+    names: &'a [u8; 3],
+    things: &'a [Counted; 3],
+) -> Result<Params, ToParamsError> {
+    let pairs: [(&'a [u8], &'a dyn ToValue); 3] = [
+        (&names[0..1], &things[0]),
+        (&names[1..2], &things[1]),
+        (&names[2..3], &things[2]),
+    ];
+    Params::from_objects(alloc, &pairs)
+}
+
+fn objects<'a>(alloc: Global, things: &'a [Counted; 3]) -> Result<Params, ToParamsError> {
+    let objects: [&'a dyn ToValue; 3] = [&things[0], &things[1], &things[2]];
+    objects.as_slice().to_params(alloc)
+}
+
+fn make(alloc: Global, maker: Maker, things: &[Counted; 3]) -> Result<Params, ToParamsError> {
+    match maker {
+        Maker::List => Vec::from_array(alloc, [&things[0], &things[1], &things[2]])
+            .map_err(|_| ToParamsError::Memory(AllocError))?
+            .to_params(alloc),
+        Maker::Objects => objects(alloc, things),
+        Maker::Tuple => (&things[0], &things[1], &things[2]).to_params(alloc),
+        Maker::Pairs => pairs(alloc, b"abc", things),
+        Maker::PairsOfObjects => pairs_of_objects(alloc, b"abc", things),
+    }
+}
+
+#[test]
+fn each_thing_is_asked_once(rt: HostRuntime) {
+    for maker in MAKERS {
+        let things = three_things(Duration::from_secs(2));
+        assert!(rt; make(rt.alloc(), maker, &things).is_ok(), "{maker:?}");
+        assert_eq!(rt; times_asked(&things), [1, 1, 1], "{maker:?}");
+    }
+}
+
+#[test]
+fn nothing_is_asked_after_a_refused_thing(rt: HostRuntime) {
+    // One second more than a `Time` has days for.
+    let long = Duration::from_secs(371085174374400);
+    for maker in MAKERS {
+        let things = three_things(long);
+        let refusal = make(rt.alloc(), maker, &things).err();
+        let too_long = ToParamsError::Value(ToValueError::DurationTooLong(long));
+        assert_eq!(rt; refusal, Some(too_long), "{maker:?}");
+        assert_eq!(rt; times_asked(&things), [1, 1, 0], "{maker:?}");
+    }
+}
+
+/// The pairs are refused for the name `a`, and so often the things were asked.
+fn is_redefined(
+    rt: &impl Abort,
+    alloc: Global,
+    names: &[u8; 3],
+    wanted: [u32; 3],
+) -> Result<(), Fail> {
+    let error = ToParamsError::Redefined(Vec::from_slice(alloc, b"a")?);
+    let things = three_things(Duration::from_secs(2));
+    assert_eq!(rt;
+        pairs(alloc, names, &things).err(),
+        Some(error),
+        "{names:?}"
+    );
+    assert_eq!(rt; times_asked(&things), wanted, "{names:?}");
+    let error = ToParamsError::Redefined(Vec::from_slice(alloc, b"a")?);
+    let things = three_things(Duration::from_secs(2));
+    let refusal = pairs_of_objects(alloc, names, &things).err();
+    assert_eq!(rt; refusal, Some(error), "{names:?} of objects");
+    assert_eq!(rt; times_asked(&things), wanted, "{names:?} of objects");
+    Ok(())
+}
+
+#[test]
+fn nothing_is_asked_from_a_redefined_name_on(rt: HostRuntime) -> Result<(), Fail> {
+    is_redefined(&rt, rt.alloc(), b"aab", [1, 0, 0])?;
+    is_redefined(&rt, rt.alloc(), b"aba", [1, 1, 0])?;
+    is_redefined(&rt, rt.alloc(), b"aaa", [1, 0, 0])
+}
