@@ -1,5 +1,5 @@
 //! Queries with values bound into them, and those that are refused.
-use crate::shared::{Given, Plain, Refused};
+use crate::shared::{Given, Plain, Refused, is_bound};
 use mysql_params::laws::bind_error_equality;
 use mysql_params::{BindError, bind_text};
 use std::alloc::{AllocError, Global};
@@ -44,11 +44,7 @@ const TEXTS: &[(&[u8], Given<'_>, &[u8])] = &[
 #[test]
 fn bound_texts(rt: HostRuntime) -> Result<(), Fail> {
     for (query, given, wanted) in TEXTS {
-        let params = given.params(rt.alloc())?;
-        match bind_text(rt.alloc(), *query, params) {
-            Ok(text) => assert_eq!(rt; text.as_slice(), *wanted, "of {query:?} and {given:?}"),
-            Err(error) => assert!(rt; false, "{query:?} and {given:?}: {error}"),
-        }
+        is_bound(&rt, rt.alloc(), *query, *given, *wanted)?;
     }
     Ok(())
 }

@@ -1,26 +1,11 @@
 //! Values that try to leave their literals.
-use crate::shared::{Given, Plain};
+use crate::shared::{Given, Plain, is_bound};
 use mysql_params::bind_text;
 use mysql_params::params::Params;
 use mysql_values::bytes::Bytes;
 use mysql_values::value::Value;
 use std::alloc::{AllocError, Global};
-use std::process::Abort;
 use std::test::Fail;
-
-fn is_bound(
-    rt: &impl Abort,
-    alloc: Global,
-    query: &[u8],
-    given: Given<'_>,
-    wanted: &[u8],
-) -> Result<(), Fail> {
-    match bind_text(alloc, query, given.params(alloc)?) {
-        Ok(text) => assert_eq!(rt; text.as_slice(), wanted, "of {query:?} and {given:?}"),
-        Err(error) => assert!(rt; false, "{query:?} and {given:?}: {error}"),
-    }
-    Ok(())
-}
 
 /// What stands for a byte between quotes, where it is not the byte itself.
 const ESCAPES: &[(u8, u8)] = &[

@@ -1,12 +1,13 @@
-//! Tests of binding, through public calls alone.
+//! Tests of binding, of the example that README gives, and of the paths that a user may name, through
+//! public calls alone.
 #![tactic(auto)]
 
 #[cfg(test)]
 mod binding;
 #[cfg(test)]
 mod isolation;
-#[cfg(test)]
-mod readme;
+pub mod paths;
+pub mod readme;
 #[cfg(test)]
 mod shared;
 #[cfg(test)]

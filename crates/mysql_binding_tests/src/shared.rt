@@ -1,10 +1,12 @@
 //! Parameters and refusals as plain data, and what they stand for.
-use mysql_params::BindError;
 use mysql_params::params::{MissingNamedParameterError, Params, ParamsConfusionError, ParamsError};
+use mysql_params::{BindError, bind_text};
 use mysql_values::bytes::Bytes;
 use mysql_values::value::Value;
 use std::alloc::{AllocError, Global};
 use std::collections::HashMap;
+use std::process::Abort;
+use std::test::Fail;
 
 /// A value.
 #[derive(Clone, Copy, Debug)]
@@ -103,4 +105,19 @@ impl Refused<'_> {
             Refused::Float(place) => Ok(BindError::Float { place }),
         }
     }
+}
+
+/// The query is bound to the text.
+pub(crate) fn is_bound(
+    rt: &impl Abort,
+    alloc: Global,
+    query: &[u8],
+    given: Given<'_>,
+    wanted: &[u8],
+) -> Result<(), Fail> {
+    match bind_text(alloc, query, given.params(alloc)?) {
+        Ok(text) => assert_eq!(rt; text.as_slice(), wanted, "of {query:?} and {given:?}"),
+        Err(error) => assert!(rt; false, "{query:?} and {given:?}: {error}"),
+    }
+    Ok(())
 }

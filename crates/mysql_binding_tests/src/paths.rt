@@ -1,0 +1,140 @@
+//! Every public path that a user may name, so that one that moves is noticed: it is handed on here,
+//! and a path that is gone doesn't compile.
+
+pub use mysql_params::BindError;
+pub use mysql_params::RunError;
+pub use mysql_params::bind_text;
+pub use mysql_params::laws::beginnings_are_found;
+pub use mysql_params::laws::bind_error_equality;
+pub use mysql_params::laws::equal_texts_say_the_same;
+pub use mysql_params::laws::first_not_alone_is_first;
+pub use mysql_params::laws::into_positional_error_equality;
+pub use mysql_params::laws::isolation;
+pub use mysql_params::laws::locality;
+pub use mysql_params::laws::lookups_agree;
+pub use mysql_params::laws::missing_named_parameter_error_equality;
+pub use mysql_params::laws::mixed_error_equality;
+pub use mysql_params::laws::named_params_error_equality;
+pub use mysql_params::laws::one_token_list;
+pub use mysql_params::laws::params_confusion_error_equality;
+pub use mysql_params::laws::params_equality;
+pub use mysql_params::laws::params_error_equality;
+pub use mysql_params::laws::parsed_equality;
+pub use mysql_params::laws::position_of_first_not_alone;
+pub use mysql_params::laws::positions_of_places;
+pub use mysql_params::laws::renaming_undone;
+pub use mysql_params::laws::run_error_equality;
+pub use mysql_params::laws::to_params_error_equality;
+pub use mysql_params::named_params::MixedParamsError;
+pub use mysql_params::named_params::NamedParamsError;
+pub use mysql_params::named_params::ParsedNamedParams;
+pub use mysql_params::params::IntoPositionalError;
+pub use mysql_params::params::MissingNamedParameterError;
+pub use mysql_params::params::Params;
+pub use mysql_params::params::ParamsConfusionError;
+pub use mysql_params::params::ParamsError;
+pub use mysql_params::params::ToName;
+pub use mysql_params::params::ToParams;
+pub use mysql_params::params::ToParamsError;
+pub use mysql_params::run;
+pub use mysql_values::bytes::Bytes;
+pub use mysql_values::laws::array_converts_back;
+pub use mysql_values::laws::as_sql_error_equality;
+pub use mysql_values::laws::bytes_convert_back;
+pub use mysql_values::laws::bytes_equality;
+pub use mysql_values::laws::bytes_order;
+pub use mysql_values::laws::duration_converts_back;
+pub use mysql_values::laws::escapes_read;
+pub use mysql_values::laws::floats_have_no_literal;
+pub use mysql_values::laws::from_value_error_equality;
+pub use mysql_values::laws::literal_reads_back;
+pub use mysql_values::laws::literal_shape;
+pub use mysql_values::laws::null_bitmap_offsets;
+pub use mysql_values::laws::numbers_read;
+pub use mysql_values::laws::option_ir_equality;
+pub use mysql_values::laws::parse_ir_equality;
+pub use mysql_values::laws::parse_ir_opt_equality;
+pub use mysql_values::laws::server_side_equality;
+pub use mysql_values::laws::text_converts_back;
+pub use mysql_values::laws::time_texts_are_read;
+pub use mysql_values::laws::times_read_back;
+pub use mysql_values::laws::to_value_error_equality;
+pub use mysql_values::laws::truth_converts_back;
+pub use mysql_values::laws::value_equality;
+pub use mysql_values::laws::value_ir_equality;
+pub use mysql_values::laws::value_ir_order;
+pub use mysql_values::laws::value_order;
+pub use mysql_values::laws::value_order_is_total;
+pub use mysql_values::laws::value_partial_order;
+pub use mysql_values::laws::whole_number_converts_back;
+pub use mysql_values::show::Shown;
+pub use mysql_values::value::AsSqlError;
+pub use mysql_values::value::BinValue;
+pub use mysql_values::value::ClientSide;
+pub use mysql_values::value::SerializationSide;
+pub use mysql_values::value::ServerSide;
+pub use mysql_values::value::TextValue;
+pub use mysql_values::value::Value;
+pub use mysql_values::value::ValueDeserializer;
+pub use mysql_values::value::convert::FromValue;
+pub use mysql_values::value::convert::FromValueError;
+pub use mysql_values::value::convert::IntoValue;
+pub use mysql_values::value::convert::OptionIr2;
+pub use mysql_values::value::convert::ParseIr;
+pub use mysql_values::value::convert::ParseIrOpt;
+pub use mysql_values::value::convert::ToValue;
+pub use mysql_values::value::convert::ToValueError;
+pub use mysql_values::value::convert::ValueIr;
+pub use mysql_values::value::convert::WholeNumber;
+pub use mysql_values::value::convert::from_value;
+pub use mysql_values::value::convert::from_value_opt;
+pub use mysql_values::value::read_text_cells;
+pub use mysql_wire_part::ColumnFlags;
+pub use mysql_wire_part::ColumnType;
+pub use mysql_wire_part::Flags;
+pub use mysql_wire_part::MyDeserialize;
+pub use mysql_wire_part::MySerialize;
+pub use mysql_wire_part::ParseBuf;
+pub use mysql_wire_part::WireError;
+pub use mysql_wire_part::laws::column_flags_equality;
+pub use mysql_wire_part::laws::column_type_equality;
+pub use mysql_wire_part::laws::parse_buf_equality;
+pub use mysql_wire_part::laws::wire_error_equality;
+pub use mysql_wire_part::lenenc_str_len;
+pub use mysql_wire_part::put_lenenc_str;
+
+#[cfg(test)]
+mod tests {
+    use super::*;
+    use std::alloc::{AllocError, Global};
+    use std::test::Fail;
+
+    // By the paths above alone: the literal of a value that a text row holds, as text.
+    fn literal_of_cell(alloc: Global, row: &[u8]) -> Result<Option<String>, AllocError> {
+        let mut buf = ParseBuf(row);
+        let Ok(cells) = read_text_cells(alloc, &mut buf, 1) else {
+            return Ok(None);
+        };
+        let [cell, ..] = cells.as_slice() else {
+            return Ok(None);
+        };
+        match cell.as_sql(alloc, false) {
+            Ok(literal) => Ok(Some(literal)),
+            Err(AsSqlError::Memory(error)) => Err(error),
+            Err(AsSqlError::Float) => Ok(None),
+        }
+    }
+
+    #[test]
+    fn paths_are_those_of_the_types_that_calls_name(rt: HostRuntime) -> Result<(), Fail> {
+        let literal = literal_of_cell(rt.alloc(), b"\x04it's")?;
+        assert_eq!(rt; literal.ok_or("no literal")?.as_str(), "'it\\'s'");
+        let refusal: Option<BindError> = bind_text(rt.alloc(), b"?", Params::Empty).err();
+        let count = BindError::MarkCount {
+            marks: 1,
+            values: 0,
+        };
+        assert_eq!(rt; refusal, Some(count));
+        Ok(())
+    }
+}
