@@ -1,8 +1,9 @@
 //! Laws of the definitions that the contracts cite, and of equality. The functions that have no
 //! result do nothing: each is called for what it ensures.
-ghost use Rattle.std.specs.Prelude.{◌≡◌, ℕ, ◌+◌, ◌↔◌, Bool, List, length, IsTrue};
+ghost use Rattle.std.specs.Prelude.{◌≡◌, ℕ, ◌+◌, ◌↔◌, Bool, List, [], length, IsTrue};
 ghost use Rattle.mysql_named_params.specs.Tokens.{Token, IsToken, IsTokens};
 ghost use Rattle.mysql_named_params.specs.Locality.{LooksAlike};
+ghost use Rattle.mysql_named_params.specs.Parsed.{parsed};
 ghost use Rattle.mysql_named_params.specs.Places.{names, marks, positions, HavePlacesAt, AscendFrom, with_marks, with_names};
 
 use crate::named_params::{MixedParamsError, NamedParamsError, ParsedNamedParams};
@@ -13,14 +14,14 @@ pub fn one_token_list()
         IsTokens mode query ts → IsTokens mode query us → ts ≡ us }
 {}
 
-/// A token looks at no more than two of the bytes behind it, and an open one at whether there are
+/// A token looks at no more than two of the bytes after it, and an open one at whether there are
 /// any: what follows it otherwise may be any bytes.
 pub fn locality()
     ensures local { (mode : Bool) (t : Token) (rest other : List ℕ) →
         LooksAlike mode t rest other → IsToken mode t rest → IsToken mode t other }
 {}
 
-/// The positions are those of the names and marks: as many, one behind another, and at each the
+/// The positions are those of the names and marks: as many, one after another, and at each the
 /// bytes of the tokens before a name or a mark end.
 pub fn positions_of_places()
     ensures count { (ts : List Token) → length (positions ts) ≡ length (names ts) + marks ts }
@@ -31,6 +32,12 @@ pub fn positions_of_places()
 /// Putting the names back in place of the marks undoes the renaming of a query without marks.
 pub fn renaming_undone()
     ensures undone { (ts : List Token) → marks ts ≡ 0 → with_names (with_marks ts) (names ts) ≡ ts }
+{}
+
+/// Of a query without names, the query with marks is the query itself.
+pub fn nameless_is_unchanged()
+    ensures unchanged { (mode : Bool) (query : List ℕ) (ts : List Token) →
+        IsTokens mode query ts → names ts ≡ [] → (parsed ts).query ≡ query }
 {}
 
 /// Errors of reading names are equal where they are the same error.

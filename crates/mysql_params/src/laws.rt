@@ -7,8 +7,8 @@ pub use mysql_binding::laws::{
     position_of_first_not_alone,
 };
 pub use mysql_named_params::laws::{
-    locality, mixed_error_equality, named_params_error_equality, one_token_list, parsed_equality,
-    positions_of_places, renaming_undone,
+    locality, mixed_error_equality, named_params_error_equality, nameless_is_unchanged,
+    one_token_list, parsed_equality, positions_of_places, renaming_undone,
 };
 pub use mysql_params_core::laws::{
     beginnings_are_found, into_positional_error_equality, lookups_agree,
