@@ -19,7 +19,8 @@ RollsBack conversion commit (Err duration) ir = ⊥
 abbrev pub NullFromNull : Meaning → Value → Type 0
 NullFromNull undone value = undone ≡ Ok NULL → value ≡ NULL
 
--- An intermediate comes of a value, and goes back to one that converts to the same.
+-- The result is the intermediate of the value, which rolls back to a value that converts to the
+-- same thing; or the value is handed back.
 pub record ConvertsAndRollsBack {T Seen : Type 0} (seen : ParseIrOpt T → ParseIrOpt Seen)
     (conversion : Value → Option (ParseIrOpt Seen)) (value_of : T → Meaning) (value : Value)
     (result : Result (ParseIrOpt T) FromValueError) : Type 0 where
