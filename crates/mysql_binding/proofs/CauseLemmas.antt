@@ -3,12 +3,12 @@ use Rattle.std.specs.Prelude.{Ok, ok_or, option_map, nat_lt}
 use Rattle.std.specs.Option.{option_or, option_and_then}
 use Rattle.std.specs.FinMap.{get}
 use Rattle.std.proofs.Common.{◌≡◌, ◌≢◌, ◌⊎◌, ◌↔◌, ◌==◌, inl, inr, Bool, true, false, ℕ, zero, suc, ◌+◌, ◌<◌, List, [], ◌∷◌, length, refl, sym, ap, ◌∙◌, arith, subst, Option, Some, None, eq-eqb, true≢false}
-use Rattle.std.proofs.lemmas.Bool.{cases_Bool, eqb-true, and_from}
+use Rattle.std.proofs.lemmas.Bool.{cases_Bool, eqb-true, and_from, and_parts, ltb-true}
 use Rattle.std.proofs.lemmas.Bool.Decides.{nat_tests}
 use Rattle.std.proofs.lemmas.List.{nil_from_length}
 use Rattle.mysql_values.specs.declared.value.Value.{Value}
 use Rattle.mysql_named_params.specs.Tokens.{Token, IsTokens, OnTokens, AreTokensBefore}
-use Rattle.mysql_named_params.specs.Places.{names, marks, renamed, place_count, HasName, HasMark}
+use Rattle.mysql_named_params.specs.Places.{names, marks, renamed, place_count, has_both, HasName, HasMark}
 use Rattle.mysql_named_params.specs.Parsed.{Parsed, parsed}
 use Rattle.mysql_named_params.proofs.ReparsedLemmas.{places_are, renamed_names, renamed_marks}
 use Rattle.mysql_named_params.proofs.TokenListLemmas.{one_token_list}
@@ -16,7 +16,6 @@ use Rattle.mysql_params_core.specs.Given.{Given, ValueMap, empty, named, positio
 use Rattle.mysql_params_core.specs.Lookup.{lookup, values_at}
 use Rattle.mysql_binding.specs.FirstCause.{Cause, mixed_query, mark_count, not_alone, float_value, mixed_cause, counts_differ, count_cause, alone_cause, first_float, float_cause, later_cause, cause_behind, first_cause}
 use Rattle.mysql_binding.specs.StandsAlone.{first_not_alone}
-use Rattle.mysql_program.proofs.ProgramLemmas.{has_both-not}
 use Rattle.mysql_binding.proofs.RenamedPlaceLemmas.{renamed_alone, no_place_alone}
 
 -- ---- what several calls say of the tokens of one query
@@ -44,6 +43,16 @@ some_none : {A : Type 0} (x : A) → Some x ≢ None
 some_none x e = cc
 
 -- ---- names and marks in one query
+
+-- tokens that have not both kinds of places are found not to
+pub has_both-not : (ts : List Token) → (HasName ts × HasMark ts → ⊥) → has_both ts ≡ false
+has_both-not ts not_both =
+    elim (cases_Bool (has_both ts)) [
+      | inl h ↦
+          let parts = and_parts (nat_lt 0 (length (names ts))) (nat_lt 0 (marks ts)) h in
+          absurd (not_both (ltb-true 0 (length (names ts)) parts.0, ltb-true 0 (marks ts) parts.1))
+      | inr h ↦ h
+    ]
 
 pub mixed_none : (ts : List Token) → (HasName ts × HasMark ts → ⊥) → mixed_cause ts ≡ None
 mixed_none ts h = rw (has_both-not ts h) refl

@@ -1,22 +1,12 @@
 -- What the program writes, from what it parsed.
-use Rattle.std.proofs.Common.{◌≡◌, ◌∷◌, ℕ, nat_lt, List, length, Ok, sym, ap, ◌∙◌, inl, inr, subst}
+use Rattle.std.proofs.Common.{◌≡◌, ◌∷◌, ℕ, List, Ok, sym, ap, ◌∙◌, subst}
 use Rattle.std.specs.Prelude.{Bool, false}
-use Rattle.std.proofs.lemmas.Bool.{cases_Bool, and_parts, ltb-true}
 use Rattle.mysql_named_params.specs.Tokens.{Token, IsTokens, text_of}
 use Rattle.mysql_named_params.specs.Places.{names, marks, renamed, has_both, HasName, HasMark}
 use Rattle.mysql_named_params.specs.Parsed.{Parsed, parsed}
 use Rattle.mysql_program.specs.Program.{lines_of, names_output}
 use Rattle.mysql_named_params.proofs.TokenListLemmas.{one_token_list}
-
--- tokens that have not both kinds of places are found not to
-pub has_both-not : (ts : List Token) → (HasName ts × HasMark ts → ⊥) → has_both ts ≡ false
-has_both-not ts not_both =
-    elim (cases_Bool (has_both ts)) [
-      | inl h ↦
-          let parts = and_parts (nat_lt 0 (length (names ts))) (nat_lt 0 (marks ts)) h in
-          absurd (not_both (ltb-true 0 (length (names ts)) parts.0, ltb-true 0 (marks ts) parts.1))
-      | inr h ↦ h
-    ]
+use Rattle.mysql_binding.proofs.CauseLemmas.{has_both-not}
 
 -- the lines of a parsed query are what `names` writes
 pub names_output_is : (mode : Bool) (query text : List ℕ) (p : Parsed) (ts us : List Token) →
