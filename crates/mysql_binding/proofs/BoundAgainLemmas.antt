@@ -7,19 +7,20 @@ use Rattle.std.proofs.lemmas.List.{nil_from_length}
 use Rattle.mysql_values.specs.declared.value.Value.{Value}
 use Rattle.mysql_values.specs.Content.{content_of}
 use Rattle.mysql_named_params.specs.Tokens.{Token, IsTokens, bytes_of, text_of, Name, Mark}
-use Rattle.mysql_named_params.specs.Places.{names, marks, renamed, place_count}
-use Rattle.mysql_named_params.proofs.ReparsedLemmas.{places_are, renamed_are, renamed_names}
+use Rattle.mysql_named_params.specs.Places.{names, marks, with_marks, place_count}
+use Rattle.mysql_named_params.proofs.TokenRowLemmas.{place_count-sum}
+use Rattle.mysql_named_params.proofs.ReparsedLemmas.{IsTokens-with_marks, names-with_marks}
 use Rattle.mysql_named_params.proofs.TokenListLemmas.{one_token_list}
 use Rattle.mysql_params_core.specs.Given.{Given, empty, positional}
 use Rattle.mysql_params_core.specs.Lookup.{LookupRefusal, lookup}
 use Rattle.mysql_binding.specs.FirstCause.{cause_behind, first_cause, later_cause, mixed_cause}
 use Rattle.mysql_binding.specs.Isolation.{IsBoundText}
-use Rattle.mysql_binding.specs.Pieces.{pieces, pieces_from, interleaved}
+use Rattle.mysql_binding.specs.Pieces.{pieces, pieces_from, joined_text}
 use Rattle.mysql_binding.specs.Contents.{contents, AreReadInPlace}
-use Rattle.mysql_binding.specs.Replaced.{AreTokensOf, replaced}
+use Rattle.mysql_binding.specs.Replaced.{AreTokensOf, with_literal_tokens}
 use Rattle.mysql_binding.proofs.CauseLemmas.{no_cause_left, no_cause_renamed, no_float_cause, no_place_out, or_none, value_each}
 use Rattle.mysql_binding.proofs.ContentsLemmas as read
-use Rattle.mysql_binding.proofs.PieceLemmas.{bound_none, interleaved_count, interleaved_pieces}
+use Rattle.mysql_binding.proofs.PieceLemmas.{bound_none, joined_text_count, joined_text-pieces_from}
 use Rattle.mysql_binding.proofs.RenamedPlaceLemmas.{no_place_alone}
 use Rattle.mysql_binding.proofs.ReplacedLemmas.{isolated_places}
 
@@ -28,23 +29,23 @@ use Rattle.mysql_binding.proofs.ReplacedLemmas.{isolated_places}
 pub no_place_is_left : (mode : Bool) (ts us : List Token) (given : Given) (text : List ℕ) →
     IsBoundText mode ts given text → IsTokens mode text us → place_count us ≡ 0
 no_place_is_left mode ts us given text bound is =
-    let same : replaced ts bound.lists ≡ us = one_token_list mode text (replaced ts bound.lists) us bound.isolated is in
-    let none : place_count (replaced ts bound.lists) ≡ 0 = isolated_places mode text ts bound.literals bound.lists bound.shapes bound.tokens_of_literals bound.exact in
+    let same : with_literal_tokens ts bound.lists ≡ us = one_token_list mode text (with_literal_tokens ts bound.lists) us bound.isolated is in
+    let none : place_count (with_literal_tokens ts bound.lists) ≡ 0 = isolated_places mode text ts bound.literals bound.lists bound.shapes bound.tokens_of_literals bound.exact in
     subst (λ vs. place_count vs ≡ 0) same none
 
 -- ---- bound again
 
-replaced-no_place : (us : List Token) → place_count us ≡ 0 → replaced us [] ≡ us
-replaced-no_place [] e = refl
-replaced-no_place (Name name ∷ us) e = absurd (omega arith)
-replaced-no_place (Mark ∷ us) e = absurd (omega arith)
-replaced-no_place (t ∷ us) e = ap (λ vs. t ∷ vs) (replaced-no_place us e)
+with_literal_tokens-no_place : (us : List Token) → place_count us ≡ 0 → with_literal_tokens us [] ≡ us
+with_literal_tokens-no_place [] e = refl
+with_literal_tokens-no_place (Name name ∷ us) e = absurd (omega arith)
+with_literal_tokens-no_place (Mark ∷ us) e = absurd (omega arith)
+with_literal_tokens-no_place (t ∷ us) e = ap (λ vs. t ∷ vs) (with_literal_tokens-no_place us e)
 
 -- a text without places is the text that is bound to nothing
 nothing_bound : (mode : Bool) (us : List Token) (text : List ℕ) → IsTokens mode text us →
     place_count us ≡ 0 → IsBoundText mode us empty text
 nothing_bound mode us text is none =
-    let all : place_count us ≡ length (names us) + marks us = places_are us in
+    let all : place_count us ≡ length (names us) + marks us = place_count-sum us in
     let no_names : names us ≡ [] = nil_from_length (names us) (omega (arith, none, all)) in
     let whole = bound_none us none ∙ is.text in
     let alone = no_place_alone us 0 [] none in
@@ -55,10 +56,10 @@ nothing_bound mode us text is none =
       literals = [];
       written = refl;
       shapes = tt;
-      exact = interleaved_pieces [] us [] (sym none) ∙ ap Some whole;
+      exact = joined_text-pieces_from [] us [] (sym none) ∙ ap Some whole;
       lists = [];
       tokens_of_literals = tt;
-      isolated = subst (IsTokens mode text) (sym (replaced-no_place us none)) is;
+      isolated = subst (IsTokens mode text) (sym (with_literal_tokens-no_place us none)) is;
       said = [];
       says = refl;
       in_place = tt;
@@ -72,21 +73,21 @@ bound_again_is_the_same mode ts us given text bound is =
 
 -- ---- by position
 
-pieces-renamed : (piece : List ℕ) (ts : List Token) →
-    pieces_from piece (renamed ts) ≡ pieces_from piece ts
-pieces-renamed piece [] = refl
-pieces-renamed piece (Name name ∷ ts) = ap (λ ps. piece ∷ ps) (pieces-renamed [] ts)
-pieces-renamed piece (Mark ∷ ts) = ap (λ ps. piece ∷ ps) (pieces-renamed [] ts)
-pieces-renamed piece (t ∷ ts) = pieces-renamed (piece ++ bytes_of t) ts
+pieces-with_marks : (piece : List ℕ) (ts : List Token) →
+    pieces_from piece (with_marks ts) ≡ pieces_from piece ts
+pieces-with_marks piece [] = refl
+pieces-with_marks piece (Name name ∷ ts) = ap (λ ps. piece ∷ ps) (pieces-with_marks [] ts)
+pieces-with_marks piece (Mark ∷ ts) = ap (λ ps. piece ∷ ps) (pieces-with_marks [] ts)
+pieces-with_marks piece (t ∷ ts) = pieces-with_marks (piece ++ bytes_of t) ts
 
-replaced-renamed : (ts : List Token) (lists : List (List Token)) → length lists ≡ place_count ts →
-    replaced (renamed ts) lists ≡ replaced ts lists
-replaced-renamed [] lists e = refl
-replaced-renamed (Name name ∷ ts) [] e = absurd (omega arith)
-replaced-renamed (Name name ∷ ts) (list ∷ lists) e = ap (λ us. list ++ us) (replaced-renamed ts lists (omega arith))
-replaced-renamed (Mark ∷ ts) [] e = absurd (omega arith)
-replaced-renamed (Mark ∷ ts) (list ∷ lists) e = ap (λ us. list ++ us) (replaced-renamed ts lists (omega arith))
-replaced-renamed (t ∷ ts) lists e = ap (λ us. t ∷ us) (replaced-renamed ts lists e)
+with_literal_tokens-with_marks : (ts : List Token) (lists : List (List Token)) → length lists ≡ place_count ts →
+    with_literal_tokens (with_marks ts) lists ≡ with_literal_tokens ts lists
+with_literal_tokens-with_marks [] lists e = refl
+with_literal_tokens-with_marks (Name name ∷ ts) [] e = absurd (omega arith)
+with_literal_tokens-with_marks (Name name ∷ ts) (list ∷ lists) e = ap (λ us. list ++ us) (with_literal_tokens-with_marks ts lists (omega arith))
+with_literal_tokens-with_marks (Mark ∷ ts) [] e = absurd (omega arith)
+with_literal_tokens-with_marks (Mark ∷ ts) (list ∷ lists) e = ap (λ us. list ++ us) (with_literal_tokens-with_marks ts lists (omega arith))
+with_literal_tokens-with_marks (t ∷ ts) lists e = ap (λ us. t ∷ us) (with_literal_tokens-with_marks ts lists e)
 
 -- there are as many lists of tokens as literals
 as_many_lists : (mode : Bool) (literals : List (List ℕ)) (lists : List (List Token)) →
@@ -106,24 +107,24 @@ no_cause_parts ts given values none looked =
 
 pub by_position_is_the_same : (mode : Bool) (query text : List ℕ) (ts : List Token) (given : Given) →
     IsTokens mode query ts → (bound : IsBoundText mode ts given text) →
-    IsBoundText mode (renamed ts) (positional bound.values) text
+    IsBoundText mode (with_marks ts) (positional bound.values) text
 by_position_is_the_same mode query text ts given is bound =
     let parts = no_cause_parts ts given bound.values bound.no_cause bound.looked_up in
     let room = value_each ts given bound.values parts.0 bound.looked_up parts.1 in
-    let count = interleaved_count [] ts bound.literals text bound.exact in
+    let count = joined_text_count [] ts bound.literals text bound.exact in
     let lists : length bound.lists ≡ place_count ts = as_many_lists mode bound.literals bound.lists bound.tokens_of_literals ∙ count in
-    let same : pieces (renamed ts) ≡ pieces ts = pieces-renamed [] ts in
+    let same : pieces (with_marks ts) ≡ pieces ts = pieces-with_marks [] ts in
     record {
       no_cause = no_cause_renamed mode ts bound.values is.each room (no_place_out ts bound.values parts.1) (no_float_cause ts bound.values parts.1);
       values = bound.values;
-      looked_up = ap (lookup (positional bound.values)) (renamed_names ts);
+      looked_up = ap (lookup (positional bound.values)) (names-with_marks ts);
       literals = bound.literals;
       written = bound.written;
       shapes = bound.shapes;
-      exact = ap (λ ps. interleaved ps bound.literals) same ∙ bound.exact;
+      exact = ap (λ ps. joined_text ps bound.literals) same ∙ bound.exact;
       lists = bound.lists;
       tokens_of_literals = bound.tokens_of_literals;
-      isolated = subst (IsTokens mode text) (sym (replaced-renamed ts bound.lists lists)) bound.isolated;
+      isolated = subst (IsTokens mode text) (sym (with_literal_tokens-with_marks ts bound.lists lists)) bound.isolated;
       said = bound.said;
       says = bound.says;
       in_place = subst (λ ps. AreReadInPlace mode ps bound.literals bound.said) (sym same) bound.in_place;

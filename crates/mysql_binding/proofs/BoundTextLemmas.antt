@@ -1,27 +1,31 @@
 -- The pieces of a query with the literals of values between them keep what is promised.
-use Rattle.std.specs.Prelude.{Ok, option_map, IsSomeAnd}
-use Rattle.std.proofs.Common.{◌≡◌, inr, Bool, ℕ, ◌+◌, List, [], ◌∷◌, length, map, refl, sym, ap, ◌∙◌, arith, Option, Some, None}
-use Rattle.std.proofs.lemmas.List.{length-map}
+use Rattle.std.specs.Prelude.{Ok, Err, option_map, IsSomeAnd}
+use Rattle.std.specs.Option.{option_or}
+use Rattle.std.proofs.Common.{◌≡◌, inr, Bool, ℕ, ◌+◌, ◌<◌, List, [], ◌∷◌, length, map, refl, sym, ap, ◌∙◌, arith, Option, Some, None}
 use Rattle.mysql_values.specs.declared.value.Value.{Value}
-use Rattle.mysql_values.specs.Literal.{literal_of}
 use Rattle.mysql_sql_text.specs.ReadLiteral.{Content}
 use Rattle.mysql_values.specs.Content.{content_of}
 use Rattle.mysql_sql_text.specs.LiteralEnd.{ReadsBefore, continues_literal}
 use Rattle.mysql_named_params.specs.Tokens.{Token, IsTokens, OnTokens}
-use Rattle.mysql_named_params.specs.Places.{names, place_count}
+use Rattle.mysql_named_params.specs.Places.{names, marks, place_count}
 use Rattle.mysql_params_core.specs.Given.{Given}
-use Rattle.mysql_params_core.specs.Lookup.{lookup}
-use Rattle.mysql_binding.specs.FirstCause.{Cause, mixed_cause, later_cause, first_cause}
+use Rattle.mysql_params_core.specs.Lookup.{LookupRefusal, lookup}
+use Rattle.mysql_binding.specs.FirstCause.{Cause, mixed_query, refused_params, float_value, mixed_cause, first_float, later_cause, cause_behind, first_cause}
 use Rattle.mysql_binding.specs.declared.bind_error.BindError.{BindError}
+use Rattle.mysql_binding.specs.declared.bind_error.BindError.TheVariants.{Mixed}
+use Rattle.mysql_binding.specs.declared.binding.survey.Survey.{Survey}
+use Rattle.mysql_binding.specs.Survey.{IsSurvey}
+use Rattle.mysql_binding.specs.WrittenText.{IsWrittenText}
 use Rattle.mysql_binding.specs.BindErrors.{IsRefusal, cause_of}
 use Rattle.mysql_binding.specs.Isolation.{IsBoundText}
-use Rattle.mysql_binding.specs.Pieces.{pieces, interleaved}
-use Rattle.mysql_binding.specs.Replaced.{AreLiterals, replaced}
+use Rattle.mysql_binding.specs.Pieces.{pieces, joined_text}
+use Rattle.mysql_binding.specs.Replaced.{AreLiterals, with_literal_tokens}
 use Rattle.mysql_binding.specs.ValueLiterals.{AreLiteralsOf, AreReadAs}
 use Rattle.mysql_binding.proofs.BoundText.{bound}
-use Rattle.mysql_binding.proofs.CauseLemmas.{first_by, no_place_out, on_both, on_map, value_each}
+use Rattle.mysql_binding.proofs.CauseLemmas.{first_by, mixed_some, mixed_none_of, no_float_cause, no_place_out, on_both, on_map, value_each}
 use Rattle.mysql_binding.proofs.ContentsLemmas as contents
-use Rattle.mysql_binding.proofs.PieceLemmas.{interleaved_is}
+use Rattle.mysql_binding.proofs.PieceLemmas.{joined_text_is}
+use Rattle.mysql_binding.proofs.ValueLiteralLemmas.{as_many_texts}
 use Rattle.mysql_binding.proofs.ReplacedLemmas.{isolated, literal_lists}
 
 -- what the values say, and that their literals read so
@@ -47,22 +51,17 @@ all_said mode (v ∷ values) (text ∷ texts) h = one (content_of v) refl h.0.co
       read = (r, more.read);
     }
 
-pub as_many_texts : (mode : Bool) (values : List Value) (texts : List (List ℕ)) →
-    AreLiteralsOf mode values texts → length texts ≡ length values
-as_many_texts mode values texts h =
-    sym (length-map texts Some) ∙ (ap length (sym h) ∙ length-map values (literal_of mode))
-
 pub is_bound_text : (mode : Bool) (query : List ℕ) (ts : List Token) (given : Given) (values : List Value) (texts : List (List ℕ)) (text : List ℕ) →
     IsTokens mode query ts → mixed_cause ts ≡ None → lookup given (names ts) ≡ Ok values →
     later_cause ts values ≡ None → AreLiteralsOf mode values texts → AreLiterals mode texts →
-    AreReadAs mode values texts → interleaved (pieces ts) texts ≡ Some text → IsBoundText mode ts given text
+    AreReadAs mode values texts → joined_text (pieces ts) texts ≡ Some text → IsBoundText mode ts given text
 is_bound_text mode query ts given values texts text is mixed looked later written shapes reads exact =
     let s = all_said mode values texts reads in
     let tokens = literal_lists mode texts shapes in
     let room : length values ≡ place_count ts = value_each ts given values mixed looked later in
     let room' : length texts ≡ place_count ts = as_many_texts mode values texts written ∙ room in
-    let tokens_are : IsTokens mode text (replaced ts tokens.0) = isolated mode query text ts texts tokens.0 is shapes tokens.1 exact in
-    let text_is : text ≡ bound ts texts = interleaved_is ts texts text exact in
+    let tokens_are : IsTokens mode text (with_literal_tokens ts tokens.0) = isolated mode query text ts texts tokens.0 is shapes tokens.1 exact in
+    let text_is : text ≡ bound ts texts = joined_text_is ts texts text exact in
     let alone = no_place_out ts values later in
     record {
       no_cause = first_by ts given values None mixed looked later;
@@ -81,67 +80,97 @@ is_bound_text mode query ts given values texts text is mixed looked later writte
       read_back = rw text_is (contents.contents_of_bound mode ts 0 [] [] texts s.said alone s.read room');
     }
 
--- ---- as the code has it
-
 -- what is known of the tokens when the values were looked up and there is no later cause
 abbrev pub IsLookedUp : List Token → Given → List Value → Type 0
 IsLookedUp ts given values =
     (mixed_cause ts ≡ None) × (lookup given (names ts) ≡ Ok values) × (later_cause ts values ≡ None)
 
-abbrev AreNames : List (List ℕ) → List Token → Type 0
-AreNames ns ts = (mixed_cause ts ≡ None) × (ns ≡ names ts)
+-- ---- as the code finds them
 
-refused_at : (ts : List Token) (given : Given) (ns : List (List ℕ)) (values : List Value) (error : BindError) →
-    AreNames ns ts → lookup given ns ≡ Ok values →
-    Some (cause_of error) ≡ option_map Some (later_cause ts values) →
-    IsRefusal (first_cause ts given) error
-refused_at ts given ns values error listed looked e = go (later_cause ts values) refl e
-  where
-    go : (r : Option Cause) → later_cause ts values ≡ r →
-        Some (cause_of error) ≡ option_map Some r → IsRefusal (first_cause ts given) error
-    go None r e = cc
-    go (Some why) r e =
-        let same : cause_of error ≡ Some why = cc in
-        inr (why, first_by ts given values (Some why) listed.0 (ap (lookup given) (sym listed.1) ∙ looked) r, same)
+-- a survey with names and marks
+pub refused_mixed : (mode : Bool) (query : List ℕ) (given : Given) (survey : Survey) →
+    OnTokens mode query (IsSurvey survey) → 0 < survey.names → 0 < survey.marks →
+    OnTokens mode query (λ ts. IsRefusal (first_cause ts given) Mixed)
+refused_mixed mode query given survey o some_names some_marks =
+    on_map mode query (IsSurvey survey) (λ ts. IsRefusal (first_cause ts given) Mixed)
+    (λ ts is h. inr (mixed_query, ap (λ x. option_or x (cause_behind ts (lookup given (names ts)))) (mixed_some ts (omega (arith, h.0, some_names), omega (arith, h.1, some_marks))), refl))
+    o
 
-pub refused_later : (mode : Bool) (query : List ℕ) (given : Given) (ns : List (List ℕ)) (values : List Value) (error : BindError) →
-    OnTokens mode query (λ ts. (mixed_cause ts ≡ None) × (ns ≡ names ts)) →
-    lookup given ns ≡ Ok values →
-    OnTokens mode query (λ ts. Some (cause_of error) ≡ option_map Some (later_cause ts values)) →
+pub unmixed_survey : (mode : Bool) (query : List ℕ) (survey : Survey) →
+    OnTokens mode query (IsSurvey survey) → (0 < survey.names × 0 < survey.marks → ⊥) →
+    OnTokens mode query (λ ts. (survey.names ≡ length (names ts)) × (mixed_cause ts ≡ None))
+unmixed_survey mode query survey o never =
+    on_map mode query (IsSurvey survey) _
+    (λ ts is h. (h.0, mixed_none_of ts survey.names survey.marks h.0 h.1 never)) o
+
+-- a lookup that refuses
+pub refused_lookup : (mode : Bool) (query : List ℕ) (given : Given) (count : ℕ) (ns : List (List ℕ)) (error : BindError) →
+    OnTokens mode query (λ ts. (count ≡ length (names ts)) × (mixed_cause ts ≡ None)) →
+    OnTokens mode query (λ ts. ns ≡ names ts) →
+    ((refusal : LookupRefusal) × (lookup given ns ≡ Err refusal) × (cause_of error ≡ Some (refused_params refusal))) →
     OnTokens mode query (λ ts. IsRefusal (first_cause ts given) error)
-refused_later mode query given ns values error listed looked later =
-    on_map mode query (λ ts. AreNames ns ts × (Some (cause_of error) ≡ option_map Some (later_cause ts values))) (λ ts. IsRefusal (first_cause ts given) error)
-    (λ ts is h. refused_at ts given ns values error h.0 looked h.1)
-    (on_both mode query (AreNames ns) (λ ts. Some (cause_of error) ≡ option_map Some (later_cause ts values)) listed later)
+refused_lookup mode query given count ns error unmixed listed r =
+    on_map mode query (λ ts. ((count ≡ length (names ts)) × (mixed_cause ts ≡ None)) × (ns ≡ names ts)) (λ ts. IsRefusal (first_cause ts given) error)
+    (λ ts is h. inr (refused_params r.0, ap (λ x. option_or x (cause_behind ts (lookup given (names ts)))) h.0.1 ∙ ap (cause_behind ts) (ap (lookup given) (sym h.1) ∙ r.1), r.2))
+    (on_both mode query _ (λ ts. ns ≡ names ts) unmixed listed)
 
-no_later_is : (r : Option Cause) → None ≡ option_map Some r → r ≡ None
-no_later_is None e = refl
-no_later_is (Some why) e = cc
+pub looked_up_names : (mode : Bool) (query : List ℕ) (given : Given) (ns : List (List ℕ)) (values : List Value) →
+    OnTokens mode query (λ ts. ns ≡ names ts) → lookup given ns ≡ Ok values →
+    OnTokens mode query (λ ts. lookup given (names ts) ≡ Ok values)
+looked_up_names mode query given ns values listed looked =
+    on_map mode query (λ ts. ns ≡ names ts) _ (λ ts is h. ap (lookup given) (sym h) ∙ looked) listed
 
-pub looked_up : (mode : Bool) (query : List ℕ) (given : Given) (ns : List (List ℕ)) (values : List Value) →
-    OnTokens mode query (λ ts. (mixed_cause ts ≡ None) × (ns ≡ names ts)) →
-    lookup given ns ≡ Ok values →
-    OnTokens mode query (λ ts. None ≡ option_map Some (later_cause ts values)) →
-    OnTokens mode query (λ ts. IsLookedUp ts given values)
-looked_up mode query given ns values listed looked later =
-    on_map mode query (λ ts. AreNames ns ts × (None ≡ option_map Some (later_cause ts values))) (λ ts. IsLookedUp ts given values)
-    (λ ts is h. (h.0.0, ap (lookup given) (sym h.0.1) ∙ looked, no_later_is (later_cause ts values) h.1))
-    (on_both mode query (AreNames ns) (λ ts. None ≡ option_map Some (later_cause ts values)) listed later)
+module _ (mode : Bool) (query : List ℕ) (given : Given) (survey : Survey) (values : List Value) (surveyed : OnTokens mode query (IsSurvey survey)) (never : 0 < survey.names × 0 < survey.marks → ⊥) (looked : OnTokens mode query (λ ts. lookup given (names ts) ≡ Ok values)) where
+  known : OnTokens mode query (λ ts. IsSurvey survey ts × (lookup given (names ts) ≡ Ok values))
+  known = on_both mode query (IsSurvey survey) (λ ts. lookup given (names ts) ≡ Ok values) surveyed looked
 
--- there is a literal for each place
-pub room_on : (mode : Bool) (query : List ℕ) (given : Given) (values : List Value) (texts : List (List ℕ)) (count : ℕ) →
-    OnTokens mode query (λ ts. IsLookedUp ts given values) → AreLiteralsOf mode values texts →
-    count ≡ length texts → OnTokens mode query (λ ts. count ≡ place_count ts)
-room_on mode query given values texts count h written e =
-    on_map mode query (λ ts. IsLookedUp ts given values) (λ ts. count ≡ place_count ts)
-    (λ ts is k. e ∙ (as_many_texts mode values texts written ∙ value_each ts given values k.0 k.1 k.2)) h
+  pub refused_later : (error : BindError) →
+      ((ts : List Token) → IsSurvey survey ts → Some (cause_of error) ≡ option_map Some (later_cause ts values)) →
+      OnTokens mode query (λ ts. IsRefusal (first_cause ts given) error)
+  refused_later error later =
+      on_map mode query _ (λ ts. IsRefusal (first_cause ts given) error)
+      (λ ts is h. of_cause ts (mixed_none_of ts survey.names survey.marks h.0.0 h.0.1 never) h.1 (later_cause ts values) refl (later ts h.0)) known
+    where
+      of_cause : (ts : List Token) → mixed_cause ts ≡ None → lookup given (names ts) ≡ Ok values →
+          (r : Option Cause) → later_cause ts values ≡ r →
+          Some (cause_of error) ≡ option_map Some r → IsRefusal (first_cause ts given) error
+      of_cause ts mixed found None r e = cc
+      of_cause ts mixed found (Some why) r e =
+          let same : cause_of error ≡ Some why = cc in
+          inr (why, first_by ts given values (Some why) mixed found r, same)
 
-pub bound_on : (mode : Bool) (query : List ℕ) (given : Given) (values : List Value) (texts : List (List ℕ)) (text : List ℕ) →
-    OnTokens mode query (λ ts. IsLookedUp ts given values) → AreLiteralsOf mode values texts →
-    AreLiterals mode texts → AreReadAs mode values texts →
-    OnTokens mode query (λ ts. interleaved (pieces ts) texts ≡ Some text) →
+  -- where there is no later cause
+  pub looked_up : ((ts : List Token) → IsSurvey survey ts → None ≡ option_map Some (later_cause ts values)) →
+      OnTokens mode query (λ ts. IsLookedUp ts given values)
+  looked_up later =
+      on_map mode query _ (λ ts. IsLookedUp ts given values)
+      (λ ts is h. (mixed_none_of ts survey.names survey.marks h.0.0 h.0.1 never, h.1, no_cause_is (later_cause ts values) (later ts h.0))) known
+    where
+      no_cause_is : (r : Option Cause) → None ≡ option_map Some r → r ≡ None
+      no_cause_is None e = refl
+      no_cause_is (Some why) e = cc
+
+-- there is a value for each place, and none is a float
+pub value_for_each : (mode : Bool) (query : List ℕ) (given : Given) (values : List Value) →
+    OnTokens mode query (λ ts. IsLookedUp ts given values) →
+    OnTokens mode query (λ ts. length values ≡ place_count ts)
+value_for_each mode query given values h =
+    on_map mode query (λ ts. IsLookedUp ts given values) (λ ts. length values ≡ place_count ts)
+    (λ ts is k. value_each ts given values k.0 k.1 k.2) h
+
+pub no_float_among : (mode : Bool) (query : List ℕ) (given : Given) (values : List Value) →
+    OnTokens mode query (λ ts. IsLookedUp ts given values) → first_float values ≡ None
+no_float_among mode query given values h = none_mapped (first_float values) (no_float_cause h.0 values h.2.2)
+  where
+    none_mapped : (r : Option ℕ) → option_map float_value r ≡ None → r ≡ None
+    none_mapped None e = refl
+    none_mapped (Some n) e = cc
+
+pub bound_on : (mode : Bool) (query : List ℕ) (given : Given) (values : List Value) (text : List ℕ) →
+    OnTokens mode query (λ ts. IsLookedUp ts given values) →
+    OnTokens mode query (λ ts. IsWrittenText mode ts values text) →
     OnTokens mode query (λ ts. IsBoundText mode ts given text)
-bound_on mode query given values texts text h written shapes reads exact =
-    on_map mode query (λ ts. IsLookedUp ts given values × (interleaved (pieces ts) texts ≡ Some text)) (λ ts. IsBoundText mode ts given text)
-    (λ ts is k. is_bound_text mode query ts given values texts text is k.0.0 k.0.1 k.0.2 written shapes reads k.1)
-    (on_both mode query (λ ts. IsLookedUp ts given values) (λ ts. interleaved (pieces ts) texts ≡ Some text) h exact)
+bound_on mode query given values text h written =
+    on_map mode query (λ ts. IsLookedUp ts given values × IsWrittenText mode ts values text) (λ ts. IsBoundText mode ts given text)
+    (λ ts is k. is_bound_text mode query ts given values k.1.literals text is k.0.0 k.0.1 k.0.2 k.1.written k.1.shapes k.1.reads_back k.1.exact)
+    (on_both mode query (λ ts. IsLookedUp ts given values) (λ ts. IsWrittenText mode ts values text) h written)

@@ -8,15 +8,17 @@ use Rattle.std.proofs.lemmas.Bool.Decides.{nat_tests}
 use Rattle.std.proofs.lemmas.List.{nil_from_length}
 use Rattle.mysql_values.specs.declared.value.Value.{Value}
 use Rattle.mysql_named_params.specs.Tokens.{Token, IsTokens, OnTokens, AreTokensBefore}
-use Rattle.mysql_named_params.specs.Places.{names, marks, renamed, place_count, has_both, HasName, HasMark}
-use Rattle.mysql_named_params.specs.Parsed.{Parsed, parsed}
-use Rattle.mysql_named_params.proofs.ReparsedLemmas.{places_are, renamed_names, renamed_marks}
+use Rattle.mysql_named_params.specs.Places.{names, marks, with_marks, place_count, has_both, HasName, HasMark}
+use Rattle.mysql_named_params.proofs.TokenRowLemmas.{place_count-sum}
+use Rattle.mysql_named_params.proofs.ReparsedLemmas.{names-with_marks, marks-with_marks}
 use Rattle.mysql_named_params.proofs.TokenListLemmas.{one_token_list}
 use Rattle.mysql_params_core.specs.Given.{Given, ValueMap, empty, named, positional}
 use Rattle.mysql_params_core.specs.Lookup.{lookup, values_at}
 use Rattle.mysql_binding.specs.FirstCause.{Cause, mixed_query, mark_count, not_alone, float_value, mixed_cause, counts_differ, count_cause, alone_cause, first_float, float_cause, later_cause, cause_behind, first_cause}
 use Rattle.mysql_binding.specs.StandsAlone.{first_not_alone}
-use Rattle.mysql_binding.proofs.RenamedPlaceLemmas.{renamed_alone, no_place_alone}
+use Rattle.mysql_binding.specs.Survey.{IsSurvey}
+use Rattle.mysql_binding.specs.declared.binding.survey.Survey.{Survey}
+use Rattle.mysql_binding.proofs.RenamedPlaceLemmas.{first_not_alone-with_marks, no_place_alone}
 
 -- ---- what several calls say of the tokens of one query
 
@@ -64,7 +66,7 @@ mixed_some ts h = rw (and_from _ _ (less _ h.0) (less _ h.1)) refl
     less n h = grind (arith, nat_tests)
 
 -- without the cause there is no name, or no mark
-unmixed : (ts : List Token) → mixed_cause ts ≡ None → (length (names ts) ≡ 0) ⊎ (marks ts ≡ 0)
+pub unmixed : (ts : List Token) → mixed_cause ts ≡ None → (length (names ts) ≡ 0) ⊎ (marks ts ≡ 0)
 unmixed ts e = go (length (names ts)) (marks ts) refl refl
   where
     go : (n k : ℕ) → length (names ts) ≡ n → marks ts ≡ k → (n ≡ 0) ⊎ (k ≡ 0)
@@ -72,13 +74,10 @@ unmixed ts e = go (length (names ts)) (marks ts) refl refl
     go (suc n) zero a b = inr refl
     go (suc n) (suc k) a b = absurd (some_none mixed_query (sym (mixed_some ts (omega (arith, a), omega (arith, b))) ∙ e))
 
-pub names_found : (mode : Bool) (query : List ℕ) (p : Parsed) (list : List (List ℕ)) (M : Type 0) →
-    (M → ⊥) → OnTokens mode query (λ ts. p ≡ parsed ts) →
-    OnTokens mode query (λ ts. M ↔ (HasName ts × HasMark ts)) → list ≡ p.params →
-    OnTokens mode query (λ ts. (mixed_cause ts ≡ None) × (list ≡ names ts))
-names_found mode query p list M never a b e =
-    on_map mode query _ _ (λ ts is h. (mixed_none ts (λ k. never (h.1.1 k)), e ∙ ap (λ (r : Parsed). r.params) h.0))
-    (on_both mode query (λ ts. p ≡ parsed ts) (λ ts. M ↔ (HasName ts × HasMark ts)) a b)
+-- a query without names, or without marks, as they were counted
+pub mixed_none_of : (ts : List Token) (n k : ℕ) → n ≡ length (names ts) → k ≡ marks ts →
+    (0 < n × 0 < k → ⊥) → mixed_cause ts ≡ None
+mixed_none_of ts n k en ek never = mixed_none ts (λ both. never (omega (arith, en, both.0), omega (arith, ek, both.1)))
 
 -- ---- the number of marks
 
@@ -119,47 +118,30 @@ later_by ts values a b c e f g =
     ap (λ x. option_or x (option_or (alone_cause ts) (float_cause values))) e
     ∙ (ap (λ x. option_or a (option_or x (float_cause values))) f ∙ ap (λ x. option_or a (option_or b x)) g)
 
-abbrev Counted : ℕ → ℕ → List Token → Type 0
-Counted n k ts = (n ≡ length (names ts)) × (k ≡ marks ts)
+module _ (survey : Survey) (ts : List Token) (values : List Value) (is : IsSurvey survey ts) where
+  count_of_survey : (b : Bool) → counts_differ survey.names survey.marks (length values) ≡ b →
+      counts_differ (length (names ts)) (marks ts) (length values) ≡ b
+  count_of_survey b e = ap (λ x. counts_differ x (marks ts) (length values)) (sym is.0) ∙ (ap (λ x. counts_differ survey.names x (length values)) (sym is.1) ∙ e)
 
-pub later_is_count : (mode : Bool) (query : List ℕ) (n k : ℕ) (values : List Value) →
-    OnTokens mode query (λ ts. (n ≡ length (names ts)) × (k ≡ marks ts)) →
-    counts_differ n k (length values) ≡ true →
-    OnTokens mode query (λ ts. Some (Some (mark_count k (length values))) ≡ option_map Some (later_cause ts values))
-later_is_count mode query n k values counted e =
-    on_map mode query (Counted n k) (λ ts. Some (Some (mark_count k (length values))) ≡ option_map Some (later_cause ts values))
-    (λ ts is h. sym (ap (option_map Some) (later_by ts values _ _ _ (first ts h) refl refl))) counted
-  where
-    first : (ts : List Token) → Counted n k ts →
-        count_cause ts values ≡ Some (mark_count k (length values))
-    first ts h =
-        count_some ts values (ap (λ x. counts_differ x (marks ts) (length values)) (sym h.0) ∙ (ap (λ x. counts_differ n x (length values)) (sym h.1) ∙ e))
-        ∙ ap (λ x. Some (mark_count x (length values))) (sym h.1)
+  pub later_is_count : counts_differ survey.names survey.marks (length values) ≡ true →
+      Some (Some (mark_count survey.marks (length values))) ≡ option_map Some (later_cause ts values)
+  later_is_count e =
+      let first : count_cause ts values ≡ Some (mark_count survey.marks (length values)) = count_some ts values (count_of_survey true e) ∙ ap (λ x. Some (mark_count x (length values))) (sym is.1) in
+      sym (ap (option_map Some) (later_by ts values _ _ _ first refl refl))
 
-no_count : (ts : List Token) (n k : ℕ) (values : List Value) → Counted n k ts →
-    counts_differ n k (length values) ≡ false → count_cause ts values ≡ None
-no_count ts n k values h e =
-    count_none ts values (ap (λ x. counts_differ x (marks ts) (length values)) (sym h.0) ∙ (ap (λ x. counts_differ n x (length values)) (sym h.1) ∙ e))
+  pub later_is_alone : (place at : ℕ) → counts_differ survey.names survey.marks (length values) ≡ false →
+      survey.not_alone ≡ Some (place, at) →
+      Some (Some (not_alone place at)) ≡ option_map Some (later_cause ts values)
+  later_is_alone place at e found =
+      let found' : first_not_alone ts ≡ Some (place, at) = sym is.2 ∙ found in
+      sym (ap (option_map Some) (later_by ts values None (Some (not_alone place at)) _ (count_none ts values (count_of_survey false e)) (ap (option_map (λ p. not_alone p.0 p.1)) found') refl))
 
-pub later_is_alone : (mode : Bool) (query : List ℕ) (n k place at : ℕ) (values : List Value) →
-    OnTokens mode query (λ ts. (n ≡ length (names ts)) × (k ≡ marks ts)) →
-    counts_differ n k (length values) ≡ false →
-    OnTokens mode query (λ ts. Some (place, at) ≡ first_not_alone ts) →
-    OnTokens mode query (λ ts. Some (Some (not_alone place at)) ≡ option_map Some (later_cause ts values))
-later_is_alone mode query n k place at values counted e found =
-    on_map mode query (λ ts. Counted n k ts × (Some (place, at) ≡ first_not_alone ts)) (λ ts. Some (Some (not_alone place at)) ≡ option_map Some (later_cause ts values))
-    (λ ts is h. sym (ap (option_map Some) (later_by ts values None (Some (not_alone place at)) _ (no_count ts n k values h.0 e) (ap (option_map (λ p. not_alone p.0 p.1)) (sym h.1)) refl)))
-    (on_both mode query (Counted n k) (λ ts. Some (place, at) ≡ first_not_alone ts) counted found)
-
-pub later_is_float : (mode : Bool) (query : List ℕ) (n k : ℕ) (values : List Value) (place : Option ℕ) →
-    OnTokens mode query (λ ts. (n ≡ length (names ts)) × (k ≡ marks ts)) →
-    counts_differ n k (length values) ≡ false →
-    OnTokens mode query (λ ts. None ≡ first_not_alone ts) → place ≡ first_float values →
-    OnTokens mode query (λ ts. option_map Some (option_map float_value place) ≡ option_map Some (later_cause ts values))
-later_is_float mode query n k values place counted e found f =
-    on_map mode query (λ ts. Counted n k ts × (None ≡ first_not_alone ts)) (λ ts. option_map Some (option_map float_value place) ≡ option_map Some (later_cause ts values))
-    (λ ts is h. sym (ap (option_map Some) (later_by ts values None None (option_map float_value place) (no_count ts n k values h.0 e) (ap (option_map (λ p. not_alone p.0 p.1)) (sym h.1)) (ap (option_map float_value) (sym f)))))
-    (on_both mode query (Counted n k) (λ ts. None ≡ first_not_alone ts) counted found)
+  pub later_is_float : (place : Option ℕ) → counts_differ survey.names survey.marks (length values) ≡ false →
+      survey.not_alone ≡ None → place ≡ first_float values →
+      option_map Some (option_map float_value place) ≡ option_map Some (later_cause ts values)
+  later_is_float place e found f =
+      let found' : first_not_alone ts ≡ None = sym is.2 ∙ found in
+      sym (ap (option_map Some) (later_by ts values None None (option_map float_value place) (count_none ts values (count_of_survey false e)) (ap (option_map (λ p. not_alone p.0 p.1)) found') (ap (option_map float_value) (sym f))))
 
 -- ---- no cause
 
@@ -184,7 +166,7 @@ no_later ts values a b c = later_by ts values None None None a (ap (option_map (
 -- there is no cause to refuse a text without places
 pub no_cause_left : (us : List Token) → place_count us ≡ 0 → first_cause us empty ≡ None
 no_cause_left us h =
-    let all : place_count us ≡ length (names us) + marks us = places_are us in
+    let all : place_count us ≡ length (names us) + marks us = place_count-sum us in
     let none : names us ≡ [] = nil_from_length (names us) (omega (arith, h, all)) in
     let no_mark : marks us ≡ 0 = omega (arith, h, all) in
     let count : count_cause us [] ≡ None = count_none us [] (ap (λ ns. counts_differ (length ns) (marks us) 0) none ∙ counts_same (marks us) 0 no_mark) in
@@ -194,16 +176,16 @@ no_cause_left us h =
 -- nor one to refuse the renamed query with as many values
 pub no_cause_renamed : (mode : Bool) (ts : List Token) (values : List Value) →
     AreTokensBefore mode [] ts → length values ≡ place_count ts → first_not_alone ts ≡ None →
-    float_cause values ≡ None → first_cause (renamed ts) (positional values) ≡ None
+    float_cause values ≡ None → first_cause (with_marks ts) (positional values) ≡ None
 no_cause_renamed mode ts values each room alone floats =
-    let all : place_count ts ≡ length (names ts) + marks ts = places_are ts in
-    let sum : marks (renamed ts) ≡ marks ts + length (names ts) = renamed_marks ts in
-    let same : marks (renamed ts) ≡ length values = omega (arith, all, sum, room) in
-    let none : names (renamed ts) ≡ [] = renamed_names ts in
-    let count : count_cause (renamed ts) values ≡ None = count_none (renamed ts) values (ap (λ ns. counts_differ (length ns) (marks (renamed ts)) (length values)) none ∙ counts_same _ _ same) in
-    first_by (renamed ts) (positional values) values None
-    (mixed_none (renamed ts) (λ both. absurd (omega (arith, both.0, ap length none)))) (ap (lookup (positional values)) none)
-    (no_later (renamed ts) values count (renamed_alone mode ts 0 0 [] [] each (λ e. e) alone) floats)
+    let all : place_count ts ≡ length (names ts) + marks ts = place_count-sum ts in
+    let sum : marks (with_marks ts) ≡ marks ts + length (names ts) = marks-with_marks ts in
+    let same : marks (with_marks ts) ≡ length values = omega (arith, all, sum, room) in
+    let none : names (with_marks ts) ≡ [] = names-with_marks ts in
+    let count : count_cause (with_marks ts) values ≡ None = count_none (with_marks ts) values (ap (λ ns. counts_differ (length ns) (marks (with_marks ts)) (length values)) none ∙ counts_same _ _ same) in
+    first_by (with_marks ts) (positional values) values None
+    (mixed_none (with_marks ts) (λ both. absurd (omega (arith, both.0, ap length none)))) (ap (lookup (positional values)) none)
+    (no_later (with_marks ts) values count (first_not_alone-with_marks mode ts 0 0 [] [] each (λ e. e) alone) floats)
 
 -- ---- a value for each place
 
@@ -243,12 +225,12 @@ value_each ts given values mixed looked later = by (names ts) refl
         let differ = none_count ts values (or_none (count_cause ts values) _ later).0 in
         let same : marks ts ≡ length values = same_counts (marks ts) (length values) (ap (λ n. counts_differ (length n) (marks ts) (length values)) (sym e) ∙ differ) in
         let none : length (names ts) ≡ 0 = ap length e in
-        let all : place_count ts ≡ length (names ts) + marks ts = places_are ts in
+        let all : place_count ts ≡ length (names ts) + marks ts = place_count-sum ts in
         omega (arith, none, same, all)
     by (n ∷ ns) e =
         let each : length values ≡ length (n ∷ ns) = lookup_each given n ns values (ap (lookup given) (sym e) ∙ looked) in
         let some : length (names ts) ≡ length (n ∷ ns) = ap length e in
-        let all : place_count ts ≡ length (names ts) + marks ts = places_are ts in
+        let all : place_count ts ≡ length (names ts) + marks ts = place_count-sum ts in
         let none : marks ts ≡ 0 = no_mark (unmixed ts mixed) some in
         omega (arith, each, some, none, all)
       where

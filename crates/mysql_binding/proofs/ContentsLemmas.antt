@@ -12,7 +12,7 @@ use Rattle.mysql_binding.specs.Pieces.{pieces_from}
 use Rattle.mysql_binding.specs.Contents.{contents_before, contents, AreReadInPlace}
 use Rattle.mysql_binding.proofs.BoundText.{bound}
 use Rattle.mysql_binding.proofs.ByteTestLemmas.{behind_ends, piece_ends, last_piece_ends}
-use Rattle.mysql_binding.proofs.PieceLemmas.{interleaved_pieces}
+use Rattle.mysql_binding.proofs.PieceLemmas.{joined_text-pieces_from}
 
 -- each literal reads as its content, before all that doesn't continue it
 abbrev pub AreReadAs : Bool → List (List ℕ) → List Content → Type 0
@@ -61,7 +61,7 @@ module _ (mode : Bool) where
       length literals ≡ place_count ts → AreReadInPlace mode (pieces_from [] ts) literals cs →
       AreReadInPlace mode (piece ∷ pieces_from [] ts) (literal ∷ literals) (c ∷ cs)
   in_place_more ts piece literal literals c cs r n l more =
-      ((bound ts literals, interleaved_pieces [] ts literals l, r (bound ts literals) (ends_before ts literals n)), more)
+      ((bound ts literals, joined_text-pieces_from [] ts literals l, r (bound ts literals) (ends_before ts literals n)), more)
 
   -- each literal reads in its place
   pub in_place : (ts : List Token) (place : ℕ) (before piece : List ℕ) (literals : List (List ℕ)) (cs : List Content) →

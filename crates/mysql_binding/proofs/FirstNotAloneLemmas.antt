@@ -5,7 +5,7 @@ use Rattle.mysql_named_params.specs.Places.{IsPlace, place_count}
 use Rattle.mysql_binding.specs.StandsAlone.{AllAlone, IsFirstNotAlone, first_not_alone, first_not_alone_from, stands_alone}
 use Rattle.mysql_binding.proofs.ContentsLemmas.{alone_parts}
 use Rattle.mysql_binding.proofs.StandsAloneLemmas.{choice}
-use Rattle.mysql_binding.proofs.TokenRowLemmas.{text_then-append}
+use Rattle.mysql_named_params.proofs.TokenRowLemmas.{text_then-append}
 
 -- each place stands alone, where this text stands before the tokens and that behind them
 abbrev AllAloneFrom : List ℕ → List Token → List ℕ → Type 0

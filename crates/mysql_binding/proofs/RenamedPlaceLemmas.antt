@@ -4,7 +4,7 @@ use Rattle.std.specs.List.{list_all}
 use Rattle.std.proofs.lemmas.Bool.{and_parts, and_from}
 use Rattle.mysql_named_params.specs.Bytes.{colon, question_mark, is_name_byte}
 use Rattle.mysql_named_params.specs.Tokens.{Token, IsToken, AreTokensBefore, text_of, bytes_of, Name, Mark}
-use Rattle.mysql_named_params.specs.Places.{renamed, place_count}
+use Rattle.mysql_named_params.specs.Places.{with_marks, place_count}
 use Rattle.mysql_binding.specs.StandsAlone.{may_stand_before, may_stand_behind, none_or_first, none_or_last, stands_alone, first_not_alone_from}
 use Rattle.mysql_binding.proofs.ByteTestLemmas.{name_byte_not_before}
 use Rattle.mysql_binding.proofs.ContentsLemmas.{alone_parts}
@@ -35,14 +35,14 @@ as_well-name mode xs ys (b ∷ bs) rest t h =
     absurd (true≢false (sym h ∙ (last-append may_stand_before xs colon (b ∷ bs) ∙ name_last b bs (name_byte_not_before b (rw t.0.0 refl)) t.0.1)))
 
 first_as_well : (ts : List Token) → none_or_first may_stand_behind (text_of ts) ≡ true →
-    none_or_first may_stand_behind (text_of (renamed ts)) ≡ true
+    none_or_first may_stand_behind (text_of (with_marks ts)) ≡ true
 first_as_well [] h = refl
 first_as_well (Name name ∷ ts) h = absurd (true≢false (sym h))
 first_as_well (Mark ∷ ts) h = h
 first_as_well (t ∷ ts) h = h
 
 alone_as_well : (before before' : List ℕ) (ts : List Token) → EndsAsWell before before' →
-    stands_alone before (text_of ts) ≡ true → stands_alone before' (text_of (renamed ts)) ≡ true
+    stands_alone before (text_of ts) ≡ true → stands_alone before' (text_of (with_marks ts)) ≡ true
 alone_as_well before before' ts e h = let p = and_parts (none_or_last may_stand_before before) _ h in and_from _ _ (e p.0) (first_as_well ts p.1)
 
 if_alone : (b : Bool) (x : Option (ℕ × ℕ)) (p : ℕ × ℕ) → b ≡ true → x ≡ None →
@@ -50,19 +50,19 @@ if_alone : (b : Bool) (x : Option (ℕ × ℕ)) (p : ℕ × ℕ) → b ≡ true 
 if_alone true x p e h = h
 if_alone false x p e h = absurd (true≢false (sym e))
 
-pub renamed_alone : (mode : Bool) (ts : List Token) (place place' : ℕ) (before before' : List ℕ) →
+pub first_not_alone-with_marks : (mode : Bool) (ts : List Token) (place place' : ℕ) (before before' : List ℕ) →
     AreTokensBefore mode [] ts → EndsAsWell before before' →
     first_not_alone_from place before ts ≡ None →
-    first_not_alone_from place' before' (renamed ts) ≡ None
-renamed_alone mode [] place place' before before' h e a = refl
-renamed_alone mode (Name name ∷ ts) place place' before before' h e a =
+    first_not_alone_from place' before' (with_marks ts) ≡ None
+first_not_alone-with_marks mode [] place place' before before' h e a = refl
+first_not_alone-with_marks mode (Name name ∷ ts) place place' before before' h e a =
     let p = alone_parts (stands_alone before (text_of ts)) _ _ a in
-    if_alone _ _ _ (alone_as_well before before' ts e p.0) (renamed_alone mode ts (place + 1) (place' + 1) (before ++ bytes_of (Name name)) (before' ++ bytes_of Mark) h.1 (as_well-name mode before before' name (text_of ts) h.0) p.1)
-renamed_alone mode (Mark ∷ ts) place place' before before' h e a =
+    if_alone _ _ _ (alone_as_well before before' ts e p.0) (first_not_alone-with_marks mode ts (place + 1) (place' + 1) (before ++ bytes_of (Name name)) (before' ++ bytes_of Mark) h.1 (as_well-name mode before before' name (text_of ts) h.0) p.1)
+first_not_alone-with_marks mode (Mark ∷ ts) place place' before before' h e a =
     let p = alone_parts (stands_alone before (text_of ts)) _ _ a in
-    if_alone _ _ _ (alone_as_well before before' ts e p.0) (renamed_alone mode ts (place + 1) (place' + 1) (before ++ bytes_of Mark) (before' ++ bytes_of Mark) h.1 (as_well-append before before' question_mark []) p.1)
-renamed_alone mode (t ∷ ts) place place' before before' h e a =
-    renamed_alone mode ts place place' (before ++ bytes_of t) (before' ++ bytes_of t) h.1 (as_well-append before before' _ _) a
+    if_alone _ _ _ (alone_as_well before before' ts e p.0) (first_not_alone-with_marks mode ts (place + 1) (place' + 1) (before ++ bytes_of Mark) (before' ++ bytes_of Mark) h.1 (as_well-append before before' question_mark []) p.1)
+first_not_alone-with_marks mode (t ∷ ts) place place' before before' h e a =
+    first_not_alone-with_marks mode ts place place' (before ++ bytes_of t) (before' ++ bytes_of t) h.1 (as_well-append before before' _ _) a
 
 -- without places
 

@@ -7,12 +7,12 @@ use Rattle.mysql_named_params.specs.Tokens.{Token, IsTokens, AreTokensBefore, te
 use Rattle.mysql_named_params.specs.Places.{place_count}
 use Rattle.mysql_named_params.proofs.RestLemmas.{SameUpToPlace, at_end, at_place, same-append, IsToken-move}
 use Rattle.mysql_named_params.proofs.TokenListLemmas.{one_token_list}
-use Rattle.mysql_binding.specs.Replaced.{AreLiterals, AreTokensOf, replaced}
-use Rattle.mysql_binding.specs.Pieces.{pieces, interleaved}
-use Rattle.mysql_binding.proofs.PieceLemmas.{interleaved_count, interleaved_is}
+use Rattle.mysql_binding.specs.Replaced.{AreLiterals, AreTokensOf, with_literal_tokens}
+use Rattle.mysql_binding.specs.Pieces.{pieces, joined_text}
+use Rattle.mysql_binding.proofs.PieceLemmas.{joined_text_count, joined_text_is}
 use Rattle.mysql_binding.proofs.BoundText.{bound}
 use Rattle.mysql_binding.proofs.LiteralTokenLemmas.{IsCutBefore, IsLiteral-cut, IsLiteral-opens_nothing}
-use Rattle.mysql_binding.proofs.TokenRowLemmas.{text_then-append, text_then-text, AreTokensBefore-append, place_count-append}
+use Rattle.mysql_named_params.proofs.TokenRowLemmas.{text_then-append, text_then-text_of, AreTokensBefore-append, place_count-append}
 
 -- the tokens of a literal end where it ends, whatever follows
 pub IsLiteral-tokens : (mode : Bool) (literal : List ℕ) (ts : List Token) → IsLiteral mode literal →
@@ -41,11 +41,11 @@ bound_up_to_place mode (t ∷ ts) literals a = same-append (bytes_of t) (bound_u
 
 list_text : (mode : Bool) (literal : List ℕ) (list ts : List Token) (rest : List ℕ) →
     IsTokens mode literal list → text_of ts ≡ rest → text_of (list ++ ts) ≡ literal ++ rest
-list_text mode literal list ts rest h e = rw (text_then-append list ts [], text_then-text list (text_of ts), e, h.text)
+list_text mode literal list ts rest h e = rw (text_then-append list ts [], text_then-text_of list (text_of ts), e, h.text)
 
 pub replaced_text : (mode : Bool) (ts : List Token) (literals : List (List ℕ)) (lists : List (List Token)) →
     AreTokensOf mode literals lists → length literals ≡ place_count ts →
-    text_of (replaced ts lists) ≡ bound ts literals
+    text_of (with_literal_tokens ts lists) ≡ bound ts literals
 replaced_text mode [] literals lists a l = refl
 replaced_text mode (Name name ∷ ts) [] lists a l = absurd (omega arith)
 replaced_text mode (Name name ∷ ts) (literal ∷ literals) [] a l = absurd a
@@ -57,22 +57,22 @@ replaced_text mode (t ∷ ts) literals lists a l = ap (λ u. bytes_of t ++ u) (r
 
 replaced_up_to_place : (mode : Bool) (ts : List Token) (literals : List (List ℕ)) (lists : List (List Token)) →
     AreLiterals mode literals → AreTokensOf mode literals lists → length literals ≡ place_count ts →
-    SameUpToPlace (text_of ts) (text_of (replaced ts lists))
+    SameUpToPlace (text_of ts) (text_of (with_literal_tokens ts lists))
 replaced_up_to_place mode ts literals lists s a l = subst (λ u. SameUpToPlace (text_of ts) u) (sym (replaced_text mode ts literals lists a l)) (bound_up_to_place mode ts literals s)
 
 -- isolation: the tokens of the bound text
 pub replaced_tokens : (mode : Bool) (ts : List Token) (literals : List (List ℕ)) (lists : List (List Token)) →
     AreTokensBefore mode [] ts → AreLiterals mode literals → AreTokensOf mode literals lists →
-    length literals ≡ place_count ts → AreTokensBefore mode [] (replaced ts lists)
+    length literals ≡ place_count ts → AreTokensBefore mode [] (with_literal_tokens ts lists)
 replaced_tokens mode [] literals lists h s a l = tt
 replaced_tokens mode (Name name ∷ ts) [] lists h s a l = absurd (omega arith)
 replaced_tokens mode (Name name ∷ ts) (literal ∷ literals) [] h s a l = absurd a
 replaced_tokens mode (Name name ∷ ts) (literal ∷ literals) (list ∷ lists) h s a l =
-    AreTokensBefore-append mode list (replaced ts lists) [] ((IsLiteral-tokens mode literal list s.0 a.0).cut_tokens _) (replaced_tokens mode ts literals lists h.1 s.1 a.1 (omega arith))
+    AreTokensBefore-append mode list (with_literal_tokens ts lists) [] ((IsLiteral-tokens mode literal list s.0 a.0).cut_tokens _) (replaced_tokens mode ts literals lists h.1 s.1 a.1 (omega arith))
 replaced_tokens mode (Mark ∷ ts) [] lists h s a l = absurd (omega arith)
 replaced_tokens mode (Mark ∷ ts) (literal ∷ literals) [] h s a l = absurd a
 replaced_tokens mode (Mark ∷ ts) (literal ∷ literals) (list ∷ lists) h s a l =
-    AreTokensBefore-append mode list (replaced ts lists) [] ((IsLiteral-tokens mode literal list s.0 a.0).cut_tokens _) (replaced_tokens mode ts literals lists h.1 s.1 a.1 (omega arith))
+    AreTokensBefore-append mode list (with_literal_tokens ts lists) [] ((IsLiteral-tokens mode literal list s.0 a.0).cut_tokens _) (replaced_tokens mode ts literals lists h.1 s.1 a.1 (omega arith))
 replaced_tokens mode (t ∷ ts) literals lists h s a l =
     (IsToken-move mode t _ _ (λ p. p) (replaced_up_to_place mode ts literals lists s a l) h.0, replaced_tokens mode ts literals lists h.1 s a l)
 
@@ -82,7 +82,7 @@ list_places mode literal list ts i h e = rw (place_count-append list ts, (IsLite
 
 pub replaced_places : (mode : Bool) (ts : List Token) (literals : List (List ℕ)) (lists : List (List Token)) →
     AreLiterals mode literals → AreTokensOf mode literals lists → length literals ≡ place_count ts →
-    place_count (replaced ts lists) ≡ 0
+    place_count (with_literal_tokens ts lists) ≡ 0
 replaced_places mode [] literals lists s a l = refl
 replaced_places mode (Name name ∷ ts) [] lists s a l = absurd (omega arith)
 replaced_places mode (Name name ∷ ts) (literal ∷ literals) [] s a l = absurd a
@@ -92,19 +92,19 @@ replaced_places mode (Mark ∷ ts) (literal ∷ literals) [] s a l = absurd a
 replaced_places mode (Mark ∷ ts) (literal ∷ literals) (list ∷ lists) s a l = list_places mode literal list _ s.0 a.0 (replaced_places mode ts literals lists s.1 a.1 (omega arith))
 replaced_places mode (t ∷ ts) literals lists s a l = replaced_places mode ts literals lists s a l
 
--- the same of the interleaved text
+-- the same of the joined_text text
 pub isolated : (mode : Bool) (query text : List ℕ) (ts : List Token) (literals : List (List ℕ)) (lists : List (List Token)) →
     IsTokens mode query ts → AreLiterals mode literals → AreTokensOf mode literals lists →
-    interleaved (pieces ts) literals ≡ Some text → IsTokens mode text (replaced ts lists)
+    joined_text (pieces ts) literals ≡ Some text → IsTokens mode text (with_literal_tokens ts lists)
 isolated mode query text ts literals lists is s a e =
-    let l = interleaved_count [] ts literals text e in
+    let l = joined_text_count [] ts literals text e in
     record {
-      text = replaced_text mode ts literals lists a l ∙ sym (interleaved_is ts literals text e);
+      text = replaced_text mode ts literals lists a l ∙ sym (joined_text_is ts literals text e);
       each = replaced_tokens mode ts literals lists is.each s a l;
     }
 
 pub isolated_places : (mode : Bool) (text : List ℕ) (ts : List Token) (literals : List (List ℕ)) (lists : List (List Token)) →
-    AreLiterals mode literals → AreTokensOf mode literals lists → interleaved (pieces ts) literals ≡ Some text →
-    place_count (replaced ts lists) ≡ 0
+    AreLiterals mode literals → AreTokensOf mode literals lists → joined_text (pieces ts) literals ≡ Some text →
+    place_count (with_literal_tokens ts lists) ≡ 0
 isolated_places mode text ts literals lists s a e =
-    replaced_places mode ts literals lists s a (interleaved_count [] ts literals text e)
+    replaced_places mode ts literals lists s a (joined_text_count [] ts literals text e)

@@ -2,7 +2,7 @@
 -- by the reader of literals alone.
 use Rattle.std.specs.Prelude.{◌≡◌, ℕ, Bool, List, [], ◌∷◌, ◌++◌, Option, Some, None, option_map, option_and_then, ⊤}
 use Rattle.mysql_sql_text.specs.ReadLiteral.{Content, after, read_literal}
-use Rattle.mysql_binding.specs.Pieces.{interleaved}
+use Rattle.mysql_binding.specs.Pieces.{joined_text}
 
 -- the contents of a text that is literals, each with the next of these pieces behind it
 abbrev pub contents_before : Bool → List (List ℕ) → List ℕ → Option (List Content)
@@ -24,7 +24,7 @@ contents mode (piece ∷ pieces) text =
 abbrev pub AreReadInPlace : Bool → List (List ℕ) → List (List ℕ) → List Content → Type 0
 AreReadInPlace mode pieces [] [] = ⊤
 AreReadInPlace mode (piece ∷ pieces) (literal ∷ literals) (content ∷ contents) =
-    ((behind : List ℕ) × (interleaved pieces literals ≡ Some behind)
+    ((behind : List ℕ) × (joined_text pieces literals ≡ Some behind)
     × (read_literal mode (literal ++ behind) ≡ Some (content, behind)))
     × AreReadInPlace mode pieces literals contents
 AreReadInPlace mode pieces literals contents = ⊥

@@ -9,9 +9,9 @@ use Rattle.mysql_named_params.specs.Places.{names}
 use Rattle.mysql_params_core.specs.Given.{Given}
 use Rattle.mysql_params_core.specs.Lookup.{lookup}
 use Rattle.mysql_binding.specs.FirstCause.{first_cause}
-use Rattle.mysql_binding.specs.Pieces.{pieces, interleaved}
+use Rattle.mysql_binding.specs.Pieces.{pieces, joined_text}
 use Rattle.mysql_binding.specs.Contents.{contents, AreReadInPlace}
-use Rattle.mysql_binding.specs.Replaced.{AreLiterals, AreTokensOf, replaced}
+use Rattle.mysql_binding.specs.Replaced.{AreLiterals, AreTokensOf, with_literal_tokens}
 use Rattle.mysql_binding.specs.ValueLiterals.{AreLiteralsOf}
 
 -- the text of a query with these tokens and what is given to it
@@ -30,14 +30,14 @@ pub record IsBoundText (mode : Bool) (ts : List Token) (given : Given) (text : L
   -- each of the shape of a literal,
   pub shapes : AreLiterals mode literals
   -- and the text is exactly the pieces of the query with one literal between each and the next.
-  pub exact : interleaved (pieces ts) literals ≡ Some text
+  pub exact : joined_text (pieces ts) literals ≡ Some text
   -- ITS TOKENS
   -- These are the tokens of each literal, read alone,
   pub lists : List (List Token)
   pub tokens_of_literals : AreTokensOf mode literals lists
   -- and the tokens of the text are those of the query, with those of one literal in place of each
   -- name and mark.
-  pub isolated : IsTokens mode text (replaced ts lists)
+  pub isolated : IsTokens mode text (with_literal_tokens ts lists)
   -- WHAT IT SAYS
   -- This is what the values say.
   pub said : List Content

@@ -3,6 +3,8 @@ pub mod Pieces
 pub mod Contents
 pub mod Replaced
 pub mod FirstCause
+pub mod Survey
 pub mod ValueLiterals
+pub mod WrittenText
 pub mod BindErrors
 pub mod Isolation

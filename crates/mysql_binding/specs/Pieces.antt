@@ -21,8 +21,8 @@ last_piece piece (next ∷ pieces) = None
 
 -- the first piece, the first literal, the second piece, and so on to the last piece; there has to
 -- be one literal between each piece and the next (a query has at least one piece)
-abbrev pub interleaved : List (List ℕ) → List (List ℕ) → Option (List ℕ)
-interleaved [] literals = None
-interleaved (piece ∷ pieces) [] = last_piece piece pieces
-interleaved (piece ∷ pieces) (literal ∷ literals) =
-    option_map (λ text. piece ++ (literal ++ text)) (interleaved pieces literals)
+abbrev pub joined_text : List (List ℕ) → List (List ℕ) → Option (List ℕ)
+joined_text [] literals = None
+joined_text (piece ∷ pieces) [] = last_piece piece pieces
+joined_text (piece ∷ pieces) (literal ∷ literals) =
+    option_map (λ text. piece ++ (literal ++ text)) (joined_text pieces literals)

@@ -5,11 +5,11 @@ use Rattle.mysql_named_params.specs.Tokens.{Token, IsTokens, Name, Mark}
 
 -- the tokens with the first list in place of the first name or mark, and so on; all others as
 -- they were
-abbrev pub replaced : List Token → List (List Token) → List Token
-replaced [] lists = []
-replaced (Name name ∷ ts) (list ∷ lists) = list ++ replaced ts lists
-replaced (Mark ∷ ts) (list ∷ lists) = list ++ replaced ts lists
-replaced (t ∷ ts) lists = t ∷ replaced ts lists
+abbrev pub with_literal_tokens : List Token → List (List Token) → List Token
+with_literal_tokens [] lists = []
+with_literal_tokens (Name name ∷ ts) (list ∷ lists) = list ++ with_literal_tokens ts lists
+with_literal_tokens (Mark ∷ ts) (list ∷ lists) = list ++ with_literal_tokens ts lists
+with_literal_tokens (t ∷ ts) lists = t ∷ with_literal_tokens ts lists
 
 -- as many lists as texts, and each the tokens of its text, read alone
 abbrev pub AreTokensOf : Bool → List (List ℕ) → List (List Token) → Type 0

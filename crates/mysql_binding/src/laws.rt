@@ -2,12 +2,12 @@
 ghost use Rattle.std.specs.Prelude.{◌≡◌, ◌↔◌, ℕ, Bool, List, [], None, Some, IsTrue, map, slice_get};
 ghost use Rattle.mysql_values.specs.Content.{content_of};
 ghost use Rattle.mysql_named_params.specs.Tokens.{Token, IsTokens, text_of};
-ghost use Rattle.mysql_named_params.specs.Places.{place_count, positions, renamed};
+ghost use Rattle.mysql_named_params.specs.Places.{place_count, positions, with_marks};
 ghost use Rattle.mysql_params_core.specs.Given.{Given, empty, positional};
 ghost use Rattle.mysql_binding.specs.BindErrors.{AreEqualBindErrors};
 ghost use Rattle.mysql_binding.specs.Isolation.{IsBoundText};
-ghost use Rattle.mysql_binding.specs.Pieces.{pieces, interleaved};
-ghost use Rattle.mysql_binding.specs.Replaced.{AreLiterals, AreTokensOf, replaced};
+ghost use Rattle.mysql_binding.specs.Pieces.{pieces, joined_text};
+ghost use Rattle.mysql_binding.specs.Replaced.{AreLiterals, AreTokensOf, with_literal_tokens};
 ghost use Rattle.mysql_binding.specs.StandsAlone.{AllAlone, IsFirstNotAlone, first_not_alone};
 
 use crate::bind_error::BindError;
@@ -18,11 +18,11 @@ pub fn isolation()
     ensures tokens { (mode : Bool) (query text : List ℕ) (ts : List Token)
         (literals : List (List ℕ)) (lists : List (List Token)) →
         IsTokens mode query ts → AreLiterals mode literals → AreTokensOf mode literals lists →
-        interleaved (pieces ts) literals ≡ Some text → IsTokens mode text (replaced ts lists) }
+        joined_text (pieces ts) literals ≡ Some text → IsTokens mode text (with_literal_tokens ts lists) }
     ensures no_place { (mode : Bool) (text : List ℕ) (ts : List Token)
         (literals : List (List ℕ)) (lists : List (List Token)) →
         AreLiterals mode literals → AreTokensOf mode literals lists →
-        interleaved (pieces ts) literals ≡ Some text → place_count (replaced ts lists) ≡ 0 }
+        joined_text (pieces ts) literals ≡ Some text → place_count (with_literal_tokens ts lists) ≡ 0 }
 {}
 
 /// No name and no mark is left in a bound text.
@@ -41,10 +41,10 @@ pub fn bound_again_is_the_same()
 /// and gives the same text.
 pub fn by_position_is_the_same()
     ensures tokens { (mode : Bool) (query : List ℕ) (ts : List Token) →
-        IsTokens mode query ts → IsTokens mode (text_of (renamed ts)) (renamed ts) }
+        IsTokens mode query ts → IsTokens mode (text_of (with_marks ts)) (with_marks ts) }
     ensures same { (mode : Bool) (query text : List ℕ) (ts : List Token) (given : Given) →
         IsTokens mode query ts → (bound : IsBoundText mode ts given text) →
-        IsBoundText mode (renamed ts) (positional bound.values) text }
+        IsBoundText mode (with_marks ts) (positional bound.values) text }
 {}
 
 /// Where the same text is bound to one query for two sets of parameters, their values say the same

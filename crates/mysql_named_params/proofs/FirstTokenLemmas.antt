@@ -3,7 +3,7 @@ use Rattle.std.specs.Prelude.{Bool}
 use Rattle.std.proofs.Common.{◌≡◌, ◌≢◌, ◌⊎◌, ℕ, ◌+◌, ◌<◌, ◌≤◌, true, false, not, ◌==◌, ◌&&◌, List, [], ◌∷◌, ◌++◌, length, take, drop, get_or, None, refl, sym, ap, ◌∙◌, subst, inl, inr, arith, take-append-drop, drop_at, length-take-le, ne_eqb}
 use Rattle.std.proofs.lemmas.List.{take_rest}
 use Rattle.std.proofs.lemmas.Bool.{and_parts, eqb-true, eqb-false, not-true}
-use Rattle.mysql_named_params.specs.Bytes.{asterisk, backquote, colon, dash, double_quote, hash, newline, question_mark, single_quote, slash, is_white_space, is_start_byte, is_quote, is_extension, begins, IsUpTo}
+use Rattle.mysql_named_params.specs.Bytes.{asterisk, backquote, colon, dash, double_quote, hash, newline, question_mark, single_quote, slash, is_white_space, is_start_byte, is_string_quote, is_extension, begins, IsUpTo}
 use Rattle.mysql_named_params.specs.Tokens.{Token, bytes_of, IsToken, IsStringTail, QuotedString, QuotedIdentifier, HashComment, DashComment, BlockComment, Name, Mark, Plain}
 use Rattle.mysql_named_params.specs.FirstToken.{kind_of, opens_dash_comment, opens_block_comment, IsNameFront, IsFirstToken}
 use Rattle.mysql_named_params.specs.declared.tokens.TokenKind.TheVariants as kind
@@ -34,7 +34,7 @@ pub string_first : (mode : Bool) (text : List ℕ) (n : ℕ) → 0 < length text
 string_first mode [] n some q le tail = absurd (omega arith)
 string_first mode (b ∷ bs) n some q le tail =
     let le' : n ≤ length bs = rw rest_is at le in
-    let quote : is_quote b ≡ true = elim q [ inl e ↦ ap is_quote e | inr e ↦ ap is_quote e ] in
+    let quote : is_string_quote b ≡ true = elim q [ inl e ↦ ap is_string_quote e | inr e ↦ ap is_string_quote e ] in
     whole mode (QuotedString b (take n bs)) (b ∷ bs) (drop n bs) (1 + n) (ap (λ x. b ∷ x) (take-append-drop n bs)) (omega (arith, length-take-le n bs le')) (quote, rw rest_is at tail)
 
 pub identifier_first : (mode : Bool) (text : List ℕ) (n : ℕ) → 0 < length text →

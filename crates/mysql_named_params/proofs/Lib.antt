@@ -2,6 +2,11 @@ pub mod TokenEnds
 pub mod TokenEndLemmas
 pub mod TokenListLemmas
 pub mod FirstTokenLemmas
+pub mod TokenRowLemmas
+pub mod CutLemmas
+pub mod TokensExistLemmas
+pub mod FirstPlaceLemmas
+pub mod FoundPlaceLemmas
 pub mod CountLemmas
 pub mod RenameLemmas
 pub mod PositionLemmas

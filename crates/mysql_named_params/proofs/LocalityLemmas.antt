@@ -1,7 +1,7 @@
 -- A token sees no more of what follows it than `looks_at` says.
 use Rattle.std.proofs.Common.{◌≡◌, ◌==◌, ℕ, Bool, false, List, [], ◌∷◌, take, inl, inr, refl, ap, ◌∙◌, sym, None}
 use Rattle.std.proofs.lemmas.Bool.{cases_Bool}
-use Rattle.mysql_named_params.specs.Bytes.{backquote, colon, dash, hash, question_mark, slash, is_name_byte, is_start_byte, is_quote, begins}
+use Rattle.mysql_named_params.specs.Bytes.{backquote, colon, dash, hash, question_mark, slash, is_name_byte, is_start_byte, is_string_quote, begins}
 use Rattle.mysql_named_params.specs.Tokens.{Token, IsToken, QuotedString, QuotedIdentifier, HashComment, DashComment, BlockComment, Name, Mark, Plain}
 use Rattle.mysql_named_params.specs.FirstToken.{opens_dash_comment, opens_block_comment}
 use Rattle.mysql_named_params.specs.Locality.{looks_at, LooksAlike}
@@ -33,7 +33,7 @@ plain_alike : (mode : Bool) (b : ℕ) (x y : List ℕ) →
     take (looks_at (Plain b)) x ≡ take (looks_at (Plain b)) y → not_plain_at mode (b ∷ x) ≡ None →
     not_plain_at mode (b ∷ y) ≡ None
 plain_alike mode b x y e =
-    cond_none (is_quote b) _ _ _ _ (some_none _ _)
+    cond_none (is_string_quote b) _ _ _ _ (some_none _ _)
     (cond_none (b == backquote) _ _ _ _ (some_none _ _)
     (cond_none (b == hash) _ _ _ _ (some_none _ _)
     (elim (cases_Bool (b == dash)) [

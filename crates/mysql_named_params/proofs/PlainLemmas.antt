@@ -1,7 +1,7 @@
 -- A byte is a plain token only where no other token is computed there.
 use Rattle.std.proofs.Common.{◌≡◌, ◌≢◌, ℕ, Bool, true, false, cond, not, ◌==◌, ◌&&◌, List, [], ◌∷◌, ◌++◌, take, drop, Option, Some, None, refl, sym, ap, subst, take-append-drop, arith, true≢false}
 use Rattle.std.proofs.lemmas.Bool.{and_parts, eqb-true, eqb-false}
-use Rattle.mysql_named_params.specs.Bytes.{asterisk, backquote, colon, dash, hash, newline, question_mark, slash, is_white_space, is_start_byte, is_quote, is_extension, begins}
+use Rattle.mysql_named_params.specs.Bytes.{asterisk, backquote, colon, dash, hash, newline, question_mark, slash, is_white_space, is_start_byte, is_string_quote, is_extension, begins}
 use Rattle.mysql_named_params.specs.Tokens.{Token, bytes_of, IsNotPlain, IsToken, Plain}
 use Rattle.mysql_named_params.specs.FirstToken.{opens_dash_comment, opens_block_comment}
 use Rattle.mysql_named_params.proofs.TokenEnds.{not_plain_at, dash_comment, block_comment, name_at, len_up_to, string_len, name_len}
@@ -69,7 +69,7 @@ pub not_plain_found : (mode : Bool) (text : List ℕ) (t : Token) → not_plain_
     BeginsWithToken mode text t
 not_plain_found mode [] t e = cc
 not_plain_found mode (b ∷ bs) t e =
-    cond_some (is_quote b) _ _ t _ (λ h f. token_found mode _ _ t (drop (string_len mode b false bs) bs, (h, string_gives mode b bs), join b b _ bs refl) f)
+    cond_some (is_string_quote b) _ _ t _ (λ h f. token_found mode _ _ t (drop (string_len mode b false bs) bs, (h, string_gives mode b bs), join b b _ bs refl) f)
     (λ h. cond_some (b == backquote) _ _ t _ (λ h f. token_found mode _ _ t (drop (len_up_to (backquote ∷ []) bs) bs, up_to_gives (backquote ∷ []) bs (omega arith), join backquote b _ bs (sym (eqb-true b backquote h))) f)
     (λ h. cond_some (b == hash) _ _ t _ (λ h f. token_found mode _ _ t (drop (len_up_to (newline ∷ []) bs) bs, up_to_gives (newline ∷ []) bs (omega arith), join hash b _ bs (sym (eqb-true b hash h))) f)
     (λ h. cond_some (b == dash) _ _ t _ (λ h f. rw (eqb-true b dash h) (dash_found mode bs t f))

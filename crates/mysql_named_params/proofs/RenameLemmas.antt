@@ -1,121 +1,137 @@
 -- What renaming has done so far.
 use Rattle.std.specs.Prelude.{Bool}
-use Rattle.std.proofs.Common.{◌≡◌, ◌≢◌, ℕ, List, [], ◌∷◌, ◌++◌, length, take, drop, map, All, refl, sym, ap, ◌∙◌, subst, arith, append_assoc, append-nil}
+use Rattle.std.proofs.Common.{◌≡◌, ◌≢◌, ◌⊎◌, inl, inr, ℕ, ◌+◌, ◌<◌, ◌≤◌, List, [], ◌∷◌, ◌++◌, length, take, drop, map, All, Some, refl, sym, ap, ◌∙◌, subst, arith, append_assoc, append-nil, drop-drop, length-append}
 use Rattle.std.specs.Cow.{cow_slice_items, IsBorrowedSlice}
 use Rattle.std.specs.declared.borrow.CowSlice.{CowSlice}
-use Rattle.std.proofs.lemmas.List.{nil_from_length, take_rest, map-append}
+use Rattle.std.proofs.lemmas.List.{nil_from_length, take_rest, map-append, length-map}
 use Rattle.std.proofs.lemmas.List.Elements.{All-nil, All-push}
-use Rattle.mysql_named_params.specs.Bytes.{asterisk, backquote, dash, hash, question_mark, slash}
-use Rattle.mysql_named_params.specs.Tokens.{Token, bytes_of, IsTokens, text_of, QuotedString, QuotedIdentifier, HashComment, DashComment, BlockComment, Name, Mark, Plain}
-use Rattle.mysql_named_params.specs.Places.{names, marks, renamed, restored, HasName}
-use Rattle.mysql_named_params.specs.FirstToken.{kind_of, IsFirstToken}
+use Rattle.mysql_named_params.specs.Bytes.{question_mark}
+use Rattle.mysql_named_params.specs.Tokens.{Token, bytes_of, IsTokens, OnTokens, text_of, Name, Mark}
+use Rattle.mysql_named_params.specs.Places.{names, marks, place_count, with_marks, with_names}
+use Rattle.mysql_named_params.specs.FirstPlace.{place_kind, IsFirstPlace}
 use Rattle.mysql_named_params.specs.Parsed.{Parsed, parsed}
-use Rattle.mysql_named_params.specs.declared.tokens.TokenKind.{TokenKind}
-use Rattle.mysql_named_params.specs.declared.tokens.TokenKind.TheVariants as kind
+use Rattle.mysql_named_params.specs.declared.places.FoundPlace.{FoundPlace}
+use Rattle.mysql_named_params.specs.declared.places.PlaceKind.{PlaceKind}
+use Rattle.mysql_named_params.specs.declared.places.PlaceKind.TheVariants as kind
 use Rattle.mysql_named_params.proofs.TokenEndLemmas.{slice_from}
 use Rattle.mysql_named_params.proofs.TokenListLemmas.{one_token_list}
-use Rattle.mysql_named_params.proofs.CountLemmas.{BeginsWithTokens, all_tokens, cut_none, cut_more, first_bytes, names-append, renamed-append, names_one}
+use Rattle.mysql_named_params.proofs.TokenRowLemmas.{text_of-append, with_marks-append, with_marks-nameless, place_count-sum}
+use Rattle.mysql_named_params.proofs.FoundPlaceLemmas.{IsPartedAt, parted, names-no_place, names_at_name, marks_at_name, marks_at_mark}
 
--- the tokens before the rest, renamed, and their names
-pub record RenamedSoFar {Z : Type 0} (mode : Bool) (query rest text : List ℕ) (params : List (CowSlice ℕ Z)) : Type 0 where
-  pub tokens : List Token
-  pub cut : BeginsWithTokens mode query rest tokens
-  pub text_is : text ≡ text_of (renamed tokens)
-  pub names_are : map cow_slice_items params ≡ names tokens
+-- what is renamed, with what is left of a query of so many names
+pub record RenamedSoFar {Z : Type 0} (mode : Bool) (query rest : List ℕ) (count : ℕ) (text : List ℕ) (params : List (CowSlice ℕ Z)) : Type 0 where
+  pub all : List Token
+  pub tokens : IsTokens mode query all
+  pub left : List Token
+  pub rest_tokens : IsTokens mode rest left
+  pub no_marks : marks left ≡ 0
+  pub count_is : length params + length (names left) ≡ count
+  pub text_is : text ++ text_of (with_marks left) ≡ text_of (with_marks all)
+  pub names_are : map cow_slice_items params ++ names left ≡ names all
   pub borrowed : All IsBorrowedSlice params
 
-pub renamed_none : {Z : Type 0} (mode : Bool) (query : List ℕ) →
-    RenamedSoFar {Z = Z} mode query query [] []
-renamed_none mode query = record { tokens = []; cut = cut_none mode query; text_is = refl; names_are = refl; borrowed = All-nil IsBorrowedSlice }
+pub renamed_none : {Z : Type 0} (mode : Bool) (query : List ℕ) (count : ℕ) (text : List ℕ) (params : List (CowSlice ℕ Z)) →
+    OnTokens mode query (λ ts. (count ≡ length (names ts)) × (marks ts ≡ 0)) → text ≡ [] →
+    params ≡ [] → RenamedSoFar {Z = Z} mode query query count text params
+renamed_none mode query count text params o no_text no_params = record {
+  all = o.0;
+  tokens = o.1;
+  left = o.0;
+  rest_tokens = o.1;
+  no_marks = o.2.1;
+  count_is = omega (arith, o.2.0, ap length no_params);
+  text_is = ap (λ x. x ++ text_of (with_marks o.0)) no_text;
+  names_are = ap (λ x. map cow_slice_items x ++ names o.0) no_params;
+  borrowed = subst (All IsBorrowedSlice) (sym no_params) (All-nil IsBorrowedSlice);
+}
 
-pub text_of-append : (ts us : List Token) → text_of (ts ++ us) ≡ text_of ts ++ text_of us
-text_of-append [] us = refl
-text_of-append (t ∷ ts) us = ap (λ x. bytes_of t ++ x) (text_of-append ts us) ∙ sym (append_assoc (bytes_of t) (text_of ts) (text_of us))
+-- a mark in place of the first name
+text-with_marks_at : (front : List Token) (place : Token) (back : List Token) →
+    place_count front ≡ 0 → place_kind place ≡ Some kind.Name →
+    text_of (with_marks (front ++ place ∷ back)) ≡ text_of front ++ question_mark ∷ text_of (with_marks back)
+text-with_marks_at front place back no_place is =
+    ap text_of (with_marks-append front (place ∷ back) ∙ ap (λ x. x ++ with_marks (place ∷ back)) (with_marks-nameless front (ap length (names-no_place front no_place))))
+    ∙ (text_of-append front (with_marks (place ∷ back)) ∙ ap (λ x. text_of front ++ x) (one place is))
+  where
+    one : (t : Token) → place_kind t ≡ Some kind.Name →
+        text_of (with_marks (t ∷ back)) ≡ question_mark ∷ text_of (with_marks back)
+    one (Name name) e = refl
+    one Mark e = cc
+    one t e = cc
 
--- what the text gains by a token
-pub gains : (ts : List Token) (t : Token) →
-    text_of (renamed (ts ++ t ∷ [])) ≡ text_of (renamed ts) ++ text_of (renamed (t ∷ []))
-gains ts t = ap text_of (renamed-append ts (t ∷ [])) ∙ text_of-append (renamed ts) (renamed (t ∷ []))
+kind_cases : (k : PlaceKind) → (k ≡ kind.Name) ⊎ (k ≡ kind.Mark)
+kind_cases kind.Name = inl refl
+kind_cases kind.Mark = inr refl
 
-mark_for : (t : Token) → kind_of t ≡ kind.Name → text_of (renamed (t ∷ [])) ≡ question_mark ∷ []
-mark_for (Name name) e = refl
-mark_for Mark e = cc
-mark_for t e = cc
+-- tokens without marks have a name at their first place
+pub name_found : (mode : Bool) (text : List ℕ) (ts : List Token) (found : FoundPlace) → marks ts ≡ 0 →
+    (p : IsPartedAt mode text ts found) → place_kind p.place ≡ Some kind.Name
+name_found mode text ts found none p = elim (kind_cases found.kind) [
+  | inl e ↦ p.kind_is ∙ ap Some e
+  | inr e ↦ absurd (omega (arith, none, ap marks p.tokens_are, marks_at_mark p.front p.place p.back p.no_place (p.kind_is ∙ ap Some e)))
+]
 
-same_for : (t : Token) → (kind_of t ≡ kind.Name → ⊥) → text_of (renamed (t ∷ [])) ≡ bytes_of t
-same_for (Name name) e = absurd (e refl)
-same_for Mark e = refl
-same_for (QuotedString quote tail) e = append-nil (quote ∷ tail)
-same_for (QuotedIdentifier tail) e = append-nil (backquote ∷ tail)
-same_for (HashComment tail) e = append-nil (hash ∷ tail)
-same_for (DashComment gap tail) e = append-nil (dash ∷ dash ∷ gap ∷ tail)
-same_for (BlockComment tail) e = append-nil (slash ∷ asterisk ∷ tail)
-same_for (Plain b) e = refl
+module _ {Z : Type 0} (mode : Bool) (query rest : List ℕ) (count : ℕ) (text : List ℕ) (params : List (CowSlice ℕ Z)) (r : RenamedSoFar mode query rest count text params) where
+  -- a name: the text before it, a mark, and the bytes after the colon
+  pub renamed_more : (text' run place from_place after : List ℕ) (params' : List (CowSlice ℕ Z)) (name : CowSlice ℕ Z) (found : FoundPlace) →
+      OnTokens mode rest (λ us. IsFirstPlace us found) → run ≡ take found.before rest →
+      from_place ≡ drop found.before rest → place ≡ take found.len from_place →
+      after ≡ drop found.len from_place → text' ≡ (text ++ run) ++ question_mark ∷ [] →
+      params' ≡ params ++ name ∷ [] → cow_slice_items name ≡ slice_from 1 place →
+      IsBorrowedSlice name → RenamedSoFar mode query after count text' params'
+  renamed_more text' run place from_place after params' name found o run_is from_is place_is after_is text_more params_more name_is name_borrowed =
+      let p = parted mode rest r.left found r.rest_tokens o in
+      let is = name_found mode rest r.left found r.no_marks p in
+      let after_rest : drop (found.before + found.len) rest ≡ after = sym (drop-drop found.len found.before rest) ∙ sym (after_is ∙ ap (drop found.len) from_is) in
+      let names_left : names r.left ≡ drop 1 (bytes_of p.place) ∷ names p.back = ap names p.tokens_are ∙ names_at_name p.front p.place p.back p.no_place is in
+      let bytes_are : place ≡ bytes_of p.place = place_is ∙ (ap (take found.len) from_is ∙ sym p.place_bytes) in
+      let item : cow_slice_items name ≡ drop 1 (bytes_of p.place) = name_is ∙ (take_rest place 1 ∙ ap (drop 1) bytes_are) in
+      let text_left : text_of (with_marks r.left) ≡ run ++ question_mark ∷ text_of (with_marks p.back) = ap (λ x. text_of (with_marks x)) p.tokens_are ∙ (text-with_marks_at p.front p.place p.back p.no_place is ∙ ap (λ x. x ++ question_mark ∷ text_of (with_marks p.back)) (p.front_text ∙ sym run_is)) in
+      record {
+        all = r.all;
+        tokens = r.tokens;
+        left = p.back;
+        rest_tokens = subst (λ x. IsTokens mode x p.back) after_rest p.rest_tokens;
+        no_marks = sym (marks_at_name p.front p.place p.back p.no_place is) ∙ (ap marks (sym p.tokens_are) ∙ r.no_marks);
+        count_is = omega (arith, r.count_is, ap length names_left, ap length params_more, length-append params (name ∷ []));
+        text_is = ap (λ x. x ++ text_of (with_marks p.back)) text_more ∙ (append_assoc (text ++ run) (question_mark ∷ []) _ ∙ (append_assoc text run _ ∙ (ap (λ x. text ++ x) (sym text_left) ∙ r.text_is)));
+        names_are = ap (λ x. map cow_slice_items x ++ names p.back) params_more ∙ (ap (λ x. x ++ names p.back) (map-append cow_slice_items params (name ∷ [])) ∙ (append_assoc (map cow_slice_items params) (cow_slice_items name ∷ []) (names p.back) ∙ (ap (λ x. map cow_slice_items params ++ x ∷ names p.back) item ∙ (ap (λ x. map cow_slice_items params ++ x) (sym names_left) ∙ r.names_are))));
+        borrowed = subst (All IsBorrowedSlice) (sym params_more) (All-push IsBorrowedSlice params name r.borrowed name_borrowed);
+      }
 
-no_names : (t : Token) → (kind_of t ≡ kind.Name → ⊥) → names (t ∷ []) ≡ []
-no_names (Name name) e = absurd (e refl)
-no_names Mark e = refl
-no_names t e = refl
+  -- as long as names are missing, one is found
+  pub name_left : length params < count → OnTokens mode rest (λ us. place_count us ≡ 0) → ⊥
+  name_left missing o =
+      let same : o.0 ≡ r.left = one_token_list mode rest o.0 r.left o.1 r.rest_tokens in
+      omega (arith, missing, r.count_is, ap place_count same, o.2, place_count-sum r.left)
 
--- a name: a mark, and the bytes behind the colon
-pub renamed_name : {Z : Type 0} (mode : Bool) (query rest text text' front after : List ℕ) (params params' : List (CowSlice ℕ Z)) (p : CowSlice ℕ Z) (kd : TokenKind) (n : ℕ) →
-    RenamedSoFar mode query rest text params → IsFirstToken mode rest kd n → kd ≡ kind.Name → front ≡ take n rest → after ≡ drop n rest →
-    text' ≡ text ++ question_mark ∷ [] → params' ≡ params ++ p ∷ [] → cow_slice_items p ≡ slice_from 1 front → IsBorrowedSlice p → RenamedSoFar mode query after text' params'
-renamed_name mode query rest text text' front after params params' p kd n r f is_name front_is after_is text_more params_more p_is p_borrowed =
-    let t = f.token in
-    let named : kind_of t ≡ kind.Name = f.kind_is ∙ is_name in
-    let name : cow_slice_items p ≡ drop 1 (bytes_of t) = p_is ∙ (rw take_rest (ap (drop 1) (front_is ∙ first_bytes mode rest kd n f))) in
-    record {
-      tokens = r.tokens ++ t ∷ [];
-      cut = subst (λ x. BeginsWithTokens mode query x (r.tokens ++ t ∷ [])) (sym after_is) (cut_more mode query rest r.tokens kd n r.cut f);
-      text_is = text_more ∙ (ap (λ x. x ++ question_mark ∷ []) r.text_is ∙ (ap (λ x. text_of (renamed r.tokens) ++ x) (sym (mark_for t named)) ∙ sym (gains r.tokens t)));
-      names_are = ap (map cow_slice_items) params_more ∙ (map-append cow_slice_items params (p ∷ []) ∙ (ap (λ x. x ++ cow_slice_items p ∷ []) r.names_are ∙ (ap (λ x. names r.tokens ++ x ∷ []) name ∙ (ap (λ x. names r.tokens ++ x) (sym (names_one t named)) ∙ sym (names-append r.tokens (t ∷ []))))));
-      borrowed = subst (All IsBorrowedSlice) (sym params_more) (All-push IsBorrowedSlice params p r.borrowed p_borrowed);
-    }
+  -- once they all are found, the rest follows as it is
+  pub renamed_all : (text' : List ℕ) → count ≤ length params → text' ≡ text ++ rest →
+      OnTokens mode query (λ ts. ◌≡◌ {A = Parsed} (record { query = text'; params = map cow_slice_items params }) (parsed ts))
+  renamed_all text' all_found text_more =
+      let none : length (names r.left) ≡ 0 = omega (arith, r.count_is, all_found) in
+      let rest_is : rest ≡ text_of (with_marks r.left) = sym r.rest_tokens.text ∙ ap text_of (sym (with_marks-nameless r.left none)) in
+      let text_is : text' ≡ text_of (with_marks r.all) = text_more ∙ (ap (λ x. text ++ x) rest_is ∙ r.text_is) in
+      let names_are : map cow_slice_items params ≡ names r.all = sym (append-nil (map cow_slice_items params)) ∙ (ap (λ x. map cow_slice_items params ++ x) (sym (nil_from_length (names r.left) none)) ∙ r.names_are) in
+      let same : ◌≡◌ {A = Parsed} (record { query = text'; params = map cow_slice_items params }) (parsed r.all) = cc in
+      (r.all, r.tokens, same)
 
--- another token: its bytes
-pub renamed_other : {Z : Type 0} (mode : Bool) (query rest text text' front after : List ℕ) (params : List (CowSlice ℕ Z)) (kd : TokenKind) (n : ℕ) →
-    RenamedSoFar mode query rest text params → IsFirstToken mode rest kd n → (kd ≡ kind.Name → ⊥) → front ≡ take n rest → after ≡ drop n rest →
-    text' ≡ text ++ front → RenamedSoFar mode query after text' params
-renamed_other mode query rest text text' front after params kd n r f no_name front_is after_is text_more =
-    let t = f.token in
-    let other : kind_of t ≡ kind.Name → ⊥ = λ e. no_name (sym f.kind_is ∙ e) in
-    record {
-      tokens = r.tokens ++ t ∷ [];
-      cut = subst (λ x. BeginsWithTokens mode query x (r.tokens ++ t ∷ [])) (sym after_is) (cut_more mode query rest r.tokens kd n r.cut f);
-      text_is = text_more ∙ (ap (λ x. x ++ front) r.text_is ∙ (ap (λ x. text_of (renamed r.tokens) ++ x) (front_is ∙ (first_bytes mode rest kd n f ∙ sym (same_for t other))) ∙ sym (gains r.tokens t)));
-      names_are = r.names_are ∙ (sym (append-nil (names r.tokens)) ∙ (ap (λ x. names r.tokens ++ x) (sym (no_names t other)) ∙ sym (names-append r.tokens (t ∷ []))));
-      borrowed = r.borrowed;
-    }
-
--- with no name nothing is renamed
-pub renamed_same : (ts : List Token) → length (names ts) ≡ 0 → renamed ts ≡ ts
-renamed_same [] e = refl
-renamed_same (Name name ∷ ts) e = absurd (omega arith)
-renamed_same (Mark ∷ ts) e = ap (λ x. Mark ∷ x) (renamed_same ts e)
-renamed_same (t ∷ ts) e = ap (λ x. t ∷ x) (renamed_same ts e)
+  pub some_params : 0 < count → count ≤ length params → params ≢ []
+  some_params some all_found nil = omega (arith, some, all_found, ap length nil)
 
 -- a query without names is itself
 pub parsed_same : (mode : Bool) (query : List ℕ) (ts : List Token) (params : List (List ℕ)) →
     IsTokens mode query ts → length (names ts) ≡ 0 → params ≡ [] →
     ◌≡◌ {A = Parsed} (record { query = query; params = params }) (parsed ts)
 parsed_same mode query ts params is no_names none =
-    let text : query ≡ text_of (renamed ts) = sym is.text ∙ ap text_of (sym (renamed_same ts no_names)) in
+    let text : query ≡ text_of (with_marks ts) = sym is.text ∙ ap text_of (sym (with_marks-nameless ts no_names)) in
     let nil : names ts ≡ [] = nil_from_length (names ts) no_names in
     let same : params ≡ names ts = none ∙ sym nil in
     cc
 
--- where the query has a name, renaming it to its end finds one
-pub some_params : {Z : Type 0} (mode : Bool) (query rest text : List ℕ) (params : List (CowSlice ℕ Z)) (ts : List Token) →
-    IsTokens mode query ts → HasName ts → length rest ≡ 0 → RenamedSoFar mode query rest text params → params ≢ []
-some_params mode query rest text params ts is some e r nil =
-    let same : r.tokens ≡ ts = one_token_list mode query r.tokens ts (all_tokens mode query rest r.tokens e r.cut) is in
-    let none : names ts ≡ [] = sym (ap names same) ∙ (sym r.names_are ∙ ap (map cow_slice_items) nil) in
-    absurd (omega (arith, ap length none))
-
 -- putting the names back undoes the renaming
-pub restored_renamed : (ts : List Token) → marks ts ≡ 0 → restored (renamed ts) (names ts) ≡ ts
-restored_renamed [] e = refl
-restored_renamed (Name name ∷ ts) e = ap (λ x. Name name ∷ x) (restored_renamed ts e)
-restored_renamed (Mark ∷ ts) e = absurd (omega arith)
-restored_renamed (t ∷ ts) e = ap (λ x. t ∷ x) (restored_renamed ts e)
+pub with_names-with_marks : (ts : List Token) → marks ts ≡ 0 → with_names (with_marks ts) (names ts) ≡ ts
+with_names-with_marks [] e = refl
+with_names-with_marks (Name name ∷ ts) e = ap (λ x. Name name ∷ x) (with_names-with_marks ts e)
+with_names-with_marks (Mark ∷ ts) e = absurd (omega arith)
+with_names-with_marks (t ∷ ts) e = ap (λ x. t ∷ x) (with_names-with_marks ts e)

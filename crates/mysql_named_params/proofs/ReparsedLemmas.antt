@@ -5,8 +5,8 @@ use Rattle.mysql_named_params.specs.Bytes.{question_mark}
 use Rattle.mysql_named_params.specs.Tokens.{Token, AreTokensBefore, text_of, bytes_of, IsTokens, OnTokens, Name, Mark}
 use Rattle.mysql_named_params.specs.Parsed.{Parsed, parsed}
 use Rattle.mysql_named_params.proofs.TokenListLemmas.{one_token_list}
-use Rattle.mysql_named_params.proofs.RenameLemmas.{restored_renamed}
-use Rattle.mysql_named_params.specs.Places.{names, marks, renamed, restored, place_count}
+use Rattle.mysql_named_params.proofs.RenameLemmas.{with_names-with_marks}
+use Rattle.mysql_named_params.specs.Places.{names, marks, with_marks, with_names}
 use Rattle.mysql_named_params.specs.FirstToken.{opens_dash_comment}
 use Rattle.mysql_named_params.proofs.RestLemmas.{SameUpToPlace, at_end, same, at_place, same-append, IsToken-move, OpensNothing}
 
@@ -17,60 +17,54 @@ mark_opens_nothing rest = record { no_line = no_line rest; no_gap = refl; no_blo
     no_line [] = refl
     no_line (w ∷ rest) = refl
 
-renamed_up_to_place : (ts : List Token) → SameUpToPlace (text_of ts) (text_of (renamed ts))
-renamed_up_to_place [] = at_end
-renamed_up_to_place (Name name ∷ ts) = at_place (inl refl) (mark_opens_nothing _)
-renamed_up_to_place (Mark ∷ ts) = same (renamed_up_to_place ts)
-renamed_up_to_place (t ∷ ts) = same-append (bytes_of t) (renamed_up_to_place ts)
+with_marks_up_to_place : (ts : List Token) → SameUpToPlace (text_of ts) (text_of (with_marks ts))
+with_marks_up_to_place [] = at_end
+with_marks_up_to_place (Name name ∷ ts) = at_place (inl refl) (mark_opens_nothing _)
+with_marks_up_to_place (Mark ∷ ts) = same (with_marks_up_to_place ts)
+with_marks_up_to_place (t ∷ ts) = same-append (bytes_of t) (with_marks_up_to_place ts)
 
-pub renamed_tokens : (mode : Bool) (ts : List Token) → AreTokensBefore mode [] ts →
-    AreTokensBefore mode [] (renamed ts)
-renamed_tokens mode [] h = tt
-renamed_tokens mode (Name name ∷ ts) h = (tt, renamed_tokens mode ts h.1)
-renamed_tokens mode (Mark ∷ ts) h = (tt, renamed_tokens mode ts h.1)
-renamed_tokens mode (t ∷ ts) h = (IsToken-move mode t _ _ (λ p. elim p [ ]) (renamed_up_to_place ts) h.0, renamed_tokens mode ts h.1)
+pub AreTokensBefore-with_marks : (mode : Bool) (ts : List Token) → AreTokensBefore mode [] ts →
+    AreTokensBefore mode [] (with_marks ts)
+AreTokensBefore-with_marks mode [] h = tt
+AreTokensBefore-with_marks mode (Name name ∷ ts) h = (tt, AreTokensBefore-with_marks mode ts h.1)
+AreTokensBefore-with_marks mode (Mark ∷ ts) h = (tt, AreTokensBefore-with_marks mode ts h.1)
+AreTokensBefore-with_marks mode (t ∷ ts) h = (IsToken-move mode t _ _ (λ p. elim p [ ]) (with_marks_up_to_place ts) h.0, AreTokensBefore-with_marks mode ts h.1)
 
-pub renamed_names : (ts : List Token) → names (renamed ts) ≡ []
-renamed_names [] = refl
-renamed_names (Name name ∷ ts) = renamed_names ts
-renamed_names (Mark ∷ ts) = renamed_names ts
-renamed_names (t ∷ ts) = renamed_names ts
+pub names-with_marks : (ts : List Token) → names (with_marks ts) ≡ []
+names-with_marks [] = refl
+names-with_marks (Name name ∷ ts) = names-with_marks ts
+names-with_marks (Mark ∷ ts) = names-with_marks ts
+names-with_marks (t ∷ ts) = names-with_marks ts
 
-pub renamed_marks : (ts : List Token) → marks (renamed ts) ≡ marks ts + length (names ts)
-renamed_marks [] = refl
-renamed_marks (Name name ∷ ts) = omega (arith, renamed_marks ts)
-renamed_marks (Mark ∷ ts) = omega (arith, renamed_marks ts)
-renamed_marks (t ∷ ts) = renamed_marks ts
-
-pub places_are : (ts : List Token) → place_count ts ≡ length (names ts) + marks ts
-places_are [] = refl
-places_are (Name name ∷ ts) = omega (arith, places_are ts)
-places_are (Mark ∷ ts) = omega (arith, places_are ts)
-places_are (t ∷ ts) = places_are ts
+pub marks-with_marks : (ts : List Token) → marks (with_marks ts) ≡ marks ts + length (names ts)
+marks-with_marks [] = refl
+marks-with_marks (Name name ∷ ts) = omega (arith, marks-with_marks ts)
+marks-with_marks (Mark ∷ ts) = omega (arith, marks-with_marks ts)
+marks-with_marks (t ∷ ts) = marks-with_marks ts
 
 -- the tokens of the query with marks
-pub renamed_are : (mode : Bool) (query : List ℕ) (ts : List Token) → IsTokens mode query ts →
-    IsTokens mode (text_of (renamed ts)) (renamed ts)
-renamed_are mode query ts is = record { text = refl; each = renamed_tokens mode ts is.each }
+pub IsTokens-with_marks : (mode : Bool) (query : List ℕ) (ts : List Token) → IsTokens mode query ts →
+    IsTokens mode (text_of (with_marks ts)) (with_marks ts)
+IsTokens-with_marks mode query ts is = record { text = refl; each = AreTokensBefore-with_marks mode ts is.each }
 
 -- ---- of a parsed query
 
 pub reparsed_nameless : (mode : Bool) (query : List ℕ) (ts : List Token) (p : Parsed) →
     IsTokens mode query ts → p ≡ parsed ts → OnTokens mode p.query (λ us. names us ≡ [])
 reparsed_nameless mode query ts p is e =
-    rw e (renamed ts, renamed_are mode query ts is, renamed_names ts)
+    rw e (with_marks ts, IsTokens-with_marks mode query ts is, names-with_marks ts)
 
 pub reparsed_marked : (mode : Bool) (query : List ℕ) (ts : List Token) (p : Parsed) →
     IsTokens mode query ts → p ≡ parsed ts → (names ts ≢ [] → marks ts ≡ 0) →
     OnTokens mode p.query (λ us. p.params ≢ [] → marks us ≡ length p.params)
 reparsed_marked mode query ts p is e unmixed =
-    rw e (renamed ts, renamed_are mode query ts is, λ some. omega (arith, renamed_marks ts, unmixed some))
+    rw e (with_marks ts, IsTokens-with_marks mode query ts is, λ some. omega (arith, marks-with_marks ts, unmixed some))
 
 pub reparsed_restored : (mode : Bool) (query : List ℕ) (ts : List Token) (p : Parsed) →
     IsTokens mode query ts → p ≡ parsed ts → (names ts ≢ [] → marks ts ≡ 0) →
-    OnTokens mode p.query (λ us. p.params ≢ [] → text_of (restored us p.params) ≡ query)
+    OnTokens mode p.query (λ us. p.params ≢ [] → text_of (with_names us p.params) ≡ query)
 reparsed_restored mode query ts p is e unmixed =
-    rw e (renamed ts, renamed_are mode query ts is, λ some. ap text_of (restored_renamed ts (unmixed some)) ∙ is.text)
+    rw e (with_marks ts, IsTokens-with_marks mode query ts is, λ some. ap text_of (with_names-with_marks ts (unmixed some)) ∙ is.text)
 
 -- where the marks were counted to none, the tokens have none
 pub no_marks : (mode : Bool) (query : List ℕ) (name_count mark_count : ℕ) (ts : List Token) →

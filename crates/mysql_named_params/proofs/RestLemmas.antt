@@ -1,6 +1,6 @@
 -- A token that is no place stays one where places behind it give way to texts that open nothing.
 use Rattle.std.proofs.Common.{◌≡◌, ◌⊎◌, ◌++◌, ◌==◌, ◌&&◌, not, ℕ, Bool, true, false, cond, List, [], ◌∷◌, Option, Some, None, inl, inr, refl, true≢false, sym, ap, ◌∙◌}
-use Rattle.mysql_named_params.specs.Bytes.{is_white_space, is_start_byte, is_quote, is_extension, begins, asterisk, backquote, colon, dash, hash, newline, question_mark, slash, IsUpTo, Lacks, up_to_word, up_to_end}
+use Rattle.mysql_named_params.specs.Bytes.{is_white_space, is_start_byte, is_string_quote, is_extension, begins, asterisk, backquote, colon, dash, hash, newline, question_mark, slash, IsUpTo, Lacks, up_to_word, up_to_end}
 use Rattle.mysql_named_params.specs.Tokens.{Token, IsToken, IsStringTail, closed_string, open_string, open_in_escape, QuotedString, QuotedIdentifier, HashComment, DashComment, BlockComment, Name, Mark, Plain}
 use Rattle.mysql_named_params.specs.Places.{IsPlace}
 use Rattle.mysql_named_params.specs.Locality.{IsOpenTail, units_alone, units_and_escape}
@@ -132,7 +132,7 @@ some_none t u e = cc
 not_plain-move : (mode : Bool) (b : ℕ) (x y : List ℕ) → SameUpToPlace x y →
     not_plain_at mode (b ∷ x) ≡ None → not_plain_at mode (b ∷ y) ≡ None
 not_plain-move mode b x y a =
-    cond_none (is_quote b) _ _ _ _ (some_none _ _)
+    cond_none (is_string_quote b) _ _ _ _ (some_none _ _)
     (cond_none (b == backquote) _ _ _ _ (some_none _ _)
     (cond_none (b == hash) _ _ _ _ (some_none _ _)
     (cond_none (b == dash) _ _ _ _ (λ e. none_dash y (same-line a (dash_none x e)))

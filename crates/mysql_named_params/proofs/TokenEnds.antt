@@ -2,7 +2,7 @@
 use Rattle.std.proofs.Common.{◌≡◌, ◌≢◌, ℕ, suc, ◌+◌, ◌≤◌, Bool, true, false, cond, ◌==◌, ◌&&◌, List, [], ◌∷◌, ◌++◌, length, take, Option, Some, None, refl, sym, ap, ◌∙◌, subst, inl, inr, arith, append_assoc, append-nil, length-append, eq-eqb, ne_eqb, true≢false, take_at}
 use Rattle.std.specs.List.{list_all}
 use Rattle.std.proofs.lemmas.Bool.{cases_Bool, and_parts, or_cases, eqb-true}
-use Rattle.mysql_named_params.specs.Bytes.{asterisk, backquote, colon, dash, double_quote, hash, newline, question_mark, single_quote, slash, is_start_byte, is_name_byte, is_quote, begins, Lacks, HoldsOnlyAtEnd, IsUpTo, up_to_word, up_to_end}
+use Rattle.mysql_named_params.specs.Bytes.{asterisk, backquote, colon, dash, double_quote, hash, newline, question_mark, single_quote, slash, is_start_byte, is_name_byte, is_string_quote, begins, Lacks, HoldsOnlyAtEnd, IsUpTo, up_to_word, up_to_end}
 use Rattle.mysql_sql_text.specs.StringUnits.{is_escape}
 use Rattle.mysql_named_params.specs.FirstToken.{opens_dash_comment, opens_block_comment}
 use Rattle.mysql_named_params.specs.Tokens.{Token, bytes_of, IsNotPlain, IsToken, IsStringTail, closed_string, open_string, open_in_escape, QuotedString, QuotedIdentifier, HashComment, DashComment, BlockComment, Name, Mark, Plain}
@@ -47,7 +47,7 @@ name_at (b ∷ bs) = cond (is_start_byte b) (Some (Name (b ∷ take (name_len bs
 abbrev pub not_plain_at : Bool → List ℕ → Option Token
 not_plain_at mode [] = None
 not_plain_at mode (b ∷ bs) =
-    cond (is_quote b) (Some (QuotedString b (take (string_len mode b false bs) bs)))
+    cond (is_string_quote b) (Some (QuotedString b (take (string_len mode b false bs) bs)))
     (cond (b == backquote) (Some (QuotedIdentifier (take (len_up_to (backquote ∷ []) bs) bs)))
     (cond (b == hash) (Some (HashComment (take (len_up_to (newline ∷ []) bs) bs)))
     (cond (b == dash) (dash_comment bs)
@@ -118,7 +118,7 @@ up_to_is word bytes rest some (up_to_end lacks e) =
 -- ---- strings
 
 -- a quote is no escape
-pub quote_no_escape : (mode : Bool) (q : ℕ) → is_quote q ≡ true → is_escape mode q ≡ false
+pub quote_no_escape : (mode : Bool) (q : ℕ) → is_string_quote q ≡ true → is_escape mode q ≡ false
 quote_no_escape false q h =
     elim (or_cases (q == single_quote) (q == double_quote) h) [
       | inl e ↦ ap (λ x. x == 92) (eqb-true q single_quote e)
@@ -127,7 +127,7 @@ quote_no_escape false q h =
 quote_no_escape true q h = refl
 
 -- units end where the next unit begins
-string_len-units : (mode : Bool) (q : ℕ) (body rest : List ℕ) → is_quote q ≡ true →
+string_len-units : (mode : Bool) (q : ℕ) (body rest : List ℕ) → is_string_quote q ≡ true →
     AreUnits mode q body →
     string_len mode q false (body ++ rest) ≡ length body + string_len mode q false rest
 string_len-units mode q [] rest quote no_units = omega arith
@@ -139,7 +139,7 @@ string_len-units mode q (b ∷ c ∷ bs) rest quote (escape_unit escapes u) =
     let ne : b ≢ q = λ e. true≢false (sym escapes ∙ ap (is_escape mode) e ∙ quote_no_escape mode q quote) in
     rw (ne_eqb b q ne, escapes) (omega (arith, r))
 
-pub string_len_is : (mode : Bool) (q : ℕ) (tail rest : List ℕ) → is_quote q ≡ true →
+pub string_len_is : (mode : Bool) (q : ℕ) (tail rest : List ℕ) → is_string_quote q ≡ true →
     IsStringTail mode q tail rest → string_len mode q false (tail ++ rest) ≡ length tail
 string_len_is mode q tail rest quote (closed_string body u e) =
     subst (λ x. string_len mode q false (x ++ rest) ≡ length x) e

@@ -90,9 +90,9 @@ is_start_byte b = is_lower_letter b || b == underscore
 abbrev pub is_name_byte : ℕ → Bool
 is_name_byte b = is_start_byte b || is_digit b
 
--- a byte that opens and closes a string
-abbrev pub is_quote : ℕ → Bool
-is_quote b = b == single_quote || b == double_quote
+-- either quote: a byte that opens and closes a string
+abbrev pub is_string_quote : ℕ → Bool
+is_string_quote b = b == single_quote || b == double_quote
 
 -- a byte behind `/*` that makes it no comment: what follows is executed, or a hint
 abbrev pub is_extension : ℕ → Bool

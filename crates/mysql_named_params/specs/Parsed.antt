@@ -2,7 +2,7 @@
 use Rattle.std.specs.Prelude.{ℕ, List, Bool, ◌&&◌, nat_eq}
 use Rattle.std.specs.Cmp.Lexicographic.{pointwise}
 use Rattle.mysql_named_params.specs.Tokens.{Token, text_of}
-use Rattle.mysql_named_params.specs.Places.{names, renamed}
+use Rattle.mysql_named_params.specs.Places.{names, with_marks}
 
 -- a parsed query: its text with marks, and its names
 pub record Parsed : Type 0 where
@@ -13,7 +13,7 @@ pub record Parsed : Type 0 where
 
 -- the parsed query of these tokens
 abbrev pub parsed : List Token → Parsed
-parsed ts = record { query = text_of (renamed ts); params = names ts }
+parsed ts = record { query = text_of (with_marks ts); params = names ts }
 
 -- the two are equal, as a test
 abbrev pub same_parsed : Parsed → Parsed → Bool

@@ -55,16 +55,16 @@ AscendFrom least [] = ⊤
 AscendFrom least (n ∷ ns) = (least ≤ n) × AscendFrom (n + 1) ns
 
 -- the tokens with a mark in place of each name
-abbrev pub renamed : List Token → List Token
-renamed [] = []
-renamed (Name name ∷ ts) = Mark ∷ renamed ts
-renamed (t ∷ ts) = t ∷ renamed ts
+abbrev pub with_marks : List Token → List Token
+with_marks [] = []
+with_marks (Name name ∷ ts) = Mark ∷ with_marks ts
+with_marks (t ∷ ts) = t ∷ with_marks ts
 
 -- the tokens with the given names in place of the marks, in order
-abbrev pub restored : List Token → List (List ℕ) → List Token
-restored [] given = []
-restored (Mark ∷ ts) (name ∷ given) = Name name ∷ restored ts given
-restored (t ∷ ts) given = t ∷ restored ts given
+abbrev pub with_names : List Token → List (List ℕ) → List Token
+with_names [] given = []
+with_names (Mark ∷ ts) (name ∷ given) = Name name ∷ with_names ts given
+with_names (t ∷ ts) given = t ∷ with_names ts given
 
 -- there is a name
 abbrev pub HasName : List Token → Type 0

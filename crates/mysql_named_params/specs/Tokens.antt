@@ -3,7 +3,7 @@
 -- docs/RULES.md has it in words, with the points in which it is not the manual's.
 use Rattle.std.specs.Prelude.{◌≡◌, ◌≢◌, ℕ, IsTrue, IsFalse, Bool, List, [], ◌∷◌, ◌++◌, ⊤}
 use Rattle.std.specs.List.{list_all}
-use Rattle.mysql_named_params.specs.Bytes.{asterisk, backquote, colon, dash, hash, newline, question_mark, slash, is_white_space, is_start_byte, is_name_byte, is_quote, is_extension, begins, IsUpTo}
+use Rattle.mysql_named_params.specs.Bytes.{asterisk, backquote, colon, dash, hash, newline, question_mark, slash, is_white_space, is_start_byte, is_name_byte, is_string_quote, is_extension, begins, IsUpTo}
 use Rattle.mysql_sql_text.specs.StringUnits.{is_escape, AreUnits}
 
 -- a token, by its kind and those of its bytes that the kind leaves open
@@ -56,7 +56,7 @@ IsName (b ∷ bs) = IsTrue (is_start_byte b) × IsTrue (list_all is_name_byte bs
 -- a token other than a plain byte, before a rest
 abbrev pub IsNotPlain : Bool → Token → List ℕ → Type 0
 IsNotPlain mode (QuotedString quote tail) rest =
-    IsTrue (is_quote quote) × IsStringTail mode quote tail rest
+    IsTrue (is_string_quote quote) × IsStringTail mode quote tail rest
 IsNotPlain mode (QuotedIdentifier tail) rest = IsUpTo (backquote ∷ []) tail rest
 IsNotPlain mode (HashComment tail) rest = IsUpTo (newline ∷ []) tail rest
 IsNotPlain mode (DashComment gap tail) rest =

@@ -3,7 +3,7 @@
 ghost use Rattle.std.specs.Prelude.{◌≡◌, ℕ, ◌+◌, ◌↔◌, Bool, List, length, IsTrue};
 ghost use Rattle.mysql_named_params.specs.Tokens.{Token, IsToken, IsTokens};
 ghost use Rattle.mysql_named_params.specs.Locality.{LooksAlike};
-ghost use Rattle.mysql_named_params.specs.Places.{names, marks, positions, HavePlacesAt, AscendFrom, renamed, restored};
+ghost use Rattle.mysql_named_params.specs.Places.{names, marks, positions, HavePlacesAt, AscendFrom, with_marks, with_names};
 
 use crate::named_params::{MixedParamsError, NamedParamsError, ParsedNamedParams};
 
@@ -30,7 +30,7 @@ pub fn positions_of_places()
 
 /// Putting the names back in place of the marks undoes the renaming of a query without marks.
 pub fn renaming_undone()
-    ensures undone { (ts : List Token) → marks ts ≡ 0 → restored (renamed ts) (names ts) ≡ ts }
+    ensures undone { (ts : List Token) → marks ts ≡ 0 → with_names (with_marks ts) (names ts) ≡ ts }
 {}
 
 /// Errors of reading names are equal where they are the same error.

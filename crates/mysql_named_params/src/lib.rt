@@ -6,4 +6,5 @@
 
 pub mod laws;
 pub mod named_params;
+pub mod places;
 pub mod tokens;

@@ -4,12 +4,12 @@ ghost use Rattle.std.specs.Cow.{cow_slice_items, IsBorrowedSlice};
 ghost use Rattle.std.specs.Cmp.{partial_equiv_from_equiv};
 ghost use Rattle.mysql_sql_text.specs.StringUnits.{with_backslashes};
 ghost use Rattle.mysql_named_params.specs.Tokens.{OnTokens, text_of};
-ghost use Rattle.mysql_named_params.specs.Places.{names, marks, restored, HasName, HasMark};
+ghost use Rattle.mysql_named_params.specs.Places.{names, marks, with_names, HasName, HasMark};
 ghost use Rattle.mysql_named_params.specs.Parsed.{parsed, same_parsed};
 ghost use Rattle.mysql_named_params.specs.SameParsed.{same_parsed_is_equivalence};
 ghost use Rattle.mysql_named_params.specs.NamedParamsErrors.{mixed};
 
-use crate::tokens::{TokenKind, count_places, first_token};
+use crate::places::{count_places, first_place};
 use std::alloc::{AllocError, Global};
 use std::borrow::CowSlice;
 use std::marker::Model;
@@ -57,36 +57,6 @@ impl<'a> Model for ParsedNamedParams<'a> {
         × (p.params.items ≡ [] → IsBorrowedSlice p.query) };
 }
 
-/// The query with `?` in place of each name, and the names.
-fn rename<'a>(
-    alloc: Global,
-    query: &'a [u8],
-    no_backslash_escape: bool,
-) -> Result<ParsedNamedParams<'a>, AllocError>
-    requires { OnTokens no_backslash_escape query.now HasName }
-    ensures { IfOk result (λ p. OnTokens no_backslash_escape query.now (λ ts. p ≡ parsed ts)) }
-{
-    let mut renamed = Vec::new(alloc);
-    let mut params = Vec::new(alloc);
-    let mut rest = query;
-    while !rest.is_empty() {
-        let (kind, len) = first_token(rest, no_backslash_escape);
-        let (token, after) = rest.split_at(len);
-        match kind {
-            TokenKind::Name => {
-                renamed.push(b'?')?;
-                params.push(CowSlice::Borrowed(&token[1..]))?;
-            }
-            TokenKind::Mark | TokenKind::Other => renamed.extend_from_slice(token)?,
-        }
-        rest = after;
-    }
-    Ok(ParsedNamedParams {
-        query: CowSlice::Owned(renamed),
-        params,
-    })
-}
-
 impl<'a> ParsedNamedParams<'a> {
     /// Finds the names outside strings, quoted identifiers and comments, in the mode in which a
     /// backslash escapes. A name is `:`, one of `a` to `z` and `_`, and then as many of these and
@@ -97,7 +67,7 @@ impl<'a> ParsedNamedParams<'a> {
         ensures mixed { OnTokens with_backslashes query.now (λ ts.
             IsErrOf result (NamedParamsError.Mixed mixed) ↔ (HasName ts × HasMark ts)) }
 
-        // Want of memory is answered for names without marks alone.
+        // Only a query with names and without marks takes memory.
         ensures memory { OnTokens with_backslashes query.now (λ ts.
             IsErrOf result (NamedParamsError.Memory alloc_error) → HasName ts × (marks ts ≡ 0)) }
 
@@ -108,7 +78,7 @@ impl<'a> ParsedNamedParams<'a> {
         ensures marked { IfOk result (λ p. OnTokens with_backslashes p.query (λ us.
             p.params ≢ [] → marks us ≡ length p.params)) }
         ensures restored { IfOk result (λ p. OnTokens with_backslashes p.query (λ us.
-            p.params ≢ [] → text_of (restored us p.params) ≡ query.now)) }
+            p.params ≢ [] → text_of (with_names us p.params) ≡ query.now)) }
     {
         let counts = count_places(query, false);
         if counts.names == 0 {
@@ -120,7 +90,7 @@ impl<'a> ParsedNamedParams<'a> {
         if counts.marks > 0 {
             return Err(NamedParamsError::Mixed(MixedParamsError));
         }
-        match rename(alloc, query, false) {
+        match renamed_query(alloc, query, counts.names, false) {
             Ok(parsed) => Ok(parsed),
             Err(error) => Err(NamedParamsError::Memory(error)),
         }
@@ -160,6 +130,40 @@ impl<'a> ParsedNamedParams<'a> {
         };
         Ok(ParsedNamedParams { query, params })
     }
+}
+
+// The query with `?` in place of each name, and its names, of which there are so many. It has no
+// marks.
+fn renamed_query<'a>(
+    alloc: Global,
+    query: &'a [u8],
+    count: usize,
+    no_backslash_escape: bool,
+) -> Result<ParsedNamedParams<'a>, AllocError>
+    requires some { 0 < count }
+    requires names { OnTokens no_backslash_escape query.now (λ ts.
+        (count ≡ length (names ts)) × (marks ts ≡ 0)) }
+    ensures { IfOk result (λ p. OnTokens no_backslash_escape query.now (λ ts. p ≡ parsed ts)) }
+{
+    let mut renamed = Vec::with_capacity(alloc, query.len())?;
+    let mut params = Vec::with_capacity(alloc, count)?;
+    let mut rest = query;
+    while params.len() < count {
+        let Some(found) = first_place(rest, no_backslash_escape) else {
+            unreachable!()
+        };
+        let (run, from_place) = rest.split_at(found.before);
+        let (place, after) = from_place.split_at(found.len);
+        renamed.extend_from_slice(run)?;
+        renamed.push(b'?')?;
+        params.push(CowSlice::Borrowed(&place[1..]))?;
+        rest = after;
+    }
+    renamed.extend_from_slice(rest)?;
+    Ok(ParsedNamedParams {
+        query: CowSlice::Owned(renamed),
+        params,
+    })
 }
 
 impl<'a> PartialEq for ParsedNamedParams<'a> {

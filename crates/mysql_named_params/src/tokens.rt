@@ -1,10 +1,9 @@
-//! The token at the front of a text, and how many names and marks a query has. `mysql_params` binds
-//! values by these; no user of it needs them.
-ghost use Rattle.std.specs.Prelude.{◌≡◌, ◌+◌, ◌<◌, ◌≤◌, length, take, drop, IsTrue};
+//! The token at the front of a text. `places` finds names and marks by it; no user of `mysql_params`
+//! needs it.
+ghost use Rattle.std.specs.Prelude.{◌≡◌, ◌<◌, ◌≤◌, length, take, drop, IsTrue};
 ghost use Rattle.mysql_sql_text.specs.StringUnits.{is_escape};
-ghost use Rattle.mysql_named_params.specs.Bytes.{is_white_space, is_start_byte, is_name_byte, is_quote, begins, IsUpTo};
-ghost use Rattle.mysql_named_params.specs.Tokens.{IsStringTail, OnTokens};
-ghost use Rattle.mysql_named_params.specs.Places.{names, marks};
+ghost use Rattle.mysql_named_params.specs.Bytes.{is_white_space, is_start_byte, is_name_byte, is_string_quote, begins, IsUpTo};
+ghost use Rattle.mysql_named_params.specs.Tokens.{IsStringTail};
 ghost use Rattle.mysql_named_params.specs.FirstToken.{IsNameFront, IsFirstToken, opens_dash_comment, opens_block_comment};
 
 /// What a reader of names and marks wants to know of a token.
@@ -58,7 +57,7 @@ fn len_up_to(text: &[u8], word: &[u8]) -> usize
 
 /// How many bytes of a string there are behind its opening quote.
 fn string_len(text: &[u8], quote: u8, no_backslash_escape: bool) -> usize
-    requires { IsTrue (is_quote quote) }
+    requires { IsTrue (is_string_quote quote) }
     ensures in_range { result ≤ length text.now }
     ensures string { IsStringTail no_backslash_escape quote (take result text.now)
         (drop result text.now) }
@@ -142,33 +141,4 @@ pub fn first_token(text: &[u8], no_backslash_escape: bool) -> (TokenKind, usize)
         b'/' => (TokenKind::Other, 1),
         _ => (TokenKind::Other, 1),
     }
-}
-
-/// How many names and marks a query has.
-#[derive(Clone, Copy)]
-pub struct PlaceCounts {
-    /// Names, with repeats.
-    pub names: usize,
-    /// Marks.
-    pub marks: usize,
-}
-
-/// Counts the names and marks of a query.
-pub fn count_places(query: &[u8], no_backslash_escape: bool) -> PlaceCounts
-    ensures { OnTokens no_backslash_escape query.now (λ ts.
-        (result.names ≡ length (names ts)) × (result.marks ≡ marks ts)) }
-{
-    let mut names = 0;
-    let mut marks = 0;
-    let mut rest = query;
-    while !rest.is_empty() {
-        let (kind, len) = first_token(rest, no_backslash_escape);
-        match kind {
-            TokenKind::Name => names += 1,
-            TokenKind::Mark => marks += 1,
-            TokenKind::Other => {}
-        }
-        rest = &rest[len..];
-    }
-    PlaceCounts { names, marks }
 }

@@ -2,7 +2,7 @@
 use Rattle.std.proofs.Common.{◌≡◌, ◌∷◌, ℕ, List, Ok, sym, ap, ◌∙◌, subst}
 use Rattle.std.specs.Prelude.{Bool, false}
 use Rattle.mysql_named_params.specs.Tokens.{Token, IsTokens, text_of}
-use Rattle.mysql_named_params.specs.Places.{names, marks, renamed, has_both, HasName, HasMark}
+use Rattle.mysql_named_params.specs.Places.{names, marks, with_marks, has_both, HasName, HasMark}
 use Rattle.mysql_named_params.specs.Parsed.{Parsed, parsed}
 use Rattle.mysql_program.specs.Program.{lines_of, names_output}
 use Rattle.mysql_named_params.proofs.TokenListLemmas.{one_token_list}
@@ -15,5 +15,5 @@ pub names_output_is : (mode : Bool) (query text : List ℕ) (p : Parsed) (ts us 
 names_output_is mode query text p ts us is e is' not_both text_is =
     let same : us ≡ ts = one_token_list mode query us ts is' is in
     let one : has_both ts ≡ false = has_both-not ts (subst (λ x. HasName x × HasMark x → ⊥) same not_both) in
-    let lines : lines_of (text_of (renamed ts) ∷ names ts) ≡ text = sym (text_is ∙ ap (λ (x : Parsed). lines_of (x.query ∷ x.params)) e) in
+    let lines : lines_of (text_of (with_marks ts) ∷ names ts) ≡ text = sym (text_is ∙ ap (λ (x : Parsed). lines_of (x.query ∷ x.params)) e) in
     rw one (ap Ok lines)

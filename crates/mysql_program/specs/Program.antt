@@ -4,7 +4,7 @@ use Rattle.std.specs.Global.{Global}
 use Rattle.mysql_sql_text.specs.StringUnits.{with_backslashes}
 use Rattle.mysql_named_params.specs.Bytes.{newline}
 use Rattle.mysql_named_params.specs.Tokens.{Token, OnTokens, text_of}
-use Rattle.mysql_named_params.specs.Places.{names, renamed, has_both}
+use Rattle.mysql_named_params.specs.Places.{names, with_marks, has_both}
 use Rattle.mysql_binding.specs.FirstCause.{Cause, first_cause}
 use Rattle.mysql_binding.specs.Isolation.{IsBoundText}
 use Rattle.mysql_program.specs.Words.{WordsRefusal, Command, names_of_query, bound_query, word_bytes, command_of}
@@ -26,7 +26,7 @@ lines_of (text ∷ texts) = text ++ newline ∷ lines_of texts
 -- what `names` writes for the tokens of a query, or its refusal
 abbrev pub names_output : List Token → Result (List ℕ) Refusal
 names_output ts =
-    if has_both ts then Err mixed_query else Ok (lines_of (text_of (renamed ts) ∷ names ts))
+    if has_both ts then Err mixed_query else Ok (lines_of (text_of (with_marks ts) ∷ names ts))
 
 -- what a command writes for the tokens of a query, or its refusal: `bind` writes the bound text and
 -- nothing else

@@ -1,11 +1,9 @@
 //! The literals of values.
-ghost use Rattle.std.specs.Prelude.{◌≡◌, false, None, Some, IfOk, map, vec_items};
+ghost use Rattle.std.specs.Prelude.{◌≡◌, false, None, Some, IfOk};
 ghost use Rattle.mysql_values.specs.Literal.{is_float, literal_of};
 ghost use Rattle.mysql_sql_text.specs.LiteralShape.{IsLiteral};
 ghost use Rattle.mysql_values.specs.ReadBack.{ReadsAs};
 ghost use Rattle.mysql_binding.specs.FirstCause.{first_float};
-ghost use Rattle.mysql_binding.specs.Replaced.{AreLiterals};
-ghost use Rattle.mysql_binding.specs.ValueLiterals.{AreLiteralsOf, AreReadAs};
 
 use mysql_values::laws::{floats_have_no_literal, literal_shape};
 use mysql_values::value::{AsSqlError, Value};
@@ -24,7 +22,11 @@ pub(super) fn first_float(values: &[Value]) -> Option<usize>
 }
 
 /// The literal of a value that is no float.
-fn literal(alloc: Global, value: &Value, no_backslash_escape: bool) -> Result<Vec<u8>, AllocError>
+pub(super) fn literal(
+    alloc: Global,
+    value: &Value,
+    no_backslash_escape: bool,
+) -> Result<Vec<u8>, AllocError>
     requires { is_float value.now ≡ false }
     ensures literal { IfOk result (λ text.
         literal_of no_backslash_escape value.now ≡ Some text.items) }
@@ -39,26 +41,4 @@ fn literal(alloc: Global, value: &Value, no_backslash_escape: bool) -> Result<Ve
         Err(AsSqlError::Float) => unreachable!(),
         Err(AsSqlError::Memory(error)) => Err(error),
     }
-}
-
-/// The literals of values, none of which is a float.
-pub(super) fn literals(
-    alloc: Global,
-    values: &[Value],
-    no_backslash_escape: bool,
-) -> Result<Vec<Vec<u8>>, AllocError>
-    requires { first_float values.now ≡ None }
-    ensures literals { IfOk result (λ texts.
-        AreLiteralsOf no_backslash_escape values.now (map vec_items texts.items)) }
-    ensures shapes { IfOk result (λ texts.
-        AreLiterals no_backslash_escape (map vec_items texts.items)) }
-    ensures reads_back { IfOk result (λ texts.
-        AreReadAs no_backslash_escape values.now (map vec_items texts.items)) }
-{
-    let mut texts = Vec::new(alloc);
-    for value in values {
-        let text = literal(alloc, value, no_backslash_escape)?;
-        texts.push(text)?;
-    }
-    Ok(texts)
 }

@@ -1,9 +1,6 @@
-//! Places that don't stand alone.
-ghost use Rattle.std.specs.Prelude.{◌≡◌, ⊤};
-ghost use Rattle.mysql_named_params.specs.Tokens.{OnTokens};
-ghost use Rattle.mysql_binding.specs.StandsAlone.{may_stand_before, may_stand_behind, none_or_first, none_or_last, stands_alone, first_not_alone};
-
-use mysql_named_params::tokens::{TokenKind, first_token};
+//! Which bytes may stand beside a place.
+ghost use Rattle.std.specs.Prelude.{◌≡◌};
+ghost use Rattle.mysql_binding.specs.StandsAlone.{may_stand_before, may_stand_behind, none_or_first, none_or_last, stands_alone};
 
 fn may_stand_before(byte: u8) -> bool
     ensures { result ≡ may_stand_before byte }
@@ -37,33 +34,9 @@ fn stands_before(behind: &[u8]) -> bool
     }
 }
 
-fn stands_alone(before: &[u8], behind: &[u8]) -> bool
+/// Whether a place between these two texts stands alone.
+pub(super) fn stands_alone(before: &[u8], behind: &[u8]) -> bool
     ensures { result ≡ stands_alone before.now behind.now }
 {
     stands_behind(before) && stands_before(behind)
-}
-
-/// Number and position of the first place that doesn't stand alone.
-pub(super) fn first_not_alone(query: &[u8], no_backslash_escape: bool) -> Option<(usize, usize)>
-    requires { OnTokens no_backslash_escape query.now (λ ts. ⊤) }
-    ensures { OnTokens no_backslash_escape query.now (λ ts. result ≡ first_not_alone ts) }
-{
-    let mut place = 0;
-    let mut at = 0;
-    while at < query.len() {
-        let (before, rest) = query.split_at(at);
-        let (kind, len) = first_token(rest, no_backslash_escape);
-        match kind {
-            TokenKind::Name | TokenKind::Mark => {
-                let (_, behind) = rest.split_at(len);
-                if !stands_alone(before, behind) {
-                    return Some((place, at));
-                }
-                place += 1;
-            }
-            TokenKind::Other => {}
-        }
-        at += len;
-    }
-    None
 }

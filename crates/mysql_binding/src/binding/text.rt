@@ -1,38 +1,42 @@
-//! The text of a query with literals in its places.
-ghost use Rattle.std.specs.Prelude.{◌≡◌, Some, IfOk, length, map, vec_items};
+//! The text of a query with the literals of values in its places.
+ghost use Rattle.std.specs.Prelude.{◌≡◌, None, IfOk, length};
 ghost use Rattle.mysql_named_params.specs.Tokens.{OnTokens};
 ghost use Rattle.mysql_named_params.specs.Places.{place_count};
-ghost use Rattle.mysql_binding.specs.Pieces.{pieces, interleaved};
+ghost use Rattle.mysql_binding.specs.FirstCause.{first_float};
+ghost use Rattle.mysql_binding.specs.WrittenText.{IsWrittenText};
 
-use mysql_named_params::tokens::{TokenKind, first_token};
+use crate::binding::literals::literal;
+use mysql_named_params::places::first_place;
+use mysql_values::value::Value;
 use std::alloc::{AllocError, Global};
 
-/// The pieces of a query with a literal in place of each name and mark.
-pub(super) fn put_literals(
+/// The query with the literal of a value in place of each name and mark, of which there are as many
+/// as values. None of the values is a float.
+pub(super) fn written_text(
     alloc: Global,
     query: &[u8],
-    literals: &[Vec<u8>],
+    values: &[Value],
     no_backslash_escape: bool,
 ) -> Result<Vec<u8>, AllocError>
-    requires { OnTokens no_backslash_escape query.now (λ ts.
-        length literals.now ≡ place_count ts) }
+    requires no_float { first_float values.now ≡ None }
+    requires places { OnTokens no_backslash_escape query.now (λ ts.
+        length values.now ≡ place_count ts) }
     ensures { IfOk result (λ text. OnTokens no_backslash_escape query.now (λ ts.
-        interleaved (pieces ts) (map vec_items literals.now) ≡ Some text.items)) }
+        IsWrittenText no_backslash_escape ts values.now text.items)) }
 {
-    let mut text = Vec::new(alloc);
+    let mut text = Vec::with_capacity(alloc, query.len())?;
     let mut rest = query;
-    let mut place: usize = 0;
-    while !rest.is_empty() {
-        let (kind, len) = first_token(rest, no_backslash_escape);
-        let (token, behind) = rest.split_at(len);
-        match kind {
-            TokenKind::Name | TokenKind::Mark => {
-                text.extend_from_slice(literals[place].as_slice())?;
-                place += 1;
-            }
-            TokenKind::Other => text.extend_from_slice(token)?,
-        }
-        rest = behind;
+    for value in values {
+        let Some(found) = first_place(rest, no_backslash_escape) else {
+            unreachable!()
+        };
+        let (run, from_place) = rest.split_at(found.before);
+        let (_, after) = from_place.split_at(found.len);
+        let sql = literal(alloc, value, no_backslash_escape)?;
+        text.extend_from_slice(run)?;
+        text.extend_from_slice(sql.as_slice())?;
+        rest = after;
     }
+    text.extend_from_slice(rest)?;
     Ok(text)
 }

@@ -1,0 +1,162 @@
+-- The places that are surveyed as far as a position, and those that are left.
+use Rattle.std.specs.Prelude.{Bool}
+use Rattle.std.specs.Option.{option_or}
+use Rattle.std.proofs.Common.{◌≡◌, ℕ, ◌+◌, ◌≤◌, true, false, List, [], ◌∷◌, ◌++◌, length, take, drop, if◌then◌else◌, Option, Some, None, refl, sym, ap, ◌∙◌, subst, arith, append_assoc, append-nil, drop-drop, length-drop}
+use Rattle.std.proofs.Math.Seq.{take-add}
+use Rattle.std.proofs.lemmas.List.{length-take-le}
+use Rattle.mysql_named_params.specs.Tokens.{Token, IsTokens, OnTokens, bytes_of, text_of, Name, Mark}
+use Rattle.mysql_named_params.specs.Places.{names, marks, place_count}
+use Rattle.mysql_named_params.specs.FirstPlace.{place_kind, IsFirstPlace}
+use Rattle.mysql_named_params.specs.declared.places.FoundPlace.{FoundPlace}
+use Rattle.mysql_named_params.specs.declared.places.PlaceKind.{PlaceKind}
+use Rattle.mysql_named_params.specs.declared.places.PlaceKind.TheVariants as kind
+use Rattle.mysql_named_params.proofs.TokenListLemmas.{one_token_list}
+use Rattle.mysql_named_params.proofs.TokensExistLemmas.{tokens_exist}
+use Rattle.mysql_named_params.proofs.TokenRowLemmas.{place_count-sum}
+use Rattle.mysql_named_params.proofs.FoundPlaceLemmas.{IsPartedAt, parted, names_at_name, marks_at_name, names_at_mark, marks_at_mark}
+use Rattle.mysql_binding.specs.StandsAlone.{stands_alone, first_not_alone, first_not_alone_from}
+use Rattle.mysql_binding.proofs.RenamedPlaceLemmas.{no_place_alone}
+
+-- with those that are left, so many names and marks are those of the query, and what is found so
+-- far, or else among them, is its first place that doesn't stand alone
+pub record SurveyedSoFar (mode : Bool) (query : List ℕ) (at name_count mark_count : ℕ) (not_alone : Option (ℕ × ℕ)) : Type 0 where
+  pub all : List Token
+  pub tokens : IsTokens mode query all
+  pub left : List Token
+  pub rest_tokens : IsTokens mode (drop at query) left
+  pub names_are : name_count + length (names left) ≡ length (names all)
+  pub marks_are : mark_count + marks left ≡ marks all
+  pub finds : option_or not_alone (first_not_alone_from (name_count + mark_count) (take at query) left) ≡ first_not_alone all
+  -- each place has a byte
+  pub room : name_count + mark_count ≤ at
+  pub in_range : at ≤ length query
+
+pub surveyed_none : (mode : Bool) (query : List ℕ) → SurveyedSoFar mode query 0 0 0 None
+surveyed_none mode query =
+    let ts = tokens_exist mode query in
+    record { all = ts.0; tokens = ts.1; left = ts.0; rest_tokens = ts.1; names_are = omega arith; marks_are = omega arith; finds = refl; room = omega arith; in_range = omega arith }
+
+-- ---- options
+
+option_or-assoc : {A : Type 0} (a b c : Option A) →
+    option_or (option_or a b) c ≡ option_or a (option_or b c)
+option_or-assoc None b c = refl
+option_or-assoc (Some x) b c = refl
+
+option_or-None : {A : Type 0} (a : Option A) → option_or a None ≡ a
+option_or-None None = refl
+option_or-None (Some x) = refl
+
+if-option_or : {A : Type 0} (b : Bool) (x : Option A) (y : A) →
+    (if b then x else Some y) ≡ option_or (if b then None else Some y) x
+if-option_or true x y = refl
+if-option_or false x y = refl
+
+-- ---- the first place of tokens that are parted there
+
+first_not_alone-append : (front : List Token) (ts : List Token) (place : ℕ) (before : List ℕ) →
+    place_count front ≡ 0 →
+    first_not_alone_from place before (front ++ ts) ≡ first_not_alone_from place (before ++ text_of front) ts
+first_not_alone-append [] ts place before e = ap (λ x. first_not_alone_from place x ts) (sym (append-nil before))
+first_not_alone-append (Name name ∷ front) ts place before e = absurd (omega arith)
+first_not_alone-append (Mark ∷ front) ts place before e = absurd (omega arith)
+first_not_alone-append (t ∷ front) ts place before e = first_not_alone-append front ts place (before ++ bytes_of t) e ∙ ap (λ x. first_not_alone_from place x ts) (append_assoc before (bytes_of t) (text_of front))
+
+first_not_alone-place : (t : Token) (k : PlaceKind) (ts : List Token) (place : ℕ) (before : List ℕ) →
+    place_kind t ≡ Some k →
+    first_not_alone_from place before (t ∷ ts) ≡ (if stands_alone before (text_of ts) then first_not_alone_from (place + 1) (before ++ bytes_of t) ts else Some (place, length before))
+first_not_alone-place (Name name) k ts place before e = refl
+first_not_alone-place Mark k ts place before e = refl
+first_not_alone-place t k ts place before e = cc
+
+module _ (mode : Bool) (query rest : List ℕ) (at i j : ℕ) (not_alone : Option (ℕ × ℕ)) (found : FoundPlace) (s : SurveyedSoFar mode query at i j not_alone) (rest_is : rest ≡ drop at query) (o : OnTokens mode rest (λ us. IsFirstPlace us found)) where
+  abbrev pub start : ℕ
+  start = at + found.before
+
+  abbrev pub end : ℕ
+  end = start + found.len
+
+  abbrev pub here : Option (ℕ × ℕ)
+  here = if stands_alone (take start query) (drop end query) then None else Some (i + j, start)
+
+  abbrev pub p : IsPartedAt mode (drop at query) s.left found
+  p = parted mode (drop at query) s.left found s.rest_tokens (subst (λ x. OnTokens mode x (λ us. IsFirstPlace us found)) rest_is o)
+
+  end_is : at + (found.before + found.len) ≡ end
+  end_is = omega arith
+
+  back_text : text_of p.back ≡ drop end query
+  back_text = p.rest_tokens.text ∙ (drop-drop (found.before + found.len) at query ∙ ap (λ n. drop n query) end_is)
+
+  front_text : take at query ++ text_of p.front ≡ take start query
+  front_text = ap (λ x. take at query ++ x) p.front_text ∙ sym (take-add at found.before query)
+
+  place_text : take start query ++ bytes_of p.place ≡ take end query
+  place_text = ap (λ x. take start query ++ x) (p.place_bytes ∙ ap (take found.len) (drop-drop found.before at query)) ∙ sym (take-add start found.len query)
+
+  end_in_range : end ≤ length query
+  end_in_range = omega (arith, end_is, p.in_range, length-drop at query, s.in_range)
+
+  start_length : length (take start query) ≡ start
+  start_length = length-take-le start query (omega (arith, end_in_range))
+
+  finds_here : first_not_alone_from (i + j) (take at query) s.left ≡ option_or here (first_not_alone_from (i + j + 1) (take end query) p.back)
+  finds_here =
+      ap (first_not_alone_from (i + j) (take at query)) p.tokens_are
+      ∙ (first_not_alone-append p.front (p.place ∷ p.back) (i + j) (take at query) p.no_place
+      ∙ (ap (λ x. first_not_alone_from (i + j) x (p.place ∷ p.back)) front_text
+      ∙ (first_not_alone-place p.place found.kind p.back (i + j) (take start query) p.kind_is
+      ∙ (ap (λ x. if stands_alone (take start query) x then first_not_alone_from (i + j + 1) (take start query ++ bytes_of p.place) p.back else Some (i + j, length (take start query))) back_text
+      ∙ (ap (λ x. if stands_alone (take start query) (drop end query) then first_not_alone_from (i + j + 1) x p.back else Some (i + j, length (take start query))) place_text
+      ∙ (ap (λ x. if stands_alone (take start query) (drop end query) then first_not_alone_from (i + j + 1) (take end query) p.back else Some (i + j, x)) start_length
+      ∙ if-option_or (stands_alone (take start query) (drop end query)) (first_not_alone_from (i + j + 1) (take end query) p.back) (i + j, start)))))))
+
+  -- one place more
+  surveyed_place : (k l n : ℕ) (not_alone' : Option (ℕ × ℕ)) → k + l ≡ i + j + 1 →
+      k + length (names p.back) ≡ i + length (names s.left) → l + marks p.back ≡ j + marks s.left →
+      n ≡ end → not_alone' ≡ option_or not_alone here → SurveyedSoFar mode query n k l not_alone'
+  surveyed_place k l n not_alone' more names_more marks_more n_is not_alone_is =
+      subst (λ x. SurveyedSoFar mode query x k l not_alone') (sym n_is) (record {
+        all = s.all;
+        tokens = s.tokens;
+        left = p.back;
+        rest_tokens = subst (λ x. IsTokens mode x p.back) (drop-drop (found.before + found.len) at query ∙ ap (λ m. drop m query) end_is) p.rest_tokens;
+        names_are = names_more ∙ s.names_are;
+        marks_are = marks_more ∙ s.marks_are;
+        finds = ap (λ x. option_or x (first_not_alone_from (k + l) (take end query) p.back)) not_alone_is
+            ∙ (ap (λ m. option_or (option_or not_alone here) (first_not_alone_from m (take end query) p.back)) more
+            ∙ (option_or-assoc not_alone here _ ∙ (ap (option_or not_alone) (sym finds_here) ∙ s.finds)));
+        room = omega (arith, more, s.room, p.has_length, end_is);
+        in_range = end_in_range;
+      })
+
+  pub surveyed_name : (k l n : ℕ) (not_alone' : Option (ℕ × ℕ)) → found.kind ≡ kind.Name → k ≡ i + 1 →
+      l ≡ j → n ≡ end → not_alone' ≡ option_or not_alone here →
+      SurveyedSoFar mode query n k l not_alone'
+  surveyed_name k l n not_alone' e ek el n_is not_alone_is =
+      let is = p.kind_is ∙ ap Some e in
+      surveyed_place k l n not_alone' (omega (arith, ek, el))
+      (omega (arith, ek, ap (λ x. length (names x)) p.tokens_are, ap length (names_at_name p.front p.place p.back p.no_place is)))
+      (omega (arith, el, ap marks p.tokens_are, marks_at_name p.front p.place p.back p.no_place is))
+      n_is not_alone_is
+
+  pub surveyed_mark : (k l n : ℕ) (not_alone' : Option (ℕ × ℕ)) → found.kind ≡ kind.Mark → k ≡ i →
+      l ≡ j + 1 → n ≡ end → not_alone' ≡ option_or not_alone here →
+      SurveyedSoFar mode query n k l not_alone'
+  surveyed_mark k l n not_alone' e ek el n_is not_alone_is =
+      let is = p.kind_is ∙ ap Some e in
+      surveyed_place k l n not_alone' (omega (arith, ek, el))
+      (omega (arith, ek, ap (λ x. length (names x)) p.tokens_are, ap length (names_at_mark p.front p.place p.back p.no_place is)))
+      (omega (arith, el, ap marks p.tokens_are, marks_at_mark p.front p.place p.back p.no_place is))
+      n_is not_alone_is
+
+-- where no place is left, all are surveyed
+pub surveyed_all : (mode : Bool) (query rest : List ℕ) (at i j : ℕ) (not_alone : Option (ℕ × ℕ)) →
+    SurveyedSoFar mode query at i j not_alone → rest ≡ drop at query →
+    OnTokens mode rest (λ us. place_count us ≡ 0) →
+    OnTokens mode query (λ ts. (i ≡ length (names ts)) × (j ≡ marks ts) × (not_alone ≡ first_not_alone ts))
+surveyed_all mode query rest at i j not_alone s rest_is o =
+    let same : o.0 ≡ s.left = one_token_list mode rest o.0 s.left o.1 (subst (λ x. IsTokens mode x s.left) (sym rest_is) s.rest_tokens) in
+    let none : place_count s.left ≡ 0 = sym (ap place_count same) ∙ o.2 in
+    let found : not_alone ≡ first_not_alone s.all = sym (option_or-None not_alone) ∙ (ap (option_or not_alone) (sym (no_place_alone s.left (i + j) (take at query) none)) ∙ s.finds) in
+    (s.all, s.tokens, (omega (arith, s.names_are, none, place_count-sum s.left), omega (arith, s.marks_are, none, place_count-sum s.left), found))

@@ -1,0 +1,140 @@
+-- A text that is written as far as a rest of the query.
+use Rattle.std.specs.Prelude.{Bool}
+use Rattle.std.proofs.Common.{◌≡◌, ℕ, ◌+◌, ◌<◌, ◌≤◌, false, List, [], ◌∷◌, ◌++◌, length, take, drop, get_or, Option, Some, None, refl, sym, ap, ◌∙◌, subst, arith, append_assoc, append-nil, drop-drop, take_all}
+use Rattle.std.proofs.lemmas.List.{take_more}
+use Rattle.mysql_values.specs.declared.value.Value.{Value}
+use Rattle.mysql_values.specs.Literal.{is_float, literal_of}
+use Rattle.mysql_values.specs.ReadBack.{ReadsAs}
+use Rattle.mysql_sql_text.specs.LiteralShape.{IsLiteral}
+use Rattle.mysql_named_params.specs.Tokens.{Token, IsTokens, OnTokens, bytes_of, text_of, Name, Mark}
+use Rattle.mysql_named_params.specs.Places.{place_count}
+use Rattle.mysql_named_params.specs.FirstPlace.{place_kind, IsFirstPlace}
+use Rattle.mysql_named_params.specs.declared.places.FoundPlace.{FoundPlace}
+use Rattle.mysql_named_params.specs.declared.places.PlaceKind.{PlaceKind}
+use Rattle.mysql_named_params.proofs.TokenListLemmas.{one_token_list}
+use Rattle.mysql_named_params.proofs.TokenRowLemmas.{place_count-append}
+use Rattle.mysql_named_params.proofs.FoundPlaceLemmas.{parted}
+use Rattle.mysql_binding.specs.FirstCause.{first_float_from, first_float}
+use Rattle.mysql_binding.specs.Pieces.{pieces, joined_text}
+use Rattle.mysql_binding.specs.Replaced.{AreLiterals}
+use Rattle.mysql_binding.specs.ValueLiterals.{AreLiteralsOf, AreReadAs}
+use Rattle.mysql_binding.specs.WrittenText.{IsWrittenText}
+use Rattle.mysql_binding.proofs.BoundText.{bound}
+use Rattle.mysql_binding.proofs.PieceLemmas.{bound_none, joined_text-pieces_from}
+use Rattle.mysql_binding.proofs.ValueLiteralLemmas.{AreReadAs-push, AreLiterals-push, AreLiteralsOf-push, as_many_texts, no_float}
+
+-- the literals of the first so many values stand in the text, and whatever stands in the places that
+-- are left, it will follow them
+pub record WrittenSoFar (mode : Bool) (query rest : List ℕ) (values : List Value) (i : ℕ) (text : List ℕ) : Type 0 where
+  pub all : List Token
+  pub tokens : IsTokens mode query all
+  pub left : List Token
+  pub rest_tokens : IsTokens mode rest left
+  pub places_left : i + place_count left ≡ length values
+  pub room : length values ≡ place_count all
+  pub literals : List (List ℕ)
+  pub written : AreLiteralsOf mode (take i values) literals
+  pub shapes : AreLiterals mode literals
+  pub reads_back : AreReadAs mode (take i values) literals
+  pub no_float_left : first_float_from i (drop i values) ≡ None
+  pub text_is : (more : List (List ℕ)) → text ++ bound left more ≡ bound all (literals ++ more)
+
+pub written_none : (mode : Bool) (query : List ℕ) (values : List Value) (text : List ℕ) →
+    OnTokens mode query (λ ts. length values ≡ place_count ts) → first_float values ≡ None →
+    text ≡ [] → WrittenSoFar mode query query values 0 text
+written_none mode query values text o no_floats nil = record {
+  all = o.0;
+  tokens = o.1;
+  left = o.0;
+  rest_tokens = o.1;
+  places_left = omega (arith, o.2);
+  room = o.2;
+  literals = [];
+  written = refl;
+  shapes = tt;
+  reads_back = tt;
+  no_float_left = no_floats;
+  text_is = λ more. ap (λ x. x ++ bound o.0 more) nil;
+}
+
+-- ---- the first place of tokens that are parted there
+
+bound-place : (front : List Token) (t : Token) (k : PlaceKind) (back : List Token) (l : List ℕ) (ls : List (List ℕ)) →
+    place_count front ≡ 0 → place_kind t ≡ Some k →
+    bound (front ++ t ∷ back) (l ∷ ls) ≡ text_of front ++ (l ++ bound back ls)
+bound-place [] (Name name) k back l ls e is = refl
+bound-place [] Mark k back l ls e is = refl
+bound-place [] t k back l ls e is = cc
+bound-place (Name name ∷ front) t k back l ls e is = absurd (omega arith)
+bound-place (Mark ∷ front) t k back l ls e is = absurd (omega arith)
+bound-place (u ∷ front) t k back l ls e is = ap (λ x. bytes_of u ++ x) (bound-place front t k back l ls e is) ∙ sym (append_assoc (bytes_of u) (text_of front) _)
+
+place_count-place : (t : Token) (k : PlaceKind) (back : List Token) → place_kind t ≡ Some k →
+    place_count (t ∷ back) ≡ place_count back + 1
+place_count-place (Name name) k back e = refl
+place_count-place Mark k back e = refl
+place_count-place t k back e = cc
+
+module _ (mode : Bool) (query rest : List ℕ) (values : List Value) (i : ℕ) (text : List ℕ) (s : WrittenSoFar mode query rest values i text) where
+  -- as long as values are left, a place is found
+  pub place_left : i < length values → OnTokens mode rest (λ us. place_count us ≡ 0) → ⊥
+  place_left below o =
+      let same : o.0 ≡ s.left = one_token_list mode rest o.0 s.left o.1 s.rest_tokens in
+      omega (arith, below, s.places_left, ap place_count same, o.2)
+
+  pub value_is_no_float : (v : Value) → i < length values → v ≡ get_or values i v → is_float v ≡ false
+  value_is_no_float v below v_is = (no_float values i v below v_is s.no_float_left).0
+
+  -- one value more: the bytes before its place, and its literal
+  pub written_more : (run from_place after sql text' text'' : List ℕ) (v : Value) (found : FoundPlace) →
+      i < length values → v ≡ get_or values i v → OnTokens mode rest (λ us. IsFirstPlace us found) →
+      run ≡ take found.before rest → from_place ≡ drop found.before rest →
+      after ≡ drop found.len from_place → literal_of mode v ≡ Some sql → IsLiteral mode sql →
+      ReadsAs mode v sql → text' ≡ text ++ run → text'' ≡ text' ++ sql →
+      WrittenSoFar mode query after values (i + 1) text''
+  written_more run from_place after sql text' text'' v found below v_is o run_is from_is after_is literal shape reads text_more text_more' =
+      let p = parted mode rest s.left found s.rest_tokens o in
+      let after_rest : drop (found.before + found.len) rest ≡ after = sym (drop-drop found.len found.before rest) ∙ sym (after_is ∙ ap (drop found.len) from_is) in
+      let taken : take (i + 1) values ≡ take i values ++ v ∷ [] = take_more values i v below ∙ ap (λ x. take i values ++ x ∷ []) (sym v_is) in
+      let run_text : text_of p.front ≡ run = p.front_text ∙ sym run_is in
+      let places : place_count s.left ≡ place_count p.back + 1 = ap place_count p.tokens_are ∙ (place_count-append p.front (p.place ∷ p.back) ∙ omega (arith, p.no_place, place_count-place p.place found.kind p.back p.kind_is)) in
+      record {
+        all = s.all;
+        tokens = s.tokens;
+        left = p.back;
+        rest_tokens = subst (λ x. IsTokens mode x p.back) after_rest p.rest_tokens;
+        places_left = omega (arith, s.places_left, places);
+        room = s.room;
+        literals = s.literals ++ sql ∷ [];
+        written = subst (λ x. AreLiteralsOf mode x (s.literals ++ sql ∷ [])) (sym taken) (AreLiteralsOf-push mode (take i values) s.literals v sql s.written literal);
+        shapes = AreLiterals-push mode s.literals sql s.shapes shape;
+        reads_back = subst (λ x. AreReadAs mode x (s.literals ++ sql ∷ [])) (sym taken) (AreReadAs-push mode (take i values) s.literals v sql s.reads_back reads);
+        no_float_left = (no_float values i v below v_is s.no_float_left).1;
+        text_is = λ more.
+            ap (λ x. x ++ bound p.back more) (text_more' ∙ ap (λ x. x ++ sql) text_more)
+            ∙ (append_assoc (text ++ run) sql (bound p.back more)
+            ∙ (append_assoc text run (sql ++ bound p.back more)
+            ∙ (ap (λ x. text ++ (x ++ (sql ++ bound p.back more))) (sym run_text)
+            ∙ (ap (λ x. text ++ x) (sym (ap (λ x. bound x (sql ∷ more)) p.tokens_are ∙ bound-place p.front p.place found.kind p.back sql more p.no_place p.kind_is))
+            ∙ (s.text_is (sql ∷ more) ∙ ap (bound s.all) (sym (append_assoc s.literals (sql ∷ []) more)))))));
+      }
+
+  -- once all values are written, the rest follows as it is
+  pub written_all : (text' : List ℕ) → length values ≤ i → text' ≡ text ++ rest →
+      OnTokens mode query (λ ts. IsWrittenText mode ts values text')
+  written_all text' done text_more =
+      let all_taken : take i values ≡ values = take_all i values done in
+      let none : place_count s.left ≡ 0 = omega (arith, s.places_left, done) in
+      let rest_is : rest ≡ bound s.left [] = sym s.rest_tokens.text ∙ sym (bound_none s.left none) in
+      let text_is : text' ≡ bound s.all s.literals = text_more ∙ (ap (λ x. text ++ x) rest_is ∙ (s.text_is [] ∙ ap (bound s.all) (append-nil s.literals))) in
+      let written : AreLiteralsOf mode values s.literals = subst (λ x. AreLiteralsOf mode x s.literals) all_taken s.written in (
+        s.all,
+        s.tokens,
+        record {
+          literals = s.literals;
+          written = written;
+          shapes = s.shapes;
+          reads_back = subst (λ x. AreReadAs mode x s.literals) all_taken s.reads_back;
+          exact = joined_text-pieces_from [] s.all s.literals (as_many_texts mode values s.literals written ∙ s.room) ∙ ap Some (sym text_is);
+        },
+      )

@@ -1,0 +1,12 @@
+-- What binding asks of the places of a query before it looks up values.
+use Rattle.std.specs.Prelude.{◌≡◌, List, length}
+use Rattle.mysql_named_params.specs.Tokens.{Token}
+use Rattle.mysql_named_params.specs.Places.{names, marks}
+use Rattle.mysql_binding.specs.StandsAlone.{first_not_alone}
+use Rattle.mysql_binding.specs.declared.binding.survey.Survey.{Survey}
+
+-- the names and marks of these tokens are so many, and this is the first that doesn't stand alone
+abbrev pub IsSurvey : Survey → List Token → Type 0
+IsSurvey survey ts =
+    (survey.names ≡ length (names ts)) × (survey.marks ≡ marks ts)
+    × (survey.not_alone ≡ first_not_alone ts)

@@ -1,0 +1,18 @@
+-- A text that is written over the places of a query: a literal of each value in each place.
+use Rattle.std.specs.Prelude.{◌≡◌, ℕ, Bool, List, Some}
+use Rattle.mysql_values.specs.declared.value.Value.{Value}
+use Rattle.mysql_named_params.specs.Tokens.{Token}
+use Rattle.mysql_binding.specs.Pieces.{pieces, joined_text}
+use Rattle.mysql_binding.specs.Replaced.{AreLiterals}
+use Rattle.mysql_binding.specs.ValueLiterals.{AreLiteralsOf, AreReadAs}
+
+-- the text is the pieces of these tokens with the literals of the values between them
+pub record IsWrittenText (mode : Bool) (ts : List Token) (values : List Value) (text : List ℕ)
+    : Type 0 where
+  -- the literals, each of the shape of one, and each read as its value
+  pub literals : List (List ℕ)
+  pub written : AreLiteralsOf mode values literals
+  pub shapes : AreLiterals mode literals
+  pub reads_back : AreReadAs mode values literals
+  -- the text is exactly these, between the pieces
+  pub exact : joined_text (pieces ts) literals ≡ Some text

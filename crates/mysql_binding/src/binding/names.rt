@@ -1,0 +1,35 @@
+//! The names of a query.
+ghost use Rattle.std.specs.Prelude.{◌≡◌, None, IfOk, length};
+ghost use Rattle.mysql_named_params.specs.Tokens.{OnTokens};
+ghost use Rattle.mysql_named_params.specs.Places.{names};
+ghost use Rattle.mysql_params_core.specs.Names.{names_of};
+ghost use Rattle.mysql_binding.specs.FirstCause.{mixed_cause};
+
+use mysql_named_params::places::first_place;
+use std::alloc::{AllocError, Global};
+
+/// The names of a query that has so many, and no marks beside them.
+pub(super) fn owned_names(
+    alloc: Global,
+    query: &[u8],
+    count: usize,
+    no_backslash_escape: bool,
+) -> Result<Vec<Vec<u8>>, AllocError>
+    requires { OnTokens no_backslash_escape query.now (λ ts.
+        (count ≡ length (names ts)) × (mixed_cause ts ≡ None)) }
+    ensures { IfOk result (λ list. OnTokens no_backslash_escape query.now (λ ts.
+        names_of list.items ≡ names ts)) }
+{
+    let mut list = Vec::with_capacity(alloc, count)?;
+    let mut rest = query;
+    while list.len() < count {
+        let Some(found) = first_place(rest, no_backslash_escape) else {
+            unreachable!()
+        };
+        let (_, from_place) = rest.split_at(found.before);
+        let (place, after) = from_place.split_at(found.len);
+        list.push(Vec::from_slice(alloc, &place[1..])?)?;
+        rest = after;
+    }
+    Ok(list)
+}

@@ -1,0 +1,60 @@
+//! What binding asks of the places of a query, found in one walk that takes no memory.
+ghost use Rattle.std.specs.Prelude.{◌≡◌, ◌≤◌, None, Some, length, take, drop, if◌then◌else◌};
+ghost use Rattle.mysql_named_params.specs.Tokens.{OnTokens};
+ghost use Rattle.mysql_binding.specs.StandsAlone.{stands_alone};
+ghost use Rattle.mysql_binding.specs.Survey.{IsSurvey};
+
+use crate::binding::stands_alone::stands_alone;
+use mysql_named_params::places::{PlaceKind, first_place};
+
+/// The places of a query, counted and tested.
+#[derive(Clone, Copy)]
+pub(super) struct Survey {
+    /// How many names there are, with repeats.
+    pub(super) names: usize,
+    /// How many marks there are.
+    pub(super) marks: usize,
+    /// Number and position of the first place that doesn't stand alone.
+    pub(super) not_alone: Option<(usize, usize)>,
+}
+
+/// The survey of a query.
+pub(super) fn place_survey(query: &[u8], no_backslash_escape: bool) -> Survey
+    ensures { OnTokens no_backslash_escape query.now (IsSurvey result) }
+{
+    let mut names = 0;
+    let mut marks = 0;
+    let mut not_alone = None;
+    let mut at = 0;
+    while let Some(found) = first_place(&query[at..], no_backslash_escape) {
+        let start = at + found.before;
+        let end = start + found.len;
+        let here = not_alone_at(query, names + marks, start, end);
+        not_alone = not_alone.or(here);
+        match found.kind {
+            PlaceKind::Name => names += 1,
+            PlaceKind::Mark => marks += 1,
+        }
+        at = end;
+    }
+    Survey {
+        names,
+        marks,
+        not_alone,
+    }
+}
+
+// Number and position of the place from `start` to `end`, unless it stands alone.
+fn not_alone_at(query: &[u8], place: usize, start: usize, end: usize) -> Option<(usize, usize)>
+    requires { (start ≤ length query.now) × (end ≤ length query.now) }
+    ensures { result ≡ (if stands_alone (take start query.now) (drop end query.now)
+        then None else Some (place, start)) }
+{
+    let (before, _) = query.split_at(start);
+    let (_, after) = query.split_at(end);
+    if stands_alone(before, after) {
+        None
+    } else {
+        Some((place, start))
+    }
+}
