@@ -35,7 +35,7 @@ no_place_is_left mode ts us given text bound is =
 
 -- ---- bound again
 
-with_literal_tokens-no_place : (us : List Token) → place_count us ≡ 0 → replaced us [] ≡ us
+with_literal_tokens-no_place : (us : List Token) → place_count us ≡ 0 → with_literal_tokens us [] ≡ us
 with_literal_tokens-no_place [] e = refl
 with_literal_tokens-no_place (Name name ∷ us) e = absurd (omega arith)
 with_literal_tokens-no_place (Mark ∷ us) e = absurd (omega arith)

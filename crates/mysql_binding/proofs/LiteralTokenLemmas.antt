@@ -13,8 +13,7 @@ use Rattle.mysql_named_params.specs.Tokens.{Token, IsToken, text_of, AreTokensBe
 use Rattle.mysql_named_params.specs.Tokens.{closed_string as closed_tail}
 use Rattle.mysql_named_params.specs.FirstToken.{opens_dash_comment}
 use Rattle.mysql_named_params.specs.Places.{place_count}
-use Rattle.mysql_named_params.proofs.RenameLemmas.{text_of-append}
-use Rattle.mysql_named_params.proofs.TokenRowLemmas.{AreTokensBefore-append, place_count-append}
+use Rattle.mysql_named_params.proofs.TokenRowLemmas.{text_of-append, AreTokensBefore-append, place_count-append}
 use Rattle.mysql_named_params.proofs.TokenEnds.{plain_at, dash_comment}
 use Rattle.mysql_named_params.proofs.RestLemmas.{OpensNothing}
 

@@ -70,16 +70,16 @@ first_not_alone-place Mark k ts place before e = refl
 first_not_alone-place t k ts place before e = cc
 
 module _ (mode : Bool) (query rest : List ℕ) (at i j : ℕ) (not_alone : Option (ℕ × ℕ)) (found : FoundPlace) (s : SurveyedSoFar mode query at i j not_alone) (rest_is : rest ≡ drop at query) (o : OnTokens mode rest (λ us. IsFirstPlace us found)) where
-  start : ℕ
+  abbrev pub start : ℕ
   start = at + found.before
 
-  end : ℕ
+  abbrev pub end : ℕ
   end = start + found.len
 
-  here : Option (ℕ × ℕ)
+  abbrev pub here : Option (ℕ × ℕ)
   here = if stands_alone (take start query) (drop end query) then None else Some (i + j, start)
 
-  p : IsPartedAt mode (drop at query) s.left found
+  abbrev pub p : IsPartedAt mode (drop at query) s.left found
   p = parted mode (drop at query) s.left found s.rest_tokens (subst (λ x. OnTokens mode x (λ us. IsFirstPlace us found)) rest_is o)
 
   end_is : at + (found.before + found.len) ≡ end

@@ -20,7 +20,7 @@ mod text;
 use crate::bind_error::BindError;
 use crate::binding::literals::first_float;
 use crate::binding::names::owned_names;
-use crate::binding::survey::{Survey, survey};
+use crate::binding::survey::{Survey, place_survey};
 use crate::binding::text::written_text;
 use mysql_params_core::params::{Params, ParamsError};
 use mysql_values::value::Value;
@@ -47,7 +47,7 @@ pub fn bind_text(alloc: Global, query: &[u8], params: Params) -> Result<Vec<u8>,
     ensures mixed { OnTokens with_backslashes query.now (λ ts.
         HasName ts × HasMark ts → IsErrOf result BindError.Mixed) }
 {
-    let found = survey(query, false);
+    let found = place_survey(query, false);
     if found.names > 0 && found.marks > 0 {
         return Err(BindError::Mixed);
     }

@@ -161,7 +161,7 @@ fn renamed_query<'a>(
     }
     renamed.extend_from_slice(rest)?;
     Ok(ParsedNamedParams {
-        query: CowSlice::Owned(with_marks),
+        query: CowSlice::Owned(renamed),
         params,
     })
 }

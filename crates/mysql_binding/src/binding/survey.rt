@@ -1,5 +1,5 @@
 //! What binding asks of the places of a query, found in one walk that takes no memory.
-ghost use Rattle.std.specs.Prelude.{◌≡◌, ◌×◌, ◌≤◌, None, Some, length, take, drop, if◌then◌else◌};
+ghost use Rattle.std.specs.Prelude.{◌≡◌, ◌≤◌, None, Some, length, take, drop, if◌then◌else◌};
 ghost use Rattle.mysql_named_params.specs.Tokens.{OnTokens};
 ghost use Rattle.mysql_binding.specs.StandsAlone.{stands_alone};
 ghost use Rattle.mysql_binding.specs.Survey.{IsSurvey};
@@ -19,7 +19,7 @@ pub(super) struct Survey {
 }
 
 /// The survey of a query.
-pub(super) fn survey(query: &[u8], no_backslash_escape: bool) -> Survey
+pub(super) fn place_survey(query: &[u8], no_backslash_escape: bool) -> Survey
     ensures { OnTokens no_backslash_escape query.now (IsSurvey result) }
 {
     let mut names = 0;

@@ -1,6 +1,6 @@
 use Rattle.std.proofs.Common.{length, ◌-◌}
 use Rattle.mysql_binding.proofs.SurveyLemmas.{SurveyedSoFar}
-use Rattle.mysql_binding.proofs.binding.survey.survey.Given as goal
+use Rattle.mysql_binding.proofs.binding.survey.place_survey.Given as goal
 
 abbrev pub invariant-loop-found : goal.invariant-loop-found
 invariant-loop-found l = SurveyedSoFar l.no_backslash_escape l.query l.at l.names l.marks l.not_alone
