@@ -13,7 +13,7 @@ use Rattle.mysql_named_params.proofs.ReparsedLemmas.{IsTokens-with_marks, names-
 use Rattle.mysql_named_params.proofs.TokenListLemmas.{one_token_list}
 use Rattle.mysql_params_core.specs.Given.{Given, empty, positional}
 use Rattle.mysql_params_core.specs.Lookup.{LookupRefusal, lookup}
-use Rattle.mysql_binding.specs.FirstCause.{cause_behind, first_cause, later_cause, mixed_cause}
+use Rattle.mysql_binding.specs.FirstCause.{cause_after_lookup, first_cause, later_cause, mixed_cause}
 use Rattle.mysql_binding.specs.Isolation.{IsBoundText}
 use Rattle.mysql_binding.specs.Pieces.{pieces, pieces_from, joined_text}
 use Rattle.mysql_binding.specs.Contents.{contents, AreReadInPlace}
@@ -102,8 +102,8 @@ no_cause_parts : (ts : List Token) (given : Given) (values : List Value) →
     first_cause ts given ≡ None → lookup given (names ts) ≡ Ok values →
     (mixed_cause ts ≡ None) × (later_cause ts values ≡ None)
 no_cause_parts ts given values none looked =
-    let parts = or_none (mixed_cause ts) (cause_behind ts (lookup given (names ts))) none in
-    (parts.0, ap (cause_behind ts) (sym looked) ∙ parts.1)
+    let parts = or_none (mixed_cause ts) (cause_after_lookup ts (lookup given (names ts))) none in
+    (parts.0, ap (cause_after_lookup ts) (sym looked) ∙ parts.1)
 
 pub by_position_is_the_same : (mode : Bool) (query text : List ℕ) (ts : List Token) (given : Given) →
     IsTokens mode query ts → (bound : IsBoundText mode ts given text) →

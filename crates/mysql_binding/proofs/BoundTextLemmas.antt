@@ -10,7 +10,7 @@ use Rattle.mysql_named_params.specs.Tokens.{Token, IsTokens, OnTokens}
 use Rattle.mysql_named_params.specs.Places.{names, marks, place_count}
 use Rattle.mysql_params_core.specs.Given.{Given}
 use Rattle.mysql_params_core.specs.Lookup.{LookupRefusal, lookup}
-use Rattle.mysql_binding.specs.FirstCause.{Cause, mixed_query, refused_params, float_value, mixed_cause, first_float, later_cause, cause_behind, first_cause}
+use Rattle.mysql_binding.specs.FirstCause.{Cause, mixed_query, refused_params, float_value, mixed_cause, first_float, later_cause, cause_after_lookup, first_cause}
 use Rattle.mysql_binding.specs.declared.bind_error.BindError.{BindError}
 use Rattle.mysql_binding.specs.declared.bind_error.BindError.TheVariants.{Mixed}
 use Rattle.mysql_binding.specs.declared.binding.survey.Survey.{Survey}
@@ -93,7 +93,7 @@ pub refused_mixed : (mode : Bool) (query : List ℕ) (given : Given) (survey : S
     OnTokens mode query (λ ts. IsRefusal (first_cause ts given) Mixed)
 refused_mixed mode query given survey o some_names some_marks =
     on_map mode query (IsSurvey survey) (λ ts. IsRefusal (first_cause ts given) Mixed)
-    (λ ts is h. inr (mixed_query, ap (λ x. option_or x (cause_behind ts (lookup given (names ts)))) (mixed_some ts (omega (arith, h.0, some_names), omega (arith, h.1, some_marks))), refl))
+    (λ ts is h. inr (mixed_query, ap (λ x. option_or x (cause_after_lookup ts (lookup given (names ts)))) (mixed_some ts (omega (arith, h.0, some_names), omega (arith, h.1, some_marks))), refl))
     o
 
 pub unmixed_survey : (mode : Bool) (query : List ℕ) (survey : Survey) →
@@ -111,7 +111,7 @@ pub refused_lookup : (mode : Bool) (query : List ℕ) (given : Given) (count : �
     OnTokens mode query (λ ts. IsRefusal (first_cause ts given) error)
 refused_lookup mode query given count ns error unmixed listed r =
     on_map mode query (λ ts. ((count ≡ length (names ts)) × (mixed_cause ts ≡ None)) × (ns ≡ names ts)) (λ ts. IsRefusal (first_cause ts given) error)
-    (λ ts is h. inr (refused_params r.0, ap (λ x. option_or x (cause_behind ts (lookup given (names ts)))) h.0.1 ∙ ap (cause_behind ts) (ap (lookup given) (sym h.1) ∙ r.1), r.2))
+    (λ ts is h. inr (refused_params r.0, ap (λ x. option_or x (cause_after_lookup ts (lookup given (names ts)))) h.0.1 ∙ ap (cause_after_lookup ts) (ap (lookup given) (sym h.1) ∙ r.1), r.2))
     (on_both mode query _ (λ ts. ns ≡ names ts) unmixed listed)
 
 pub looked_up_names : (mode : Bool) (query : List ℕ) (given : Given) (ns : List (List ℕ)) (values : List Value) →

@@ -5,7 +5,7 @@ use Rattle.std.proofs.lemmas.Bool.{and_parts, or_cases, eqb-true}
 use Rattle.std.proofs.lemmas.Bool.Decides.{nat_tests}
 use Rattle.mysql_sql_text.specs.LiteralEnd.{BeginsWithout, continues_literal}
 use Rattle.mysql_named_params.specs.Bytes.{is_name_byte, is_white_space}
-use Rattle.mysql_binding.specs.StandsAlone.{is_one_of, signs_before, signs_behind, may_stand_before, may_stand_behind, none_or_first}
+use Rattle.mysql_binding.specs.StandsAlone.{is_one_of, signs_before, signs_after, may_stand_before, may_stand_after, none_or_first}
 
 fails : (b : Bool) → not b ≡ true → b ≡ false
 fails true e = absurd (true≢false (sym e))
@@ -25,12 +25,12 @@ one_of_failing test (c ∷ bytes) b all h =
 space_continues_nothing : (b : ℕ) → is_white_space b ≡ true → continues_literal b ≡ false
 space_continues_nothing b h = grind (arith, nat_tests)
 
--- what may stand behind a place is no more of a literal before it
-pub behind_ends : (b : ℕ) → may_stand_behind b ≡ true → continues_literal b ≡ false
+-- what may stand after a place is no more of a literal before it
+pub behind_ends : (b : ℕ) → may_stand_after b ≡ true → continues_literal b ≡ false
 behind_ends b h =
     elim (or_cases (is_white_space b) _ h) [
       | inl e ↦ space_continues_nothing b e
-      | inr e ↦ one_of_failing continues_literal signs_behind b refl e
+      | inr e ↦ one_of_failing continues_literal signs_after b refl e
     ]
 
 space_in_no_name : (b : ℕ) → is_white_space b ≡ true → is_name_byte b ≡ false
@@ -51,15 +51,15 @@ name_byte_not_before b h = go (may_stand_before b) refl
     go true e = absurd (true≢false (sym h ∙ before_in_no_name b e))
     go false e = refl
 
--- a piece whose first byte may stand behind a place, before something other or at the end
-pub piece_ends : (piece rest : List ℕ) (b : ℕ) (more : List ℕ) → may_stand_behind b ≡ false →
-    none_or_first may_stand_behind (piece ++ b ∷ more) ≡ true →
+-- a piece whose first byte may stand after a place, before something other or at the end
+pub piece_ends : (piece rest : List ℕ) (b : ℕ) (more : List ℕ) → may_stand_after b ≡ false →
+    none_or_first may_stand_after (piece ++ b ∷ more) ≡ true →
     BeginsWithout continues_literal (piece ++ rest)
 piece_ends [] rest b more f h = absurd (true≢false (sym h ∙ f))
 piece_ends (c ∷ piece) rest b more f h = behind_ends c h
 
 pub last_piece_ends : (piece : List ℕ) →
-    none_or_first may_stand_behind (piece ++ []) ≡ true →
+    none_or_first may_stand_after (piece ++ []) ≡ true →
     BeginsWithout continues_literal (piece ++ [])
 last_piece_ends [] h = tt
 last_piece_ends (c ∷ piece) h = behind_ends c h

@@ -14,7 +14,7 @@ use Rattle.mysql_named_params.proofs.ReparsedLemmas.{names-with_marks, marks-wit
 use Rattle.mysql_named_params.proofs.TokenListLemmas.{one_token_list}
 use Rattle.mysql_params_core.specs.Given.{Given, ValueMap, empty, named, positional}
 use Rattle.mysql_params_core.specs.Lookup.{lookup, values_at}
-use Rattle.mysql_binding.specs.FirstCause.{Cause, mixed_query, mark_count, not_alone, float_value, mixed_cause, counts_differ, count_cause, alone_cause, first_float, float_cause, later_cause, cause_behind, first_cause}
+use Rattle.mysql_binding.specs.FirstCause.{Cause, mixed_query, mark_count, not_alone, float_value, mixed_cause, counts_differ, count_cause, alone_cause, first_float, float_cause, later_cause, cause_after_lookup, first_cause}
 use Rattle.mysql_binding.specs.StandsAlone.{first_not_alone}
 use Rattle.mysql_binding.specs.Survey.{IsSurvey}
 use Rattle.mysql_binding.specs.declared.binding.survey.Survey.{Survey}
@@ -109,7 +109,7 @@ none_count ts values e =
       | inr h ↦ h
     ]
 
--- ---- the causes behind the lookup, as the code finds them
+-- ---- the causes after the lookup, as the code finds them
 
 later_by : (ts : List Token) (values : List Value) (a b c : Option Cause) →
     count_cause ts values ≡ a →
@@ -157,7 +157,7 @@ pub first_by : (ts : List Token) (given : Given) (values : List Value) (r : Opti
     mixed_cause ts ≡ None → lookup given (names ts) ≡ Ok values → later_cause ts values ≡ r →
     first_cause ts given ≡ r
 first_by ts given values r a b c =
-    ap (λ x. option_or x (cause_behind ts (lookup given (names ts)))) a ∙ (ap (cause_behind ts) b ∙ c)
+    ap (λ x. option_or x (cause_after_lookup ts (lookup given (names ts)))) a ∙ (ap (cause_after_lookup ts) b ∙ c)
 
 no_later : (ts : List Token) (values : List Value) → count_cause ts values ≡ None →
     first_not_alone ts ≡ None → float_cause values ≡ None → later_cause ts values ≡ None

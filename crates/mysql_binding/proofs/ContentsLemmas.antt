@@ -7,7 +7,7 @@ use Rattle.mysql_sql_text.specs.LiteralEnd.{BeginsWithout, ReadsBefore, continue
 use Rattle.mysql_named_params.specs.Bytes.{backquote, colon, dash, hash, question_mark, slash}
 use Rattle.mysql_named_params.specs.Tokens.{Token, text_of, bytes_of, QuotedString, QuotedIdentifier, HashComment, DashComment, BlockComment, Name, Mark, Plain}
 use Rattle.mysql_named_params.specs.Places.{place_count}
-use Rattle.mysql_binding.specs.StandsAlone.{may_stand_before, may_stand_behind, none_or_first, none_or_last, stands_alone, first_not_alone_from}
+use Rattle.mysql_binding.specs.StandsAlone.{may_stand_before, may_stand_after, none_or_first, none_or_last, stands_alone, first_not_alone_from}
 use Rattle.mysql_binding.specs.Pieces.{pieces_from}
 use Rattle.mysql_binding.specs.Contents.{contents_before, contents, AreReadInPlace}
 use Rattle.mysql_binding.proofs.BoundText.{bound}
@@ -32,17 +32,17 @@ pub alone_parts : (b : Bool) (x : Option (ℕ × ℕ)) (p : ℕ × ℕ) →
 alone_parts true x p e = (refl, e)
 alone_parts false x p e = cc
 
--- a place stands alone, and so do those behind it
+-- a place stands alone, and so do those after it
 place_alone : (place : ℕ) (before bytes : List ℕ) (ts : List Token) →
     (if stands_alone before (text_of ts) then first_not_alone_from (place + 1) (before ++ bytes) ts else Some (place, length before)) ≡ None →
-    (none_or_first may_stand_behind (text_of ts) ≡ true) × (first_not_alone_from (place + 1) (before ++ bytes) ts ≡ None)
+    (none_or_first may_stand_after (text_of ts) ≡ true) × (first_not_alone_from (place + 1) (before ++ bytes) ts ≡ None)
 place_alone place before bytes ts e =
     let p = alone_parts (stands_alone before (text_of ts)) _ _ e in
     ((and_parts (none_or_last may_stand_before before) _ p.0).1, p.1)
 
--- what stands behind a place that stands alone doesn't continue the literal in it
+-- what stands after a place that stands alone doesn't continue the literal in it
 ends_before : (ts : List Token) (literals : List (List ℕ)) →
-    none_or_first may_stand_behind (text_of ts) ≡ true →
+    none_or_first may_stand_after (text_of ts) ≡ true →
     BeginsWithout continues_literal (bound ts literals)
 ends_before [] literals h = tt
 ends_before (QuotedString quote tail ∷ ts) literals h = behind_ends quote h
@@ -55,9 +55,9 @@ ends_before (Mark ∷ ts) literals h = absurd (true≢false (sym h))
 ends_before (Plain b ∷ ts) literals h = behind_ends b h
 
 module _ (mode : Bool) where
-  -- the first literal, and those behind it
+  -- the first literal, and those after it
   in_place_more : (ts : List Token) (piece literal : List ℕ) (literals : List (List ℕ)) (c : Content) (cs : List Content) →
-      ReadsBefore continues_literal mode literal c → none_or_first may_stand_behind (text_of ts) ≡ true →
+      ReadsBefore continues_literal mode literal c → none_or_first may_stand_after (text_of ts) ≡ true →
       length literals ≡ place_count ts → AreReadInPlace mode (pieces_from [] ts) literals cs →
       AreReadInPlace mode (piece ∷ pieces_from [] ts) (literal ∷ literals) (c ∷ cs)
   in_place_more ts piece literal literals c cs r n l more =
@@ -91,15 +91,15 @@ module _ (mode : Bool) where
       contents_before mode (piece ∷ pieces) (literal ++ (piece ++ rest)) ≡ Some (c ∷ cs)
   one_more literal c piece rest pieces cs r n h = rw (r (piece ++ rest) n, after-append piece rest, h) refl
 
-  -- a literal, behind it a beginning of a piece, and then the tokens
+  -- a literal, after it a beginning of a piece, and then the tokens
   Goal : List Token → List ℕ → List (List ℕ) → List Content → Type 0
   Goal ts piece literals cs = (literal : List ℕ) (c : Content) →
-      ReadsBefore continues_literal mode literal c → none_or_first may_stand_behind (piece ++ text_of ts) ≡ true →
+      ReadsBefore continues_literal mode literal c → none_or_first may_stand_after (piece ++ text_of ts) ≡ true →
       contents_before mode (pieces_from piece ts) (literal ++ (piece ++ bound ts literals)) ≡ Some (c ∷ cs)
 
   Goal-place : (ts : List Token) (piece : List ℕ) (b : ℕ) (more : List ℕ) (literal' : List ℕ) (literals : List (List ℕ)) (c' : Content) (cs : List Content) →
-      may_stand_behind b ≡ false → ReadsBefore continues_literal mode literal' c' → none_or_first may_stand_behind (text_of ts) ≡ true → Goal ts [] literals cs →
-      (literal : List ℕ) (c : Content) → ReadsBefore continues_literal mode literal c → none_or_first may_stand_behind (piece ++ b ∷ more) ≡ true →
+      may_stand_after b ≡ false → ReadsBefore continues_literal mode literal' c' → none_or_first may_stand_after (text_of ts) ≡ true → Goal ts [] literals cs →
+      (literal : List ℕ) (c : Content) → ReadsBefore continues_literal mode literal c → none_or_first may_stand_after (piece ++ b ∷ more) ≡ true →
       contents_before mode (piece ∷ pieces_from [] ts) (literal ++ (piece ++ (literal' ++ bound ts literals))) ≡ Some (c ∷ c' ∷ cs)
   unfolding Goal
   Goal-place ts piece b more literal' literals c' cs f r' n' g literal c r n =
@@ -107,7 +107,7 @@ module _ (mode : Bool) where
 
   Goal-other : (ts : List Token) (piece bytes : List ℕ) (literals : List (List ℕ)) (cs : List Content) →
       Goal ts (piece ++ bytes) literals cs →
-      (literal : List ℕ) (c : Content) → ReadsBefore continues_literal mode literal c → none_or_first may_stand_behind (piece ++ (bytes ++ text_of ts)) ≡ true →
+      (literal : List ℕ) (c : Content) → ReadsBefore continues_literal mode literal c → none_or_first may_stand_after (piece ++ (bytes ++ text_of ts)) ≡ true →
       contents_before mode (pieces_from (piece ++ bytes) ts) (literal ++ (piece ++ (bytes ++ bound ts literals))) ≡ Some (c ∷ cs)
   unfolding Goal
   Goal-other ts piece bytes literals cs g literal c r n =

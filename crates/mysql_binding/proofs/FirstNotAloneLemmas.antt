@@ -7,7 +7,7 @@ use Rattle.mysql_binding.proofs.ContentsLemmas.{alone_parts}
 use Rattle.mysql_binding.proofs.StandsAloneLemmas.{choice}
 use Rattle.mysql_named_params.proofs.TokenRowLemmas.{text_then-append}
 
--- each place stands alone, where this text stands before the tokens and that behind them
+-- each place stands alone, where this text stands before the tokens and that after them
 abbrev AllAloneFrom : List ℕ → List Token → List ℕ → Type 0
 AllAloneFrom before ts rest = (front : List Token) (t : Token) (back : List Token) →
     front ++ t ∷ back ≡ ts → IsPlace t →
@@ -73,12 +73,12 @@ here t ts place number at before i h e =
       others_alone = none_alone before (text_of (t ∷ ts));
     }
 
-behind : (t : Token) (ts : List Token) (place next number at : ℕ) (before : List ℕ) →
+IsFirstNotAlone-next : (t : Token) (ts : List Token) (place next number at : ℕ) (before : List ℕ) →
     (IsPlace t → stands_alone before (text_of ts) ≡ true) →
     ((front : List Token) → place + place_count (t ∷ front) ≡ next + place_count front) →
     IsFirstFrom next (before ++ bytes_of t) ts number at →
     IsFirstFrom place before (t ∷ ts) number at
-behind t ts place next number at before h counts f =
+IsFirstNotAlone-next t ts place next number at before h counts f =
     let joined : before ++ text_of (t ∷ f.front) ≡ (before ++ bytes_of t) ++ text_of f.front = sym (append_assoc before (bytes_of t) (text_of f.front)) in
     let text : text_of ts ≡ text_then (text_of (f.found ∷ f.back)) f.front = ap text_of (sym f.split) ∙ text_then-append f.front (f.found ∷ f.back) [] in
     record {
@@ -99,16 +99,16 @@ first_from : (ts : List Token) (place number at : ℕ) (before : List ℕ) →
 first_from [] place number at before e = cc
 first_from (Name name ∷ ts) place number at before e =
     elim (choice (stands_alone before (text_of ts)) _ _ _ e) [
-      | inl h ↦ behind (Name name) ts place (place + 1) number at before (λ i. h.0) (λ front. omega arith) (first_from ts (place + 1) number at (before ++ bytes_of (Name name)) h.1)
+      | inl h ↦ IsFirstNotAlone-next (Name name) ts place (place + 1) number at before (λ i. h.0) (λ front. omega arith) (first_from ts (place + 1) number at (before ++ bytes_of (Name name)) h.1)
       | inr h ↦ here (Name name) ts place number at before tt h.0 h.1
     ]
 first_from (Mark ∷ ts) place number at before e =
     elim (choice (stands_alone before (text_of ts)) _ _ _ e) [
-      | inl h ↦ behind Mark ts place (place + 1) number at before (λ i. h.0) (λ front. omega arith) (first_from ts (place + 1) number at (before ++ bytes_of Mark) h.1)
+      | inl h ↦ IsFirstNotAlone-next Mark ts place (place + 1) number at before (λ i. h.0) (λ front. omega arith) (first_from ts (place + 1) number at (before ++ bytes_of Mark) h.1)
       | inr h ↦ here Mark ts place number at before tt h.0 h.1
     ]
 first_from (t ∷ ts) place number at before e =
-    behind t ts place place number at before (λ i. absurd i) (λ front. refl) (first_from ts place number at (before ++ bytes_of t) e)
+    IsFirstNotAlone-next t ts place place number at before (λ i. absurd i) (λ front. refl) (first_from ts place number at (before ++ bytes_of t) e)
 
 pub first_is_first : (ts : List Token) (place at : ℕ) →
     ◌≡◌ {A = Option (ℕ × ℕ)} (first_not_alone ts) (Some (place, at)) → IsFirstNotAlone ts place at

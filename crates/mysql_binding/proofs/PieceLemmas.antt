@@ -39,7 +39,7 @@ option_map_parts : {A B : Type 0} (f : A → B) (x : Option A) (b : B) → optio
 option_map_parts f None b e = cc
 option_map_parts f (Some a) b e = (a, refl)
 
--- behind a place there is one piece more
+-- after a place there is one piece more
 more_pieces : (piece : List ℕ) (ts : List Token) (text : List ℕ) →
     last_piece piece (pieces_from [] ts) ≡ Some text → ⊥
 more_pieces piece ts text e = go [] ts e

@@ -5,7 +5,7 @@ use Rattle.std.proofs.lemmas.Bool.{and_parts, and_from}
 use Rattle.mysql_named_params.specs.Bytes.{colon, question_mark, is_name_byte}
 use Rattle.mysql_named_params.specs.Tokens.{Token, IsToken, AreTokensBefore, text_of, bytes_of, Name, Mark}
 use Rattle.mysql_named_params.specs.Places.{with_marks, place_count}
-use Rattle.mysql_binding.specs.StandsAlone.{may_stand_before, may_stand_behind, none_or_first, none_or_last, stands_alone, first_not_alone_from}
+use Rattle.mysql_binding.specs.StandsAlone.{may_stand_before, may_stand_after, none_or_first, none_or_last, stands_alone, first_not_alone_from}
 use Rattle.mysql_binding.proofs.ByteTestLemmas.{name_byte_not_before}
 use Rattle.mysql_binding.proofs.ContentsLemmas.{alone_parts}
 
@@ -34,8 +34,8 @@ as_well-name mode xs ys [] rest t h = absurd t.0
 as_well-name mode xs ys (b ∷ bs) rest t h =
     absurd (true≢false (sym h ∙ (last-append may_stand_before xs colon (b ∷ bs) ∙ name_last b bs (name_byte_not_before b (rw t.0.0 refl)) t.0.1)))
 
-first_as_well : (ts : List Token) → none_or_first may_stand_behind (text_of ts) ≡ true →
-    none_or_first may_stand_behind (text_of (with_marks ts)) ≡ true
+first_as_well : (ts : List Token) → none_or_first may_stand_after (text_of ts) ≡ true →
+    none_or_first may_stand_after (text_of (with_marks ts)) ≡ true
 first_as_well [] h = refl
 first_as_well (Name name ∷ ts) h = absurd (true≢false (sym h))
 first_as_well (Mark ∷ ts) h = h

@@ -21,7 +21,7 @@ pub choice : {A : Type 0} (b : Bool) (x y : Option A) (r : Option A) →
 choice true x y r e = inl (refl, e)
 choice false x y r e = inr (refl, e)
 
--- the place of this number is one behind the place before the tokens, at its position
+-- the place of this number is one after the place before the tokens, at its position
 abbrev IsAt : ℕ → List ℕ → ℕ → ℕ → Type 0
 IsAt place positions number at = (n : ℕ) × (number ≡ place + n) × (slice_get positions n ≡ Some at)
 

@@ -4,7 +4,7 @@ use Rattle.std.specs.Prelude.{◌≡◌, ℕ, Bool, List, [], ◌∷◌, ◌++�
 use Rattle.mysql_sql_text.specs.ReadLiteral.{Content, after, read_literal}
 use Rattle.mysql_binding.specs.Pieces.{joined_text}
 
--- the contents of a text that is literals, each with the next of these pieces behind it
+-- the contents of a text that is literals, each with the next of these pieces after it
 abbrev pub contents_before : Bool → List (List ℕ) → List ℕ → Option (List Content)
 contents_before mode [] [] = Some []
 contents_before mode [] (b ∷ text) = None
@@ -20,11 +20,11 @@ contents mode [] text = None
 contents mode (piece ∷ pieces) text =
     option_and_then (contents_before mode pieces) (after piece text)
 
--- each literal, followed by the text behind it, reads as its content and leaves exactly that text
+-- each literal, followed by the text after it, reads as its content and leaves exactly that text
 abbrev pub AreReadInPlace : Bool → List (List ℕ) → List (List ℕ) → List Content → Type 0
 AreReadInPlace mode pieces [] [] = ⊤
 AreReadInPlace mode (piece ∷ pieces) (literal ∷ literals) (content ∷ contents) =
-    ((behind : List ℕ) × (joined_text pieces literals ≡ Some behind)
-    × (read_literal mode (literal ++ behind) ≡ Some (content, behind)))
+    ((rest : List ℕ) × (joined_text pieces literals ≡ Some rest)
+    × (read_literal mode (literal ++ rest) ≡ Some (content, rest)))
     × AreReadInPlace mode pieces literals contents
 AreReadInPlace mode pieces literals contents = ⊥

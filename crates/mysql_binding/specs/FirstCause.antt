@@ -1,5 +1,5 @@
 -- The causes for which binding is refused, and the first that holds of a query and parameters. None
--- of them is want of memory.
+-- of them is out of memory.
 use Rattle.std.specs.Prelude.{◌+◌, ◌&&◌, nat_eq, not, ℕ, Bool, List, [], ◌∷◌, length, if◌then◌else◌, Option, Some, None, option_map, Result, Ok, Err}
 use Rattle.std.specs.Option.{option_or}
 use Rattle.mysql_values.specs.declared.value.Value.{Value}
@@ -16,7 +16,7 @@ pub data Cause : Type 0 where
   mixed_query : Cause
   -- the parameters don't give the values for its names
   refused_params : LookupRefusal → Cause
-  -- it has no name, so many marks, and another number of values
+  -- it has no name, and this many marks for another number of values
   mark_count : (marks values : ℕ) → Cause
   -- the place of this number, at this position, doesn't stand alone
   not_alone : (place at : ℕ) → Cause
@@ -27,7 +27,7 @@ pub data Cause : Type 0 where
 abbrev pub mixed_cause : List Token → Option Cause
 mixed_cause ts = if has_both ts then Some mixed_query else None
 
--- so many are no names, and not as many marks as values
+-- by their numbers: there are no names, and the marks are not as many as the values
 abbrev pub counts_differ : ℕ → ℕ → ℕ → Bool
 counts_differ names marks values = nat_eq names 0 && not (nat_eq marks values)
 
@@ -42,7 +42,7 @@ count_cause ts values =
 abbrev pub alone_cause : List Token → Option Cause
 alone_cause ts = option_map (λ found. not_alone found.0 found.1) (first_not_alone ts)
 
--- the place of the first float among the values, where so many values stand before them
+-- the place of the first float among the values, where `place` values stand before them
 abbrev pub first_float_from : ℕ → List Value → Option ℕ
 first_float_from place [] = None
 first_float_from place (value ∷ values) =
@@ -63,10 +63,10 @@ later_cause ts values =
     option_or (count_cause ts values) (option_or (alone_cause ts) (float_cause values))
 
 -- the first cause where the lookup gave this
-abbrev pub cause_behind : List Token → Result (List Value) LookupRefusal → Option Cause
-cause_behind ts (Err refusal) = Some (refused_params refusal)
-cause_behind ts (Ok values) = later_cause ts values
+abbrev pub cause_after_lookup : List Token → Result (List Value) LookupRefusal → Option Cause
+cause_after_lookup ts (Err refusal) = Some (refused_params refusal)
+cause_after_lookup ts (Ok values) = later_cause ts values
 
 -- the first cause that holds of a query with these tokens and what is given to it, if any
 abbrev pub first_cause : List Token → Given → Option Cause
-first_cause ts given = option_or (mixed_cause ts) (cause_behind ts (lookup given (names ts)))
+first_cause ts given = option_or (mixed_cause ts) (cause_after_lookup ts (lookup given (names ts)))

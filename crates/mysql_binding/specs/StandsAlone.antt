@@ -13,17 +13,17 @@ is_one_of bytes b = list_any (λ c. c == b) bytes
 abbrev pub signs_before : List ℕ
 signs_before = codes "(,=<>+*%&|^~"
 
--- the bytes other than white space that may stand directly behind a place
-abbrev pub signs_behind : List ℕ
-signs_behind = codes "),;=<>+-*/%&|^!"
+-- the bytes other than white space that may stand directly after a place
+abbrev pub signs_after : List ℕ
+signs_after = codes "),;=<>+-*/%&|^!"
 
 -- a byte that may stand directly before a place
 abbrev pub may_stand_before : ℕ → Bool
 may_stand_before b = is_white_space b || is_one_of signs_before b
 
--- a byte that may stand directly behind a place
-abbrev pub may_stand_behind : ℕ → Bool
-may_stand_behind b = is_white_space b || is_one_of signs_behind b
+-- a byte that may stand directly after a place
+abbrev pub may_stand_after : ℕ → Bool
+may_stand_after b = is_white_space b || is_one_of signs_after b
 
 -- the text is empty, or its first byte passes the test
 abbrev pub none_or_first : (ℕ → Bool) → List ℕ → Bool
@@ -38,11 +38,33 @@ none_or_last test (b ∷ c ∷ bytes) = none_or_last test (c ∷ bytes)
 
 -- a place between these two texts stands alone
 abbrev pub stands_alone : List ℕ → List ℕ → Bool
-stands_alone before behind =
-    none_or_last may_stand_before before && none_or_first may_stand_behind behind
+stands_alone before after =
+    none_or_last may_stand_before before && none_or_first may_stand_after after
 
--- number and position of the first place that doesn't stand alone, where so many places and this
--- text stand before the tokens
+-- each name and mark among the tokens stands alone, where this text follows them
+abbrev pub AllAlone : List Token → List ℕ → Type 0
+AllAlone ts rest = (front : List Token) (t : Token) (back : List Token) → front ++ t ∷ back ≡ ts →
+    IsPlace t → IsTrue (stands_alone (text_of front) (text_then rest back))
+
+-- the place of this number, at this position, is the first that doesn't stand alone
+pub record IsFirstNotAlone (ts : List Token) (place at : ℕ) : Type 0 where
+  -- the tokens before it, itself, and the tokens after it
+  pub front : List Token
+  pub found : Token
+  pub back : List Token
+  pub split : front ++ found ∷ back ≡ ts
+  -- it is a name or a mark
+  pub is_place : IsPlace found
+  -- its number is that of the places before it, its position that of the bytes before it
+  pub number : place_count front ≡ place
+  pub position : length (text_of front) ≡ at
+  -- it doesn't stand alone
+  pub not_alone : IsFalse (stands_alone (text_of front) (text_of back))
+  -- each place before it does
+  pub others_alone : AllAlone front (text_of (found ∷ back))
+
+-- The same as a function (`laws::first_not_alone_is_first`): number and position of the first place
+-- that doesn't stand alone, where `place` places and this text stand before the tokens.
 abbrev pub first_not_alone_from : ℕ → List ℕ → List Token → Option (ℕ × ℕ)
 first_not_alone_from place before [] = None
 first_not_alone_from place before (Name name ∷ ts) =
@@ -58,25 +80,3 @@ first_not_alone_from place before (t ∷ ts) = first_not_alone_from place (befor
 -- number and position of the first place of a query that doesn't stand alone
 abbrev pub first_not_alone : List Token → Option (ℕ × ℕ)
 first_not_alone = first_not_alone_from 0 []
-
--- each name and mark among the tokens stands alone, where this text follows them
-abbrev pub AllAlone : List Token → List ℕ → Type 0
-AllAlone ts rest = (front : List Token) (t : Token) (back : List Token) → front ++ t ∷ back ≡ ts →
-    IsPlace t → IsTrue (stands_alone (text_of front) (text_then rest back))
-
--- the place of this number, at this position, is the first that doesn't stand alone
-pub record IsFirstNotAlone (ts : List Token) (place at : ℕ) : Type 0 where
-  -- the tokens before it, itself, and the tokens behind it
-  pub front : List Token
-  pub found : Token
-  pub back : List Token
-  pub split : front ++ found ∷ back ≡ ts
-  -- it is a name or a mark
-  pub is_place : IsPlace found
-  -- its number is that of the places before it, its position that of the bytes before it
-  pub number : place_count front ≡ place
-  pub position : length (text_of front) ≡ at
-  -- it doesn't stand alone
-  pub not_alone : IsFalse (stands_alone (text_of front) (text_of back))
-  -- each place before it does
-  pub others_alone : AllAlone front (text_of (found ∷ back))

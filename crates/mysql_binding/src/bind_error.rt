@@ -10,7 +10,7 @@ pub enum BindError {
     /// The query has both named and positional parameters.
     #[error("Named and positional params in one query")]
     Mixed,
-    /// The parameters don't give the values for the query's names. It is never want of memory.
+    /// The parameters don't give the values for the query's names. It is never out of memory.
     #[error(transparent)]
     Params(ParamsError),
     /// The query has no names, and its marks are not as many as the values.

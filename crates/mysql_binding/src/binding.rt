@@ -34,7 +34,7 @@ use std::alloc::Global;
 /// marks in one query; what [`Params::into_values`] refuses for its names; without names, marks
 /// that are not as many as the values; a place that doesn't stand alone; a float. A place stands
 /// alone where the byte before it is none, white space or one of `(,=<>+*%&|^~`, and the byte
-/// behind it is none, white space or one of `),;=<>+-*/%&|^!`. The parameters are consumed, also
+/// after it is none, white space or one of `),;=<>+-*/%&|^!`. The parameters are consumed, also
 /// where the call refuses.
 // A query has one token list (`laws::one_token_list`), so the clauses speak of the same `ts`.
 pub fn bind_text(alloc: Global, query: &[u8], params: Params) -> Result<Vec<u8>, BindError>

@@ -1,4 +1,4 @@
-//! Each byte directly before and directly behind a place.
+//! Each byte directly before and directly after a place.
 use mysql_params::params::Params;
 use mysql_params::{BindError, bind_text};
 use mysql_values::value::Value;
@@ -7,7 +7,7 @@ use std::test::Fail;
 
 const BEFORE: &[u8] = b"\t\n\x0c\r (,=<>+*%&|^~";
 
-const BEHIND: &[u8] = b"\t\n\x0c\r ),;=<>+-*/%&|^!";
+const AFTER: &[u8] = b"\t\n\x0c\r ),;=<>+-*/%&|^!";
 
 /// Bytes that open a string, an identifier or a comment, in which a mark is none.
 const OPENING: &[u8] = b"'\"`#";
@@ -60,16 +60,16 @@ fn each_byte_behind_a_place(rt: HostRuntime) -> Result<(), Fail> {
     for byte in 0..=255u8 {
         match bind_null(rt.alloc(), &[b'?', byte])? {
             Ok(text) => {
-                assert!(rt; BEHIND.contains(&byte), "{byte} behind a place is taken");
+                assert!(rt; AFTER.contains(&byte), "{byte} after a place is taken");
                 assert_eq!(rt;
                     text.as_slice(),
                     [b'N', b'U', b'L', b'L', byte].as_slice(),
-                    "{byte} behind"
+                    "{byte} after"
                 );
             }
             Err(error) => {
-                assert!(rt; !BEHIND.contains(&byte), "{byte} behind a place is refused");
-                assert_eq!(rt; error, refused(byte, 0), "{byte} behind a place");
+                assert!(rt; !AFTER.contains(&byte), "{byte} after a place is refused");
+                assert_eq!(rt; error, refused(byte, 0), "{byte} after a place");
             }
         }
     }

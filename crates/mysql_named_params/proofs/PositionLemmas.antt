@@ -29,21 +29,21 @@ positions_ascend at (t ∷ ts) =
     AscendFrom-weaker at (at + length (bytes_of t)) _ (omega arith) (positions_ascend (at + length (bytes_of t)) ts)
 
 -- a token more in front of the index
-behind : (front : List Token) (t : Token) (ts : List Token) →
+HavePlacesAt-after_front : (front : List Token) (t : Token) (ts : List Token) →
     HavePlacesAt ((front ++ t ∷ []) ++ ts) (positions_from (length (text_of (front ++ t ∷ []))) ts) →
     HavePlacesAt (front ++ t ∷ ts) (positions_from (length (text_of front) + length (bytes_of t)) ts)
-behind front t ts h =
+HavePlacesAt-after_front front t ts h =
     let more : length (text_of (front ++ t ∷ [])) ≡ length (text_of front) + length (bytes_of t) =
     ap length (text_of-append front (t ∷ [])) ∙ (length-append (text_of front) (text_of (t ∷ [])) ∙ ap (λ xs. length (text_of front) + length xs) (append-nil (bytes_of t))) in
     subst (λ x. HavePlacesAt x (positions_from (length (text_of front) + length (bytes_of t)) ts)) (append_assoc front (t ∷ []) ts)
     (subst (λ n. HavePlacesAt ((front ++ t ∷ []) ++ ts) (positions_from n ts)) more h)
 
--- a place begins at each position of the tokens behind a front
+-- a place begins at each position of the tokens after a front
 pub positions_have_places : (front ts : List Token) →
     HavePlacesAt (front ++ ts) (positions_from (length (text_of front)) ts)
 positions_have_places front [] = tt
 positions_have_places front (Name name ∷ ts) =
-    ((front, Name name, ts, refl, refl, tt), behind front (Name name) ts (positions_have_places (front ++ Name name ∷ []) ts))
+    ((front, Name name, ts, refl, refl, tt), HavePlacesAt-after_front front (Name name) ts (positions_have_places (front ++ Name name ∷ []) ts))
 positions_have_places front (Mark ∷ ts) =
-    ((front, Mark, ts, refl, refl, tt), behind front Mark ts (positions_have_places (front ++ Mark ∷ []) ts))
-positions_have_places front (t ∷ ts) = behind front t ts (positions_have_places (front ++ t ∷ []) ts)
+    ((front, Mark, ts, refl, refl, tt), HavePlacesAt-after_front front Mark ts (positions_have_places (front ++ Mark ∷ []) ts))
+positions_have_places front (t ∷ ts) = HavePlacesAt-after_front front t ts (positions_have_places (front ++ t ∷ []) ts)

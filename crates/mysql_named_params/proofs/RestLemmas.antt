@@ -1,4 +1,4 @@
--- A token that is no place stays one where places behind it give way to texts that open nothing.
+-- A token that is no place stays one where places after it give way to texts that open nothing.
 use Rattle.std.proofs.Common.{◌≡◌, ◌⊎◌, ◌++◌, ◌==◌, ◌&&◌, not, ℕ, Bool, true, false, cond, List, [], ◌∷◌, Option, Some, None, inl, inr, refl, true≢false, sym, ap, ◌∙◌}
 use Rattle.mysql_named_params.specs.Bytes.{is_white_space, is_start_byte, is_string_quote, is_extension, begins, asterisk, backquote, colon, dash, hash, newline, question_mark, slash, IsUpTo, Lacks, up_to_word, up_to_end}
 use Rattle.mysql_named_params.specs.Tokens.{Token, IsToken, IsStringTail, closed_string, open_string, open_in_escape, QuotedString, QuotedIdentifier, HashComment, DashComment, BlockComment, Name, Mark, Plain}
@@ -12,7 +12,7 @@ use Rattle.mysql_named_params.proofs.PlainLemmas.{plain_none}
 abbrev pub is_gap : ℕ → Bool
 is_gap w = is_white_space w && not (w == newline)
 
--- a text that, behind a byte that is plain before a place, opens no comment and no name with it
+-- a text that, after a byte that is plain before a place, opens no comment and no name with it
 pub record OpensNothing (text : List ℕ) : Type 0 where
   pub no_line : opens_dash_comment text ≡ false
   pub no_gap : begins is_gap text ≡ false
@@ -44,7 +44,7 @@ and_false : (a b : Bool) → b ≡ false → (a && b) ≡ false
 and_false true b e = e
 and_false false b e = refl
 
--- a dash or slash, a byte, and the text behind them
+-- a dash or slash, a byte, and the text after them
 dash_second : (b : ℕ) (xs : List ℕ) → begins is_gap xs ≡ false → opens_dash_comment (b ∷ xs) ≡ false
 dash_second b [] e = refl
 dash_second b (w ∷ bs) e = and_false (b == dash) _ e

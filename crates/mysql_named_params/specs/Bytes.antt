@@ -94,7 +94,7 @@ is_name_byte b = is_start_byte b || is_digit b
 abbrev pub is_string_quote : ℕ → Bool
 is_string_quote b = b == single_quote || b == double_quote
 
--- a byte behind `/*` that makes it no comment: what follows is executed, or a hint
+-- a byte after `/*` that makes it no comment: what follows is executed, or a hint
 abbrev pub is_extension : ℕ → Bool
 is_extension b = b == exclamation_mark || b == plus
 
@@ -107,7 +107,7 @@ begins test (b ∷ bs) = test b
 abbrev pub Lacks : List ℕ → List ℕ → Type 0
 Lacks word bytes = (front back : List ℕ) → front ++ (word ++ back) ≢ bytes
 
--- where the word stands in the bytes, nothing stands behind it
+-- where the word stands in the bytes, nothing stands after it
 abbrev pub HoldsOnlyAtEnd : List ℕ → List ℕ → Type 0
 HoldsOnlyAtEnd word bytes = (front back : List ℕ) → front ++ (word ++ back) ≡ bytes → back ≡ []
 

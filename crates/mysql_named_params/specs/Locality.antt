@@ -4,7 +4,7 @@ use Rattle.mysql_sql_text.specs.StringUnits.{is_escape, AreUnits}
 use Rattle.mysql_named_params.specs.Bytes.{asterisk, backquote, colon, dash, newline, slash, Lacks}
 use Rattle.mysql_named_params.specs.Tokens.{Token, QuotedString, QuotedIdentifier, HashComment, DashComment, BlockComment, Name, Plain}
 
--- At how many of the bytes behind it a token looks: a name at one; as plain bytes `-` and `/` at
+-- At how many of the bytes after it a token looks: a name at one; as plain bytes `-` and `/` at
 -- two and `:` at one; every other token at none.
 abbrev pub looks_at : Token → ℕ
 looks_at (Name name) = 1

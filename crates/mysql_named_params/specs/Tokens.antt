@@ -43,7 +43,7 @@ pub data IsStringTail (mode : Bool) (quote : ℕ) (tail rest : List ℕ) : Type 
       AreUnits mode quote body → body ++ quote ∷ [] ≡ tail → IsStringTail mode quote tail rest
   -- units to the end of the query
   open_string : AreUnits mode quote tail → rest ≡ [] → IsStringTail mode quote tail rest
-  -- the same, and then an escape with nothing behind it
+  -- the same, and then an escape with nothing after it
   open_in_escape : (body : List ℕ) (b : ℕ) →
       AreUnits mode quote body → IsTrue (is_escape mode b) → body ++ b ∷ [] ≡ tail → rest ≡ [] →
       IsStringTail mode quote tail rest
@@ -82,7 +82,7 @@ text_then rest (t ∷ ts) = bytes_of t ++ text_then rest ts
 abbrev pub text_of : List Token → List ℕ
 text_of = text_then []
 
--- each is a token before the text of those behind it, and then a rest
+-- each is a token before the text of those after it, and then a rest
 abbrev pub AreTokensBefore : Bool → List ℕ → List Token → Type 0
 AreTokensBefore mode rest [] = ⊤
 AreTokensBefore mode rest (t ∷ ts) =

@@ -55,7 +55,7 @@ fn len_up_to(text: &[u8], word: &[u8]) -> usize
     text.len()
 }
 
-/// How many bytes of a string there are behind its opening quote.
+/// How many bytes of a string there are after its opening quote.
 fn string_len(text: &[u8], quote: u8, no_backslash_escape: bool) -> usize
     requires { IsTrue (is_string_quote quote) }
     ensures in_range { result ≤ length text.now }

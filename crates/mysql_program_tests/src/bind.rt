@@ -51,7 +51,7 @@ const ANSWERS: &[(&[&str], &[u8], &[u8])] = &[
         b"SELECT ?, ?, ?, ?",
         b"SELECT -1, 2, 'u:3', NULL",
     ),
-    // A query's names have lower-case letters, digits behind the first byte, and `_`.
+    // A query's names have lower-case letters, digits after the first byte, and `_`.
     (&["bind", "_id=i:1", "id_2=i:2"], b":_id = :id_2", b"1 = 2"),
     // A name with a capital first is none: its bytes stay.
     (&["bind", "id=i:1"], b":Id = :id", b":Id = 1"),

@@ -18,7 +18,7 @@ fn up_to(text: &[u8], word: &[u8]) -> usize {
     }
 }
 
-/// How many bytes of a string stand behind its opening quote.
+/// How many bytes of a string stand after its opening quote.
 fn string(text: &[u8], quote: u8) -> usize {
     let mut at = 0usize;
     for _ in 0..text.len() {

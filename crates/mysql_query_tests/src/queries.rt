@@ -7,7 +7,7 @@ use std::fmt::Display;
 use std::process::Abort;
 use std::test::Fail;
 
-/// The query with marks, and then each name behind a newline; or `mixed`.
+/// The query with marks, and then each name after a newline; or `mixed`.
 fn shown(alloc: Global, query: &[u8]) -> Result<Vec<u8>, AllocError> {
     let mut text = Vec::new(alloc);
     match ParsedNamedParams::parse(alloc, query) {
@@ -24,7 +24,7 @@ fn shown(alloc: Global, query: &[u8]) -> Result<Vec<u8>, AllocError> {
     Ok(text)
 }
 
-// Queries, and each with its marks and the names behind newlines, or `mixed`.
+// Queries, and each with its marks and the names after newlines, or `mixed`.
 const QUERIES: &[(&str, &str)] = &[
     ("", ""),
     (":a_Aa:b", "?Aa?\na_\nb"),
@@ -70,7 +70,7 @@ const QUERIES: &[(&str, &str)] = &[
     ("*/*:a", "*/*:a"),
     ("`a\\`:b", "`a\\`?\nb"),
     (":a`:b`:c", "?`:b`?\na\nc"),
-    // What stands right behind a name or a lone colon is read as anywhere.
+    // What stands right after a name or a lone colon is read as anywhere.
     (":a:b", "??\na\nb"),
     (":a#:b\n:c", "?#:b\n?\na\nc"),
     (":a-- :b\n:c", "?-- :b\n?\na\nc"),

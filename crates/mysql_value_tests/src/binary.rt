@@ -10,7 +10,7 @@ use std::alloc::Global;
 use std::process::Abort;
 use std::test::Fail;
 
-// The value is written behind what stands in the buffer, as the form, whose length it knows.
+// The value is written after what stands in the buffer, as the form, whose length it knows.
 fn is_written(rt: &impl Abort, alloc: Global, value: &Value, form: &[u8]) -> Result<(), Fail> {
     let mut buf = vec![in alloc; 7]?;
     value.serialize(&mut buf)?;

@@ -113,7 +113,7 @@ fn read_null_and_floats(rt: HostRuntime) -> Result<(), Fail> {
     reads(&rt, alloc, double, input, b"*", &least)
 }
 
-// Dates, and behind them the byte 42.
+// Dates, and after them the byte 42.
 const DATES: &[(ColumnType, &[u8], DateFields)] = &[
     (
         ColumnType::MYSQL_TYPE_DATETIME,
@@ -142,7 +142,7 @@ const DATES: &[(ColumnType, &[u8], DateFields)] = &[
     ),
 ];
 
-// Times, and behind them the byte 42.
+// Times, and after them the byte 42.
 const TIMES: &[(ColumnType, &[u8], TimeFields)] = &[
     (
         ColumnType::MYSQL_TYPE_TIME,
@@ -262,7 +262,7 @@ fn types_that_are_read_as_strings(rt: HostRuntime) -> Result<(), Fail> {
     Ok(())
 }
 
-// Strings, and behind them the byte 42.
+// Strings, and after them the byte 42.
 const TEXTS: &[(ColumnType, &[u8], &[u8])] = &[
     (ColumnType::MYSQL_TYPE_BLOB, &[0, 0x2A], b""),
     (

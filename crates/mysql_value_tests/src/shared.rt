@@ -54,7 +54,7 @@ pub(crate) fn string_and_form(
     Ok((text, form))
 }
 
-// The column reads the value at the front of the bytes, and leaves what is behind it.
+// The column reads the value at the front of the bytes, and leaves what is after it.
 pub(crate) fn reads(
     rt: &impl Abort,
     alloc: Global,

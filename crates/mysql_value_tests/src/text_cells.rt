@@ -89,7 +89,7 @@ fn refused_rows_leave_the_buffer(rt: HostRuntime) {
     refuses(&rt, alloc, &[0xFB, 0xFF, 1], 3, error);
 }
 
-// A cell, and behind it the byte 9.
+// A cell, and after it the byte 9.
 const CELLS: &[(&[u8], Option<&[u8]>)] = &[
     (&[0xFB, 9], None),
     (&[0, 9], Some(b"")),

@@ -81,7 +81,7 @@ impl<'de> MyDeserialize<'de> for Name {
     }
 }
 
-// Two values, written one behind the other.
+// Two values, written one after the other.
 fn written<T: MySerialize>(alloc: Global, values: &[T; 2]) -> Result<Vec<u8>, AllocError> {
     let mut buf = Vec::new(alloc);
     values[0].serialize(&mut buf)?;
@@ -89,7 +89,7 @@ fn written<T: MySerialize>(alloc: Global, values: &[T; 2]) -> Result<Vec<u8>, Al
     Ok(buf)
 }
 
-// Two values, read one behind the other.
+// Two values, read one after the other.
 fn read<'de, T: MyDeserialize<'de, Ctx = ()> + Drop>(
     alloc: Global,
     buf: &mut ParseBuf<'de>,

@@ -1,6 +1,6 @@
 //! Which bytes may stand beside a place.
 ghost use Rattle.std.specs.Prelude.{◌≡◌};
-ghost use Rattle.mysql_binding.specs.StandsAlone.{may_stand_before, may_stand_behind, none_or_first, none_or_last, stands_alone};
+ghost use Rattle.mysql_binding.specs.StandsAlone.{may_stand_before, may_stand_after, none_or_first, none_or_last, stands_alone};
 
 fn may_stand_before(byte: u8) -> bool
     ensures { result ≡ may_stand_before byte }
@@ -8,14 +8,14 @@ fn may_stand_before(byte: u8) -> bool
     byte.is_ascii_whitespace() || b"(,=<>+*%&|^~".contains(&byte)
 }
 
-fn may_stand_behind(byte: u8) -> bool
-    ensures { result ≡ may_stand_behind byte }
+fn may_stand_after(byte: u8) -> bool
+    ensures { result ≡ may_stand_after byte }
 {
     byte.is_ascii_whitespace() || b"),;=<>+-*/%&|^!".contains(&byte)
 }
 
-/// Whether a place may stand behind this text.
-fn stands_behind(before: &[u8]) -> bool
+/// Whether a place may stand after this text.
+fn allows_place_after(before: &[u8]) -> bool
     ensures { result ≡ none_or_last may_stand_before before.now }
 {
     match before.last() {
@@ -25,18 +25,18 @@ fn stands_behind(before: &[u8]) -> bool
 }
 
 /// Whether a place may stand before this text.
-fn stands_before(behind: &[u8]) -> bool
-    ensures { result ≡ none_or_first may_stand_behind behind.now }
+fn allows_place_before(after: &[u8]) -> bool
+    ensures { result ≡ none_or_first may_stand_after after.now }
 {
-    match behind.first() {
-        Some(byte) => may_stand_behind(*byte),
+    match after.first() {
+        Some(byte) => may_stand_after(*byte),
         None => true,
     }
 }
 
 /// Whether a place between these two texts stands alone.
-pub(super) fn stands_alone(before: &[u8], behind: &[u8]) -> bool
-    ensures { result ≡ stands_alone before.now behind.now }
+pub(super) fn stands_alone(before: &[u8], after: &[u8]) -> bool
+    ensures { result ≡ stands_alone before.now after.now }
 {
-    stands_behind(before) && stands_before(behind)
+    allows_place_after(before) && allows_place_before(after)
 }
