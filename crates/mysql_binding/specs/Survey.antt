@@ -5,7 +5,7 @@ use Rattle.mysql_named_params.specs.Places.{names, marks}
 use Rattle.mysql_binding.specs.StandsAlone.{first_not_alone}
 use Rattle.mysql_binding.specs.declared.binding.survey.Survey.{Survey}
 
--- the names and marks of these tokens are so many, and this is the first that doesn't stand alone
+-- these tokens have this many names and marks, and this is the first place that doesn't stand alone
 abbrev pub IsSurvey : Survey → List Token → Type 0
 IsSurvey survey ts =
     (survey.names ≡ length (names ts)) × (survey.marks ≡ marks ts)

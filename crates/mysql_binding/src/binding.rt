@@ -61,7 +61,7 @@ pub fn bind_text(alloc: Global, query: &[u8], params: Params) -> Result<Vec<u8>,
     }
 }
 
-// The values that are given to the places of a query with so many names, and no marks beside them.
+// The values that are given to the places of a query with this many names, and no marks beside them.
 // The names are dropped before the text is written.
 fn values_of_places(
     alloc: Global,

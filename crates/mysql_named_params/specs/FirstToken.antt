@@ -28,7 +28,7 @@ pub record IsNameFront (front rest : List ℕ) : Type 0 where
   pub each : IsTrue (list_all is_name_byte front)
   pub ends : IsFalse (begins is_name_byte rest)
 
--- the first bytes of the text, so many, are a token of this kind before what follows them
+-- the first `len` bytes of the text are a token of this kind before what follows them
 pub record IsFirstToken (mode : Bool) (text : List ℕ) (kind : TokenKind) (len : ℕ) : Type 0 where
   pub token : Token
   pub bytes : bytes_of token ++ drop len text ≡ text

@@ -39,7 +39,7 @@ IsPlace (Name name) = ⊤
 IsPlace Mark = ⊤
 IsPlace t = ⊥
 
--- one of the tokens is a place, and the bytes of those before it are so many
+-- one of the tokens is a place, and those before it have this many bytes
 abbrev pub HasPlaceAt : List Token → ℕ → Type 0
 HasPlaceAt ts at = (front : List Token) × (t : Token) × (back : List Token)
     × (front ++ t ∷ back ≡ ts) × (length (text_of front) ≡ at) × IsPlace t

@@ -132,7 +132,7 @@ impl<'a> ParsedNamedParams<'a> {
     }
 }
 
-// The query with `?` in place of each name, and its names, of which there are so many. It has no
+// The query with `?` in place of each name, and its names, of which there are `count`. It has no
 // marks.
 fn renamed_query<'a>(
     alloc: Global,

@@ -8,7 +8,7 @@ ghost use Rattle.mysql_binding.specs.FirstCause.{mixed_cause};
 use mysql_named_params::places::first_place;
 use std::alloc::{AllocError, Global};
 
-/// The names of a query that has so many, and no marks beside them.
+// The names of a query that has `count` of them, and no marks beside them.
 pub(super) fn owned_names(
     alloc: Global,
     query: &[u8],
