@@ -1,8 +1,9 @@
 -- The pieces of a query with the literals of values between them keep what is promised.
-use Rattle.std.specs.Prelude.{Ok, Err, option_map, IsSomeAnd}
+use Rattle.std.specs.Prelude.{Result, Ok, Err, option_map, IsSomeAnd}
 use Rattle.std.specs.Option.{option_or}
-use Rattle.std.proofs.Common.{◌≡◌, inr, Bool, ℕ, ◌+◌, ◌<◌, List, [], ◌∷◌, length, map, refl, sym, ap, ◌∙◌, arith, Option, Some, None}
+use Rattle.std.proofs.Common.{◌≡◌, ◌⊎◌, inl, inr, Bool, ℕ, ◌+◌, ◌<◌, List, [], ◌∷◌, length, map, refl, sym, ap, ◌∙◌, arith, Option, Some, None}
 use Rattle.mysql_values.specs.declared.value.Value.{Value}
+use Rattle.mysql_values.specs.Answer.{IsExpectedRefusal}
 use Rattle.mysql_sql_text.specs.ReadLiteral.{Content}
 use Rattle.mysql_values.specs.Content.{content_of}
 use Rattle.mysql_sql_text.specs.LiteralEnd.{ReadsBefore, continues_literal}
@@ -104,6 +105,13 @@ unmixed_survey mode query survey o never =
     (λ ts is h. (h.0, mixed_none_of ts survey.names survey.marks h.0 h.1 never)) o
 
 -- a lookup that refuses
+-- an error is no refusal, or the one that is expected
+pub no_refusal_or_expected : {Seen Refusal : Type 0} (expected : Result Seen Refusal) (Takes : Type 0)
+    (refusal : Option Refusal) → IsExpectedRefusal expected Takes refusal →
+    (refusal ≡ None) ⊎ ((why : Refusal) × (expected ≡ Err why) × (refusal ≡ Some why))
+no_refusal_or_expected expected Takes None e = inl refl
+no_refusal_or_expected expected Takes (Some why) e = inr (why, e, refl)
+
 pub refused_lookup : (mode : Bool) (query : List ℕ) (given : Given) (count : ℕ) (ns : List (List ℕ)) (error : BindError) →
     OnTokens mode query (λ ts. (count ≡ length (names ts)) × (mixed_cause ts ≡ None)) →
     OnTokens mode query (λ ts. ns ≡ names ts) →

@@ -4,13 +4,13 @@ use Rattle.mysql_params_core.specs.Given.{given}
 use Rattle.mysql_params_core.specs.Lookup.{lookup}
 use Rattle.mysql_params_core.specs.Names.{names_of}
 use Rattle.mysql_binding.specs.FirstCause.{refused_params}
-use Rattle.mysql_binding.proofs.BoundTextLemmas.{refused_lookup}
+use Rattle.mysql_binding.proofs.BoundTextLemmas.{no_refusal_or_expected, refused_lookup}
 use Rattle.mysql_binding.proofs.binding.values_of_places.Goals as goal
 
 pub returns-clause-refused : goal.returns-clause-refused
 returns-clause-refused c =
     let params = given c.args.params in
-    elim c.in-Err-into_values.ensures.values [
+    elim (no_refusal_or_expected _ _ _ c.in-Err-into_values.ensures.values) [
       | inl e ↦ (c.requires.0, c.requires.1, inl (c.bind_error_of.ensures.memory e))
       | inr r ↦
           refused_lookup _ _ params _ (names_of c.in-Ok.names.items) c.bind_error_of.result c.requires c.in-Ok.ensures
