@@ -5,7 +5,7 @@ use Rattle.mysql_binding.specs.FirstCause.{Cause, mixed_query, refused_params, m
 use Rattle.mysql_binding.specs.declared.bind_error.BindError.{BindError}
 use Rattle.mysql_binding.specs.declared.bind_error.BindError.TheVariants.{Mixed, Params, MarkCount, NotAlone, Float, Memory}
 
--- the cause that the error is; none for out of memory, also of a lookup
+-- the cause that the error is; none for out of memory, also that of a lookup
 abbrev pub cause_of : BindError → Option Cause
 cause_of Mixed = Some mixed_query
 cause_of (Params error) = option_map refused_params (lookup_refusal error)
@@ -14,7 +14,8 @@ cause_of (NotAlone place at) = Some (not_alone place at)
 cause_of (Float place) = Some (float_value place)
 cause_of (Memory error) = None
 
--- the error is this cause, and there is one; or it is out of memory, and never that of a lookup
+-- either there is a first cause and the error is it, or the error is `Memory`: out of memory in the
+-- lookup is `Memory` too, and never `Params`
 abbrev pub IsRefusal : Option Cause → BindError → Type 0
 IsRefusal cause error = (error ≡ Memory alloc_error)
     ⊎ ((why : Cause) × (cause ≡ Some why) × (cause_of error ≡ Some why))

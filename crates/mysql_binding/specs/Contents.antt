@@ -4,7 +4,7 @@ use Rattle.std.specs.Prelude.{◌≡◌, ℕ, Bool, List, [], ◌∷◌, ◌++�
 use Rattle.mysql_sql_text.specs.ReadLiteral.{Content, after, read_literal}
 use Rattle.mysql_binding.specs.Pieces.{joined_text}
 
--- the contents of a text that is literals, each with the next of these pieces after it
+-- the contents of a text of this form: a literal, the first piece, a literal, the second piece, ..
 abbrev pub contents_before : Bool → List (List ℕ) → List ℕ → Option (List Content)
 contents_before mode [] [] = Some []
 contents_before mode [] (b ∷ text) = None

@@ -38,7 +38,7 @@ count_cause ts values =
     then Some (mark_count (marks ts) (length values))
     else None
 
--- the first place that doesn't stand alone
+-- the cause that a place doesn't stand alone: the first such
 abbrev pub alone_cause : List Token → Option Cause
 alone_cause ts = option_map (λ found. not_alone found.0 found.1) (first_not_alone ts)
 
@@ -52,12 +52,12 @@ first_float_from place (value ∷ values) =
 abbrev pub first_float : List Value → Option ℕ
 first_float = first_float_from 0
 
--- the first value that is a float
+-- the cause that a value is a float: the first such
 abbrev pub float_cause : List Value → Option Cause
 float_cause values = option_map float_value (first_float values)
 
--- the first cause where the values for the names are looked up: the number of marks, then the
--- places, then the values
+-- the first of the causes after a lookup that gave values: the number of marks, then the places,
+-- then the values
 abbrev pub later_cause : List Token → List Value → Option Cause
 later_cause ts values =
     option_or (count_cause ts values) (option_or (alone_cause ts) (float_cause values))

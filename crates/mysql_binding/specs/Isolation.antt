@@ -1,5 +1,8 @@
 -- What binding promises of the text that it gives: each value stands in one literal, and nothing
--- else of the query changes. The laws on such a text stand in src/laws.rt.
+-- else of the query changes. `bind_text` promises this record in the mode with backslashes, or an
+-- error that is the first cause or out of memory (BindErrors.antt). Of such a text the laws
+-- `no_place_is_left`, `bound_again_is_the_same`, `by_position_is_the_same` and
+-- `equal_texts_say_the_same` of src/laws.rt hold.
 use Rattle.std.specs.Prelude.{◌≡◌, ℕ, Bool, List, map, Some, None, Ok}
 use Rattle.mysql_values.specs.declared.value.Value.{Value}
 use Rattle.mysql_values.specs.Content.{content_of}
@@ -20,7 +23,8 @@ pub record IsBoundText (mode : Bool) (ts : List Token) (given : Given) (text : L
   -- THE VALUES
   -- There is no cause to refuse,
   pub no_cause : first_cause ts given ≡ None
-  -- and these are the values that are given to the places, in order.
+  -- and these are the values that are given to the places, in order: those of the names, or, without
+  -- names, the positional ones.
   pub values : List Value
   pub looked_up : lookup given (names ts) ≡ Ok values
   -- WHAT IS WRITTEN
@@ -44,5 +48,5 @@ pub record IsBoundText (mode : Bool) (ts : List Token) (given : Given) (text : L
   pub says : map content_of values ≡ map Some said
   -- Each literal, followed by the text after it, reads as this and leaves exactly that text,
   pub in_place : AreReadInPlace mode (pieces ts) literals said
-  -- and between the pieces of the query the text reads as all of it.
+  -- and read between the pieces of the query, the text gives exactly these contents.
   pub read_back : contents mode (pieces ts) text ≡ Some said

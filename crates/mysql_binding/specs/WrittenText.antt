@@ -1,4 +1,5 @@
--- A text that is written over the places of a query: a literal of each value in each place.
+-- A text that is written over the places of a query, a literal of each value in each place: the
+-- contract of the private `written_text`, and no part of what is promised to users.
 use Rattle.std.specs.Prelude.{◌≡◌, ℕ, Bool, List, Some}
 use Rattle.mysql_values.specs.declared.value.Value.{Value}
 use Rattle.mysql_named_params.specs.Tokens.{Token}

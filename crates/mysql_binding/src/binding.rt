@@ -29,14 +29,14 @@ use std::alloc::Global;
 /// The query with the literal of a value in the place of each name and mark: the names' own, or the
 /// positional ones in their order. Nothing else of the query changes.
 ///
-/// The query is read in the mode in which a backslash escapes, as [`ParsedNamedParams`] reads it,
+/// The query is read in the mode in which a backslash escapes, as [`ParsedNamedParams`](mysql_named_params::named_params::ParsedNamedParams) reads it,
 /// and the literals are for a server in that mode. The first of these causes refuses it: names and
 /// marks in one query; what [`Params::into_values`] refuses for its names; without names, marks
 /// that are not as many as the values; a place that doesn't stand alone; a float. A place stands
 /// alone where the byte before it is none, white space or one of `(,=<>+*%&|^~`, and the byte
 /// after it is none, white space or one of `),;=<>+-*/%&|^!`. The parameters are consumed, also
 /// where the call refuses.
-// A query has one token list (`laws::one_token_list`), so the clauses speak of the same `ts`.
+// A query has one token list (`mysql_named_params::laws::one_token_list`), so the clauses speak of the same `ts`.
 pub fn bind_text(alloc: Global, query: &[u8], params: Params) -> Result<Vec<u8>, BindError>
     ensures bound { OnTokens with_backslashes query.now (λ ts. IfOk result (λ text.
         IsBoundText with_backslashes ts (given params) text.items)) }
@@ -97,7 +97,7 @@ fn bind_error_of(error: ParamsError) -> BindError
     }
 }
 
-/// The first cause to refuse where the values are looked up.
+// The first of the causes after the lookup: the marks, the places, the floats.
 fn later_error(found: Survey, values: &[Value]) -> Option<BindError>
     ensures { (ts : List Token) → IsSurvey found ts →
         option_map cause_of result ≡ option_map Some (later_cause ts values.now) }

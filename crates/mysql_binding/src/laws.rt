@@ -18,11 +18,13 @@ pub fn isolation()
     ensures tokens { (mode : Bool) (query text : List ℕ) (ts : List Token)
         (literals : List (List ℕ)) (lists : List (List Token)) →
         IsTokens mode query ts → AreLiterals mode literals → AreTokensOf mode literals lists →
-        joined_text (pieces ts) literals ≡ Some text → IsTokens mode text (with_literal_tokens ts lists) }
+        joined_text (pieces ts) literals ≡ Some text →
+        IsTokens mode text (with_literal_tokens ts lists) }
     ensures no_place { (mode : Bool) (text : List ℕ) (ts : List Token)
         (literals : List (List ℕ)) (lists : List (List Token)) →
         AreLiterals mode literals → AreTokensOf mode literals lists →
-        joined_text (pieces ts) literals ≡ Some text → place_count (with_literal_tokens ts lists) ≡ 0 }
+        joined_text (pieces ts) literals ≡ Some text →
+        place_count (with_literal_tokens ts lists) ≡ 0 }
 {}
 
 /// No name and no mark is left in a bound text.

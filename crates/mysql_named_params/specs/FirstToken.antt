@@ -1,4 +1,4 @@
--- The token at the front of a text, as `first_token` finds it, which is lent to `mysql_params`.
+-- The token at the front of a text, as `first_token` finds it, by which `first_place` walks.
 use Rattle.std.specs.Prelude.{◌≡◌, ℕ, IsTrue, IsFalse, List, [], ◌∷◌, ◌++◌, length, drop, Bool, false, not, ◌&&◌, ◌==◌}
 use Rattle.std.specs.List.{list_all}
 use Rattle.mysql_named_params.specs.Bytes.{asterisk, dash, newline, is_white_space, is_name_byte, is_extension, begins}

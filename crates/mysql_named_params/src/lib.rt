@@ -1,7 +1,8 @@
 //! The tokens of MySQL queries, and their named and positional parameters.
 //!
 //! A query is bytes. [`named_params`] finds the names and marks outside its strings, quoted
-//! identifiers and comments. The crate above hands all of this on.
+//! identifiers and comments. `mysql_params` hands on [`named_params`] and the
+//! laws.
 #![tactic(auto)]
 
 pub mod laws;

@@ -1,5 +1,5 @@
-//! The first name or mark of a text, and how many a query has. `mysql_params` binds values by
-//! these; no user of it needs them.
+//! The first name or mark of a text, and how many a query has. `mysql_binding` goes from
+//! place to place by these; no user needs them.
 ghost use Rattle.std.specs.Prelude.{◌≡◌, ◌+◌, ◌≤◌, ◌<◌, None, length, IfSome};
 ghost use Rattle.mysql_named_params.specs.Tokens.{OnTokens};
 ghost use Rattle.mysql_named_params.specs.Places.{names, marks, place_count};

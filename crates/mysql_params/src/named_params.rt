@@ -1,2 +1,2 @@
-//! Queries with named parameters: all of `mysql_named_params`, handed on by name.
+//! Queries with named parameters: handed on by name from `mysql_named_params`.
 pub use mysql_named_params::named_params::{MixedParamsError, NamedParamsError, ParsedNamedParams};

@@ -160,7 +160,8 @@ fn pairs_of_words<'a>(
 
 // Name and value of a word.
 fn pair_of_word<'a>(alloc: Global, word: &'a str) -> Result<(&'a [u8], Value), WordsError>
-    ensures { IsAnswer seen_pair words_refusal (ok_or (pair_of_word word.now) usage) ⊤ result }
+    ensures { IsAnswer seen_pair words_refusal
+        (ok_or (pair_of_word word.now) usage) ⊤ result }
 {
     match parts_of_word(word) {
         Some((name, text)) => match value_of_text(alloc, text.as_bytes()) {
@@ -217,7 +218,8 @@ fn value_of_null(text: &[u8]) -> Result<Value, WordsError>
 
 // The `Int` of a decimal text.
 fn int_of_text(alloc: Global, text: &[u8]) -> Result<Value, WordsError>
-    ensures { IsAnswer (λ value. value) words_refusal (ok_or (int_of_text text.now) usage) ⊤ result }
+    ensures { IsAnswer (λ value. value) words_refusal
+        (ok_or (int_of_text text.now) usage) ⊤ result }
 {
     match from_value_opt::<i64>(bytes_value(alloc, text)?) {
         Ok(number) => Ok(Value::Int(number)),
@@ -227,7 +229,8 @@ fn int_of_text(alloc: Global, text: &[u8]) -> Result<Value, WordsError>
 
 // The `UInt` of a decimal text.
 fn uint_of_text(alloc: Global, text: &[u8]) -> Result<Value, WordsError>
-    ensures { IsAnswer (λ value. value) words_refusal (ok_or (uint_of_text text.now) usage) ⊤ result }
+    ensures { IsAnswer (λ value. value) words_refusal
+        (ok_or (uint_of_text text.now) usage) ⊤ result }
 {
     match from_value_opt::<u64>(bytes_value(alloc, text)?) {
         Ok(number) => Ok(Value::UInt(number)),

@@ -101,7 +101,7 @@ fn names_of_queries(rt: HostRuntime) -> Result<(), Fail> {
     Ok(())
 }
 
-// Behind `--`: a space, a tab, a form feed and a carriage return open a comment; a vertical tab,
+// After `--`: a space, a tab, a form feed and a carriage return open a comment; a vertical tab,
 // other control bytes, a newline and the end do not.
 const COMMENTS: &[(&[u8], &[u8])] = &[
     (b"-- :a", b"-- :a"),

@@ -10,7 +10,7 @@ abbrev pub total_microseconds : ℕ → ℕ → ℕ → ℕ → ℕ → ℕ
 total_microseconds days hours minutes seconds microseconds =
     (((days * 24 + hours) * 60 + minutes) * 60 + seconds) * 1000000 + microseconds
 
--- so many digits, of a number up to the greatest
+-- `width` digits, of a number up to the greatest
 pub record IsField (width greatest : ℕ) (digits : List ℕ) (number : ℕ) : Type 0 where
   pub count : length digits ≡ width
   pub value : value_of_digits digits ≡ Some number

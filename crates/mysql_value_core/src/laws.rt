@@ -19,6 +19,7 @@ use crate::value::{
 pub use literals::{
     as_sql_error_equality, floats_have_no_literal, literal_reads_back, literal_shape,
 };
+pub use mysql_sql_text::laws::{escapes_read, numbers_read};
 use mysql_wire_part::MyDeserialize;
 use std::alloc::Global;
 use std::cmp::Ordering;
