@@ -1,12 +1,14 @@
 -- A literal, known by its shape alone: it opens nothing with the byte before it, and its tokens, none of
 -- them a place, end where it ends, whatever follows.
-use Rattle.std.proofs.Common.{◌≡◌, ◌++◌, ◌==◌, ◌&&◌, ◌||◌, nat_le, ℕ, Bool, true, false, List, [], ◌∷◌, None, arith, inl, inr, refl, ap, ◌∙◌, sym, append-nil, append_assoc, true≢false}
+use Rattle.std.proofs.Common.{◌≡◌, ◌++◌, ◌==◌, ◌&&◌, ◌||◌, ℕ, Bool, true, false, List, [], ◌∷◌, None, arith, inl, inr, refl, ap, ◌∙◌, sym, append-nil, append_assoc, true≢false}
 use Rattle.std.specs.Char.{is_ascii_digit}
 use Rattle.std.specs.List.{list_all}
+use Rattle.std.specs.Str.{byte}
 use Rattle.std.proofs.lemmas.Bool.{and_parts, and_from, cases_Bool, eqb-true}
 use Rattle.std.proofs.lemmas.Bool.Decides.{nat_tests}
 use Rattle.mysql_sql_text.specs.StringUnits.{AreUnits}
 use Rattle.mysql_sql_text.specs.ReadLiteral.{is_hexadecimal_digit}
+use Rattle.mysql_sql_text.specs.LiteralEnd.{is_letter}
 use Rattle.mysql_sql_text.specs.LiteralShape.{AreDigits, AreHexadecimalPairs, IsClosedString, closed_string, AreClosedStrings, one_string, more_strings, IsQuoted, IsLiteral, null_literal, natural_literal, negative_literal, hexadecimal_literal, quoted_literal}
 use Rattle.mysql_named_params.specs.Bytes.{asterisk, backquote, colon, dash, double_quote, hash, question_mark, single_quote, slash}
 use Rattle.mysql_named_params.specs.Tokens.{Token, IsToken, text_of, AreTokensBefore, QuotedString, Plain}
@@ -19,7 +21,7 @@ use Rattle.mysql_named_params.proofs.RestLemmas.{OpensNothing}
 
 -- a digit or a letter
 abbrev pub is_alphanumeric : ℕ → Bool
-is_alphanumeric b = is_ascii_digit b || ((nat_le 65 b && nat_le b 90) || (nat_le 97 b && nat_le b 122))
+is_alphanumeric b = is_ascii_digit b || is_letter b
 
 -- this text is these tokens, whatever follows
 pub record IsCutBefore (mode : Bool) (text : List ℕ) (ts : List Token) : Type 0 where
@@ -154,7 +156,7 @@ IsLiteral-cut mode (quoted_literal literal h) = quoted_cut mode literal h
 
 -- a byte with which a literal other than a negative one begins
 abbrev first_byte : ℕ → Bool
-first_byte b = is_ascii_digit b || (b == single_quote || b == 78)
+first_byte b = is_ascii_digit b || (b == single_quote || b == byte "N")
 
 first_opens_nothing : (b : ℕ) (rest : List ℕ) → first_byte b ≡ true → OpensNothing (b ∷ rest)
 first_opens_nothing b rest h =
@@ -194,8 +196,8 @@ quoted_opens_nothing true literal h rest = strings_open_nothing h rest
 
 pub IsLiteral-opens_nothing : (mode : Bool) {literal : List ℕ} → IsLiteral mode literal →
     (rest : List ℕ) → OpensNothing (literal ++ rest)
-IsLiteral-opens_nothing mode null_literal rest = first_opens_nothing 78 _ refl
+IsLiteral-opens_nothing mode null_literal rest = first_opens_nothing (byte "N") _ refl
 IsLiteral-opens_nothing mode (natural_literal digits h) rest = AreDigits-open_nothing digits rest h
 IsLiteral-opens_nothing mode (negative_literal digits h) rest = minus_opens_nothing digits rest h
-IsLiteral-opens_nothing mode (hexadecimal_literal pairs h) rest = first_opens_nothing 48 _ refl
+IsLiteral-opens_nothing mode (hexadecimal_literal pairs h) rest = first_opens_nothing (byte "0") _ refl
 IsLiteral-opens_nothing mode (quoted_literal literal h) rest = quoted_opens_nothing mode literal h rest

@@ -1,6 +1,7 @@
 -- Where a token ends, computed; and that a token before a rest ends there.
 use Rattle.std.proofs.Common.{◌≡◌, ◌≢◌, ℕ, suc, ◌+◌, ◌≤◌, Bool, true, false, cond, ◌==◌, ◌&&◌, List, [], ◌∷◌, ◌++◌, length, take, Option, Some, None, refl, sym, ap, ◌∙◌, subst, inl, inr, arith, append_assoc, append-nil, length-append, eq-eqb, ne_eqb, true≢false, take_at}
 use Rattle.std.specs.List.{list_all}
+use Rattle.std.specs.Str.{byte}
 use Rattle.std.proofs.lemmas.Bool.{cases_Bool, and_parts, or_cases, eqb-true}
 use Rattle.mysql_named_params.specs.Bytes.{asterisk, backquote, colon, dash, double_quote, hash, newline, question_mark, single_quote, slash, is_start_byte, is_name_byte, is_string_quote, begins, Lacks, HoldsOnlyAtEnd, IsUpTo, up_to_word, up_to_end}
 use Rattle.mysql_sql_text.specs.StringUnits.{is_escape}
@@ -121,8 +122,8 @@ up_to_is word bytes rest some (up_to_end lacks e) =
 pub quote_no_escape : (mode : Bool) (q : ℕ) → is_string_quote q ≡ true → is_escape mode q ≡ false
 quote_no_escape false q h =
     elim (or_cases (q == single_quote) (q == double_quote) h) [
-      | inl e ↦ ap (λ x. x == 92) (eqb-true q single_quote e)
-      | inr e ↦ ap (λ x. x == 92) (eqb-true q double_quote e)
+      | inl e ↦ ap (λ x. x == byte "\\") (eqb-true q single_quote e)
+      | inr e ↦ ap (λ x. x == byte "\\") (eqb-true q double_quote e)
     ]
 quote_no_escape true q h = refl
 
