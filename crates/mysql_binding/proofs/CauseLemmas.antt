@@ -14,7 +14,7 @@ use Rattle.mysql_named_params.proofs.ReparsedLemmas.{names-with_marks, marks-wit
 use Rattle.mysql_named_params.proofs.TokenListLemmas.{one_token_list}
 use Rattle.mysql_params_core.specs.Given.{Given, ValueMap, empty, named, positional}
 use Rattle.mysql_params_core.specs.Lookup.{lookup, values_at}
-use Rattle.mysql_binding.specs.FirstCause.{Cause, mixed_query, mark_count, not_alone, float_value, mixed_cause, counts_differ, count_cause, alone_cause, first_float, float_cause, later_cause, cause_after_lookup, first_cause}
+use Rattle.mysql_binding.specs.FirstCause.{Cause, mixed_query, mark_count, not_alone, float_value, mixed_cause, mark_count_differs, count_cause, not_alone_cause, first_float, float_cause, later_cause, cause_after_lookup, first_cause}
 use Rattle.mysql_binding.specs.StandsAlone.{first_not_alone}
 use Rattle.mysql_binding.specs.Survey.{IsSurvey}
 use Rattle.mysql_binding.specs.declared.binding.survey.Survey.{Survey}
@@ -81,30 +81,30 @@ mixed_none_of ts n k en ek never = mixed_none ts (λ both. never (omega (arith, 
 
 -- ---- the number of marks
 
-counts_same : (k v : ℕ) → k ≡ v → counts_differ 0 k v ≡ false
+counts_same : (k v : ℕ) → k ≡ v → mark_count_differs 0 k v ≡ false
 counts_same k v e = rw (eq-eqb k v e) refl
 
-same_counts : (k v : ℕ) → counts_differ 0 k v ≡ false → k ≡ v
+same_counts : (k v : ℕ) → mark_count_differs 0 k v ≡ false → k ≡ v
 same_counts k v e = elim (cases_Bool (k == v)) [ inl h ↦ eqb-true k v h | inr h ↦ absurd (apart h) ]
   where
     apart : (k == v) ≡ false → ⊥
     apart h =
-        let is : counts_differ 0 k v ≡ true = rw h refl in
+        let is : mark_count_differs 0 k v ≡ true = rw h refl in
         true≢false (sym is ∙ e)
 
 count_some : (ts : List Token) (values : List Value) →
-    counts_differ (length (names ts)) (marks ts) (length values) ≡ true →
+    mark_count_differs (length (names ts)) (marks ts) (length values) ≡ true →
     count_cause ts values ≡ Some (mark_count (marks ts) (length values))
 count_some ts values e = rw e refl
 
 count_none : (ts : List Token) (values : List Value) →
-    counts_differ (length (names ts)) (marks ts) (length values) ≡ false → count_cause ts values ≡ None
+    mark_count_differs (length (names ts)) (marks ts) (length values) ≡ false → count_cause ts values ≡ None
 count_none ts values e = rw e refl
 
 none_count : (ts : List Token) (values : List Value) → count_cause ts values ≡ None →
-    counts_differ (length (names ts)) (marks ts) (length values) ≡ false
+    mark_count_differs (length (names ts)) (marks ts) (length values) ≡ false
 none_count ts values e =
-    elim (cases_Bool (counts_differ (length (names ts)) (marks ts) (length values))) [
+    elim (cases_Bool (mark_count_differs (length (names ts)) (marks ts) (length values))) [
       | inl h ↦ absurd (some_none _ (sym (count_some ts values h) ∙ e))
       | inr h ↦ h
     ]
@@ -113,30 +113,30 @@ none_count ts values e =
 
 later_by : (ts : List Token) (values : List Value) (a b c : Option Cause) →
     count_cause ts values ≡ a →
-    alone_cause ts ≡ b → float_cause values ≡ c → later_cause ts values ≡ option_or a (option_or b c)
+    not_alone_cause ts ≡ b → float_cause values ≡ c → later_cause ts values ≡ option_or a (option_or b c)
 later_by ts values a b c e f g =
-    ap (λ x. option_or x (option_or (alone_cause ts) (float_cause values))) e
+    ap (λ x. option_or x (option_or (not_alone_cause ts) (float_cause values))) e
     ∙ (ap (λ x. option_or a (option_or x (float_cause values))) f ∙ ap (λ x. option_or a (option_or b x)) g)
 
 module _ (survey : Survey) (ts : List Token) (values : List Value) (is : IsSurvey survey ts) where
-  count_of_survey : (b : Bool) → counts_differ survey.names survey.marks (length values) ≡ b →
-      counts_differ (length (names ts)) (marks ts) (length values) ≡ b
-  count_of_survey b e = ap (λ x. counts_differ x (marks ts) (length values)) (sym is.0) ∙ (ap (λ x. counts_differ survey.names x (length values)) (sym is.1) ∙ e)
+  count_of_survey : (b : Bool) → mark_count_differs survey.names survey.marks (length values) ≡ b →
+      mark_count_differs (length (names ts)) (marks ts) (length values) ≡ b
+  count_of_survey b e = ap (λ x. mark_count_differs x (marks ts) (length values)) (sym is.0) ∙ (ap (λ x. mark_count_differs survey.names x (length values)) (sym is.1) ∙ e)
 
-  pub later_is_count : counts_differ survey.names survey.marks (length values) ≡ true →
+  pub later_is_count : mark_count_differs survey.names survey.marks (length values) ≡ true →
       Some (Some (mark_count survey.marks (length values))) ≡ option_map Some (later_cause ts values)
   later_is_count e =
       let first : count_cause ts values ≡ Some (mark_count survey.marks (length values)) = count_some ts values (count_of_survey true e) ∙ ap (λ x. Some (mark_count x (length values))) (sym is.1) in
       sym (ap (option_map Some) (later_by ts values _ _ _ first refl refl))
 
-  pub later_is_alone : (place at : ℕ) → counts_differ survey.names survey.marks (length values) ≡ false →
+  pub later_is_alone : (place at : ℕ) → mark_count_differs survey.names survey.marks (length values) ≡ false →
       survey.not_alone ≡ Some (place, at) →
       Some (Some (not_alone place at)) ≡ option_map Some (later_cause ts values)
   later_is_alone place at e found =
       let found' : first_not_alone ts ≡ Some (place, at) = sym is.2 ∙ found in
       sym (ap (option_map Some) (later_by ts values None (Some (not_alone place at)) _ (count_none ts values (count_of_survey false e)) (ap (option_map (λ p. not_alone p.0 p.1)) found') refl))
 
-  pub later_is_float : (place : Option ℕ) → counts_differ survey.names survey.marks (length values) ≡ false →
+  pub later_is_float : (place : Option ℕ) → mark_count_differs survey.names survey.marks (length values) ≡ false →
       survey.not_alone ≡ None → place ≡ first_float values →
       option_map Some (option_map float_value place) ≡ option_map Some (later_cause ts values)
   later_is_float place e found f =
@@ -147,11 +147,11 @@ module _ (survey : Survey) (ts : List Token) (values : List Value) (is : IsSurve
 
 pub no_place_out : (ts : List Token) (values : List Value) → later_cause ts values ≡ None →
     first_not_alone ts ≡ None
-no_place_out ts values e = map_none _ (first_not_alone ts) (or_none (alone_cause ts) (float_cause values) (or_none (count_cause ts values) _ e).1).0
+no_place_out ts values e = map_none _ (first_not_alone ts) (or_none (not_alone_cause ts) (float_cause values) (or_none (count_cause ts values) _ e).1).0
 
 pub no_float_cause : (ts : List Token) (values : List Value) → later_cause ts values ≡ None →
     float_cause values ≡ None
-no_float_cause ts values e = (or_none (alone_cause ts) (float_cause values) (or_none (count_cause ts values) _ e).1).1
+no_float_cause ts values e = (or_none (not_alone_cause ts) (float_cause values) (or_none (count_cause ts values) _ e).1).1
 
 pub first_by : (ts : List Token) (given : Given) (values : List Value) (r : Option Cause) →
     mixed_cause ts ≡ None → lookup given (names ts) ≡ Ok values → later_cause ts values ≡ r →
@@ -169,7 +169,7 @@ no_cause_left us h =
     let all : place_count us ≡ length (names us) + marks us = place_count-sum us in
     let none : names us ≡ [] = nil_from_length (names us) (omega (arith, h, all)) in
     let no_mark : marks us ≡ 0 = omega (arith, h, all) in
-    let count : count_cause us [] ≡ None = count_none us [] (ap (λ ns. counts_differ (length ns) (marks us) 0) none ∙ counts_same (marks us) 0 no_mark) in
+    let count : count_cause us [] ≡ None = count_none us [] (ap (λ ns. mark_count_differs (length ns) (marks us) 0) none ∙ counts_same (marks us) 0 no_mark) in
     first_by us empty [] None (mixed_none us (λ both. absurd (omega (arith, both.1, no_mark)))) (ap (lookup empty) none)
     (no_later us [] count (no_place_alone us 0 [] h) refl)
 
@@ -182,7 +182,7 @@ no_cause_renamed mode ts values each room alone floats =
     let sum : marks (with_marks ts) ≡ marks ts + length (names ts) = marks-with_marks ts in
     let same : marks (with_marks ts) ≡ length values = omega (arith, all, sum, room) in
     let none : names (with_marks ts) ≡ [] = names-with_marks ts in
-    let count : count_cause (with_marks ts) values ≡ None = count_none (with_marks ts) values (ap (λ ns. counts_differ (length ns) (marks (with_marks ts)) (length values)) none ∙ counts_same _ _ same) in
+    let count : count_cause (with_marks ts) values ≡ None = count_none (with_marks ts) values (ap (λ ns. mark_count_differs (length ns) (marks (with_marks ts)) (length values)) none ∙ counts_same _ _ same) in
     first_by (with_marks ts) (positional values) values None
     (mixed_none (with_marks ts) (λ both. absurd (omega (arith, both.0, ap length none)))) (ap (lookup (positional values)) none)
     (no_later (with_marks ts) values count (first_not_alone-with_marks mode ts 0 0 [] [] each (λ e. e) alone) floats)
@@ -223,7 +223,7 @@ value_each ts given values mixed looked later = by (names ts) refl
     by : (ns : List (List ℕ)) → names ts ≡ ns → length values ≡ place_count ts
     by [] e =
         let differ = none_count ts values (or_none (count_cause ts values) _ later).0 in
-        let same : marks ts ≡ length values = same_counts (marks ts) (length values) (ap (λ n. counts_differ (length n) (marks ts) (length values)) (sym e) ∙ differ) in
+        let same : marks ts ≡ length values = same_counts (marks ts) (length values) (ap (λ n. mark_count_differs (length n) (marks ts) (length values)) (sym e) ∙ differ) in
         let none : length (names ts) ≡ 0 = ap length e in
         let all : place_count ts ≡ length (names ts) + marks ts = place_count-sum ts in
         omega (arith, none, same, all)

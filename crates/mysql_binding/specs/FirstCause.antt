@@ -28,19 +28,19 @@ abbrev pub mixed_cause : List Token → Option Cause
 mixed_cause ts = if has_both ts then Some mixed_query else None
 
 -- by their numbers: there are no names, and the marks are not as many as the values
-abbrev pub counts_differ : ℕ → ℕ → ℕ → Bool
-counts_differ names marks values = nat_eq names 0 && not (nat_eq marks values)
+abbrev pub mark_count_differs : ℕ → ℕ → ℕ → Bool
+mark_count_differs names marks values = nat_eq names 0 && not (nat_eq marks values)
 
 -- there are no names, and the marks are not as many as the values
 abbrev pub count_cause : List Token → List Value → Option Cause
 count_cause ts values =
-    if counts_differ (length (names ts)) (marks ts) (length values)
+    if mark_count_differs (length (names ts)) (marks ts) (length values)
     then Some (mark_count (marks ts) (length values))
     else None
 
 -- the cause that a place doesn't stand alone: the first such
-abbrev pub alone_cause : List Token → Option Cause
-alone_cause ts = option_map (λ found. not_alone found.0 found.1) (first_not_alone ts)
+abbrev pub not_alone_cause : List Token → Option Cause
+not_alone_cause ts = option_map (λ found. not_alone found.0 found.1) (first_not_alone ts)
 
 -- the place of the first float among the values, where `place` values stand before them
 abbrev pub first_float_from : ℕ → List Value → Option ℕ
@@ -60,7 +60,7 @@ float_cause values = option_map float_value (first_float values)
 -- then the values
 abbrev pub later_cause : List Token → List Value → Option Cause
 later_cause ts values =
-    option_or (count_cause ts values) (option_or (alone_cause ts) (float_cause values))
+    option_or (count_cause ts values) (option_or (not_alone_cause ts) (float_cause values))
 
 -- the first cause where the lookup gave this
 abbrev pub cause_after_lookup : List Token → Result (List Value) LookupRefusal → Option Cause

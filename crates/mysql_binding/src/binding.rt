@@ -7,7 +7,7 @@ ghost use Rattle.mysql_params_core.specs.Errors.{lookup_refusal};
 ghost use Rattle.mysql_params_core.specs.Given.{given};
 ghost use Rattle.mysql_params_core.specs.Lookup.{lookup};
 ghost use Rattle.mysql_binding.specs.BindErrors.{IsRefusal, cause_of};
-ghost use Rattle.mysql_binding.specs.FirstCause.{counts_differ, first_cause, later_cause, mixed_cause, refused_params};
+ghost use Rattle.mysql_binding.specs.FirstCause.{mark_count_differs, first_cause, later_cause, mixed_cause, refused_params};
 ghost use Rattle.mysql_binding.specs.Isolation.{IsBoundText};
 ghost use Rattle.mysql_binding.specs.Survey.{IsSurvey};
 
@@ -47,12 +47,12 @@ pub fn bind_text(alloc: Global, query: &[u8], params: Params) -> Result<Vec<u8>,
     ensures mixed { OnTokens with_backslashes query.now (λ ts.
         HasName ts × HasMark ts → IsErrOf result BindError.Mixed) }
 {
-    let found = place_survey(query, false);
-    if found.names > 0 && found.marks > 0 {
+    let survey = place_survey(query, false);
+    if survey.names > 0 && survey.marks > 0 {
         return Err(BindError::Mixed);
     }
-    let values = values_of_places(alloc, query, found.names, params)?;
-    if let Some(error) = later_error(found, values.as_slice()) {
+    let values = values_of_places(alloc, query, survey.names, params)?;
+    if let Some(error) = later_error(survey, values.as_slice()) {
         return Err(error);
     }
     match written_text(alloc, query, values.as_slice(), false) {
@@ -98,17 +98,17 @@ fn bind_error_of(error: ParamsError) -> BindError
 }
 
 // The first of the causes after the lookup: the marks, the places, the floats.
-fn later_error(found: Survey, values: &[Value]) -> Option<BindError>
-    ensures { (ts : List Token) → IsSurvey found ts →
+fn later_error(survey: Survey, values: &[Value]) -> Option<BindError>
+    ensures { (ts : List Token) → IsSurvey survey ts →
         option_map cause_of result ≡ option_map Some (later_cause ts values.now) }
 {
-    if counts_differ(found, values.len()) {
+    if mark_count_differs(survey, values.len()) {
         return Some(BindError::MarkCount {
-            marks: found.marks,
+            marks: survey.marks,
             values: values.len(),
         });
     }
-    if let Some((place, at)) = found.not_alone {
+    if let Some((place, at)) = survey.not_alone {
         return Some(BindError::NotAlone { place, at });
     }
     match first_float(values) {
@@ -118,8 +118,8 @@ fn later_error(found: Survey, values: &[Value]) -> Option<BindError>
 }
 
 // Whether the marks of a query without names are not as many as the values.
-fn counts_differ(found: Survey, values: usize) -> bool
-    ensures { result ≡ counts_differ found.names found.marks values }
+fn mark_count_differs(survey: Survey, values: usize) -> bool
+    ensures { result ≡ mark_count_differs survey.names survey.marks values }
 {
-    found.names == 0 && found.marks != values
+    survey.names == 0 && survey.marks != values
 }

@@ -1,5 +1,6 @@
 -- The bytes and classes of bytes that the grammar of queries names, and the first place of a word.
 use Rattle.std.specs.Prelude.{◌≡◌, ◌≢◌, ℕ, Bool, false, ◌==◌, ◌&&◌, ◌||◌, nat_le, List, [], ◌∷◌, ◌++◌}
+use Rattle.std.specs.Char.{is_ascii_digit}
 use Rattle.std.specs.Str.{byte}
 
 -- b'\t'
@@ -78,17 +79,13 @@ is_white_space b = b == tab || b == newline || b == form_feed || b == carriage_r
 abbrev pub is_lower_letter : ℕ → Bool
 is_lower_letter b = nat_le (byte "a") b && nat_le b (byte "z")
 
--- b'0' to b'9'
-abbrev pub is_digit : ℕ → Bool
-is_digit b = nat_le (byte "0") b && nat_le b (byte "9")
-
 -- a byte that begins a name
 abbrev pub is_start_byte : ℕ → Bool
 is_start_byte b = is_lower_letter b || b == underscore
 
 -- a byte that continues a name
 abbrev pub is_name_byte : ℕ → Bool
-is_name_byte b = is_start_byte b || is_digit b
+is_name_byte b = is_start_byte b || is_ascii_digit b
 
 -- either quote: a byte that opens and closes a string
 abbrev pub is_string_quote : ℕ → Bool
