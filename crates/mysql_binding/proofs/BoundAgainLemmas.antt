@@ -1,18 +1,17 @@
 -- What holds of a bound text: no place is left in it, bound again it stays as it is, bound by position
 -- it is the same, and equal texts say the same.
-use Rattle.std.specs.Prelude.{Ok, Result}
-use Rattle.std.specs.Option.{option_or}
+use Rattle.std.specs.Prelude.{Ok}
 use Rattle.std.proofs.Common.{◌≡◌, Bool, ℕ, ◌+◌, List, [], ◌∷◌, ◌++◌, length, map, refl, sym, ap, ◌∙◌, subst, arith, Some, None}
 use Rattle.std.proofs.lemmas.List.{nil_from_length}
 use Rattle.mysql_values.specs.declared.value.Value.{Value}
 use Rattle.mysql_values.specs.Content.{content_of}
-use Rattle.mysql_named_params.specs.Tokens.{Token, IsTokens, bytes_of, text_of, Name, Mark}
+use Rattle.mysql_named_params.specs.Tokens.{Token, IsTokens, bytes_of, Name, Mark}
 use Rattle.mysql_named_params.specs.Places.{names, marks, with_marks, place_count}
 use Rattle.mysql_named_params.proofs.TokenRowLemmas.{place_count-sum}
-use Rattle.mysql_named_params.proofs.ReparsedLemmas.{IsTokens-with_marks, names-with_marks}
+use Rattle.mysql_named_params.proofs.ReparsedLemmas.{names-with_marks}
 use Rattle.mysql_named_params.proofs.TokenListLemmas.{one_token_list}
 use Rattle.mysql_params_core.specs.Given.{Given, empty, positional}
-use Rattle.mysql_params_core.specs.Lookup.{LookupRefusal, lookup}
+use Rattle.mysql_params_core.specs.Lookup.{lookup}
 use Rattle.mysql_binding.specs.FirstCause.{cause_after_lookup, first_cause, later_cause, mixed_cause}
 use Rattle.mysql_binding.specs.Isolation.{IsBoundText}
 use Rattle.mysql_binding.specs.Pieces.{pieces, pieces_from, joined_text}

@@ -1,14 +1,14 @@
 -- The pieces of a query with the literals of values between them keep what is promised.
 use Rattle.std.specs.Prelude.{Result, Ok, Err, option_map, IsSomeAnd}
 use Rattle.std.specs.Option.{option_or}
-use Rattle.std.proofs.Common.{◌≡◌, ◌⊎◌, inl, inr, Bool, ℕ, ◌+◌, ◌<◌, List, [], ◌∷◌, length, map, refl, sym, ap, ◌∙◌, arith, Option, Some, None}
+use Rattle.std.proofs.Common.{◌≡◌, ◌⊎◌, inl, inr, Bool, ℕ, ◌<◌, List, [], ◌∷◌, length, map, refl, sym, ap, ◌∙◌, arith, Option, Some, None}
 use Rattle.mysql_values.specs.declared.value.Value.{Value}
 use Rattle.mysql_values.specs.Answer.{IsExpectedRefusal}
 use Rattle.mysql_sql_text.specs.ReadLiteral.{Content}
 use Rattle.mysql_values.specs.Content.{content_of}
 use Rattle.mysql_sql_text.specs.LiteralEnd.{ReadsBefore, continues_literal}
 use Rattle.mysql_named_params.specs.Tokens.{Token, IsTokens, OnTokens}
-use Rattle.mysql_named_params.specs.Places.{names, marks, place_count}
+use Rattle.mysql_named_params.specs.Places.{names, place_count}
 use Rattle.mysql_params_core.specs.Given.{Given}
 use Rattle.mysql_params_core.specs.Lookup.{LookupRefusal, lookup}
 use Rattle.mysql_binding.specs.FirstCause.{Cause, mixed_query, refused_params, float_value, mixed_cause, first_float, later_cause, cause_after_lookup, first_cause}

@@ -1,13 +1,12 @@
 -- The names that are listed before a rest.
 use Rattle.std.specs.Prelude.{Bool}
-use Rattle.std.proofs.Common.{◌≡◌, ◌⊎◌, inl, inr, ℕ, ◌+◌, ◌<◌, ◌≤◌, List, [], ◌∷◌, ◌++◌, length, take, drop, map, None, Some, refl, sym, ap, ◌∙◌, subst, arith, append_assoc, append-nil, drop-drop, length-append}
+use Rattle.std.proofs.Common.{◌≡◌, inl, inr, ℕ, ◌+◌, ◌<◌, ◌≤◌, List, [], ◌∷◌, ◌++◌, length, take, drop, None, sym, ap, ◌∙◌, subst, arith, append_assoc, append-nil, drop-drop, length-append}
 use Rattle.std.specs.Global.{Vec}
 use Rattle.std.proofs.lemmas.List.{nil_from_length, take_rest, map-append}
 use Rattle.mysql_named_params.specs.Tokens.{Token, bytes_of, IsTokens, OnTokens}
 use Rattle.mysql_named_params.specs.Places.{names, marks, place_count}
-use Rattle.mysql_named_params.specs.FirstPlace.{place_kind, IsFirstPlace}
+use Rattle.mysql_named_params.specs.FirstPlace.{IsFirstPlace}
 use Rattle.mysql_named_params.specs.declared.places.FoundPlace.{FoundPlace}
-use Rattle.mysql_named_params.specs.declared.places.PlaceKind.TheVariants as kind
 use Rattle.mysql_named_params.proofs.TokenEndLemmas.{slice_from}
 use Rattle.mysql_named_params.proofs.TokenListLemmas.{one_token_list}
 use Rattle.mysql_named_params.proofs.TokenRowLemmas.{place_count-sum}

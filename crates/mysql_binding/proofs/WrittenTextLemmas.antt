@@ -1,6 +1,6 @@
 -- A text that is written as far as a rest of the query.
 use Rattle.std.specs.Prelude.{Bool}
-use Rattle.std.proofs.Common.{◌≡◌, ℕ, ◌+◌, ◌<◌, ◌≤◌, false, List, [], ◌∷◌, ◌++◌, length, take, drop, get_or, Option, Some, None, refl, sym, ap, ◌∙◌, subst, arith, append_assoc, append-nil, drop-drop, take_all}
+use Rattle.std.proofs.Common.{◌≡◌, ℕ, ◌+◌, ◌<◌, ◌≤◌, false, List, [], ◌∷◌, ◌++◌, length, take, drop, get_or, Some, None, refl, sym, ap, ◌∙◌, subst, arith, append_assoc, append-nil, drop-drop, take_all}
 use Rattle.std.proofs.lemmas.List.{take_more}
 use Rattle.mysql_values.specs.declared.value.Value.{Value}
 use Rattle.mysql_values.specs.Literal.{is_float, literal_of}
@@ -15,7 +15,6 @@ use Rattle.mysql_named_params.proofs.TokenListLemmas.{one_token_list}
 use Rattle.mysql_named_params.proofs.TokenRowLemmas.{place_count-append}
 use Rattle.mysql_named_params.proofs.FoundPlaceLemmas.{parted}
 use Rattle.mysql_binding.specs.FirstCause.{first_float_from, first_float}
-use Rattle.mysql_binding.specs.Pieces.{pieces, joined_text}
 use Rattle.mysql_binding.specs.Replaced.{AreLiterals}
 use Rattle.mysql_binding.specs.ValueLiterals.{AreLiteralsOf, AreReadAs}
 use Rattle.mysql_binding.specs.WrittenText.{IsWrittenText}

@@ -1,13 +1,12 @@
 -- Tokens without a name or a mark: one more, and a run of plain bytes more.
-use Rattle.std.specs.Prelude.{Bool, IfSome, IsSomeAnd}
-use Rattle.std.proofs.Common.{◌≡◌, ◌≢◌, ◌⊎◌, inl, inr, ℕ, zero, suc, ◌+◌, ◌-◌, ◌<◌, ◌≤◌, true, false, List, [], ◌∷◌, ◌++◌, length, drop, get_or, Option, Some, None, refl, sym, ap, ◌∙◌, subst, arith, length-drop, length-append, append_assoc}
-use Rattle.std.proofs.lemmas.List.{drop_more, drop-drop, take_rest}
+use Rattle.std.specs.Prelude.{Bool}
+use Rattle.std.proofs.Common.{◌≡◌, ◌≢◌, ◌⊎◌, inl, inr, ℕ, zero, suc, ◌+◌, ◌-◌, ◌<◌, ◌≤◌, true, false, List, [], ◌∷◌, ◌++◌, length, drop, get_or, Some, None, refl, sym, ap, ◌∙◌, subst, arith, length-drop, length-append, append_assoc}
+use Rattle.std.proofs.lemmas.List.{drop_more, drop-drop}
 use Rattle.mysql_named_params.specs.Bytes.{backquote, hash, dash, slash, colon, question_mark, single_quote, double_quote}
-use Rattle.mysql_named_params.specs.Tokens.{Token, IsTokens, OnTokens, bytes_of, text_of, text_then, AreTokensBefore, Name, Mark}
+use Rattle.mysql_named_params.specs.Tokens.{Token, OnTokens, text_of, Name, Mark}
 use Rattle.mysql_named_params.specs.Places.{place_count}
 use Rattle.mysql_named_params.specs.FirstToken.{kind_of, IsFirstToken}
 use Rattle.mysql_named_params.specs.FirstPlace.{is_always_plain, AreAlwaysPlain, place_kind, IsFirstPlace}
-use Rattle.mysql_named_params.specs.declared.places.FoundPlace.{FoundPlace}
 use Rattle.mysql_named_params.specs.declared.places.PlaceKind.{PlaceKind}
 use Rattle.mysql_named_params.specs.declared.places.PlaceKind.TheVariants as found_kind
 use Rattle.mysql_named_params.specs.declared.tokens.TokenKind.{TokenKind}

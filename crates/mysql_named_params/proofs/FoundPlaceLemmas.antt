@@ -3,7 +3,7 @@ use Rattle.std.specs.Prelude.{Bool}
 use Rattle.std.proofs.Common.{◌≡◌, ℕ, ◌+◌, ◌<◌, ◌≤◌, List, [], ◌∷◌, ◌++◌, length, take, drop, Some, refl, sym, ap, ◌∙◌, subst, arith, take_at, drop_at, length-append}
 use Rattle.std.proofs.lemmas.List.{nil_from_length, drop-drop}
 use Rattle.mysql_named_params.specs.Tokens.{Token, AreTokensBefore, IsTokens, OnTokens, bytes_of, text_of, Name, Mark}
-use Rattle.mysql_named_params.specs.Places.{names, marks, place_count, with_marks}
+use Rattle.mysql_named_params.specs.Places.{names, marks, place_count}
 use Rattle.mysql_named_params.specs.FirstPlace.{place_kind, IsFirstPlace}
 use Rattle.mysql_named_params.specs.declared.places.FoundPlace.{FoundPlace}
 use Rattle.mysql_named_params.specs.declared.places.PlaceKind.TheVariants as kind

@@ -3,7 +3,7 @@ use Rattle.std.specs.Prelude.{Bool}
 use Rattle.std.proofs.Common.{◌≡◌, ◌≢◌, ◌⊎◌, inl, inr, ℕ, ◌+◌, ◌<◌, ◌≤◌, List, [], ◌∷◌, ◌++◌, length, take, drop, map, All, Some, refl, sym, ap, ◌∙◌, subst, arith, append_assoc, append-nil, drop-drop, length-append}
 use Rattle.std.specs.Cow.{cow_slice_items, IsBorrowedSlice}
 use Rattle.std.specs.declared.borrow.CowSlice.{CowSlice}
-use Rattle.std.proofs.lemmas.List.{nil_from_length, take_rest, map-append, length-map}
+use Rattle.std.proofs.lemmas.List.{nil_from_length, take_rest, map-append}
 use Rattle.std.proofs.lemmas.List.Elements.{All-nil, All-push}
 use Rattle.mysql_named_params.specs.Bytes.{question_mark}
 use Rattle.mysql_named_params.specs.Tokens.{Token, bytes_of, IsTokens, OnTokens, text_of, Name, Mark}

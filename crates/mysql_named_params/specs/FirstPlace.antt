@@ -1,5 +1,5 @@
 -- The first name or mark of a text, as `first_place` finds it; lent to the crates above.
-use Rattle.std.specs.Prelude.{◌≡◌, ◌<◌, ◌≤◌, ℕ, Bool, true, not, ◌||◌, ◌==◌, List, [], ◌∷◌, ◌++◌, length, slice_index, Option, Some, None}
+use Rattle.std.specs.Prelude.{◌≡◌, ◌<◌, ◌≤◌, ℕ, Bool, true, not, ◌||◌, ◌==◌, List, ◌∷◌, ◌++◌, length, slice_index, Option, Some, None}
 use Rattle.mysql_named_params.specs.Bytes.{backquote, hash, dash, slash, colon, question_mark, is_string_quote}
 use Rattle.mysql_named_params.specs.Tokens.{Token, bytes_of, text_of, Name, Mark}
 use Rattle.mysql_named_params.specs.Places.{place_count}

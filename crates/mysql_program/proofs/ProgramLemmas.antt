@@ -2,7 +2,7 @@
 use Rattle.std.proofs.Common.{◌≡◌, ◌∷◌, ℕ, List, Ok, sym, ap, ◌∙◌, subst}
 use Rattle.std.specs.Prelude.{Bool, false}
 use Rattle.mysql_named_params.specs.Tokens.{Token, IsTokens, text_of}
-use Rattle.mysql_named_params.specs.Places.{names, marks, with_marks, has_both, HasName, HasMark}
+use Rattle.mysql_named_params.specs.Places.{names, with_marks, has_both, HasName, HasMark}
 use Rattle.mysql_named_params.specs.Parsed.{Parsed, parsed}
 use Rattle.mysql_program.specs.Program.{lines_of, names_output}
 use Rattle.mysql_named_params.proofs.TokenListLemmas.{one_token_list}

@@ -1,4 +1,4 @@
-use Rattle.std.proofs.Common.{refl, arith, rules, ◌<◌, length}
+use Rattle.std.proofs.Common.{refl, rules, ◌<◌, length}
 use Rattle.mysql_binding.proofs.WrittenTextLemmas.{written_none, place_left, value_is_no_float, written_more, written_all}
 use Rattle.mysql_binding.proofs.binding.text.written_text.Goals as goal
 
