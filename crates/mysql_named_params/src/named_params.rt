@@ -67,7 +67,7 @@ impl<'a> ParsedNamedParams<'a> {
         ensures mixed { OnTokens with_backslashes query.now (λ ts.
             IsErrOf result (NamedParamsError.Mixed mixed) ↔ (HasName ts × HasMark ts)) }
 
-        // Only a query with names and without marks takes memory.
+        // Only a query with names and without marks allocates.
         ensures memory { OnTokens with_backslashes query.now (λ ts.
             IsErrOf result (NamedParamsError.Memory alloc_error) → HasName ts × (marks ts ≡ 0)) }
 

@@ -39,14 +39,14 @@ positional_of (positional values) names = Ok (positional values)
 positional_of (named entries) names =
     ok_or (option_map positional (values_at entries names)) (first_missing entries names)
 
--- a lookup takes memory only for a list with names, of named parameters or of none
+-- a lookup allocates only for a list with names, of named parameters or of none
 abbrev pub LookupTakesMemory : Given → List (List ℕ) → Type 0
 LookupTakesMemory params [] = ⊥
 LookupTakesMemory empty (name ∷ names) = ⊤
 LookupTakesMemory (positional values) (name ∷ names) = ⊥
 LookupTakesMemory (named entries) (name ∷ names) = ⊤
 
--- parameters by position take memory only for a list with names, of named parameters
+-- parameters by position allocate only for a list with names, of named parameters
 abbrev pub PositionTakesMemory : Given → List (List ℕ) → Type 0
 PositionTakesMemory empty names = ⊥
 PositionTakesMemory (positional values) names = ⊥

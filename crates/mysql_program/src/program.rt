@@ -51,7 +51,7 @@ pub fn run<R: Read, W: Write>(
         (input.new ≡ input.old) × IsErrAnd result (λ e.
         (e ≡ RunError.Memory alloc_error) ⊎ (refusal_of e ≡ Some (bad_words why)))) }
 
-    // They take memory only if they ask to bind.
+    // They allocate only if they ask to bind.
     ensures usage { command_of (word_bytes words.now) ≡ Err usage
         → (AsksToBind (word_bytes words.now) → ⊥) → IsErrOf result RunError.Usage }
 

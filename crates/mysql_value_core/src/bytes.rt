@@ -14,7 +14,7 @@ use std::fmt;
 use std::marker::Model;
 
 /// Bytes that a value holds: a vector, which contracts see as the list of its bytes.
-/// It is made from a `Vec<u8>` and gives it back, and neither takes memory.
+/// It is made from a `Vec<u8>` and gives it back, and neither allocates.
 #[derive(Drop)]
 pub struct Bytes {
     items: Vec<u8>,

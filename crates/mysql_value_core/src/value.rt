@@ -35,7 +35,7 @@ pub enum Value {
 }
 
 impl Value {
-    /// A copy of the value. Only that of `Bytes` takes memory, on the allocator that they hold.
+    /// A copy of the value. Only that of `Bytes` allocates, on the allocator that they hold.
     pub fn clone(&self) -> Result<Value, AllocError>
         ensures equal { IfOk result (λ copy. copy ≡ self.now) }
         ensures memory { OnErr result (IsBytes self.now) }

@@ -14,7 +14,7 @@ abbrev pub rollback_value : {T : Type 0} → (T → Meaning) → ParseIrOpt T �
 rollback_value value_of (Ready x) = value_of x
 rollback_value value_of (Parsed x value) = Ok value
 
--- handing the value back takes memory only for the bytes of a thing
+-- handing the value back allocates only for the bytes of a thing
 abbrev pub RollbackTakesMemory : {T : Type 0} → (T → Meaning) → ParseIrOpt T → Type 0
 RollbackTakesMemory value_of (Ready x) = MeansBytes (value_of x)
 RollbackTakesMemory value_of (Parsed x value) = ⊥

@@ -30,7 +30,7 @@ abbrev pub option_undo : {T Ir : Type 0} → (Ir → Meaning) → OptionIr2 T Ir
 option_undo undo option_ir.None = Ok NULL
 option_undo undo (option_ir.Some ir) = undo ir
 
--- rolling it back takes memory where that of the thing's own intermediate does
+-- rolling it back allocates where that of the thing's own intermediate does
 abbrev pub OptionTakesMemory : {T Ir : Type 0} → (Ir → Type 0) → OptionIr2 T Ir → Type 0
 OptionTakesMemory takes_memory option_ir.None = ⊥
 OptionTakesMemory takes_memory (option_ir.Some ir) = takes_memory ir

@@ -35,7 +35,7 @@ pub trait MyDeserialize<'de>: Sized {
     // what stands at the front of the bytes, and what follows it, or why nothing can be read
     ghost reads: { Self.Ctx → List ℕ → Reading Seen };
 
-    // where a reading takes memory, so that it may run out
+    // where a reading allocates, so that it may run out
     ghost takes_memory: { Self.Ctx → List ℕ → Type 0 };
 
     /// Takes a value off the front of the buffer. On each error the buffer is unchanged.

@@ -49,7 +49,7 @@ pub enum ParamsError {
 }
 
 impl ParamsError {
-    /// A copy of the error. Only a copy of `Missing` takes memory, on the allocator that the name
+    /// A copy of the error. Only a copy of `Missing` allocates, on the allocator that the name
     /// holds.
     pub fn clone(&self) -> Result<ParamsError, AllocError>
         ensures equal { IfOk result (λ copy. AreEqualParamsErrors copy self.now) }

@@ -17,7 +17,7 @@ pub trait ToParams {
     // the parameters that it makes, or why it makes none
     ghost made: { Self → Made };
 
-    // where making them takes memory
+    // where making them allocates
     ghost takes_memory: { Self → Type 0 };
 
     /// The parameters that the thing makes, or the refusal of the first item that has no value.

@@ -21,7 +21,7 @@ mod try_from;
 pub struct FromValueError(pub Value);
 
 impl FromValueError {
-    /// A copy of the error. Only that of `Bytes` takes memory, on the allocator that they hold.
+    /// A copy of the error. Only that of `Bytes` allocates, on the allocator that they hold.
     pub fn clone(&self) -> Result<FromValueError, AllocError>
         ensures equal { IfOk result (λ copy. copy ≡ self.now) }
         ensures memory { OnErr result (IsBytes self.now.0) }
@@ -54,7 +54,7 @@ pub trait ToValue {
     // the value of the thing, or why it has none
     ghost value_of: { Self → Meaning };
 
-    /// The value of the thing. It takes memory only where the value is `Bytes`.
+    /// The value of the thing. It allocates only where the value is `Bytes`.
     fn to_value(&self, alloc: Global) -> Result<Value, ToValueError>
         ensures { IsAnswer (λ value. value) too_long_duration (value_of self.now)
             (MeansBytes (value_of self.now)) result };

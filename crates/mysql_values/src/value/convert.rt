@@ -31,7 +31,7 @@ pub trait IntoValue {
     // the value that it is handed back as
     ghost undo: { Self → Meaning };
 
-    // where handing it back takes memory
+    // where handing it back allocates
     ghost takes_memory: { Self → Type 0 };
 
     /// The value that it is rolled back to. Of what `get_intermediate` gave, that value converts to

@@ -59,7 +59,7 @@ impl<T> ParseIrOpt<T> {
 impl<T: ToValue + Drop> ParseIrOpt<T> {
     ghost use Rattle.mysql_values.specs.Intermediate.{rollback_value, RollbackTakesMemory};
 
-    /// The value that is kept, or else that of the thing, which takes memory where it is `Bytes`.
+    /// The value that is kept, or else that of the thing, which allocates where it is `Bytes`.
     pub fn rollback(self, alloc: Global) -> Result<Value, ToValueError>
         ensures { IsAnswer (λ value. value) too_long_duration (rollback_value T.value_of self)
             (RollbackTakesMemory T.value_of self) result }
@@ -88,7 +88,7 @@ impl<T: ToValue + Drop> IntoValue for ParseIrOpt<T> {
 pub struct ValueIr(pub Value);
 
 impl ValueIr {
-    /// A copy. Only that of `Bytes` takes memory, on the allocator that they hold.
+    /// A copy. Only that of `Bytes` allocates, on the allocator that they hold.
     pub fn clone(&self) -> Result<ValueIr, AllocError>
         ensures equal { IfOk result (λ copy. copy ≡ self.now) }
         ensures memory { OnErr result (IsBytes self.now.0) }
