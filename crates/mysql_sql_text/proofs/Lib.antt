@@ -1,5 +1,7 @@
 pub mod ByteNames
 pub mod PaddedLemmas
+mod EscapeTableLemmas
+mod BlockLemmas
 pub mod StringLemmas
 pub mod ValueOfDigitsLemmas
 pub mod TimeTextLemmas

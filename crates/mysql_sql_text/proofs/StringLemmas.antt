@@ -1,9 +1,9 @@
 -- Literals of bytes: which they are, and how long.
-use Rattle.std.proofs.Common.{◌≡◌, ℕ, ◌+◌, ◌*◌, Bool, List, [], ◌∷◌, length, refl, arith}
+use Rattle.std.proofs.Common.{◌≡◌, ℕ, ◌+◌, ◌*◌, ◌<◌, Bool, List, [], ◌∷◌, length, refl, arith}
 use Rattle.std.proofs.Common.{length-append}
 use Rattle.std.specs.Prelude.{codes, ◌++◌}
 use Rattle.std.specs.Str.{IsUtf8, is_utf8}
-use Rattle.std.proofs.lemmas.Bool.{cond-true, cond-false, false_from_ne_true}
+use Rattle.std.proofs.lemmas.Bool.{cond_both, cond-true, cond-false, false_from_ne_true}
 use Rattle.std.proofs.lemmas.Str.{IsUtf8-from_is_utf8, is_utf8-from_IsUtf8}
 use Rattle.mysql_sql_text.specs.LiteralText.{bytes_literal, escaped, hexadecimal, quoted}
 
@@ -20,3 +20,12 @@ length-quoted text = omega (arith, length-append text (codes "'"))
 pub length-hexadecimal : (bytes : List ℕ) → length (hexadecimal bytes) ≡ 2 * length bytes
 length-hexadecimal [] = refl
 length-hexadecimal (b ∷ bytes) = omega (arith, length-hexadecimal bytes)
+
+-- a literal that is shorter than hexadecimal is a string
+pub bytes_literal-short : (mode : Bool) (bytes : List ℕ) → length (bytes_literal mode bytes) < 2 + 2 * length bytes
+    → bytes_literal mode bytes ≡ quoted (escaped mode bytes)
+bytes_literal-short mode bytes short =
+    let hexadecimal_text : List ℕ = codes "0x" ++ hexadecimal bytes in
+    cond_both (is_utf8 bytes) (quoted (escaped mode bytes)) hexadecimal_text
+    (λ t. length t < 2 + 2 * length bytes → t ≡ quoted (escaped mode bytes))
+    (λ _ _. refl) (λ _ h. absurd (omega (arith, length-hexadecimal bytes))) short

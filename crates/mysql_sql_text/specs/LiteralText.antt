@@ -26,6 +26,10 @@ escaped_byte false b =
     if b == byte "\"" then codes "\\\"" else b ∷ []))))))
 escaped_byte true b = if b == byte "'" then codes "''" else b ∷ []
 
+-- whether a byte is escaped: two bytes stand for it
+abbrev pub is_escaped : Bool → ℕ → Bool
+is_escaped mode b = length (escaped_byte mode b) == 2
+
 -- what stands for each of the bytes, in a row
 abbrev pub escaped : Bool → List ℕ → List ℕ
 escaped mode bytes = flat_map (escaped_byte mode) bytes

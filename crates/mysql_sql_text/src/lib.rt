@@ -8,6 +8,7 @@
 
 pub mod dates;
 pub mod digits;
+mod escapes;
 pub mod laws;
 pub mod numbers;
 pub mod strings;

@@ -5,6 +5,24 @@ use std::alloc::{AllocError, Global};
 use std::process::Abort;
 use std::test::Fail;
 
+// In this mode the value has the literal: as a text, as long as it says, and into a slice.
+pub(crate) fn has_literal(
+    rt: &impl Abort,
+    alloc: Global,
+    value: &Value,
+    no_backslash_escape: bool,
+    literal: &[u8],
+) -> Result<(), Fail> {
+    let text = value.as_sql(alloc, no_backslash_escape)?;
+    assert_eq!(rt; text.as_bytes(), literal, "{value:?}");
+    let len = value.sql_len(no_backslash_escape);
+    assert_eq!(rt; len, Some(literal.len() as u128), "{value:?}");
+    let mut room = vec![in alloc; 0xFFu8; literal.len()]?;
+    value.put_sql(no_backslash_escape, room.as_mut_slice());
+    assert_eq!(rt; room.as_slice(), literal, "{value:?}");
+    Ok(())
+}
+
 // The value has the literals with backslash escapes and without.
 fn has_literals(
     rt: &impl Abort,
@@ -13,11 +31,8 @@ fn has_literals(
     with_backslashes: &str,
     without_backslashes: &str,
 ) -> Result<(), Fail> {
-    let literal = value.as_sql(alloc, false)?;
-    assert_eq!(rt; literal.as_str(), with_backslashes, "{value:?}");
-    let literal = value.as_sql(alloc, true)?;
-    assert_eq!(rt; literal.as_str(), without_backslashes, "{value:?}");
-    Ok(())
+    has_literal(rt, alloc, value, false, with_backslashes.as_bytes())?;
+    has_literal(rt, alloc, value, true, without_backslashes.as_bytes())
 }
 
 // Bytes, and their literal with backslash escapes and without.
@@ -178,11 +193,12 @@ fn literals_of_each_byte(rt: HostRuntime) -> Result<(), Fail> {
     Ok(())
 }
 
-// The value is refused as a float in either mode.
+// The value is refused as a float in either mode, and has no length of a literal.
 fn has_no_literal(rt: &impl Abort, alloc: Global, value: &Value) {
     for no_backslash_escape in [false, true] {
         let answer = value.as_sql(alloc, no_backslash_escape);
         assert_eq!(rt; answer, Err(AsSqlError::Float), "{value:?}");
+        assert_eq!(rt; value.sql_len(no_backslash_escape), None, "{value:?}");
     }
 }
 
@@ -194,6 +210,33 @@ fn floats_have_no_literal(rt: HostRuntime) {
     }
     has_no_literal(&rt, rt.alloc(), &Value::Double(0));
     has_no_literal(&rt, rt.alloc(), &Value::Double(18446744073709551615));
+}
+
+// The literal of the value has so many bytes with backslash escapes and without.
+fn has_lengths(rt: &impl Abort, value: &Value, with_backslashes: u128, without_backslashes: u128) {
+    assert_eq!(rt; value.sql_len(false), Some(with_backslashes), "{value:?}");
+    assert_eq!(rt; value.sql_len(true), Some(without_backslashes), "{value:?}");
+}
+
+// Bytes, and the length of their literal with backslash escapes and without.
+const LENGTHS_OF_BYTES: &[(&[u8], u128, u128)] = &[
+    (b"", 2, 2),
+    (b"it's", 7, 7),
+    (b"\x00", 4, 3),
+    (b"\xC3\x28", 6, 6),
+];
+
+#[test]
+fn lengths_of_literals(rt: HostRuntime) -> Result<(), Fail> {
+    for (held, with_backslashes, without_backslashes) in LENGTHS_OF_BYTES {
+        let value = bytes(rt.alloc(), *held)?;
+        has_lengths(&rt, &value, *with_backslashes, *without_backslashes);
+    }
+    has_lengths(&rt, &Value::NULL, 4, 4);
+    has_lengths(&rt, &Value::Int(-9223372036854775808), 20, 20);
+    has_lengths(&rt, &time((true, 300, 8, 8, 8, 123456)), 20, 20);
+    has_lengths(&rt, &date((65535, 255, 255, 0, 0, 0, 4294967295)), 35, 35);
+    Ok(())
 }
 
 #[test]

@@ -1,5 +1,5 @@
 //! SQL literals of values.
-ghost use Rattle.std.specs.Prelude.{◌≡◌, length, Some, Err, IfOk, IsSome, IsTrue, alloc_error, ok_or, option_map, string_bytes};
+ghost use Rattle.std.specs.Prelude.{◌≡◌, length, Some, Err, IfOk, IsSome, IsTrue, alloc_error, is_none, ok_or, option_map, string_bytes};
 ghost use Rattle.mysql_wire_part.specs.Answer.{IsAnswer};
 ghost use Rattle.mysql_value_core.specs.declared.value.literal.AsSqlError as AsSqlError;
 ghost use Rattle.mysql_value_core.specs.declared.value.literal.AsSqlError.TheVariants.{Memory};
@@ -62,9 +62,13 @@ impl Value {
         Ok(unsafe { String::from_utf8_unchecked(text) })
     }
 
-    // The length of the literal; floats have none.
-    fn sql_len(&self, no_backslash_escape: bool) -> Option<u128>
-        ensures { result ≡ option_map length (literal_of no_backslash_escape self.now) }
+    /// How many bytes the SQL literal of the value has: how long the text of `as_sql` is.
+    ///
+    /// `None` exactly for `Float` and `Double`, which have no literal. It allocates nothing. The
+    /// length may be above `isize::MAX`, and then no slice is that long.
+    pub fn sql_len(&self, no_backslash_escape: bool) -> Option<u128>
+        ensures exact { result ≡ option_map length (literal_of no_backslash_escape self.now) }
+        ensures float { is_none result ≡ is_float self.now }
     {
         match self {
             Value::NULL => Some(4),
@@ -99,8 +103,24 @@ impl Value {
         }
     }
 
+    /// Writes the SQL literal of the value, the text of `as_sql`, over the whole of `room`.
+    ///
+    /// It can be called where the value has a literal, and so is no float, and where `room` has
+    /// exactly the bytes that `sql_len` tells in the same mode. It allocates nothing and refuses
+    /// nothing. Where `as_sql` says what its text reads as, the same holds of the bytes in `room`.
+    pub fn put_sql(&self, no_backslash_escape: bool, room: &mut [u8])
+        requires { option_map length (literal_of no_backslash_escape self.now)
+            ≡ Some (length room.old) }
+        ensures exact { literal_of no_backslash_escape self.now ≡ Some room.new }
+        ensures reads_back { ReadsAs no_backslash_escape self.now room.new }
+        ensures time { WritesTimeText self.now room.new }
+    {
+        self.fields_in_range();
+        self.fill_literal(no_backslash_escape, room);
+    }
+
     // Fills the slice with the literal.
-    fn put_sql(&self, no_backslash_escape: bool, room: &mut [u8])
+    fn fill_literal(&self, no_backslash_escape: bool, room: &mut [u8])
         requires { option_map length (literal_of no_backslash_escape self.now)
             ≡ Some (length room.old) }
         ensures { literal_of no_backslash_escape self.now ≡ Some room.new }

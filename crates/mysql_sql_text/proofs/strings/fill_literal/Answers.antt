@@ -1,14 +1,20 @@
 use Rattle.std.proofs.Common.{ap, sym, ◌∙◌, length, arith}
-use Rattle.mysql_sql_text.specs.LiteralText.{quoted, escaped}
 use Rattle.mysql_sql_text.proofs.StringLemmas.{length-hexadecimal}
-use Rattle.mysql_sql_text.proofs.StringLemmas.{bytes_literal-utf8, bytes_literal-other}
+use Rattle.mysql_sql_text.proofs.StringLemmas.{bytes_literal-short, bytes_literal-utf8, bytes_literal-other}
 use Rattle.mysql_sql_text.proofs.strings.fill_literal.Goals as goal
 
 pub fill_string-requires : goal.fill_string-requires
 fill_string-requires c =
-    let mode = c.args.no_backslash_escape in
+    c.requires ∙ ap length (bytes_literal-short c.args.no_backslash_escape c.args.bytes.now (omega (arith, c.requires)))
+
+pub returns-then-room-bytes : goal.returns-then-room-bytes
+returns-then-room-bytes c =
+    c.fill_string.ensures ∙ sym (bytes_literal-short c.args.no_backslash_escape c.args.bytes.now (omega (arith, c.requires)))
+
+pub fill_string-requires-in-Ok : goal.fill_string-requires-in-Ok
+fill_string-requires-in-Ok c =
     let cases = c.in-Ok.ensures.cases in
-    c.requires ∙ ap length (bytes_literal-utf8 mode _ cases.1) ∙ ap (λ t. length (quoted (escaped mode t))) (sym cases.0)
+    c.requires ∙ ap length (bytes_literal-utf8 c.args.no_backslash_escape _ cases.1)
 
 pub fill_hexadecimal-requires : goal.fill_hexadecimal-requires
 fill_hexadecimal-requires c =
@@ -17,9 +23,8 @@ fill_hexadecimal-requires c =
 
 pub returns-in-Ok : goal.returns-in-Ok
 returns-in-Ok c =
-    let mode = c.args.no_backslash_escape in
     let cases = c.in-Ok.ensures.cases in
-    c.fill_string.ensures ∙ ap (λ t. quoted (escaped mode t)) cases.0 ∙ sym (bytes_literal-utf8 mode _ cases.1)
+    c.fill_string-in-Ok.ensures ∙ sym (bytes_literal-utf8 c.args.no_backslash_escape _ cases.1)
 
 pub returns-in-Err : goal.returns-in-Err
 returns-in-Err c =

@@ -1,4 +1,4 @@
-//! Values of the types that have one without taking memory.
+//! Values of the types that have one without allocating.
 ghost use Rattle.std.specs.Prelude.{◌≡◌, Ok, string_bytes};
 ghost use Rattle.mysql_value_core.specs.ValueOf.{bool_value};
 ghost use Rattle.mysql_value_core.specs.declared.value.Value.TheVariants.{Bytes as BytesOf, Int, UInt};

@@ -4,7 +4,7 @@ use Rattle.std.specs.Str.{IsUtf8}
 use Rattle.std.proofs.Math.Seq.{take-append_seam}
 use Rattle.mysql_value_core.specs.ReadBack.{ReadsAs}
 use Rattle.mysql_value_core.specs.TimeLiteral.{WritesTimeText}
-use Rattle.mysql_value_core.proofs.LiteralLemmas.{literal_reads, literal_utf8, literal_writes_time}
+use Rattle.mysql_value_core.proofs.LiteralLemmas.{literal_utf8}
 use Rattle.mysql_value_core.proofs.value.Value.as_sql.Goals as goal
 
 -- the vector holds the slice that was lent, and nothing after it
@@ -15,23 +15,18 @@ pub from_utf8_unchecked-requires : goal.from_utf8_unchecked-requires
 from_utf8_unchecked-requires c =
     let utf8 = literal_utf8 c.args.no_backslash_escape c.args.self.now c.fields_in_range.ensures in
     subst IsUtf8 (sym (whole_room c.in_ok-text.text.len c.put_sql.new.room _ (omega arith)))
-    (subst (λ o. IfSome o IsUtf8) c.put_sql.ensures utf8)
+    (subst (λ o. IfSome o IsUtf8) c.put_sql.ensures.exact utf8)
 
 pub returns-clause-time : goal.returns-clause-time
 returns-clause-time c =
-    let value = c.args.self.now in
     let room = c.put_sql.new.room in
     let text : string_bytes c.from_utf8_unchecked.result ≡ room =
     ap vec_items c.from_utf8_unchecked.ensures.value ∙ whole_room c.in_ok-text.text.len room _ (omega arith) in
-    let writes = literal_writes_time c.args.no_backslash_escape value in
-    subst (WritesTimeText value) (sym text) (subst (λ o. IfSome o (WritesTimeText value)) c.put_sql.ensures writes)
+    subst (WritesTimeText c.args.self.now) (sym text) c.put_sql.ensures.time
 
 pub returns-clause-reads_back : goal.returns-clause-reads_back
 returns-clause-reads_back c =
-    let mode = c.args.no_backslash_escape in
-    let value = c.args.self.now in
     let room = c.put_sql.new.room in
     let text : string_bytes c.from_utf8_unchecked.result ≡ room =
     ap vec_items c.from_utf8_unchecked.ensures.value ∙ whole_room c.in_ok-text.text.len room _ (omega arith) in
-    let reads = literal_reads mode value c.fields_in_range.ensures in
-    subst (ReadsAs mode value) (sym text) (subst (λ o. IfSome o (ReadsAs mode value)) c.put_sql.ensures reads)
+    subst (ReadsAs c.args.no_backslash_escape c.args.self.now) (sym text) c.put_sql.ensures.reads_back

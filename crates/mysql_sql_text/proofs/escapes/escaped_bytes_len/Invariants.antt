@@ -1,6 +1,6 @@
 use Rattle.std.proofs.Common.{◌≡◌, ◌*◌, ◌≤◌, take, length}
 use Rattle.mysql_sql_text.specs.LiteralText.{escaped}
-use Rattle.mysql_sql_text.proofs.strings.escaped_len.Given as goal
+use Rattle.mysql_sql_text.proofs.escapes.escaped_bytes_len.Given as goal
 
 abbrev pub invariant-loop-byte : goal.invariant-loop-byte
 invariant-loop-byte l = record {

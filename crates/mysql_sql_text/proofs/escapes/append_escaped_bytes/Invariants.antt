@@ -1,6 +1,6 @@
 use Rattle.std.proofs.Common.{◌≡◌, ◌++◌, ◌+◌, take, length}
 use Rattle.mysql_sql_text.specs.LiteralText.{escaped}
-use Rattle.mysql_sql_text.proofs.strings.append_escaped.Given as goal
+use Rattle.mysql_sql_text.proofs.escapes.append_escaped_bytes.Given as goal
 
 abbrev pub invariant-loop-byte : goal.invariant-loop-byte
 invariant-loop-byte l = record {

@@ -1,7 +1,7 @@
 use Rattle.std.proofs.Common.{arith}
 use Rattle.std.proofs.lemmas.List.Folds.{length-flat_map-take}
 use Rattle.mysql_sql_text.specs.LiteralText.{escaped_byte}
-use Rattle.mysql_sql_text.proofs.strings.append_escaped.Goals as goal
+use Rattle.mysql_sql_text.proofs.escapes.append_escaped_bytes.Goals as goal
 
 pub append_escaped_byte-at-requires : goal.append_escaped_byte-at-requires
 append_escaped_byte-at-requires c =

@@ -1,0 +1,30 @@
+-- Tables of what stands after a backslash.
+use Rattle.std.proofs.Common.{◌≡◌, ℕ, ◌<◌, Bool, true, false, ◌&&◌, eqb, cond, List, [], ◌∷◌, get_or, refl, ap₂}
+use Rattle.std.proofs.lemmas.Bool.{agree_below, agree_below_at, and_parts, eqb-true, false≢true}
+use Rattle.mysql_sql_text.specs.LiteralText.{escaped_byte}
+use Rattle.mysql_sql_text.proofs.ByteNames.{backslash}
+
+-- whether two texts are the same
+abbrev same_text : List ℕ → List ℕ → Bool
+same_text [] [] = true
+same_text [] (b ∷ t) = false
+same_text (a ∷ s) [] = false
+same_text (a ∷ s) (b ∷ t) = eqb a b && same_text s t
+
+same_text-true : (s t : List ℕ) → same_text s t ≡ true → s ≡ t
+same_text-true [] [] h = refl
+same_text-true [] (b ∷ t) h = absurd (false≢true h)
+same_text-true (a ∷ s) [] h = absurd (false≢true h)
+same_text-true (a ∷ s) (b ∷ t) h =
+    let parts = and_parts (eqb a b) (same_text s t) h in
+    ap₂ (λ x xs. x ∷ xs) (eqb-true a b parts.0) (same_text-true s t parts.1)
+
+-- what a table says of a byte: 46 is its mark for one that stands for itself
+abbrev pub told : List ℕ → ℕ → List ℕ
+told table b = cond (eqb (get_or table b 0) 46) (b ∷ []) (backslash ∷ get_or table b 0 ∷ [])
+
+-- a table that was held against the definition at each of the 256 bytes
+pub escaped_byte-told : (table : List ℕ) → agree_below (λ k. same_text (escaped_byte false k) (told table k)) (λ _. true) 256 ≡ true
+    → (b : ℕ) → b < 256 → escaped_byte false b ≡ told table b
+escaped_byte-told table all b h =
+    same_text-true _ _ (agree_below_at (λ k. same_text (escaped_byte false k) (told table k)) (λ _. true) 256 b all h)
