@@ -21,6 +21,8 @@ pub record IsPartedAt (mode : Bool) (text : List ℕ) (ts : List Token) (found :
   pub kind_is : place_kind place ≡ Some found.kind
   pub front_text : text_of front ≡ take found.before text
   pub place_bytes : bytes_of place ≡ take found.len (drop found.before text)
+  -- itself and the tokens after it are those of the text from it on
+  pub place_tokens : IsTokens mode (drop found.before text) (place ∷ back)
   -- the tokens after it are those of the rest
   pub rest_tokens : IsTokens mode (drop (found.before + found.len) text) back
   pub in_range : found.before + found.len ≤ length text
@@ -35,6 +37,7 @@ parted mode text ts found is o =
     let tokens_are : ts ≡ p.front ++ p.place ∷ p.back = sym same ∙ sym p.split in
     let whole : text ≡ text_of p.front ++ (bytes_of p.place ++ text_of p.back) = sym is.text ∙ (ap text_of tokens_are ∙ text_of-append p.front (p.place ∷ p.back)) in
     let from_place : drop found.before text ≡ bytes_of p.place ++ text_of p.back = ap (drop found.before) whole ∙ drop_at (text_of p.front) _ found.before p.before_is in
+    let from_place_each = AreTokensBefore-after mode p.front (p.place ∷ p.back) [] (subst (AreTokensBefore mode []) tokens_are is.each) in
     let from_back : drop (found.before + found.len) text ≡ text_of p.back = sym (drop-drop found.len found.before text) ∙ (ap (drop found.len) from_place ∙ drop_at (bytes_of p.place) _ found.len p.len_is) in
     record {
       front = p.front;
@@ -45,10 +48,8 @@ parted mode text ts found is o =
       kind_is = p.kind_is;
       front_text = sym (ap (take found.before) whole ∙ take_at (text_of p.front) _ found.before p.before_is);
       place_bytes = sym (ap (take found.len) from_place ∙ take_at (bytes_of p.place) _ found.len p.len_is);
-      rest_tokens = record {
-        text = sym from_back;
-        each = (AreTokensBefore-after mode p.front (p.place ∷ p.back) [] (subst (AreTokensBefore mode []) tokens_are is.each)).1;
-      };
+      place_tokens = record { text = sym from_place; each = from_place_each };
+      rest_tokens = record { text = sym from_back; each = from_place_each.1 };
       in_range = omega (arith, ap length whole, length-append (text_of p.front) (bytes_of p.place ++ text_of p.back), length-append (bytes_of p.place) (text_of p.back), p.before_is, p.len_is);
       has_length = omega (arith, p.len_is, token_length p.place);
     }
@@ -67,10 +68,10 @@ pub names-no_place : (front : List Token) → place_count front ≡ 0 → names 
 names-no_place front e = nil_from_length (names front) (omega (arith, place_count-sum front, e))
 
 module _ (front : List Token) (place : Token) (back : List Token) (no_place : place_count front ≡ 0) where
-  names_after : names (front ++ place ∷ back) ≡ names (place ∷ back)
+  pub names_after : names (front ++ place ∷ back) ≡ names (place ∷ back)
   names_after = names-append front (place ∷ back) ∙ ap (λ x. x ++ names (place ∷ back)) (names-no_place front no_place)
 
-  marks_after : marks (front ++ place ∷ back) ≡ marks (place ∷ back)
+  pub marks_after : marks (front ++ place ∷ back) ≡ marks (place ∷ back)
   marks_after = omega (arith, marks-append front (place ∷ back), place_count-sum front, no_place)
 
   pub names_at_name : place_kind place ≡ Some kind.Name →

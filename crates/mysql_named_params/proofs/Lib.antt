@@ -9,9 +9,13 @@ pub mod FirstPlaceLemmas
 pub mod FoundPlaceLemmas
 pub mod CountLemmas
 pub mod RenameLemmas
+pub mod SurveyLemmas
 pub mod PositionLemmas
 pub mod ParsedLemmas
 pub mod PlainLemmas
+pub mod LaneLemmas
+pub mod StopLemmas
+pub mod JumpLemmas
 pub mod RestLemmas
 pub mod LocalityLemmas
 pub mod ReparsedLemmas

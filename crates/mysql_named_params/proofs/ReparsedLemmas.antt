@@ -1,10 +1,9 @@
 -- What is read where the query with a mark in place of each name is read again.
 use Rattle.std.specs.Prelude.{Bool}
-use Rattle.std.proofs.Common.{◌≡◌, ◌≢◌, ◌≤◌, ◌+◌, ◌∙◌, ℕ, false, List, [], ◌∷◌, length, arith, inl, refl, ap, sym}
+use Rattle.std.proofs.Common.{◌≡◌, ◌≢◌, ◌+◌, ◌∙◌, ℕ, false, List, [], ◌∷◌, length, arith, inl, refl, ap}
 use Rattle.mysql_named_params.specs.Bytes.{question_mark}
 use Rattle.mysql_named_params.specs.Tokens.{Token, AreTokensBefore, text_of, bytes_of, IsTokens, OnTokens, Name, Mark}
 use Rattle.mysql_named_params.specs.Parsed.{Parsed, parsed}
-use Rattle.mysql_named_params.proofs.TokenListLemmas.{one_token_list}
 use Rattle.mysql_named_params.proofs.RenameLemmas.{with_names-with_marks}
 use Rattle.mysql_named_params.specs.Places.{names, marks, with_marks, with_names}
 use Rattle.mysql_named_params.specs.FirstToken.{opens_dash_comment}
@@ -65,11 +64,3 @@ pub reparsed_restored : (mode : Bool) (query : List ℕ) (ts : List Token) (p : 
     OnTokens mode p.query (λ us. p.params ≢ [] → text_of (with_names us p.params) ≡ query)
 reparsed_restored mode query ts p is e unmixed =
     rw e (with_marks ts, IsTokens-with_marks mode query ts is, λ some. ap text_of (with_names-with_marks ts (unmixed some)) ∙ is.text)
-
--- where the marks were counted to none, the tokens have none
-pub no_marks : (mode : Bool) (query : List ℕ) (name_count mark_count : ℕ) (ts : List Token) →
-    OnTokens mode query (λ us. (name_count ≡ length (names us)) × (mark_count ≡ marks us)) →
-    mark_count ≤ 0 → IsTokens mode query ts → marks ts ≡ 0
-no_marks mode query name_count mark_count ts counted none is =
-    let same : counted.0 ≡ ts = one_token_list mode query counted.0 ts counted.1 is in
-    sym (ap marks same) ∙ omega (arith, counted.2.1)

@@ -37,3 +37,12 @@ pub record IsFirstPlace (ts : List Token) (found : FoundPlace) : Type 0 where
   pub before_is : length (text_of front) ≡ found.before
   pub kind_is : place_kind place ≡ Some found.kind
   pub len_is : length (bytes_of place) ≡ found.len
+
+-- no place stands before this index, at which one of the tokens begins, or the end
+pub record BeginPlacesFrom (ts : List Token) (start : ℕ) : Type 0 where
+  -- the tokens before it, and those from it on
+  pub front : List Token
+  pub back : List Token
+  pub split : front ++ back ≡ ts
+  pub no_place : place_count front ≡ 0
+  pub start_is : length (text_of front) ≡ start

@@ -3,6 +3,7 @@ pub mod Tokens
 pub mod Places
 pub mod Locality
 pub mod FirstToken
+pub mod NextByte
 pub mod FirstPlace
 pub mod Parsed
 pub mod SameParsed

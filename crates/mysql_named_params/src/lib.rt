@@ -5,7 +5,9 @@
 //! laws.
 #![tactic(auto)]
 
+mod ends;
 pub mod laws;
 pub mod named_params;
 pub mod places;
+mod plain_bytes;
 pub mod tokens;

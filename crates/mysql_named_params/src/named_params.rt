@@ -1,15 +1,17 @@
 //! Queries with named parameters.
-ghost use Rattle.std.specs.Prelude.{◌≡◌, ◌≢◌, ◌<◌, ◌↔◌, [], length, map, All, IfOk, IsErrOf, IsTrue, OnErr, alloc_error};
+ghost use Rattle.std.specs.Prelude.{◌≡◌, ◌≢◌, ◌<◌, ◌≤◌, ◌↔◌, [], length, map, All, IfOk, IsErrOf, IsTrue, OnErr, alloc_error};
 ghost use Rattle.std.specs.Cow.{cow_slice_items, IsBorrowedSlice};
 ghost use Rattle.std.specs.Cmp.{partial_equiv_from_equiv};
 ghost use Rattle.mysql_sql_text.specs.StringUnits.{with_backslashes};
 ghost use Rattle.mysql_named_params.specs.Tokens.{OnTokens, text_of};
 ghost use Rattle.mysql_named_params.specs.Places.{names, marks, with_names, HasName, HasMark};
+ghost use Rattle.mysql_named_params.specs.FirstPlace.{BeginPlacesFrom};
 ghost use Rattle.mysql_named_params.specs.Parsed.{parsed, same_parsed};
 ghost use Rattle.mysql_named_params.specs.SameParsed.{same_parsed_is_equivalence};
 ghost use Rattle.mysql_named_params.specs.NamedParamsErrors.{mixed};
 
 use crate::places::{count_places, first_place};
+use memchr::memchr;
 use std::alloc::{AllocError, Global};
 use std::borrow::CowSlice;
 use std::marker::Model;
@@ -58,9 +60,55 @@ impl<'a> Model for ParsedNamedParams<'a> {
 }
 
 impl<'a> ParsedNamedParams<'a> {
+    /// Finds the names outside strings, quoted identifiers and comments. A name is `:`, one of `a`
+    /// to `z` and `_`, and then as many of these and `0` to `9` as follow. A query that has a name
+    /// and a `?` there is refused as `Mixed`.
+    ///
+    /// The flag is the server's mode: with `true`, as where `sql_mode` has `NO_BACKSLASH_ESCAPES`, a
+    /// backslash is a byte like any other; with `false` it escapes the byte after it in a string.
+    // A query has one token list in each mode (`laws::one_token_list`), so the clauses speak of the
+    // same `ts`.
+    pub fn parse_in(
+        alloc: Global,
+        query: &'a [u8],
+        no_backslash_escape: bool,
+    ) -> Result<ParsedNamedParams<'a>, NamedParamsError>
+        ensures ok { OnTokens no_backslash_escape query.now (λ ts.
+            IfOk result (λ p. p ≡ parsed ts)) }
+        ensures mixed { OnTokens no_backslash_escape query.now (λ ts.
+            IsErrOf result (NamedParamsError.Mixed mixed) ↔ (HasName ts × HasMark ts)) }
+
+        // Only a query with names and without marks allocates.
+        ensures memory { OnTokens no_backslash_escape query.now (λ ts.
+            IsErrOf result (NamedParamsError.Memory alloc_error) → HasName ts × (marks ts ≡ 0)) }
+
+        // The query with marks has no names, and where names were found it has as many marks, and
+        // putting the names back in their place gives the query that was parsed.
+        ensures nameless { IfOk result (λ p. OnTokens no_backslash_escape p.query (λ us.
+            names us ≡ [])) }
+        ensures marked { IfOk result (λ p. OnTokens no_backslash_escape p.query (λ us.
+            p.params ≢ [] → marks us ≡ length p.params)) }
+        ensures restored { IfOk result (λ p. OnTokens no_backslash_escape p.query (λ us.
+            p.params ≢ [] → text_of (with_names us p.params) ≡ query.now)) }
+    {
+        let survey = survey_of(query, no_backslash_escape);
+        if !survey.has_name {
+            return Ok(ParsedNamedParams {
+                query: CowSlice::Borrowed(query),
+                params: Vec::new(alloc),
+            });
+        }
+        if survey.has_mark {
+            return Err(NamedParamsError::Mixed(MixedParamsError));
+        }
+        match renamed_query(alloc, query, survey, no_backslash_escape) {
+            Ok(parsed) => Ok(parsed),
+            Err(error) => Err(NamedParamsError::Memory(error)),
+        }
+    }
+
     /// Finds the names outside strings, quoted identifiers and comments, in the mode in which a
-    /// backslash escapes. A name is `:`, one of `a` to `z` and `_`, and then as many of these and
-    /// `0` to `9` as follow. A query that has a name and a `?` there is refused as `Mixed`.
+    /// backslash escapes: [`parse_in`](ParsedNamedParams::parse_in) with `false`.
     // A query has one token list (`laws::one_token_list`), so the clauses speak of the same `ts`.
     pub fn parse(alloc: Global, query: &'a [u8]) -> Result<ParsedNamedParams<'a>, NamedParamsError>
         ensures ok { OnTokens with_backslashes query.now (λ ts. IfOk result (λ p. p ≡ parsed ts)) }
@@ -80,20 +128,7 @@ impl<'a> ParsedNamedParams<'a> {
         ensures restored { IfOk result (λ p. OnTokens with_backslashes p.query (λ us.
             p.params ≢ [] → text_of (with_names us p.params) ≡ query.now)) }
     {
-        let counts = count_places(query, false);
-        if counts.names == 0 {
-            return Ok(ParsedNamedParams {
-                query: CowSlice::Borrowed(query),
-                params: Vec::new(alloc),
-            });
-        }
-        if counts.marks > 0 {
-            return Err(NamedParamsError::Mixed(MixedParamsError));
-        }
-        match renamed_query(alloc, query, counts.names, false) {
-            Ok(parsed) => Ok(parsed),
-            Err(error) => Err(NamedParamsError::Memory(error)),
-        }
+        ParsedNamedParams::parse_in(alloc, query, false)
     }
 
     /// The query with `?` in place of each name, and all else as it was.
@@ -132,26 +167,70 @@ impl<'a> ParsedNamedParams<'a> {
     }
 }
 
-// The query with `?` in place of each name, and its names, of which there are `count`. It has no
-// marks.
+// What is known of a query before anything is allocated.
+#[derive(Clone, Copy)]
+struct Survey {
+    has_name: bool,
+    has_mark: bool,
+    // No name and no mark stands before this index.
+    start: usize,
+    // How many names there are, where they were counted, or 0.
+    counted_names: usize,
+}
+
+// Without a byte `?` there is no mark, and the names need no count. Else they and the marks are
+// counted, since a query with both is refused before anything is allocated.
+fn survey_of(query: &[u8], no_backslash_escape: bool) -> Survey
+    ensures places { OnTokens no_backslash_escape query.now (λ ts.
+        (IsTrue result.has_name ↔ HasName ts) × (IsTrue result.has_mark ↔ HasMark ts)) }
+    ensures start { OnTokens no_backslash_escape query.now (λ ts.
+        BeginPlacesFrom ts result.start) }
+    ensures in_range { result.start ≤ length query.now }
+{
+    let Some(first) = first_place(query, no_backslash_escape) else {
+        return Survey {
+            has_name: false,
+            has_mark: false,
+            start: query.len(),
+            counted_names: 0,
+        };
+    };
+    let from_first = &query[first.before..];
+    let Some(_) = memchr(b'?', from_first) else {
+        return Survey {
+            has_name: true,
+            has_mark: false,
+            start: first.before,
+            counted_names: 0,
+        };
+    };
+    let counts = count_places(from_first, no_backslash_escape);
+    Survey {
+        has_name: counts.names > 0,
+        has_mark: counts.marks > 0,
+        start: first.before,
+        counted_names: counts.names,
+    }
+}
+
+// The query with `?` in place of each name, and its names. It has names and no marks.
 fn renamed_query<'a>(
     alloc: Global,
     query: &'a [u8],
-    count: usize,
+    survey: Survey,
     no_backslash_escape: bool,
 ) -> Result<ParsedNamedParams<'a>, AllocError>
-    requires some { 0 < count }
-    requires names { OnTokens no_backslash_escape query.now (λ ts.
-        (count ≡ length (names ts)) × (marks ts ≡ 0)) }
+    requires names { OnTokens no_backslash_escape query.now (λ ts. HasName ts × (marks ts ≡ 0)) }
+    requires start { OnTokens no_backslash_escape query.now (λ ts.
+        BeginPlacesFrom ts survey.start) }
+    requires in_range { survey.start ≤ length query.now }
     ensures { IfOk result (λ p. OnTokens no_backslash_escape query.now (λ ts. p ≡ parsed ts)) }
 {
     let mut renamed = Vec::with_capacity(alloc, query.len())?;
-    let mut params = Vec::with_capacity(alloc, count)?;
-    let mut rest = query;
-    while params.len() < count {
-        let Some(found) = first_place(rest, no_backslash_escape) else {
-            unreachable!()
-        };
+    let mut params = Vec::with_capacity(alloc, survey.counted_names)?;
+    let (before, mut rest) = query.split_at(survey.start);
+    renamed.extend_from_slice(before)?;
+    while let Some(found) = first_place(rest, no_backslash_escape) {
         let (run, from_place) = rest.split_at(found.before);
         let (place, after) = from_place.split_at(found.len);
         renamed.extend_from_slice(run)?;

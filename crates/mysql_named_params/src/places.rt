@@ -3,8 +3,9 @@
 ghost use Rattle.std.specs.Prelude.{◌≡◌, ◌+◌, ◌≤◌, ◌<◌, None, length, IfSome};
 ghost use Rattle.mysql_named_params.specs.Tokens.{OnTokens};
 ghost use Rattle.mysql_named_params.specs.Places.{names, marks, place_count};
-ghost use Rattle.mysql_named_params.specs.FirstPlace.{is_always_plain, AreAlwaysPlain, IsFirstPlace};
+ghost use Rattle.mysql_named_params.specs.FirstPlace.{IsFirstPlace};
 
+use crate::plain_bytes::plain_end;
 use crate::tokens::{TokenKind, first_token};
 
 /// What stands at a place of a query.
@@ -58,39 +59,6 @@ pub fn first_place(text: &[u8], no_backslash_escape: bool) -> Option<FoundPlace>
     }
     None
 }
-
-// The index of the first byte from this one on with which another token than a plain one may
-// begin, or the end.
-fn plain_end(text: &[u8], from: usize) -> usize
-    requires { from ≤ length text.now }
-    ensures in_range { (from ≤ result) × (result ≤ length text.now) }
-    ensures plain { AreAlwaysPlain text.now from result }
-{
-    for at in from..text.len() {
-        if !is_always_plain(text[at]) {
-            return at;
-        }
-    }
-    text.len()
-}
-
-// Whether no token but a plain one begins with the byte.
-fn is_always_plain(byte: u8) -> bool
-    ensures { result ≡ is_always_plain byte }
-{
-    ALWAYS_PLAIN[byte as usize] == b'1'
-}
-
-// `1` for each byte with which no token but a plain one begins, 32 bytes a line.
-static ALWAYS_PLAIN: [u8; 256] = *b"\
-    11111111111111111111111111111111\
-    11001110111110101111111111011110\
-    11111111111111111111111111111111\
-    01111111111111111111111111111111\
-    11111111111111111111111111111111\
-    11111111111111111111111111111111\
-    11111111111111111111111111111111\
-    11111111111111111111111111111111";
 
 /// How many names and marks a query has.
 #[derive(Clone, Copy)]

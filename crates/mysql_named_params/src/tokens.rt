@@ -1,10 +1,10 @@
 //! The token at the front of a text. `places` finds names and marks by it; no user of `mysql_params`
 //! needs it.
-ghost use Rattle.std.specs.Prelude.{◌≡◌, ◌<◌, ◌≤◌, length, take, drop, IsTrue};
-ghost use Rattle.mysql_sql_text.specs.StringUnits.{is_escape};
-ghost use Rattle.mysql_named_params.specs.Bytes.{is_white_space, is_start_byte, is_name_byte, is_string_quote, begins, IsUpTo};
-ghost use Rattle.mysql_named_params.specs.Tokens.{IsStringTail};
+ghost use Rattle.std.specs.Prelude.{◌≡◌, ◌<◌, ◌≤◌, length, take, drop};
+ghost use Rattle.mysql_named_params.specs.Bytes.{is_white_space, is_start_byte, is_name_byte, begins};
 ghost use Rattle.mysql_named_params.specs.FirstToken.{IsNameFront, IsFirstToken, opens_dash_comment, opens_block_comment};
+
+use crate::ends::{len_up_to_byte, len_up_to_close, string_len};
 
 /// What a reader of names and marks wants to know of a token.
 #[derive(Clone, Copy, Debug, PartialEq, Eq)]
@@ -33,46 +33,6 @@ fn is_name_byte(byte: u8) -> bool
     ensures { result ≡ is_name_byte byte }
 {
     is_start_byte(byte) || byte.is_ascii_digit()
-}
-
-fn is_escape(byte: u8, no_backslash_escape: bool) -> bool
-    ensures { result ≡ is_escape no_backslash_escape byte }
-{
-    !no_backslash_escape && byte == b'\\'
-}
-
-/// How many bytes there are up to and with the first place of the word, or to the end.
-fn len_up_to(text: &[u8], word: &[u8]) -> usize
-    requires { 0 < length word.now }
-    ensures in_range { result ≤ length text.now }
-    ensures up_to { IsUpTo word.now (take result text.now) (drop result text.now) }
-{
-    for i in 0..text.len() {
-        if text[i..].starts_with(word) {
-            return i + word.len();
-        }
-    }
-    text.len()
-}
-
-/// How many bytes of a string there are after its opening quote.
-fn string_len(text: &[u8], quote: u8, no_backslash_escape: bool) -> usize
-    requires { IsTrue (is_string_quote quote) }
-    ensures in_range { result ≤ length text.now }
-    ensures string { IsStringTail no_backslash_escape quote (take result text.now)
-        (drop result text.now) }
-{
-    let mut escaped = false;
-    for (i, byte) in text.iter().enumerate() {
-        if escaped {
-            escaped = false;
-        } else if *byte == quote {
-            return i + 1;
-        } else {
-            escaped = is_escape(*byte, no_backslash_escape);
-        }
-    }
-    text.len()
 }
 
 /// How many name bytes the text begins with.
@@ -133,11 +93,14 @@ pub fn first_token(text: &[u8], no_backslash_escape: bool) -> (TokenKind, usize)
             TokenKind::Other,
             1 + string_len(rest, quote, no_backslash_escape),
         ),
-        b'`' => (TokenKind::Other, 1 + len_up_to(rest, b"`")),
-        b'#' => (TokenKind::Other, 1 + len_up_to(rest, b"\n")),
-        b'-' if opens_dash_comment(rest) => (TokenKind::Other, 3 + len_up_to(&rest[2..], b"\n")),
+        b'`' => (TokenKind::Other, 1 + len_up_to_byte(rest, b'`')),
+        b'#' => (TokenKind::Other, 1 + len_up_to_byte(rest, b'\n')),
+        b'-' if opens_dash_comment(rest) => (
+            TokenKind::Other,
+            3 + len_up_to_byte(&rest[2..], b'\n'),
+        ),
         b'-' => (TokenKind::Other, 1),
-        b'/' if opens_block_comment(rest) => (TokenKind::Other, 2 + len_up_to(&rest[1..], b"*/")),
+        b'/' if opens_block_comment(rest) => (TokenKind::Other, 2 + len_up_to_close(&rest[1..])),
         b'/' => (TokenKind::Other, 1),
         _ => (TokenKind::Other, 1),
     }

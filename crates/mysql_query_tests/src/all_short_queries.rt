@@ -1,6 +1,7 @@
 //! Every query of up to three bytes over the bytes that the grammar names, alone and before a name,
-//! against a plain reading of the grammar that shares no code with the crate.
-use mysql_params::named_params::{NamedParamsError, ParsedNamedParams};
+//! against a plain reading of the grammar that shares no code with the crate, in both modes.
+use crate::spellings::Spelling;
+use mysql_params::named_params::NamedParamsError;
 use std::alloc::{AllocError, Global};
 use std::test::Fail;
 
@@ -19,13 +20,13 @@ fn up_to(text: &[u8], word: &[u8]) -> usize {
 }
 
 /// How many bytes of a string stand after its opening quote.
-fn string(text: &[u8], quote: u8) -> usize {
+fn string(text: &[u8], quote: u8, no_backslash_escape: bool) -> usize {
     let mut at = 0usize;
     for _ in 0..text.len() {
         match text.get(at) {
             None => return text.len(),
             Some(byte) if *byte == quote => return at.saturating_add(1),
-            Some(b'\\') => at = at.saturating_add(2),
+            Some(b'\\') if !no_backslash_escape => at = at.saturating_add(2),
             Some(_) => at = at.saturating_add(1),
         }
     }
@@ -33,9 +34,11 @@ fn string(text: &[u8], quote: u8) -> usize {
 }
 
 /// How many bytes the first token has, by the first row of the grammar's table that fits.
-fn token_len(text: &[u8]) -> usize {
+fn token_len(text: &[u8], no_backslash_escape: bool) -> usize {
     match text {
-        [quote @ (b'\'' | b'"'), rest @ ..] => string(rest, *quote).saturating_add(1),
+        [quote @ (b'\'' | b'"'), rest @ ..] => {
+            string(rest, *quote, no_backslash_escape).saturating_add(1)
+        }
         [b'`', rest @ ..] => up_to(rest, b"`").saturating_add(1),
         [b'#', rest @ ..] => up_to(rest, b"\n").saturating_add(1),
         [b'-', b'-', b' ' | b'\t' | b'\x0c' | b'\r', rest @ ..] => {
@@ -60,7 +63,11 @@ struct Reading {
     marks: usize,
 }
 
-fn plain_reading(alloc: Global, query: &[u8]) -> Result<Reading, AllocError> {
+fn plain_reading(
+    alloc: Global,
+    query: &[u8],
+    no_backslash_escape: bool,
+) -> Result<Reading, AllocError> {
     let mut reading = Reading {
         query: Vec::new(alloc),
         names: Vec::new(alloc),
@@ -68,7 +75,7 @@ fn plain_reading(alloc: Global, query: &[u8]) -> Result<Reading, AllocError> {
     };
     let mut rest = query;
     for _ in 0..query.len() {
-        let (token, after) = rest.split_at(token_len(rest).min(rest.len()));
+        let (token, after) = rest.split_at(token_len(rest, no_backslash_escape).min(rest.len()));
         match token {
             [b':', name @ ..] if !name.is_empty() => {
                 reading.query.push(b'?')?;
@@ -86,11 +93,11 @@ fn plain_reading(alloc: Global, query: &[u8]) -> Result<Reading, AllocError> {
     Ok(reading)
 }
 
-/// Whether `parse` answers as the plain reading.
-fn agrees(alloc: Global, query: &[u8]) -> Result<bool, AllocError> {
-    let reading = plain_reading(alloc, query)?;
+/// Whether the call answers as the plain reading.
+fn answers(alloc: Global, query: &[u8], spelling: Spelling) -> Result<bool, AllocError> {
+    let reading = plain_reading(alloc, query, spelling.has_no_backslash_escape())?;
     let mixed = !reading.names.is_empty() && reading.marks > 0;
-    match ParsedNamedParams::parse(alloc, query) {
+    match spelling.parsed(alloc, query) {
         Ok(parsed) => {
             let mut same = !mixed
                 && parsed.query() == reading.query.as_slice()
@@ -103,6 +110,23 @@ fn agrees(alloc: Global, query: &[u8]) -> Result<bool, AllocError> {
         Err(NamedParamsError::Mixed(_)) => Ok(mixed),
         Err(NamedParamsError::Memory(error)) => Err(error),
     }
+}
+
+/// Every call that parses.
+const SPELLINGS: &[Spelling] = &[
+    Spelling::Parse,
+    Spelling::ParseIn(false),
+    Spelling::ParseIn(true),
+];
+
+/// Whether each call answers as the plain reading.
+fn agrees(alloc: Global, query: &[u8]) -> Result<bool, AllocError> {
+    for spelling in SPELLINGS {
+        if !answers(alloc, query, *spelling)? {
+            return Ok(false);
+        }
+    }
+    Ok(true)
 }
 
 #[test]

@@ -4,4 +4,8 @@
 #[cfg(test)]
 mod all_short_queries;
 #[cfg(test)]
+mod plain_tokens;
+#[cfg(test)]
 mod queries;
+#[cfg(test)]
+mod spellings;

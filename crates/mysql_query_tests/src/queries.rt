@@ -1,4 +1,5 @@
 //! Names and marks of single queries.
+use crate::spellings::{Spelling, WITH_BACKSLASHES};
 use mysql_params::laws::{mixed_error_equality, named_params_error_equality, parsed_equality};
 use mysql_params::named_params::{MixedParamsError, NamedParamsError, ParsedNamedParams};
 use std::alloc::{AllocError, Global};
@@ -8,9 +9,9 @@ use std::process::Abort;
 use std::test::Fail;
 
 /// The query with marks, and then each name after a newline; or `mixed`.
-fn shown(alloc: Global, query: &[u8]) -> Result<Vec<u8>, AllocError> {
+fn shown(alloc: Global, query: &[u8], spelling: Spelling) -> Result<Vec<u8>, AllocError> {
     let mut text = Vec::new(alloc);
-    match ParsedNamedParams::parse(alloc, query) {
+    match spelling.parsed(alloc, query) {
         Ok(parsed) => {
             text.extend_from_slice(parsed.query())?;
             for name in parsed.params() {
@@ -22,6 +23,21 @@ fn shown(alloc: Global, query: &[u8]) -> Result<Vec<u8>, AllocError> {
         Err(NamedParamsError::Memory(error)) => return Err(error),
     }
     Ok(text)
+}
+
+/// By each of the calls, the query is shown as this text.
+fn is_shown(
+    rt: &impl Abort,
+    alloc: Global,
+    spellings: &[Spelling],
+    query: &[u8],
+    wanted: &[u8],
+) -> Result<(), Fail> {
+    for spelling in spellings {
+        let text = shown(alloc, query, *spelling)?;
+        assert_eq!(rt; text.as_slice(), wanted, "of {query:?} by {spelling:?}");
+    }
+    Ok(())
 }
 
 // Queries, and each with its marks and the names after newlines, or `mixed`.
@@ -95,8 +111,52 @@ const QUERIES: &[(&str, &str)] = &[
 #[test]
 fn names_of_queries(rt: HostRuntime) -> Result<(), Fail> {
     for (query, wanted) in QUERIES {
-        let text = shown(rt.alloc(), query.as_bytes())?;
-        assert_eq!(rt; text.as_slice(), wanted.as_bytes(), "of {query}");
+        is_shown(
+            &rt,
+            rt.alloc(),
+            WITH_BACKSLASHES,
+            query.as_bytes(),
+            wanted.as_bytes(),
+        )?;
+    }
+    Ok(())
+}
+
+// The same in the mode without backslash escapes. There a string ends at the next quote of its kind,
+// also after a backslash.
+const QUERIES_WITHOUT_BACKSLASHES: &[(&str, &str)] = &[
+    ("", ""),
+    ("SELECT 'a\\':b", "SELECT 'a\\'?\nb"),
+    (
+        "SELECT '\"\\':a' \"'\\\"':c\" :b",
+        "SELECT '\"\\'?' \"'\\\"':c\" ?\na\nb",
+    ),
+    (
+        "INSERT INTO `my:table` VALUES (:one, ':two\\\\', :three)",
+        "INSERT INTO `my:table` VALUES (?, ':two\\\\', ?)\none\nthree",
+    ),
+    ("\"\\\" :a", "\"\\\" ?\na"),
+    ("'\\\\':a", "'\\\\'?\na"),
+    ("'it''s :a' :b", "'it''s :a' ?\nb"),
+    ("'\\':a ?", "mixed"),
+    ("'\\' ?", "'\\' ?"),
+    ("'\\'':a", "'\\'':a"),
+    ("`a\\`:b", "`a\\`?\nb"),
+    ("\\:a\\", "\\?\\\na"),
+    ("/*\\*/:a", "/*\\*/?\na"),
+    ("#\\\n:a", "#\\\n?\na"),
+];
+
+#[test]
+fn names_without_backslash_escapes(rt: HostRuntime) -> Result<(), Fail> {
+    for (query, wanted) in QUERIES_WITHOUT_BACKSLASHES {
+        is_shown(
+            &rt,
+            rt.alloc(),
+            &[Spelling::ParseIn(true)],
+            query.as_bytes(),
+            wanted.as_bytes(),
+        )?;
     }
     Ok(())
 }
@@ -125,8 +185,7 @@ const COMMENTS: &[(&[u8], &[u8])] = &[
 #[test]
 fn bytes_that_open_and_close_comments(rt: HostRuntime) -> Result<(), Fail> {
     for (query, wanted) in COMMENTS {
-        let text = shown(rt.alloc(), *query)?;
-        assert_eq!(rt; text.as_slice(), *wanted, "of {query:?}");
+        is_shown(&rt, rt.alloc(), WITH_BACKSLASHES, *query, *wanted)?;
     }
     Ok(())
 }

@@ -12,16 +12,16 @@ pub returns-in-39 : goal.returns-in-39
 returns-in-39 c = string_first _ _ _ c.requires c.in-39.is c.string_len.ensures.in_range c.string_len.ensures.string
 
 pub returns-in-96 : goal.returns-in-96
-returns-in-96 c = identifier_first _ _ _ c.requires c.in-96.is c.len_up_to.ensures.in_range c.len_up_to.ensures.up_to
+returns-in-96 c = identifier_first _ _ _ c.requires c.in-96.is c.len_up_to_byte.ensures.in_range c.len_up_to_byte.ensures.up_to
 
 pub returns-in-35 : goal.returns-in-35
-returns-in-35 c = hash_first _ _ _ c.requires c.in-35.is c.len_up_to-in-35.ensures.in_range c.len_up_to-in-35.ensures.up_to
+returns-in-35 c = hash_first _ _ _ c.requires c.in-35.is c.len_up_to_byte-in-35.ensures.in_range c.len_up_to_byte-in-35.ensures.up_to
 
 pub returns-in-45 : goal.returns-in-45
-returns-in-45 c = dash_first _ _ _ c.requires c.in-45.is (sym c.opens_dash_comment.ensures ∙ c.if-opens_dash_comment.true) c.len_up_to-in-45.ensures.in_range c.len_up_to-in-45.ensures.up_to
+returns-in-45 c = dash_first _ _ _ c.requires c.in-45.is (sym c.opens_dash_comment.ensures ∙ c.if-opens_dash_comment.true) c.len_up_to_byte-in-45.ensures.in_range c.len_up_to_byte-in-45.ensures.up_to
 
 pub returns-in-47 : goal.returns-in-47
-returns-in-47 c = block_first _ _ _ c.requires c.in-47.is (sym c.opens_block_comment.ensures ∙ c.if-opens_block_comment.true) c.len_up_to-in-47.ensures.in_range c.len_up_to-in-47.ensures.up_to
+returns-in-47 c = block_first _ _ _ c.requires c.in-47.is (sym c.opens_block_comment.ensures ∙ c.if-opens_block_comment.true) c.len_up_to_close.ensures.in_range c.len_up_to_close.ensures.up_to
 
 pub returns-in-58-2 : goal.returns-in-58-2
 returns-in-58-2 c = plain_first _ _ c.requires (plain_colon _ _ _ c.in-58.is (sym c.opens_name.ensures ∙ c.if-opens_name.false))

@@ -1,0 +1,76 @@
+//! Runs of bytes with which no token but a plain one begins: the first bytes are passed by a table,
+//! since most runs are short, and longer ones 16 bytes at once.
+ghost use Rattle.std.specs.Prelude.{◌≡◌, ◌+◌, ◌≤◌, length, IsTrue};
+ghost use Rattle.mysql_named_params.specs.FirstPlace.{is_always_plain, AreAlwaysPlain};
+
+use std::simd::prelude::*;
+
+// So many bytes are passed by the table.
+const NEAR: usize = 8;
+
+const LANES: usize = 16;
+
+/// An index up to which no byte from this one on begins another token than a plain one. It is the
+/// furthest such index, which no contract says: `first_place` looks into the byte there anyhow.
+pub(crate) fn plain_end(text: &[u8], from: usize) -> usize
+    requires { from ≤ length text.now }
+    ensures in_range { (from ≤ result) × (result ≤ length text.now) }
+    ensures plain { AreAlwaysPlain text.now from result }
+{
+    let near = text.len().min(from.saturating_add(NEAR));
+    for at in from..near {
+        if !is_always_plain(text[at]) {
+            return at;
+        }
+    }
+    far_plain_end(text, near)
+}
+
+// The same: 16 bytes at once as long as all are such, and then one by one.
+fn far_plain_end(text: &[u8], from: usize) -> usize
+    requires { from ≤ length text.now }
+    ensures in_range { (from ≤ result) × (result ≤ length text.now) }
+    ensures plain { AreAlwaysPlain text.now from result }
+{
+    let mut at = from;
+    'by_lanes: while text.len() - at >= LANES && are_always_plain(text, at) {
+        at += LANES;
+    }
+    while at < text.len() && is_always_plain(text[at]) {
+        at += 1;
+    }
+    at
+}
+
+// Whether the 16 bytes from this one on are all such. No contract says that `false` is told only
+// where one is not, since these bytes are looked at one by one then.
+fn are_always_plain(text: &[u8], at: usize) -> bool
+    requires { at + LANES ≤ length text.now }
+    ensures { IsTrue result → AreAlwaysPlain text.now at (at + LANES) }
+{
+    let bytes = u8x16::from_slice(&text[at..]);
+    let quotes = bytes.simd_eq(u8x16::splat(b'\'')) | bytes.simd_eq(u8x16::splat(b'"'));
+    let identifier_or_hash = bytes.simd_eq(u8x16::splat(b'`')) | bytes.simd_eq(u8x16::splat(b'#'));
+    let dash_or_slash = bytes.simd_eq(u8x16::splat(b'-')) | bytes.simd_eq(u8x16::splat(b'/'));
+    let places = bytes.simd_eq(u8x16::splat(b':')) | bytes.simd_eq(u8x16::splat(b'?'));
+    let others = (quotes | identifier_or_hash) | (dash_or_slash | places);
+    others.to_bitmask() == 0
+}
+
+// Whether no token but a plain one begins with the byte.
+fn is_always_plain(byte: u8) -> bool
+    ensures { result ≡ is_always_plain byte }
+{
+    ALWAYS_PLAIN[byte as usize] == b'1'
+}
+
+// `1` for each byte with which no token but a plain one begins, 32 bytes a line.
+static ALWAYS_PLAIN: [u8; 256] = *b"\
+    11111111111111111111111111111111\
+    11001110111110101111111111011110\
+    11111111111111111111111111111111\
+    01111111111111111111111111111111\
+    11111111111111111111111111111111\
+    11111111111111111111111111111111\
+    11111111111111111111111111111111\
+    11111111111111111111111111111111";
