@@ -8,9 +8,11 @@ pub mod StandsAloneLemmas
 pub mod FirstNotAloneLemmas
 pub mod ValueLiteralLemmas
 pub mod RenamedPlaceLemmas
+pub mod TextLengthLemmas
 pub mod SurveyLemmas
 pub mod CauseLemmas
 pub mod NameListLemmas
 pub mod WrittenTextLemmas
+pub mod FilledTextLemmas
 pub mod BoundTextLemmas
 pub mod BoundAgainLemmas

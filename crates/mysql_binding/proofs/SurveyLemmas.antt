@@ -1,7 +1,7 @@
 -- The places that are surveyed as far as a position, and those that are left.
 use Rattle.std.specs.Prelude.{Bool}
 use Rattle.std.specs.Option.{option_or}
-use Rattle.std.proofs.Common.{◌≡◌, ℕ, ◌+◌, ◌≤◌, true, false, List, [], ◌∷◌, ◌++◌, length, take, drop, if◌then◌else◌, Option, Some, None, refl, sym, ap, ◌∙◌, subst, arith, append_assoc, append-nil, drop-drop, length-drop}
+use Rattle.std.proofs.Common.{◌≡◌, ℕ, ◌+◌, ◌-◌, ◌≤◌, true, false, List, [], ◌∷◌, ◌++◌, length, take, drop, if◌then◌else◌, Option, Some, None, refl, sym, ap, ◌∙◌, subst, arith, append_assoc, append-nil, drop-drop, length-drop}
 use Rattle.std.proofs.Math.Seq.{take-add}
 use Rattle.std.proofs.lemmas.List.{length-take-le}
 use Rattle.mysql_named_params.specs.Tokens.{Token, IsTokens, OnTokens, bytes_of, text_of, Name, Mark}
@@ -15,11 +15,13 @@ use Rattle.mysql_named_params.proofs.TokensExistLemmas.{tokens_exist}
 use Rattle.mysql_named_params.proofs.TokenRowLemmas.{place_count-sum}
 use Rattle.mysql_named_params.proofs.FoundPlaceLemmas.{IsPartedAt, parted, names_at_name, marks_at_name, names_at_mark, marks_at_mark}
 use Rattle.mysql_binding.specs.StandsAlone.{stands_alone, first_not_alone, first_not_alone_from}
+use Rattle.mysql_binding.specs.TextLength.{pieces_len}
 use Rattle.mysql_binding.proofs.RenamedPlaceLemmas.{no_place_alone}
+use Rattle.mysql_binding.proofs.TextLengthLemmas.{plain_len, plain_len-place, plain_len-no_place, pieces_len-plain_len}
 
 -- with those that are left, so many names and marks are those of the query, and what is found so
 -- far, or else among them, is its first place that doesn't stand alone
-pub record SurveyedSoFar (mode : Bool) (query : List ℕ) (at name_count mark_count : ℕ) (not_alone : Option (ℕ × ℕ)) : Type 0 where
+pub record SurveyedSoFar (mode : Bool) (query : List ℕ) (at name_count mark_count : ℕ) (not_alone : Option (ℕ × ℕ)) (piece_bytes : ℕ) : Type 0 where
   pub all : List Token
   pub tokens : IsTokens mode query all
   pub left : List Token
@@ -29,12 +31,14 @@ pub record SurveyedSoFar (mode : Bool) (query : List ℕ) (at name_count mark_co
   pub finds : option_or not_alone (first_not_alone_from (name_count + mark_count) (take at query) left) ≡ first_not_alone all
   -- each place has a byte
   pub room : name_count + mark_count ≤ at
+  pub pieces_are : piece_bytes + plain_len left ≡ plain_len all
+  pub pieces_room : piece_bytes ≤ at
   pub in_range : at ≤ length query
 
-pub surveyed_none : (mode : Bool) (query : List ℕ) → SurveyedSoFar mode query 0 0 0 None
+pub surveyed_none : (mode : Bool) (query : List ℕ) → SurveyedSoFar mode query 0 0 0 None 0
 surveyed_none mode query =
     let ts = tokens_exist mode query in
-    record { all = ts.0; tokens = ts.1; left = ts.0; rest_tokens = ts.1; names_are = omega arith; marks_are = omega arith; finds = refl; room = omega arith; in_range = omega arith }
+    record { all = ts.0; tokens = ts.1; left = ts.0; rest_tokens = ts.1; names_are = omega arith; marks_are = omega arith; finds = refl; room = omega arith; pieces_are = omega arith; pieces_room = omega arith; in_range = omega arith }
 
 -- ---- options
 
@@ -69,7 +73,7 @@ first_not_alone-place (Name name) k ts place before e = refl
 first_not_alone-place Mark k ts place before e = refl
 first_not_alone-place t k ts place before e = cc
 
-module _ (mode : Bool) (query rest : List ℕ) (at i j : ℕ) (not_alone : Option (ℕ × ℕ)) (found : FoundPlace) (s : SurveyedSoFar mode query at i j not_alone) (rest_is : rest ≡ drop at query) (o : OnTokens mode rest (λ us. IsFirstPlace us found)) where
+module _ (mode : Bool) (query rest : List ℕ) (at i j : ℕ) (not_alone : Option (ℕ × ℕ)) (b : ℕ) (found : FoundPlace) (s : SurveyedSoFar mode query at i j not_alone b) (rest_is : rest ≡ drop at query) (o : OnTokens mode rest (λ us. IsFirstPlace us found)) where
   abbrev pub start : ℕ
   start = at + found.before
 
@@ -111,12 +115,18 @@ module _ (mode : Bool) (query rest : List ℕ) (at i j : ℕ) (not_alone : Optio
       ∙ (ap (λ x. if stands_alone (take start query) (drop end query) then first_not_alone_from (i + j + 1) (take end query) p.back else Some (i + j, x)) start_length
       ∙ if-option_or (stands_alone (take start query) (drop end query)) (first_not_alone_from (i + j + 1) (take end query) p.back) (i + j, start)))))))
 
+  front_length : length (text_of p.front) ≡ found.before
+  front_length = ap length p.front_text ∙ length-take-le found.before (drop at query) (omega (arith, p.in_range))
+
+  pieces_here : plain_len s.left ≡ found.before + plain_len p.back
+  pieces_here = ap plain_len p.tokens_are ∙ (plain_len-place p.front p.place found.kind p.back p.no_place p.kind_is ∙ ap (λ m. m + plain_len p.back) front_length)
+
   -- one place more
-  surveyed_place : (k l n : ℕ) (not_alone' : Option (ℕ × ℕ)) → k + l ≡ i + j + 1 →
+  surveyed_place : (k l n c : ℕ) (not_alone' : Option (ℕ × ℕ)) → k + l ≡ i + j + 1 →
       k + length (names p.back) ≡ i + length (names s.left) → l + marks p.back ≡ j + marks s.left →
-      n ≡ end → not_alone' ≡ option_or not_alone here → SurveyedSoFar mode query n k l not_alone'
-  surveyed_place k l n not_alone' more names_more marks_more n_is not_alone_is =
-      subst (λ x. SurveyedSoFar mode query x k l not_alone') (sym n_is) (record {
+      n ≡ end → c ≡ b + found.before → not_alone' ≡ option_or not_alone here → SurveyedSoFar mode query n k l not_alone' c
+  surveyed_place k l n c not_alone' more names_more marks_more n_is c_is not_alone_is =
+      subst (λ x. SurveyedSoFar mode query x k l not_alone' c) (sym n_is) (record {
         all = s.all;
         tokens = s.tokens;
         left = p.back;
@@ -127,36 +137,40 @@ module _ (mode : Bool) (query rest : List ℕ) (at i j : ℕ) (not_alone : Optio
             ∙ (ap (λ m. option_or (option_or not_alone here) (first_not_alone_from m (take end query) p.back)) more
             ∙ (option_or-assoc not_alone here _ ∙ (ap (option_or not_alone) (sym finds_here) ∙ s.finds)));
         room = omega (arith, more, s.room, p.has_length, end_is);
+        pieces_are = omega (arith, c_is, pieces_here, s.pieces_are);
+        pieces_room = omega (arith, c_is, s.pieces_room, end_is);
         in_range = end_in_range;
       })
 
-  pub surveyed_name : (k l n : ℕ) (not_alone' : Option (ℕ × ℕ)) → found.kind ≡ kind.Name → k ≡ i + 1 →
-      l ≡ j → n ≡ end → not_alone' ≡ option_or not_alone here →
-      SurveyedSoFar mode query n k l not_alone'
-  surveyed_name k l n not_alone' e ek el n_is not_alone_is =
+  pub surveyed_name : (k l n c : ℕ) (not_alone' : Option (ℕ × ℕ)) → found.kind ≡ kind.Name → k ≡ i + 1 →
+      l ≡ j → n ≡ end → c ≡ b + found.before → not_alone' ≡ option_or not_alone here →
+      SurveyedSoFar mode query n k l not_alone' c
+  surveyed_name k l n c not_alone' e ek el n_is c_is not_alone_is =
       let is = p.kind_is ∙ ap Some e in
-      surveyed_place k l n not_alone' (omega (arith, ek, el))
+      surveyed_place k l n c not_alone' (omega (arith, ek, el))
       (omega (arith, ek, ap (λ x. length (names x)) p.tokens_are, ap length (names_at_name p.front p.place p.back p.no_place is)))
       (omega (arith, el, ap marks p.tokens_are, marks_at_name p.front p.place p.back p.no_place is))
-      n_is not_alone_is
+      n_is c_is not_alone_is
 
-  pub surveyed_mark : (k l n : ℕ) (not_alone' : Option (ℕ × ℕ)) → found.kind ≡ kind.Mark → k ≡ i →
-      l ≡ j + 1 → n ≡ end → not_alone' ≡ option_or not_alone here →
-      SurveyedSoFar mode query n k l not_alone'
-  surveyed_mark k l n not_alone' e ek el n_is not_alone_is =
+  pub surveyed_mark : (k l n c : ℕ) (not_alone' : Option (ℕ × ℕ)) → found.kind ≡ kind.Mark → k ≡ i →
+      l ≡ j + 1 → n ≡ end → c ≡ b + found.before → not_alone' ≡ option_or not_alone here →
+      SurveyedSoFar mode query n k l not_alone' c
+  surveyed_mark k l n c not_alone' e ek el n_is c_is not_alone_is =
       let is = p.kind_is ∙ ap Some e in
-      surveyed_place k l n not_alone' (omega (arith, ek, el))
+      surveyed_place k l n c not_alone' (omega (arith, ek, el))
       (omega (arith, ek, ap (λ x. length (names x)) p.tokens_are, ap length (names_at_mark p.front p.place p.back p.no_place is)))
       (omega (arith, el, ap marks p.tokens_are, marks_at_mark p.front p.place p.back p.no_place is))
-      n_is not_alone_is
+      n_is c_is not_alone_is
 
 -- where no place is left, all are surveyed
-pub surveyed_all : (mode : Bool) (query rest : List ℕ) (at i j : ℕ) (not_alone : Option (ℕ × ℕ)) →
-    SurveyedSoFar mode query at i j not_alone → rest ≡ drop at query →
+pub surveyed_all : (mode : Bool) (query rest : List ℕ) (at i j : ℕ) (not_alone : Option (ℕ × ℕ)) (b c : ℕ) →
+    SurveyedSoFar mode query at i j not_alone b → c ≡ b + (length query - at) → rest ≡ drop at query →
     OnTokens mode rest (λ us. place_count us ≡ 0) →
-    OnTokens mode query (λ ts. (i ≡ length (names ts)) × (j ≡ marks ts) × (not_alone ≡ first_not_alone ts))
-surveyed_all mode query rest at i j not_alone s rest_is o =
+    OnTokens mode query (λ ts. (i ≡ length (names ts)) × (j ≡ marks ts) × (not_alone ≡ first_not_alone ts) × (c ≡ pieces_len ts))
+surveyed_all mode query rest at i j not_alone b c s c_is rest_is o =
     let same : o.0 ≡ s.left = one_token_list mode rest o.0 s.left o.1 (subst (λ x. IsTokens mode x s.left) (sym rest_is) s.rest_tokens) in
     let none : place_count s.left ≡ 0 = sym (ap place_count same) ∙ o.2 in
     let found : not_alone ≡ first_not_alone s.all = sym (option_or-None not_alone) ∙ (ap (option_or not_alone) (sym (no_place_alone s.left (i + j) (take at query) none)) ∙ s.finds) in
-    (s.all, s.tokens, (omega (arith, s.names_are, none, place_count-sum s.left), omega (arith, s.marks_are, none, place_count-sum s.left), found))
+    let left_len : plain_len s.left ≡ length query - at = plain_len-no_place s.left none ∙ (ap length s.rest_tokens.text ∙ length-drop at query) in
+    let len : c ≡ pieces_len s.all = c_is ∙ (omega (arith, left_len, s.pieces_are) ∙ sym (pieces_len-plain_len s.all)) in
+    (s.all, s.tokens, (omega (arith, s.names_are, none, place_count-sum s.left), omega (arith, s.marks_are, none, place_count-sum s.left), found, len))

@@ -1,7 +1,9 @@
 -- A text that is written as far as a rest of the query.
 use Rattle.std.specs.Prelude.{Bool}
-use Rattle.std.proofs.Common.{◌≡◌, ℕ, ◌+◌, ◌<◌, ◌≤◌, false, List, [], ◌∷◌, ◌++◌, length, take, drop, get_or, Some, None, refl, sym, ap, ◌∙◌, subst, arith, append_assoc, append-nil, drop-drop, take_all}
-use Rattle.std.proofs.lemmas.List.{take_more}
+use Rattle.std.specs.List.{sum, sum_by}
+use Rattle.std.proofs.Common.{◌≡◌, ℕ, ◌+◌, ◌<◌, ◌≤◌, false, List, [], ◌∷◌, ◌++◌, length, length-append, map, take, drop, get_or, Some, None, refl, sym, ap, ◌∙◌, subst, arith, append_assoc, append-nil, drop-drop, take_all}
+use Rattle.std.proofs.lemmas.List.{take_more, drop_all}
+use Rattle.std.proofs.lemmas.List.Sums.{sum-map}
 use Rattle.mysql_values.specs.declared.value.Value.{Value}
 use Rattle.mysql_values.specs.Literal.{is_float, literal_of}
 use Rattle.mysql_values.specs.ReadBack.{ReadsAs}
@@ -17,14 +19,16 @@ use Rattle.mysql_named_params.proofs.FoundPlaceLemmas.{parted}
 use Rattle.mysql_binding.specs.FirstCause.{first_float_from, first_float}
 use Rattle.mysql_binding.specs.Replaced.{AreLiterals}
 use Rattle.mysql_binding.specs.ValueLiterals.{AreLiteralsOf, AreReadAs}
+use Rattle.mysql_binding.specs.TextLength.{pieces_len, literal_len}
 use Rattle.mysql_binding.specs.WrittenText.{IsWrittenText}
 use Rattle.mysql_binding.proofs.BoundText.{bound}
 use Rattle.mysql_binding.proofs.PieceLemmas.{bound_none, joined_text-pieces_from}
+use Rattle.mysql_binding.proofs.TextLengthLemmas.{plain_len, plain_len-place, plain_len-no_place, pieces_len-plain_len, lens_left, literal_len-literal_of}
 use Rattle.mysql_binding.proofs.ValueLiteralLemmas.{AreReadAs-push, AreLiterals-push, AreLiteralsOf-push, as_many_texts, no_float}
 
 -- the literals of the first so many values stand in the text, and whatever stands in the places that
 -- are left, it will follow them
-pub record WrittenSoFar (mode : Bool) (query rest : List ℕ) (values : List Value) (i : ℕ) (text : List ℕ) : Type 0 where
+pub record WrittenSoFar (mode : Bool) (query rest : List ℕ) (values : List Value) (i : ℕ) (text : List ℕ) (len : ℕ) : Type 0 where
   pub all : List Token
   pub tokens : IsTokens mode query all
   pub left : List Token
@@ -37,11 +41,14 @@ pub record WrittenSoFar (mode : Bool) (query rest : List ℕ) (values : List Val
   pub reads_back : AreReadAs mode (take i values) literals
   pub no_float_left : first_float_from i (drop i values) ≡ None
   pub text_is : (more : List (List ℕ)) → text ++ bound left more ≡ bound all (literals ++ more)
+  -- with what is left, the whole text has this length
+  pub len_is : length text + (plain_len left + sum_by (literal_len mode) (drop i values)) ≡ len
 
-pub written_none : (mode : Bool) (query : List ℕ) (values : List Value) (text : List ℕ) →
+pub written_none : (mode : Bool) (query : List ℕ) (values : List Value) (lens text : List ℕ) (len : ℕ) →
     OnTokens mode query (λ ts. length values ≡ place_count ts) → first_float values ≡ None →
-    text ≡ [] → WrittenSoFar mode query query values 0 text
-written_none mode query values text o no_floats nil = record {
+    lens ≡ map (literal_len mode) values → OnTokens mode query (λ ts. len ≡ pieces_len ts + sum lens) →
+    text ≡ [] → WrittenSoFar mode query query values 0 text len
+written_none mode query values lens text len o no_floats lens_are whole nil = record {
   all = o.0;
   tokens = o.1;
   left = o.0;
@@ -54,6 +61,12 @@ written_none mode query values text o no_floats nil = record {
   reads_back = tt;
   no_float_left = no_floats;
   text_is = λ more. ap (λ x. x ++ bound o.0 more) nil;
+  len_is =
+      let same : whole.0 ≡ o.0 = one_token_list mode query whole.0 o.0 whole.1 o.1 in
+      let all : len ≡ pieces_len o.0 + sum lens = subst (λ ts. len ≡ pieces_len ts + sum lens) same whole.2 in
+      let pieces : pieces_len o.0 ≡ plain_len o.0 = pieces_len-plain_len o.0 in
+      let sums : sum lens ≡ sum_by (literal_len mode) values = ap sum lens_are ∙ sum-map (literal_len mode) values in
+      omega (arith, all, pieces, sums, ap length nil);
 }
 
 -- ---- the first place of tokens that are parted there
@@ -74,7 +87,7 @@ place_count-place (Name name) k back e = refl
 place_count-place Mark k back e = refl
 place_count-place t k back e = cc
 
-module _ (mode : Bool) (query rest : List ℕ) (values : List Value) (i : ℕ) (text : List ℕ) (s : WrittenSoFar mode query rest values i text) where
+module _ (mode : Bool) (query rest : List ℕ) (values : List Value) (i : ℕ) (text : List ℕ) (len : ℕ) (s : WrittenSoFar mode query rest values i text len) where
   -- as long as values are left, a place is found
   pub place_left : i < length values → OnTokens mode rest (λ us. place_count us ≡ 0) → ⊥
   place_left below o =
@@ -84,13 +97,23 @@ module _ (mode : Bool) (query rest : List ℕ) (values : List Value) (i : ℕ) (
   pub value_is_no_float : (v : Value) → i < length values → v ≡ get_or values i v → is_float v ≡ false
   value_is_no_float v below v_is = (no_float values i v below v_is s.no_float_left).0
 
+  -- the piece before the next place, and the literal of its value, are within the whole text
+  pub next_fits : (run : List ℕ) (v : Value) (found : FoundPlace) → i < length values → v ≡ get_or values i v →
+      OnTokens mode rest (λ us. IsFirstPlace us found) → run ≡ take found.before rest →
+      length text + (length run + literal_len mode v) ≤ len
+  next_fits run v found below v_is o run_is =
+      let p = parted mode rest s.left found s.rest_tokens o in
+      let front : length (text_of p.front) ≡ length run = ap length p.front_text ∙ sym (ap length run_is) in
+      let plain : plain_len s.left ≡ length (text_of p.front) + plain_len p.back = ap plain_len p.tokens_are ∙ plain_len-place p.front p.place found.kind p.back p.no_place p.kind_is in
+      omega (arith, s.len_is, front, plain, lens_left mode values i v below v_is)
+
   -- one value more: the bytes before its place, and its literal
   pub written_more : (run from_place after sql text' text'' : List ℕ) (v : Value) (found : FoundPlace) →
       i < length values → v ≡ get_or values i v → OnTokens mode rest (λ us. IsFirstPlace us found) →
       run ≡ take found.before rest → from_place ≡ drop found.before rest →
       after ≡ drop found.len from_place → literal_of mode v ≡ Some sql → IsLiteral mode sql →
       ReadsAs mode v sql → text' ≡ text ++ run → text'' ≡ text' ++ sql →
-      WrittenSoFar mode query after values (i + 1) text''
+      WrittenSoFar mode query after values (i + 1) text'' len
   written_more run from_place after sql text' text'' v found below v_is o run_is from_is after_is literal shape reads text_more text_more' =
       let p = parted mode rest s.left found s.rest_tokens o in
       let after_rest : drop (found.before + found.len) rest ≡ after = sym (drop-drop found.len found.before rest) ∙ sym (after_is ∙ ap (drop found.len) from_is) in
@@ -116,7 +139,29 @@ module _ (mode : Bool) (query rest : List ℕ) (values : List Value) (i : ℕ) (
             ∙ (ap (λ x. text ++ (x ++ (sql ++ bound p.back more))) (sym run_text)
             ∙ (ap (λ x. text ++ x) (sym (ap (λ x. bound x (sql ∷ more)) p.tokens_are ∙ bound-place p.front p.place found.kind p.back sql more p.no_place p.kind_is))
             ∙ (s.text_is (sql ∷ more) ∙ ap (bound s.all) (sym (append_assoc s.literals (sql ∷ []) more)))))));
+        len_is =
+            let plain : plain_len s.left ≡ length (text_of p.front) + plain_len p.back = ap plain_len p.tokens_are ∙ plain_len-place p.front p.place found.kind p.back p.no_place p.kind_is in
+            omega (
+              arith,
+              s.len_is,
+              plain,
+              ap length run_text,
+              lens_left mode values i v below v_is,
+              literal_len-literal_of mode v sql literal,
+              ap length text_more,
+              length-append text run,
+              ap length text_more',
+              length-append text' sql,
+            );
       }
+
+  -- once all values are written, the rest is what is missing of the text
+  pub rest_fits : length values ≤ i → length text + length rest ≡ len
+  rest_fits done =
+      let none : place_count s.left ≡ 0 = omega (arith, s.places_left, done) in
+      let plain : plain_len s.left ≡ length rest = plain_len-no_place s.left none ∙ ap length s.rest_tokens.text in
+      let no_lens : sum_by (literal_len mode) (drop i values) ≡ 0 = ap (sum_by (literal_len mode)) (drop_all i values done) in
+      omega (arith, s.len_is, plain, no_lens)
 
   -- once all values are written, the rest follows as it is
   pub written_all : (text' : List ℕ) → length values ≤ i → text' ≡ text ++ rest →

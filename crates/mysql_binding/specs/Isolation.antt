@@ -1,8 +1,8 @@
 -- What binding promises of the text that it gives: each value stands in one literal, and nothing
--- else of the query changes. `bind_text` promises this record in the mode with backslashes, or an
--- error that is the first cause or out of memory (BindErrors.antt). Of such a text the laws
--- `no_place_is_left`, `bound_again_is_the_same`, `by_position_is_the_same` and
--- `equal_texts_say_the_same` of src/laws.rt hold.
+-- else of the query changes. `bind_text_in` promises this record in the mode that its flag names, and
+-- `bind_text` in the mode with backslashes, or an error that is the first cause or out of memory
+-- (BindErrors.antt). Of such a text the laws `no_place_is_left`, `bound_again_is_the_same`,
+-- `by_position_is_the_same` and `equal_texts_say_the_same` of src/laws.rt hold.
 use Rattle.std.specs.Prelude.{◌≡◌, ℕ, Bool, List, map, Some, None, Ok}
 use Rattle.mysql_values.specs.declared.value.Value.{Value}
 use Rattle.mysql_values.specs.Content.{content_of}

@@ -3,6 +3,7 @@ pub mod Pieces
 pub mod Contents
 pub mod Replaced
 pub mod FirstCause
+pub mod TextLength
 pub mod Survey
 pub mod ValueLiterals
 pub mod WrittenText

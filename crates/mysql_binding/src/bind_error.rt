@@ -3,8 +3,8 @@ use mysql_params_core::params::ParamsError;
 use std::alloc::AllocError;
 use thiserror::Error;
 
-/// Why [`bind_text`](crate::bind_text) gave no text. Of several causes it is the first, in this
-/// order.
+/// Why [`bind_text`](crate::bind_text) or [`bind_text_in`](crate::bind_text_in) gave no text. Of
+/// several causes it is the first, in this order.
 #[derive(Debug, PartialEq, Drop, Error)]
 pub enum BindError {
     /// The query has both named and positional parameters.

@@ -6,6 +6,7 @@ ghost use Rattle.mysql_named_params.specs.Places.{names, HasName, HasMark};
 ghost use Rattle.mysql_params_core.specs.Errors.{lookup_refusal};
 ghost use Rattle.mysql_params_core.specs.Given.{given};
 ghost use Rattle.mysql_params_core.specs.Lookup.{lookup};
+ghost use Rattle.mysql_params_core.specs.Referents.{referents};
 ghost use Rattle.mysql_binding.specs.BindErrors.{IsRefusal, cause_of};
 ghost use Rattle.mysql_binding.specs.FirstCause.{mark_count_differs, first_cause, later_cause, mixed_cause, refused_params};
 ghost use Rattle.mysql_binding.specs.Isolation.{IsBoundText};
@@ -19,23 +20,65 @@ mod text;
 
 use crate::bind_error::BindError;
 use crate::binding::literals::first_float;
-use crate::binding::names::owned_names;
+use crate::binding::names::query_names;
 use crate::binding::survey::{Survey, place_survey};
 use crate::binding::text::written_text;
-use mysql_params_core::params::{Params, ParamsError};
+use mysql_params_core::params::{Params, ParamsError, place_values};
 use mysql_values::value::Value;
 use std::alloc::Global;
 
 /// The query with the literal of a value in the place of each name and mark: the names' own, or the
 /// positional ones in their order. Nothing else of the query changes.
 ///
-/// The query is read in the mode in which a backslash escapes, as [`ParsedNamedParams`](mysql_named_params::named_params::ParsedNamedParams) reads it,
-/// and the literals are for a server in that mode. The first of these causes refuses it: names and
-/// marks in one query; what [`Params::into_values`] refuses for its names; without names, marks
-/// that are not as many as the values; a place that doesn't stand alone; a float. A place stands
-/// alone where the byte before it is none, white space or one of `(,=<>+*%&|^~`, and the byte
-/// after it is none, white space or one of `),;=<>+-*/%&|^!`. The parameters are consumed, also
-/// where the call refuses.
+/// The first of these causes refuses it: names and marks in one query; what [`Params::into_values`]
+/// refuses for its names; without names, marks that are not as many as the values; a place that
+/// doesn't stand alone; a float. A place stands alone where the byte before it is none, white space
+/// or one of `(,=<>+*%&|^~`, and the byte after it is none, white space or one of
+/// `),;=<>+-*/%&|^!`. The parameters are consumed, also where the call refuses.
+///
+/// The flag is the server's mode, in which the query is read, as
+/// [`ParsedNamedParams`](mysql_named_params::named_params::ParsedNamedParams) reads it, and the
+/// literals are written: with `true`, as where `sql_mode` has `NO_BACKSLASH_ESCAPES`, a backslash is
+/// a byte like any other; with `false` it escapes the byte after it in a string.
+// A query has one token list in each mode (`mysql_named_params::laws::one_token_list`), so the
+// clauses speak of the same `ts`.
+pub fn bind_text_in(
+    alloc: Global,
+    query: &[u8],
+    params: Params,
+    no_backslash_escape: bool,
+) -> Result<Vec<u8>, BindError>
+    ensures bound { OnTokens no_backslash_escape query.now (λ ts. IfOk result (λ text.
+        IsBoundText no_backslash_escape ts (given params) text.items)) }
+    ensures refused { OnTokens no_backslash_escape query.now (λ ts. IfErr result
+        (IsRefusal (first_cause ts (given params)))) }
+
+    // A query with a name and a mark is refused without taking memory.
+    ensures mixed { OnTokens no_backslash_escape query.now (λ ts.
+        HasName ts × HasMark ts → IsErrOf result BindError.Mixed) }
+{
+    let survey = place_survey(query, no_backslash_escape);
+    if survey.names > 0 && survey.marks > 0 {
+        return Err(BindError::Mixed);
+    }
+    let values = values_of_places(alloc, query, survey.names, &params, no_backslash_escape)?;
+    if let Some(error) = later_error(survey, values.as_slice()) {
+        return Err(error);
+    }
+    match written_text(
+        alloc,
+        query,
+        survey.piece_bytes,
+        values.as_slice(),
+        no_backslash_escape,
+    ) {
+        Ok(text) => Ok(text),
+        Err(error) => Err(BindError::Memory(error)),
+    }
+}
+
+/// The query with the literal of a value in the place of each name and mark, in the mode in which a
+/// backslash escapes: [`bind_text_in`] with `false`, which says what refuses it.
 // A query has one token list (`mysql_named_params::laws::one_token_list`), so the clauses speak of the same `ts`.
 pub fn bind_text(alloc: Global, query: &[u8], params: Params) -> Result<Vec<u8>, BindError>
     ensures bound { OnTokens with_backslashes query.now (λ ts. IfOk result (λ text.
@@ -43,44 +86,34 @@ pub fn bind_text(alloc: Global, query: &[u8], params: Params) -> Result<Vec<u8>,
     ensures refused { OnTokens with_backslashes query.now (λ ts. IfErr result
         (IsRefusal (first_cause ts (given params)))) }
 
-    // A query with a name and a mark is refused without taking memory.
+    // A query with a name and a mark is refused without allocating.
     ensures mixed { OnTokens with_backslashes query.now (λ ts.
         HasName ts × HasMark ts → IsErrOf result BindError.Mixed) }
 {
-    let survey = place_survey(query, false);
-    if survey.names > 0 && survey.marks > 0 {
-        return Err(BindError::Mixed);
-    }
-    let values = values_of_places(alloc, query, survey.names, params)?;
-    if let Some(error) = later_error(survey, values.as_slice()) {
-        return Err(error);
-    }
-    match written_text(alloc, query, values.as_slice(), false) {
-        Ok(text) => Ok(text),
-        Err(error) => Err(BindError::Memory(error)),
-    }
+    bind_text_in(alloc, query, params, false)
 }
 
-// The values that are given to the places of a query with this many names, and no marks beside them.
-// The names are dropped before the text is written.
-fn values_of_places(
+// The values that are given to the places of a query with this many names, and no marks beside them,
+// where they stand in the parameters. The list of names is dropped before the text is written.
+fn values_of_places<'p>(
     alloc: Global,
     query: &[u8],
     name_count: usize,
-    params: Params,
-) -> Result<Vec<Value>, BindError>
-    requires { OnTokens with_backslashes query.now (λ ts.
+    params: &'p Params,
+    no_backslash_escape: bool,
+) -> Result<Vec<&'p Value>, BindError>
+    requires { OnTokens no_backslash_escape query.now (λ ts.
         (name_count ≡ length (names ts)) × (mixed_cause ts ≡ None)) }
-    ensures values { IfOk result (λ values. OnTokens with_backslashes query.now (λ ts.
-        lookup (given params) (names ts) ≡ Ok values.items)) }
-    ensures refused { IfErr result (λ error. OnTokens with_backslashes query.now (λ ts.
-        IsRefusal (first_cause ts (given params)) error)) }
+    ensures values { IfOk result (λ values. OnTokens no_backslash_escape query.now (λ ts.
+        lookup (given params.now) (names ts) ≡ Ok (referents values.items))) }
+    ensures refused { IfErr result (λ error. OnTokens no_backslash_escape query.now (λ ts.
+        IsRefusal (first_cause ts (given params.now)) error)) }
 {
-    let names = match owned_names(alloc, query, name_count, false) {
+    let names = match query_names(alloc, query, name_count, no_backslash_escape) {
         Ok(names) => names,
         Err(error) => return Err(BindError::Memory(error)),
     };
-    match params.into_values(alloc, Some(names.as_slice())) {
+    match place_values(alloc, params, names.as_slice()) {
         Ok(values) => Ok(values),
         Err(error) => Err(bind_error_of(error)),
     }
@@ -98,9 +131,9 @@ fn bind_error_of(error: ParamsError) -> BindError
 }
 
 // The first of the causes after the lookup: the marks, the places, the floats.
-fn later_error(survey: Survey, values: &[Value]) -> Option<BindError>
+fn later_error(survey: Survey, values: &[&Value]) -> Option<BindError>
     ensures { (ts : List Token) → IsSurvey survey ts →
-        option_map cause_of result ≡ option_map Some (later_cause ts values.now) }
+        option_map cause_of result ≡ option_map Some (later_cause ts (referents values.now)) }
 {
     if mark_count_differs(survey, values.len()) {
         return Some(BindError::MarkCount {

@@ -1,6 +1,7 @@
 //! Binding: the literals of values in the places of a query's names and marks.
 //!
-//! [`bind_text`] is the call. What it promises of the text stands in `specs/Isolation.antt`: each
+//! [`bind_text_in`] is the call for a mode of the server, and [`bind_text`] the same for the mode in
+//! which a backslash escapes. What they promise of the text stands in `specs/Isolation.antt`: each
 //! value stands in one literal, and nothing else of the query changes.
 #![tactic(auto)]
 
@@ -9,4 +10,4 @@ mod binding;
 pub mod laws;
 
 pub use bind_error::BindError;
-pub use binding::bind_text;
+pub use binding::{bind_text, bind_text_in};

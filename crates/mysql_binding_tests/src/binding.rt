@@ -1,5 +1,5 @@
 //! Queries with values bound into them, and those that are refused.
-use crate::shared::{Given, Plain, Refused, is_bound};
+use crate::shared::{EITHER_MODE, Given, Plain, Refused, is_bound, is_refused_by};
 use mysql_params::laws::bind_error_equality;
 use mysql_params::{BindError, bind_text};
 use std::alloc::{AllocError, Global};
@@ -49,7 +49,20 @@ fn bound_texts(rt: HostRuntime) -> Result<(), Fail> {
     Ok(())
 }
 
-/// Queries, what is given to them, and why they are refused.
+#[test]
+fn vectors_of_exactly_the_length(rt: HostRuntime) -> Result<(), Fail> {
+    for (query, given, wanted) in TEXTS {
+        let params = given.params(rt.alloc())?;
+        match bind_text(rt.alloc(), *query, params) {
+            Ok(text) => assert_eq!(rt; text.capacity(), wanted.len(), "of {query:?}"),
+            Err(error) => assert!(rt; false, "{query:?}: {error}"),
+        }
+    }
+    Ok(())
+}
+
+/// Queries, what is given to them, and why they are refused. None has a backslash, so in either
+/// mode they are refused alike.
 const REFUSALS: &[(&[u8], Given<'_>, Refused<'_>)] = &[
     // Names and marks come before all other causes.
     (b":a ?", Given::Nothing, Refused::Mixed),
@@ -150,12 +163,7 @@ const REFUSALS: &[(&[u8], Given<'_>, Refused<'_>)] = &[
 #[test]
 fn first_cause_of_refusal(rt: HostRuntime) -> Result<(), Fail> {
     for (query, given, refused) in REFUSALS {
-        let params = given.params(rt.alloc())?;
-        let wanted = refused.error(rt.alloc())?;
-        match bind_text(rt.alloc(), *query, params) {
-            Ok(_) => assert!(rt; false, "{query:?} and {given:?} are bound"),
-            Err(error) => assert_eq!(rt; error, wanted, "of {query:?} and {given:?}"),
-        }
+        is_refused_by(&rt, rt.alloc(), EITHER_MODE, *query, *given, *refused)?;
     }
     Ok(())
 }

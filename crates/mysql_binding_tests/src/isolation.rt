@@ -1,13 +1,10 @@
 //! Values that try to leave their literals.
-use crate::shared::{Given, Plain, is_bound};
-use mysql_params::bind_text;
-use mysql_params::params::Params;
-use mysql_values::bytes::Bytes;
-use mysql_values::value::Value;
+use crate::shared::{Given, Plain, WITHOUT_BACKSLASHES, is_bound, is_bound_by};
 use std::alloc::{AllocError, Global};
 use std::test::Fail;
 
-/// What stands for a byte between quotes, where it is not the byte itself.
+/// With backslash escapes: what stands after the backslash for a byte between quotes, where it isn't
+/// the byte itself.
 const ESCAPES: &[(u8, u8)] = &[
     (0, b'0'),
     (b'\n', b'n'),
@@ -20,12 +17,17 @@ const ESCAPES: &[(u8, u8)] = &[
 
 const HEXADECIMAL: &[u8; 16] = b"0123456789ABCDEF";
 
-/// The literal of one byte.
+/// The literal of a byte that isn't ASCII: alone it is no UTF-8.
+fn hexadecimal(alloc: Global, byte: u8) -> Result<Vec<u8>, AllocError> {
+    let high = HEXADECIMAL[usize::from(byte / 16)];
+    let low = HEXADECIMAL[usize::from(byte % 16)];
+    Vec::from_slice(alloc, &[b'0', b'x', high, low])
+}
+
+/// The literal of one byte, with backslash escapes.
 fn literal(alloc: Global, byte: u8) -> Result<Vec<u8>, AllocError> {
     if byte >= 128 {
-        let high = HEXADECIMAL[usize::from(byte / 16)];
-        let low = HEXADECIMAL[usize::from(byte % 16)];
-        return Vec::from_slice(alloc, &[b'0', b'x', high, low]);
+        return hexadecimal(alloc, byte);
     }
     for (escaped, letter) in ESCAPES {
         if *escaped == byte {
@@ -35,17 +37,44 @@ fn literal(alloc: Global, byte: u8) -> Result<Vec<u8>, AllocError> {
     Vec::from_slice(alloc, &[b'\'', byte, b'\''])
 }
 
+/// The literal of one byte, without backslash escapes: there only a quote isn't itself.
+fn literal_without_backslashes(alloc: Global, byte: u8) -> Result<Vec<u8>, AllocError> {
+    if byte >= 128 {
+        return hexadecimal(alloc, byte);
+    }
+    if byte == b'\'' {
+        return Vec::from_slice(alloc, b"''''");
+    }
+    Vec::from_slice(alloc, &[b'\'', byte, b'\''])
+}
+
 #[test]
 fn each_value_of_one_byte(rt: HostRuntime) -> Result<(), Fail> {
     for byte in 0..=255u8 {
-        let mut values = Vec::new(rt.alloc());
-        let bytes = Vec::from_slice(rt.alloc(), &[byte])?;
-        values.push(Value::Bytes(Bytes::from(bytes)))?;
         let wanted = literal(rt.alloc(), byte)?;
-        match bind_text(rt.alloc(), b"?", Params::Positional(values)) {
-            Ok(text) => assert_eq!(rt; text.as_slice(), wanted.as_slice(), "of the byte {byte}"),
-            Err(error) => assert!(rt; false, "the byte {byte}: {error}"),
-        }
+        let value = [byte];
+        let values = [Plain::Text(&value)];
+        let given = Given::Positional(&values);
+        is_bound(&rt, rt.alloc(), b"?", given, wanted.as_slice())?;
+    }
+    Ok(())
+}
+
+#[test]
+fn each_value_of_one_byte_without_backslashes(rt: HostRuntime) -> Result<(), Fail> {
+    for byte in 0..=255u8 {
+        let wanted = literal_without_backslashes(rt.alloc(), byte)?;
+        let value = [byte];
+        let values = [Plain::Text(&value)];
+        let given = Given::Positional(&values);
+        is_bound_by(
+            &rt,
+            rt.alloc(),
+            WITHOUT_BACKSLASHES,
+            b"?",
+            given,
+            wanted.as_slice(),
+        )?;
     }
     Ok(())
 }
@@ -99,12 +128,9 @@ const HOSTILE: &[(&[u8], &[u8])] = &[
 #[test]
 fn hostile_values(rt: HostRuntime) -> Result<(), Fail> {
     for (value, wanted) in HOSTILE {
-        let mut values = Vec::new(rt.alloc());
-        values.push(Plain::Text(*value).value(rt.alloc())?)?;
-        match bind_text(rt.alloc(), b"SELECT ?, 1", Params::Positional(values)) {
-            Ok(text) => assert_eq!(rt; text.as_slice(), *wanted, "of {value:?}"),
-            Err(error) => assert!(rt; false, "{value:?}: {error}"),
-        }
+        let values = [Plain::Text(*value)];
+        let given = Given::Positional(&values);
+        is_bound(&rt, rt.alloc(), b"SELECT ?, 1", given, *wanted)?;
     }
     Ok(())
 }

@@ -3,6 +3,8 @@
 #![tactic(auto)]
 
 #[cfg(test)]
+mod any_bytes;
+#[cfg(test)]
 mod binding;
 #[cfg(test)]
 mod isolation;
@@ -12,3 +14,5 @@ pub mod readme;
 mod shared;
 #[cfg(test)]
 mod stands_alone;
+#[cfg(test)]
+mod without_backslashes;

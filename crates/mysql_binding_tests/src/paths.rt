@@ -4,6 +4,7 @@
 pub use mysql_params::BindError;
 pub use mysql_params::RunError;
 pub use mysql_params::bind_text;
+pub use mysql_params::bind_text_in;
 pub use mysql_params::laws::beginnings_are_found;
 pub use mysql_params::laws::bind_error_equality;
 pub use mysql_params::laws::bound_again_is_the_same;

@@ -1,6 +1,6 @@
-//! Parameters and refusals as plain data, and what they stand for.
+//! Parameters and refusals as plain data, and what they stand for; the calls that bind.
 use mysql_params::params::{MissingNamedParameterError, Params, ParamsConfusionError, ParamsError};
-use mysql_params::{BindError, bind_text};
+use mysql_params::{BindError, bind_text, bind_text_in};
 use mysql_values::bytes::Bytes;
 use mysql_values::value::Value;
 use std::alloc::{AllocError, Global};
@@ -107,7 +107,66 @@ impl Refused<'_> {
     }
 }
 
-/// The query is bound to the text.
+/// A call that binds.
+#[derive(Clone, Copy, Debug)]
+pub(crate) enum Spelling {
+    /// `bind_text`.
+    BindText,
+    /// `bind_text_in` with this flag.
+    BindTextIn(bool),
+}
+
+/// The calls that bind in the mode in which a backslash escapes.
+pub(crate) const WITH_BACKSLASHES: &[Spelling] = &[Spelling::BindText, Spelling::BindTextIn(false)];
+
+/// The call that binds in the mode without backslash escapes.
+pub(crate) const WITHOUT_BACKSLASHES: &[Spelling] = &[Spelling::BindTextIn(true)];
+
+/// Every call that binds.
+pub(crate) const EITHER_MODE: &[Spelling] = &[
+    Spelling::BindText,
+    Spelling::BindTextIn(false),
+    Spelling::BindTextIn(true),
+];
+
+impl Spelling {
+    /// What the call gives.
+    pub(crate) fn bound(
+        self,
+        alloc: Global,
+        query: &[u8],
+        params: Params,
+    ) -> Result<Vec<u8>, BindError> {
+        match self {
+            Spelling::BindText => bind_text(alloc, query, params),
+            Spelling::BindTextIn(mode) => bind_text_in(alloc, query, params, mode),
+        }
+    }
+}
+
+/// By each of the calls, the query is bound to the text.
+pub(crate) fn is_bound_by(
+    rt: &impl Abort,
+    alloc: Global,
+    spellings: &[Spelling],
+    query: &[u8],
+    given: Given<'_>,
+    wanted: &[u8],
+) -> Result<(), Fail> {
+    for spelling in spellings {
+        match spelling.bound(alloc, query, given.params(alloc)?) {
+            Ok(text) => assert_eq!(rt;
+                text.as_slice(),
+                wanted,
+                "of {query:?} and {given:?} by {spelling:?}"
+            ),
+            Err(error) => assert!(rt; false, "{query:?} and {given:?} by {spelling:?}: {error}"),
+        }
+    }
+    Ok(())
+}
+
+/// In the mode in which a backslash escapes, the query is bound to the text.
 pub(crate) fn is_bound(
     rt: &impl Abort,
     alloc: Global,
@@ -115,9 +174,28 @@ pub(crate) fn is_bound(
     given: Given<'_>,
     wanted: &[u8],
 ) -> Result<(), Fail> {
-    match bind_text(alloc, query, given.params(alloc)?) {
-        Ok(text) => assert_eq!(rt; text.as_slice(), wanted, "of {query:?} and {given:?}"),
-        Err(error) => assert!(rt; false, "{query:?} and {given:?}: {error}"),
+    is_bound_by(rt, alloc, WITH_BACKSLASHES, query, given, wanted)
+}
+
+/// By each of the calls, the query is refused so.
+pub(crate) fn is_refused_by(
+    rt: &impl Abort,
+    alloc: Global,
+    spellings: &[Spelling],
+    query: &[u8],
+    given: Given<'_>,
+    refused: Refused<'_>,
+) -> Result<(), Fail> {
+    for spelling in spellings {
+        let wanted = refused.error(alloc)?;
+        match spelling.bound(alloc, query, given.params(alloc)?) {
+            Ok(_) => assert!(rt; false, "{query:?} and {given:?} are bound by {spelling:?}"),
+            Err(error) => assert_eq!(rt;
+                error,
+                wanted,
+                "of {query:?} and {given:?} by {spelling:?}"
+            ),
+        }
     }
     Ok(())
 }

@@ -1,8 +1,7 @@
 //! Each byte directly before and directly after a place.
-use mysql_params::params::Params;
-use mysql_params::{BindError, bind_text};
-use mysql_values::value::Value;
-use std::alloc::{AllocError, Global};
+use crate::shared::{EITHER_MODE, Given, Plain, Refused, is_bound_by, is_refused_by};
+use std::alloc::Global;
+use std::process::Abort;
 use std::test::Fail;
 
 const BEFORE: &[u8] = b"\t\n\x0c\r (,=<>+*%&|^~";
@@ -12,66 +11,62 @@ const AFTER: &[u8] = b"\t\n\x0c\r ),;=<>+-*/%&|^!";
 /// Bytes that open a string, an identifier or a comment, in which a mark is none.
 const OPENING: &[u8] = b"'\"`#";
 
-fn bind_null(alloc: Global, query: &[u8]) -> Result<Result<Vec<u8>, BindError>, AllocError> {
-    let mut values = Vec::new(alloc);
-    values.push(Value::NULL)?;
-    Ok(bind_text(alloc, query, Params::Positional(values)))
+/// One NULL.
+const NULL: Given<'_> = Given::Positional(&[Plain::Null]);
+
+fn refused(byte: u8, at: usize) -> Refused<'static> {
+    if byte == b'?' {
+        Refused::MarkCount(2, 1)
+    } else if at == 1 && OPENING.contains(&byte) {
+        Refused::MarkCount(0, 1)
+    } else {
+        Refused::NotAlone(0, at)
+    }
 }
 
-fn refused(byte: u8, at: usize) -> BindError {
-    if byte == b'?' {
-        BindError::MarkCount {
-            marks: 2,
-            values: 1,
-        }
-    } else if at == 1 && OPENING.contains(&byte) {
-        BindError::MarkCount {
-            marks: 0,
-            values: 1,
-        }
+/// In either mode, the query is bound to the text where its byte may stand beside the place, and
+/// else it is refused so.
+fn answers(
+    rt: &impl Abort,
+    alloc: Global,
+    query: &[u8],
+    may_stand: bool,
+    wanted: &[u8],
+    refused: Refused<'_>,
+) -> Result<(), Fail> {
+    if may_stand {
+        is_bound_by(rt, alloc, EITHER_MODE, query, NULL, wanted)
     } else {
-        BindError::NotAlone { place: 0, at }
+        is_refused_by(rt, alloc, EITHER_MODE, query, NULL, refused)
     }
 }
 
 #[test]
 fn each_byte_before_a_place(rt: HostRuntime) -> Result<(), Fail> {
     for byte in 0..=255u8 {
-        match bind_null(rt.alloc(), &[byte, b'?'])? {
-            Ok(text) => {
-                assert!(rt; BEFORE.contains(&byte), "{byte} before a place is taken");
-                assert_eq!(rt;
-                    text.as_slice(),
-                    [byte, b'N', b'U', b'L', b'L'].as_slice(),
-                    "{byte} before"
-                );
-            }
-            Err(error) => {
-                assert!(rt; !BEFORE.contains(&byte), "{byte} before a place is refused");
-                assert_eq!(rt; error, refused(byte, 1), "{byte} before a place");
-            }
-        }
+        answers(
+            &rt,
+            rt.alloc(),
+            &[byte, b'?'],
+            BEFORE.contains(&byte),
+            &[byte, b'N', b'U', b'L', b'L'],
+            refused(byte, 1),
+        )?;
     }
     Ok(())
 }
 
 #[test]
-fn each_byte_behind_a_place(rt: HostRuntime) -> Result<(), Fail> {
+fn each_byte_after_a_place(rt: HostRuntime) -> Result<(), Fail> {
     for byte in 0..=255u8 {
-        match bind_null(rt.alloc(), &[b'?', byte])? {
-            Ok(text) => {
-                assert!(rt; AFTER.contains(&byte), "{byte} after a place is taken");
-                assert_eq!(rt;
-                    text.as_slice(),
-                    [b'N', b'U', b'L', b'L', byte].as_slice(),
-                    "{byte} after"
-                );
-            }
-            Err(error) => {
-                assert!(rt; !AFTER.contains(&byte), "{byte} after a place is refused");
-                assert_eq!(rt; error, refused(byte, 0), "{byte} after a place");
-            }
-        }
+        answers(
+            &rt,
+            rt.alloc(),
+            &[b'?', byte],
+            AFTER.contains(&byte),
+            &[b'N', b'U', b'L', b'L', byte],
+            refused(byte, 0),
+        )?;
     }
     Ok(())
 }

@@ -2,13 +2,13 @@
 //!
 //! A query is bytes. [`named_params`] finds the names and marks outside its strings, quoted
 //! identifiers and comments; [`params`] are what is given to them, and [`bind_text`] puts the
-//! literals of the values in their places; [`run`] is the program, with its commands `names` and
-//! `bind`, for any reader and writer.
+//! literals of the values in their places; [`bind_text_in`] does so in either mode of backslashes.
+//! [`run`] is the program, with its commands `names` and `bind`, for any reader and writer.
 #![tactic(auto)]
 
 pub mod laws;
 pub mod named_params;
 pub mod params;
 
-pub use mysql_binding::{BindError, bind_text};
+pub use mysql_binding::{BindError, bind_text, bind_text_in};
 pub use mysql_program::{RunError, run};

@@ -5,4 +5,5 @@ pub mod BeginningLemmas
 pub mod MissingLemmas
 pub mod WalkLemmas
 pub mod TakenLemmas
+pub mod BorrowedLemmas
 pub mod MakingLemmas

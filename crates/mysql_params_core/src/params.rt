@@ -2,6 +2,7 @@
 ghost use Rattle.std.specs.Prelude.{◌≡◌, ◌≢◌, IfOk, OnErr};
 ghost use Rattle.mysql_params_core.specs.Given.{given, empty};
 
+mod borrowed;
 mod entries;
 mod errors;
 mod lookup;
@@ -10,6 +11,7 @@ mod shown;
 mod to_params;
 mod tuples;
 
+pub use borrowed::place_values;
 pub use errors::{
     IntoPositionalError, MissingNamedParameterError, ParamsConfusionError, ParamsError,
     ToParamsError,

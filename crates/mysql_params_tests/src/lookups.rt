@@ -9,7 +9,7 @@ use std::test::Fail;
 
 /// The names that are given, those of the query, the numbers of these names, and where one is missing
 /// which `into_values` and which `into_positional` reports.
-const LOOKUPS: &[(&[u8], &[u8], &[u64], Option<(u8, u8)>)] = &[
+pub(crate) const LOOKUPS: &[(&[u8], &[u8], &[u64], Option<(u8, u8)>)] = &[
     // The names that are there are exactly a beginning: the last of the list is reported.
     (b"a", b"abc", &[], Some((b'c', b'b'))),
     (b"", b"ab", &[], Some((b'b', b'a'))),
@@ -22,7 +22,7 @@ const LOOKUPS: &[(&[u8], &[u8], &[u64], Option<(u8, u8)>)] = &[
     (b"abc", b"cac", &[3, 1, 3], None),
 ];
 
-fn misses(alloc: Global, letter: u8) -> Result<MissingNamedParameterError, AllocError> {
+pub(crate) fn misses(alloc: Global, letter: u8) -> Result<MissingNamedParameterError, AllocError> {
     let name = Vec::from_slice(alloc, &[letter])?;
     Ok(MissingNamedParameterError(name))
 }

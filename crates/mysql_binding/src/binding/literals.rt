@@ -1,17 +1,19 @@
 //! The literals of values.
-ghost use Rattle.std.specs.Prelude.{◌≡◌, false, None, Some, IfOk};
+ghost use Rattle.std.specs.Prelude.{◌≡◌, ◌+◌, ◌++◌, ◌≤◌, false, Some, IfOk, length, map, take};
 ghost use Rattle.mysql_values.specs.Literal.{is_float, literal_of};
 ghost use Rattle.mysql_sql_text.specs.LiteralShape.{IsLiteral};
 ghost use Rattle.mysql_values.specs.ReadBack.{ReadsAs};
+ghost use Rattle.mysql_params_core.specs.Referents.{referents};
 ghost use Rattle.mysql_binding.specs.FirstCause.{first_float};
+ghost use Rattle.mysql_binding.specs.TextLength.{literal_len, literal_text};
 
 use mysql_values::laws::{floats_have_no_literal, literal_shape};
-use mysql_values::value::{AsSqlError, Value};
+use mysql_values::value::Value;
 use std::alloc::{AllocError, Global};
 
 /// The place of the first float.
-pub(super) fn first_float(values: &[Value]) -> Option<usize>
-    ensures { result ≡ first_float values.now }
+pub(super) fn first_float(values: &[&Value]) -> Option<usize>
+    ensures { result ≡ first_float (referents values.now) }
 {
     for (place, value) in values.iter().enumerate() {
         if matches!(value, Value::Float(_) | Value::Double(_)) {
@@ -21,24 +23,53 @@ pub(super) fn first_float(values: &[Value]) -> Option<usize>
     None
 }
 
-/// The literal of a value that is no float.
-pub(super) fn literal(
+/// How long the literal of each value is, 0 for floats. A length may be above `isize::MAX`.
+pub(super) fn literal_lens(
     alloc: Global,
-    value: &Value,
+    values: &[&Value],
     no_backslash_escape: bool,
-) -> Result<Vec<u8>, AllocError>
-    requires { is_float value.now ≡ false }
-    ensures literal { IfOk result (λ text.
-        literal_of no_backslash_escape value.now ≡ Some text.items) }
-    ensures shape { IfOk result (λ text. IsLiteral no_backslash_escape text.items) }
-    ensures reads_back { IfOk result (λ text.
-        ReadsAs no_backslash_escape value.now text.items) }
+) -> Result<Vec<u128>, AllocError>
+    ensures { IfOk result (λ lens.
+        lens.items ≡ map (literal_len no_backslash_escape) (referents values.now)) }
+{
+    let mut lens = Vec::with_capacity(alloc, values.len())?;
+    for value in values {
+        lens.push(literal_len(value, no_backslash_escape))?;
+    }
+    Ok(lens)
+}
+
+// How long the literal of a value is, 0 for a float.
+fn literal_len(value: &Value, no_backslash_escape: bool) -> u128
+    ensures { result ≡ literal_len no_backslash_escape value.now }
+{
+    value.sql_len(no_backslash_escape).unwrap_or(0)
+}
+
+/// Writes the literal of a value that is no float, and has this many bytes, into the text from this
+/// index on, and returns the index after it. What stands before it is kept.
+pub(super) fn append_literal(
+    text: &mut [u8],
+    at: usize,
+    value: &Value,
+    len: usize,
+    no_backslash_escape: bool,
+) -> usize
+    requires no_float { is_float value.now ≡ false }
+    requires len { len ≡ literal_len no_backslash_escape value.now }
+    requires room { at + len ≤ length text.old }
+    ensures next { result ≡ at + len }
+    ensures front { take result text.new
+        ≡ take at text.old ++ literal_text no_backslash_escape value.now }
+    ensures literal { literal_of no_backslash_escape value.now
+        ≡ Some (literal_text no_backslash_escape value.now) }
+    ensures shape { IsLiteral no_backslash_escape (literal_text no_backslash_escape value.now) }
+    ensures reads_back { ReadsAs no_backslash_escape value.now
+        (literal_text no_backslash_escape value.now) }
 {
     floats_have_no_literal();
     literal_shape(value);
-    match value.as_sql(alloc, no_backslash_escape) {
-        Ok(text) => Ok(text.into_bytes()),
-        Err(AsSqlError::Float) => unreachable!(),
-        Err(AsSqlError::Memory(error)) => Err(error),
-    }
+    let end = at + len;
+    value.put_sql(no_backslash_escape, &mut text[at..end]);
+    end
 }

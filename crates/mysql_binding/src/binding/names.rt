@@ -1,24 +1,24 @@
-//! The names of a query.
+//! The names of a query, where they stand in it.
 ghost use Rattle.std.specs.Prelude.{◌≡◌, None, IfOk, length};
 ghost use Rattle.mysql_named_params.specs.Tokens.{OnTokens};
 ghost use Rattle.mysql_named_params.specs.Places.{names};
-ghost use Rattle.mysql_params_core.specs.Names.{names_of};
+ghost use Rattle.mysql_params_core.specs.Referents.{referents};
 ghost use Rattle.mysql_binding.specs.FirstCause.{mixed_cause};
 
 use mysql_named_params::places::first_place;
 use std::alloc::{AllocError, Global};
 
-// The names of a query that has `count` of them, and no marks beside them.
-pub(super) fn owned_names(
+/// The names of a query that has `count` of them, and no marks beside them: slices of the query.
+pub(super) fn query_names<'q>(
     alloc: Global,
-    query: &[u8],
+    query: &'q [u8],
     count: usize,
     no_backslash_escape: bool,
-) -> Result<Vec<Vec<u8>>, AllocError>
+) -> Result<Vec<&'q [u8]>, AllocError>
     requires { OnTokens no_backslash_escape query.now (λ ts.
         (count ≡ length (names ts)) × (mixed_cause ts ≡ None)) }
     ensures { IfOk result (λ list. OnTokens no_backslash_escape query.now (λ ts.
-        names_of list.items ≡ names ts)) }
+        referents list.items ≡ names ts)) }
 {
     let mut list = Vec::with_capacity(alloc, count)?;
     let mut rest = query;
@@ -28,7 +28,7 @@ pub(super) fn owned_names(
         };
         let (_, from_place) = rest.split_at(found.before);
         let (place, after) = from_place.split_at(found.len);
-        list.push(Vec::from_slice(alloc, &place[1..])?)?;
+        list.push(&place[1..])?;
         rest = after;
     }
     Ok(list)

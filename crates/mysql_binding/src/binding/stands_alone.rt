@@ -5,14 +5,36 @@ ghost use Rattle.mysql_binding.specs.StandsAlone.{may_stand_before, may_stand_af
 fn may_stand_before(byte: u8) -> bool
     ensures { result ≡ may_stand_before byte }
 {
-    byte.is_ascii_whitespace() || b"(,=<>+*%&|^~".contains(&byte)
+    MAY_STAND_BEFORE[byte as usize] == b'1'
 }
 
 fn may_stand_after(byte: u8) -> bool
     ensures { result ≡ may_stand_after byte }
 {
-    byte.is_ascii_whitespace() || b"),;=<>+-*/%&|^!".contains(&byte)
+    MAY_STAND_AFTER[byte as usize] == b'1'
 }
+
+// `1` for white space and each of `(,=<>+*%&|^~`, 32 bytes a line.
+static MAY_STAND_BEFORE: [u8; 256] = *b"\
+    00000000011011000000000000000000\
+    10000110101110000000000000001110\
+    00000000000000000000000000000010\
+    00000000000000000000000000001010\
+    00000000000000000000000000000000\
+    00000000000000000000000000000000\
+    00000000000000000000000000000000\
+    00000000000000000000000000000000";
+
+// `1` for white space and each of `),;=<>+-*/%&|^!`, 32 bytes a line.
+static MAY_STAND_AFTER: [u8; 256] = *b"\
+    00000000011011000000000000000000\
+    11000110011111010000000000011110\
+    00000000000000000000000000000010\
+    00000000000000000000000000001000\
+    00000000000000000000000000000000\
+    00000000000000000000000000000000\
+    00000000000000000000000000000000\
+    00000000000000000000000000000000";
 
 /// Whether a place may stand after this text.
 fn allows_place_after(before: &[u8]) -> bool

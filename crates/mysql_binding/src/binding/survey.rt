@@ -16,6 +16,8 @@ pub(super) struct Survey {
     pub(super) marks: usize,
     /// Number and position of the first place that doesn't stand alone.
     pub(super) not_alone: Option<(usize, usize)>,
+    /// How many bytes the pieces between the places have together.
+    pub(super) piece_bytes: usize,
 }
 
 /// The survey of a query.
@@ -25,12 +27,14 @@ pub(super) fn place_survey(query: &[u8], no_backslash_escape: bool) -> Survey
     let mut names = 0;
     let mut marks = 0;
     let mut not_alone = None;
+    let mut piece_bytes = 0;
     let mut at = 0;
     while let Some(found) = first_place(&query[at..], no_backslash_escape) {
         let start = at + found.before;
         let end = start + found.len;
         let here = not_alone_at(query, names + marks, start, end);
         not_alone = not_alone.or(here);
+        piece_bytes += found.before;
         match found.kind {
             PlaceKind::Name => names += 1,
             PlaceKind::Mark => marks += 1,
@@ -41,6 +45,7 @@ pub(super) fn place_survey(query: &[u8], no_backslash_escape: bool) -> Survey
         names,
         marks,
         not_alone,
+        piece_bytes: piece_bytes + (query.len() - at),
     }
 }
 

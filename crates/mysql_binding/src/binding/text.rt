@@ -1,42 +1,109 @@
-//! The text of a query with the literals of values in its places.
-ghost use Rattle.std.specs.Prelude.{◌≡◌, None, IfOk, length};
+//! The text of a query with the literals of values in its places: one vector of exactly its length.
+ghost use Rattle.std.specs.Prelude.{◌≡◌, ◌+◌, ◌++◌, ◌≤◌, ◌^◌, None, IfOk, IfSome, length, map, take};
+ghost use Rattle.std.specs.List.{sum};
 ghost use Rattle.mysql_named_params.specs.Tokens.{OnTokens};
 ghost use Rattle.mysql_named_params.specs.Places.{place_count};
+ghost use Rattle.mysql_params_core.specs.Referents.{referents};
 ghost use Rattle.mysql_binding.specs.FirstCause.{first_float};
+ghost use Rattle.mysql_binding.specs.TextLength.{literal_len, pieces_len};
 ghost use Rattle.mysql_binding.specs.WrittenText.{IsWrittenText};
 
-use crate::binding::literals::literal;
+use crate::binding::literals::{append_literal, literal_lens};
 use mysql_named_params::places::first_place;
 use mysql_values::value::Value;
 use std::alloc::{AllocError, Global};
 
 /// The query with the literal of a value in place of each name and mark, of which there are as many
-/// as values. None of the values is a float.
+/// as values. None of the values is a float, and the pieces of the query have `piece_bytes` bytes.
+///
+/// Out of memory is returned without asking for the text where it would be longer than
+/// `isize::MAX`. Once there is a vector for it, nothing refuses.
 pub(super) fn written_text(
     alloc: Global,
     query: &[u8],
-    values: &[Value],
+    piece_bytes: usize,
+    values: &[&Value],
     no_backslash_escape: bool,
 ) -> Result<Vec<u8>, AllocError>
-    requires no_float { first_float values.now ≡ None }
+    requires no_float { first_float (referents values.now) ≡ None }
     requires places { OnTokens no_backslash_escape query.now (λ ts.
-        length values.now ≡ place_count ts) }
+        length (referents values.now) ≡ place_count ts) }
+    requires pieces { OnTokens no_backslash_escape query.now (λ ts. piece_bytes ≡ pieces_len ts) }
     ensures { IfOk result (λ text. OnTokens no_backslash_escape query.now (λ ts.
-        IsWrittenText no_backslash_escape ts values.now text.items)) }
+        IsWrittenText no_backslash_escape ts (referents values.now) text.items)) }
 {
-    let mut text = Vec::with_capacity(alloc, query.len())?;
+    let lens = literal_lens(alloc, values, no_backslash_escape)?;
+    let Some(len) = text_len(piece_bytes, lens.as_slice()) else {
+        return Err(AllocError);
+    };
+    let mut text = vec![in alloc; 0u8; len]?;
+    fill_text(
+        query,
+        values,
+        lens.as_slice(),
+        text.as_mut_slice(),
+        no_backslash_escape,
+    );
+    Ok(text)
+}
+
+// How long pieces of so many bytes and literals of these lengths are together. A text longer than
+// `isize::MAX` has none.
+fn text_len(piece_bytes: usize, lens: &[u128]) -> Option<usize>
+    ensures len { IfSome result (λ len. len ≡ piece_bytes + sum lens.now) }
+    ensures too_long { result ≡ None → 2 ^ 63 ≤ piece_bytes + sum lens.now }
+{
+    let mut len = piece_bytes as u128;
+    for literal_len in lens {
+        len = len.checked_add(*literal_len)?;
+    }
+    if len > isize::MAX as u128 {
+        return None;
+    }
+    Some(len as usize)
+}
+
+// Fills the text: the pieces of the query, with the literals of the values, of these lengths,
+// between them.
+fn fill_text(
+    query: &[u8],
+    values: &[&Value],
+    lens: &[u128],
+    text: &mut [u8],
+    no_backslash_escape: bool,
+)
+    requires no_float { first_float (referents values.now) ≡ None }
+    requires places { OnTokens no_backslash_escape query.now (λ ts.
+        length (referents values.now) ≡ place_count ts) }
+    requires lens { lens.now ≡ map (literal_len no_backslash_escape) (referents values.now) }
+    requires room { OnTokens no_backslash_escape query.now (λ ts.
+        length text.old ≡ pieces_len ts + sum lens.now) }
+    ensures { OnTokens no_backslash_escape query.now (λ ts.
+        IsWrittenText no_backslash_escape ts (referents values.now) text.new) }
+{
     let mut rest = query;
-    for value in values {
+    let mut at = 0;
+    for (i, value) in values.iter().enumerate() {
         let Some(found) = first_place(rest, no_backslash_escape) else {
             unreachable!()
         };
-        let (run, from_place) = rest.split_at(found.before);
+        let (piece, from_place) = rest.split_at(found.before);
         let (_, after) = from_place.split_at(found.len);
-        let sql = literal(alloc, value, no_backslash_escape)?;
-        text.extend_from_slice(run)?;
-        text.extend_from_slice(sql.as_slice())?;
+        at = append_piece(text, at, piece);
+        at = append_literal(text, at, value, lens[i] as usize, no_backslash_escape);
         rest = after;
     }
-    text.extend_from_slice(rest)?;
-    Ok(text)
+    append_piece(text, at, rest);
+}
+
+// Copies the piece into the text from this index on, and returns the index after it. What stands
+// before it is kept.
+fn append_piece(text: &mut [u8], at: usize, piece: &[u8]) -> usize
+    requires { at + length piece.now ≤ length text.old }
+    ensures next { result ≡ at + length piece.now }
+    ensures front { take result text.new ≡ take at text.old ++ piece.now }
+{
+    let end = at + piece.len();
+    text[at..end].copy_from_slice(piece);
+    end
 }

@@ -1,19 +1,32 @@
-use Rattle.std.proofs.Common.{sym, ◌∙◌}
+use Rattle.std.proofs.Common.{ap, sym, ◌∙◌, Some}
+use Rattle.std.proofs.lemmas.List.{length-map}
+use Rattle.mysql_params_core.specs.Referents.{referents}
+use Rattle.mysql_binding.specs.FirstCause.{mark_count, mark_count_differs}
 use Rattle.mysql_binding.proofs.CauseLemmas.{later_is_count, later_is_alone, later_is_float}
 use Rattle.mysql_binding.proofs.binding.later_error.Goals as goal
 
 pub returns-then-mark_count_differs : goal.returns-then-mark_count_differs
 returns-then-mark_count_differs c ts is =
-    later_is_count _ ts c.args.values.now is (sym c.mark_count_differs.ensures ∙ c.if-mark_count_differs.true)
+    let values = c.args.values.now in
+    let same = length-map values (λ r. r.now) in
+    ap (λ n. Some (Some (mark_count c.args.survey.marks n))) (sym same)
+    ∙ later_is_count _ ts (referents values) is
+    (ap (mark_count_differs c.args.survey.names c.args.survey.marks) same ∙ (sym c.mark_count_differs.ensures ∙ c.if-mark_count_differs.true))
 
 pub returns-in-Some : goal.returns-in-Some
 returns-in-Some c ts is =
-    later_is_alone _ ts c.args.values.now is _ _ (sym c.mark_count_differs.ensures ∙ c.if-mark_count_differs.false) c.in-Some.is
+    let values = c.args.values.now in
+    later_is_alone _ ts (referents values) is _ _
+    (ap (mark_count_differs c.args.survey.names c.args.survey.marks) (length-map values (λ r. r.now)) ∙ (sym c.mark_count_differs.ensures ∙ c.if-mark_count_differs.false)) c.in-Some.is
 
 pub returns-in-Some-first_float : goal.returns-in-Some-first_float
 returns-in-Some-first_float c ts is =
-    later_is_float _ ts c.args.values.now is _ (sym c.mark_count_differs.ensures ∙ c.if-mark_count_differs.false) c.in_default.is c.in-Some-first_float.ensures
+    let values = c.args.values.now in
+    later_is_float _ ts (referents values) is _
+    (ap (mark_count_differs c.args.survey.names c.args.survey.marks) (length-map values (λ r. r.now)) ∙ (sym c.mark_count_differs.ensures ∙ c.if-mark_count_differs.false)) c.in_default.is c.in-Some-first_float.ensures
 
 pub returns-in-None : goal.returns-in-None
 returns-in-None c ts is =
-    later_is_float _ ts c.args.values.now is _ (sym c.mark_count_differs.ensures ∙ c.if-mark_count_differs.false) c.in_default.is c.in-None.ensures
+    let values = c.args.values.now in
+    later_is_float _ ts (referents values) is _
+    (ap (mark_count_differs c.args.survey.names c.args.survey.marks) (length-map values (λ r. r.now)) ∙ (sym c.mark_count_differs.ensures ∙ c.if-mark_count_differs.false)) c.in_default.is c.in-None.ensures

@@ -3,7 +3,7 @@ use Rattle.mysql_binding.proofs.SurveyLemmas.{SurveyedSoFar}
 use Rattle.mysql_binding.proofs.binding.survey.place_survey.Given as goal
 
 abbrev pub invariant-loop-found : goal.invariant-loop-found
-invariant-loop-found l = SurveyedSoFar l.no_backslash_escape l.query l.at l.names l.marks l.not_alone
+invariant-loop-found l = SurveyedSoFar l.no_backslash_escape l.query l.at l.names l.marks l.not_alone l.piece_bytes
 
 abbrev pub decreases-loop-found : goal.decreases-loop-found
 decreases-loop-found l = length l.query - l.at

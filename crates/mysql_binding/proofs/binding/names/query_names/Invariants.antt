@@ -1,6 +1,6 @@
 use Rattle.std.proofs.Common.{length, ◌-◌}
 use Rattle.mysql_binding.proofs.NameListLemmas.{ListedSoFar}
-use Rattle.mysql_binding.proofs.binding.names.owned_names.Given as goal
+use Rattle.mysql_binding.proofs.binding.names.query_names.Given as goal
 
 abbrev pub invariant-loop-rest : goal.invariant-loop-rest
 invariant-loop-rest l = ListedSoFar l.no_backslash_escape l.query l.rest l.count l.list.items

@@ -1,6 +1,6 @@
 use Rattle.std.proofs.Common.{refl, arith}
 use Rattle.mysql_binding.proofs.NameListLemmas.{listed_none, name_left, listed_more, listed_all}
-use Rattle.mysql_binding.proofs.binding.names.owned_names.Goals as goal
+use Rattle.mysql_binding.proofs.binding.names.query_names.Goals as goal
 
 pub loop-rest-init : goal.loop-rest-init
 loop-rest-init c = listed_none _ _ _ _ c.requires c.in_ok-list.ensures.items
@@ -16,4 +16,4 @@ returns c = listed_all _ _ _ _ _ c.loop-rest.invariant (omega arith)
 pub loop-rest-preserved : goal.loop-rest-preserved
 loop-rest-preserved c =
     listed_more _ _ _ _ _ c.loop-rest.invariant _ _ _ _ _ _ (omega arith) c.in-Some.ensures.place c.split_at.ensures.back
-    c.split_at-in-loop-rest.ensures.front c.split_at-in-loop-rest.ensures.back c.in_ok-push.ensures.items c.in_ok-from_slice.ensures.items
+    c.split_at-in-loop-rest.ensures.front c.split_at-in-loop-rest.ensures.back c.in_ok-push.ensures.items refl

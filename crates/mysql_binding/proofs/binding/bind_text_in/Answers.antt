@@ -1,12 +1,13 @@
 use Rattle.std.proofs.Common.{arith}
 use Rattle.mysql_params_core.specs.Given.{given}
+use Rattle.mysql_params_core.specs.Referents.{referents}
 use Rattle.mysql_binding.proofs.BoundTextLemmas.{refused_later, looked_up, value_for_each, bound_on}
-use Rattle.mysql_binding.proofs.binding.bind_text.Goals.{else-survey-gt0-via-then-survey-gt0+else-survey-gt0-2, else-survey-gt0-via-else-survey-gt0}
-use Rattle.mysql_binding.proofs.binding.bind_text.Goals as goal
+use Rattle.mysql_binding.proofs.binding.bind_text_in.Goals.{else-survey-gt0-via-then-survey-gt0+else-survey-gt0-2, else-survey-gt0-via-else-survey-gt0}
+use Rattle.mysql_binding.proofs.binding.bind_text_in.Goals as goal
 
 pub returns-in-Some-clause-refused : goal.returns-in-Some-clause-refused
 returns-in-Some-clause-refused c =
-    refused_later _ _ (given c.args.params) c.place_survey-survey.result c.in_ok-values.values.items c.place_survey-survey.ensures
+    refused_later _ _ (given c.args.params) c.place_survey-survey.result (referents c.in_ok-values.values.items) c.place_survey-survey.ensures
     (λ both. elim c.else-survey-gt0.branch [ else-survey-gt0-via-then-survey-gt0+else-survey-gt0-2 w ↦ omega (arith, both.1, w.if-survey-gt0-2.false) | else-survey-gt0-via-else-survey-gt0 w ↦ omega (arith, both.0, w.if-survey-gt0.false) ])
     c.in_ok-values.ensures.values c.in-Some.error (rw c.as_slice.ensures.value at c.in-Some.ensures)
 
@@ -17,17 +18,17 @@ returns-in-Some-clause-mixed c =
 
 pub written_text-requires-clause-places : goal.written_text-requires-clause-places
 written_text-requires-clause-places c =
-    let known = looked_up _ _ (given c.args.params) c.place_survey-survey.result c.in_ok-values.values.items c.place_survey-survey.ensures
+    let known = looked_up _ _ (given c.args.params) c.place_survey-survey.result (referents c.in_ok-values.values.items) c.place_survey-survey.ensures
     (λ both. elim c.else-survey-gt0.branch [ else-survey-gt0-via-then-survey-gt0+else-survey-gt0-2 w ↦ omega (arith, both.1, w.if-survey-gt0-2.false) | else-survey-gt0-via-else-survey-gt0 w ↦ omega (arith, both.0, w.if-survey-gt0.false) ])
     c.in_ok-values.ensures.values (rw c.as_slice.ensures.value at c.in_default.ensures) in
-    rw c.as_slice-2.ensures.value (value_for_each _ _ (given c.args.params) c.in_ok-values.values.items known)
+    rw c.as_slice-2.ensures.value (value_for_each _ _ (given c.args.params) (referents c.in_ok-values.values.items) known)
 
 pub returns-in-Ok-clause-bound : goal.returns-in-Ok-clause-bound
 returns-in-Ok-clause-bound c =
-    let known = looked_up _ _ (given c.args.params) c.place_survey-survey.result c.in_ok-values.values.items c.place_survey-survey.ensures
+    let known = looked_up _ _ (given c.args.params) c.place_survey-survey.result (referents c.in_ok-values.values.items) c.place_survey-survey.ensures
     (λ both. elim c.else-survey-gt0.branch [ else-survey-gt0-via-then-survey-gt0+else-survey-gt0-2 w ↦ omega (arith, both.1, w.if-survey-gt0-2.false) | else-survey-gt0-via-else-survey-gt0 w ↦ omega (arith, both.0, w.if-survey-gt0.false) ])
     c.in_ok-values.ensures.values (rw c.as_slice.ensures.value at c.in_default.ensures) in
-    bound_on _ _ (given c.args.params) c.in_ok-values.values.items _ known (rw c.as_slice-2.ensures.value at c.in-Ok.ensures)
+    bound_on _ _ (given c.args.params) (referents c.in_ok-values.values.items) _ known (rw c.as_slice-2.ensures.value at c.in-Ok.ensures)
 
 pub returns-in-Ok-clause-mixed : goal.returns-in-Ok-clause-mixed
 returns-in-Ok-clause-mixed c =

@@ -1,0 +1,5 @@
+use Rattle.mysql_binding.proofs.FilledTextLemmas.{FilledSoFar}
+use Rattle.mysql_binding.proofs.binding.text.fill_text.Given as goal
+
+abbrev pub invariant-loop-i : goal.invariant-loop-i
+invariant-loop-i l = FilledSoFar l.no_backslash_escape l.query l.rest l.values l.i l.text l.at

@@ -1,0 +1,20 @@
+-- How long the text of a query with literals is: the contracts of private calls, and no part of what
+-- is promised to users.
+use Rattle.std.specs.Prelude.{ℕ, Bool, List, [], length, unwrap_or}
+use Rattle.std.specs.List.{sum_by}
+use Rattle.mysql_values.specs.declared.value.Value.{Value}
+use Rattle.mysql_values.specs.Literal.{literal_of}
+use Rattle.mysql_named_params.specs.Tokens.{Token}
+use Rattle.mysql_binding.specs.Pieces.{pieces}
+
+-- how many bytes the pieces of a query have together
+abbrev pub pieces_len : List Token → ℕ
+pieces_len ts = sum_by length (pieces ts)
+
+-- the literal of a value (of a float, which has none: no bytes)
+abbrev pub literal_text : Bool → Value → List ℕ
+literal_text mode value = unwrap_or (literal_of mode value) []
+
+-- how many bytes it has
+abbrev pub literal_len : Bool → Value → ℕ
+literal_len mode value = length (literal_text mode value)

@@ -1,0 +1,127 @@
+//! The mode without backslash escapes: there a backslash is a byte like any other, in queries and in
+//! literals.
+use crate::shared::{
+    Given, Plain, Refused, WITH_BACKSLASHES, WITHOUT_BACKSLASHES, is_bound_by, is_refused_by,
+};
+use std::test::Fail;
+
+/// Queries, what is given to them, and the text.
+const TEXTS: &[(&[u8], Given<'_>, &[u8])] = &[
+    // The string ends at the quote after the backslash.
+    (
+        b"SELECT 'a\\', :b",
+        Given::Named(&[(b"b", Plain::Text(b"it's\\"))]),
+        b"SELECT 'a\\', 'it''s\\'",
+    ),
+    (b"?", Given::Positional(&[Plain::Text(b"''")]), b"''''''"),
+    (
+        b"SELECT ?, ?",
+        Given::Positional(&[Plain::Text(b"x' OR '1'='1"), Plain::Null]),
+        b"SELECT 'x'' OR ''1''=''1', NULL",
+    ),
+    (
+        b"SELECT (:a-10), :a",
+        Given::Named(&[(b"a", Plain::Int(-3))]),
+        b"SELECT (-3-10), -3",
+    ),
+    (
+        b"VALUES (?,?,?)",
+        Given::Positional(&[
+            Plain::Text(b""),
+            Plain::Day(2019, 11, 27),
+            Plain::Text(b"\xC3\x28"),
+        ]),
+        b"VALUES ('','2019-11-27',0xC328)",
+    ),
+    (
+        b"SELECT \"\\\", ? -- ?",
+        Given::Positional(&[Plain::UInt(5)]),
+        b"SELECT \"\\\", 5 -- ?",
+    ),
+    // A value that looks like places, and its text bound again.
+    (
+        b"SELECT ?",
+        Given::Positional(&[Plain::Text(b"\\':b ?")]),
+        b"SELECT '\\'':b ?'",
+    ),
+    (b"SELECT '\\'':b ?'", Given::Nothing, b"SELECT '\\'':b ?'"),
+];
+
+#[test]
+fn bound_texts(rt: HostRuntime) -> Result<(), Fail> {
+    for (query, given, wanted) in TEXTS {
+        is_bound_by(
+            &rt,
+            rt.alloc(),
+            WITHOUT_BACKSLASHES,
+            *query,
+            *given,
+            *wanted,
+        )?;
+    }
+    Ok(())
+}
+
+/// Values that end a string, a comment or a statement elsewhere.
+const HOSTILE: &[(&[u8], &[u8])] = &[
+    (b"'", b"SELECT '''', 1"),
+    (b"\\", b"SELECT '\\', 1"),
+    (b"\\'", b"SELECT '\\''', 1"),
+    (b"\\\\'", b"SELECT '\\\\''', 1"),
+    (b"'\\", b"SELECT '''\\', 1"),
+    (b"\"", b"SELECT '\"', 1"),
+    (b"*/", b"SELECT '*/', 1"),
+    (b"-- ", b"SELECT '-- ', 1"),
+    (b"; DROP TABLE t #", b"SELECT '; DROP TABLE t #', 1"),
+    (b"\xBF'", b"SELECT 0xBF27, 1"),
+    (b"\n\r\x00\x1a", b"SELECT '\n\r\x00\x1a', 1"),
+];
+
+#[test]
+fn hostile_values(rt: HostRuntime) -> Result<(), Fail> {
+    for (value, wanted) in HOSTILE {
+        let values = [Plain::Text(*value)];
+        is_bound_by(
+            &rt,
+            rt.alloc(),
+            WITHOUT_BACKSLASHES,
+            b"SELECT ?, 1",
+            Given::Positional(&values),
+            *wanted,
+        )?;
+    }
+    Ok(())
+}
+
+const NULL_FOR_B: Given<'_> = Given::Named(&[(b"b", Plain::Null)]);
+
+#[test]
+fn a_name_after_a_string_with_a_backslash(rt: HostRuntime) -> Result<(), Fail> {
+    is_refused_by(
+        &rt,
+        rt.alloc(),
+        WITHOUT_BACKSLASHES,
+        b"SELECT 'a\\':b",
+        NULL_FOR_B,
+        Refused::NotAlone(0, 11),
+    )
+}
+
+/// Queries that have the name `b` where a backslash escapes nothing; else it stands in an open
+/// string.
+const NAMELESS_WITH_BACKSLASHES: &[&[u8]] = &[b"SELECT 'a\\':b", b"SELECT 'a\\', :b"];
+
+#[test]
+fn a_name_in_an_open_string(rt: HostRuntime) -> Result<(), Fail> {
+    for query in NAMELESS_WITH_BACKSLASHES {
+        is_refused_by(
+            &rt,
+            rt.alloc(),
+            WITH_BACKSLASHES,
+            *query,
+            NULL_FOR_B,
+            Refused::NamedGiven,
+        )?;
+    }
+    Ok(())
+}

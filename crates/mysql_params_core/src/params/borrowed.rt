@@ -1,0 +1,131 @@
+//! The values of the names of a query where they stand, without a copy.
+ghost use Rattle.std.specs.Prelude.{◌≡◌, ◌⊎◌, ◌<◌, IfOk, IsErrOf, None, Some, alloc_error, length, ⊤};
+ghost use Rattle.std.specs.List.{list_any};
+ghost use Rattle.std.specs.FinMap.{contains_key};
+ghost use Rattle.mysql_wire_part.specs.Answer.{IsAnswer};
+ghost use Rattle.mysql_params_core.specs.Errors.{lookup_refusal};
+ghost use Rattle.mysql_params_core.specs.FirstAbsent.{IsFirstAbsent};
+ghost use Rattle.mysql_params_core.specs.Given.{given, value_map, named};
+ghost use Rattle.mysql_params_core.specs.Lookup.{lookup, missing, PlacesTakeMemory};
+ghost use Rattle.mysql_params_core.specs.Names.{missing_name};
+ghost use Rattle.mysql_params_core.specs.Referents.{referents};
+
+use crate::params::entries::has_name;
+use crate::params::{MissingNamedParameterError, Params, ParamsConfusionError, ParamsError};
+use mysql_values::value::Value;
+use std::alloc::{AllocError, Global};
+use std::collections::HashMap;
+
+/// The values for the names of a query, as [`Params::into_values`] gives them, where they stand in
+/// the parameters: no value is copied, and of the names only one that is missing. An empty list
+/// means a query without names.
+///
+/// `Missing` and `Confusion` are as with [`Params::into_values`]. `Memory` is returned only for a
+/// list with names, of `Named` or `Empty`, and for an empty list, of `Positional`. The crates above
+/// bind by this; no user needs it.
+pub fn place_values<'p>(
+    alloc: Global,
+    params: &'p Params,
+    names: &[&[u8]],
+) -> Result<Vec<&'p Value>, ParamsError>
+    ensures values { IsAnswer (λ values. referents values.items) lookup_refusal
+        (lookup (given params.now) (referents names.now)) ⊤ result }
+    ensures memory { IsErrOf result (ParamsError.Memory alloc_error) →
+        PlacesTakeMemory (given params.now) (referents names.now) }
+{
+    match params {
+        Params::Empty => match names.first() {
+            None => Ok(Vec::new(alloc)),
+            Some(name) => Err(missing_error(alloc, name)),
+        },
+        Params::Positional(values) => {
+            if names.is_empty() {
+                match borrowed_values(alloc, values.as_slice()) {
+                    Ok(values) => Ok(values),
+                    Err(error) => Err(ParamsError::Memory(error)),
+                }
+            } else {
+                Err(ParamsError::Confusion(ParamsConfusionError::PositionalParamsForNamedQuery))
+            }
+        }
+        Params::Named(entries) => {
+            if names.is_empty() {
+                Err(ParamsError::Confusion(ParamsConfusionError::NamedParamsForPositionalQuery))
+            } else {
+                named_place_values(alloc, entries, names)
+            }
+        }
+    }
+}
+
+// References to the values, in order.
+fn borrowed_values<'v>(alloc: Global, values: &'v [Value]) -> Result<Vec<&'v Value>, AllocError>
+    ensures { IfOk result (λ references. referents references.items ≡ values.now) }
+{
+    let mut references = Vec::with_capacity(alloc, values.len())?;
+    for value in values {
+        references.push(value)?;
+    }
+    Ok(references)
+}
+
+// What named parameters give to a list with names. Each name is looked up once.
+fn named_place_values<'p>(
+    alloc: Global,
+    entries: &'p HashMap<Vec<u8>, Value>,
+    names: &[&[u8]],
+) -> Result<Vec<&'p Value>, ParamsError>
+    requires { 0 < length names.now }
+    ensures { IsAnswer (λ values. referents values.items) lookup_refusal
+        (lookup (named (value_map entries.now.entries)) (referents names.now)) ⊤ result }
+{
+    let mut values = match Vec::with_capacity(alloc, names.len()) {
+        Ok(values) => values,
+        Err(error) => return Err(ParamsError::Memory(error)),
+    };
+    for (i, name) in names.iter().enumerate() {
+        match entries.get(*name) {
+            Some(value) => match values.push(value) {
+                Ok(()) => {}
+                Err(_) => return Err(ParamsError::Memory(AllocError)),
+            },
+            None => return Err(missing_error(alloc, reported_name(entries, names, i))),
+        }
+    }
+    Ok(values)
+}
+
+// The name that is reported as missing, where `first` is the place of the first that is not in the
+// map.
+fn reported_name<'n>(
+    entries: &HashMap<Vec<u8>, Value>,
+    names: &[&'n [u8]],
+    first: usize,
+) -> &'n [u8]
+    requires { IsFirstAbsent (value_map entries.now.entries) (referents names.now) (Some first) }
+    ensures { result.now ≡ missing_name (value_map entries.now.entries) (referents names.now) }
+{
+    if has_any(entries, &names[first + 1..]) {
+        names[first]
+    } else {
+        names[names.len() - 1]
+    }
+}
+
+// Whether any of the names is in the map.
+fn has_any(entries: &HashMap<Vec<u8>, Value>, names: &[&[u8]]) -> bool
+    ensures { result ≡ list_any (λ name. contains_key (value_map entries.now.entries) name.now)
+        names.now }
+{
+    names.iter().any(|name| has_name(entries, *name))
+}
+
+// The error of a name that is missing, or out of memory.
+fn missing_error(alloc: Global, name: &[u8]) -> ParamsError
+    ensures { (lookup_refusal result ≡ None) ⊎ (lookup_refusal result ≡ Some (missing name.now)) }
+{
+    match Vec::from_slice(alloc, name) {
+        Ok(name) => ParamsError::Missing(MissingNamedParameterError(name)),
+        Err(error) => ParamsError::Memory(error),
+    }
+}
