@@ -1,0 +1,109 @@
+-- What an outcome says, by what the calls below returned.
+use Rattle.std.specs.Prelude.{Option, Some, None, Result, Ok, Err, IsOk, alloc_error, option_map}
+use Rattle.std.specs.List.{Contains}
+use Rattle.std.proofs.Common.{◌≡◌, inl, inr, ℕ, Bool, List, [], ◌∷◌, length, take, sym, ap, ◌∙◌, subst}
+use Rattle.mysql_named_params.specs.Tokens.{OnTokens}
+use Rattle.mysql_named_params.specs.Places.{names, HasName, HasMark}
+use Rattle.mysql_named_params.specs.Parsed.{Parsed, parsed}
+use Rattle.mysql_named_params.proofs.TokenListLemmas.{one_token_list}
+use Rattle.mysql_params_core.specs.Given.{Given, empty}
+use Rattle.mysql_params_core.specs.Lookup.{missing}
+use Rattle.mysql_params_core.specs.Errors.{lookup_refusal}
+use Rattle.mysql_params_core.specs.declared.params.errors.ParamsError.{ParamsError}
+use Rattle.mysql_params_core.specs.declared.params.errors.ParamsError.TheVariants as params
+use Rattle.mysql_params_core.specs.declared.params.errors.MissingNamedParameterError.{MissingNamedParameterError}
+use Rattle.mysql_binding.specs.BindErrors.{IsRefusal, cause_of}
+use Rattle.mysql_binding.specs.FirstCause.{Cause, first_cause, refused_params}
+use Rattle.mysql_binding.specs.declared.bind_error.BindError.{BindError}
+use Rattle.mysql_binding.specs.declared.bind_error.BindError.TheVariants as bind
+use Rattle.mysql_flat_params.specs.FlatForm.{IsFormReading, read_parameter, read_to_end}
+use Rattle.mysql_flat_params.specs.FormErrors.{IsFormRefusal}
+use Rattle.mysql_flat_params.specs.declared.form_error.FormError.{FormError}
+use Rattle.mysql_flat_params.specs.declared.form_error.FormError.TheVariants.{Memory}
+use Rattle.mysql_flat_params.proofs.FormLemmas.{one_reading}
+use Rattle.mysql_params_core.specs.declared.params.Params.{Params}
+use Rattle.mysql_flat_params.specs.IntoRoom.{IsBindOutcome, IsInRoom, IsMissingName, IsNamesAnswer, IsNamesOutcome, IsRefusedFor}
+use Rattle.mysql_flat_params.specs.NamesAnswer.{names_answer}
+use Rattle.mysql_flat_params.specs.Outcomes.{IfDone}
+use Rattle.mysql_flat_params.specs.declared.outcome.Outcome.{Outcome}
+use Rattle.mysql_flat_params.specs.declared.outcome.Outcome.TheVariants.{Done, Room, Missing}
+use Rattle.mysql_flat_params.proofs.MissingLemmas.{missing_is_name}
+
+-- an error that stands for a cause is that of the first cause
+module _ (error : BindError) (cause : Cause) (is : cause_of error ≡ Some cause) where
+  cause_is_first : (first : Option Cause) → IsRefusal first error → first ≡ Some cause
+  cause_is_first first (inl memory) =
+      let never : Some cause ≡ None = sym is ∙ ap cause_of memory in
+      cc
+  cause_is_first first (inr why) = why.1 ∙ (sym why.2 ∙ is)
+
+  pub refused_for : (mode : Bool) (query form : List ℕ) (given : Given) → IsFormReading form (Ok given) →
+      OnTokens mode query (λ ts. IsRefusal (first_cause ts given) error) → IsRefusedFor mode query form cause
+  refused_for mode query form given reads o = (given, reads, (o.0, o.1, cause_is_first (first_cause o.0 given) o.2))
+
+-- the cause of an error that holds a missing name
+pub is_missing : (error : BindError) (why : ParamsError) (held : MissingNamedParameterError) (name : List ℕ) →
+    error ≡ bind.Params why → why ≡ params.Missing held → name ≡ held.0.items →
+    cause_of error ≡ Some (refused_params (missing name))
+is_missing error why held name is why_is name_is =
+    ap cause_of is ∙ (ap (λ w. option_map refused_params (lookup_refusal w)) why_is
+    ∙ ap (λ n. Some (refused_params (missing n))) (sym name_is))
+
+-- a name that is missing is one of the query's
+pub name_is_there : (mode : Bool) (query name : List ℕ) (error : BindError) → cause_of error ≡ Some (refused_params (missing name)) →
+    ((given : Given) × OnTokens mode query (λ ts. IsRefusal (first_cause ts given) error)) →
+    OnTokens mode query (λ ts. Contains (names ts) name)
+name_is_there mode query name error is (given, o) =
+    (o.0, o.1, missing_is_name o.0 given name (cause_is_first error (refused_params (missing name)) is (first_cause o.0 given) o.2))
+
+pub name_is_not_there : (mode : Bool) (query name : List ℕ) → OnTokens mode query (λ ts. Contains (names ts) name) →
+    OnTokens mode query (λ ts. Contains (names ts) name → ⊥) → ⊥
+name_is_not_there mode query name o none =
+    let same : o.0 ≡ none.0 = one_token_list mode query o.0 none.0 o.1 none.1 in
+    none.2 (subst (λ ts. Contains (names ts) name) same o.2)
+
+-- the outcome tells where it is
+pub missing_told : (mode : Bool) (query form name : List ℕ) (outcome : Outcome) → IsRefusedFor mode query form (refused_params (missing name)) →
+    IsMissingName mode query name outcome → IsBindOutcome mode query form outcome
+missing_told mode query form name (Missing place position len) refused told = (name, refused, told)
+missing_told mode query form name outcome refused told = absurd told
+
+-- the empty form is not refused
+pub empty_not_refused : (form : List ℕ) (error : FormError) → form ≡ [] → IsFormRefusal form error →
+    (◌≡◌ {A = Result Params FormError} (Err error) (Err (Memory alloc_error)) → IsOk (read_parameter (length form) 0 empty form)) → ⊥
+empty_not_refused [] error none (inl memory) allocates =
+    let never : IsOk (read_parameter 0 0 empty []) = allocates (ap (λ e. Err e) memory) in
+    cc
+empty_not_refused [] error none (inr why) allocates =
+    let same : Err why.0 ≡ Ok empty = one_reading 0 0 empty [] (Err why.0) (Ok empty) why.1 (read_to_end 0 0 empty) in
+    cc
+empty_not_refused (b ∷ form) error none refused allocates = cc
+
+-- ---- names
+
+-- a query that is not refused has no names or no marks
+pub unmixed : {X E : Type 0} (mode : Bool) (query : List ℕ) (x : X) (e : E) →
+    OnTokens mode query (λ ts. HasName ts × HasMark ts → ◌≡◌ {A = Result X E} (Ok x) (Err e)) →
+    OnTokens mode query (λ ts. HasName ts × HasMark ts → ⊥)
+unmixed {X = X} {E = E} mode query x e o = (o.0, o.1, λ both. never (o.2 both))
+  where
+    never : ◌≡◌ {A = Result X E} (Ok x) (Err e) → ⊥
+    never h = cc
+
+pub is_names_answer : (mode : Bool) (query text : List ℕ) (p : Parsed) → OnTokens mode query (λ ts. p ≡ parsed ts) →
+    OnTokens mode query (λ ts. HasName ts × HasMark ts → ⊥) → text ≡ names_answer p → IsNamesAnswer mode query text
+is_names_answer mode query text p o unmixed is =
+    let same : unmixed.0 ≡ o.0 = one_token_list mode query unmixed.0 o.0 unmixed.1 o.1 in
+    (o.0, o.1, (subst (λ ts. HasName ts × HasMark ts → ⊥) same unmixed.2, is ∙ ap names_answer o.2))
+
+module _ (mode : Bool) (query answer old new : List ℕ) where
+  pub names_told : (outcome : Outcome) → IsNamesAnswer mode query answer → IsInRoom answer old new outcome → IsNamesOutcome mode query outcome
+  names_told (Done len) is room = (answer, is, room.0)
+  names_told (Room len) is room = (answer, is, room.0)
+  names_told outcome is room = absurd room
+
+  pub names_written : (outcome : Outcome) → IsNamesAnswer mode query answer → IsInRoom answer old new outcome →
+      IfDone outcome (λ len. IsNamesAnswer mode query (take len new))
+  names_written (Done len) is room = subst (IsNamesAnswer mode query) (sym room.2) is
+  names_written (Room len) is room = tt
+  names_written outcome is room = absurd room

@@ -1,0 +1,337 @@
+//! The flat form of parameters.
+ghost use Rattle.std.specs.Prelude.{◌≡◌, ◌≤◌, ◌+◌, ◌<◌, ⊤, [], ◌∷◌, length, None, Some, Ok, Err, IsOk, IfOk, IfErr, IfSome, is_some, true, option_and_then, IsErrOf, OnOk, alloc_error};
+ghost use Rattle.std.specs.FinMap as finite;
+ghost use Rattle.mysql_wire_part.specs.Answer.{IsAnswer};
+ghost use Rattle.mysql_wire_part.specs.Column.{is_unsigned};
+ghost use Rattle.mysql_wire_part.specs.ParseBuf.{left, read_refusal};
+ghost use Rattle.mysql_params_core.specs.Given.{empty, given, named, positional, value_map};
+ghost use Rattle.mysql_flat_params.specs.ColumnNumbers.{is_unsigned_parameter};
+ghost use Rattle.mysql_flat_params.specs.FlatForm.{IsFormReading, IsReadFrom, name_refusal, refused_in, read_name, read_parameter, read_value};
+ghost use Rattle.mysql_flat_params.specs.FormErrors.{IsFormRefusal, IsRefusalFrom, form_refusal};
+
+use crate::column_number::column_type;
+use crate::form_error::FormError;
+use mysql_params_core::params::Params;
+use mysql_values::value::{BinValue, Value, ValueDeserializer};
+use mysql_wire_part::{ColumnFlags, Flags, MyDeserialize, ParseBuf, WireError};
+use std::alloc::{AllocError, Global};
+use std::collections::HashMap;
+
+// The flag of a parameter whose whole numbers have no sign.
+const UNSIGNED: u8 = 128;
+
+// Where a parameter stands in the form.
+#[derive(Clone, Copy)]
+struct Spot {
+    // Its number, from 0.
+    place: usize,
+    // The index of its first byte.
+    position: usize,
+}
+
+/// The parameters that a form says: none for the empty form, else by position or by name, as its
+/// first parameter is.
+///
+/// In the form parameters stand one after another up to its end. Each is its name, a length-encoded
+/// string (of no bytes: by position); a byte, the number of its column type
+/// ("Protocol::ColumnType" of the MySQL client/server protocol); a byte of flags, of which 128 says
+/// that a whole number has no sign and the others say nothing ("COM_STMT_EXECUTE"); and its value
+/// in binary form, as [`ValueDeserializer`] reads it.
+///
+/// The parameters are read in order, and the first that is refused ends it. Of each the name is
+/// read first (`End`, `LengthLead`) and judged (`Mixed`, `Repeated`); then type and flags
+/// (`End`); a type without a reading is `UnsupportedType`; then the value is read (`End`,
+/// `LengthLead`). `Memory` is returned only where a first parameter stands whole in the form.
+/// Nothing is allocated for a length that the form only states.
+pub fn params_of_form(alloc: Global, form: &[u8]) -> Result<Params, FormError>
+    ensures params { IfOk result (λ params. IsFormReading form.now (Ok (given params))) }
+    ensures refused { IfErr result (IsFormRefusal form.now) }
+
+    // Only a form in which a first parameter stands whole allocates.
+    ensures memory { IsErrOf result (FormError.Memory alloc_error) →
+        IsOk (read_parameter (length form.now) 0 empty form.now) }
+{
+    let mut rest = ParseBuf(form);
+    if rest.is_empty() {
+        return Ok(Params::Empty);
+    }
+    let spot = Spot {
+        place: 0,
+        position: 0,
+    };
+    let name = match eat_name(spot, &mut rest) {
+        Ok(name) => name,
+        Err(error) => return Err(error),
+    };
+    let value = match eat_value(alloc, spot, &mut rest) {
+        Ok(value) => value,
+        Err(error) => return Err(error),
+    };
+    if name.is_empty() {
+        positional_params(alloc, form.len(), value, rest)
+    } else {
+        named_params(alloc, form.len(), name, value, rest)
+    }
+}
+
+// The parameters by position of which this value is the first, and that go on with the rest.
+fn positional_params(
+    alloc: Global,
+    total: usize,
+    first: Value,
+    rest: ParseBuf<'_>,
+) -> Result<Params, FormError>
+    requires { length (left rest) < total }
+    ensures params { IfOk result (λ params.
+        IsReadFrom total 1 (positional (first ∷ [])) (left rest.entry) (Ok (given params))) }
+    ensures refused { IfErr result
+        (IsRefusalFrom total 1 (positional (first ∷ [])) (left rest.entry)) }
+{
+    let mut values = Vec::new(alloc);
+    match values.push(first) {
+        Ok(()) => {}
+        Err(_) => return Err(FormError::Memory(AllocError)),
+    }
+    let mut rest = rest;
+    while !rest.is_empty() {
+        match append_parameter(alloc, total, &mut values, &mut rest) {
+            Ok(()) => {}
+            Err(error) => return Err(error),
+        }
+    }
+    Ok(Params::Positional(values))
+}
+
+// Appends the value of the next parameter by position.
+fn append_parameter(
+    alloc: Global,
+    total: usize,
+    values: &mut Vec<Value>,
+    rest: &mut ParseBuf<'_>,
+) -> Result<(), FormError>
+    requires { length (left rest.old) ≤ total }
+    ensures parameter { IsAnswer (λ _. (positional values.new.items, left rest.new)) form_refusal
+        (read_parameter total (length values.old.items)
+        (positional values.old.items) (left rest.old)) ⊤ result }
+    ensures one_more { OnOk result (length values.new.items ≡ length values.old.items + 1) }
+{
+    let spot = Spot {
+        place: values.len(),
+        position: total - rest.len(),
+    };
+    let name = match eat_name(spot, rest) {
+        Ok(name) => name,
+        Err(error) => return Err(error),
+    };
+    if !name.is_empty() {
+        return Err(FormError::Mixed {
+            place: spot.place,
+            position: spot.position,
+        });
+    }
+    let value = match eat_value(alloc, spot, rest) {
+        Ok(value) => value,
+        Err(error) => return Err(error),
+    };
+    match values.push(value) {
+        Ok(()) => Ok(()),
+        Err(_) => Err(FormError::Memory(AllocError)),
+    }
+}
+
+// The parameters by name of which this is the first, and that go on with the rest.
+fn named_params(
+    alloc: Global,
+    total: usize,
+    name: &[u8],
+    first: Value,
+    rest: ParseBuf<'_>,
+) -> Result<Params, FormError>
+    requires { length (left rest) < total }
+    ensures params { IfOk result (λ params.
+        IsReadFrom total 1 (named (finite.insert finite.empty name.now first)) (left rest.entry)
+        (Ok (given params))) }
+    ensures refused { IfErr result
+        (IsRefusalFrom total 1 (named (finite.insert finite.empty name.now first))
+        (left rest.entry)) }
+{
+    let mut entries = HashMap::new(alloc);
+    match insert_new(alloc, &mut entries, name, first) {
+        Ok(()) => {}
+        Err(error) => return Err(FormError::Memory(error)),
+    }
+    let mut rest = rest;
+    let mut place = 1;
+    while !rest.is_empty() {
+        match insert_parameter(alloc, total, place, &mut entries, &mut rest) {
+            Ok(()) => {}
+            Err(error) => return Err(error),
+        }
+        place += 1;
+    }
+    Ok(Params::Named(entries))
+}
+
+// Inserts the value of the next parameter by name under its name.
+fn insert_parameter(
+    alloc: Global,
+    total: usize,
+    place: usize,
+    entries: &mut HashMap<Vec<u8>, Value>,
+    rest: &mut ParseBuf<'_>,
+) -> Result<(), FormError>
+    requires { length (left rest.old) ≤ total }
+    ensures { IsAnswer (λ _. (named (value_map entries.new.entries), left rest.new)) form_refusal
+        (read_parameter total place (named (value_map entries.old.entries)) (left rest.old))
+        ⊤ result }
+{
+    let spot = Spot {
+        place,
+        position: total - rest.len(),
+    };
+    let name = match eat_name(spot, rest) {
+        Ok(name) => name,
+        Err(error) => return Err(error),
+    };
+    let at = total - rest.len() - name.len();
+    if let Some(error) = name_error(spot, at, entries, name) {
+        return Err(error);
+    }
+    let value = match eat_value(alloc, spot, rest) {
+        Ok(value) => value,
+        Err(error) => return Err(error),
+    };
+    match insert_new(alloc, entries, name, value) {
+        Ok(()) => Ok(()),
+        Err(error) => Err(FormError::Memory(error)),
+    }
+}
+
+// Why a name, which stands at this index, is refused after parameters by name.
+fn name_error(
+    spot: Spot,
+    at: usize,
+    entries: &HashMap<Vec<u8>, Value>,
+    name: &[u8],
+) -> Option<FormError>
+    ensures refusal { option_and_then form_refusal result
+        ≡ name_refusal spot.place spot.position at
+        (named (value_map entries.now.entries)) name.now }
+    ensures no_memory { IfSome result (λ error. is_some (form_refusal error) ≡ true) }
+{
+    let Spot { place, position } = spot;
+    if name.is_empty() {
+        return Some(FormError::Mixed { place, position });
+    }
+    if has_name(entries, name) {
+        return Some(FormError::Repeated {
+            place,
+            position: at,
+            len: name.len(),
+        });
+    }
+    None
+}
+
+// Whether the name is in the map.
+fn has_name(entries: &HashMap<Vec<u8>, Value>, name: &[u8]) -> bool
+    ensures { result ≡ finite.contains_key (value_map entries.now.entries) name.now }
+{
+    entries.contains_key(name)
+}
+
+// Inserts a value under a new name.
+fn insert_new(
+    alloc: Global,
+    entries: &mut HashMap<Vec<u8>, Value>,
+    name: &[u8],
+    value: Value,
+) -> Result<(), AllocError>
+    ensures { OnOk result (value_map entries.new.entries
+        ≡ finite.insert (value_map entries.old.entries) name.now value) }
+{
+    let name = match Vec::from_slice(alloc, name) {
+        Ok(name) => name,
+        Err(error) => return Err(error),
+    };
+    match entries.insert(name, value) {
+        Ok(_) => Ok(()),
+        Err(_) => Err(AllocError),
+    }
+}
+
+// The name at the front of a parameter.
+fn eat_name<'a>(spot: Spot, rest: &mut ParseBuf<'a>) -> Result<&'a [u8], FormError>
+    ensures name { IsAnswer (λ name. (name.now, left rest.new)) form_refusal
+        (read_name spot.place spot.position (left rest.old)) ⊥ result }
+    ensures within { IfOk result (λ name.
+        length name.now + length (left rest.new) < length (left rest.old)) }
+{
+    match rest.eat_lenenc_str() {
+        Ok(name) => Ok(name),
+        Err(error) => Err(form_error(spot, 0, error)),
+    }
+}
+
+// The value of a parameter, after its name.
+fn eat_value(alloc: Global, spot: Spot, rest: &mut ParseBuf<'_>) -> Result<Value, FormError>
+    ensures { IsAnswer (λ value. (value, left rest.new)) form_refusal
+        (read_value spot.place spot.position (left rest.old))
+        (IsOk (read_value spot.place spot.position (left rest.old))) result }
+{
+    let Spot { place, position } = spot;
+    let [number, flags, bytes @ ..] = rest.0 else {
+        return Err(FormError::End { place, position });
+    };
+    let number = *number;
+    let Some(column) = column_type(number) else {
+        return Err(FormError::UnsupportedType {
+            place,
+            position,
+            number,
+        });
+    };
+    let mut after = ParseBuf(bytes);
+    let ctx = (column, column_flags(*flags));
+    match ValueDeserializer::<BinValue>::deserialize(alloc, ctx, &mut after) {
+        Ok(read) => {
+            *rest = after;
+            Ok(read.0)
+        }
+        Err(error) => Err(form_error(spot, number, error)),
+    }
+}
+
+// The flags of a column of which the flags of a parameter say as much.
+fn column_flags(flags: u8) -> ColumnFlags
+    ensures { is_unsigned result ≡ is_unsigned_parameter flags }
+{
+    if flags & UNSIGNED != 0 {
+        ColumnFlags::UNSIGNED_FLAG
+    } else {
+        ColumnFlags::from_bits_retain(0)
+    }
+}
+
+// Why a parameter can't be read, whose type has this number.
+fn form_error(spot: Spot, number: u8, error: WireError) -> FormError
+    ensures refusal { IfSome (read_refusal error) (λ refusal. form_refusal result
+        ≡ Some (refused_in spot.place spot.position number refusal)) }
+    ensures memory { read_refusal error ≡ None → result ≡ FormError.Memory alloc_error }
+{
+    let Spot { place, position } = spot;
+    match error {
+        WireError::UnexpectedEof => FormError::End { place, position },
+        WireError::BadLengthLead(lead) => FormError::LengthLead {
+            place,
+            position,
+            lead,
+        },
+        WireError::UnsupportedColumn(_) => FormError::UnsupportedType {
+            place,
+            position,
+            number,
+        },
+        WireError::Memory(error) => FormError::Memory(error),
+    }
+}

@@ -1,0 +1,58 @@
+//! Why bytes are no parameters.
+use std::alloc::AllocError;
+use thiserror::Error;
+
+/// Why [`params_of_form`](crate::params_of_form) gave no parameters. `place` is the number of the
+/// parameter, from 0, and `position` the index of its first byte in the form.
+#[derive(Debug, PartialEq, Drop, Error)]
+pub enum FormError {
+    /// The form ends within a parameter.
+    #[error("The form ends within parameter {place} at byte {position}")]
+    End {
+        /// The number of the parameter.
+        place: usize,
+        /// The index of its first byte.
+        position: usize,
+    },
+    /// A length-encoded string begins with FB or FF.
+    #[error("Bad length lead {lead} in parameter {place} at byte {position}")]
+    LengthLead {
+        /// The number of the parameter.
+        place: usize,
+        /// The index of its first byte.
+        position: usize,
+        /// The byte that begins no length.
+        lead: u8,
+    },
+    /// The number of its type is that of no type, or of one without a binary form.
+    #[error("Unsupported column type {number} of parameter {place} at byte {position}")]
+    UnsupportedType {
+        /// The number of the parameter.
+        place: usize,
+        /// The index of its first byte.
+        position: usize,
+        /// The number of its type.
+        number: u8,
+    },
+    /// It has a name and the first parameter has none, or it has none and the first has one.
+    #[error("Named and positional params in one form: parameter {place} at byte {position}")]
+    Mixed {
+        /// The number of the parameter.
+        place: usize,
+        /// The index of its first byte.
+        position: usize,
+    },
+    /// An earlier parameter has its name.
+    #[error("Redefinition of a named parameter: parameter {place}, name at byte {position}")]
+    Repeated {
+        /// The number of the parameter.
+        place: usize,
+        /// The index of the first byte of its name.
+        position: usize,
+        /// The bytes of its name.
+        len: usize,
+    },
+    /// Memory was refused.
+    #[error("out of memory")]
+    Memory(AllocError),
+}

@@ -1,0 +1,254 @@
+//! Answers in a room that the caller lends.
+ghost use Rattle.std.specs.Prelude.{◌≡◌, ◌≤◌, ◌<◌, ◌++◌, ℕ, Bool, List, [], ◌∷◌, Ok, length, take, drop, map, IfOk, OnOk};
+ghost use Rattle.std.specs.Cow.{cow_slice_items};
+ghost use Rattle.std.specs.List.{Contains};
+ghost use Rattle.mysql_sql_text.specs.StringUnits.{with_backslashes};
+ghost use Rattle.mysql_named_params.specs.Tokens.{OnTokens};
+ghost use Rattle.mysql_named_params.specs.Places.{names};
+ghost use Rattle.mysql_params_core.specs.Given.{Given};
+ghost use Rattle.mysql_binding.specs.BindErrors.{IsRefusal};
+ghost use Rattle.mysql_binding.specs.FirstCause.{first_cause};
+ghost use Rattle.mysql_flat_params.specs.FlatForm.{IsFormReading};
+ghost use Rattle.mysql_flat_params.specs.FormErrors.{IsFormRefusal};
+ghost use Rattle.mysql_flat_params.specs.IntoRoom.{IfMixed, IsBindOutcome, IsBoundForm, IsInRoom, IsMissingName, IsNamesAnswer, IsNamesOutcome};
+ghost use Rattle.mysql_flat_params.specs.NamesAnswer.{lenenc_row, names_answer};
+ghost use Rattle.mysql_flat_params.specs.Outcomes.{IfDone, IfTooLong, IsRefused, UnlessDone};
+
+use crate::form::params_of_form;
+use crate::form_error::FormError;
+use crate::missing_place::name_place;
+use crate::outcome::Outcome;
+use mysql_binding::{BindError, bind_text_in};
+use mysql_named_params::named_params::{NamedParamsError, ParsedNamedParams};
+use mysql_params_core::params::{ParamsConfusionError, ParamsError};
+use mysql_wire_part::put_lenenc_str;
+use std::alloc::{AllocError, Global};
+use std::borrow::CowSlice;
+
+/// Binds into a query what a form says, as [`bind_text_in`] binds the form's parameters in a mode,
+/// and writes the text to the front of the room. The form is that of [`params_of_form`].
+///
+/// `Done` has the length of the text; the rest of the room is unchanged. `Room` has the length that
+/// the room would need. A form is refused before the query; then the first of the causes of
+/// [`bind_text_in`] refuses it. `Missing` tells the first place that has the missing name. The empty
+/// form over a query with names and marks is `Mixed`, without allocating. After every outcome but
+/// `Done` the room is as before.
+pub fn bind_into_in(
+    alloc: Global,
+    query: &[u8],
+    form: &[u8],
+    no_backslash_escape: bool,
+    room: &mut [u8],
+) -> Outcome
+    ensures outcome { IsBindOutcome no_backslash_escape query.now form.now result }
+    ensures written { IfDone result (λ len.
+        IsBoundForm no_backslash_escape query.now form.now (take len room.new)) }
+
+    // The empty form over a query with a name and a mark is refused without allocating.
+    ensures mixed { form.now ≡ [] →
+        IfMixed no_backslash_escape query.now (result ≡ Outcome.Mixed) }
+    ensures rest { IfDone result (λ len.
+        (len ≤ length room.old) × (drop len room.new ≡ drop len room.old)) }
+    ensures too_long { IfTooLong result (λ len. length room.old < len) }
+    ensures unchanged { UnlessDone result (room.new ≡ room.old) }
+{
+    let params = match params_of_form(alloc, form) {
+        Ok(params) => params,
+        Err(error) => return form_outcome(error),
+    };
+    match bind_text_in(alloc, query, params, no_backslash_escape) {
+        Ok(text) => fill_front(room, text.as_slice()),
+        Err(error) => bind_outcome(query, error, no_backslash_escape),
+    }
+}
+
+/// Binds into a query what a form says, in the mode in which a backslash escapes, and writes the
+/// text to the front of the room: [`bind_into_in`] with `false`.
+pub fn bind_into(alloc: Global, query: &[u8], form: &[u8], room: &mut [u8]) -> Outcome
+    ensures outcome { IsBindOutcome with_backslashes query.now form.now result }
+    ensures written { IfDone result (λ len.
+        IsBoundForm with_backslashes query.now form.now (take len room.new)) }
+
+    // The empty form over a query with a name and a mark is refused without allocating.
+    ensures mixed { form.now ≡ [] →
+        IfMixed with_backslashes query.now (result ≡ Outcome.Mixed) }
+    ensures rest { IfDone result (λ len.
+        (len ≤ length room.old) × (drop len room.new ≡ drop len room.old)) }
+    ensures too_long { IfTooLong result (λ len. length room.old < len) }
+    ensures unchanged { UnlessDone result (room.new ≡ room.old) }
+{
+    bind_into_in(alloc, query, form, false, room)
+}
+
+/// Writes the query with `?` in the place of each name, as [`ParsedNamedParams::parse_in`] gives it
+/// in a mode, and then each name in order, with repeats, each as a length-encoded string, to the
+/// front of the room.
+///
+/// `Done` has the length of the answer; the rest of the room is unchanged. `Room` has the length
+/// that the room would need. A query with names and marks is `Mixed`, without allocating. Any other
+/// may be `OutOfMemory`. There are no other outcomes. After every outcome but `Done` the room is as
+/// before.
+pub fn names_into_in(
+    alloc: Global,
+    query: &[u8],
+    no_backslash_escape: bool,
+    room: &mut [u8],
+) -> Outcome
+    ensures outcome { IsNamesOutcome no_backslash_escape query.now result }
+    ensures written { IfDone result (λ len.
+        IsNamesAnswer no_backslash_escape query.now (take len room.new)) }
+
+    // A query with a name and a mark is refused without allocating.
+    ensures mixed { IfMixed no_backslash_escape query.now (result ≡ Outcome.Mixed) }
+    ensures rest { IfDone result (λ len.
+        (len ≤ length room.old) × (drop len room.new ≡ drop len room.old)) }
+    ensures too_long { IfTooLong result (λ len. length room.old < len) }
+    ensures unchanged { UnlessDone result (room.new ≡ room.old) }
+{
+    let parsed = match ParsedNamedParams::parse_in(alloc, query, no_backslash_escape) {
+        Ok(parsed) => parsed,
+        Err(NamedParamsError::Mixed(_)) => return Outcome::Mixed,
+        Err(NamedParamsError::Memory(_)) => return Outcome::OutOfMemory,
+    };
+    match names_text(alloc, &parsed) {
+        Ok(text) => fill_front(room, text.as_slice()),
+        Err(_) => Outcome::OutOfMemory,
+    }
+}
+
+/// Writes the query with `?` in the place of each name, read in the mode in which a backslash
+/// escapes, and then each name, to the front of the room: [`names_into_in`] with `false`.
+pub fn names_into(alloc: Global, query: &[u8], room: &mut [u8]) -> Outcome
+    ensures outcome { IsNamesOutcome with_backslashes query.now result }
+    ensures written { IfDone result (λ len.
+        IsNamesAnswer with_backslashes query.now (take len room.new)) }
+
+    // A query with a name and a mark is refused without allocating.
+    ensures mixed { IfMixed with_backslashes query.now (result ≡ Outcome.Mixed) }
+    ensures rest { IfDone result (λ len.
+        (len ≤ length room.old) × (drop len room.new ≡ drop len room.old)) }
+    ensures too_long { IfTooLong result (λ len. length room.old < len) }
+    ensures unchanged { UnlessDone result (room.new ≡ room.old) }
+{
+    names_into_in(alloc, query, false, room)
+}
+
+// The parsed query and its names, each as a length-encoded string.
+fn names_text(alloc: Global, parsed: &ParsedNamedParams<'_>) -> Result<Vec<u8>, AllocError>
+    ensures { IfOk result (λ text. text.items ≡ names_answer parsed.now) }
+{
+    let mut text = Vec::new(alloc);
+    put_lenenc_str(&mut text, parsed.query())?;
+    append_names(&mut text, parsed.params())?;
+    Ok(text)
+}
+
+// Appends each name as a length-encoded string.
+fn append_names(text: &mut Vec<u8>, names: &[CowSlice<'_, u8>]) -> Result<(), AllocError>
+    ensures { OnOk result (
+        text.new.items ≡ text.old.items ++ lenenc_row (map cow_slice_items names.now)) }
+{
+    for name in names {
+        put_lenenc_str(text, name.as_slice())?;
+    }
+    Ok(())
+}
+
+// Writes the answer to the front of the room, if the room has its length.
+fn fill_front(room: &mut [u8], answer: &[u8]) -> Outcome
+    ensures { IsInRoom answer.now room.old room.new result }
+{
+    let len = answer.len();
+    if room.len() < len {
+        return Outcome::Room { len };
+    }
+    room[..len].copy_from_slice(answer);
+    Outcome::Done { len }
+}
+
+// A refusal of a form.
+fn form_outcome(error: FormError) -> Outcome
+    ensures outcome { (mode : Bool) (query form : List ℕ) → IsFormRefusal form error →
+        IsBindOutcome mode query form result }
+    ensures refused { IsRefused result }
+{
+    match error {
+        FormError::End { place, position } => Outcome::FormEnd { place, position },
+        FormError::LengthLead {
+            place,
+            position,
+            lead,
+        } => Outcome::FormLengthLead {
+            place,
+            position,
+            lead,
+        },
+        FormError::UnsupportedType {
+            place,
+            position,
+            number,
+        } => Outcome::FormType {
+            place,
+            position,
+            number,
+        },
+        FormError::Mixed { place, position } => Outcome::FormMixed { place, position },
+        FormError::Repeated {
+            place,
+            position,
+            len,
+        } => Outcome::FormRepeated {
+            place,
+            position,
+            len,
+        },
+        FormError::Memory(_) => Outcome::OutOfMemory,
+    }
+}
+
+// A refusal of binding to this query.
+fn bind_outcome(query: &[u8], error: BindError, no_backslash_escape: bool) -> Outcome
+    requires { (given : Given) × OnTokens no_backslash_escape query.now (λ ts.
+        IsRefusal (first_cause ts given) error) }
+    ensures outcome { (form : List ℕ) (given : Given) → IsFormReading form (Ok given) →
+        OnTokens no_backslash_escape query.now (λ ts. IsRefusal (first_cause ts given) error) →
+        IsBindOutcome no_backslash_escape query.now form result }
+    ensures mixed { error ≡ BindError.Mixed → result ≡ Outcome.Mixed }
+    ensures refused { IsRefused result }
+{
+    match error {
+        BindError::Mixed => Outcome::Mixed,
+        BindError::Params(ParamsError::Missing(missing)) => {
+            missing_outcome(query, missing.0.as_slice(), no_backslash_escape)
+        }
+        BindError::Params(
+            ParamsError::Confusion(ParamsConfusionError::NamedParamsForPositionalQuery),
+        ) => Outcome::NamedForPositional,
+        BindError::Params(
+            ParamsError::Confusion(ParamsConfusionError::PositionalParamsForNamedQuery),
+        ) => Outcome::PositionalForNamed,
+        BindError::Params(ParamsError::Memory(_)) => Outcome::OutOfMemory,
+        BindError::MarkCount { marks, values } => Outcome::MarkCount { marks, values },
+        BindError::NotAlone { place, at } => Outcome::NotAlone {
+            place,
+            position: at,
+        },
+        BindError::Float { place } => Outcome::Float { place },
+        BindError::Memory(_) => Outcome::OutOfMemory,
+    }
+}
+
+// The refusal of a name of this query that has no value.
+fn missing_outcome(query: &[u8], name: &[u8], no_backslash_escape: bool) -> Outcome
+    requires { OnTokens no_backslash_escape query.now (λ ts. Contains (names ts) name.now) }
+    ensures { IsMissingName no_backslash_escape query.now name.now result }
+{
+    match name_place(query, name, no_backslash_escape) {
+        Some((place, position)) => Outcome::Missing {
+            place,
+            position,
+            len: name.len(),
+        },
+        None => unreachable!(),
+    }
+}

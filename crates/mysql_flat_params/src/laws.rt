@@ -1,0 +1,44 @@
+//! Laws of the definitions that the contracts cite, and of equality. No program needs to call them.
+ghost use Rattle.std.specs.Prelude.{◌≡◌, ◌↔◌, ℕ, List, IsTrue, Result};
+ghost use Rattle.mysql_params_core.specs.Given.{Given};
+ghost use Rattle.mysql_flat_params.specs.FlatForm.{FormRefusal, IsFormReading};
+ghost use Rattle.mysql_flat_params.specs.Outcomes.{number_of, report_of};
+ghost use Rattle.mysql_flat_params.specs.declared.outcome.Outcome as outcome;
+
+use crate::form_error::FormError;
+use crate::outcome::{Outcome, Report};
+
+/// Each form says parameters or is refused, and it has one such reading.
+pub fn one_form_reading()
+    ensures exists { (form : List ℕ) →
+        (reading : Result Given FormRefusal) × IsFormReading form reading }
+    ensures unique { (form : List ℕ) (a b : Result Given FormRefusal) →
+        IsFormReading form a → IsFormReading form b → a ≡ b }
+{}
+
+/// The number and the fields of an outcome are those of no other.
+pub fn one_outcome()
+    ensures unique { (a b : outcome.Outcome) →
+        number_of a ≡ number_of b → report_of a ≡ report_of b → a ≡ b }
+{}
+
+/// Equality of the errors of forms is of variant and fields.
+pub fn form_error_equality(a: &FormError, b: &FormError) -> bool
+    ensures same { IsTrue result ↔ (a.now ≡ b.now) }
+{
+    a == b
+}
+
+/// Equality of outcomes is of variant and fields.
+pub fn outcome_equality(a: &Outcome, b: &Outcome) -> bool
+    ensures same { IsTrue result ↔ (a.now ≡ b.now) }
+{
+    a == b
+}
+
+/// Equality of reports is of all fields.
+pub fn report_equality(a: &Report, b: &Report) -> bool
+    ensures same { IsTrue result ↔ (a.now ≡ b.now) }
+{
+    a == b
+}

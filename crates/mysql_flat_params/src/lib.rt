@@ -1,0 +1,20 @@
+//! Binding for callers in other languages: parameters come in as bytes in one flat form, and the
+//! answer goes into a room that the caller lends.
+//!
+//! [`params_of_form`] reads the form. [`bind_into_in`] and [`names_into_in`] write their answer into
+//! the room, or leave it as it was and say by an [`Outcome`] why; [`bind_into`] and [`names_into`] are
+//! the same for the mode in which a backslash escapes.
+#![tactic(auto)]
+
+mod column_number;
+mod form;
+mod form_error;
+mod into_room;
+pub mod laws;
+mod missing_place;
+mod outcome;
+
+pub use form::params_of_form;
+pub use form_error::FormError;
+pub use into_room::{bind_into, bind_into_in, names_into, names_into_in};
+pub use outcome::{Outcome, Report};

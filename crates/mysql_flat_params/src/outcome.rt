@@ -1,0 +1,209 @@
+//! What became of a call that writes into a caller's room.
+ghost use Rattle.std.specs.Prelude.{◌≡◌, pos};
+ghost use Rattle.mysql_flat_params.specs.Outcomes.{no_fields, number_of, report_of};
+
+/// What became of a call that writes into a caller's room. After each but `Done` the room is as it
+/// was.
+#[derive(Clone, Copy, Debug, PartialEq, Eq)]
+pub enum Outcome {
+    /// The answer stands in the first `len` bytes of the room. The rest of the room is unchanged.
+    Done {
+        /// The bytes of the answer.
+        len: usize,
+    },
+    /// Memory was refused, or the answer would be longer than any answer can be.
+    OutOfMemory,
+    /// The room is shorter than the answer.
+    Room {
+        /// The bytes of the answer.
+        len: usize,
+    },
+    /// The form ends within a parameter.
+    FormEnd {
+        /// The number of the parameter, from 0.
+        place: usize,
+        /// The index of its first byte in the form.
+        position: usize,
+    },
+    /// A length-encoded string of the form begins with FB or FF.
+    FormLengthLead {
+        /// The number of the parameter, from 0.
+        place: usize,
+        /// The index of its first byte in the form.
+        position: usize,
+        /// The byte that begins no length.
+        lead: u8,
+    },
+    /// The number of a parameter's type is that of no type, or of one without a binary form.
+    FormType {
+        /// The number of the parameter, from 0.
+        place: usize,
+        /// The index of its first byte in the form.
+        position: usize,
+        /// The number of its type.
+        number: u8,
+    },
+    /// A parameter has a name and the first has none, or it has none and the first has one.
+    FormMixed {
+        /// The number of the parameter, from 0.
+        place: usize,
+        /// The index of its first byte in the form.
+        position: usize,
+    },
+    /// An earlier parameter has the name of this one.
+    FormRepeated {
+        /// The number of the later parameter, from 0.
+        place: usize,
+        /// The index of the first byte of its name in the form.
+        position: usize,
+        /// The bytes of the name.
+        len: usize,
+    },
+    /// The query has names and marks.
+    Mixed,
+    /// A name of the query has no value.
+    Missing {
+        /// The number of the first place with that name, from 0.
+        place: usize,
+        /// The index of the first byte of the name in the query, after its colon.
+        position: usize,
+        /// The bytes of the name.
+        len: usize,
+    },
+    /// The parameters are named, and the query has no names.
+    NamedForPositional,
+    /// The parameters are positional, and the query has names.
+    PositionalForNamed,
+    /// The query has no names, and its marks are not as many as the values.
+    MarkCount {
+        /// The marks of the query.
+        marks: usize,
+        /// The values given.
+        values: usize,
+    },
+    /// A name or mark doesn't stand alone; of several it is the first.
+    NotAlone {
+        /// Its number among the names and marks, from 0.
+        place: usize,
+        /// The index of its first byte in the query.
+        position: usize,
+    },
+    /// The value for a place is a float, which has no literal; of several it is the first.
+    Float {
+        /// The number of its place, from 0.
+        place: usize,
+    },
+}
+
+/// The fields of an outcome as numbers. Those that an outcome doesn't have are 0.
+#[derive(Clone, Copy, Debug, PartialEq, Eq)]
+#[repr(C)]
+pub struct Report {
+    /// The bytes of the answer, or of a name.
+    pub len: usize,
+    /// The number of a place of the query or of a parameter of the form, from 0.
+    pub place: usize,
+    /// The index of a byte in the query or in the form.
+    pub position: usize,
+    /// The marks of the query.
+    pub marks: usize,
+    /// The values given.
+    pub values: usize,
+    /// The byte that begins no length, or the number of a type.
+    pub byte: usize,
+}
+
+// The report of an outcome without fields.
+const NO_FIELDS: Report = Report {
+    len: 0,
+    place: 0,
+    position: 0,
+    marks: 0,
+    values: 0,
+    byte: 0,
+};
+
+// The fields of an outcome that tells a place and a position.
+fn spot_fields(len: usize, place: usize, position: usize, byte: u8) -> Report
+    ensures { result ≡ record no_fields {
+      len = len;
+      place = place;
+      position = position;
+      byte = byte;
+    } }
+{
+    Report {
+        len,
+        place,
+        position,
+        byte: byte as usize,
+        ..NO_FIELDS
+    }
+}
+
+impl Outcome {
+    /// The number of the outcome's kind: 0 for `Done`, and then in the order of the declaration.
+    pub fn number(self) -> i32
+        ensures number { result ≡ pos (number_of self) }
+    {
+        match self {
+            Outcome::Done { .. } => 0,
+            Outcome::OutOfMemory => 1,
+            Outcome::Room { .. } => 2,
+            Outcome::FormEnd { .. } => 3,
+            Outcome::FormLengthLead { .. } => 4,
+            Outcome::FormType { .. } => 5,
+            Outcome::FormMixed { .. } => 6,
+            Outcome::FormRepeated { .. } => 7,
+            Outcome::Mixed => 8,
+            Outcome::Missing { .. } => 9,
+            Outcome::NamedForPositional => 10,
+            Outcome::PositionalForNamed => 11,
+            Outcome::MarkCount { .. } => 12,
+            Outcome::NotAlone { .. } => 13,
+            Outcome::Float { .. } => 14,
+        }
+    }
+
+    /// The fields of the outcome.
+    pub fn report(self) -> Report
+        ensures fields { result ≡ report_of self }
+    {
+        match self {
+            Outcome::Done { len } | Outcome::Room { len } => Report { len, ..NO_FIELDS },
+            Outcome::FormEnd { place, position }
+            | Outcome::FormMixed { place, position }
+            | Outcome::NotAlone { place, position } => spot_fields(0, place, position, 0),
+            Outcome::FormLengthLead {
+                place,
+                position,
+                lead: byte,
+            }
+            | Outcome::FormType {
+                place,
+                position,
+                number: byte,
+            } => spot_fields(0, place, position, byte),
+            Outcome::FormRepeated {
+                place,
+                position,
+                len,
+            }
+            | Outcome::Missing {
+                place,
+                position,
+                len,
+            } => spot_fields(len, place, position, 0),
+            Outcome::MarkCount { marks, values } => Report {
+                marks,
+                values,
+                ..NO_FIELDS
+            },
+            Outcome::Float { place } => Report { place, ..NO_FIELDS },
+            Outcome::OutOfMemory
+            | Outcome::Mixed
+            | Outcome::NamedForPositional
+            | Outcome::PositionalForNamed => NO_FIELDS,
+        }
+    }
+}

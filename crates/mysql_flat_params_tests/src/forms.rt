@@ -1,0 +1,317 @@
+//! Forms and queries that are bound, and those that are refused.
+use crate::shared::{FORM, QUERY, TEXT, binds, refuses};
+use mysql_flat_params::laws::form_error_equality;
+use mysql_flat_params::{FormError, Outcome, params_of_form};
+use mysql_params_core::params::Params;
+use std::alloc::AllocError;
+use std::test::Fail;
+
+/// Queries, forms, and the text.
+const TEXTS: &[(&[u8], &[u8], &[u8])] = &[
+    (QUERY, FORM, TEXT),
+    (
+        b"SELECT ?, ':id', ?",
+        b"\0\x08\0\x2a\0\0\0\0\0\0\0\0\xfd\0\x0cx' OR '1'='1",
+        TEXT,
+    ),
+    (b"", b"", b""),
+    (b"SELECT 1", b"", b"SELECT 1"),
+    (b"?, ?", b"\0\x01\0\x05\0\x06\0", b"5, NULL"),
+    // A name that the query has twice, and one that it doesn't have.
+    (b":a, :a", b"\x01b\x06\0\x01a\x01\x80\xff", b"255, 255"),
+    // A length in three bytes, and one in nine.
+    (b":a", b"\xfc\x01\0a\x06\0", b"NULL"),
+    (b"?", b"\xfe\0\0\0\0\0\0\0\0\x06\0", b"NULL"),
+];
+
+#[test]
+fn bound_texts(rt: HostRuntime) -> Result<(), Fail> {
+    for (query, form, text) in TEXTS {
+        binds(&rt, rt.alloc(), *query, *form, *text);
+    }
+    Ok(())
+}
+
+/// Forms, and why they are refused.
+const FORMS: &[(&[u8], Outcome)] = &[
+    // The form ends before the type, before the flags, in the value, in the name.
+    (
+        b"\0",
+        Outcome::FormEnd {
+            place: 0,
+            position: 0,
+        },
+    ),
+    (
+        b"\0\x06",
+        Outcome::FormEnd {
+            place: 0,
+            position: 0,
+        },
+    ),
+    (
+        b"\0\x08\0\x2a",
+        Outcome::FormEnd {
+            place: 0,
+            position: 0,
+        },
+    ),
+    (
+        b"\x05ab",
+        Outcome::FormEnd {
+            place: 0,
+            position: 0,
+        },
+    ),
+    (
+        b"\0\x06\0\xfc",
+        Outcome::FormEnd {
+            place: 1,
+            position: 3,
+        },
+    ),
+    // A length that is only stated.
+    (
+        b"\0\xfd\0\xfe\xff\xff\xff\xff\xff\xff\xff\xff",
+        Outcome::FormEnd {
+            place: 0,
+            position: 0,
+        },
+    ),
+    (
+        b"\xfb",
+        Outcome::FormLengthLead {
+            place: 0,
+            position: 0,
+            lead: 0xFB,
+        },
+    ),
+    (
+        b"\0\xfd\0\xff",
+        Outcome::FormLengthLead {
+            place: 0,
+            position: 0,
+            lead: 0xFF,
+        },
+    ),
+    (
+        b"\x01a\x06\0\x01b\xfd\0\xfb",
+        Outcome::FormLengthLead {
+            place: 1,
+            position: 4,
+            lead: 0xFB,
+        },
+    ),
+    // A type without a reading, and a number of none; the type without flags.
+    (
+        b"\0\x11\0",
+        Outcome::FormType {
+            place: 0,
+            position: 0,
+            number: 17,
+        },
+    ),
+    (
+        b"\0\x06\0\0\xf4\0",
+        Outcome::FormType {
+            place: 1,
+            position: 3,
+            number: 244,
+        },
+    ),
+    (
+        b"\0\x11",
+        Outcome::FormEnd {
+            place: 0,
+            position: 0,
+        },
+    ),
+    // Names and no names, before the type.
+    (
+        b"\0\x06\0\x01a\x11\0",
+        Outcome::FormMixed {
+            place: 1,
+            position: 3,
+        },
+    ),
+    (
+        b"\x01a\x06\0\0\x06\0",
+        Outcome::FormMixed {
+            place: 1,
+            position: 4,
+        },
+    ),
+    // A name that stands twice, with a length of one byte, of three, and before a value that ends.
+    (
+        b"\x01a\x06\0\x01b\x06\0\x01a\x06\0",
+        Outcome::FormRepeated {
+            place: 2,
+            position: 9,
+            len: 1,
+        },
+    ),
+    (
+        b"\x02ab\x06\0\xfc\x02\0ab\x06\0",
+        Outcome::FormRepeated {
+            place: 1,
+            position: 8,
+            len: 2,
+        },
+    ),
+    (
+        b"\x01a\x06\0\x01a",
+        Outcome::FormRepeated {
+            place: 1,
+            position: 5,
+            len: 1,
+        },
+    ),
+];
+
+#[test]
+fn refused_forms(rt: HostRuntime) -> Result<(), Fail> {
+    for (form, wanted) in FORMS {
+        // The query has causes of its own, which come later.
+        refuses(&rt, rt.alloc(), b":a ?", *form, *wanted);
+    }
+    Ok(())
+}
+
+/// Queries, forms, and why binding is refused.
+const CAUSES: &[(&[u8], &[u8], Outcome)] = &[
+    (b":a ?", b"", Outcome::Mixed),
+    // Nothing is given: the first name. By name: the last, where the given ones are a beginning.
+    (
+        b"x, :a, :b",
+        b"",
+        Outcome::Missing {
+            place: 0,
+            position: 4,
+            len: 1,
+        },
+    ),
+    (
+        b":a, :bb, :bb",
+        b"\x01a\x06\0",
+        Outcome::Missing {
+            place: 1,
+            position: 5,
+            len: 2,
+        },
+    ),
+    (
+        b"':c' :a, :b, :a",
+        b"\x01b\x06\0",
+        Outcome::Missing {
+            place: 0,
+            position: 6,
+            len: 1,
+        },
+    ),
+    (b"?", b"\x01a\x06\0", Outcome::NamedForPositional),
+    (b":a", b"\0\x06\0", Outcome::PositionalForNamed),
+    (
+        b"?, ?",
+        b"\0\x06\0",
+        Outcome::MarkCount {
+            marks: 2,
+            values: 1,
+        },
+    ),
+    (
+        b"?, 1?",
+        b"\0\x06\0\0\x06\0",
+        Outcome::NotAlone {
+            place: 1,
+            position: 4,
+        },
+    ),
+    (
+        b"?, ?",
+        b"\0\x06\0\0\x04\0\0\0\0\0",
+        Outcome::Float { place: 1 },
+    ),
+];
+
+#[test]
+fn refused_queries(rt: HostRuntime) -> Result<(), Fail> {
+    for (query, form, wanted) in CAUSES {
+        refuses(&rt, rt.alloc(), *query, *form, *wanted);
+    }
+    Ok(())
+}
+
+#[test]
+fn errors_of_forms(rt: HostRuntime) -> Result<(), Fail> {
+    let alloc = rt.alloc();
+    match params_of_form(alloc, b"") {
+        Ok(params) => assert!(rt; params == Params::Empty),
+        Err(error) => assert!(rt; false, "{error}"),
+    }
+    match params_of_form(alloc, b"\0\x06\0\xff") {
+        Ok(_) => assert!(rt; false),
+        Err(error) => {
+            let wanted = FormError::LengthLead {
+                place: 1,
+                position: 3,
+                lead: 255,
+            };
+            assert!(rt; form_error_equality(&error, &wanted));
+            assert!(rt; !form_error_equality(&error, &FormError::Memory(AllocError)));
+        }
+    }
+    Ok(())
+}
+
+/// Errors and their messages.
+const MESSAGES: &[(FormError, &str)] = &[
+    (
+        FormError::End {
+            place: 1,
+            position: 2,
+        },
+        "The form ends within parameter 1 at byte 2",
+    ),
+    (
+        FormError::LengthLead {
+            place: 1,
+            position: 2,
+            lead: 251,
+        },
+        "Bad length lead 251 in parameter 1 at byte 2",
+    ),
+    (
+        FormError::UnsupportedType {
+            place: 1,
+            position: 2,
+            number: 17,
+        },
+        "Unsupported column type 17 of parameter 1 at byte 2",
+    ),
+    (
+        FormError::Mixed {
+            place: 1,
+            position: 2,
+        },
+        "Named and positional params in one form: parameter 1 at byte 2",
+    ),
+    (
+        FormError::Repeated {
+            place: 1,
+            position: 2,
+            len: 3,
+        },
+        "Redefinition of a named parameter: parameter 1, name at byte 2",
+    ),
+];
+
+#[test]
+fn messages(rt: HostRuntime) -> Result<(), Fail> {
+    let alloc = rt.alloc();
+    for (error, text) in MESSAGES {
+        assert_eq!(rt; format!(in alloc; "{error}")?.as_str(), *text);
+    }
+    let error = FormError::Memory(AllocError);
+    assert_eq!(rt; format!(in alloc; "{error}")?.as_str(), "out of memory");
+    Ok(())
+}

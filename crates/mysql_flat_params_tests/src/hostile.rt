@@ -1,0 +1,112 @@
+//! Bytes that are no form: each gets an answer or a named refusal.
+use crate::shared::{FORM, QUERY, TEXT, binds, refuses};
+use mysql_binding::bind_text;
+use mysql_flat_params::{Outcome, bind_into, params_of_form};
+use std::alloc::Global;
+use std::process::Abort;
+use std::test::Fail;
+
+// The refusal of a form of one or two bytes: none of them is a parameter.
+fn refusal_of_two(first: u8) -> Outcome {
+    match first {
+        0xFB | 0xFF => Outcome::FormLengthLead {
+            place: 0,
+            position: 0,
+            lead: first,
+        },
+        _ => Outcome::FormEnd {
+            place: 0,
+            position: 0,
+        },
+    }
+}
+
+#[test]
+fn every_form_of_up_to_two_bytes(rt: HostRuntime) -> Result<(), Fail> {
+    let alloc = rt.alloc();
+    binds(&rt, alloc, b"", b"", b"");
+    for first in 0..=255u8 {
+        refuses(&rt, alloc, b"", &[first], refusal_of_two(first));
+        for second in 0..=255u8 {
+            refuses(&rt, alloc, b"", &[first, second], refusal_of_two(first));
+        }
+    }
+    Ok(())
+}
+
+// What becomes of the form of README's example, cut off at this byte. Its first parameter has 13
+// bytes.
+fn outcome_of_cut(at: usize) -> Outcome {
+    match at {
+        0 => Outcome::Missing {
+            place: 0,
+            position: 8,
+            len: 2,
+        },
+        13 => Outcome::Missing {
+            place: 1,
+            position: 20,
+            len: 4,
+        },
+        1..13 => Outcome::FormEnd {
+            place: 0,
+            position: 0,
+        },
+        _ => Outcome::FormEnd {
+            place: 1,
+            position: 13,
+        },
+    }
+}
+
+#[test]
+fn a_form_cut_at_every_byte(rt: HostRuntime) -> Result<(), Fail> {
+    let alloc = rt.alloc();
+    for at in 0..FORM.len() {
+        refuses(&rt, alloc, QUERY, &FORM[..at], outcome_of_cut(at));
+    }
+    binds(&rt, alloc, QUERY, FORM, TEXT);
+    Ok(())
+}
+
+// The query of README's example bound to what the form says, if neither is refused.
+fn bound_text(alloc: Global, form: &[u8]) -> Option<Vec<u8>> {
+    match params_of_form(alloc, form) {
+        Ok(params) => bind_text(alloc, QUERY, params).ok(),
+        Err(_) => None,
+    }
+}
+
+// Binding over the form doesn't run out of memory, writes the text where there is one, and leaves
+// all of the room but the text.
+fn writes_the_text_alone(rt: &impl Abort, alloc: Global, form: &[u8]) {
+    let mut room = [b'#'; 400];
+    let outcome = bind_into(alloc, QUERY, form, &mut room);
+    assert!(rt; outcome != Outcome::OutOfMemory, "of {form:?}");
+    let written = match bound_text(alloc, form) {
+        Some(text) => {
+            let len = text.len();
+            assert_eq!(rt; outcome, Outcome::Done { len }, "of {form:?}");
+            assert!(rt; room.starts_with(text.as_slice()), "of {form:?}");
+            len
+        }
+        None => 0,
+    };
+    let kept = room.iter().skip(written).all(|byte| *byte == b'#');
+    assert!(rt; kept, "of {form:?}");
+}
+
+#[test]
+fn a_form_with_every_byte_changed(rt: HostRuntime) -> Result<(), Fail> {
+    let alloc = rt.alloc();
+    let mut form = Vec::from_slice(alloc, FORM)?;
+    for at in 0..form.len() {
+        let good = form[at];
+        for byte in 0..=255u8 {
+            form[at] = byte;
+            writes_the_text_alone(&rt, alloc, form.as_slice());
+        }
+        form[at] = good;
+    }
+    Ok(())
+}

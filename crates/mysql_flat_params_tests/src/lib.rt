@@ -1,0 +1,17 @@
+//! Tests of the flat form and of answers in a caller's room, through public calls alone.
+#![tactic(auto)]
+
+#[cfg(test)]
+mod forms;
+#[cfg(test)]
+mod hostile;
+#[cfg(test)]
+mod outcomes;
+#[cfg(test)]
+mod rooms;
+#[cfg(test)]
+mod shared;
+#[cfg(test)]
+mod types;
+#[cfg(test)]
+mod without_backslashes;

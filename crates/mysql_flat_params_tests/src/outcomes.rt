@@ -1,0 +1,109 @@
+//! Outcomes as numbers and fields.
+use mysql_flat_params::laws::{outcome_equality, report_equality};
+use mysql_flat_params::{Outcome, Report};
+use std::test::Fail;
+
+/// Outcomes, their numbers, and their fields: length, place, position, marks, values, byte.
+const OUTCOMES: &[(Outcome, i32, [usize; 6])] = &[
+    (Outcome::Done { len: 9 }, 0, [9, 0, 0, 0, 0, 0]),
+    (Outcome::OutOfMemory, 1, [0, 0, 0, 0, 0, 0]),
+    (Outcome::Room { len: 9 }, 2, [9, 0, 0, 0, 0, 0]),
+    (
+        Outcome::FormEnd {
+            place: 1,
+            position: 2,
+        },
+        3,
+        [0, 1, 2, 0, 0, 0],
+    ),
+    (
+        Outcome::FormLengthLead {
+            place: 1,
+            position: 2,
+            lead: 251,
+        },
+        4,
+        [0, 1, 2, 0, 0, 251],
+    ),
+    (
+        Outcome::FormType {
+            place: 1,
+            position: 2,
+            number: 17,
+        },
+        5,
+        [0, 1, 2, 0, 0, 17],
+    ),
+    (
+        Outcome::FormMixed {
+            place: 1,
+            position: 2,
+        },
+        6,
+        [0, 1, 2, 0, 0, 0],
+    ),
+    (
+        Outcome::FormRepeated {
+            place: 1,
+            position: 2,
+            len: 3,
+        },
+        7,
+        [3, 1, 2, 0, 0, 0],
+    ),
+    (Outcome::Mixed, 8, [0, 0, 0, 0, 0, 0]),
+    (
+        Outcome::Missing {
+            place: 1,
+            position: 2,
+            len: 3,
+        },
+        9,
+        [3, 1, 2, 0, 0, 0],
+    ),
+    (Outcome::NamedForPositional, 10, [0, 0, 0, 0, 0, 0]),
+    (Outcome::PositionalForNamed, 11, [0, 0, 0, 0, 0, 0]),
+    (
+        Outcome::MarkCount {
+            marks: 4,
+            values: 5,
+        },
+        12,
+        [0, 0, 0, 4, 5, 0],
+    ),
+    (
+        Outcome::NotAlone {
+            place: 1,
+            position: 2,
+        },
+        13,
+        [0, 1, 2, 0, 0, 0],
+    ),
+    (Outcome::Float { place: 1 }, 14, [0, 1, 0, 0, 0, 0]),
+];
+
+#[test]
+fn numbers_and_fields(rt: HostRuntime) -> Result<(), Fail> {
+    for (outcome, number, [len, place, position, marks, values, byte]) in OUTCOMES {
+        let wanted = Report {
+            len: *len,
+            place: *place,
+            position: *position,
+            marks: *marks,
+            values: *values,
+            byte: *byte,
+        };
+        assert_eq!(rt; outcome.number(), *number);
+        assert!(rt; report_equality(&outcome.report(), &wanted), "of {number}");
+    }
+    Ok(())
+}
+
+#[test]
+fn equal_outcomes(rt: HostRuntime) -> Result<(), Fail> {
+    let outcome = Outcome::Float { place: 1 };
+    assert!(rt; outcome_equality(&outcome, &Outcome::Float { place: 1 }));
+    assert!(rt; !outcome_equality(&outcome, &Outcome::Float { place: 2 }));
+    assert!(rt; !report_equality(&outcome.report(), &Outcome::Mixed.report()));
+    Ok(())
+}

@@ -1,0 +1,71 @@
+//! Rooms that are too short, of the right length, and longer; and the answer to a query's names.
+use crate::shared::{FORM, QUERY, Spelling, TEXT, WITH_BACKSLASHES, finds_by};
+use mysql_flat_params::{Outcome, bind_into, names_into};
+use std::test::Fail;
+
+#[test]
+fn bound_in_its_room(rt: HostRuntime) -> Result<(), Fail> {
+    let mut room = [b'#'; 36];
+    let outcome = bind_into(rt.alloc(), QUERY, FORM, &mut room);
+    assert_eq!(rt; outcome, Outcome::Done { len: 36 });
+    assert_eq!(rt; &room[..], TEXT);
+    Ok(())
+}
+
+#[test]
+fn room_too_short_by_one(rt: HostRuntime) -> Result<(), Fail> {
+    let mut room = [b'#'; 35];
+    let outcome = bind_into(rt.alloc(), QUERY, FORM, &mut room);
+    assert_eq!(rt; outcome, Outcome::Room { len: 36 });
+    assert_eq!(rt; room, [b'#'; 35]);
+    let outcome = names_into(rt.alloc(), QUERY, &mut room[..26]);
+    assert_eq!(rt; outcome, Outcome::Room { len: 27 });
+    assert_eq!(rt; room, [b'#'; 35]);
+    Ok(())
+}
+
+#[test]
+fn no_room(rt: HostRuntime) -> Result<(), Fail> {
+    let mut room = [0u8; 0];
+    let outcome = bind_into(rt.alloc(), b"", b"", &mut room);
+    assert_eq!(rt; outcome, Outcome::Done { len: 0 });
+    let outcome = bind_into(rt.alloc(), b" ", b"", &mut room);
+    assert_eq!(rt; outcome, Outcome::Room { len: 1 });
+    let outcome = names_into(rt.alloc(), b"", &mut room);
+    assert_eq!(rt; outcome, Outcome::Room { len: 1 });
+    Ok(())
+}
+
+/// Queries, and the answer to asking for their names.
+const NAMES: &[(&[u8], &[u8])] = &[
+    (b"", b"\0"),
+    (b"SELECT ?", b"\x08SELECT ?"),
+    (b":a, :bc, :a", b"\x07?, ?, ?\x01a\x02bc\x01a"),
+    (QUERY, b"\x12SELECT ?, ':id', ?\x02id\x04name"),
+];
+
+#[test]
+fn names_of_queries(rt: HostRuntime) -> Result<(), Fail> {
+    for (query, answer) in NAMES {
+        finds_by(&rt, rt.alloc(), WITH_BACKSLASHES, *query, *answer);
+    }
+    Ok(())
+}
+
+/// Every call that answers with names.
+const EITHER_MODE: &[Spelling] = &[
+    Spelling::Into,
+    Spelling::IntoIn(false),
+    Spelling::IntoIn(true),
+];
+
+#[test]
+fn names_of_a_mixed_query(rt: HostRuntime) -> Result<(), Fail> {
+    for spelling in EITHER_MODE {
+        let mut room = [b'#'; 40];
+        let outcome = spelling.names(rt.alloc(), b":a ?", &mut room);
+        assert_eq!(rt; outcome, Outcome::Mixed, "by {spelling:?}");
+        assert_eq!(rt; room, [b'#'; 40], "by {spelling:?}");
+    }
+    Ok(())
+}

@@ -1,0 +1,134 @@
+//! Forms, and what binding over them answers in a room.
+use mysql_flat_params::{Outcome, bind_into, bind_into_in, names_into, names_into_in};
+use std::alloc::Global;
+use std::process::Abort;
+
+/// The query of README's example.
+pub(crate) const QUERY: &[u8] = b"SELECT :id, ':id', :name";
+
+/// Its parameters: `id` is 42 of type LONGLONG (8), `name` is `x' OR '1'='1` of type VAR_STRING
+/// (253).
+pub(crate) const FORM: &[u8] = b"\x02id\x08\0\x2a\0\0\0\0\0\0\0\x04name\xfd\0\x0cx' OR '1'='1";
+
+/// Its text, of 36 bytes.
+pub(crate) const TEXT: &[u8] = b"SELECT 42, ':id', 'x\\' OR \\'1\\'=\\'1'";
+
+/// A call that answers in a room.
+#[derive(Clone, Copy, Debug)]
+pub(crate) enum Spelling {
+    /// `bind_into`, `names_into`.
+    Into,
+    /// `bind_into_in`, `names_into_in` with this flag.
+    IntoIn(bool),
+}
+
+/// The calls in the mode in which a backslash escapes.
+pub(crate) const WITH_BACKSLASHES: &[Spelling] = &[Spelling::Into, Spelling::IntoIn(false)];
+
+/// The call in the mode without backslash escapes.
+pub(crate) const WITHOUT_BACKSLASHES: &[Spelling] = &[Spelling::IntoIn(true)];
+
+impl Spelling {
+    /// What becomes of the query and the form.
+    fn bound(self, alloc: Global, query: &[u8], form: &[u8], room: &mut [u8]) -> Outcome {
+        match self {
+            Spelling::Into => bind_into(alloc, query, form, room),
+            Spelling::IntoIn(mode) => bind_into_in(alloc, query, form, mode, room),
+        }
+    }
+
+    /// What becomes of the query that is asked for its names.
+    pub(crate) fn names(self, alloc: Global, query: &[u8], room: &mut [u8]) -> Outcome {
+        match self {
+            Spelling::Into => names_into(alloc, query, room),
+            Spelling::IntoIn(mode) => names_into_in(alloc, query, mode, room),
+        }
+    }
+}
+
+/// By each of the calls, the query bound to the form is the text, in a room of 64 bytes, of which the
+/// rest is unchanged.
+pub(crate) fn binds_by(
+    rt: &impl Abort,
+    alloc: Global,
+    spellings: &[Spelling],
+    query: &[u8],
+    form: &[u8],
+    text: &[u8],
+) {
+    for spelling in spellings {
+        let mut room = [b'#'; 64];
+        let outcome = spelling.bound(alloc, query, form, &mut room);
+        let len = text.len();
+        assert_eq!(rt;
+            outcome,
+            Outcome::Done { len },
+            "of {query:?} and {form:?} by {spelling:?}"
+        );
+        assert!(rt;
+            room.starts_with(text),
+            "of {query:?} and {form:?} by {spelling:?}"
+        );
+        let kept = room.iter().skip(len).all(|byte| *byte == b'#');
+        assert!(rt; kept, "of {query:?} and {form:?} by {spelling:?}");
+    }
+}
+
+/// The same in the mode in which a backslash escapes.
+pub(crate) fn binds(rt: &impl Abort, alloc: Global, query: &[u8], form: &[u8], text: &[u8]) {
+    binds_by(rt, alloc, WITH_BACKSLASHES, query, form, text);
+}
+
+/// By each of the calls, this becomes of the query and the form, and the room is as before.
+pub(crate) fn refuses_by(
+    rt: &impl Abort,
+    alloc: Global,
+    spellings: &[Spelling],
+    query: &[u8],
+    form: &[u8],
+    wanted: Outcome,
+) {
+    for spelling in spellings {
+        let mut room = [b'#'; 64];
+        let outcome = spelling.bound(alloc, query, form, &mut room);
+        assert_eq!(rt;
+            outcome,
+            wanted,
+            "of {query:?} and {form:?} by {spelling:?}"
+        );
+        assert_eq!(rt;
+            &room,
+            &[b'#'; 64],
+            "of {query:?} and {form:?} by {spelling:?}"
+        );
+    }
+}
+
+/// The same in the mode in which a backslash escapes.
+pub(crate) fn refuses(rt: &impl Abort, alloc: Global, query: &[u8], form: &[u8], wanted: Outcome) {
+    refuses_by(rt, alloc, WITH_BACKSLASHES, query, form, wanted);
+}
+
+/// By each of the calls, the query is answered so where its names are asked for, in a room of 40
+/// bytes, of which the rest is unchanged.
+pub(crate) fn finds_by(
+    rt: &impl Abort,
+    alloc: Global,
+    spellings: &[Spelling],
+    query: &[u8],
+    answer: &[u8],
+) {
+    for spelling in spellings {
+        let mut room = [b'#'; 40];
+        let outcome = spelling.names(alloc, query, &mut room);
+        let len = answer.len();
+        assert_eq!(rt;
+            outcome,
+            Outcome::Done { len },
+            "of {query:?} by {spelling:?}"
+        );
+        assert!(rt; room.starts_with(answer), "of {query:?} by {spelling:?}");
+        let kept = room.iter().skip(len).all(|byte| *byte == b'#');
+        assert!(rt; kept, "of {query:?} by {spelling:?}");
+    }
+}

@@ -1,0 +1,95 @@
+//! Forms bound, and names found, in the mode without backslash escapes.
+use crate::shared::{WITH_BACKSLASHES, WITHOUT_BACKSLASHES, binds_by, finds_by, refuses_by};
+use mysql_flat_params::Outcome;
+use std::test::Fail;
+
+/// Queries, forms, and the text.
+const TEXTS: &[(&[u8], &[u8], &[u8])] = &[
+    // The string ends at the quote after the backslash.
+    (
+        b"SELECT 'a\\', :b",
+        b"\x01b\xfd\0\x05it's\\",
+        b"SELECT 'a\\', 'it''s\\'",
+    ),
+    (b"?", b"\0\xfd\0\x02''", b"''''''"),
+    (
+        b"SELECT ?",
+        b"\0\xfd\0\x06\n\x00\"\\':",
+        b"SELECT '\n\x00\"\\'':'",
+    ),
+];
+
+#[test]
+fn bound_texts(rt: HostRuntime) -> Result<(), Fail> {
+    for (query, form, text) in TEXTS {
+        binds_by(&rt, rt.alloc(), WITHOUT_BACKSLASHES, *query, *form, *text);
+    }
+    Ok(())
+}
+
+/// A name, if a backslash escapes nothing: else it stands in an open string.
+const AFTER_A_BACKSLASH: &[u8] = b"SELECT 'a\\':b";
+
+/// `b` is NULL.
+const NULL_FOR_B: &[u8] = b"\x01b\x06\0";
+
+/// Queries, forms, and why they are refused without backslash escapes.
+const REFUSALS: &[(&[u8], &[u8], Outcome)] = &[
+    (
+        AFTER_A_BACKSLASH,
+        NULL_FOR_B,
+        Outcome::NotAlone {
+            place: 0,
+            position: 11,
+        },
+    ),
+    (
+        b"SELECT 'a\\', :b, :c",
+        NULL_FOR_B,
+        Outcome::Missing {
+            place: 1,
+            position: 18,
+            len: 1,
+        },
+    ),
+    (b"'\\', :b, ?", b"", Outcome::Mixed),
+];
+
+#[test]
+fn refusals(rt: HostRuntime) -> Result<(), Fail> {
+    for (query, form, outcome) in REFUSALS {
+        refuses_by(
+            &rt,
+            rt.alloc(),
+            WITHOUT_BACKSLASHES,
+            *query,
+            *form,
+            *outcome,
+        );
+    }
+    Ok(())
+}
+
+#[test]
+fn a_name_in_an_open_string(rt: HostRuntime) -> Result<(), Fail> {
+    let refused = Outcome::NamedForPositional;
+    refuses_by(
+        &rt,
+        rt.alloc(),
+        WITH_BACKSLASHES,
+        AFTER_A_BACKSLASH,
+        NULL_FOR_B,
+        refused,
+    );
+    Ok(())
+}
+
+#[test]
+fn names_of_a_query(rt: HostRuntime) -> Result<(), Fail> {
+    let alloc = rt.alloc();
+    let with = b"\x0dSELECT 'a\\':b";
+    finds_by(&rt, alloc, WITH_BACKSLASHES, AFTER_A_BACKSLASH, with);
+    let without = b"\x0cSELECT 'a\\'?\x01b";
+    finds_by(&rt, alloc, WITHOUT_BACKSLASHES, AFTER_A_BACKSLASH, without);
+    Ok(())
+}

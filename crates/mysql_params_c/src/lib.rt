@@ -1,0 +1,139 @@
+//! Binding for C, and for every language that calls C: the static library over `mysql_flat_params`.
+//!
+//! Each export writes its answer into the room that the caller lends and tells what became of the
+//! call: its result is the number of an [`Outcome`](mysql_flat_params::Outcome), and `report` has
+//! the outcome's fields. A slice comes from C as a pointer that is not null, also for no bytes, and
+//! a length of at most `isize::MAX`. Nothing is kept after a call. C passes nothing for the
+//! allocator.
+//!
+//! The contracts hold for callers that keep to `bindings/c/mysql_params.h`: `room` and `report`
+//! overlap neither each other nor what is read, and their bytes have values before the call.
+#![tactic(auto)]
+
+ghost use Rattle.std.specs.Prelude.{◌≡◌, ◌≢◌, ◌≤◌, ◌<◌, [], length, take, drop, pos};
+ghost use Rattle.mysql_sql_text.specs.StringUnits.{with_backslashes};
+ghost use Rattle.mysql_flat_params.specs.IntoRoom.{IfMixed, IsBindOutcome, IsBoundForm, IsNamesAnswer, IsNamesOutcome};
+ghost use Rattle.mysql_flat_params.specs.Outcomes.{IsTold};
+
+use mysql_flat_params::{Report, bind_into, bind_into_in, names_into, names_into_in};
+use std::alloc::Global;
+
+/// Writes the query with `?` in place of each name, and then each name, each as a length-encoded
+/// string, to the front of the room: [`names_into`](mysql_flat_params::names_into).
+///
+/// Returns 0 (`Done`) with the length of the answer in the report's `len`, 2 (`Room`) with the length
+/// that the room would need, 8 (`Mixed`) for a query with names and marks, or, in place of 0 and 2,
+/// 1 (`OutOfMemory`). All other fields of the report are 0. At each number but 0 the room is as
+/// before.
+#[unsafe(no_mangle)]
+pub extern "C" fn mysql_params_names(
+    alloc: Global,
+    query: &[u8],
+    room: &mut [u8],
+    report: &mut Report,
+) -> i32
+    ensures outcome { IsTold result report.new (IsNamesOutcome with_backslashes query.now) }
+    ensures written { result ≡ pos 0 →
+        IsNamesAnswer with_backslashes query.now (take report.new.len room.new) }
+
+    // A query with a name and a mark is refused without allocating.
+    ensures mixed { IfMixed with_backslashes query.now (result ≡ pos 8) }
+    ensures rest { result ≡ pos 0 → (report.new.len ≤ length room.old)
+        × (drop report.new.len room.new ≡ drop report.new.len room.old) }
+    ensures too_long { result ≡ pos 2 → length room.old < report.new.len }
+    ensures unchanged { result ≢ pos 0 → room.new ≡ room.old }
+{
+    let outcome = names_into(alloc, query, room);
+    *report = outcome.report();
+    outcome.number()
+}
+
+/// Binds into the query what the form says, and writes the text to the front of the room:
+/// [`bind_into`](mysql_flat_params::bind_into).
+///
+/// Returns the number of any [`Outcome`](mysql_flat_params::Outcome): 0 (`Done`) with the length of
+/// the text in the report's `len`, 2 (`Room`) with the length that the room would need, 3 to 7 for a
+/// form that is refused, 8 to 14 for a query that is refused, or 1 (`OutOfMemory`), which the empty
+/// form over a query with names and marks never is. The report has the fields of the outcome, and 0
+/// in all others. At each number but 0 the room is as before.
+#[unsafe(no_mangle)]
+pub extern "C" fn mysql_params_bind(
+    alloc: Global,
+    query: &[u8],
+    form: &[u8],
+    room: &mut [u8],
+    report: &mut Report,
+) -> i32
+    ensures outcome { IsTold result report.new (IsBindOutcome with_backslashes query.now form.now) }
+    ensures written { result ≡ pos 0 →
+        IsBoundForm with_backslashes query.now form.now (take report.new.len room.new) }
+
+    // The empty form over a query with a name and a mark is refused without allocating.
+    ensures mixed { form.now ≡ [] →
+        IfMixed with_backslashes query.now (result ≡ pos 8) }
+    ensures rest { result ≡ pos 0 → (report.new.len ≤ length room.old)
+        × (drop report.new.len room.new ≡ drop report.new.len room.old) }
+    ensures too_long { result ≡ pos 2 → length room.old < report.new.len }
+    ensures unchanged { result ≢ pos 0 → room.new ≡ room.old }
+{
+    let outcome = bind_into(alloc, query, form, room);
+    *report = outcome.report();
+    outcome.number()
+}
+
+/// [`mysql_params_names`] for a connection in either mode:
+/// [`names_into_in`](mysql_flat_params::names_into_in). The flag is true where its `sql_mode` has
+/// `NO_BACKSLASH_ESCAPES`.
+#[unsafe(no_mangle)]
+pub extern "C" fn mysql_params_names_in(
+    alloc: Global,
+    query: &[u8],
+    no_backslash_escape: bool,
+    room: &mut [u8],
+    report: &mut Report,
+) -> i32
+    ensures outcome { IsTold result report.new (IsNamesOutcome no_backslash_escape query.now) }
+    ensures written { result ≡ pos 0 →
+        IsNamesAnswer no_backslash_escape query.now (take report.new.len room.new) }
+
+    // A query with a name and a mark is refused without allocating.
+    ensures mixed { IfMixed no_backslash_escape query.now (result ≡ pos 8) }
+    ensures rest { result ≡ pos 0 → (report.new.len ≤ length room.old)
+        × (drop report.new.len room.new ≡ drop report.new.len room.old) }
+    ensures too_long { result ≡ pos 2 → length room.old < report.new.len }
+    ensures unchanged { result ≢ pos 0 → room.new ≡ room.old }
+{
+    let outcome = names_into_in(alloc, query, no_backslash_escape, room);
+    *report = outcome.report();
+    outcome.number()
+}
+
+/// [`mysql_params_bind`] for a connection in either mode:
+/// [`bind_into_in`](mysql_flat_params::bind_into_in). The flag is true where its `sql_mode` has
+/// `NO_BACKSLASH_ESCAPES`.
+#[unsafe(no_mangle)]
+pub extern "C" fn mysql_params_bind_in(
+    alloc: Global,
+    query: &[u8],
+    form: &[u8],
+    no_backslash_escape: bool,
+    room: &mut [u8],
+    report: &mut Report,
+) -> i32
+    ensures outcome { IsTold result report.new
+        (IsBindOutcome no_backslash_escape query.now form.now) }
+    ensures written { result ≡ pos 0 →
+        IsBoundForm no_backslash_escape query.now form.now (take report.new.len room.new) }
+
+    // The empty form over a query with a name and a mark is refused without allocating.
+    ensures mixed { form.now ≡ [] →
+        IfMixed no_backslash_escape query.now (result ≡ pos 8) }
+    ensures rest { result ≡ pos 0 → (report.new.len ≤ length room.old)
+        × (drop report.new.len room.new ≡ drop report.new.len room.old) }
+    ensures too_long { result ≡ pos 2 → length room.old < report.new.len }
+    ensures unchanged { result ≢ pos 0 → room.new ≡ room.old }
+{
+    let outcome = bind_into_in(alloc, query, form, no_backslash_escape, room);
+    *report = outcome.report();
+    outcome.number()
+}
