@@ -1,7 +1,7 @@
 //! Both commands over readers and writers that give and take little, and fail at a stated call: how
 //! often they are called, and what was written.
 use crate::shared::{Fault, SlowReader, SlowWriter, run_over};
-use mysql_params::RunError;
+use mysql_params::{BindError, RunError};
 use std::alloc::Global;
 use std::process::Abort;
 use std::test::Fail;
@@ -104,15 +104,28 @@ fn a_query_longer_than_one_read(rt: HostRuntime) -> Result<(), Fail> {
     Ok(())
 }
 
+/// The query is read in pieces of one byte and refused as over memory; nothing is written.
+fn refuses_in_pieces(
+    rt: &impl Abort,
+    alloc: Global,
+    texts: &[&str],
+    query: &[u8],
+    refusal: RunError,
+) -> Result<(), Fail> {
+    let input = SlowReader::new(query, 1, 0);
+    let output = SlowWriter::new(alloc, 1, Fault::Fails, 1);
+    let ran = run_over(alloc, texts, input, output)?;
+    assert_eq!(rt; ran.answer, Err(refusal), "to {texts:?}");
+    assert_eq!(rt; ran.calls, (query.len() + 1, 0), "to {texts:?}");
+    Ok(())
+}
+
 #[test]
 fn a_refused_query_writes_nothing(rt: HostRuntime) -> Result<(), Fail> {
-    let query = b":a ?";
-    for texts in [["names"].as_slice(), ["bind", "a=i:1"].as_slice()] {
-        let input = SlowReader::new(query, 1, 0);
-        let output = SlowWriter::new(rt.alloc(), 1, Fault::Fails, 1);
-        let ran = run_over(rt.alloc(), texts, input, output)?;
-        assert!(rt; ran.answer.is_err(), "to {texts:?}");
-        assert_eq!(rt; ran.calls, (query.len() + 1, 0), "to {texts:?}");
-    }
-    Ok(())
+    let alloc = rt.alloc();
+    refuses_in_pieces(&rt, alloc, &["names"], b":a ?", RunError::Mixed)?;
+    let mixed = RunError::Bind(BindError::Mixed);
+    refuses_in_pieces(&rt, alloc, &["bind", "a=i:1"], b":a ?", mixed)?;
+    let alone = RunError::Bind(BindError::NotAlone { place: 0, at: 1 });
+    refuses_in_pieces(&rt, alloc, &["bind", "a=i:1"], b"x:a", alone)
 }

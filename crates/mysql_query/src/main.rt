@@ -2,6 +2,7 @@
 #![tactic(auto)]
 
 use mysql_params::{RunError, run};
+use std::alloc::AllocError;
 use std::env;
 use std::process::ExitCode;
 
@@ -11,7 +12,13 @@ fn words(rt: &HostRuntime) -> Result<Vec<String>, RunError> {
         return Err(RunError::Usage);
     };
     let _ = arguments.next();
-    arguments.collect(rt.alloc()).map_err(RunError::Memory)
+    let mut words = Vec::new(rt.alloc());
+    for argument in arguments {
+        if words.push(argument).is_err() {
+            return Err(RunError::Memory(AllocError));
+        }
+    }
+    Ok(words)
 }
 
 fn answer(rt: &HostRuntime) -> Result<(), RunError> {

@@ -1,0 +1,120 @@
+//! Makes the calls that standard input names, one a line, and says in a word how each went.
+#![tactic(auto)]
+
+mod archive_cases;
+mod binding_cases;
+mod conversion_cases;
+mod copy_cases;
+mod inputs;
+mod lookup_cases;
+mod maker_cases;
+mod outcome;
+mod program_cases;
+mod query_cases;
+mod read_cases;
+mod value_cases;
+mod wire_cases;
+mod written_cases;
+
+use crate::outcome::{Case, Outcome};
+use std::alloc::{AllocError, Global};
+use std::io::Read;
+use std::{io, str};
+
+/// How the call of this name went, if there is one.
+fn case(alloc: Global, name: &str) -> Option<Case> {
+    match value_case(alloc, name) {
+        Some(case) => Some(case),
+        None => query_case(alloc, name),
+    }
+}
+
+/// Of the wire and values.
+fn value_case(alloc: Global, name: &str) -> Option<Case> {
+    if let Some(case) = wire_cases::case(alloc, name) {
+        return Some(case);
+    }
+    if let Some(case) = written_cases::case(alloc, name) {
+        return Some(case);
+    }
+    if let Some(case) = read_cases::case(alloc, name) {
+        return Some(case);
+    }
+    if let Some(case) = copy_cases::case(alloc, name) {
+        return Some(case);
+    }
+    if let Some(case) = value_cases::case(alloc, name) {
+        return Some(case);
+    }
+    conversion_cases::case(alloc, name)
+}
+
+/// Of queries, parameters, binding, the program and the archive.
+fn query_case(alloc: Global, name: &str) -> Option<Case> {
+    if let Some(case) = query_cases::case(alloc, name) {
+        return Some(case);
+    }
+    if let Some(case) = maker_cases::case(alloc, name) {
+        return Some(case);
+    }
+    if let Some(case) = lookup_cases::case(alloc, name) {
+        return Some(case);
+    }
+    if let Some(case) = binding_cases::case(alloc, name) {
+        return Some(case);
+    }
+    if let Some(case) = program_cases::case(alloc, name) {
+        return Some(case);
+    }
+    archive_cases::case(alloc, name)
+}
+
+/// The word for how a call went.
+fn word(case: Option<Case>) -> &'static str {
+    match case {
+        None => "no such case",
+        Some(Err(AllocError)) => "setup",
+        Some(Ok(Outcome::Memory)) => "memory",
+        Some(Ok(Outcome::Answer)) => "answer",
+        Some(Ok(Outcome::Refusal)) => "refusal",
+        Some(Ok(Outcome::AnswerWithoutMemory)) => "answer without memory",
+        Some(Ok(Outcome::Wrong)) => "WRONG",
+    }
+}
+
+/// Makes a request for memory for each dot in front of a line. The rest of the line.
+fn without_dots(alloc: Global, line: &str) -> &str {
+    let name = line.trim_start_matches('.');
+    for _ in 0..line.len().saturating_sub(name.len()) {
+        let _ = Vec::<u8>::with_capacity(alloc, 1);
+    }
+    name
+}
+
+/// Reads to the end of the input, or until the room is full. How much was read.
+fn read_lines(rt: &HostRuntime, room: &mut [u8]) -> io::Result<usize> {
+    let mut len = 0;
+    for _ in 0..room.len() {
+        if len >= room.len() {
+            break;
+        }
+        match rt.stdin().read(&mut room[len..])? {
+            0 => break,
+            n => len += n,
+        }
+    }
+    Ok(len)
+}
+
+fn main(rt: HostRuntime) -> io::Result<()> {
+    let mut room = [0u8; 8192];
+    let len = read_lines(&rt, &mut room)?;
+    let read = room.get(..len).unwrap_or(&[]);
+    let text = str::from_utf8(read).unwrap_or("");
+    for line in text.lines() {
+        let name = without_dots(rt.alloc(), line);
+        let word = word(case(rt.alloc(), name));
+        println!(rt; "{name}: {word}")?;
+    }
+    Ok(())
+}

@@ -1,0 +1,132 @@
+//! Calls of the wire: buffers and length-encoded strings.
+use crate::outcome::{Case, Outcome};
+use mysql_wire_part::{ParseBuf, WireError, lenenc_str_len, put_lenenc_str};
+use std::alloc::{AllocError, Global};
+
+/// How the call of this name went, if it stands here.
+pub(crate) fn case(alloc: Global, name: &str) -> Option<Case> {
+    match name {
+        "put_lenenc_str of 3 bytes" => Some(short_string_appended(alloc)),
+        "put_lenenc_str of 251 bytes" => Some(long_string_appended(alloc)),
+        "lenenc_str_len of 251 bytes" => Some(Ok(length_of_long_string())),
+        "checked_eat of 8 bytes" => Some(Ok(integers_eaten())),
+        "checked_eat of too few bytes" => Some(Ok(too_few_bytes())),
+        "eat_lenenc_str of 3 bytes" => Some(Ok(string_eaten())),
+        "eat_lenenc_str of what is no string" => Some(Ok(strings_refused())),
+        _ => None,
+    }
+}
+
+fn short_string_appended(alloc: Global) -> Case {
+    let mut buf = Vec::from_slice(alloc, b"xy")?;
+    Ok(match put_lenenc_str(&mut buf, b"abc") {
+        Err(AllocError) => Outcome::Memory.if_holds(buf.as_slice() == b"xy".as_slice()),
+        Ok(()) => Outcome::Answer.if_holds(buf.as_slice() == b"xy\x03abc".as_slice()),
+    })
+}
+
+fn long_string_appended(alloc: Global) -> Case {
+    let text = [b'a'; 251];
+    let mut buf = Vec::from_slice(alloc, b"xy")?;
+    Ok(match put_lenenc_str(&mut buf, &text) {
+        Err(AllocError) => Outcome::Memory.if_holds(buf.as_slice() == b"xy".as_slice()),
+        Ok(()) => {
+            Outcome::Answer.if_holds(is_after(buf.as_slice(), &text, b"xy\xFC\xFB\x00".as_slice()))
+        }
+    })
+}
+
+/// Whether the bytes are a text after a head.
+fn is_after(bytes: &[u8], text: &[u8], head: &[u8]) -> bool {
+    match bytes.strip_prefix(head) {
+        Some(rest) => rest == text,
+        None => false,
+    }
+}
+
+fn length_of_long_string() -> Outcome {
+    Outcome::AnswerWithoutMemory.if_holds(lenenc_str_len(&[b'a'; 251]) == 254)
+}
+
+/// The first bytes of 2^63 - 2, least first.
+const BYTES: &[u8] = &[0xFE, 0xFF, 0xFF, 0xFF, 0xFF, 0xFF, 0xFF, 0x7F];
+
+fn integers_eaten() -> Outcome {
+    Outcome::AnswerWithoutMemory.if_holds(
+        short_integers_eaten() && long_integers_eaten() && bytes_eaten(),
+    )
+}
+
+fn short_integers_eaten() -> bool {
+    ParseBuf(BYTES).checked_eat_u8() == Some(254)
+        && ParseBuf(BYTES).checked_eat_i8() == Some(-2)
+        && ParseBuf(BYTES).checked_eat_u16_le() == Some(65534)
+        && ParseBuf(BYTES).checked_eat_i16_le() == Some(-2)
+}
+
+fn long_integers_eaten() -> bool {
+    ParseBuf(BYTES).checked_eat_u32_le() == Some(4294967294)
+        && ParseBuf(BYTES).checked_eat_i32_le() == Some(-2)
+        && ParseBuf(BYTES).checked_eat_u64_le() == Some(9223372036854775806)
+        && ParseBuf(BYTES).checked_eat_i64_le() == Some(9223372036854775806)
+}
+
+fn bytes_eaten() -> bool {
+    let mut buf = ParseBuf(BYTES);
+    match buf.checked_eat_buf(7) {
+        Some(front) => front.0 == &BYTES[..7] && buf.0 == [0x7F].as_slice(),
+        None => false,
+    }
+}
+
+fn too_few_bytes() -> Outcome {
+    Outcome::AnswerWithoutMemory.if_holds(too_few_for_short() && too_few_for_long())
+}
+
+fn too_few_for_short() -> bool {
+    let mut none = ParseBuf(&[]);
+    let mut one = ParseBuf(&BYTES[..1]);
+    none.checked_eat_u8().is_none()
+        && none.checked_eat_i8().is_none()
+        && one.checked_eat_u16_le().is_none()
+        && one.checked_eat_i16_le().is_none()
+        && one.len() == 1
+}
+
+fn too_few_for_long() -> bool {
+    let mut three = ParseBuf(&BYTES[..3]);
+    let mut seven = ParseBuf(&BYTES[..7]);
+    three.checked_eat_u32_le().is_none()
+        && three.checked_eat_i32_le().is_none()
+        && three.checked_eat_buf(4).is_none()
+        && three.len() == 3
+        && seven.checked_eat_u64_le().is_none()
+        && seven.checked_eat_i64_le().is_none()
+        && seven.len() == 7
+}
+
+fn string_eaten() -> Outcome {
+    let mut buf = ParseBuf(b"\x03abc*");
+    Outcome::AnswerWithoutMemory.if_holds(match buf.eat_lenenc_str() {
+        Ok(text) => text == b"abc".as_slice() && buf.0 == b"*".as_slice(),
+        Err(_) => false,
+    })
+}
+
+fn strings_refused() -> Outcome {
+    Outcome::AnswerWithoutMemory.if_holds(
+        refuses(b"\xFB", WireError::BadLengthLead(251))
+            && refuses(b"\xFFa", WireError::BadLengthLead(255))
+            && refuses(b"\x03ab", WireError::UnexpectedEof)
+            && refuses(b"", WireError::UnexpectedEof),
+    )
+}
+
+/// The bytes are refused as a string, and stay.
+fn refuses(input: &[u8], refusal: WireError) -> bool {
+    let mut buf = ParseBuf(input);
+    match buf.eat_lenenc_str() {
+        Ok(_) => false,
+        Err(error) => error == refusal && buf.0 == input,
+    }
+}
