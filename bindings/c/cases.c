@@ -1,0 +1,280 @@
+/* The reader of bindings/cases. */
+#include "cases.h"
+
+#include <inttypes.h>
+#include <stdio.h>
+#include <stdlib.h>
+#include <string.h>
+
+static const char *file_name;
+static int line_number;
+
+static void stop(const char *what)
+{
+    fprintf(stderr, "%s:%d: %s\n", file_name, line_number, what);
+    exit(2);
+}
+
+void append_bytes(bytes *to, const void *from, size_t len)
+{
+    to->at = realloc(to->at, to->len + len + 1);
+    if (to->at == NULL)
+        stop("out of memory");
+    if (len > 0)
+        memcpy(to->at + to->len, from, len);
+    to->len += len;
+    to->at[to->len] = 0;
+}
+
+void append_string(bytes *to, const void *from, size_t len)
+{
+    uint8_t lead[4] = {(uint8_t)len};
+    size_t count = 1;
+    if (len >= 251) {
+        count = len < 65536 ? 3 : 4;
+        lead[0] = len < 65536 ? 0xFC : 0xFD;
+        lead[1] = (uint8_t)len;
+        lead[2] = (uint8_t)(len >> 8);
+        lead[3] = (uint8_t)(len >> 16);
+    }
+    append_bytes(to, lead, count);
+    append_bytes(to, from, len);
+}
+
+void clear_bytes(bytes *it)
+{
+    free(it->at);
+    it->at = NULL;
+    it->len = 0;
+}
+
+/* The byte that two hexadecimal digits say. */
+static uint8_t hexadecimal(const char *digits)
+{
+    unsigned byte = 0;
+    if (sscanf(digits, "%2x", &byte) != 1)
+        stop("two hexadecimal digits are wanted");
+    return (uint8_t)byte;
+}
+
+/* Appends the bytes of a text, which ends at a zero byte: pairs of digits within { }, or bytes as they stand. */
+static void append_text(bytes *to, const char *text)
+{
+    bool within = false;
+    append_bytes(to, "", 0);
+    while (*text != '\0') {
+        uint8_t byte = (uint8_t)*text;
+        if (byte == '{' || byte == '}') {
+            within = byte == '{';
+            text++;
+        } else if (within) {
+            byte = hexadecimal(text);
+            append_bytes(to, &byte, 1);
+            text += 2;
+        } else {
+            append_bytes(to, &byte, 1);
+            text++;
+        }
+    }
+}
+
+/* Appends the bytes of pairs of digits with spaces anywhere. */
+static void append_digits(bytes *to, const char *text)
+{
+    for (; *text != '\0'; text++) {
+        if (*text == ' ')
+            continue;
+        uint8_t byte = hexadecimal(text);
+        append_bytes(to, &byte, 1);
+        text++;
+    }
+}
+
+static bool begins(const char *text, const char *beginning)
+{
+    return strncmp(text, beginning, strlen(beginning)) == 0;
+}
+
+static bool append_date(mysql_params_form *form, const char *name, const char *value)
+{
+    mysql_params_date date = {0};
+    if (sscanf(value, "date:%" SCNu16 " %" SCNu8 " %" SCNu8 " %" SCNu8 " %" SCNu8 " %" SCNu8 " %" SCNu32,
+               &date.year, &date.month, &date.day, &date.hour, &date.minute, &date.second, &date.microsecond) != 7)
+        stop("seven fields are wanted");
+    return mysql_params_append_date(form, name, date);
+}
+
+static bool append_time(mysql_params_form *form, const char *name, const char *value)
+{
+    char sign = 0;
+    mysql_params_time time = {0};
+    if (sscanf(value, "time:%c %" SCNu32 " %" SCNu8 " %" SCNu8 " %" SCNu8 " %" SCNu32,
+               &sign, &time.days, &time.hours, &time.minutes, &time.seconds, &time.microseconds) != 6)
+        stop("a sign and five fields are wanted");
+    time.negative = sign == '-';
+    return mysql_params_append_time(form, name, time);
+}
+
+static bool append_value(mysql_params_form *form, const char *name, const char *value)
+{
+    if (strcmp(value, "null") == 0)
+        return mysql_params_append_null(form, name);
+    if (begins(value, "i:"))
+        return mysql_params_append_int(form, name, strtoll(value + 2, NULL, 10));
+    if (begins(value, "u:"))
+        return mysql_params_append_uint(form, name, strtoull(value + 2, NULL, 10));
+    if (strcmp(value, "float") == 0 || strcmp(value, "double") == 0)
+        return mysql_params_append_double(form, name, 0.0);
+    if (begins(value, "date:"))
+        return append_date(form, name, value);
+    if (begins(value, "time:"))
+        return append_time(form, name, value);
+    if (!begins(value, "s:"))
+        stop("this value is not known");
+    bytes text = {NULL, 0};
+    append_text(&text, value + 2);
+    bool fits = mysql_params_append_bytes(form, name, text.at, text.len);
+    clear_bytes(&text);
+    return fits;
+}
+
+/* Appends a parameter NAME=VALUE to the form, by the functions that are under test too. */
+static void append_param(bytes *to, char *param)
+{
+    uint8_t room[512];
+    mysql_params_form form = mysql_params_form_in(room, sizeof room);
+    char *value = strchr(param, '=');
+    if (value == NULL)
+        stop("a parameter without =");
+    *value = '\0';
+    if (!append_value(&form, param, value + 1))
+        stop("the parameter is too long for the room of this test");
+    append_bytes(to, form.room, form.len);
+}
+
+/* Names of the numbers, as in enum mysql_params_number. */
+static const char *const NUMBERS[] = {
+    "DONE", "OUT_OF_MEMORY", "ROOM", "FORM_END", "FORM_LENGTH_LEAD", "FORM_TYPE", "FORM_MIXED", "FORM_REPEATED", "MIXED",
+    "MISSING", "NAMED_FOR_POSITIONAL", "POSITIONAL_FOR_NAMED", "MARK_COUNT", "NOT_ALONE", "FLOAT"};
+
+static int32_t number_of(const char *name)
+{
+    for (int32_t number = 0; number <= MYSQL_PARAMS_FLOAT; number++)
+        if (strcmp(NUMBERS[number], name) == 0)
+            return number;
+    stop("this refusal is not known");
+    return -1;
+}
+
+/* Reads one FIELD=VALUE of a refusal. */
+static void read_field(test_case *it, char *field)
+{
+    char *value = strchr(field, '=');
+    if (value == NULL)
+        stop("a field without =");
+    *value++ = '\0';
+    size_t number = strtoull(value, NULL, 10);
+    if (strcmp(field, "name") == 0) {
+        append_text(&it->name, value);
+        it->report.len = it->name.len;
+    } else if (strcmp(field, "place") == 0)
+        it->report.place = number;
+    else if (strcmp(field, "position") == 0)
+        it->report.position = number;
+    else if (strcmp(field, "marks") == 0)
+        it->report.marks = number;
+    else if (strcmp(field, "values") == 0)
+        it->report.values = number;
+    else if (strcmp(field, "byte") == 0)
+        it->report.byte = number;
+    else
+        stop("this field is not known");
+}
+
+static void read_refusal(test_case *it, char *text)
+{
+    char *word = strtok(text, " ");
+    it->number = number_of(word == NULL ? "" : word);
+    while ((word = strtok(NULL, " ")) != NULL)
+        read_field(it, word);
+}
+
+/* Reads a line of a case: its first word, and the text after one space. */
+static void read_line(test_case *it, const char *word, char *text)
+{
+    bytes whole = {NULL, 0};
+    if (strcmp(word, "query") == 0)
+        append_text(&it->query, text);
+    else if (strcmp(word, "param") == 0)
+        append_param(&it->form, text);
+    else if (strcmp(word, "form") == 0)
+        append_digits(&it->form, text);
+    else if (strcmp(word, "no_backslash_escape") == 0)
+        it->no_backslash_escape = true;
+    else if (strcmp(word, "text") == 0)
+        append_text(&it->answer, text);
+    else if (strcmp(word, "renamed") == 0 || strcmp(word, "name") == 0) {
+        append_text(&whole, text);
+        append_string(&it->answer, whole.at, whole.len);
+    } else if (strcmp(word, "message") == 0)
+        append_text(&it->message, text);
+    else if (strcmp(word, "refused") == 0)
+        read_refusal(it, text);
+    else
+        stop("this word is not known");
+    clear_bytes(&whole);
+}
+
+/* Hands a case on and lets go of its memory. */
+static void end_case(test_case *it, void (*use)(const test_case *))
+{
+    append_bytes(&it->query, "", 0);
+    append_bytes(&it->form, "", 0);
+    append_bytes(&it->answer, "", 0);
+    if (it->number == MYSQL_PARAMS_DONE)
+        it->report.len = it->answer.len;
+    use(it);
+    clear_bytes(&it->query);
+    clear_bytes(&it->form);
+    clear_bytes(&it->answer);
+    clear_bytes(&it->name);
+    clear_bytes(&it->message);
+    *it = (test_case){0};
+}
+
+int each_case(const char *folder, const char *file, void (*use)(const test_case *))
+{
+    char path[1024], line[1024];
+    test_case it = {0};
+    int cases = 0;
+    snprintf(path, sizeof path, "%s/%s", folder, file);
+    file_name = path;
+    line_number = 0;
+    FILE *stream = fopen(path, "rb");
+    if (stream == NULL)
+        stop("the file can't be opened");
+    while (fgets(line, sizeof line, stream) != NULL) {
+        line_number++;
+        line[strcspn(line, "\n")] = '\0';
+        if (line[0] == '\0' && it.line != 0) {
+            end_case(&it, use);
+            cases++;
+        }
+        if (line[0] == '\0' || line[0] == '#')
+            continue;
+        if (it.line == 0)
+            it.line = line_number;
+        char *text = line + strcspn(line, " ");
+        if (*text != '\0')
+            *text++ = '\0';
+        read_line(&it, line, text);
+    }
+    fclose(stream);
+    if (it.line != 0) {
+        end_case(&it, use);
+        cases++;
+    }
+    if (cases == 0)
+        stop("there is no case");
+    return cases;
+}

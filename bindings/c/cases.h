@@ -1,0 +1,39 @@
+/* cases.h: the cases of bindings/cases, for the tests in C. cases/README.md says what a case is. */
+#ifndef CASES_H
+#define CASES_H
+
+#include "mysql_params_form.h"
+
+/* Bytes, with a zero byte behind them that `len` does not count. */
+typedef struct bytes {
+    uint8_t *at;
+    size_t len;
+} bytes;
+
+/* A case. What its lines do not say is empty or 0. */
+typedef struct test_case {
+    int line;                   /* the line of the file in which it begins */
+    bytes query;                /* the query */
+    bytes form;                 /* the parameters, as a flat form */
+    bool no_backslash_escape;   /* the mode */
+    bytes answer;               /* the text, or the answer of names as length-encoded strings */
+    int32_t number;             /* the number that is wanted */
+    mysql_params_report report; /* the report that is wanted */
+    bytes name;                 /* the name that the report has to tell */
+    bytes message;              /* the message that is wanted, or empty */
+} test_case;
+
+/* Reads the cases of a file, hands each to the function, and returns how many there were. It ends the program with a
+ * message where the file can't be read. */
+int each_case(const char *folder, const char *file, void (*use)(const test_case *));
+
+/* Appends bytes. */
+void append_bytes(bytes *to, const void *from, size_t len);
+
+/* Appends a length-encoded string. */
+void append_string(bytes *to, const void *from, size_t len);
+
+/* Lets go of the memory. */
+void clear_bytes(bytes *it);
+
+#endif

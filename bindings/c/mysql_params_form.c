@@ -1,0 +1,305 @@
+/* The flat form written, answers taken apart, and refusals told: see mysql_params_form.h. */
+#include "mysql_params_form.h"
+
+#include <stdarg.h>
+#include <stdio.h>
+#include <string.h>
+
+/* Numbers of column types in the protocol. */
+enum {
+    TYPE_DOUBLE = 5,
+    TYPE_NULL = 6,
+    TYPE_LONGLONG = 8,
+    TYPE_TIME = 11,
+    TYPE_DATETIME = 12,
+    TYPE_VAR_STRING = 253
+};
+
+/* Bit of the flags that says unsigned. */
+enum { FLAG_UNSIGNED = 128 };
+
+/* The longest length, FE and 8 bytes. */
+enum { LENGTH_ROOM = 9 };
+
+/* The longest value but a string: a length byte and the 12 bytes of a time. */
+enum { VALUE_ROOM = 13 };
+
+mysql_params_form mysql_params_form_in(uint8_t *room, size_t room_len)
+{
+    mysql_params_form form = {room, room_len, 0, 0};
+    return form;
+}
+
+/* Writes the number into `count` bytes, least byte first. */
+static void fill_number(uint8_t *bytes, size_t count, uint64_t number)
+{
+    for (size_t i = 0; i < count; i++)
+        bytes[i] = (uint8_t)(number >> (8 * i));
+}
+
+/* Writes the shortest form of a length, and returns how many bytes it has. */
+static size_t fill_length(uint8_t bytes[LENGTH_ROOM], uint64_t length)
+{
+    if (length < 251) {
+        bytes[0] = (uint8_t)length;
+        return 1;
+    }
+    size_t count = length < 65536 ? 2 : length < 16777216 ? 3 : 8;
+    bytes[0] = count == 2 ? 0xFC : count == 3 ? 0xFD : 0xFE;
+    fill_number(bytes + 1, count, length);
+    return 1 + count;
+}
+
+/* The sum, or SIZE_MAX where that is too much to count. */
+static size_t sum(size_t a, size_t b)
+{
+    return a > SIZE_MAX - b ? SIZE_MAX : a + b;
+}
+
+/* Appends bytes for which there is room. */
+static void append(mysql_params_form *form, const void *bytes, size_t len)
+{
+    if (len > 0)
+        memcpy(form->room + form->len, bytes, len);
+    form->len += len;
+}
+
+/* Appends a parameter: name, type, flags, then `head` and `tail`, which are its value in binary form. */
+static bool append_parameter(mysql_params_form *form, const char *name, uint8_t type, uint8_t flags,
+                             const uint8_t *head, size_t head_len, const void *tail, size_t tail_len)
+{
+    uint8_t length[LENGTH_ROOM];
+    size_t name_len = name == NULL ? 0 : strlen(name);
+    size_t length_len = fill_length(length, name_len);
+    size_t needed = sum(sum(length_len + 2 + head_len, name_len), tail_len);
+    bool fits = form->needed == form->len && needed <= form->room_len - form->len;
+    form->needed = sum(form->needed, needed);
+    if (!fits)
+        return false;
+    const uint8_t type_and_flags[2] = {type, flags};
+    append(form, length, length_len);
+    append(form, name, name_len);
+    append(form, type_and_flags, 2);
+    append(form, head, head_len);
+    append(form, tail, tail_len);
+    return true;
+}
+
+bool mysql_params_append_null(mysql_params_form *form, const char *name)
+{
+    return append_parameter(form, name, TYPE_NULL, 0, NULL, 0, NULL, 0);
+}
+
+bool mysql_params_append_int(mysql_params_form *form, const char *name, int64_t number)
+{
+    uint8_t value[8];
+    fill_number(value, 8, (uint64_t)number);
+    return append_parameter(form, name, TYPE_LONGLONG, 0, value, 8, NULL, 0);
+}
+
+bool mysql_params_append_uint(mysql_params_form *form, const char *name, uint64_t number)
+{
+    uint8_t value[8];
+    fill_number(value, 8, number);
+    return append_parameter(form, name, TYPE_LONGLONG, FLAG_UNSIGNED, value, 8, NULL, 0);
+}
+
+bool mysql_params_append_bytes(mysql_params_form *form, const char *name, const void *bytes, size_t len)
+{
+    uint8_t length[LENGTH_ROOM];
+    size_t length_len = fill_length(length, len);
+    return append_parameter(form, name, TYPE_VAR_STRING, 0, length, length_len, bytes, len);
+}
+
+bool mysql_params_append_text(mysql_params_form *form, const char *name, const char *text)
+{
+    return mysql_params_append_bytes(form, name, text, strlen(text));
+}
+
+/* Always the longest form, which says every field. */
+bool mysql_params_append_date(mysql_params_form *form, const char *name, mysql_params_date date)
+{
+    uint8_t value[VALUE_ROOM] = {11};
+    fill_number(value + 1, 2, date.year);
+    value[3] = date.month;
+    value[4] = date.day;
+    value[5] = date.hour;
+    value[6] = date.minute;
+    value[7] = date.second;
+    fill_number(value + 8, 4, date.microsecond);
+    return append_parameter(form, name, TYPE_DATETIME, 0, value, 12, NULL, 0);
+}
+
+/* Always the longest form, which says every field, the sign of zero too. */
+bool mysql_params_append_time(mysql_params_form *form, const char *name, mysql_params_time time)
+{
+    uint8_t value[VALUE_ROOM] = {12};
+    value[1] = time.negative ? 1 : 0;
+    fill_number(value + 2, 4, time.days);
+    value[6] = time.hours;
+    value[7] = time.minutes;
+    value[8] = time.seconds;
+    fill_number(value + 9, 4, time.microseconds);
+    return append_parameter(form, name, TYPE_TIME, 0, value, 13, NULL, 0);
+}
+
+bool mysql_params_append_double(mysql_params_form *form, const char *name, double number)
+{
+    uint64_t bits;
+    uint8_t value[8];
+    memcpy(&bits, &number, sizeof bits);
+    fill_number(value, 8, bits);
+    return append_parameter(form, name, TYPE_DOUBLE, 0, value, 8, NULL, 0);
+}
+
+bool mysql_params_next_string(const uint8_t **answer, size_t *len, mysql_params_string *string)
+{
+    if (*len == 0)
+        return false;
+    uint8_t lead = (*answer)[0];
+    size_t count = lead < 251 ? 0 : lead == 0xFC ? 2 : lead == 0xFD ? 3 : 8;
+    if (lead == 0xFB || lead == 0xFF || *len - 1 < count)
+        return false;
+    uint64_t length = lead < 251 ? lead : 0;
+    for (size_t i = count; i > 0; i--)
+        length = length << 8 | (*answer)[i];
+    if (length > *len - 1 - count)
+        return false;
+    string->bytes = *answer + 1 + count;
+    string->len = (size_t)length;
+    *answer = string->bytes + string->len;
+    *len -= 1 + count + string->len;
+    return true;
+}
+
+/* A line that is being written: where it is full, it is only counted. */
+typedef struct line {
+    char *bytes;
+    size_t room_len;
+    size_t len;
+} line;
+
+static void append_byte(line *to, char byte)
+{
+    if (to->len + 1 < to->room_len)
+        to->bytes[to->len] = byte;
+    to->len++;
+}
+
+/* Appends a short text, as printf gives it. */
+#ifdef __GNUC__
+__attribute__((format(printf, 2, 3)))
+#endif
+static void append_text(line *to, const char *format, ...)
+{
+    char text[160];
+    va_list words;
+    va_start(words, format);
+    vsnprintf(text, sizeof text, format, words);
+    va_end(words);
+    for (const char *byte = text; *byte != '\0'; byte++)
+        append_byte(to, *byte);
+}
+
+/* Appends the name that a report tells: a byte that is not printable ASCII, `"` and `\` as `\x` and two digits. */
+static void append_name(line *to, const mysql_params_report *report, const uint8_t *source, size_t source_len)
+{
+    if (report->position > source_len || report->len > source_len - report->position)
+        return;
+    for (size_t i = 0; i < report->len; i++) {
+        uint8_t byte = source[report->position + i];
+        if (byte < 32 || byte > 126 || byte == '"' || byte == '\\')
+            append_text(to, "\\x%02x", (unsigned)byte);
+        else
+            append_byte(to, (char)byte);
+    }
+}
+
+/* Messages of the numbers that have no field, and else null. */
+static const char *const FIXED_MESSAGES[] = {
+    [MYSQL_PARAMS_OUT_OF_MEMORY] = "out of memory",
+    [MYSQL_PARAMS_MIXED] = "Named and positional params in one query",
+    [MYSQL_PARAMS_NAMED_FOR_POSITIONAL] = "Named params given where positional params are expected",
+    [MYSQL_PARAMS_POSITIONAL_FOR_NAMED] = "Positional params given where named params are expected",
+    [MYSQL_PARAMS_FLOAT] = NULL,
+};
+
+/* Returns what is wrong with a parameter of the form, or null where the number says something else. */
+static const char *fault_of_form(int32_t number)
+{
+    switch (number) {
+    case MYSQL_PARAMS_FORM_END:
+        return "Unexpected end of buffer";
+    case MYSQL_PARAMS_FORM_LENGTH_LEAD:
+        return "Bad length lead";
+    case MYSQL_PARAMS_FORM_TYPE:
+        return "Unsupported column type";
+    case MYSQL_PARAMS_FORM_MIXED:
+        return "Named and positional params in one form";
+    default:
+        return NULL;
+    }
+}
+
+/* Appends the message of a number that tells a name. */
+static void append_of_name(line *to, int32_t number, const mysql_params_report *report,
+                           const uint8_t *source, size_t source_len)
+{
+    bool missing = number == MYSQL_PARAMS_MISSING;
+    append_text(to, "%s named parameter `", missing ? "Missing" : "Redefinition of");
+    append_name(to, report, source, source_len);
+    append_text(to, "%s", missing ? "` for statement" : "'");
+}
+
+/* Appends the message of a number whose fields are numbers. */
+static void append_of_numbers(line *to, int32_t number, const mysql_params_report *report)
+{
+    switch (number) {
+    case MYSQL_PARAMS_DONE:
+        append_text(to, "done: %zu bytes", report->len);
+        return;
+    case MYSQL_PARAMS_ROOM:
+        append_text(to, "The answer needs room for %zu bytes", report->len);
+        return;
+    case MYSQL_PARAMS_MARK_COUNT:
+        append_text(to, "Query has %zu marks and %zu values", report->marks, report->values);
+        return;
+    case MYSQL_PARAMS_NOT_ALONE:
+        append_text(to, "Place %zu at byte %zu does not stand alone", report->place, report->position);
+        return;
+    case MYSQL_PARAMS_FLOAT:
+        append_text(to, "Float at place %zu", report->place);
+        return;
+    default:
+        append_text(to, "Unknown number %ld", (long)number);
+    }
+}
+
+/* Appends the message of any number. */
+static void append_message(line *to, int32_t number, const mysql_params_report *report,
+                           const uint8_t *source, size_t source_len)
+{
+    const char *fault = fault_of_form(number);
+    if (fault != NULL) {
+        append_text(to, "Parameter %zu at byte %zu of the form: %s", report->place, report->position, fault);
+        if (number == MYSQL_PARAMS_FORM_LENGTH_LEAD || number == MYSQL_PARAMS_FORM_TYPE)
+            append_text(to, " %zu", report->byte);
+    } else if (number == MYSQL_PARAMS_MISSING || number == MYSQL_PARAMS_FORM_REPEATED) {
+        append_of_name(to, number, report, source, source_len);
+    } else if (number >= 0 && number <= MYSQL_PARAMS_FLOAT && FIXED_MESSAGES[number] != NULL) {
+        append_text(to, "%s", FIXED_MESSAGES[number]);
+    } else {
+        append_of_numbers(to, number, report);
+    }
+}
+
+size_t mysql_params_message(int32_t number, const mysql_params_report *report,
+                            const uint8_t *source, size_t source_len,
+                            char *line_room, size_t line_len)
+{
+    line to = {line_room, line_len, 0};
+    append_message(&to, number, report, source, source_len);
+    if (line_len > 0)
+        line_room[to.len < line_len ? to.len : line_len - 1] = '\0';
+    return to.len;
+}

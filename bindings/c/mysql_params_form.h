@@ -1,0 +1,101 @@
+/* mysql_params_form.h: parameters written as the flat form that mysql_params_bind reads, answers taken apart, and
+ * refusals told in a line. Plain C, without memory of its own: compile mysql_params_form.c with your program. It is
+ * tested, not proved. */
+#ifndef MYSQL_PARAMS_FORM_H
+#define MYSQL_PARAMS_FORM_H
+
+#include "mysql_params.h"
+#include <stdbool.h>
+
+#ifdef __cplusplus
+extern "C" {
+#endif
+
+/* A form that is being written into memory of the caller's. Set it up with mysql_params_form_in. */
+typedef struct mysql_params_form {
+    /* The caller's memory. It may be null where `room_len` is 0, but mysql_params_bind takes no null, not for an empty
+     * form either. */
+    uint8_t *room;
+    /* Bytes of that memory. */
+    size_t room_len;
+    /* Bytes of the form so far: hand `room` and `len` to mysql_params_bind once `needed` is `len`. */
+    size_t len;
+    /* Bytes that all appended parameters need; SIZE_MAX where that is too many to count. It is greater than `len` once a
+     * parameter did not fit. */
+    size_t needed;
+} mysql_params_form;
+
+/* A date with its time of day. Fields stand in the literal as they are, also a month 0 or 255. */
+typedef struct mysql_params_date {
+    uint16_t year;        /* year */
+    uint8_t month;        /* month, from 1 */
+    uint8_t day;          /* day, from 1 */
+    uint8_t hour;         /* hour */
+    uint8_t minute;       /* minute */
+    uint8_t second;       /* second */
+    uint32_t microsecond; /* microsecond */
+} mysql_params_date;
+
+/* A span of time. Days and hours are added up to hours in the literal; the others stand in it as they are. */
+typedef struct mysql_params_time {
+    bool negative;         /* whether it is less than zero */
+    uint32_t days;         /* days */
+    uint8_t hours;         /* hours */
+    uint8_t minutes;       /* minutes */
+    uint8_t seconds;       /* seconds */
+    uint32_t microseconds; /* microseconds */
+} mysql_params_time;
+
+/* Returns an empty form in the memory given. With no memory (null and 0) appending only counts `needed`. */
+mysql_params_form mysql_params_form_in(uint8_t *room, size_t room_len);
+
+/* The functions below append one parameter. `name` is the name without a colon, ended by a zero byte; null or "" gives
+ * the parameter by position. Each returns true where this and all earlier parameters stand in the room. Else it has
+ * written nothing, and later calls write nothing either: they go on counting `needed`. */
+
+/* Appends NULL. */
+bool mysql_params_append_null(mysql_params_form *form, const char *name);
+
+/* Appends a signed whole number. */
+bool mysql_params_append_int(mysql_params_form *form, const char *name, int64_t number);
+
+/* Appends an unsigned whole number. */
+bool mysql_params_append_uint(mysql_params_form *form, const char *name, uint64_t number);
+
+/* Appends bytes, of any kind. `bytes` may be null where `len` is 0. */
+bool mysql_params_append_bytes(mysql_params_form *form, const char *name, const void *bytes, size_t len);
+
+/* Appends a text that a zero byte ends. */
+bool mysql_params_append_text(mysql_params_form *form, const char *name, const char *text);
+
+/* Appends a date. */
+bool mysql_params_append_date(mysql_params_form *form, const char *name, mysql_params_date date);
+
+/* Appends a span of time. */
+bool mysql_params_append_time(mysql_params_form *form, const char *name, mysql_params_time time);
+
+/* Appends a floating-point number. Binding refuses it as MYSQL_PARAMS_FLOAT where the query has a place for it. */
+bool mysql_params_append_double(mysql_params_form *form, const char *name, double number);
+
+/* Bytes within an answer of mysql_params_names. */
+typedef struct mysql_params_string {
+    const uint8_t *bytes; /* the first byte */
+    size_t len;           /* how many */
+} mysql_params_string;
+
+/* Takes the next length-encoded string off the front of an answer: the query with marks first, then each name. It moves
+ * `*answer` and `*len` behind it. Returns false, and changes nothing, where no whole string stands there. */
+bool mysql_params_next_string(const uint8_t **answer, size_t *len, mysql_params_string *string);
+
+/* Writes what a number and its report say into `line`: one line of printable ASCII, ended by a zero byte, cut to
+ * `line_len` bytes with that byte. `source` is what the report's `position` counts in, `source_len` bytes: the form for
+ * MYSQL_PARAMS_FORM_REPEATED, the query for all others. Returns the length of the whole line without the zero byte. */
+size_t mysql_params_message(int32_t number, const mysql_params_report *report,
+                            const uint8_t *source, size_t source_len,
+                            char *line, size_t line_len);
+
+#ifdef __cplusplus
+}
+#endif
+
+#endif

@@ -1,0 +1,496 @@
+/* Tests of the archive as C calls it, and of mysql_params_form.c. The argument is the folder of the cases.
+ *
+ * It is linked with -Wl,--wrap=malloc,--wrap=realloc,--wrap=free, so that the archive's memory can be refused and counted.
+ * Queries, forms and rooms stand in blocks of exactly their length, so that a sanitizer sees a step too far: in this code,
+ * and where the archive, which is not instrumented, copies by the C library. */
+#include "cases.h"
+
+#include <stdio.h>
+#include <stdlib.h>
+#include <string.h>
+
+/* What a byte of the room holds before a call. */
+enum { UNTOUCHED = 0xA5 };
+
+void *__real_malloc(size_t size);
+void *__real_realloc(void *block, size_t size);
+void __real_free(void *block);
+
+static long allocations_left = -1; /* how many more succeed; negative: all */
+static bool allocation_refused;    /* whether one was refused */
+static long blocks;                /* blocks that are not yet freed */
+
+/* Returns whether this allocation is to be refused. */
+static bool is_refused(void)
+{
+    if (allocations_left == 0) {
+        allocation_refused = true;
+        return true;
+    }
+    if (allocations_left > 0)
+        allocations_left--;
+    return false;
+}
+
+void *__wrap_malloc(size_t size)
+{
+    void *block = is_refused() ? NULL : __real_malloc(size);
+    blocks += block != NULL;
+    return block;
+}
+
+void *__wrap_realloc(void *old, size_t size)
+{
+    void *block = is_refused() ? NULL : __real_realloc(old, size);
+    blocks += block != NULL && old == NULL;
+    return block;
+}
+
+void __wrap_free(void *block)
+{
+    blocks -= block != NULL;
+    __real_free(block);
+}
+
+static int failures; /* of the test that runs */
+
+/* Counts a failure of a case, and says where. */
+static void fail(const test_case *it, const char *what)
+{
+    printf("    the case at line %d: %s\n", it->line, what);
+    failures++;
+}
+
+static void expect(bool holds, const test_case *it, const char *what)
+{
+    if (!holds)
+        fail(it, what);
+}
+
+/* A copy in a block of exactly its length, or of one byte where there is none. */
+static uint8_t *exact_copy(bytes from)
+{
+    uint8_t *copy = malloc(from.len > 0 ? from.len : 1);
+    if (copy == NULL)
+        exit(2);
+    if (from.len > 0)
+        memcpy(copy, from.at, from.len);
+    return copy;
+}
+
+static bool is_untouched(const uint8_t *room, size_t begin, size_t end)
+{
+    for (size_t i = begin; i < end; i++)
+        if (room[i] != UNTOUCHED)
+            return false;
+    return true;
+}
+
+static bool same_report(const mysql_params_report *a, const mysql_params_report *b)
+{
+    return a->len == b->len && a->place == b->place && a->position == b->position && a->marks == b->marks &&
+           a->values == b->values && a->byte == b->byte;
+}
+
+/* An answer: its number, its report, and the room after the call. */
+typedef struct outcome {
+    int32_t number;
+    mysql_params_report report;
+    uint8_t *room;
+    size_t room_len;
+} outcome;
+
+/* Whether the call to try is that of names, and not that of binding. */
+static bool of_names;
+
+/* Whether the call to try is that for either mode, also where backslashes escape. */
+static bool in_a_mode;
+
+/* How many allocations of a call succeed: all of them. */
+enum { ALL = -1 };
+
+/* Calls with a room of a length, and refuses memory after some allocations. Checks that all memory is given back. */
+static outcome call(const test_case *it, size_t room_len, long allocations)
+{
+    outcome is = {-1, {9, 9, 9, 9, 9, 9}, malloc(room_len > 0 ? room_len : 1), room_len};
+    uint8_t *query = exact_copy(it->query);
+    uint8_t *form = exact_copy(it->form);
+    if (is.room == NULL)
+        exit(2);
+    memset(is.room, UNTOUCHED, room_len > 0 ? room_len : 1);
+    long before = blocks;
+    allocation_refused = false;
+    allocations_left = allocations;
+    bool mode = it->no_backslash_escape;
+    if (of_names && (mode || in_a_mode))
+        is.number = mysql_params_names_in(query, it->query.len, mode, is.room, room_len, &is.report);
+    else if (of_names)
+        is.number = mysql_params_names(query, it->query.len, is.room, room_len, &is.report);
+    else if (mode || in_a_mode)
+        is.number = mysql_params_bind_in(query, it->query.len, form, it->form.len, mode, is.room, room_len, &is.report);
+    else
+        is.number = mysql_params_bind(query, it->query.len, form, it->form.len, is.room, room_len, &is.report);
+    allocations_left = ALL;
+    expect(blocks == before, it, "memory isn't given back");
+    free(query);
+    free(form);
+    return is;
+}
+
+/* Checks the outcome of a case for the room that it had. */
+static void expect_outcome(const test_case *it, const outcome *is)
+{
+    size_t len = it->answer.len;
+    bool done = it->number == MYSQL_PARAMS_DONE;
+    if (done && is->room_len < len) {
+        mysql_params_report wanted = {0};
+        wanted.len = len;
+        expect(is->number == MYSQL_PARAMS_ROOM, it, "the room is too short, and the number doesn't say so");
+        expect(same_report(&is->report, &wanted), it, "the report isn't the length that is needed");
+        expect(is_untouched(is->room, 0, is->room_len), it, "a room that is too short is written");
+        return;
+    }
+    expect(is->number == it->number, it, "another number is wanted");
+    expect(same_report(&is->report, &it->report), it, "another report is wanted");
+    if (done)
+        expect(memcmp(is->room, it->answer.at, len) == 0, it, "another text is wanted");
+    expect(is_untouched(is->room, done ? len : 0, is->room_len), it, "the room is written after the answer");
+}
+
+/* Checks the name and the message that a refusal tells. */
+static void expect_message(const test_case *it, const outcome *is)
+{
+    char line[256];
+    bytes source = it->number == MYSQL_PARAMS_FORM_REPEATED ? it->form : it->query;
+    if (it->name.len > 0)
+        expect(is->report.position + is->report.len <= source.len && is->report.len == it->name.len &&
+                   memcmp(source.at + is->report.position, it->name.at, it->name.len) == 0,
+               it, "another name is wanted");
+    if (it->message.len == 0)
+        return;
+    size_t len = mysql_params_message(is->number, &is->report, source.at, source.len, line, sizeof line);
+    expect(len == it->message.len && strcmp(line, (const char *)it->message.at) == 0, it, "another message is wanted");
+}
+
+/* A case with room enough, exact, one byte too short, and none. */
+static void try_rooms(const test_case *it)
+{
+    size_t len = it->answer.len;
+    size_t rooms[] = {len + 7, len, len > 0 ? len - 1 : 0, 0};
+    for (size_t i = 0; i < sizeof rooms / sizeof rooms[0]; i++) {
+        outcome is = call(it, rooms[i], ALL);
+        expect_outcome(it, &is);
+        if (i == 0)
+            expect_message(it, &is);
+        free(is.room);
+    }
+}
+
+/* A case by the call without a mode, where that is its mode, and by the call for either. */
+static void try_case(const test_case *it)
+{
+    try_rooms(it);
+    in_a_mode = true;
+    try_rooms(it);
+    in_a_mode = false;
+}
+
+static const char *folder;
+
+static void table_of_binding(void)
+{
+    of_names = false;
+    each_case(folder, "bind.txt", try_case);
+}
+
+static void flat_forms(void)
+{
+    of_names = false;
+    each_case(folder, "forms.txt", try_case);
+}
+
+static void names_of_queries(void)
+{
+    of_names = true;
+    each_case(folder, "names.txt", try_case);
+}
+
+/* Appends a byte, often. */
+static void append_run(bytes *to, char byte, size_t len)
+{
+    char *run = malloc(len);
+    if (run == NULL)
+        exit(2);
+    memset(run, byte, len);
+    append_bytes(to, run, len);
+    free(run);
+}
+
+/* A query that is `len` bytes long once it is renamed: `'xx..' :a`. */
+static void try_long_names(size_t len)
+{
+    test_case it = {0};
+    bytes renamed = {NULL, 0};
+    append_bytes(&renamed, "'", 1);
+    append_run(&renamed, 'x', len - 4);
+    append_bytes(&renamed, "' ", 2);
+    append_bytes(&it.query, renamed.at, renamed.len);
+    append_bytes(&it.query, ":a", 2);
+    append_bytes(&renamed, "?", 1);
+    append_string(&it.answer, renamed.at, renamed.len);
+    append_string(&it.answer, "a", 1);
+    it.report.len = it.answer.len;
+    append_bytes(&it.form, "", 0);
+    try_case(&it);
+    const uint8_t *answer = it.answer.at;
+    size_t left = it.answer.len;
+    mysql_params_string string = {NULL, 0};
+    expect(mysql_params_next_string(&answer, &left, &string) && string.len == renamed.len &&
+               memcmp(string.bytes, renamed.at, renamed.len) == 0,
+           &it, "the query isn't taken off the answer");
+    expect(mysql_params_next_string(&answer, &left, &string) && string.len == 1 && string.bytes[0] == 'a', &it,
+           "the name isn't taken off the answer");
+    expect(left == 0 && !mysql_params_next_string(&answer, &left, &string), &it, "the answer doesn't end");
+    clear_bytes(&renamed);
+    clear_bytes(&it.query);
+    clear_bytes(&it.form);
+    clear_bytes(&it.answer);
+}
+
+static void names_of_long_queries(void)
+{
+    static const size_t lengths[] = {250, 251, 252, 65535, 65536, 65537};
+    of_names = true;
+    for (size_t i = 0; i < sizeof lengths / sizeof lengths[0]; i++)
+        try_long_names(lengths[i]);
+}
+
+/* Appends the literal of one byte, after the table of SQL literals in docs/RULES.md. */
+static void append_literal(bytes *to, uint8_t byte)
+{
+    static const uint8_t escapes[][2] = {{0, '0'}, {'\n', 'n'}, {'\r', 'r'}, {26, 'Z'}, {'\\', '\\'}, {'\'', '\''}, {'"', '"'}};
+    static const char digits[] = "0123456789ABCDEF";
+    if (byte >= 128) {
+        const char hexadecimal[] = {'0', 'x', digits[byte / 16], digits[byte % 16]};
+        append_bytes(to, hexadecimal, 4);
+        return;
+    }
+    append_bytes(to, "'", 1);
+    for (size_t i = 0; i < sizeof escapes / sizeof escapes[0]; i++)
+        if (escapes[i][0] == byte) {
+            append_bytes(to, "\\", 1);
+            byte = escapes[i][1];
+            break;
+        }
+    append_bytes(to, &byte, 1);
+    append_bytes(to, "'", 1);
+}
+
+static void each_value_of_one_byte(void)
+{
+    of_names = false;
+    for (int value = 0; value < 256; value++) {
+        uint8_t byte = (uint8_t)value, room[16];
+        mysql_params_form form = mysql_params_form_in(room, sizeof room);
+        test_case it = {0};
+        it.line = value;
+        expect(mysql_params_append_bytes(&form, NULL, &byte, 1), &it, "the form doesn't fit");
+        append_bytes(&it.query, "?", 1);
+        append_bytes(&it.form, form.room, form.len);
+        append_literal(&it.answer, byte);
+        it.report.len = it.answer.len;
+        try_case(&it);
+        clear_bytes(&it.query);
+        clear_bytes(&it.form);
+        clear_bytes(&it.answer);
+    }
+}
+
+/* Binds `:aa..` with names and strings of a length: `'xx..'`. */
+static void try_length(size_t len)
+{
+    test_case it = {0};
+    bytes name = {NULL, 0}, string = {NULL, 0};
+    it.line = (int)len;
+    append_run(&name, 'a', len);
+    append_run(&string, 'x', len);
+    append_bytes(&it.query, ":", 1);
+    append_bytes(&it.query, name.at, len);
+    append_bytes(&it.answer, "'", 1);
+    append_bytes(&it.answer, string.at, len);
+    append_bytes(&it.answer, "'", 1);
+    it.report.len = len + 2;
+    mysql_params_form form = mysql_params_form_in(NULL, 0);
+    expect(!mysql_params_append_bytes(&form, (const char *)name.at, string.at, len), &it, "a form without room");
+    size_t needed = form.needed;
+    form = mysql_params_form_in(malloc(needed), needed);
+    expect(mysql_params_append_bytes(&form, (const char *)name.at, string.at, len), &it, "the form doesn't fit");
+    it.form = (bytes){form.room, form.len};
+    try_case(&it);
+    clear_bytes(&name);
+    clear_bytes(&string);
+    clear_bytes(&it.query);
+    clear_bytes(&it.form);
+    clear_bytes(&it.answer);
+}
+
+static void values_of_each_length(void)
+{
+    static const size_t lengths[] = {1, 250, 251, 65535, 65536, 16777215, 16777216};
+    of_names = false;
+    for (size_t i = 0; i < sizeof lengths / sizeof lengths[0]; i++)
+        try_length(lengths[i]);
+}
+
+/* A form needs 19 bytes: `id` 3 + 2 + 8, and `a` 2 + 2 + 2. Rooms of all lengths up to 24 are tried. */
+static void rooms_of_forms(void)
+{
+    static const uint8_t wanted[] = {2, 'i', 'd', 8, 0, 42, 0, 0, 0, 0, 0, 0, 0, 1, 'a', 0xFD, 0, 1, 'x'};
+    test_case it = {0};
+    for (size_t room_len = 0; room_len < 24; room_len++) {
+        uint8_t room[24];
+        memset(room, UNTOUCHED, sizeof room);
+        mysql_params_form form = mysql_params_form_in(room_len > 0 ? room : NULL, room_len);
+        it.line = (int)room_len;
+        expect(mysql_params_append_int(&form, "id", 42) == (room_len >= 13), &it, "the first parameter");
+        expect(mysql_params_append_text(&form, "a", "x") == (room_len >= 19), &it, "the second parameter");
+        expect(form.needed == 19, &it, "another need is wanted");
+        expect(form.len == (room_len >= 19 ? 19 : room_len >= 13 ? 13 : 0), &it, "another length is wanted");
+        expect(memcmp(room, wanted, form.len) == 0, &it, "another form is wanted");
+        expect(is_untouched(room, form.len, sizeof room), &it, "the room is written behind the form");
+    }
+    /* Once one does not fit (6 bytes), a shorter one (3 bytes) is not appended either. */
+    uint8_t room[4];
+    mysql_params_form form = mysql_params_form_in(room, sizeof room);
+    it.line = 0;
+    expect(!mysql_params_append_text(&form, NULL, "xx"), &it, "a text without room is appended");
+    expect(!mysql_params_append_null(&form, NULL), &it, "NULL is appended behind a text without room");
+    expect(form.len == 0 && form.needed == 9, &it, "another need is wanted");
+}
+
+/* Answers that end within a string, or begin with no length. */
+static void broken_answers(void)
+{
+    static const uint8_t broken[][4] = {{2, 'a'}, {0xFB, 0}, {0xFF, 0}, {0xFC, 1}, {0xFD, 0}, {0xFE, 0}, {0xFC, 1, 0}};
+    static const size_t lengths[] = {2, 2, 2, 2, 2, 2, 3};
+    for (size_t i = 0; i < sizeof lengths / sizeof lengths[0]; i++) {
+        const uint8_t *answer = broken[i];
+        size_t left = lengths[i];
+        mysql_params_string string = {NULL, 0};
+        test_case it = {0};
+        it.line = (int)i;
+        expect(!mysql_params_next_string(&answer, &left, &string), &it, "a broken answer is taken apart");
+        expect(answer == broken[i] && left == lengths[i] && string.bytes == NULL, &it, "a refusal changes something");
+    }
+}
+
+/* A message is cut to the line, with a zero byte at its end. */
+static void cut_messages(void)
+{
+    const char *whole = "Float at place 7";
+    mysql_params_report report = {0};
+    report.place = 7;
+    for (size_t line_len = 0; line_len < 20; line_len++) {
+        char line[20];
+        test_case it = {0};
+        it.line = (int)line_len;
+        memset(line, UNTOUCHED, sizeof line);
+        size_t len = mysql_params_message(MYSQL_PARAMS_FLOAT, &report, NULL, 0, line, line_len);
+        size_t shown = line_len == 0 ? 0 : len < line_len ? len : line_len - 1;
+        expect(len == strlen(whole), &it, "another length is wanted");
+        expect(memcmp(line, whole, shown) == 0 && (line_len == 0 || line[shown] == '\0'), &it, "another line is wanted");
+        for (size_t i = line_len; i < sizeof line; i++)
+            expect((uint8_t)line[i] == UNTOUCHED, &it, "the memory behind the line is written");
+    }
+}
+
+/* Messages of numbers that no case has, and of a name that isn't in what it is said to stand in. */
+static void other_messages(void)
+{
+    static const struct {
+        int32_t number;
+        const char *message;
+    } wanted[] = {
+        {MYSQL_PARAMS_DONE, "done: 7 bytes"},
+        {MYSQL_PARAMS_OUT_OF_MEMORY, "out of memory"},
+        {MYSQL_PARAMS_ROOM, "The answer needs room for 7 bytes"},
+        {MYSQL_PARAMS_MISSING, "Missing named parameter `` for statement"},
+        {MYSQL_PARAMS_FLOAT + 1, "Unknown number 15"},
+        {-1, "Unknown number -1"},
+    };
+    mysql_params_report report = {0};
+    report.len = 7;
+    for (size_t i = 0; i < sizeof wanted / sizeof wanted[0]; i++) {
+        char line[64];
+        test_case it = {0};
+        it.line = (int)i;
+        mysql_params_message(wanted[i].number, &report, (const uint8_t *)":a", 2, line, sizeof line);
+        expect(strcmp(line, wanted[i].message) == 0, &it, line);
+    }
+}
+
+/* Each allocation of a call is refused once: then the answer is out of memory, and the room is as before. */
+static void try_without_memory(const test_case *it)
+{
+    bool refused = true;
+    for (long allocations = 0; refused; allocations++) {
+        outcome is = call(it, it->answer.len + 7, allocations);
+        refused = allocation_refused;
+        if (is.number == MYSQL_PARAMS_OUT_OF_MEMORY) {
+            mysql_params_report none = {0};
+            expect(refused, it, "out of memory where none was refused");
+            expect(same_report(&is.report, &none), it, "the report of out of memory isn't 0");
+            expect(is_untouched(is.room, 0, is.room_len), it, "the room is written without memory");
+        } else
+            expect_outcome(it, &is);
+        free(is.room);
+    }
+}
+
+static void out_of_memory(void)
+{
+    of_names = false;
+    each_case(folder, "bind.txt", try_without_memory);
+    each_case(folder, "forms.txt", try_without_memory);
+    of_names = true;
+    each_case(folder, "names.txt", try_without_memory);
+    /* No text is written without any memory. */
+    uint8_t form[] = {0, 0xFD, 0, 1, 'x'}, query[] = {'?'};
+    test_case it = {0};
+    it.query = (bytes){query, sizeof query};
+    it.form = (bytes){form, sizeof form};
+    of_names = false;
+    outcome is = call(&it, 16, 0);
+    expect(is.number == MYSQL_PARAMS_OUT_OF_MEMORY, &it, "a text is bound without memory");
+    free(is.room);
+}
+
+static bool passed(const char *name, void (*test)(void))
+{
+    failures = 0;
+    test();
+    printf("test %s ... %s\n", name, failures == 0 ? "ok" : "FAILED");
+    fflush(stdout);
+    return failures == 0;
+}
+
+int main(int count, char **words)
+{
+    if (count != 2) {
+        fprintf(stderr, "usage: test CASES\n");
+        return 2;
+    }
+    folder = words[1];
+    bool all = passed("table_of_binding", table_of_binding);
+    all &= passed("flat_forms", flat_forms);
+    all &= passed("names_of_queries", names_of_queries);
+    all &= passed("names_of_long_queries", names_of_long_queries);
+    all &= passed("each_value_of_one_byte", each_value_of_one_byte);
+    all &= passed("values_of_each_length", values_of_each_length);
+    all &= passed("rooms_of_forms", rooms_of_forms);
+    all &= passed("broken_answers", broken_answers);
+    all &= passed("cut_messages", cut_messages);
+    all &= passed("other_messages", other_messages);
+    all &= passed("out_of_memory", out_of_memory);
+    return all ? 0 : 1;
+}

@@ -1,0 +1,362 @@
+"""Tests of mysql_params: the cases of bindings/cases, every value of one byte, rooms that are lent, errors of use."""
+
+import ctypes
+import datetime
+import doctest
+import enum
+import pathlib
+import pickle
+import re
+import sys
+import threading
+import unittest
+
+import mysql_params
+from mysql_params import bind, bind_form, names
+
+CASES = pathlib.Path(__file__).resolve().parent.parent / "cases"
+
+UNTOUCHED = 0xA5
+"""What a byte of the room holds before a call."""
+
+ERRORS = {
+    "FORM_END": mysql_params.FormEndError,
+    "FORM_LENGTH_LEAD": mysql_params.FormLengthLeadError,
+    "FORM_TYPE": mysql_params.FormTypeError,
+    "FORM_MIXED": mysql_params.FormMixedError,
+    "FORM_REPEATED": mysql_params.RepeatedNameError,
+    "MIXED": mysql_params.MixedError,
+    "MISSING": mysql_params.MissingError,
+    "NAMED_FOR_POSITIONAL": mysql_params.NamedForPositionalError,
+    "POSITIONAL_FOR_NAMED": mysql_params.PositionalForNamedError,
+    "MARK_COUNT": mysql_params.MarkCountError,
+    "NOT_ALONE": mysql_params.NotAloneError,
+    "FLOAT": mysql_params.FloatError,
+}
+
+FIELDS = {
+    "FORM_END": ("parameter", "position"),
+    "FORM_LENGTH_LEAD": ("parameter", "position", "byte"),
+    "FORM_TYPE": ("parameter", "position", "column_type"),
+    "FORM_MIXED": ("parameter", "position"),
+    "FORM_REPEATED": ("parameter", "position", "name"),
+    "MISSING": ("place", "position", "name"),
+    "MARK_COUNT": ("marks", "values"),
+    "NOT_ALONE": ("place", "position"),
+    "FLOAT": ("place",),
+}
+
+NUMBERS = {"FORM_END": 3, "FORM_LENGTH_LEAD": 4, "FORM_TYPE": 5, "FORM_MIXED": 6, "FORM_REPEATED": 7, "MIXED": 8}
+NUMBERS.update({"MISSING": 9, "NAMED_FOR_POSITIONAL": 10, "POSITIONAL_FOR_NAMED": 11, "MARK_COUNT": 12})
+NUMBERS.update({"NOT_ALONE": 13, "FLOAT": 14})
+
+FIELDS_OF_CASES = {"parameter": "place", "column_type": "byte"}
+"""What cases call the fields that errors have by other names."""
+
+
+def text_of(text):
+    """Return the bytes of a text: pairs of hexadecimal digits within { }, or as they stand."""
+    return re.sub(rb"\{([0-9A-F]+)\}", lambda found: bytes.fromhex(found[1].decode()), text.encode())
+
+
+def value_of(text):
+    """Return the value of a parameter as Python has it."""
+    kind, _, rest = text.partition(":")
+    if kind == "s":
+        return text_of(rest)
+    if kind in ("i", "u"):
+        return int(rest)
+    if kind == "date":
+        fields = [int(field) for field in rest.split()]
+        return datetime.datetime(*fields) if any(fields[3:]) else datetime.date(*fields[:3])
+    if kind == "time":
+        sign, *fields = rest.split()
+        days, hours, minutes, seconds, microseconds = map(int, fields)
+        time = datetime.timedelta(days, seconds, microseconds, hours=hours, minutes=minutes)
+        return -time if sign == "-" else time
+    return {"null": None, "float": 0.0, "double": 0.0}[kind]
+
+
+class Case:
+    """A case, and the lines that it stands in."""
+
+    def __init__(self, lines):
+        self.lines, self.query, self.params, self.form = lines, b"", [], b""
+        self.text, self.renamed, self.names, self.refusal, self.message = None, None, [], None, None
+        self.no_backslash_escape = False
+        for line in lines:
+            word, _, rest = line.partition(" ")
+            self.read(word, rest)
+
+    def read(self, word, rest):
+        if word in ("query", "text", "renamed"):
+            setattr(self, word, text_of(rest))
+        elif word == "param":
+            name, _, value = rest.partition("=")
+            self.params.append((name, value_of(value)))
+        elif word == "form":
+            self.form += bytes.fromhex(rest)
+        elif word == "no_backslash_escape":
+            self.no_backslash_escape = True
+        elif word == "name":
+            self.names.append(rest)
+        elif word == "message":
+            self.message = rest
+        elif word == "refused":
+            self.refusal, *fields = rest.split(" ")
+            self.fields = dict(field.split("=") for field in fields)
+        else:
+            raise ValueError(f"{word} is no word of a case")
+
+    def given(self):
+        """Return the parameters as a list or a dict; a name that stands twice is given as str and as bytes."""
+        if not self.params or not self.params[0][0]:
+            return [value for _, value in self.params] or None
+        given = {}
+        for name, value in self.params:
+            given[name.encode() if name in given else name] = value
+        return given
+
+    def error(self):
+        """Return the type and the arguments of the error that is wanted."""
+        arguments = []
+        for field in FIELDS.get(self.refusal, ()):
+            told = self.fields.get(FIELDS_OF_CASES.get(field, field), "0")
+            arguments.append(text_of(told) if field == "name" else int(told))
+        return ERRORS[self.refusal], tuple(arguments)
+
+
+def cases(file):
+    """Return the cases of a file."""
+    parts = (CASES / file).read_text().split("\n\n")
+    lines = [[line for line in part.splitlines() if not line.startswith("#")] for part in parts]
+    found = [Case(part) for part in lines if part]
+    assert found, f"{file} has no case"
+    return found
+
+
+def literal_without_backslashes(byte):
+    """Return the literal of one byte without backslash escapes: there only a quote isn't itself."""
+    if byte >= 128:
+        return b"0x%02X" % byte
+    return b"''''" if byte == 39 else b"'" + bytes([byte]) + b"'"
+
+
+def literal(byte):
+    """Return the literal of one byte, after the table of SQL literals in docs/RULES.md."""
+    escapes = {0: b"0", 10: b"n", 13: b"r", 26: b"Z", 92: b"\\", 39: b"'", 34: b'"'}
+    if byte >= 128:
+        return b"0x%02X" % byte
+    return b"'\\" + escapes[byte] + b"'" if byte in escapes else b"'" + bytes([byte]) + b"'"
+
+
+class Test(unittest.TestCase):
+    """All tests."""
+
+    def expect(self, case, call):
+        """The call gives the text or the refusal that the case wants, with its fields and its message."""
+        with self.subTest(case=case.lines):
+            if case.refusal is None:
+                self.assertEqual(call(), case.text)
+                return
+            wanted, arguments = case.error()
+            with self.assertRaises(wanted) as raised:
+                call()
+            error = raised.exception
+            self.assertIs(type(error), wanted)
+            self.assertEqual(error.number, NUMBERS[case.refusal])
+            self.assertEqual(error.args, arguments)
+            for field, argument in zip(FIELDS.get(case.refusal, ()), arguments):
+                self.assertEqual(getattr(error, field), argument)
+            if case.message is not None:
+                self.assertEqual(str(error), case.message)
+
+    def test_table_of_binding(self):
+        for case in cases("bind.txt"):
+            self.expect(case, lambda: bind(case.query, case.given(), case.no_backslash_escape))
+            if not case.no_backslash_escape:
+                self.expect(case, lambda: bind(case.query, case.given()))
+
+    def test_flat_forms(self):
+        for case in cases("forms.txt"):
+            self.expect(case, lambda: bind_form(case.query, case.form, case.no_backslash_escape))
+
+    def test_names_of_queries(self):
+        for case in cases("names.txt"):
+            if case.refusal is not None:
+                self.expect(case, lambda: names(case.query, case.no_backslash_escape))
+                continue
+            with self.subTest(case=case.lines):
+                self.assertEqual(names(case.query, case.no_backslash_escape), (case.renamed, case.names))
+                if not case.no_backslash_escape:
+                    self.assertEqual(names(case.query), (case.renamed, case.names))
+
+    def test_names_of_long_queries(self):
+        for length in (250, 251, 252, 65535, 65536, 65537):
+            string = b"'" + b"x" * (length - 4) + b"' "
+            self.assertEqual(names(string + b":a"), (string + b"?", ["a"]))
+
+    def test_answers_that_end_within_a_string(self):
+        for broken in (b"\x02a", b"\xfb", b"\xffa", b"\xfc\x01", b"\xfc\x01\x00", b"\xfe" + b"\xff" * 8 + b"a"):
+            with self.subTest(answer=broken), self.assertRaises(RuntimeError):
+                mysql_params._next_string(broken, 0)
+        self.assertEqual(mysql_params._next_string(b"\x01ab", 0), (b"a", 2))
+        self.assertEqual(mysql_params._next_string(b"?\xfc\x01\x00ab", 1), (b"a", 5))
+
+    def test_each_value_of_one_byte(self):
+        for byte in range(256):
+            self.assertEqual(bind(b"?", [bytes([byte])]), literal(byte), byte)
+            text = bind(b"?", [bytes([byte])], no_backslash_escape=True)
+            self.assertEqual(text, literal_without_backslashes(byte), byte)
+
+    def test_values_of_each_length(self):
+        for length in (1, 250, 251, 65535, 65536, (1 << 24) - 1, 1 << 24):
+            text = bind(":" + "a" * length, {"a" * length: "x" * length})
+            self.assertTrue(text == b"'" + b"x" * length + b"'", length)
+
+    def lend(self, query, form, room_len):
+        """Call with a room of a length, within memory that is checked on both sides."""
+        memory = ctypes.create_string_buffer(bytes([UNTOUCHED]) * (room_len + 8), room_len + 8)
+        number, report = mysql_params._call(query, form, False, memory, room_len)
+        fields = {name: getattr(report, name) for name, _ in report._fields_ if getattr(report, name) != 0}
+        return number, fields, memory.raw
+
+    def test_rooms_that_are_lent(self):
+        calls = [(case.query, case.form, case.text) for case in cases("forms.txt") if case.refusal is None]
+        calls += [(b"", None, b"\x00"), (b":a+:b", None, b"\x03?+?\x01a\x01b"), (b"", b"", b"")]
+        for query, form, answer in calls:
+            needed = len(answer)
+            report = {"len": needed} if needed else {}
+            for room_len in {needed + 5, needed, max(needed - 1, 0), 0}:
+                with self.subTest(query=query, form=form, room_len=room_len):
+                    number, fields, memory = self.lend(query, form, room_len)
+                    written = answer if room_len >= needed else b""
+                    self.assertEqual(number, 0 if room_len >= needed else 2)
+                    self.assertEqual(fields, report)
+                    self.assertEqual(memory, written + bytes([UNTOUCHED]) * (room_len + 8 - len(written)))
+
+    def test_refusals_leave_the_room(self):
+        for query, form, number, fields in (
+            (b":a ?", b"", 8, {}),
+            (b":a ?", None, 8, {}),
+            (b"x, :abc", b"", 9, {"position": 4, "len": 3}),
+            (b"?", b"\x00\x06\x00\xfb", 4, {"place": 1, "position": 3, "byte": 251}),
+        ):
+            self.assertEqual(self.lend(query, form, 24), (number, fields, bytes([UNTOUCHED]) * 32))
+        for case in cases("forms.txt"):
+            if case.refusal is None:
+                continue
+            fields = {field: int(told) for field, told in case.fields.items() if field != "name" and told != "0"}
+            if "name" in case.fields:
+                fields["len"] = len(text_of(case.fields["name"]))
+            wanted = (NUMBERS[case.refusal], fields, bytes([UNTOUCHED]) * 32)
+            with self.subTest(case=case.lines):
+                self.assertEqual(self.lend(case.query, case.form, 24), wanted)
+
+    def test_answers_longer_than_the_first_room(self):
+        text = bind(",".join([":a"] * 100), {"a": "'" * 300})
+        self.assertEqual(text, b",".join([b"'" + b"\\'" * 300 + b"'"] * 100))
+        self.assertEqual(names(",".join([":a"] * 1000)), (b",".join([b"?"] * 1000), ["a"] * 1000))
+
+    def test_values_of_own_types(self):
+        class Color(enum.IntEnum):
+            RED = 3
+
+        values = [True, False, Color.RED, -(1 << 63), (1 << 64) - 1, "\u00e9", bytearray(b"a"), memoryview(b"\xff")]
+        wanted = "1,0,3,-9223372036854775808,18446744073709551615,'\u00e9','a',0xFF"
+        self.assertEqual(bind(",".join("?" * len(values)), values), wanted.encode())
+        midnight = datetime.datetime(2019, 11, 27)
+        self.assertEqual(bind("?, ?", (midnight, midnight.date())), b"'2019-11-27', '2019-11-27'")
+
+    def test_spans_of_time(self):
+        for span, wanted in (
+            (datetime.timedelta(days=-1), b"'-024:00:00'"),
+            (datetime.timedelta(microseconds=-1), b"'-000:00:00.000001'"),
+            (datetime.timedelta(hours=-1, minutes=30), b"'-000:30:00'"),
+            (datetime.timedelta(0), b"'000:00:00'"),
+            (datetime.timedelta.max, b"'23999999999:59:59.999999'"),
+            (datetime.timedelta.min, b"'-23999999976:00:00'"),
+        ):
+            self.assertEqual(bind("?", [span]), wanted)
+
+    def test_errors_of_use(self):
+        aware = datetime.datetime(2019, 11, 27, tzinfo=datetime.timezone.utc)
+        for error, query, params in (
+            (OverflowError, "?", [1 << 64]),
+            (OverflowError, "?", [-(1 << 63) - 1]),
+            (TypeError, "?", [aware]),
+            (TypeError, "?", [object()]),
+            (TypeError, "?", [1j]),
+            (TypeError, "?", "x"),
+            (TypeError, "?", b"x"),
+            (TypeError, "?", {1, 2}),
+            (TypeError, "?", 5),
+            (TypeError, 5, None),
+            (TypeError, None, None),
+            (TypeError, ":a", {1: 1}),
+            (ValueError, ":a", {"": 1}),
+            (ValueError, ":a", {b"": 1}),
+            (UnicodeEncodeError, "?", ["\ud800"]),
+        ):
+            with self.subTest(query=query, params=params), self.assertRaises(error):
+                bind(query, params)
+        for form in (5, "x", None):
+            with self.subTest(form=form), self.assertRaises(TypeError):
+                bind_form("?", form)
+        with self.assertRaises(TypeError):
+            names(None)
+
+    def test_nothing_given(self):
+        for nothing in (None, [], (), {}):
+            self.assertEqual(bind("SELECT 1", nothing), b"SELECT 1")
+        self.assertEqual(bind("SELECT 1"), b"SELECT 1")
+
+    def test_numbers_that_come_by_fault_alone(self):
+        report = mysql_params._Report()
+        error = mysql_params._error(1, report, b"", b"")
+        self.assertIsInstance(error, mysql_params.OutOfMemoryError)
+        self.assertIsInstance(error, MemoryError)
+        self.assertEqual((str(error), error.args), ("out of memory", ()))
+        for number in (-1, 0, 2, 15):
+            self.assertIs(type(mysql_params._error(number, report, b"", b"")), RuntimeError)
+
+    def test_errors_are_pickled(self):
+        for error in (mysql_params.MissingError(1, 5, b"b"), mysql_params.MixedError()):
+            copy = pickle.loads(pickle.dumps(error))
+            self.assertEqual((type(copy), copy.args, str(copy)), (type(error), error.args, str(error)))
+
+    def test_threads(self):
+        wrong = []
+
+        def work(number):
+            text = f"'{number}'".encode() * 20
+            for _ in range(200):
+                if bind("?, ?", [number, text]) != b"%d, '%s'" % (number, text.replace(b"'", b"\\'")):
+                    wrong.append(number)
+
+        threads = [threading.Thread(target=work, args=(number,)) for number in range(4)]
+        for thread in threads:
+            thread.start()
+        for thread in threads:
+            thread.join()
+        self.assertEqual(wrong, [])
+
+    def test_examples_of_the_documentation(self):
+        self.assertEqual(doctest.testmod(mysql_params), (0, 1))
+
+
+class Result(unittest.TestResult):
+    """Prints a line for each test."""
+
+    def stopTest(self, test):
+        super().stopTest(test)
+        faults = [text for failed, text in self.failures + self.errors if test.id() in failed.id()]
+        print(*faults, sep="\n", end="", file=sys.stderr)
+        name = test.id().rpartition(".test_")[2]
+        print(f"test {name} ... {'FAILED' if faults else 'ok'}", flush=True)
+
+
+if __name__ == "__main__":
+    result = Result()
+    unittest.defaultTestLoader.loadTestsFromTestCase(Test).run(result)
+    sys.exit(0 if result.wasSuccessful() and result.testsRun else 1)

@@ -1,0 +1,182 @@
+//! The calls of the archive for either mode, and their answers.
+use crate::Error;
+
+/// What a call says beside its number: `mysql_params_report` of mysql_params.h.
+#[repr(C)]
+#[derive(Clone, Copy, Debug, Default, PartialEq, Eq)]
+pub(crate) struct Report {
+    pub(crate) len: usize,
+    pub(crate) place: usize,
+    pub(crate) position: usize,
+    pub(crate) marks: usize,
+    pub(crate) values: usize,
+    pub(crate) byte: usize,
+}
+
+// SAFETY: types and order of the parameters are those of mysql_params.h.
+unsafe extern "C" {
+    fn mysql_params_names_in(
+        query: *const u8,
+        query_len: usize,
+        no_backslash_escape: bool,
+        room: *mut u8,
+        room_len: usize,
+        report: *mut Report,
+    ) -> i32;
+
+    fn mysql_params_bind_in(
+        query: *const u8,
+        query_len: usize,
+        form: *const u8,
+        form_len: usize,
+        no_backslash_escape: bool,
+        room: *mut u8,
+        room_len: usize,
+        report: *mut Report,
+    ) -> i32;
+}
+
+/// The answer is written.
+pub(crate) const DONE: i32 = 0;
+/// The room is too short for the answer.
+pub(crate) const ROOM: i32 = 2;
+
+/// A call of the archive.
+#[derive(Clone, Copy, Debug)]
+pub(crate) enum Call<'a> {
+    /// The names of a query.
+    Names { query: &'a [u8] },
+    /// A query and the form of its parameters.
+    Bind { query: &'a [u8], form: &'a [u8] },
+}
+
+impl Call<'_> {
+    /// The number and the report of the call in a mode, whose answer is written into the room.
+    pub(crate) fn answer(self, no_backslash_escape: bool, room: &mut [u8]) -> (i32, Report) {
+        let mut report = Report::default();
+        let number = match self {
+            // SAFETY: each pointer is that of a slice with its length, and so not null, and all bytes have a value. The
+            // room and the report are borrowed for writing alone, and so overlap nothing. The call keeps no pointer.
+            Call::Names { query } => unsafe {
+                mysql_params_names_in(
+                    query.as_ptr(),
+                    query.len(),
+                    no_backslash_escape,
+                    room.as_mut_ptr(),
+                    room.len(),
+                    &mut report,
+                )
+            },
+            // SAFETY: the same holds of the query, the form, the room and the report.
+            Call::Bind { query, form } => unsafe {
+                mysql_params_bind_in(
+                    query.as_ptr(),
+                    query.len(),
+                    form.as_ptr(),
+                    form.len(),
+                    no_backslash_escape,
+                    room.as_mut_ptr(),
+                    room.len(),
+                    &mut report,
+                )
+            },
+        };
+        (number, report)
+    }
+
+    /// The bytes of the query or the form that a report tells.
+    fn name(self, number: i32, report: &Report) -> Result<Vec<u8>, Error> {
+        let source = match self {
+            Call::Bind { form, .. } if number == 7 => form,
+            Call::Bind { query, .. } | Call::Names { query } => query,
+        };
+        let end = report.position.checked_add(report.len);
+        let name = end.and_then(|end| source.get(report.position..end));
+        name.map(<[u8]>::to_vec)
+            .ok_or(Error::UnknownAnswer { number })
+    }
+
+    /// The error that a number with its report is, for any number but `DONE`.
+    pub(crate) fn error(self, number: i32, report: &Report) -> Error {
+        self.known_error(number, report)
+            .unwrap_or_else(|unknown| unknown)
+    }
+
+    /// The same; or `Err` where the number or its report isn't one of mysql_params.h.
+    fn known_error(self, number: i32, report: &Report) -> Result<Error, Error> {
+        let Report {
+            place,
+            position,
+            marks,
+            values,
+            ..
+        } = *report;
+        let byte = || u8::try_from(report.byte).map_err(|_| Error::UnknownAnswer { number });
+        Ok(match number {
+            1 => Error::OutOfMemory,
+            3 => Error::FormEnd {
+                parameter: place,
+                position,
+            },
+            4 => Error::FormLengthLead {
+                parameter: place,
+                position,
+                byte: byte()?,
+            },
+            5 => Error::FormType {
+                parameter: place,
+                position,
+                column_type: byte()?,
+            },
+            6 => Error::FormMixed {
+                parameter: place,
+                position,
+            },
+            7 => Error::RepeatedName {
+                parameter: place,
+                position,
+                name: self.name(number, report)?,
+            },
+            8 => Error::Mixed,
+            9 => Error::Missing {
+                place,
+                position,
+                name: self.name(number, report)?,
+            },
+            10 => Error::NamedForPositional,
+            11 => Error::PositionalForNamed,
+            12 => Error::MarkCount { marks, values },
+            13 => Error::NotAlone { place, position },
+            14 => Error::Float { place },
+            _ => return Err(Error::UnknownAnswer { number }),
+        })
+    }
+
+    /// The whole answer: asked for in a room of a guessed length, and again in one of the length that is needed.
+    pub(crate) fn whole_answer(
+        self,
+        no_backslash_escape: bool,
+        guess: usize,
+    ) -> Result<Vec<u8>, Error> {
+        let mut room = room_of(guess)?;
+        let (mut number, mut report) = self.answer(no_backslash_escape, &mut room);
+        if number == ROOM {
+            room = room_of(report.len)?;
+            (number, report) = self.answer(no_backslash_escape, &mut room);
+        }
+        if number != DONE {
+            return Err(self.error(number, &report));
+        }
+        room.truncate(report.len);
+        Ok(room)
+    }
+}
+
+/// Bytes of a number, or out of memory.
+fn room_of(len: usize) -> Result<Vec<u8>, Error> {
+    let mut room = Vec::new();
+    room.try_reserve_exact(len)
+        .map_err(|_| Error::OutOfMemory)?;
+    room.resize(len, 0);
+    Ok(room)
+}

@@ -1,0 +1,149 @@
+//! The flat form: parameters as the archive reads them, and length-encoded strings.
+use crate::{Date, Error, Params, Time, Value};
+
+/// Numbers of column types in the protocol.
+const FLOAT: u8 = 4;
+const DOUBLE: u8 = 5;
+const NULL: u8 = 6;
+const LONGLONG: u8 = 8;
+const TIME: u8 = 11;
+const DATETIME: u8 = 12;
+const VAR_STRING: u8 = 253;
+
+/// Bit of the flags that says unsigned.
+const UNSIGNED: u8 = 128;
+
+/// Appends bytes, or is out of memory.
+fn append(to: &mut Vec<u8>, bytes: &[u8]) -> Result<(), Error> {
+    to.try_reserve(bytes.len())
+        .map_err(|_| Error::OutOfMemory)?;
+    to.extend_from_slice(bytes);
+    Ok(())
+}
+
+/// Appends a length-encoded string.
+fn append_string(to: &mut Vec<u8>, string: &[u8]) -> Result<(), Error> {
+    let bytes = (string.len() as u64).to_le_bytes();
+    match string.len() {
+        0..=250 => append(to, &bytes[..1])?,
+        251..=0xFFFF => append(to, &[0xFC, bytes[0], bytes[1]])?,
+        0x1_0000..=0xFF_FFFF => append(to, &[0xFD, bytes[0], bytes[1], bytes[2]])?,
+        _ => {
+            append(to, &[0xFE])?;
+            append(to, &bytes)?;
+        }
+    }
+    append(to, string)
+}
+
+/// A date in its longest form, which says every field.
+fn date_form(date: Date) -> [u8; 12] {
+    let [year, century] = date.year.to_le_bytes();
+    let [m0, m1, m2, m3] = date.microsecond.to_le_bytes();
+    [
+        11,
+        year,
+        century,
+        date.month,
+        date.day,
+        date.hour,
+        date.minute,
+        date.second,
+        m0,
+        m1,
+        m2,
+        m3,
+    ]
+}
+
+/// A time in its longest form, which says every field, the sign of zero too.
+fn time_form(time: Time) -> [u8; 13] {
+    let [d0, d1, d2, d3] = time.days.to_le_bytes();
+    let [m0, m1, m2, m3] = time.microseconds.to_le_bytes();
+    let sign = u8::from(time.negative);
+    [
+        12,
+        sign,
+        d0,
+        d1,
+        d2,
+        d3,
+        time.hours,
+        time.minutes,
+        time.seconds,
+        m0,
+        m1,
+        m2,
+        m3,
+    ]
+}
+
+/// Appends type, flags and value.
+fn append_value(to: &mut Vec<u8>, value: &Value<'_>) -> Result<(), Error> {
+    let (column_type, flags) = match value {
+        Value::Null => (NULL, 0),
+        Value::Bytes(_) => (VAR_STRING, 0),
+        Value::Int(_) => (LONGLONG, 0),
+        Value::UInt(_) => (LONGLONG, UNSIGNED),
+        Value::Float(_) => (FLOAT, 0),
+        Value::Double(_) => (DOUBLE, 0),
+        Value::Date(_) => (DATETIME, 0),
+        Value::Time(_) => (TIME, 0),
+    };
+    append(to, &[column_type, flags])?;
+    match value {
+        Value::Null => Ok(()),
+        Value::Bytes(bytes) => append_string(to, bytes),
+        Value::Int(number) => append(to, &number.to_le_bytes()),
+        Value::UInt(number) => append(to, &number.to_le_bytes()),
+        Value::Float(number) => append(to, &number.to_bits().to_le_bytes()),
+        Value::Double(number) => append(to, &number.to_bits().to_le_bytes()),
+        Value::Date(date) => append(to, &date_form(*date)),
+        Value::Time(time) => append(to, &time_form(*time)),
+    }
+}
+
+/// The flat form of parameters.
+pub(crate) fn form_of(params: &Params<'_>) -> Result<Vec<u8>, Error> {
+    let mut form = Vec::new();
+    match params {
+        Params::Empty => {}
+        Params::Positional(values) => {
+            for value in *values {
+                append_string(&mut form, b"")?;
+                append_value(&mut form, value)?;
+            }
+        }
+        Params::Named(pairs) => {
+            for (parameter, (name, value)) in pairs.iter().enumerate() {
+                if name.is_empty() {
+                    return Err(Error::EmptyName { parameter });
+                }
+                append_string(&mut form, name.as_bytes())?;
+                append_value(&mut form, value)?;
+            }
+        }
+    }
+    Ok(form)
+}
+
+/// The length-encoded string at the front, and what follows it.
+pub(crate) fn next_string(answer: &[u8]) -> Option<(&[u8], &[u8])> {
+    let (lead, rest) = answer.split_first()?;
+    let count = match lead {
+        0..=250 => 0,
+        0xFC => 2,
+        0xFD => 3,
+        0xFE => 8,
+        0xFB | 0xFF => return None,
+    };
+    let (length, rest) = rest.split_at_checked(count)?;
+    let mut bytes = [0; 8];
+    bytes[..count].copy_from_slice(length);
+    let length = if count == 0 {
+        u64::from(*lead)
+    } else {
+        u64::from_le_bytes(bytes)
+    };
+    rest.split_at_checked(usize::try_from(length).ok()?)
+}

@@ -1,0 +1,133 @@
+//! Values bound into SQL queries for MySQL, over the archive `libmysql_params_c.a`.
+//!
+//! What [`bind`] returns and when it refuses is stated in the repository's docs/RULES.md and proved of the archive for
+//! every input; this crate, which hands values in and answers out, is tested. Before you send a bound text read "Limits
+//! that matter for security" in the repository's README.md.
+//!
+//! ```
+//! use mysql_params::{bind, Params, Value};
+//!
+//! let name = "x' OR '1'='1";
+//! let pairs = [("id", Value::Int(42)), ("name", name.into())];
+//! let text = bind(b"SELECT * FROM t WHERE id = :id AND name = :name", &Params::Named(&pairs))?;
+//! assert_eq!(text, br"SELECT * FROM t WHERE id = 42 AND name = 'x\' OR \'1\'=\'1'");
+//! # Ok::<(), mysql_params::Error>(())
+//! ```
+#![deny(unsafe_op_in_unsafe_fn, missing_docs)]
+
+mod archive;
+mod error;
+mod form;
+#[cfg(test)]
+mod tests;
+mod value;
+
+pub use error::Error;
+pub use value::{Date, Params, Time, Value};
+
+use archive::Call;
+
+/// The names of a query.
+#[derive(Clone, Debug, PartialEq, Eq)]
+pub struct Names {
+    /// The query with `?` in the place of each name.
+    pub query: Vec<u8>,
+    /// The names without their colons, in order, with repeats. A query can only have names of ASCII.
+    pub names: Vec<String>,
+}
+
+/// The room of a first call beside the bytes that are sure to be needed.
+const SPARE_ROOM: usize = 64;
+
+/// The names of a query, and the query with `?` in their places. A query without names comes back as it is.
+///
+/// # Errors
+///
+/// [`Error::Mixed`] for a query with names and marks; [`Error::OutOfMemory`].
+pub fn names(query: &[u8]) -> Result<Names, Error> {
+    names_in(query, false)
+}
+
+/// As [`names`], for a connection in either mode: the flag is true where `SELECT @@sql_mode` has
+/// `NO_BACKSLASH_ESCAPES`.
+///
+/// # Errors
+///
+/// Those of [`names`].
+pub fn names_in(query: &[u8], no_backslash_escape: bool) -> Result<Names, Error> {
+    let guess = query.len().saturating_add(SPARE_ROOM);
+    let answer = Call::Names { query }.whole_answer(no_backslash_escape, guess)?;
+    let unknown = || Error::UnknownAnswer {
+        number: archive::DONE,
+    };
+    let (renamed, mut rest) = form::next_string(&answer).ok_or_else(unknown)?;
+    let mut names = Vec::new();
+    while !rest.is_empty() {
+        let (name, after) = form::next_string(rest).ok_or_else(unknown)?;
+        names.push(String::from_utf8(name.to_vec()).map_err(|_| unknown())?);
+        rest = after;
+    }
+    Ok(Names {
+        query: renamed.to_vec(),
+        names,
+    })
+}
+
+/// The query with the SQL literals of the values in its places: the text to send.
+///
+/// The text is for a connection with backslash escapes, that is without `NO_BACKSLASH_ESCAPES` in its `sql_mode`; for
+/// another see [`bind_in`].
+///
+/// # Errors
+///
+/// The first that holds: [`Error::EmptyName`]; [`Error::RepeatedName`]; then, of the query, [`Error::Mixed`];
+/// [`Error::Missing`], [`Error::NamedForPositional`] or [`Error::PositionalForNamed`]; [`Error::MarkCount`];
+/// [`Error::NotAlone`]; [`Error::Float`]. In place of any of them, and of a text, [`Error::OutOfMemory`].
+pub fn bind(query: &[u8], params: &Params<'_>) -> Result<Vec<u8>, Error> {
+    bind_in(query, params, false)
+}
+
+/// As [`bind`], for a connection in either mode: the flag is true where `SELECT @@sql_mode`, asked on the connection
+/// that the text goes to, has `NO_BACKSLASH_ESCAPES`. Where the two differ a value can leave its literal.
+///
+/// # Errors
+///
+/// Those of [`bind`].
+pub fn bind_in(
+    query: &[u8],
+    params: &Params<'_>,
+    no_backslash_escape: bool,
+) -> Result<Vec<u8>, Error> {
+    bind_form_in(query, &form::form_of(params)?, no_backslash_escape)
+}
+
+/// As [`bind`], of parameters that stand in their flat form already, as mysql_params.h describes it: of each its name
+/// as a length-encoded string (empty: by position), a byte with the number of its column type, a byte of flags, and
+/// its value in the protocol's binary form.
+///
+/// # Errors
+///
+/// The errors that begin with `Form`, and [`Error::RepeatedName`], for the first parameter that can't be taken; then
+/// those of [`bind`].
+pub fn bind_form(query: &[u8], form: &[u8]) -> Result<Vec<u8>, Error> {
+    bind_form_in(query, form, false)
+}
+
+/// As [`bind_form`], for a connection in either mode, as [`bind_in`].
+///
+/// # Errors
+///
+/// Those of [`bind_form`].
+pub fn bind_form_in(
+    query: &[u8],
+    form: &[u8],
+    no_backslash_escape: bool,
+) -> Result<Vec<u8>, Error> {
+    // A literal of bytes has at most twice their number, and quotes.
+    let literals = form.len().saturating_mul(2);
+    let guess = query
+        .len()
+        .saturating_add(literals)
+        .saturating_add(SPARE_ROOM);
+    Call::Bind { query, form }.whole_answer(no_backslash_escape, guess)
+}

@@ -1,0 +1,191 @@
+//! Tests of what the public calls don't show: the room lent, whole reports, and numbers that come by fault alone.
+use crate::archive::{Call, DONE, ROOM, Report};
+use crate::{Error, Params, Value, bind, names};
+
+/// What a byte of the room holds before a call.
+const UNTOUCHED: u8 = 0xA5;
+
+/// Room too long by five bytes, exact, too short by one, and none.
+fn has_answer(call: Call<'_>, answer: &[u8]) {
+    let len = answer.len();
+    for room_len in [len + 5, len, len.saturating_sub(1), 0] {
+        let mut room = vec![UNTOUCHED; room_len];
+        let (number, report) = call.answer(false, &mut room);
+        assert_eq!(
+            report,
+            Report {
+                len,
+                ..Report::default()
+            },
+            "{call:?}, room {room_len}"
+        );
+        let written = if room_len < len { 0 } else { len };
+        assert_eq!(
+            number,
+            if room_len < len { ROOM } else { DONE },
+            "{call:?}, room {room_len}"
+        );
+        assert_eq!(
+            room[..written],
+            answer[..written],
+            "{call:?}, room {room_len}"
+        );
+        assert!(
+            room[written..].iter().all(|byte| *byte == UNTOUCHED),
+            "{call:?}, room {room_len}"
+        );
+    }
+}
+
+#[test]
+fn rooms_for_texts() {
+    has_answer(
+        Call::Bind {
+            query: b"",
+            form: b"",
+        },
+        b"",
+    );
+    has_answer(
+        Call::Bind {
+            query: b"SELECT 1",
+            form: b"",
+        },
+        b"SELECT 1",
+    );
+    has_answer(
+        Call::Bind {
+            query: b"?",
+            form: b"\x00\xFD\x00\x01'",
+        },
+        br"'\''",
+    );
+    has_answer(
+        Call::Bind {
+            query: b":a, :a",
+            form: b"\x01a\x06\x00",
+        },
+        b"NULL, NULL",
+    );
+}
+
+#[test]
+fn rooms_for_names() {
+    has_answer(Call::Names { query: b"" }, b"\x00");
+    has_answer(Call::Names { query: b":a+:b" }, b"\x03?+?\x01a\x01b");
+}
+
+#[test]
+fn refusals_leave_the_room() {
+    let mut room = [UNTOUCHED; 32];
+    let mixed = Call::Bind {
+        query: b"? :a",
+        form: b"",
+    }
+    .answer(false, &mut room);
+    assert_eq!(mixed, (8, Report::default()));
+    let missing = Call::Bind {
+        query: b"x, :abc",
+        form: b"",
+    }
+    .answer(false, &mut room);
+    assert_eq!(
+        missing,
+        (
+            9,
+            Report {
+                len: 3,
+                position: 4,
+                ..Report::default()
+            }
+        )
+    );
+    let lead = Call::Bind {
+        query: b"?",
+        form: b"\x00\x06\x00\xFB",
+    }
+    .answer(false, &mut room);
+    assert_eq!(
+        lead,
+        (
+            4,
+            Report {
+                place: 1,
+                position: 3,
+                byte: 251,
+                ..Report::default()
+            }
+        )
+    );
+    assert_eq!(room, [UNTOUCHED; 32]);
+}
+
+#[test]
+fn texts_longer_than_the_first_room() {
+    let value = vec![b'\''; 300];
+    let query = vec![":a"; 100].join(",");
+    let literal = format!("'{}'", "\\'".repeat(300));
+    let text = bind(
+        query.as_bytes(),
+        &Params::Named(&[("a", Value::Bytes(&value))]),
+    );
+    assert_eq!(text, Ok(vec![literal; 100].join(",").into_bytes()));
+}
+
+#[test]
+fn names_longer_than_the_first_room() {
+    let query = vec![":a"; 1000].join(",");
+    let answer = names(query.as_bytes()).expect("a query with names alone");
+    assert_eq!(answer.query, vec!["?"; 1000].join(",").into_bytes());
+    assert_eq!(answer.names, vec!["a"; 1000]);
+}
+
+#[test]
+fn numbers_that_come_by_fault_alone() {
+    let call = Call::Bind {
+        query: b":a",
+        form: b"",
+    };
+    let none = Report::default();
+    assert_eq!(call.error(1, &none), Error::OutOfMemory);
+    assert_eq!(call.error(1, &none).to_string(), "out of memory");
+    for number in [-1, 0, 2, 15, i32::MAX, i32::MIN] {
+        assert_eq!(call.error(number, &none), Error::UnknownAnswer { number });
+    }
+    assert_eq!(
+        call.error(15, &none).to_string(),
+        "Unknown answer 15 of the archive"
+    );
+    // A name outside the query, and bytes that are none.
+    for (len, position) in [(3, 0), (1, 2), (usize::MAX, 1), (1, usize::MAX)] {
+        let report = Report {
+            len,
+            position,
+            ..none
+        };
+        assert_eq!(call.error(9, &report), Error::UnknownAnswer { number: 9 });
+        assert_eq!(call.error(7, &report), Error::UnknownAnswer { number: 7 });
+    }
+    let report = Report { byte: 256, ..none };
+    assert_eq!(call.error(4, &report), Error::UnknownAnswer { number: 4 });
+    assert_eq!(call.error(5, &report), Error::UnknownAnswer { number: 5 });
+}
+
+#[test]
+fn answers_that_end_within_a_string() {
+    use crate::form::next_string;
+    for broken in [
+        &b""[..],
+        b"\x02a",
+        b"\xFB",
+        b"\xFFa",
+        b"\xFC\x01",
+        b"\xFC\x01\x00",
+        b"\xFD\x00\x00",
+    ] {
+        assert_eq!(next_string(broken), None, "{broken:?}");
+    }
+    assert_eq!(next_string(b"\xFE\xFF\xFF\xFF\xFF\xFF\xFF\xFF\xFFa"), None);
+    assert_eq!(next_string(b"\x01ab"), Some((&b"a"[..], &b"b"[..])));
+    assert_eq!(next_string(b"\xFC\x01\x00ab"), Some((&b"a"[..], &b"b"[..])));
+}

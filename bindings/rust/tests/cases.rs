@@ -1,0 +1,406 @@
+//! The cases of bindings/cases, which say what they are in README.md there, and every value of one byte.
+use mysql_params::{
+    Date, Error, Names, Params, Time, Value, bind, bind_form, bind_form_in, bind_in, names,
+    names_in,
+};
+use std::collections::HashMap;
+use std::path::Path;
+
+/// A value with bytes of its own.
+enum Owned {
+    Bytes(Vec<u8>),
+    Other(Value<'static>),
+}
+
+impl Owned {
+    fn value(&self) -> Value<'_> {
+        match self {
+            Owned::Bytes(bytes) => bytes.into(),
+            Owned::Other(value) => *value,
+        }
+    }
+}
+
+/// A case, and where it stands.
+#[derive(Default)]
+struct Case {
+    at: String,
+    query: Vec<u8>,
+    params: Vec<(String, Owned)>,
+    form: Vec<u8>,
+    no_backslash_escape: bool,
+    text: Option<Vec<u8>>,
+    renamed: Vec<u8>,
+    names: Vec<String>,
+    refusal: Option<(String, HashMap<String, String>)>,
+    message: Option<String>,
+}
+
+/// Bytes of pairs of hexadecimal digits, with spaces anywhere.
+fn digits(text: &str) -> Vec<u8> {
+    let digits: String = text.chars().filter(|c| *c != ' ').collect();
+    let pair = |at| u8::from_str_radix(&digits[at..at + 2], 16).expect("two digits");
+    (0..digits.len()).step_by(2).map(pair).collect()
+}
+
+/// Bytes of a text: pairs of digits within { }, or as they stand.
+fn bytes(text: &str) -> Vec<u8> {
+    let mut bytes = Vec::new();
+    let mut rest = text;
+    while let Some((before, within)) = rest.split_once('{') {
+        let (pairs, after) = within.split_once('}').expect("a }");
+        bytes.extend(before.bytes());
+        bytes.extend(digits(pairs));
+        rest = after;
+    }
+    bytes.extend(rest.bytes());
+    bytes
+}
+
+fn number<T: std::str::FromStr<Err: std::fmt::Debug>>(text: &str) -> T {
+    text.parse().expect("a number in range")
+}
+
+fn date(fields: &str) -> Value<'static> {
+    let fields: Vec<&str> = fields.split(' ').collect();
+    Value::Date(Date {
+        year: number(fields[0]),
+        month: number(fields[1]),
+        day: number(fields[2]),
+        hour: number(fields[3]),
+        minute: number(fields[4]),
+        second: number(fields[5]),
+        microsecond: number(fields[6]),
+    })
+}
+
+fn time(fields: &str) -> Value<'static> {
+    let fields: Vec<&str> = fields.split(' ').collect();
+    Value::Time(Time {
+        negative: fields[0] == "-",
+        days: number(fields[1]),
+        hours: number(fields[2]),
+        minutes: number(fields[3]),
+        seconds: number(fields[4]),
+        microseconds: number(fields[5]),
+    })
+}
+
+fn value(text: &str) -> Owned {
+    let (kind, rest) = text.split_once(':').unwrap_or((text, ""));
+    Owned::Other(match kind {
+        "s" => return Owned::Bytes(bytes(rest)),
+        "null" => Value::Null,
+        "i" => Value::Int(number(rest)),
+        "u" => Value::UInt(number(rest)),
+        "float" => Value::Float(0.0),
+        "double" => Value::Double(0.0),
+        "date" => date(rest),
+        "time" => time(rest),
+        _ => panic!("{text} is no value"),
+    })
+}
+
+fn refusal(text: &str) -> (String, HashMap<String, String>) {
+    let mut words = text.split(' ');
+    let name = words.next().expect("a name").to_string();
+    let fields = words.map(|word| word.split_once('=').expect("FIELD=VALUE"));
+    (
+        name,
+        fields
+            .map(|(field, value)| (field.to_string(), value.to_string()))
+            .collect(),
+    )
+}
+
+fn read_line(case: &mut Case, line: &str) {
+    let (word, text) = line.split_once(' ').unwrap_or((line, ""));
+    match word {
+        "query" => case.query = bytes(text),
+        "param" => {
+            let (name, plain) = text.split_once('=').expect("NAME=VALUE");
+            case.params.push((name.to_string(), value(plain)));
+        }
+        "form" => case.form.extend(digits(text)),
+        "no_backslash_escape" => case.no_backslash_escape = true,
+        "text" => case.text = Some(bytes(text)),
+        "renamed" => case.renamed = bytes(text),
+        "name" => case.names.push(text.to_string()),
+        "refused" => case.refusal = Some(refusal(text)),
+        "message" => case.message = Some(text.to_string()),
+        _ => panic!("{}: {word} is no word of a case", case.at),
+    }
+}
+
+/// The cases of a file.
+fn cases(file: &str) -> Vec<Case> {
+    let path = Path::new(env!("CARGO_MANIFEST_DIR"))
+        .join("../cases")
+        .join(file);
+    let whole = std::fs::read_to_string(path).expect("the cases can be read");
+    let mut cases = Vec::new();
+    for (index, part) in whole.split("\n\n").enumerate() {
+        let lines: Vec<&str> = part.lines().filter(|line| !line.starts_with('#')).collect();
+        if !lines.is_empty() {
+            let mut case = Case {
+                at: format!("part {index} of {file}: {}", lines.join(" / ")),
+                ..Case::default()
+            };
+            lines.iter().for_each(|line| read_line(&mut case, line));
+            cases.push(case);
+        }
+    }
+    assert!(!cases.is_empty(), "{file} has no case");
+    cases
+}
+
+/// The error that a case wants.
+fn wanted_error(case: &Case) -> Error {
+    let (name, fields) = case.refusal.as_ref().expect("a text or a refusal");
+    let field = |field: &str| fields.get(field).map_or(0, |text| number::<usize>(text));
+    let (place, position) = (field("place"), field("position"));
+    let (parameter, byte) = (
+        place,
+        number(fields.get("byte").map_or("0", String::as_str)),
+    );
+    let told = bytes(fields.get("name").map_or("", String::as_str));
+    match name.as_str() {
+        "FORM_END" => Error::FormEnd {
+            parameter,
+            position,
+        },
+        "FORM_LENGTH_LEAD" => Error::FormLengthLead {
+            parameter,
+            position,
+            byte,
+        },
+        "FORM_TYPE" => Error::FormType {
+            parameter,
+            position,
+            column_type: byte,
+        },
+        "FORM_MIXED" => Error::FormMixed {
+            parameter,
+            position,
+        },
+        "FORM_REPEATED" => Error::RepeatedName {
+            parameter,
+            position,
+            name: told,
+        },
+        "MIXED" => Error::Mixed,
+        "MISSING" => Error::Missing {
+            place,
+            position,
+            name: told,
+        },
+        "NAMED_FOR_POSITIONAL" => Error::NamedForPositional,
+        "POSITIONAL_FOR_NAMED" => Error::PositionalForNamed,
+        "MARK_COUNT" => Error::MarkCount {
+            marks: field("marks"),
+            values: field("values"),
+        },
+        "NOT_ALONE" => Error::NotAlone { place, position },
+        "FLOAT" => Error::Float { place },
+        _ => panic!("{}: {name} is no refusal", case.at),
+    }
+}
+
+/// The result is the text or the refusal that the case wants, with its message.
+fn expect(case: &Case, result: Result<Vec<u8>, Error>) {
+    match &case.text {
+        Some(text) => assert_eq!(result.as_ref(), Ok(text), "{}", case.at),
+        None => {
+            let error = result.expect_err(&case.at);
+            assert_eq!(error, wanted_error(case), "{}", case.at);
+            if let Some(message) = &case.message {
+                assert_eq!(&error.to_string(), message, "{}", case.at);
+            }
+        }
+    }
+}
+
+#[test]
+fn table_of_binding() {
+    for case in cases("bind.txt") {
+        let values: Vec<Value<'_>> = case.params.iter().map(|(_, value)| value.value()).collect();
+        let names = case.params.iter().map(|(name, _)| name.as_str());
+        let pairs: Vec<(&str, Value<'_>)> = names.zip(values.iter().copied()).collect();
+        let params = match pairs.first() {
+            None => Params::Empty,
+            Some(("", _)) => Params::Positional(&values),
+            Some(_) => Params::Named(&pairs),
+        };
+        let mode = case.no_backslash_escape;
+        expect(&case, bind_in(&case.query, &params, mode));
+        if !mode {
+            expect(&case, bind(&case.query, &params));
+        }
+    }
+}
+
+#[test]
+fn flat_forms() {
+    for case in cases("forms.txt") {
+        let mode = case.no_backslash_escape;
+        expect(&case, bind_form_in(&case.query, &case.form, mode));
+        if !mode {
+            expect(&case, bind_form(&case.query, &case.form));
+        }
+    }
+}
+
+/// The result is the names or the refusal that the case wants.
+fn expect_names(case: &Case, result: Result<Names, Error>) {
+    match result {
+        Ok(found) => {
+            assert!(case.refusal.is_none(), "{}", case.at);
+            let wanted = Names {
+                query: case.renamed.clone(),
+                names: case.names.clone(),
+            };
+            assert_eq!(found, wanted, "{}", case.at);
+        }
+        Err(error) => expect(case, Err(error)),
+    }
+}
+
+#[test]
+fn names_of_queries() {
+    for case in cases("names.txt") {
+        let mode = case.no_backslash_escape;
+        expect_names(&case, names_in(&case.query, mode));
+        if !mode {
+            expect_names(&case, names(&case.query));
+        }
+    }
+}
+
+#[test]
+fn names_of_long_queries() {
+    for len in [250, 251, 252, 65535, 65536, 65537] {
+        // With its quotes, the space and the mark the renamed query has `len` bytes.
+        let string = "x".repeat(len - 4);
+        let found = names(format!("'{string}' :a").as_bytes());
+        let wanted = Names {
+            query: format!("'{string}' ?").into_bytes(),
+            names: vec!["a".to_string()],
+        };
+        assert_eq!(found, Ok(wanted), "a query of {len} bytes");
+    }
+}
+
+/// The literal of one byte, after the table of SQL literals in docs/RULES.md.
+fn literal(byte: u8) -> Vec<u8> {
+    let escapes = [
+        (0, b'0'),
+        (b'\n', b'n'),
+        (b'\r', b'r'),
+        (26, b'Z'),
+        (b'\\', b'\\'),
+        (b'\'', b'\''),
+        (b'"', b'"'),
+    ];
+    match escapes.iter().find(|(escaped, _)| *escaped == byte) {
+        _ if byte >= 128 => format!("0x{byte:02X}").into_bytes(),
+        Some((_, letter)) => vec![b'\'', b'\\', *letter, b'\''],
+        None => vec![b'\'', byte, b'\''],
+    }
+}
+
+/// The literal of one byte without backslash escapes: there only a quote isn't itself.
+fn literal_without_backslashes(byte: u8) -> Vec<u8> {
+    match byte {
+        b'\'' => b"''''".to_vec(),
+        0..=127 => vec![b'\'', byte, b'\''],
+        128..=255 => format!("0x{byte:02X}").into_bytes(),
+    }
+}
+
+#[test]
+fn each_value_of_one_byte() {
+    for byte in 0..=255 {
+        let bytes = [byte];
+        let values = [Value::Bytes(&bytes)];
+        let params = Params::Positional(&values);
+        assert_eq!(bind(b"?", &params), Ok(literal(byte)), "the byte {byte}");
+        let text = bind_in(b"?", &params, true);
+        assert_eq!(
+            text,
+            Ok(literal_without_backslashes(byte)),
+            "the byte {byte}"
+        );
+    }
+}
+
+#[test]
+fn values_of_each_length() {
+    for len in [1, 250, 251, 65535, 65536, (1 << 24) - 1, 1 << 24] {
+        let (name, string) = ("a".repeat(len), "x".repeat(len));
+        let pairs = [(name.as_str(), string.as_str().into())];
+        let text = bind(format!(":{name}").as_bytes(), &Params::Named(&pairs));
+        let wanted = format!("'{string}'").into_bytes();
+        assert!(text == Ok(wanted), "name and string of {len} bytes");
+    }
+}
+
+#[test]
+fn values_of_own_types() {
+    let owned = (String::from("a"), vec![0xFF]);
+    let values = [
+        Value::from(-1i8),
+        (-2i16).into(),
+        (-3i32).into(),
+        (-4i64).into(),
+        1u8.into(),
+        2u16.into(),
+        3u32.into(),
+        u64::MAX.into(),
+        true.into(),
+        false.into(),
+        "t".into(),
+        b"b".into(),
+        (&b"s"[..]).into(),
+        (&owned.0).into(),
+        (&owned.1).into(),
+        None::<i32>.into(),
+        Some("x").into(),
+        Date {
+            year: 2019,
+            month: 11,
+            day: 27,
+            ..Date::default()
+        }
+        .into(),
+        Time {
+            negative: true,
+            ..Time::default()
+        }
+        .into(),
+    ];
+    let query = vec!["?"; values.len()].join(",");
+    let wanted = "-1,-2,-3,-4,1,2,3,18446744073709551615,1,0,'t','b','s','a',0xFF,NULL,'x','2019-11-27','-000:00:00'";
+    assert_eq!(
+        bind(query.as_bytes(), &Params::Positional(&values)),
+        Ok(wanted.as_bytes().to_vec())
+    );
+    assert_eq!(Value::from(1.5f32), Value::Float(1.5));
+    assert_eq!(Value::from(1.5f64), Value::Double(1.5));
+}
+
+#[test]
+fn errors_of_use() {
+    let pairs = [("a", Value::Null), ("", Value::Null)];
+    let error = bind(b":a ?", &Params::Named(&pairs)).expect_err("an empty name");
+    assert_eq!(error, Error::EmptyName { parameter: 1 });
+    assert_eq!(error.to_string(), "Parameter 1 has an empty name");
+    // Lists without entries give nothing.
+    assert_eq!(
+        bind(b"SELECT 1", &Params::Named(&[])),
+        Ok(b"SELECT 1".to_vec())
+    );
+    assert_eq!(
+        bind(b"SELECT 1", &Params::Positional(&[])),
+        Ok(b"SELECT 1".to_vec())
+    );
+}
