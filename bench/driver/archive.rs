@@ -1,0 +1,111 @@
+//! The archive's functions.
+
+use plain::room::Report;
+
+#[link(name = "mysql_params_c", kind = "static")]
+unsafe extern "C" {
+    fn mysql_params_names(
+        query: *const u8,
+        query_len: usize,
+        room: *mut u8,
+        room_len: usize,
+        report: *mut Report,
+    ) -> i32;
+    fn mysql_params_bind(
+        query: *const u8,
+        query_len: usize,
+        form: *const u8,
+        form_len: usize,
+        room: *mut u8,
+        room_len: usize,
+        report: *mut Report,
+    ) -> i32;
+    fn mysql_params_names_in(
+        query: *const u8,
+        query_len: usize,
+        no_backslash_escape: bool,
+        room: *mut u8,
+        room_len: usize,
+        report: *mut Report,
+    ) -> i32;
+    fn mysql_params_bind_in(
+        query: *const u8,
+        query_len: usize,
+        form: *const u8,
+        form_len: usize,
+        no_backslash_escape: bool,
+        room: *mut u8,
+        room_len: usize,
+        report: *mut Report,
+    ) -> i32;
+}
+
+/// A report that no call gives: the archive has to write each field.
+const UNWRITTEN: Report = Report {
+    len: usize::MAX,
+    place: usize::MAX,
+    position: usize::MAX,
+    marks: usize::MAX,
+    values: usize::MAX,
+    byte: usize::MAX,
+};
+
+pub fn names(query: &[u8], room: &mut [u8]) -> (i32, Report) {
+    let mut report = UNWRITTEN;
+    // SAFETY: pointers and lengths are those of slices, and the report is the archive's to write.
+    let number = unsafe {
+        mysql_params_names(query.as_ptr(), query.len(), room.as_mut_ptr(), room.len(), &mut report)
+    };
+    (number, report)
+}
+
+pub fn bind(query: &[u8], form: &[u8], room: &mut [u8]) -> (i32, Report) {
+    let mut report = UNWRITTEN;
+    let (form_at, room_at) = (form.as_ptr(), room.as_mut_ptr());
+    // SAFETY: pointers and lengths are those of slices, and the report is the archive's to write.
+    let number = unsafe {
+        let (query_at, query_len) = (query.as_ptr(), query.len());
+        mysql_params_bind(
+            query_at,
+            query_len,
+            form_at,
+            form.len(),
+            room_at,
+            room.len(),
+            &mut report,
+        )
+    };
+    (number, report)
+}
+
+/// `names` in the mode without backslash escapes.
+pub fn names_without_backslashes(query: &[u8], room: &mut [u8]) -> (i32, Report) {
+    let mut report = UNWRITTEN;
+    let (query_at, room_at) = (query.as_ptr(), room.as_mut_ptr());
+    // SAFETY: pointers and lengths are those of slices, and the report is the archive's to write.
+    let number = unsafe {
+        mysql_params_names_in(query_at, query.len(), true, room_at, room.len(), &mut report)
+    };
+    (number, report)
+}
+
+/// `bind` in the mode without backslash escapes.
+pub fn bind_without_backslashes(query: &[u8], form: &[u8], room: &mut [u8]) -> (i32, Report) {
+    let mut report = UNWRITTEN;
+    let (form_at, room_at) = (form.as_ptr(), room.as_mut_ptr());
+    // SAFETY: pointers and lengths are those of slices, and the report is the archive's to write.
+    let number = unsafe {
+        let (query_at, query_len) = (query.as_ptr(), query.len());
+        mysql_params_bind_in(
+            query_at,
+            query_len,
+            form_at,
+            form.len(),
+            true,
+            room_at,
+            room.len(),
+            &mut report,
+        )
+    };
+    (number, report)
+}

@@ -1,0 +1,127 @@
+//! Compares the archive with plain Rust: on every short query over the special bytes, and on
+//! random bindings.
+
+use crate::bindings;
+use crate::differences::{Differences, Mode};
+use crate::other_mode::WithoutBackslashes;
+use plain::form;
+use plain::query::next_place;
+use plain::search::{Search, Table};
+use std::process::ExitCode;
+use std::time::Instant;
+
+/// The bytes that begin, end or change a token; a byte that may stand only before a place, one only
+/// after it, one at both sides; and one that may stand at neither and is plain everywhere.
+const ALPHABET: &[u8] = b"'\"`\\#-/*:?a1 \n\t!(+\xFF";
+
+/// Room for each answer to a query of up to 8 bytes.
+const SHORT_ROOM: usize = 256;
+
+/// Compares on every query of up to `longest` bytes, and on so many random bindings.
+pub fn compare(longest: usize, count: u64) -> ExitCode {
+    let start = Instant::now();
+    let mut differences = Differences::default();
+    let queries = short_queries(longest, &mut differences);
+    let (calls, seconds) = (differences.calls, start.elapsed().as_secs());
+    let letters = ALPHABET.len();
+    println!("{queries} queries of up to {longest} of {letters} bytes: {calls} calls, {seconds} s");
+    bindings::compare(count, &mut differences);
+    let calls = differences.calls - calls;
+    let seconds = start.elapsed().as_secs() - seconds;
+    println!("{count} random bindings: {calls} calls, {seconds} s");
+    differences.print()
+}
+
+/// Compares the calls on every query of up to so many bytes; gives their number.
+fn short_queries(longest: usize, differences: &mut Differences) -> u64 {
+    let values = example_values();
+    let one_name = named_form(&[b"a"], &values);
+    let mut queries = 0;
+    for len in 0..=longest {
+        let mut letters = vec![0; len];
+        loop {
+            let query: Vec<u8> = letters.iter().map(|letter| ALPHABET[*letter]).collect();
+            short_query(&query, &values, &one_name, differences);
+            queries += 1;
+            // The next query, as one counts.
+            let Some(at) = letters.iter().rposition(|letter| letter + 1 < ALPHABET.len()) else {
+                break;
+            };
+            letters[at] += 1;
+            letters[at + 1..].fill(0);
+        }
+    }
+    queries
+}
+
+/// The query in the mode with backslash escapes, and, where it has a backslash, in the other.
+fn short_query(query: &[u8], values: &[Vec<u8>], one_name: &[u8], differences: &mut Differences) {
+    short_query_in::<Table>(Mode::WithBackslashes, query, values, one_name, differences);
+    if query.contains(&b'\\') {
+        let mode = Mode::WithoutBackslashes;
+        short_query_in::<WithoutBackslashes<Table>>(mode, query, values, one_name, differences);
+    }
+}
+
+/// Names, and binding with nothing, with one name, with one value, and with what fits the query.
+fn short_query_in<S: Search>(
+    mode: Mode,
+    query: &[u8],
+    values: &[Vec<u8>],
+    one_name: &[u8],
+    differences: &mut Differences,
+) {
+    let one_value = positional_form(1, values);
+    differences.compare_names(mode, query, SHORT_ROOM);
+    for form in [&[], one_name, one_value.as_slice()] {
+        differences.compare_bind(mode, query, form, SHORT_ROOM);
+    }
+    let (mut names, mut marks) = (Vec::new(), 0);
+    let mut at = 0;
+    while let Some((start, end)) = next_place::<S>(query, at) {
+        at = end;
+        match &query[start + 1..end] {
+            [] => marks += 1,
+            name if !names.contains(&name) => names.push(name),
+            _ => {}
+        }
+    }
+    if names.len() + marks > 1 || names.iter().any(|name| *name != b"a") {
+        let form =
+            if marks > 0 { positional_form(marks, values) } else { named_form(&names, values) };
+        differences.compare_bind(mode, query, &form, SHORT_ROOM);
+    }
+}
+
+/// Values without their names.
+fn example_values() -> Vec<Vec<u8>> {
+    let mut values = vec![Vec::new(); 5];
+    values[0].extend_from_slice(&[form::LONGLONG, 0]);
+    values[0].extend_from_slice(&(-5i64).to_le_bytes());
+    values[1].extend_from_slice(&[form::BLOB, 0]);
+    form::append_string(&mut values[1], b":a'?");
+    values[2].extend_from_slice(&[form::NULL, 0]);
+    values[3].extend_from_slice(&[form::BLOB, 0]);
+    form::append_string(&mut values[3], b"\xFF");
+    values[4].extend_from_slice(&[form::LONGLONG, 128]);
+    values[4].extend_from_slice(&u64::MAX.to_le_bytes());
+    values
+}
+
+fn positional_form(count: usize, values: &[Vec<u8>]) -> Vec<u8> {
+    let mut form = Vec::with_capacity(16 * count);
+    for value in values.iter().cycle().take(count) {
+        form.push(0);
+        form.extend_from_slice(value);
+    }
+    form
+}
+
+fn named_form(names: &[&[u8]], values: &[Vec<u8>]) -> Vec<u8> {
+    let mut form = Vec::with_capacity(16 * names.len());
+    for (name, value) in names.iter().zip(values.iter().cycle()) {
+        form::append_string(&mut form, name);
+        form.extend_from_slice(value);
+    }
+    form
+}

@@ -1,0 +1,156 @@
+//! The queries and values that are timed.
+
+use crate::random::Random;
+use plain::form;
+use plain::value::{Params, Value};
+use std::collections::HashMap;
+
+const MEGABYTE: usize = 1 << 20;
+
+const TEN_NAMES: &[u8] =
+    b"SELECT * FROM t WHERE p_a = :p_a AND p_b = :p_b AND p_c = :p_c AND p_d = :p_d \
+    AND p_e = :p_e AND p_f = :p_f AND p_g = :p_g AND p_h = :p_h AND p_i = :p_i AND p_j = :p_j";
+
+/// As many whole pieces as a megabyte holds.
+fn rows(piece: &[u8]) -> Vec<u8> {
+    piece.repeat(MEGABYTE / piece.len())
+}
+
+/// The text, a megabyte of pieces, and the end.
+fn around(start: &[u8], piece: &[u8], end: &[u8]) -> Vec<u8> {
+    [start, &rows(piece), end].concat()
+}
+
+const ROW_OF_NAMES: &[u8] = b"(:one, :two, 'some text', 12345, NULL),\n";
+
+/// A megabyte of any bytes but `?`: with marks beside names the query would be refused.
+fn random_bytes() -> Vec<u8> {
+    let mut random = Random(12345);
+    let mut bytes = Vec::with_capacity(MEGABYTE);
+    while bytes.len() < MEGABYTE {
+        let byte = random.below(256) as u8;
+        if byte != b'?' {
+            bytes.push(byte);
+        }
+    }
+    bytes
+}
+
+/// The queries that are parsed, with their names.
+pub fn queries() -> Vec<(&'static str, Vec<u8>)> {
+    let select = b"SELECT `col`, \"x\" FROM t /* about t */ WHERE a = :a AND b <> 'b' -- why\n";
+    vec![
+        ("rows of names", rows(ROW_OF_NAMES)),
+        ("rows of marks", rows(b"(?, ?, 'some text', 12345, NULL),\n")),
+        ("SELECT with comments", rows(select)),
+        ("one long string", around(b"SELECT '", b"abcdefgh", b"', :a")),
+        ("string full of escapes", around(b"SELECT '", b"it\\'s a \\\"text\\\" ", b"', :a")),
+        ("one long comment", around(b"SELECT /*", b"abc * defgh\n", b"*/ :a")),
+        ("words without a place", rows(b"SELECT alpha beta gamma FROM delta ")),
+        ("random bytes", random_bytes()),
+        ("short query, ten names", TEN_NAMES.to_vec()),
+    ]
+}
+
+/// What a caller has: a name, empty by position, and a number or a text.
+pub struct Given {
+    name: &'static [u8],
+    thing: Thing,
+}
+
+enum Thing {
+    Number(i64),
+    Text(Vec<u8>),
+}
+
+/// A query and what is bound into it.
+pub struct Binding {
+    pub name: &'static str,
+    pub query: Vec<u8>,
+    pub given: Vec<Given>,
+}
+
+fn number(name: &'static [u8], number: i64) -> Given {
+    Given { name, thing: Thing::Number(number) }
+}
+
+fn text(name: &'static [u8], text: &[u8]) -> Given {
+    Given { name, thing: Thing::Text(text.to_vec()) }
+}
+
+pub fn bindings() -> Vec<Binding> {
+    let marks = [b"SELECT ?".as_slice(), &b", ?".repeat(999)].concat();
+    let thousand =
+        (0..1000).map(|at| if at % 2 == 0 { number(b"", 5) } else { text(b"", b"v'123") });
+    let quotes: Vec<u8> = b"aaaaaaaaaaaaaaaaaaa'".iter().copied().cycle().take(MEGABYTE).collect();
+    let insert = around(
+        b"INSERT INTO t VALUES ",
+        b"(12345, 'some text here', 3.25, NULL), ",
+        b"(?, '', 0, NULL)",
+    );
+    let names: [&[u8]; 10] =
+        [b"p_a", b"p_b", b"p_c", b"p_d", b"p_e", b"p_f", b"p_g", b"p_h", b"p_i", b"p_j"];
+    let ten = names.iter().enumerate().map(|(at, name)| number(name, 1000 * at as i64));
+    vec![
+        Binding { name: "1000 marks", query: marks, given: thousand.collect() },
+        Binding {
+            name: "one text of 1 MiB, a quote every 20 bytes",
+            query: b"SELECT ?".to_vec(),
+            given: vec![text(b"", &quotes)],
+        },
+        Binding { name: "query of 1 MiB, one mark", query: insert, given: vec![text(b"", b"5")] },
+        Binding { name: "short query, ten names", query: TEN_NAMES.to_vec(), given: ten.collect() },
+        rows_binding(),
+    ]
+}
+
+/// The binding whose memory is measured.
+pub fn rows_binding() -> Binding {
+    Binding { query: rows(ROW_OF_NAMES), ..one_row_binding() }
+}
+
+pub fn one_row_binding() -> Binding {
+    Binding {
+        name: "rows of names",
+        query: ROW_OF_NAMES.to_vec(),
+        given: vec![number(b"one", 12345), text(b"two", b"it's")],
+    }
+}
+
+/// The parameters of plain Rust.
+pub fn params_of(given: &[Given]) -> Params {
+    let value = |given: &Given| match &given.thing {
+        Thing::Number(number) => Value::Int(*number),
+        Thing::Text(text) => Value::Bytes(text.clone()),
+    };
+    if given[0].name.is_empty() {
+        return Params::Positional(given.iter().map(value).collect());
+    }
+    let mut values = HashMap::with_capacity(given.len());
+    for given in given {
+        values.insert(given.name.to_vec(), value(given));
+    }
+    Params::Named(values)
+}
+
+/// The same in flat form.
+pub fn form_of(given: &[Given]) -> Vec<u8> {
+    let len = |given: &Given| match &given.thing {
+        Thing::Number(_) => given.name.len() + 3 + 8,
+        Thing::Text(text) => given.name.len() + 3 + 9 + text.len(),
+    };
+    let mut form = Vec::with_capacity(given.iter().map(len).sum());
+    for given in given {
+        match &given.thing {
+            Thing::Number(number) => {
+                form::append_head(&mut form, given.name, form::LONGLONG, false);
+                form.extend_from_slice(&number.to_le_bytes());
+            }
+            Thing::Text(text) => {
+                form::append_head(&mut form, given.name, form::BLOB, false);
+                form::append_string(&mut form, text);
+            }
+        }
+    }
+    form
+}

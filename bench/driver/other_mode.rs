@@ -1,0 +1,41 @@
+//! Plain Rust in the mode without backslash escapes, which is compared and not timed.
+
+use plain::bind::{BindError, bind};
+use plain::room::{self, Report};
+use plain::search::Search;
+use plain::value::Params;
+use std::marker::PhantomData;
+
+/// The searches of one kind, in the mode without backslash escapes.
+pub struct WithoutBackslashes<S>(PhantomData<S>);
+
+impl<S: Search> Search for WithoutBackslashes<S> {
+    const NO_BACKSLASH_ESCAPE: bool = true;
+    fn token_start(text: &[u8], from: usize) -> usize {
+        S::token_start(text, from)
+    }
+    fn either(text: &[u8], from: usize, one: u8, other: u8) -> usize {
+        S::either(text, from, one, other)
+    }
+    fn byte(text: &[u8], from: usize, byte: u8) -> usize {
+        S::byte(text, from, byte)
+    }
+    fn comment_end(text: &[u8], from: usize) -> usize {
+        S::comment_end(text, from)
+    }
+    fn escaped(text: &[u8], from: usize) -> usize {
+        S::escaped(text, from)
+    }
+}
+
+pub fn names<S: Search>(query: &[u8], room: &mut [u8]) -> (i32, Report) {
+    room::names::<WithoutBackslashes<S>>(query, room)
+}
+
+pub fn bind_form<S: Search>(query: &[u8], form: &[u8], room: &mut [u8]) -> (i32, Report) {
+    room::bind_form(query, form, room, bind_params::<S>)
+}
+
+fn bind_params<S: Search>(query: &[u8], params: &Params) -> Result<Vec<u8>, BindError> {
+    bind::<WithoutBackslashes<S>>(query, params)
+}

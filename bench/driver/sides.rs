@@ -1,0 +1,172 @@
+//! The sides that are timed.
+
+use crate::archive;
+use crate::inputs::{self, Binding, form_of, params_of};
+use crate::memory;
+use crate::time::{Input, Side};
+use plain::room::{DONE, Report as Told};
+use plain::{BindForm, Kind, Names, TABLE, WIDE};
+use std::cell::RefCell;
+use std::hint::black_box;
+use std::process::ExitCode;
+use std::time::{Duration, Instant};
+
+/// The room that is lent to each call, longer than every answer.
+const ROOM: usize = 8 << 20;
+/// The archive and both kinds of plain Rust.
+const OWN_SIDES: usize = 3;
+
+/// The heads of a table of `names`: the call, and each side but the archive.
+pub const PARSING: [&str; 4] = ["`names`", "table", "16 bytes", "upstream"];
+/// The same of `bind`.
+pub const BINDING: [&str; 5] =
+    ["`bind`", "table", "16 bytes", "table, behind the calls", "16 bytes, behind the calls"];
+
+/// The archive and plain Rust, and upstream's parser where it is built in.
+const NAMES: &[Names] = &[
+    archive::names,
+    TABLE.names,
+    WIDE.names,
+    #[cfg(upstream)]
+    upstream_names,
+];
+
+/// Upstream's parser, and its answer written into the room as the others write theirs.
+#[cfg(upstream)]
+fn upstream_names(query: &[u8], room: &mut [u8]) -> (i32, Told) {
+    const MIXED: i32 = 8;
+    match upstream::ParsedNamedParams::parse(query) {
+        Ok(parsed) => plain::room::fill_names(parsed.query(), parsed.params(), room),
+        Err(_) => (MIXED, Told::default()),
+    }
+}
+
+/// The length of an answer; a refusal ends the run.
+fn answered((number, told): (i32, Told)) -> usize {
+    assert_eq!(number, DONE, "{told:?}");
+    told.len
+}
+
+/// Room for the answers of each side.
+pub fn rooms() -> Vec<RefCell<Vec<u8>>> {
+    NAMES.iter().map(|_| RefCell::new(vec![0; ROOM])).collect()
+}
+
+pub fn parsing<'a>(
+    queries: &'a [(&'static str, Vec<u8>)],
+    rooms: &'a [RefCell<Vec<u8>>],
+) -> Vec<Input<'a>> {
+    queries.iter().map(|(name, query)| parsing_input(name, query, rooms)).collect()
+}
+
+fn parsing_input<'a>(
+    name: &'static str,
+    query: &'a [u8],
+    rooms: &'a [RefCell<Vec<u8>>],
+) -> Input<'a> {
+    let side = |(call, room): (&'a Names, &'a RefCell<Vec<u8>>)| -> Side<'a> {
+        Box::new(move || answered(call(black_box(query), &mut room.borrow_mut())))
+    };
+    let sides: Vec<Side> = NAMES.iter().zip(rooms).map(side).collect();
+    let lens: Vec<usize> = sides.iter().map(|side| side()).collect();
+    let same = |side: usize| {
+        lens[side] == lens[0] && rooms[side].borrow()[..lens[side]] == rooms[0].borrow()[..lens[0]]
+    };
+    assert!((0..OWN_SIDES).all(same), "another answer to {name}");
+    // Upstream's grammar is not the same.
+    let last_differs = !same(sides.len() - 1);
+    Input { name, sides, last_differs }
+}
+
+/// Plain Rust: the making of the values, the call, and the text as a vector.
+fn plain(kind: Kind, binding: &Binding) -> Vec<u8> {
+    let params = params_of(black_box(&binding.given));
+    (kind.bind)(black_box(&binding.query), &params).expect("a query that can be bound")
+}
+
+/// The making of the flat form, the call, and the text in lent room.
+fn behind_calls(call: BindForm, binding: &Binding, room: &RefCell<Vec<u8>>) -> usize {
+    let form = form_of(black_box(&binding.given));
+    answered(call(black_box(&binding.query), &form, &mut room.borrow_mut()))
+}
+
+pub fn binding<'a>(bindings: &'a [Binding], rooms: &'a [RefCell<Vec<u8>>]) -> Vec<Input<'a>> {
+    bindings.iter().map(|binding| binding_input(binding, rooms)).collect()
+}
+
+fn binding_input<'a>(binding: &'a Binding, rooms: &'a [RefCell<Vec<u8>>]) -> Input<'a> {
+    let text = plain(TABLE, binding);
+    assert!(plain(WIDE, binding) == text);
+    for (call, room) in [archive::bind, TABLE.bind_form, WIDE.bind_form].into_iter().zip(rooms) {
+        let len = behind_calls(call, binding, room);
+        assert!(room.borrow()[..len] == text[..], "another text of {}", binding.name);
+    }
+    let sides: Vec<Side> = vec![
+        Box::new(|| behind_calls(archive::bind, binding, &rooms[0])),
+        Box::new(|| black_box(plain(TABLE, binding)).len()),
+        Box::new(|| black_box(plain(WIDE, binding)).len()),
+        Box::new(|| behind_calls(TABLE.bind_form, binding, &rooms[1])),
+        Box::new(|| behind_calls(WIDE.bind_form, binding, &rooms[2])),
+    ];
+    Input { name: binding.name, sides, last_differs: false }
+}
+
+/// Binds once; gives the text, or the room with the text at its front. The room is twice the query.
+pub fn bound_once(side: &str, binding: &Binding) -> Vec<u8> {
+    match side {
+        "archive" => {
+            let room = RefCell::new(vec![0; 2 * binding.query.len()]);
+            behind_calls(archive::bind, binding, &room);
+            room.into_inner()
+        }
+        "table" => plain(TABLE, binding),
+        "wide" => plain(WIDE, binding),
+        _ => panic!("the sides are archive, table and wide"),
+    }
+}
+
+/// Does one call over and over, for two seconds.
+pub fn repeat(side: &str, call: &str, input: &str) -> ExitCode {
+    memory::keep_freed();
+    let end = Instant::now() + Duration::from_secs(2);
+    let room = RefCell::new(vec![0; ROOM]);
+    let queries = inputs::queries();
+    let bindings = inputs::bindings();
+    let query = queries.iter().find(|query| query.0 == input);
+    let binding = bindings.iter().find(|binding| binding.name == input);
+    let side: Side = match (side, call, query, binding) {
+        (_, "names", Some((_, query)), _) => {
+            let names = match side {
+                "archive" => archive::names,
+                "table" => TABLE.names,
+                _ => WIDE.names,
+            };
+            Box::new(move || answered(names(black_box(query), &mut room.borrow_mut())))
+        }
+        ("archive", "bind", _, Some(binding)) => {
+            Box::new(move || behind_calls(archive::bind, binding, &room))
+        }
+        ("table", "bind", _, Some(binding)) => {
+            Box::new(move || black_box(plain(TABLE, binding)).len())
+        }
+        ("wide", "bind", _, Some(binding)) => {
+            Box::new(move || black_box(plain(WIDE, binding)).len())
+        }
+        _ => {
+            eprintln!("Sides: archive, table, wide");
+            eprintln!("Inputs of names: {}", list(queries.iter().map(|query| query.0)));
+            eprintln!("Inputs of bind: {}", list(bindings.iter().map(|binding| binding.name)));
+            return ExitCode::from(2);
+        }
+    };
+    while Instant::now() < end {
+        for _ in 0..8 {
+            black_box(side());
+        }
+    }
+    ExitCode::SUCCESS
+}
+
+fn list<'a>(names: impl Iterator<Item = &'a str>) -> String {
+    names.map(|name| format!("\"{name}\"")).collect::<Vec<_>>().join(", ")
+}

@@ -1,0 +1,168 @@
+//! Values, parameters and SQL literals, after docs/RULES.md.
+
+use crate::search::Search;
+use std::collections::HashMap;
+
+#[derive(Clone, Debug, PartialEq)]
+pub enum Value {
+    Null,
+    Bytes(Vec<u8>),
+    Int(i64),
+    UInt(u64),
+    /// The bits of a number.
+    Float(u32),
+    /// The bits of a number.
+    Double(u64),
+    /// Year, month, day, hour, minute, second, microseconds.
+    Date(u16, u8, u8, u8, u8, u8, u32),
+    /// Negative, days, hours, minutes, seconds, microseconds.
+    Time(bool, u32, u8, u8, u8, u32),
+}
+
+#[derive(Clone, Debug, PartialEq)]
+pub enum Params {
+    Empty,
+    Named(HashMap<Vec<u8>, Value>),
+    Positional(Vec<Value>),
+}
+
+impl Params {
+    /// Room for the literals of all values once.
+    pub fn literal_room(&self) -> usize {
+        match self {
+            Params::Empty => 0,
+            Params::Named(values) => values.values().map(literal_room).sum(),
+            Params::Positional(values) => values.iter().map(literal_room).sum(),
+        }
+    }
+}
+
+/// No literal of the value is longer.
+fn literal_room(value: &Value) -> usize {
+    match value {
+        Value::Bytes(bytes) => 2 * bytes.len() + 2,
+        _ => 40,
+    }
+}
+
+const fn escapes() -> [u8; 256] {
+    let mut table = [0; 256];
+    table[0] = b'0';
+    table[10] = b'n';
+    table[13] = b'r';
+    table[26] = b'Z';
+    table[b'\\' as usize] = b'\\';
+    table[b'\'' as usize] = b'\'';
+    table[b'"' as usize] = b'"';
+    table
+}
+
+/// The byte after the backslash.
+static ESCAPE: [u8; 256] = escapes();
+
+/// Appends the literal of a value; a float has none.
+#[inline(always)]
+pub fn append_literal<S: Search>(text: &mut Vec<u8>, value: &Value) -> bool {
+    match value {
+        Value::Null => text.extend_from_slice(b"NULL"),
+        Value::Bytes(bytes) => append_bytes::<S>(text, bytes),
+        Value::Int(number) => append_number(text, *number < 0, number.unsigned_abs()),
+        Value::UInt(number) => append_number(text, false, *number),
+        Value::Float(_) | Value::Double(_) => return false,
+        Value::Date(..) => append_date(text, value),
+        Value::Time(..) => append_time(text, value),
+    }
+    true
+}
+
+fn append_bytes<S: Search>(text: &mut Vec<u8>, bytes: &[u8]) {
+    if std::str::from_utf8(bytes).is_err() {
+        return append_hexadecimal(text, bytes);
+    }
+    text.push(b'\'');
+    let mut copied = 0;
+    loop {
+        let at = if S::NO_BACKSLASH_ESCAPE {
+            S::byte(bytes, copied, b'\'')
+        } else {
+            S::escaped(bytes, copied)
+        };
+        text.extend_from_slice(&bytes[copied..at]);
+        if at == bytes.len() {
+            break;
+        }
+        if S::NO_BACKSLASH_ESCAPE {
+            text.extend_from_slice(b"''");
+        } else {
+            text.extend_from_slice(&[b'\\', ESCAPE[bytes[at] as usize]]);
+        }
+        copied = at + 1;
+    }
+    text.push(b'\'');
+}
+
+fn append_hexadecimal(text: &mut Vec<u8>, bytes: &[u8]) {
+    const DIGITS: [u8; 16] = *b"0123456789ABCDEF";
+    text.extend_from_slice(b"0x");
+    for byte in bytes {
+        text.extend_from_slice(&[DIGITS[(byte >> 4) as usize], DIGITS[(byte & 15) as usize]]);
+    }
+}
+
+#[inline(always)]
+fn append_number(text: &mut Vec<u8>, negative: bool, mut number: u64) {
+    let mut digits = [0; 21];
+    let mut at = digits.len();
+    loop {
+        at -= 1;
+        digits[at] = b'0' + (number % 10) as u8;
+        number /= 10;
+        if number == 0 {
+            break;
+        }
+    }
+    if negative {
+        at -= 1;
+        digits[at] = b'-';
+    }
+    text.extend_from_slice(&digits[at..]);
+}
+
+/// A byte, and the number with zeros before it up to the width.
+fn append_field(text: &mut Vec<u8>, before: u8, number: u64, width: usize) {
+    text.push(before);
+    let digits = number.checked_ilog10().unwrap_or(0) as usize + 1;
+    text.extend(std::iter::repeat_n(b'0', width.saturating_sub(digits)));
+    append_number(text, false, number);
+}
+
+fn append_date(text: &mut Vec<u8>, date: &Value) {
+    let Value::Date(year, month, day, hour, minute, second, micros) = *date else { return };
+    append_field(text, b'\'', year.into(), 4);
+    append_field(text, b'-', month.into(), 2);
+    append_field(text, b'-', day.into(), 2);
+    if (hour, minute, second, micros) != (0, 0, 0, 0) {
+        append_field(text, b' ', hour.into(), 2);
+        append_field(text, b':', minute.into(), 2);
+        append_field(text, b':', second.into(), 2);
+    }
+    if micros != 0 {
+        append_field(text, b'.', micros.into(), 6);
+    }
+    text.push(b'\'');
+}
+
+fn append_time(text: &mut Vec<u8>, time: &Value) {
+    let Value::Time(negative, days, hours, minutes, seconds, micros) = *time else { return };
+    if negative {
+        text.push(b'\'');
+    }
+    let before = if negative { b'-' } else { b'\'' };
+    append_field(text, before, u64::from(days) * 24 + u64::from(hours), 3);
+    append_field(text, b':', minutes.into(), 2);
+    append_field(text, b':', seconds.into(), 2);
+    if micros != 0 {
+        append_field(text, b'.', micros.into(), 6);
+    }
+    text.push(b'\'');
+}
