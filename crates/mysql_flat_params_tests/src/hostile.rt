@@ -34,6 +34,45 @@ fn every_form_of_up_to_two_bytes(rt: HostRuntime) -> Result<(), Fail> {
     Ok(())
 }
 
+// The answer to a form of three bytes over the empty query: only a nameless parameter of a type
+// without a value, NULL, stands whole in it.
+fn outcome_of_three(first: u8, second: u8) -> Outcome {
+    match (first, second) {
+        (0, 6) => Outcome::MarkCount {
+            marks: 0,
+            values: 1,
+        },
+        (0, 17..=241 | 243 | 244) => Outcome::FormType {
+            place: 0,
+            position: 0,
+            number: second,
+        },
+        _ => refusal_of_two(first),
+    }
+}
+
+// Whatever the third byte is, the answer to a form that begins so is this, and the room is left.
+fn answers_all_thirds(rt: &impl Abort, alloc: Global, first: u8, second: u8, wanted: Outcome) {
+    let mut room = [b'#'; 8];
+    let mut all = true;
+    for third in 0..=255u8 {
+        let outcome = bind_into(alloc, b"", &[first, second, third], &mut room);
+        all = all && outcome == wanted;
+    }
+    assert!(rt; all, "of {first} {second} and a third byte");
+    assert_eq!(rt; &room, &[b'#'; 8], "of {first} {second} and a third byte");
+}
+
+#[test]
+fn every_form_of_three_bytes(rt: HostRuntime) {
+    for first in 0..=255u8 {
+        for second in 0..=255u8 {
+            let wanted = outcome_of_three(first, second);
+            answers_all_thirds(&rt, rt.alloc(), first, second, wanted);
+        }
+    }
+}
+
 // What becomes of the form of README's example, cut off at this byte. Its first parameter has 13
 // bytes.
 fn outcome_of_cut(at: usize) -> Outcome {
@@ -77,6 +116,14 @@ fn bound_text(alloc: Global, form: &[u8]) -> Option<Vec<u8>> {
     }
 }
 
+// Whether an answer was written.
+fn is_done(outcome: Outcome) -> bool {
+    match outcome {
+        Outcome::Done { .. } => true,
+        _ => false,
+    }
+}
+
 // Binding over the form doesn't run out of memory, writes the text where there is one, and leaves
 // all of the room but the text.
 fn writes_the_text_alone(rt: &impl Abort, alloc: Global, form: &[u8]) {
@@ -90,7 +137,10 @@ fn writes_the_text_alone(rt: &impl Abort, alloc: Global, form: &[u8]) {
             assert!(rt; room.starts_with(text.as_slice()), "of {form:?}");
             len
         }
-        None => 0,
+        None => {
+            assert!(rt; !is_done(outcome), "of {form:?}");
+            0
+        }
     };
     let kept = room.iter().skip(written).all(|byte| *byte == b'#');
     assert!(rt; kept, "of {form:?}");

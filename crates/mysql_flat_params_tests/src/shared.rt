@@ -46,8 +46,8 @@ impl Spelling {
     }
 }
 
-/// By each of the calls, the query bound to the form is the text, in a room of 64 bytes, of which the
-/// rest is unchanged.
+/// By each of the calls, the query bound to the form is the text, in a room of 64 bytes, of which
+/// the rest is unchanged.
 pub(crate) fn binds_by(
     rt: &impl Abort,
     alloc: Global,
