@@ -38,8 +38,8 @@ use std::alloc::Global;
 ///
 /// The flag is the server's mode, in which the query is read, as
 /// [`ParsedNamedParams`](mysql_named_params::named_params::ParsedNamedParams) reads it, and the
-/// literals are written: with `true`, as where `sql_mode` has `NO_BACKSLASH_ESCAPES`, a backslash is
-/// a byte like any other; with `false` it escapes the byte after it in a string.
+/// literals are written: with `true`, as where `sql_mode` has `NO_BACKSLASH_ESCAPES`, a backslash
+/// is a byte like any other; with `false` it escapes the byte after it in a string.
 // A query has one token list in each mode (`mysql_named_params::laws::one_token_list`), so the
 // clauses speak of the same `ts`.
 pub fn bind_text_in(
@@ -79,7 +79,8 @@ pub fn bind_text_in(
 
 /// The query with the literal of a value in the place of each name and mark, in the mode in which a
 /// backslash escapes: [`bind_text_in`] with `false`, which says what refuses it.
-// A query has one token list (`mysql_named_params::laws::one_token_list`), so the clauses speak of the same `ts`.
+// A query has one token list (`mysql_named_params::laws::one_token_list`), so the clauses speak of
+// the same `ts`.
 pub fn bind_text(alloc: Global, query: &[u8], params: Params) -> Result<Vec<u8>, BindError>
     ensures bound { OnTokens with_backslashes query.now (λ ts. IfOk result (λ text.
         IsBoundText with_backslashes ts (given params) text.items)) }

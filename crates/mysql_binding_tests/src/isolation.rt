@@ -3,8 +3,8 @@ use crate::shared::{Given, Plain, WITHOUT_BACKSLASHES, is_bound, is_bound_by};
 use std::alloc::{AllocError, Global};
 use std::test::Fail;
 
-/// With backslash escapes: what stands after the backslash for a byte between quotes, where it isn't
-/// the byte itself.
+/// With backslash escapes: what stands after the backslash for a byte between quotes, where it
+/// isn't the byte itself.
 const ESCAPES: &[(u8, u8)] = &[
     (0, b'0'),
     (b'\n', b'n'),

@@ -1,5 +1,5 @@
-//! The mode without backslash escapes: there a backslash is a byte like any other, in queries and in
-//! literals.
+//! The mode without backslash escapes: there a backslash is a byte like any other, in queries and
+//! in literals.
 use crate::shared::{
     Given, Plain, Refused, WITH_BACKSLASHES, WITHOUT_BACKSLASHES, is_bound_by, is_refused_by,
 };

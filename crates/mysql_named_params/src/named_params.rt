@@ -64,8 +64,8 @@ impl<'a> ParsedNamedParams<'a> {
     /// to `z` and `_`, and then as many of these and `0` to `9` as follow. A query that has a name
     /// and a `?` there is refused as `Mixed`.
     ///
-    /// The flag is the server's mode: with `true`, as where `sql_mode` has `NO_BACKSLASH_ESCAPES`, a
-    /// backslash is a byte like any other; with `false` it escapes the byte after it in a string.
+    /// The flag is the server's mode: with `true`, as where `sql_mode` has `NO_BACKSLASH_ESCAPES`,
+    /// a backslash is a byte like any other; with `false` it escapes the byte after it in a string.
     // A query has one token list in each mode (`laws::one_token_list`), so the clauses speak of the
     // same `ts`.
     pub fn parse_in(

@@ -122,8 +122,8 @@ fn names_of_queries(rt: HostRuntime) -> Result<(), Fail> {
     Ok(())
 }
 
-// The same in the mode without backslash escapes. There a string ends at the next quote of its kind,
-// also after a backslash.
+// The same in the mode without backslash escapes. There a string ends at the next quote of its
+// kind, also after a backslash.
 const QUERIES_WITHOUT_BACKSLASHES: &[(&str, &str)] = &[
     ("", ""),
     ("SELECT 'a\\':b", "SELECT 'a\\'?\nb"),
