@@ -53,7 +53,7 @@ pub fn bind_text_in(
     ensures refused { OnTokens no_backslash_escape query.now (λ ts. IfErr result
         (IsRefusal (first_cause ts (given params)))) }
 
-    // A query with a name and a mark is refused without taking memory.
+    // A query with a name and a mark is refused without allocating.
     ensures mixed { OnTokens no_backslash_escape query.now (λ ts.
         HasName ts × HasMark ts → IsErrOf result BindError.Mixed) }
 {
