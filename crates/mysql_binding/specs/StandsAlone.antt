@@ -11,7 +11,7 @@ is_one_of bytes b = list_any (λ c. c == b) bytes
 
 -- the bytes other than white space that may stand directly before a place
 abbrev pub signs_before : List ℕ
-signs_before = codes "(,=<>+*%&|^~"
+signs_before = codes "(,=<>+-*/%&|^~"
 
 -- the bytes other than white space that may stand directly after a place
 abbrev pub signs_after : List ℕ
