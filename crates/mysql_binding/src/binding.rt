@@ -33,7 +33,7 @@ use std::alloc::Global;
 /// The first of these causes refuses it: names and marks in one query; what [`Params::into_values`]
 /// refuses for its names; without names, marks that are not as many as the values; a place that
 /// doesn't stand alone; a float. A place stands alone where the byte before it is none, white space
-/// or one of `(,=<>+*%&|^~`, and the byte after it is none, white space or one of
+/// or one of `(,=<>+-*/%&|^~`, and the byte after it is none, white space or one of
 /// `),;=<>+-*/%&|^!`. The parameters are consumed, also where the call refuses.
 ///
 /// The flag is the server's mode, in which the query is read, as

@@ -14,10 +14,10 @@ fn may_stand_after(byte: u8) -> bool
     MAY_STAND_AFTER[byte as usize] == b'1'
 }
 
-// `1` for white space and each of `(,=<>+*%&|^~`, 32 bytes a line.
+// `1` for white space and each of `(,=<>+-*/%&|^~`, 32 bytes a line.
 static MAY_STAND_BEFORE: [u8; 256] = *b"\
     00000000011011000000000000000000\
-    10000110101110000000000000001110\
+    10000110101111010000000000001110\
     00000000000000000000000000000010\
     00000000000000000000000000001010\
     00000000000000000000000000000000\
