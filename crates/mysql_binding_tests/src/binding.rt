@@ -127,19 +127,14 @@ const REFUSALS: &[(&[u8], Given<'_>, Refused<'_>)] = &[
         Refused::NotAlone(0, 0),
     ),
     (
-        b"1-:a",
-        Given::Named(&[(b"a", Plain::Int(-3))]),
-        Refused::NotAlone(0, 2),
+        b"::b",
+        Given::Named(&[(b"b", Plain::Null)]),
+        Refused::NotAlone(0, 1),
     ),
     (
         b"? ?x",
         Given::Positional(&[Plain::Float, Plain::Null]),
         Refused::NotAlone(1, 2),
-    ),
-    (
-        b"8/:a",
-        Given::Named(&[(b"a", Plain::UInt(2))]),
-        Refused::NotAlone(0, 2),
     ),
     // The position is that in the query, and not in one with marks for its names.
     (

@@ -4,7 +4,7 @@ use std::alloc::Global;
 use std::process::Abort;
 use std::test::Fail;
 
-const BEFORE: &[u8] = b"\t\n\x0c\r (,=<>+*%&|^~";
+const BEFORE: &[u8] = b"\t\n\x0c\r (,=<>+-*/%&|^~";
 
 const AFTER: &[u8] = b"\t\n\x0c\r ),;=<>+-*/%&|^!";
 
@@ -52,6 +52,40 @@ fn each_byte_before_a_place(rt: HostRuntime) -> Result<(), Fail> {
             &[byte, b'N', b'U', b'L', b'L'],
             refused(byte, 1),
         )?;
+    }
+    Ok(())
+}
+
+/// The name `a` with this value.
+const MINUS_THREE: Given<'_> = Given::Named(&[(b"a", Plain::Int(-3))]);
+
+/// Queries with a place after `-` or `/`, what is given to them, and the text.
+const AFTER_A_SIGN: &[(&[u8], Given<'_>, &[u8])] = &[
+    (b"1-:a", MINUS_THREE, b"1--3"),
+    (b"--:a", MINUS_THREE, b"---3"),
+    (b"/:a", MINUS_THREE, b"/-3"),
+    (b"8/?", Given::Positional(&[Plain::UInt(2)]), b"8/2"),
+    (b"/* x */?", NULL, b"/* x */NULL"),
+    (b"*/?", NULL, b"*/NULL"),
+    (b"--?", NULL, b"--NULL"),
+    // Values that would go on with a comment, if their literals began with them.
+    (b"--?", Given::Positional(&[Plain::Text(b" x")]), b"--' x'"),
+    (b"-?", Given::Positional(&[Plain::Text(b"- x")]), b"-'- x'"),
+    (b"/?", Given::Positional(&[Plain::Text(b"* x")]), b"/'* x'"),
+    (
+        b"-?/?",
+        Given::Positional(&[Plain::Text(b"\xC3\x28"), Plain::Day(2019, 11, 27)]),
+        b"-0xC328/'2019-11-27'",
+    ),
+    // Their texts have no place.
+    (b"---3", Given::Nothing, b"---3"),
+    (b"--' x'", Given::Nothing, b"--' x'"),
+];
+
+#[test]
+fn places_after_a_sign(rt: HostRuntime) -> Result<(), Fail> {
+    for (query, given, wanted) in AFTER_A_SIGN {
+        is_bound_by(&rt, rt.alloc(), EITHER_MODE, *query, *given, *wanted)?;
     }
     Ok(())
 }
