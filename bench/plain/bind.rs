@@ -42,7 +42,7 @@ const fn neighbours(bytes: &[u8]) -> [bool; 256] {
     table
 }
 
-static MAY_STAND_BEFORE: [bool; 256] = neighbours(b"\t\n\x0c\r (,=<>+*%&|^~");
+static MAY_STAND_BEFORE: [bool; 256] = neighbours(b"\t\n\x0c\r (,=<>+-*/%&|^~");
 static MAY_STAND_AFTER: [bool; 256] = neighbours(b"\t\n\x0c\r ),;=<>+-*/%&|^!");
 
 #[inline(always)]
