@@ -19,6 +19,9 @@ const TEXTS: &[(&[u8], &[u8], &[u8])] = &[
     (b"?, ?", b"\0\x01\0\x05\0\x06\0", b"5, NULL"),
     // A name that the query has twice, and one that it doesn't have.
     (b":a, :a", b"\x01b\x06\0\x01a\x01\x80\xff", b"255, 255"),
+    // Places after `-` and `/`.
+    (b"--:a", b"\x01a\x01\0\xfd", b"---3"),
+    (b"/* x */?", b"\0\x06\0", b"/* x */NULL"),
     // A length in three bytes, and one in nine.
     (b":a", b"\xfc\x01\0a\x06\0", b"NULL"),
     (b"?", b"\xfe\0\0\0\0\0\0\0\0\x06\0", b"NULL"),
@@ -224,6 +227,14 @@ const CAUSES: &[(&[u8], &[u8], Outcome)] = &[
         Outcome::NotAlone {
             place: 1,
             position: 4,
+        },
+    ),
+    (
+        b"::b",
+        b"\x01b\x06\0",
+        Outcome::NotAlone {
+            place: 0,
+            position: 1,
         },
     ),
     (
