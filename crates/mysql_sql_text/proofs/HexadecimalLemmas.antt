@@ -7,7 +7,7 @@ use Rattle.std.proofs.lemmas.Bool.{eqb-true, cond-false, cond-true, and_from, ag
 use Rattle.std.proofs.lemmas.Bool.Decides.{nat_tests}
 use Rattle.std.proofs.lemmas.Str.Ascii.{IsAscii-cons, IsAscii-nil}
 use Rattle.mysql_sql_text.specs.LiteralText.{hexadecimal_digit, hexadecimal}
-use Rattle.mysql_sql_text.specs.ReadLiteral.{byte_string, is_hexadecimal_digit, hexadecimal_digit_value, read_pairs, if_any, read_negative, read_positive, read_string}
+use Rattle.mysql_sql_text.specs.ReadLiteral.{byte_string, is_hexadecimal_digit, hexadecimal_digit_value, read_pairs, if_any, read_negative, read_unsigned, read_string}
 use Rattle.mysql_sql_text.specs.LiteralEnd.{continues_literal, BeginsWithout, ReadsBefore}
 use Rattle.mysql_sql_text.specs.LiteralShape.{AreHexadecimalPairs}
 use Rattle.mysql_sql_text.proofs.ReadNumberLemmas.{begins_narrower}
@@ -50,7 +50,7 @@ pub hexadecimal_reads : (mode : Bool) (bytes : List ℕ) → ((i : ℕ) → get_
 hexadecimal_reads mode [] small nonempty rest h = absurd (omega arith)
 hexadecimal_reads mode (b ∷ bytes) small nonempty rest h =
     let text : List ℕ = codes "0x" ++ (hexadecimal (b ∷ bytes) ++ rest) in
-    ap (λ read. option_or (if_any read) (option_or (read_negative text) (option_or (read_positive text) (read_string mode text))))
+    ap (λ read. option_or (if_any read) (option_or (read_negative text) (option_or (read_unsigned text) (read_string mode text))))
     (read_pairs-hexadecimal (b ∷ bytes) rest small (begins_narrower continues_literal is_hexadecimal_digit not_hexadecimal_digit rest h))
 
 pub AreHexadecimalPairs-hexadecimal : (bytes : List ℕ) → ((i : ℕ) → get_or bytes i 0 < 256) → 0 < length bytes

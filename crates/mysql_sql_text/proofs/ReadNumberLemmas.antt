@@ -9,7 +9,7 @@ use Rattle.std.proofs.lemmas.Bool.{cond_both, cond-false, and_parts}
 use Rattle.std.proofs.lemmas.Bool.Decides.{nat_tests}
 use Rattle.std.proofs.lemmas.Fmt.{decimal_nonempty}
 use lib.Signed.{mag}
-use Rattle.mysql_sql_text.specs.ReadLiteral.{Content, number, if_any, read_pairs, read_natural, read_null, read_hexadecimal, read_negative, read_positive, read_string, read_literal}
+use Rattle.mysql_sql_text.specs.ReadLiteral.{Content, number, if_any, read_pairs, read_natural, read_null, read_hexadecimal, read_negative, read_unsigned, read_string, read_literal}
 use Rattle.mysql_sql_text.specs.LiteralEnd.{continues_literal, BeginsWithout, ReadsBefore}
 use Rattle.mysql_sql_text.proofs.ReadNaturalLemmas.{all_digits-decimal, read_natural-decimal}
 use Rattle.mysql_sql_text.proofs.ByteNames.{letter_x, capital_n, minus, digit_zero}
@@ -85,7 +85,7 @@ negative_reads : (mode : Bool) (n : ℕ) → suc n < 2 ^ 64
     → ReadsBefore continues_literal mode (minus ∷ decimal (suc n)) (number (negsuc n))
 negative_reads mode n h rest b =
     ap (λ read. option_or (option_map (λ r. (number (neg_ℤ (pos r.0)), r.1)) read)
-    (option_or (read_positive (minus ∷ (decimal (suc n) ++ rest))) (read_string mode (minus ∷ (decimal (suc n) ++ rest)))))
+    (option_or (read_unsigned (minus ∷ (decimal (suc n) ++ rest))) (read_string mode (minus ∷ (decimal (suc n) ++ rest)))))
     (read_natural-decimal (suc n) rest h (begins_without_digit rest b))
 
 pub signed_reads : (mode : Bool) (z : ℤ) → mag z < 2 ^ 63 → ReadsBefore continues_literal mode (signed_decimal z) (number z)

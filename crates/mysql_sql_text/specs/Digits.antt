@@ -1,4 +1,4 @@
--- The number that digits write, of any length.
+-- The number that digits write, of any length (MySQL Reference Manual, "Numeric Literals").
 use Rattle.std.specs.Prelude.{ℕ, nat_lt, ◌&&◌, if◌then◌else◌, List, length, Option, None, Some}
 use Rattle.std.specs.Char.{is_ascii_digit}
 use Rattle.std.specs.List.{list_all}

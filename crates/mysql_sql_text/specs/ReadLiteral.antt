@@ -106,8 +106,8 @@ read_hexadecimal text =
     option_and_then (λ digits. if_any (read_pairs digits)) (after (codes "0x") text)
 
 -- at least one digit
-abbrev pub read_positive : List ℕ → Option (Content × List ℕ)
-read_positive text = option_map (λ r. (number (pos r.0), r.1)) (read_natural text)
+abbrev pub read_unsigned : List ℕ → Option (Content × List ℕ)
+read_unsigned text = option_map (λ r. (number (pos r.0), r.1)) (read_natural text)
 
 -- `-` and at least one digit
 abbrev pub read_negative : List ℕ → Option (Content × List ℕ)
@@ -127,4 +127,4 @@ read_string mode text =
 abbrev pub read_literal : Bool → List ℕ → Option (Content × List ℕ)
 read_literal mode text =
     option_or (read_null text) (option_or (read_hexadecimal text)
-    (option_or (read_negative text) (option_or (read_positive text) (read_string mode text))))
+    (option_or (read_negative text) (option_or (read_unsigned text) (read_string mode text))))

@@ -72,7 +72,8 @@ fn two_digits_len(number: u8) -> usize
     decimal_len(number as u64).max(2)
 }
 
-/// Fills the slice with the literal of a date.
+/// Fills the slice with the literal of a date. The slice has exactly the bytes that `date_len`
+/// tells.
 pub fn fill_date(room: &mut [u8], date: DateFields)
     requires { length room.old ≡ length (date_literal date) }
     ensures { room.new ≡ date_literal date }
@@ -120,7 +121,8 @@ fn append_day(room: &mut [u8], at: usize, date: DateFields) -> usize
     append_padded(room, at, 2, date.day as u64)
 }
 
-/// Fills the slice with the literal of a time.
+/// Fills the slice with the literal of a time. The slice has exactly the bytes that `time_len`
+/// tells.
 pub fn fill_time(room: &mut [u8], time: TimeFields)
     requires { length room.old ≡ length (time_literal time) }
     ensures { room.new ≡ time_literal time }

@@ -13,7 +13,7 @@ use std::simd::prelude::*;
 // How many bytes are looked at at once.
 const LANES: usize = 16;
 
-/// ASCII's character "substitute".
+// ASCII's character "substitute".
 const CONTROL_Z: u8 = 26;
 
 // With backslash escapes: what stands after the backslash for each byte, or `.` if the byte stands

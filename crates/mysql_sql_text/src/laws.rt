@@ -50,15 +50,15 @@ pub fn escapes_read()
 
 /// How the reader of literals takes numbers, hexadecimal digits and `NULL`.
 pub fn numbers_read()
-    ensures hexadecimal { read_literal with_backslashes (codes "0xc3A9,")
+    ensures hexadecimal { (mode : Bool) → read_literal mode (codes "0xc3A9,")
         ≡ Some (byte_string (0xC3 ∷ 0xA9 ∷ []), codes ",") }
-    ensures odd_digits { read_literal with_backslashes (codes "0x0aF")
+    ensures odd_digits { (mode : Bool) → read_literal mode (codes "0x0aF")
         ≡ Some (byte_string (10 ∷ []), codes "F") }
-    ensures no_pair { read_literal with_backslashes (codes "0x9")
+    ensures no_pair { (mode : Bool) → read_literal mode (codes "0x9")
         ≡ Some (number (pos 0), codes "x9") }
-    ensures negative { read_literal with_backslashes (codes "-0120a")
+    ensures negative { (mode : Bool) → read_literal mode (codes "-0120a")
         ≡ Some (number (neg_ℤ (pos 120)), codes "a") }
-    ensures no_number { read_literal with_backslashes (codes "-x") ≡ None }
-    ensures null { read_literal with_backslashes (codes "NULLx") ≡ Some (null, codes "x") }
-    ensures no_null { read_literal with_backslashes (codes "null") ≡ None }
+    ensures no_number { (mode : Bool) → read_literal mode (codes "-x") ≡ None }
+    ensures null { (mode : Bool) → read_literal mode (codes "NULLx") ≡ Some (null, codes "x") }
+    ensures no_null { (mode : Bool) → read_literal mode (codes "null") ≡ None }
 {}

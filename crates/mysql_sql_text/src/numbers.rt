@@ -27,7 +27,7 @@ pub fn decimal_len(mut number: u64) -> usize
     len
 }
 
-/// Fills the slice with a signed number.
+/// Fills the slice with a signed number. The slice has exactly the bytes that `signed_len` tells.
 pub fn fill_signed(room: &mut [u8], number: i64)
     requires { length room.old ≡ length (signed_decimal number) }
     ensures { room.new ≡ signed_decimal number }
@@ -51,7 +51,7 @@ fn append_decimal(room: &mut [u8], at: usize, number: u64) -> usize
     end
 }
 
-/// Fills the slice with a number, after zeros.
+/// Fills the slice with a number, after zeros. The slice has room for all digits.
 pub fn fill_padded(room: &mut [u8], mut number: u64)
     requires { length (decimal number) ≤ length room.old }
     ensures { room.new ≡ padded (length room.old) number }

@@ -15,7 +15,8 @@ pub fn literal_len(bytes: &[u8], no_backslash_escape: bool) -> u128
     }
 }
 
-/// Fills the slice with the literal of bytes: a string if they are UTF-8, else hexadecimal.
+/// Fills the slice with the literal of bytes: a string if they are UTF-8, else hexadecimal. The
+/// slice has exactly the bytes that `literal_len` tells.
 pub fn fill_literal(room: &mut [u8], bytes: &[u8], no_backslash_escape: bool)
     requires { length room.old ≡ length (bytes_literal no_backslash_escape bytes.now) }
     ensures { room.new ≡ bytes_literal no_backslash_escape bytes.now }

@@ -9,7 +9,8 @@ use Rattle.mysql_value_core.specs.declared.value.Value.TheVariants.{Time}
 abbrev pub rounded_microseconds : Duration → ℕ
 rounded_microseconds duration = (as_nanos duration + 500) / 1000
 
--- the time of these seconds and microseconds: minutes and seconds below 60, hours below 24, days
+-- the time of these whole seconds and microseconds, carried into seconds and minutes below 60,
+-- hours below 24 and days; or the duration, where the days are no number of 32 bits
 abbrev pub carried_time : Duration → ℕ → ℕ → Meaning
 carried_time duration seconds microseconds =
     if nat_lt (seconds / 86400) (2 ^ 32)

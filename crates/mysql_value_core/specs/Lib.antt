@@ -1,7 +1,3 @@
-pub use Rattle.mysql_sql_text.specs.StringUnits
-pub use Rattle.mysql_sql_text.specs.LiteralShape
-pub use Rattle.mysql_sql_text.specs.ReadLiteral
-pub use Rattle.mysql_sql_text.specs.LiteralEnd
 pub mod Bytes
 pub mod Value
 pub mod ValueOrder

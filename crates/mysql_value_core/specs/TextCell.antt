@@ -23,12 +23,12 @@ read_cells (suc count) bytes =
     and_then_read (read_cell bytes) (λ cell rest.
     map_read (λ cells. cell ∷ cells) (read_cells count rest))
 
--- the value that is read is bytes, the one kind that allocates
+-- the value that is read is bytes: making one allocates, and no other kind does
 abbrev pub ReadsBytes : Reading Value → Type 0
 ReadsBytes (Ok read) = IsBytes read.0
 ReadsBytes (Err refusal) = ⊥
 
--- at least one cell is read, for which a list allocates
+-- the first of at least one cell can be read: only then is there anything to allocate
 abbrev pub ReadsACell : ℕ → List ℕ → Type 0
 ReadsACell zero bytes = ⊥
 ReadsACell (suc count) bytes = IsOk (read_cell bytes)

@@ -5,7 +5,7 @@ use Rattle.mysql_value_core.specs.Bytes.{AreBytes}
 use Rattle.mysql_value_core.specs.declared.value.Value.{Value}
 use Rattle.mysql_value_core.specs.declared.value.Value.TheVariants.{NULL, Bytes, Int, UInt, Float, Double, Date, Time}
 
--- the value is bytes, the one kind that allocates
+-- the value is bytes: making one allocates, and no other kind does
 abbrev pub IsBytes : Value → Type 0
 IsBytes (Bytes bytes) = ⊤
 IsBytes _ = ⊥

@@ -12,7 +12,7 @@ use Rattle.mysql_value_core.specs.declared.value.convert.ToValueError.TheVariant
 abbrev pub Meaning : Type 0
 Meaning = Result Value Duration
 
--- the value is bytes, the one kind that allocates
+-- the value is bytes: making one allocates, and no other kind does
 abbrev pub MeansBytes : Meaning → Type 0
 MeansBytes (Ok value) = IsBytes value
 MeansBytes (Err duration) = ⊥

@@ -1,4 +1,5 @@
-//! Laws of the types of this crate. No program needs to call them.
+//! Laws of the types of this crate. A program calls them for what they ensure alone, where a proof
+//! needs it.
 ghost use Rattle.std.specs.Prelude.{◌≡◌, ◌↔◌, IsTrue, None, Some};
 ghost use Rattle.std.specs.Cmp.{IsTotalOrder};
 ghost use Rattle.std.specs.Cmp.Lexicographic.{slice_cmp};
@@ -19,7 +20,6 @@ use crate::value::{
 pub use literals::{
     as_sql_error_equality, floats_have_no_literal, literal_reads_back, literal_shape,
 };
-pub use mysql_sql_text::laws::{escapes_read, numbers_read};
 use mysql_wire_part::MyDeserialize;
 use std::alloc::Global;
 use std::cmp::Ordering;
@@ -27,6 +27,7 @@ use std::cmp::Ordering;
 /// Bytes are equal where the lists are.
 pub fn bytes_equality(a: &Bytes, b: &Bytes) -> bool
     ensures same { IsTrue result ↔ (a.now ≡ b.now) }
+    ensures member { result ≡ ⟦<Bytes as PartialEq>⟧.eq a.now b.now }
 {
     a == b
 }
@@ -34,6 +35,7 @@ pub fn bytes_equality(a: &Bytes, b: &Bytes) -> bool
 /// Bytes are ordered as lists are: by the first byte that differs, a beginning before the whole.
 pub fn bytes_order(a: &Bytes, b: &Bytes) -> Ordering
     ensures order { result ≡ slice_cmp nat_cmp a.now b.now }
+    ensures member { result ≡ ⟦<Bytes as Ord>⟧.cmp a.now b.now }
 {
     a.cmp(b)
 }
@@ -41,6 +43,7 @@ pub fn bytes_order(a: &Bytes, b: &Bytes) -> Ordering
 /// Values are equal where variant and fields are.
 pub fn value_equality(a: &Value, b: &Value) -> bool
     ensures same { IsTrue result ↔ (a.now ≡ b.now) }
+    ensures member { result ≡ ⟦<Value as PartialEq>⟧.eq a.now b.now }
 {
     a == b
 }
@@ -48,6 +51,7 @@ pub fn value_equality(a: &Value, b: &Value) -> bool
 /// Values are ordered by variant, then by the fields.
 pub fn value_order(a: &Value, b: &Value) -> Ordering
     ensures order { result ≡ value_cmp a.now b.now }
+    ensures member { result ≡ ⟦<Value as Ord>⟧.cmp a.now b.now }
 {
     a.cmp(b)
 }
@@ -55,6 +59,7 @@ pub fn value_order(a: &Value, b: &Value) -> Ordering
 /// Any two values have an order, and it is that of `cmp`.
 pub fn value_partial_order(a: &Value, b: &Value) -> Option<Ordering>
     ensures order { result ≡ Some (value_cmp a.now b.now) }
+    ensures member { result ≡ ⟦<Value as PartialOrd>⟧.partial_cmp a.now b.now }
 {
     a.partial_cmp(b)
 }
@@ -62,6 +67,7 @@ pub fn value_partial_order(a: &Value, b: &Value) -> Option<Ordering>
 /// Refused conversions are equal where the values are that they hold.
 pub fn from_value_error_equality(a: &FromValueError, b: &FromValueError) -> bool
     ensures same { IsTrue result ↔ (a.now ≡ b.now) }
+    ensures member { result ≡ ⟦<FromValueError as PartialEq>⟧.eq a.now b.now }
 {
     a == b
 }
@@ -69,6 +75,7 @@ pub fn from_value_error_equality(a: &FromValueError, b: &FromValueError) -> bool
 /// Errors of `ToValue` are equal where variant and fields are.
 pub fn to_value_error_equality(a: &ToValueError, b: &ToValueError) -> bool
     ensures same { IsTrue result ↔ (a.now ≡ b.now) }
+    ensures member { result ≡ ⟦<ToValueError as PartialEq>⟧.eq a.now b.now }
 {
     a == b
 }
@@ -87,7 +94,8 @@ pub fn object_value(alloc: Global, object: &dyn ToValue) -> Result<Value, ToValu
     object.to_value(alloc)
 }
 
-/// Neither form of a value has the same number of bytes for all values.
+/// Neither form of a value has the same number of bytes for all values. It returns the two
+/// constants; that these are meant is read off its body.
 pub fn sizes_of_readings() -> (Option<usize>, Option<usize>)
     ensures text { result.0 ≡ None }
     ensures binary { result.1 ≡ None }
@@ -101,6 +109,7 @@ pub fn sizes_of_readings() -> (Option<usize>, Option<usize>)
 /// Any two `ServerSide` are equal.
 pub fn server_side_equality(a: &ServerSide, b: &ServerSide) -> bool
     ensures same { IsTrue result ↔ (a.now ≡ b.now) }
+    ensures member { result ≡ ⟦<ServerSide as PartialEq>⟧.eq a.now b.now }
 {
     a == b
 }

@@ -16,7 +16,7 @@ use Rattle.mysql_sql_text.specs.ReadTimeText.{time_of_text}
 use Rattle.mysql_sql_text.proofs.TimeTextLemmas.{time_texts_are_read}
 use Rattle.mysql_values.specs.Intermediate.{committed}
 use Rattle.mysql_values.specs.Rollback.{ConvertsAndRollsBack}
-use Rattle.mysql_values.specs.DurationConversion.{ConvertsTimeTexts, seen_intermediate, duration_conversion, nanoseconds_of_text, positive_nanoseconds}
+use Rattle.mysql_values.specs.DurationConversion.{ConvertsTimeTexts, seen_intermediate, duration_conversion, nanoseconds_of_text, nanoseconds_unless_negative}
 
 -- the intermediate has the value beside it
 abbrev Keeps : Value → ParseIrOpt ℕ → Type 0
@@ -55,7 +55,7 @@ duration-ConvertsAndRollsBack value (Ok (Parsed x kept)) t =
 -- the time text that converts to a duration, by what the text reads as
 time_text-converted : (text : List ℕ) (ir : ParseIrOpt Duration) (time : Option (Bool × ℕ))
     → time_of_text text ≡ time
-    → option_map (λ n. Parsed n (Bytes text)) (option_and_then positive_nanoseconds time)
+    → option_map (λ n. Parsed n (Bytes text)) (option_and_then nanoseconds_unless_negative time)
     ≡ Some (seen_intermediate as_nanos ir)
     → (microseconds : ℕ) × IsTimeText text false microseconds
     × (as_nanos (committed ir) ≡ microseconds * 1000)
@@ -72,7 +72,7 @@ pub duration-ConvertsTimeTexts : (value : Value) (r : Result (ParseIrOpt Duratio
 duration-ConvertsTimeTexts (Bytes text) (Ok ir) t =
     time_text-converted text ir (time_of_text text) refl t
 duration-ConvertsTimeTexts (Bytes text) (Err e) t = λ us is.
-    let converted = ap (λ time. option_map (λ n. Parsed n (Bytes text)) (option_and_then positive_nanoseconds time))
+    let converted = ap (λ time. option_map (λ n. Parsed n (Bytes text)) (option_and_then nanoseconds_unless_negative time))
     ((time_texts_are_read text false us).1 is) in
     let none = sym t.0 ∙ converted in
     cc

@@ -1,4 +1,5 @@
--- Decimal texts: an optional sign and one or more ASCII digits, of any length.
+-- Decimal texts: an optional sign and one or more ASCII digits, of any length (MySQL Reference
+-- Manual, "Numeric Literals").
 use Rattle.std.specs.Prelude.{ℕ, ◌==◌, if◌then◌else◌, Bool, true, false, ℤ, pos, neg_ℤ, List, [], ◌∷◌, Option, None}
 use Rattle.std.specs.Option.{option_map}
 use Rattle.std.specs.Str.{byte}

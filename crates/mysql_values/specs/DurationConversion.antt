@@ -20,13 +20,13 @@ seen_intermediate seen (Ready x) = Ready (seen x)
 seen_intermediate seen (Parsed x value) = Parsed (seen x) value
 
 -- the nanoseconds of a time that is not negative, given in microseconds
-abbrev pub positive_nanoseconds : Bool × ℕ → Option ℕ
-positive_nanoseconds (true, microseconds) = None
-positive_nanoseconds (false, microseconds) = Some (microseconds * 1000)
+abbrev pub nanoseconds_unless_negative : Bool × ℕ → Option ℕ
+nanoseconds_unless_negative (true, microseconds) = None
+nanoseconds_unless_negative (false, microseconds) = Some (microseconds * 1000)
 
 -- the nanoseconds of a time text without `-`
 abbrev pub nanoseconds_of_text : List ℕ → Option ℕ
-nanoseconds_of_text text = option_and_then positive_nanoseconds (time_of_text text)
+nanoseconds_of_text text = option_and_then nanoseconds_unless_negative (time_of_text text)
 
 -- the conversion of a value: of a time that is not negative, and of a time text without `-`
 abbrev pub duration_conversion : Value → Option (ParseIrOpt ℕ)

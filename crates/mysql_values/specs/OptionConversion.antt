@@ -35,7 +35,7 @@ abbrev pub OptionTakesMemory : {T Ir : Type 0} → (Ir → Type 0) → OptionIr2
 OptionTakesMemory takes_memory option_ir.None = ⊥
 OptionTakesMemory takes_memory (option_ir.Some ir) = takes_memory ir
 
--- both are none, or both are things' own, and equal
+-- both are none, or both hold an intermediate of the thing, and these are equal
 abbrev pub AreEqualOptions : {T Ir : Type 0} → (Ir → Ir → Bool) → OptionIr2 T Ir → OptionIr2 T Ir
     → Type 0
 AreEqualOptions eq option_ir.None option_ir.None = ⊤

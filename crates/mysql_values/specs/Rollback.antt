@@ -31,7 +31,7 @@ pub record ConvertsAndRollsBack {T Seen : Type 0} (seen : ParseIrOpt T → Parse
       IfOk result (λ ir. RollsBack conversion committed (rollback_value value_of ir) (seen ir))
   -- it is rolled back to NULL only where it was made of NULL
   pub null : IfOk result (λ ir. NullFromNull (rollback_value value_of ir) value)
-  -- rolling it back takes no memory
+  -- rolling it back allocates nothing
   pub no_memory : IfOk result (λ ir. ¬ (RollbackTakesMemory value_of ir))
 
 -- the value of a thing converts back to the thing, and isn't NULL

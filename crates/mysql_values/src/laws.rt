@@ -1,4 +1,5 @@
-//! Laws of the types of this crate and of the one below. No program needs to call them.
+//! Laws of the types of this crate and of the one below. A program calls them for what they ensure
+//! alone, where a proof needs it.
 ghost use Rattle.std.specs.Prelude.{◌≡◌, ◌↔◌, IsTrue, Some, string_bytes};
 ghost use Rattle.mysql_value_core.specs.FromValue.{array_of, bytes_of, text_of};
 ghost use Rattle.mysql_value_core.specs.ValueOrder.{value_cmp};
@@ -27,6 +28,7 @@ use std::time::Duration;
 /// Intermediates of values are equal where the values are.
 pub fn value_ir_equality(a: &ValueIr, b: &ValueIr) -> bool
     ensures same { IsTrue result ↔ (a.now ≡ b.now) }
+    ensures member { result ≡ ⟦<ValueIr as PartialEq>⟧.eq a.now b.now }
 {
     a == b
 }
@@ -34,6 +36,7 @@ pub fn value_ir_equality(a: &ValueIr, b: &ValueIr) -> bool
 /// Intermediates of values are ordered as the values.
 pub fn value_ir_order(a: &ValueIr, b: &ValueIr) -> Option<Ordering>
     ensures order { result ≡ Some (value_cmp a.now.0 b.now.0) }
+    ensures member { result ≡ ⟦<ValueIr as PartialOrd>⟧.partial_cmp a.now b.now }
 {
     a.partial_cmp(b)
 }
@@ -41,6 +44,7 @@ pub fn value_ir_order(a: &ValueIr, b: &ValueIr) -> Option<Ordering>
 /// Converted things with their values are equal where thing and value are.
 pub fn parse_ir_equality<T: PartialEq>(a: &ParseIr<T>, b: &ParseIr<T>) -> bool
     ensures same { IsTrue result ↔ (IsTrue (T.eq a.now.0 b.now.0) × (a.now.1 ≡ b.now.1)) }
+    ensures member { result ≡ ⟦<ParseIr<T> as PartialEq>⟧.eq a.now b.now }
 {
     a == b
 }
@@ -49,6 +53,7 @@ pub fn parse_ir_equality<T: PartialEq>(a: &ParseIr<T>, b: &ParseIr<T>) -> bool
 /// value are.
 pub fn parse_ir_opt_equality<T: PartialEq>(a: &ParseIrOpt<T>, b: &ParseIrOpt<T>) -> bool
     ensures same { IsTrue result ↔ AreEqualParsed T.eq a.now b.now }
+    ensures member { result ≡ ⟦<ParseIrOpt<T> as PartialEq>⟧.eq a.now b.now }
 {
     a == b
 }
@@ -58,6 +63,7 @@ pub fn option_ir_equality<T: FromValue>(a: &OptionIr2<T>, b: &OptionIr2<T>) -> b
 where
     T::Intermediate: PartialEq,
     ensures same { IsTrue result ↔ AreEqualOptions T.Intermediate.eq a.now b.now }
+    ensures member { result ≡ ⟦<OptionIr2<T> as PartialEq>⟧.eq a.now b.now }
 {
     a == b
 }
@@ -68,6 +74,7 @@ pub fn whole_number_converts_back<T: WholeNumber + Drop>(number: &T)
         (whole_conversion T.is_signed T.width T.of_number) committed
         (T.value_of number.now) number.now }
 {
+    // A proof reads here that the type holds the number of its parts.
     let (negative, magnitude) = number.to_parts();
     let _same = T::from_parts(negative, magnitude);
 }
@@ -77,6 +84,7 @@ pub fn truth_converts_back(truth: &bool)
     ensures converts_back { ConvertsBack truth_conversion committed
         (⟦<bool as ToValue>⟧.value_of truth.now) truth.now }
 {
+    // A proof reads here that it is `true` or `false`.
     let _truth = *truth;
 }
 
@@ -85,6 +93,7 @@ pub fn duration_converts_back(duration: &Duration)
     ensures rounded { ConvertsBackRounded duration.now
         (⟦<Duration as ToValue>⟧.value_of duration.now) }
 {
+    // A proof reads here which fields a duration has.
     let _duration = *duration;
 }
 
@@ -93,6 +102,7 @@ pub fn text_converts_back(text: &String)
     ensures converts_back { ConvertsBack text_of (λ seen. seen)
         (⟦<String as ToValue>⟧.value_of text.now) (string_bytes text.now) }
 {
+    // A proof reads here that the text is UTF-8.
     let _text = text.as_str();
 }
 

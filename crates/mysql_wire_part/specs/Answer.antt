@@ -8,8 +8,8 @@ abbrev pub IsExpectedRefusal : {Seen Refusal : Type 0} → Result Seen Refusal �
 IsExpectedRefusal expected takes_memory (Some refusal) = expected ≡ Err refusal
 IsExpectedRefusal expected takes_memory None = takes_memory
 
--- The result is what is expected: what contracts see of its value, or the refusal that its error is.
--- Or it is out of memory, only where the call allocates: the one error that is no refusal.
+-- The result is what is expected: what contracts see of its value, or the refusal that its error
+-- is. Or it is out of memory, only where the call allocates: the one error that is no refusal.
 abbrev pub IsAnswer : {A Seen E Refusal : Type 0} → (A → Seen) → (E → Option Refusal)
     → Result Seen Refusal → Type 0 → Result A E → Type 0
 IsAnswer seen refusal_of expected takes_memory (Ok value) = expected ≡ Ok (seen value)

@@ -9,6 +9,7 @@ use crate::parse_buf::ParseBuf;
 /// Equality of buffers is of the bytes that are left.
 pub fn parse_buf_equality(a: &ParseBuf<'_>, b: &ParseBuf<'_>) -> bool
     ensures same { IsTrue result ↔ (left a.now ≡ left b.now) }
+    ensures member { result ≡ ⟦<ParseBuf<'static> as PartialEq>⟧.eq a.now b.now }
 {
     a == b
 }
@@ -16,6 +17,7 @@ pub fn parse_buf_equality(a: &ParseBuf<'_>, b: &ParseBuf<'_>) -> bool
 /// Equality of column types is of variant.
 pub fn column_type_equality(a: &ColumnType, b: &ColumnType) -> bool
     ensures same { IsTrue result ↔ (a.now ≡ b.now) }
+    ensures member { result ≡ ⟦<ColumnType as PartialEq>⟧.eq a.now b.now }
 {
     a == b
 }
@@ -23,6 +25,7 @@ pub fn column_type_equality(a: &ColumnType, b: &ColumnType) -> bool
 /// Equality of column flags is of all bits.
 pub fn column_flags_equality(a: &ColumnFlags, b: &ColumnFlags) -> bool
     ensures same { IsTrue result ↔ (a.now ≡ b.now) }
+    ensures member { result ≡ ⟦<ColumnFlags as PartialEq>⟧.eq a.now b.now }
 {
     a == b
 }
@@ -30,6 +33,7 @@ pub fn column_flags_equality(a: &ColumnFlags, b: &ColumnFlags) -> bool
 /// Equality of errors is of variant and fields.
 pub fn wire_error_equality(a: &WireError, b: &WireError) -> bool
     ensures same { IsTrue result ↔ (a.now ≡ b.now) }
+    ensures member { result ≡ ⟦<WireError as PartialEq>⟧.eq a.now b.now }
 {
     a == b
 }

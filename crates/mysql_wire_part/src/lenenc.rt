@@ -26,7 +26,8 @@ const LEAD_OF_THREE: u8 = 0xFD;
 
 const LEAD_OF_EIGHT: u8 = 0xFE;
 
-/// The number of bytes that these bytes take as a length-encoded string.
+/// The number of bytes that these bytes take as a length-encoded string (MySQL client/server
+/// protocol, "Protocol::LengthEncodedString").
 pub fn lenenc_str_len(bytes: &[u8]) -> u64
     ensures count { result ≡ length (lenenc_spelling bytes.now) }
 {
@@ -39,7 +40,8 @@ pub fn lenenc_str_len(bytes: &[u8]) -> u64
     }
 }
 
-/// Appends the bytes as a length-encoded string, whole or not at all.
+/// Appends the bytes as a length-encoded string (MySQL client/server protocol,
+/// "Protocol::LengthEncodedString"). On out of memory the vector is as before.
 #[tactic(auto, using(crate::proofs::LenencLemmas::lenenc_reads_back))]
 pub fn put_lenenc_str(buf: &mut Vec<u8>, bytes: &[u8]) -> Result<(), AllocError>
     ensures appended { OnOk result (buf.new.items ≡ buf.old.items ++ lenenc_spelling bytes.now) }
@@ -50,6 +52,17 @@ pub fn put_lenenc_str(buf: &mut Vec<u8>, bytes: &[u8]) -> Result<(), AllocError>
     buf.try_reserve(count + bytes.len())?;
     buf.extend_from_slice(&head[..count])?;
     buf.extend_from_slice(bytes)
+}
+
+/// Fills the slice with the bytes as a length-encoded string. The slice has to have exactly
+/// [`lenenc_str_len`] bytes. Nothing is allocated, and nothing refuses.
+pub fn fill_lenenc_str(slice: &mut [u8], bytes: &[u8])
+    requires room { length slice.old ≡ length (lenenc_spelling bytes.now) }
+    ensures filled { slice.new ≡ lenenc_spelling bytes.now }
+{
+    let (head, count) = length_head(bytes.len() as u64);
+    slice[..count].copy_from_slice(&head[..count]);
+    slice[count..].copy_from_slice(bytes);
 }
 
 // The spelling of a length, at the front of the array, and the number of its bytes.

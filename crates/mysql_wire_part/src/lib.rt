@@ -12,7 +12,7 @@ mod parse_buf;
 pub use crate::codec::{MyDeserialize, MySerialize};
 pub use crate::column::{ColumnFlags, ColumnType};
 pub use crate::error::WireError;
-pub use crate::lenenc::{lenenc_str_len, put_lenenc_str};
+pub use crate::lenenc::{fill_lenenc_str, lenenc_str_len, put_lenenc_str};
 pub use crate::parse_buf::ParseBuf;
 
 // What `ColumnFlags` can do, as `contains`.

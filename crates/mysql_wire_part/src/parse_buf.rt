@@ -11,6 +11,9 @@ use crate::lenenc::length_at;
 use byteorder::{ByteOrder, LittleEndian};
 
 /// The bytes that are left of a buffer. Each call that eats takes what it returns off the front.
+/// It returns `None` where too few bytes are left; after that, and after an error, the buffer is as
+/// before. Numbers and strings stand as in "Protocol::FixedLengthInteger" and
+/// "Protocol::LengthEncodedString" of the MySQL client/server protocol.
 #[derive(Clone, Copy, Debug, PartialEq, Eq)]
 pub struct ParseBuf<'a>(pub &'a [u8]);
 
@@ -107,9 +110,10 @@ impl<'a> ParseBuf<'a> {
         Some(ParseBuf(front))
     }
 
-    /// The next length-encoded string, as a slice of the input.
+    /// The next length-encoded string, as a slice of the input. `UnexpectedEof` where the length or
+    /// the string is cut, `BadLengthLead` where FB or FF stands for a length.
     pub fn eat_lenenc_str(&mut self) -> Result<&'a [u8], WireError>
-        // It takes no memory, so it never runs out.
+        // It allocates nothing, so it is never out of memory.
         ensures read { IsAnswer (λ text. (text.now, left self.new)) read_refusal
             (read_lenenc (left self.old)) ⊥ result }
         ensures unchanged { OnErr result (left self.new ≡ left self.old) }

@@ -33,6 +33,7 @@ pub fn floats_have_no_literal()
 /// Refusals of `as_sql` are equal where the variants are.
 pub fn as_sql_error_equality(a: &AsSqlError, b: &AsSqlError) -> bool
     ensures same { IsTrue result ↔ (a.now ≡ b.now) }
+    ensures member { result ≡ ⟦<AsSqlError as PartialEq>⟧.eq a.now b.now }
 {
     a == b
 }

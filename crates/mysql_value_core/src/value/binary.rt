@@ -1,4 +1,4 @@
-//! Values of rows in binary form.
+//! Values in binary form: of rows and of a statement's parameters.
 ghost use Rattle.std.specs.Prelude.{◌≡◌, ◌≤◌, ◌++◌, length, IsOk, OnOk, OnErr};
 ghost use Rattle.mysql_wire_part.specs.Reading.{read_number, map_read};
 ghost use Rattle.mysql_wire_part.specs.Answer.{IsAnswer};
@@ -54,7 +54,6 @@ impl MySerialize for Value {
         ensures appended { OnOk result (buf.new.items ≡ buf.old.items ++ binary_form self.now) }
         ensures unchanged { OnErr result (buf.new.items ≡ buf.old.items) }
         ensures no_memory { self.now ≡ Value.NULL → IsOk result }
-
         ensures reads_back { ReadsBackInBinary self.now }
     {
         self.fields_in_range();

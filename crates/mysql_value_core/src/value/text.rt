@@ -44,7 +44,7 @@ pub fn read_text_cells(
     buf: &mut ParseBuf<'_>,
     count: usize,
 ) -> Result<Vec<Value>, WireError>
-    // Memory may be refused first, but not before a cell was read.
+    // It may be out of memory once the first cell is there, also where a later one is refused.
     ensures read { IsAnswer (λ cells. (cells.items, left buf.new)) read_refusal
         (read_cells count (left buf.old)) (ReadsACell count (left buf.old)) result }
     ensures unchanged { OnErr result (left buf.new ≡ left buf.old) }

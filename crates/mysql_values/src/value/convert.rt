@@ -35,7 +35,7 @@ pub trait IntoValue {
     ghost takes_memory: { Self → Type 0 };
 
     /// The value that it is rolled back to. Of what `get_intermediate` gave, that value converts to
-    /// the same thing.
+    /// the same thing. It may be out of memory only where the type's `takes_memory` says so.
     fn into_value(self, alloc: Global) -> Result<Value, ToValueError>
         ensures { IsAnswer (λ value. value) too_long_duration (undo self)
             (takes_memory self) result };
@@ -76,7 +76,8 @@ pub trait FromValue: Sized {
             RollsBack conversion commit (Self.Intermediate.undo ir) (seen_ir ir)) }
         ensures null { IfOk result (λ ir. NullFromNull (Self.Intermediate.undo ir) v) };
 
-    /// The thing that a value converts to.
+    /// The thing that a value converts to. It can be called only where the value is proved to
+    /// convert; `from_value_opt` is the test.
     fn from_value(v: Value) -> Self
         requires { IsSome (conversion v) }
         ensures { option_map commit (conversion v) ≡ Some (seen result) }
@@ -96,7 +97,8 @@ pub trait FromValue: Sized {
     }
 }
 
-/// The thing that a value converts to.
+/// The thing that a value converts to. It can be called only where the value is proved to convert;
+/// `from_value_opt` is the test.
 pub fn from_value<T: FromValue>(v: Value) -> T
     requires { IsSome (T.conversion v) }
     ensures { option_map T.commit (T.conversion v) ≡ Some (T.seen result) }

@@ -5,4 +5,5 @@ use Rattle.mysql_value_core.proofs.laws.value_partial_order.Goals as goal
 pub returns : goal.returns
 returns c = record {
   order = c.partial_cmp.ensures ∙ matches_partial_cmp-law c.args.a.now c.args.b.now ∙ ap Some (search rules);
+  member = c.partial_cmp.ensures;
 }

@@ -1,13 +1,12 @@
 //! Values of the types that have one without allocating.
 ghost use Rattle.std.specs.Prelude.{◌≡◌, Ok, string_bytes};
-ghost use Rattle.mysql_value_core.specs.ValueOf.{bool_value};
-ghost use Rattle.mysql_value_core.specs.declared.value.Value.TheVariants.{Bytes as BytesOf, Int, UInt};
+ghost use Rattle.mysql_value_core.specs.ValueTable.{value_of_bool, value_of_byte_vec, value_of_i16, value_of_i32, value_of_i64, value_of_i8, value_of_isize, value_of_string, value_of_u16, value_of_u32, value_of_u64, value_of_u8, value_of_usize};
 
 use crate::bytes::Bytes;
 use crate::value::Value;
 
 impl From<i8> for Value {
-    ghost from_gives = { λ number value. value ≡ Int number };
+    ghost from_gives = { λ number value. Ok value ≡ value_of_i8 number };
 
     fn from(number: i8) -> Value {
         Value::Int(i64::from(number))
@@ -15,7 +14,7 @@ impl From<i8> for Value {
 }
 
 impl From<i16> for Value {
-    ghost from_gives = { λ number value. value ≡ Int number };
+    ghost from_gives = { λ number value. Ok value ≡ value_of_i16 number };
 
     fn from(number: i16) -> Value {
         Value::Int(i64::from(number))
@@ -23,7 +22,7 @@ impl From<i16> for Value {
 }
 
 impl From<i32> for Value {
-    ghost from_gives = { λ number value. value ≡ Int number };
+    ghost from_gives = { λ number value. Ok value ≡ value_of_i32 number };
 
     fn from(number: i32) -> Value {
         Value::Int(i64::from(number))
@@ -31,7 +30,7 @@ impl From<i32> for Value {
 }
 
 impl From<i64> for Value {
-    ghost from_gives = { λ number value. value ≡ Int number };
+    ghost from_gives = { λ number value. Ok value ≡ value_of_i64 number };
 
     fn from(number: i64) -> Value {
         Value::Int(number)
@@ -39,7 +38,7 @@ impl From<i64> for Value {
 }
 
 impl From<isize> for Value {
-    ghost from_gives = { λ number value. value ≡ Int number };
+    ghost from_gives = { λ number value. Ok value ≡ value_of_isize number };
 
     fn from(number: isize) -> Value {
         Value::Int(number as i64)
@@ -47,7 +46,7 @@ impl From<isize> for Value {
 }
 
 impl From<u8> for Value {
-    ghost from_gives = { λ number value. value ≡ UInt number };
+    ghost from_gives = { λ number value. Ok value ≡ value_of_u8 number };
 
     fn from(number: u8) -> Value {
         Value::UInt(u64::from(number))
@@ -55,7 +54,7 @@ impl From<u8> for Value {
 }
 
 impl From<u16> for Value {
-    ghost from_gives = { λ number value. value ≡ UInt number };
+    ghost from_gives = { λ number value. Ok value ≡ value_of_u16 number };
 
     fn from(number: u16) -> Value {
         Value::UInt(u64::from(number))
@@ -63,7 +62,7 @@ impl From<u16> for Value {
 }
 
 impl From<u32> for Value {
-    ghost from_gives = { λ number value. value ≡ UInt number };
+    ghost from_gives = { λ number value. Ok value ≡ value_of_u32 number };
 
     fn from(number: u32) -> Value {
         Value::UInt(u64::from(number))
@@ -71,7 +70,7 @@ impl From<u32> for Value {
 }
 
 impl From<u64> for Value {
-    ghost from_gives = { λ number value. value ≡ UInt number };
+    ghost from_gives = { λ number value. Ok value ≡ value_of_u64 number };
 
     fn from(number: u64) -> Value {
         Value::UInt(number)
@@ -79,7 +78,7 @@ impl From<u64> for Value {
 }
 
 impl From<usize> for Value {
-    ghost from_gives = { λ number value. value ≡ UInt number };
+    ghost from_gives = { λ number value. Ok value ≡ value_of_usize number };
 
     fn from(number: usize) -> Value {
         Value::UInt(number as u64)
@@ -87,7 +86,7 @@ impl From<usize> for Value {
 }
 
 impl From<bool> for Value {
-    ghost from_gives = { λ truth value. Ok value ≡ bool_value truth };
+    ghost from_gives = { λ truth value. Ok value ≡ value_of_bool truth };
 
     fn from(truth: bool) -> Value {
         Value::Int(i64::from(truth))
@@ -95,7 +94,7 @@ impl From<bool> for Value {
 }
 
 impl From<Vec<u8>> for Value {
-    ghost from_gives = { λ bytes value. value ≡ BytesOf bytes.items };
+    ghost from_gives = { λ bytes value. Ok value ≡ value_of_byte_vec bytes.items };
 
     fn from(bytes: Vec<u8>) -> Value {
         Value::Bytes(Bytes::from(bytes))
@@ -103,7 +102,7 @@ impl From<Vec<u8>> for Value {
 }
 
 impl From<String> for Value {
-    ghost from_gives = { λ text value. value ≡ BytesOf (string_bytes text) };
+    ghost from_gives = { λ text value. Ok value ≡ value_of_string (string_bytes text) };
 
     fn from(text: String) -> Value {
         Value::Bytes(Bytes::from(text.into_bytes()))

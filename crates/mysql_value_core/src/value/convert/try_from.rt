@@ -1,4 +1,4 @@
-//! Values that become texts and bytes of the standard library. No memory is taken.
+//! Values that become texts and bytes of the standard library. Nothing is allocated.
 ghost use Rattle.std.specs.Prelude.{string_bytes};
 ghost use Rattle.std.specs.Option.{option_map};
 ghost use Rattle.mysql_value_core.specs.FromValue.{ConvertsOrHandsBack, array_of, bytes_of, cow_bytes, cow_text, owned_cow, text_of};
@@ -60,6 +60,7 @@ impl TryFrom<Value> for String {
         match value {
             Value::Bytes(bytes) => match String::from_utf8(Vec::<u8>::from(bytes)) {
                 Ok(text) => {
+                    // A proof reads here that the text is UTF-8.
                     let _text = text.as_str();
                     Ok(text)
                 }

@@ -5,4 +5,5 @@ use Rattle.mysql_values.proofs.laws.value_ir_order.Goals as goal
 pub returns : goal.returns
 returns c = record {
   order = c.partial_cmp.ensures ∙ matches_partial_cmp-law c.args.a.now.0 c.args.b.now.0 ∙ ap Some (search rules);
+  member = c.partial_cmp.ensures;
 }

@@ -1,8 +1,8 @@
 //! Conversions to bytes.
-ghost use Rattle.std.specs.Prelude.{◌≡◌, ℕ, List, Ok, ⊤, false};
+ghost use Rattle.std.specs.Prelude.{◌≡◌, ℕ, List, ⊤, false};
 ghost use Rattle.std.specs.Option.{option_map};
 ghost use Rattle.mysql_value_core.specs.FromValue.{CowSeen, array_of, bytes_of, cow_bytes, owned_cow};
-ghost use Rattle.mysql_value_core.specs.declared.value.Value.TheVariants.{Bytes as BytesOf};
+ghost use Rattle.mysql_value_core.specs.ValueTable.{value_of_byte_array, value_of_byte_cow, value_of_byte_vec};
 
 use crate::bytes::Bytes;
 use crate::value::Value;
@@ -11,7 +11,7 @@ use std::alloc::Global;
 use std::borrow::CowSlice;
 
 impl IntoValue for Vec<u8> {
-    ghost undo = { λ bytes. Ok (BytesOf bytes.items) };
+    ghost undo = { λ bytes. value_of_byte_vec bytes.items };
 
     ghost takes_memory = { λ _. ⊥ };
 
@@ -45,7 +45,7 @@ impl FromValue for Vec<u8> {
 }
 
 impl<const N: usize> IntoValue for [u8; N] {
-    ghost undo = { λ bytes. Ok (BytesOf bytes) };
+    ghost undo = { λ bytes. value_of_byte_array bytes };
 
     ghost takes_memory = { λ _. ⊤ };
 
@@ -80,7 +80,7 @@ impl<const N: usize> FromValue for [u8; N] {
 }
 
 impl<'a> IntoValue for CowSlice<'a, u8> {
-    ghost undo = { λ bytes. Ok (BytesOf (cow_bytes bytes).1) };
+    ghost undo = { λ bytes. value_of_byte_cow (cow_bytes bytes).1 };
 
     ghost takes_memory = { λ bytes. (cow_bytes bytes).0 ≡ false };
 

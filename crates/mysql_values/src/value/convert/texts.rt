@@ -1,8 +1,8 @@
 //! Conversions to texts.
-ghost use Rattle.std.specs.Prelude.{◌≡◌, ℕ, List, Ok, false, string_bytes};
+ghost use Rattle.std.specs.Prelude.{◌≡◌, ℕ, List, false, string_bytes};
 ghost use Rattle.std.specs.Option.{option_map};
 ghost use Rattle.mysql_value_core.specs.FromValue.{CowSeen, cow_text, owned_cow, text_of};
-ghost use Rattle.mysql_value_core.specs.declared.value.Value.TheVariants.{Bytes as BytesOf};
+ghost use Rattle.mysql_value_core.specs.ValueTable.{value_of_str_cow, value_of_string};
 
 use crate::bytes::Bytes;
 use crate::value::Value;
@@ -11,7 +11,7 @@ use std::alloc::Global;
 use std::borrow::CowStr;
 
 impl IntoValue for String {
-    ghost undo = { λ text. Ok (BytesOf (string_bytes text)) };
+    ghost undo = { λ text. value_of_string (string_bytes text) };
 
     ghost takes_memory = { λ _. ⊥ };
 
@@ -45,7 +45,7 @@ impl FromValue for String {
 }
 
 impl<'a> IntoValue for CowStr<'a> {
-    ghost undo = { λ text. Ok (BytesOf (cow_text text).1) };
+    ghost undo = { λ text. value_of_str_cow (cow_text text).1 };
 
     ghost takes_memory = { λ text. (cow_text text).0 ≡ false };
 

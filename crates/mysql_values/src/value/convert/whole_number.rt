@@ -1,5 +1,5 @@
 //! Conversions to whole numbers: what the twelve types have in common.
-ghost use Rattle.std.specs.Prelude.{◌≡◌, ℕ, ◌≤◌, Bool, ℤ, true, Some, Option, IfSome};
+ghost use Rattle.std.specs.Prelude.{◌≡◌, ◌≢◌, ℕ, ◌≤◌, Bool, ℤ, true, Some, Option, IfSome, IsTrue};
 ghost use Rattle.std.specs.Option.{option_map};
 ghost use Rattle.mysql_value_core.specs.FromValue.{ConvertsOrHandsBack};
 ghost use Rattle.mysql_value_core.specs.ValueOf.{MeansBytes};
@@ -29,7 +29,7 @@ pub trait WholeNumber: ToValue + Sized {
     // a number that the type holds, as one of the type
     ghost of_number: { ℤ → Self };
 
-    /// The number of this magnitude, negative or not, where the type holds it.
+    /// The number of this magnitude, negative or not, where the type holds it; also 0 with a `-`.
     fn from_parts(negative: bool, magnitude: u128) -> Option<Self>
         ensures number { result
             ≡ number_in_type is_signed width of_number (signed_number negative magnitude) }
@@ -42,8 +42,9 @@ pub trait WholeNumber: ToValue + Sized {
 
     /// Whether the number is negative, and its magnitude.
     fn to_parts(&self) -> (bool, u128)
-        ensures { number_in_type is_signed width of_number (signed_number result.0 result.1)
-            ≡ Some self.now };
+        ensures number { number_in_type is_signed width of_number (signed_number result.0 result.1)
+            ≡ Some self.now }
+        ensures sign { IsTrue result.0 → result.1 ≢ 0 };
 }
 
 // The intermediate of an `Int` or a `UInt`, whose number is given by its sign and its magnitude.
