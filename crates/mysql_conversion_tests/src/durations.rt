@@ -93,6 +93,7 @@ fn times_to_durations(rt: HostRuntime) -> Result<(), Fail> {
     refused::<Duration>(&rt, Value::Time(true, 0, 1, 0, 0, 0))?;
     refused::<Duration>(&rt, Value::Int(1))?;
     refused::<Duration>(&rt, Value::UInt(1))?;
+    refused::<Duration>(&rt, Value::Float(0))?;
     refused::<Duration>(&rt, Value::Double(0))?;
     refused::<Duration>(&rt, Value::Date(0, 0, 0, 0, 0, 0, 0))?;
     refused::<Duration>(&rt, Value::NULL)

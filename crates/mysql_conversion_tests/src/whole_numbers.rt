@@ -1,7 +1,7 @@
 //! Conversions to whole numbers, and back.
 use crate::shared::{bytes, reads, refused, refused_bytes};
 use mysql_values::value::Value;
-use mysql_values::value::convert::{FromValue, ToValue, from_value_opt};
+use mysql_values::value::convert::{FromValue, ToValue, WholeNumber, from_value_opt};
 use std::alloc::Global;
 use std::process::Abort;
 use std::test::Fail;
@@ -170,4 +170,18 @@ fn texts_that_no_type_holds(rt: HostRuntime) -> Result<(), Fail> {
         refused_bytes::<usize>(&rt, alloc, text)?;
     }
     Ok(())
+}
+
+#[test]
+fn parts(rt: HostRuntime) {
+    assert_eq!(rt; (-128i8).to_parts(), (true, 128));
+    assert_eq!(rt; 0i8.to_parts(), (false, 0));
+    assert_eq!(rt; 255u8.to_parts(), (false, 255));
+    assert_eq!(rt;
+        i128::MIN.to_parts(),
+        (true, 170141183460469231731687303715884105728)
+    );
+    assert_eq!(rt; u8::from_parts(false, 256), None);
+    assert_eq!(rt; i8::from_parts(true, 128), Some(-128));
+    assert_eq!(rt; u8::from_parts(true, 0), Some(0));
 }

@@ -1,26 +1,26 @@
 //! Any bytes: readings from buffers that nobody wrote. A success leaves exactly the rest, a refusal
 //! leaves the buffer.
-use crate::shared::{DateFields, SIGNED, TimeFields, UNSIGNED, date, read, refuses, time};
+use crate::shared::{DateFields, SIGNED, TimeFields, UNSIGNED, date, read, refuses, same_in, time};
 use mysql_values::value::Value;
 use mysql_wire_part::{ColumnType, ParseBuf, WireError};
 use std::alloc::{AllocError, Global};
 use std::process::Abort;
 use std::test::Fail;
 
-/// How a type of column is read.
+// How a type of column is read.
 #[derive(Clone, Copy, Debug)]
 enum Kind {
-    /// So many bytes.
+    // So many bytes.
     Fixed(usize),
-    /// A length byte, and so many bytes.
+    // A length byte, and so many bytes.
     Counted,
-    /// A length-encoded string.
+    // A length-encoded string.
     Text,
-    /// Not at all.
+    // Not at all.
     Unsupported,
 }
 
-/// Each type of column, and how it is read.
+// Each type of column, and how it is read.
 const KINDS: [(ColumnType, Kind); 34] = [
     (ColumnType::MYSQL_TYPE_STRING, Kind::Text),
     (ColumnType::MYSQL_TYPE_VAR_STRING, Kind::Text),
@@ -58,7 +58,7 @@ const KINDS: [(ColumnType, Kind); 34] = [
     (ColumnType::MYSQL_TYPE_UNKNOWN, Kind::Unsupported),
 ];
 
-/// How many bytes a reading eats, or why there is none.
+// How many bytes a reading eats, or why there is none.
 #[derive(Clone, Copy, Debug)]
 enum Expected {
     Bytes(usize),
@@ -67,7 +67,7 @@ enum Expected {
     Unsupported,
 }
 
-/// So many bytes, where they are there.
+// So many bytes, where they are there.
 fn available(input: &[u8], count: usize) -> Expected {
     if count <= input.len() {
         Expected::Bytes(count)
@@ -76,8 +76,8 @@ fn available(input: &[u8], count: usize) -> Expected {
     }
 }
 
-/// A length-encoded string, by the table of the protocol's lengths. Longer ones have no room in the
-/// buffers of these tests.
+// A length-encoded string, by the table of the protocol's lengths. Longer ones have no room in the
+// buffers of these tests.
 fn text_reading(input: &[u8]) -> Expected {
     match input {
         [] => Expected::TooFew,
@@ -108,7 +108,7 @@ fn reading_of(kind: Kind, input: &[u8]) -> Expected {
     }
 }
 
-/// The error that a reading which eats nothing returns.
+// The error that a reading which eats nothing returns.
 fn error_of(column: ColumnType, wanted: Expected) -> WireError {
     match wanted {
         Expected::BadLead(lead) => WireError::BadLengthLead(lead),
@@ -117,7 +117,7 @@ fn error_of(column: ColumnType, wanted: Expected) -> WireError {
     }
 }
 
-/// The column eats exactly what its kind says, or refuses the buffer and leaves it.
+// The column eats exactly what its kind says, or refuses the buffer and leaves it.
 fn eats(
     rt: &impl Abort,
     alloc: Global,
@@ -130,19 +130,21 @@ fn eats(
     match reading_of(kind, input) {
         Expected::Bytes(count) => {
             assert!(rt; found.is_ok(), "{column:?} of {input:?}");
-            assert_eq!(rt;
+            same_in(
+                rt,
                 buf.0,
                 input.get(count..).unwrap_or(&[]),
-                "{column:?} of {input:?}"
+                &(&column, &input),
             );
         }
         refused => {
-            assert_eq!(rt;
-                found,
-                Err(error_of(column, refused)),
-                "{column:?} of {input:?}"
+            same_in(
+                rt,
+                &found,
+                &Err(error_of(column, refused)),
+                &(&column, &input),
             );
-            assert_eq!(rt; buf.0, input, "{column:?} of {input:?}");
+            same_in(rt, buf.0, input, &(&column, &input));
         }
     }
 }
@@ -162,7 +164,7 @@ fn every_buffer_of_up_to_two_bytes(rt: HostRuntime) {
     }
 }
 
-/// The byte n, the bytes from 1 to n, and the byte 42.
+// The byte n, the bytes from 1 to n, and the byte 42.
 fn counted(alloc: Global, count: u8) -> Result<Vec<u8>, AllocError> {
     let mut form = vec![in alloc; count; 1]?;
     for byte in 1..=count {
@@ -172,7 +174,7 @@ fn counted(alloc: Global, count: u8) -> Result<Vec<u8>, AllocError> {
     Ok(form)
 }
 
-/// After each length byte a payload that is one byte short, exact, and one byte long.
+// After each length byte a payload that is one byte short, exact, and one byte long.
 #[test]
 fn every_length_byte(rt: HostRuntime) -> Result<(), Fail> {
     for count in 0..=255u8 {
@@ -188,7 +190,7 @@ fn every_length_byte(rt: HostRuntime) -> Result<(), Fail> {
     Ok(())
 }
 
-/// The fields of a date of so many bytes, each of which is its number.
+// The fields of a date of so many bytes, each of which is its number.
 fn date_fields(count: u8) -> DateFields {
     match count {
         0..=3 => (0, 0, 0, 0, 0, 0, 0),
@@ -198,7 +200,7 @@ fn date_fields(count: u8) -> DateFields {
     }
 }
 
-/// The fields of a time of so many bytes, each of which is its number.
+// The fields of a time of so many bytes, each of which is its number.
 fn time_fields(count: u8) -> TimeFields {
     match count {
         0..=7 => (false, 0, 0, 0, 0, 0),
@@ -207,8 +209,8 @@ fn time_fields(count: u8) -> TimeFields {
     }
 }
 
-/// The column reads the value of the whole form, leaves the byte after it, and refuses the form cut
-/// before any of its bytes.
+// The column reads the value of the whole form, leaves the byte after it, and refuses the form cut
+// before any of its bytes.
 fn reads_whole(
     rt: &impl Abort,
     alloc: Global,
@@ -217,12 +219,13 @@ fn reads_whole(
     value: Value,
 ) -> Result<(), Fail> {
     let mut buf = ParseBuf(form);
-    assert_eq!(rt;
-        read(alloc, column, SIGNED, &mut buf)?,
-        value,
-        "{column:?} of {form:?}"
+    same_in(
+        rt,
+        &read(alloc, column, SIGNED, &mut buf)?,
+        &value,
+        &(&column, &form),
     );
-    assert_eq!(rt; buf.0, [42].as_slice(), "{column:?} of {form:?}");
+    same_in(rt, buf.0, [42].as_slice(), &(&column, &form));
     for cut in 0..form.len().saturating_sub(1) {
         let input = form.get(..cut).unwrap_or(form);
         refuses(rt, alloc, (column, SIGNED), input, WireError::UnexpectedEof);
@@ -243,7 +246,7 @@ fn dates_and_times_of_every_length(rt: HostRuntime) -> Result<(), Fail> {
     Ok(())
 }
 
-/// Lengths that are stated and aren't there.
+// Lengths that are stated and aren't there.
 const NO_SUCH_LENGTH: &[&[u8]] = &[
     &[254, 255, 255, 255, 255, 255, 255, 255, 255],
     &[252, 1],

@@ -1,6 +1,7 @@
 //! Values in binary form: as they are written, and what comes back of them.
 use crate::shared::{
-    DateFields, SIGNED, TimeFields, UNSIGNED, bytes, date, read, reads, string_and_form, time,
+    DateFields, SIGNED, TimeFields, UNSIGNED, bytes, date, read, reads, same, same_in,
+    string_and_form, time,
 };
 use mysql_values::value::{
     BinValue, ClientSide, SerializationSide, ServerSide, TextValue, Value, ValueDeserializer,
@@ -14,9 +15,9 @@ use std::test::Fail;
 fn is_written(rt: &impl Abort, alloc: Global, value: &Value, form: &[u8]) -> Result<(), Fail> {
     let mut buf = vec![in alloc; 7]?;
     value.serialize(&mut buf)?;
-    assert_eq!(rt; buf[0], 7, "{value:?}");
-    assert_eq!(rt; &buf[1..], form, "{value:?}");
-    assert_eq!(rt; value.bin_len(), form.len() as u64, "{value:?}");
+    same_in(rt, &buf[0], &7, &value);
+    same_in(rt, &buf[1..], form, &value);
+    same_in(rt, &value.bin_len(), &(form.len() as u64), &value);
     Ok(())
 }
 
@@ -101,7 +102,7 @@ fn written_lengths_of_bytes(rt: HostRuntime) -> Result<(), Fail> {
         let mut buf = Vec::new(alloc);
         value.serialize(&mut buf)?;
         assert!(rt; buf.as_slice() == form.as_slice(), "length {len}");
-        assert_eq!(rt; value.bin_len(), form.len() as u64, "length {len}");
+        same_in(&rt, &value.bin_len(), &(form.len() as u64), &len);
     }
     Ok(())
 }
@@ -115,7 +116,7 @@ fn read_lengths_of_bytes(rt: HostRuntime) -> Result<(), Fail> {
         let mut rest = ParseBuf(&form);
         let back = read(alloc, ColumnType::MYSQL_TYPE_BLOB, SIGNED, &mut rest)?;
         assert!(rt; back == bytes(alloc, &text)?, "length {len}");
-        assert_eq!(rt; rest.0, [0x2A].as_slice(), "length {len}");
+        same_in(&rt, rest.0, [0x2A].as_slice(), &len);
     }
     Ok(())
 }
@@ -160,8 +161,8 @@ fn values_that_come_back_otherwise(rt: HostRuntime) -> Result<(), Fail> {
 
 #[test]
 fn constants(rt: HostRuntime) {
-    assert_eq!(rt; ValueDeserializer::<BinValue>::SIZE, None);
-    assert_eq!(rt; ValueDeserializer::<TextValue>::SIZE, None);
-    assert_eq!(rt; ServerSide::BIT_OFFSET, 2);
-    assert_eq!(rt; ClientSide::BIT_OFFSET, 0);
+    same(&rt, &ValueDeserializer::<BinValue>::SIZE, &None);
+    same(&rt, &ValueDeserializer::<TextValue>::SIZE, &None);
+    same(&rt, &ServerSide::BIT_OFFSET, &2);
+    same(&rt, &ClientSide::BIT_OFFSET, &0);
 }

@@ -1,4 +1,5 @@
-//! Literals of texts that the calls cross by runs, compared with a plain body that goes byte by byte.
+//! Literals of texts that the calls cross by runs, compared with a plain body that goes byte by
+//! byte.
 use crate::shared::bytes;
 use crate::sql_literals::has_literal;
 use std::alloc::{AllocError, Global};

@@ -1,12 +1,12 @@
 //! Literals read back by a plain reader, which is written from docs/RULES.md, "How a literal is
 //! read", and shares no code with what writes them.
-use crate::shared::{bytes, date, time};
+use crate::shared::{bytes, date, same_in, time};
 use mysql_values::value::Value;
 use std::alloc::{AllocError, Global};
 use std::process::Abort;
 use std::test::Fail;
 
-/// What a literal says.
+// What a literal says.
 #[derive(Debug, PartialEq, Drop)]
 enum Content {
     Null,
@@ -14,10 +14,10 @@ enum Content {
     Bytes(Vec<u8>),
 }
 
-/// What the literal at the front of a text says, and the text that is left.
+// What the literal at the front of a text says, and the text that is left.
 type Reading<'a> = Option<(Content, &'a [u8])>;
 
-/// The number that a hexadecimal digit stands for.
+// The number that a hexadecimal digit stands for.
 fn digit_of(byte: u8) -> Option<u8> {
     match byte {
         b'0'..=b'9' => Some(byte - b'0'),
@@ -27,7 +27,7 @@ fn digit_of(byte: u8) -> Option<u8> {
     }
 }
 
-/// The bytes of the longest run of pairs of hexadecimal digits, of which there has to be one.
+// The bytes of the longest run of pairs of hexadecimal digits, of which there has to be one.
 fn read_pairs(alloc: Global, text: &[u8]) -> Result<Reading<'_>, AllocError> {
     let mut bytes = Vec::new(alloc);
     let mut rest = text;
@@ -45,7 +45,7 @@ fn read_pairs(alloc: Global, text: &[u8]) -> Result<Reading<'_>, AllocError> {
     Ok(Some((Content::Bytes(bytes), rest)))
 }
 
-/// The number of the longest run of digits, of which there has to be one; none beyond 128 bits.
+// The number of the longest run of digits, of which there has to be one; none beyond 128 bits.
 fn read_number(text: &[u8], sign: i128) -> Reading<'_> {
     let count = text.iter().take_while(|byte| byte.is_ascii_digit()).count();
     let (digits, rest) = text.split_at(count.min(text.len()));
@@ -60,7 +60,7 @@ fn read_number(text: &[u8], sign: i128) -> Reading<'_> {
     Some((Content::Number(number), rest))
 }
 
-/// The byte that stands for a byte and the backslash before it.
+// The byte that stands for a byte and the backslash before it.
 fn unescaped(byte: u8) -> u8 {
     match byte {
         b'0' => 0,
@@ -73,7 +73,7 @@ fn unescaped(byte: u8) -> u8 {
     }
 }
 
-/// The bytes of the units up to a quote that no quote follows.
+// The bytes of the units up to a quote that no quote follows.
 fn read_string(
     alloc: Global,
     text: &[u8],
@@ -107,7 +107,7 @@ fn read_string(
     Ok(None)
 }
 
-/// The literal at the front of a text, by the first row of the table that fits.
+// The literal at the front of a text, by the first row of the table that fits.
 fn read_literal(
     alloc: Global,
     text: &[u8],
@@ -127,7 +127,7 @@ fn read_literal(
     }
 }
 
-/// Strings, and what they say with backslash escapes and without.
+// Strings, and what they say with backslash escapes and without.
 const STRINGS: &[(&[u8], &[u8], &[u8])] = &[
     (b"''", b"", b""),
     (b"'a''b'", b"a'b", b"a'b"),
@@ -149,19 +149,19 @@ fn the_plain_reader(rt: HostRuntime) -> Result<(), Fail> {
     for (text, with_backslashes, without_backslashes) in STRINGS {
         let wanted = Content::Bytes(Vec::from_slice(alloc, *with_backslashes)?);
         let found = read_literal(alloc, *text, false)?;
-        assert_eq!(rt; found, Some((wanted, b"".as_slice())), "of {text:?}");
+        same_in(&rt, &found, &Some((wanted, b"".as_slice())), &text);
         let wanted = Content::Bytes(Vec::from_slice(alloc, *without_backslashes)?);
         let found = read_literal(alloc, *text, true)?;
-        assert_eq!(rt; found, Some((wanted, b"".as_slice())), "of {text:?}");
+        same_in(&rt, &found, &Some((wanted, b"".as_slice())), &text);
     }
     let texts: [&[u8]; 6] = [b"", b"-", b"x", b"'a", b"'a\\'", b"null"];
     for text in texts {
-        assert_eq!(rt; read_literal(alloc, text, false)?, None, "of {text:?}");
+        same_in(&rt, &read_literal(alloc, text, false)?, &None, &text);
     }
     Ok(())
 }
 
-/// In both modes the value's literal says the content, and what follows it is left.
+// In both modes the value's literal says the content, and what follows it is left.
 fn reads_back(
     rt: &impl Abort,
     alloc: Global,
@@ -173,8 +173,8 @@ fn reads_back(
         text.extend_from_slice(b", 'b'")?;
         match read_literal(alloc, &text, no_backslash_escape)? {
             Some((found, rest)) => {
-                assert_eq!(rt; found, *content, "of {value:?}");
-                assert_eq!(rt; rest, b", 'b'".as_slice(), "of {value:?}");
+                same_in(rt, &found, content, &value);
+                same_in(rt, rest, b", 'b'".as_slice(), &value);
             }
             None => assert!(rt; false, "{value:?} has no literal"),
         }
@@ -182,7 +182,7 @@ fn reads_back(
     Ok(())
 }
 
-/// The value holds these bytes, and its literal says them.
+// The value holds these bytes, and its literal says them.
 fn bytes_read_back(rt: &impl Abort, alloc: Global, held: &[u8]) -> Result<(), Fail> {
     let content = Content::Bytes(Vec::from_slice(alloc, held)?);
     reads_back(rt, alloc, &bytes(alloc, held)?, &content)
@@ -196,7 +196,7 @@ fn each_byte_reads_back(rt: HostRuntime) -> Result<(), Fail> {
     Ok(())
 }
 
-/// Bytes that a reader may take for the end of a string, or for an escape.
+// Bytes that a reader may take for the end of a string, or for an escape.
 const HOSTILE: &[u8] = b"'\"\\%_0bntrZx\n\x00\x1A-\xC3\xA9";
 
 #[test]

@@ -3,6 +3,7 @@ use mysql_values::bytes::Bytes;
 use mysql_values::value::{BinValue, Value, ValueDeserializer};
 use mysql_wire_part::{ColumnFlags, ColumnType, Flags, MyDeserialize, ParseBuf, WireError};
 use std::alloc::{AllocError, Global};
+use std::fmt::Debug;
 use std::process::Abort;
 use std::test::Fail;
 
@@ -15,6 +16,21 @@ pub type DateFields = (u16, u8, u8, u8, u8, u8, u32);
 
 // The fields of a time: whether it is negative, days, hours, minutes, seconds, microseconds.
 pub type TimeFields = (bool, u32, u8, u8, u8, u32);
+
+// The two are the same. A call is cheaper to prove than the message.
+pub(crate) fn same<T: Copy + Debug + PartialEq>(rt: &impl Abort, found: T, wanted: T) {
+    assert_eq!(rt; found, wanted);
+}
+
+// The same, with a message that names the case.
+pub(crate) fn same_in<T: Copy + Debug + PartialEq, C: Debug>(
+    rt: &impl Abort,
+    found: T,
+    wanted: T,
+    case: &C,
+) {
+    assert_eq!(rt; found, wanted, "of {case:?}");
+}
 
 // A table of plain data is cheaper to prove than one of values.
 pub(crate) fn date((year, month, day, hour, minute, second, microseconds): DateFields) -> Value {
@@ -65,8 +81,8 @@ pub(crate) fn reads(
 ) -> Result<(), Fail> {
     let mut buf = ParseBuf(input);
     let found = read(alloc, column, flags, &mut buf)?;
-    assert_eq!(rt; found, *value, "{column:?} of {input:?}, flags {flags}");
-    assert_eq!(rt; buf.0, left, "{column:?} of {input:?}, flags {flags}");
+    same_in(rt, &found, value, &(&column, &input, &flags));
+    same_in(rt, buf.0, left, &(&column, &input, &flags));
     Ok(())
 }
 
@@ -80,10 +96,6 @@ pub(crate) fn refuses(
 ) {
     let mut buf = ParseBuf(input);
     let refused = read(alloc, column, flags, &mut buf);
-    assert_eq!(rt;
-        refused,
-        Err(error),
-        "{column:?} of {input:?}, flags {flags}"
-    );
-    assert_eq!(rt; buf.0, input, "{column:?} of {input:?}, flags {flags}");
+    same_in(rt, &refused, &Err(error), &(&column, &input, &flags));
+    same_in(rt, buf.0, input, &(&column, &input, &flags));
 }

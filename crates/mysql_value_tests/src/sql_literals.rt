@@ -1,5 +1,5 @@
 //! SQL literals of values.
-use crate::shared::{DateFields, TimeFields, bytes, date, time};
+use crate::shared::{DateFields, TimeFields, bytes, date, same, same_in, time};
 use mysql_values::value::{AsSqlError, Value};
 use std::alloc::{AllocError, Global};
 use std::process::Abort;
@@ -14,12 +14,13 @@ pub(crate) fn has_literal(
     literal: &[u8],
 ) -> Result<(), Fail> {
     let text = value.as_sql(alloc, no_backslash_escape)?;
-    assert_eq!(rt; text.as_bytes(), literal, "{value:?}");
+    same_in(rt, text.as_bytes(), literal, &value);
     let len = value.sql_len(no_backslash_escape);
+    // The call below needs this fact, which no call hands on.
     assert_eq!(rt; len, Some(literal.len() as u128), "{value:?}");
     let mut room = vec![in alloc; 0xFFu8; literal.len()]?;
     value.put_sql(no_backslash_escape, room.as_mut_slice());
-    assert_eq!(rt; room.as_slice(), literal, "{value:?}");
+    same_in(rt, room.as_slice(), literal, &value);
     Ok(())
 }
 
@@ -197,8 +198,8 @@ fn literals_of_each_byte(rt: HostRuntime) -> Result<(), Fail> {
 fn has_no_literal(rt: &impl Abort, alloc: Global, value: &Value) {
     for no_backslash_escape in [false, true] {
         let answer = value.as_sql(alloc, no_backslash_escape);
-        assert_eq!(rt; answer, Err(AsSqlError::Float), "{value:?}");
-        assert_eq!(rt; value.sql_len(no_backslash_escape), None, "{value:?}");
+        same_in(rt, &answer, &Err(AsSqlError::Float), &value);
+        same_in(rt, &value.sql_len(no_backslash_escape), &None, &value);
     }
 }
 
@@ -214,8 +215,8 @@ fn floats_have_no_literal(rt: HostRuntime) {
 
 // The literal of the value has so many bytes with backslash escapes and without.
 fn has_lengths(rt: &impl Abort, value: &Value, with_backslashes: u128, without_backslashes: u128) {
-    assert_eq!(rt; value.sql_len(false), Some(with_backslashes), "{value:?}");
-    assert_eq!(rt; value.sql_len(true), Some(without_backslashes), "{value:?}");
+    same_in(rt, &value.sql_len(false), &Some(with_backslashes), &value);
+    same_in(rt, &value.sql_len(true), &Some(without_backslashes), &value);
 }
 
 // Bytes, and the length of their literal with backslash escapes and without.
@@ -242,8 +243,8 @@ fn lengths_of_literals(rt: HostRuntime) -> Result<(), Fail> {
 #[test]
 fn messages_of_refusals(rt: HostRuntime) -> Result<(), Fail> {
     let message = AsSqlError::Float.to_string(rt.alloc())?;
-    assert_eq!(rt; message.as_str(), "Float has no SQL text");
+    same(&rt, message.as_str(), "Float has no SQL text");
     let message = AsSqlError::Memory(AllocError).to_string(rt.alloc())?;
-    assert_eq!(rt; message.as_str(), "out of memory");
+    same(&rt, message.as_str(), "out of memory");
     Ok(())
 }

@@ -1,5 +1,5 @@
 //! Values of rows in text form.
-use crate::shared::bytes;
+use crate::shared::{bytes, same, same_in};
 use mysql_values::value::{TextValue, Value, ValueDeserializer, read_text_cells};
 use mysql_wire_part::{MyDeserialize, ParseBuf, WireError};
 use std::alloc::{AllocError, Global};
@@ -51,8 +51,8 @@ fn rows(rt: HostRuntime) -> Result<(), Fail> {
         let mut buf = ParseBuf(*input);
         let row = read_text_cells(alloc, &mut buf, cells.len())?;
         let wanted = values(alloc, *cells)?;
-        assert_eq!(rt; row.as_slice(), wanted.as_slice(), "of {input:?}");
-        assert_eq!(rt; buf.0, *left, "of {input:?}");
+        same_in(&rt, row.as_slice(), wanted.as_slice(), &input);
+        same_in(&rt, buf.0, *left, &input);
     }
     Ok(())
 }
@@ -61,8 +61,8 @@ fn rows(rt: HostRuntime) -> Result<(), Fail> {
 fn refuses(rt: &impl Abort, alloc: Global, input: &[u8], count: usize, error: WireError) {
     let mut buf = ParseBuf(input);
     let refusal = read_text_cells(alloc, &mut buf, count).err();
-    assert_eq!(rt; refusal, Some(error), "{count} cells of {input:?}");
-    assert_eq!(rt; buf.0, input, "{count} cells of {input:?}");
+    same_in(rt, &refusal, &Some(error), &(&count, &input));
+    same_in(rt, buf.0, input, &(&count, &input));
 }
 
 // Bytes that end before so many cells do.
@@ -102,8 +102,8 @@ fn single_cells(rt: HostRuntime) -> Result<(), Fail> {
     for (input, cell) in CELLS {
         let mut buf = ParseBuf(*input);
         let read = ValueDeserializer::<TextValue>::deserialize(alloc, (), &mut buf)?;
-        assert_eq!(rt; read.0, value_of(alloc, *cell)?, "of {input:?}");
-        assert_eq!(rt; buf.0, [9].as_slice(), "of {input:?}");
+        same_in(&rt, &read.0, &value_of(alloc, *cell)?, &input);
+        same_in(&rt, buf.0, [9].as_slice(), &input);
     }
     Ok(())
 }
@@ -112,7 +112,7 @@ fn single_cells(rt: HostRuntime) -> Result<(), Fail> {
 fn refused_cell(rt: HostRuntime) {
     let mut buf = ParseBuf(&[0xFF]);
     let refused = ValueDeserializer::<TextValue>::deserialize(rt.alloc(), (), &mut buf);
-    assert_eq!(rt; refused.err(), Some(WireError::BadLengthLead(255)));
-    assert_eq!(rt; buf.len(), 1);
+    same(&rt, &refused.err(), &Some(WireError::BadLengthLead(255)));
+    same(&rt, &buf.len(), &1);
     assert!(rt; ValueDeserializer::<TextValue>::SIZE.is_none());
 }

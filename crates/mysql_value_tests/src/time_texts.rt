@@ -1,4 +1,5 @@
 //! The reader of time texts.
+use crate::shared::same_in;
 use mysql_sql_text::time_text::read_time_text;
 use std::test::Fail;
 
@@ -20,10 +21,11 @@ fn time_texts_are_read(rt: HostRuntime) -> Result<(), Fail> {
         (b"-899:58:58.999999", true, 3_239_938_999_999),
     ];
     for (text, negative, microseconds) in &table {
-        assert_eq!(rt;
-            read_time_text(*text),
-            Some((*negative, *microseconds)),
-            "of {text:?}"
+        same_in(
+            &rt,
+            &read_time_text(*text),
+            &Some((*negative, *microseconds)),
+            &text,
         );
     }
     Ok(())
@@ -65,7 +67,7 @@ fn other_texts_are_not_read(rt: HostRuntime) -> Result<(), Fail> {
         b"00:00:00.1\xC2\xB2",
     ];
     for text in &table {
-        assert_eq!(rt; read_time_text(*text), None, "of {text:?}");
+        same_in(&rt, &read_time_text(*text), &None, &text);
     }
     Ok(())
 }

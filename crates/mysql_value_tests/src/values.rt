@@ -1,5 +1,5 @@
 //! Values: how they are shown, compared and copied.
-use crate::shared::{DateFields, TimeFields, bytes, date, time};
+use crate::shared::{DateFields, TimeFields, bytes, date, same, same_in, time};
 use mysql_values::bytes::Bytes;
 use mysql_values::value::Value;
 use std::alloc::{AllocError, Global};
@@ -8,7 +8,7 @@ use std::test::Fail;
 
 // The value is shown as the text.
 fn is_shown(rt: &impl Abort, alloc: Global, value: &Value, text: &str) -> Result<(), Fail> {
-    assert_eq!(rt; format!(in alloc; "{value:?}")?.as_str(), text);
+    same(rt, format!(in alloc; "{value:?}")?.as_str(), text);
     Ok(())
 }
 
@@ -104,9 +104,9 @@ fn equality_and_order(rt: HostRuntime) -> Result<(), Fail> {
     let values = ascending(rt.alloc())?;
     for (i, a) in values.iter().enumerate() {
         for (j, b) in values.iter().enumerate() {
-            assert_eq!(rt; a == b, i == j, "{a:?} and {b:?}");
-            assert_eq!(rt; a.cmp(b), i.cmp(&j), "{a:?} and {b:?}");
-            assert_eq!(rt; a.partial_cmp(b), Some(i.cmp(&j)), "{a:?} and {b:?}");
+            same_in(&rt, &(a == b), &(i == j), &(&a, &b));
+            same_in(&rt, &a.cmp(b), &i.cmp(&j), &(&a, &b));
+            same_in(&rt, &a.partial_cmp(b), &Some(i.cmp(&j)), &(&a, &b));
         }
     }
     Ok(())
@@ -115,7 +115,7 @@ fn equality_and_order(rt: HostRuntime) -> Result<(), Fail> {
 #[test]
 fn copies(rt: HostRuntime) -> Result<(), Fail> {
     for value in &ascending(rt.alloc())? {
-        assert_eq!(rt; value.clone()?, *value);
+        same(&rt, &value.clone()?, value);
     }
     Ok(())
 }
@@ -126,15 +126,15 @@ fn copy_of_a_vector(rt: HostRuntime) -> Result<(), Fail> {
     let mut held = Vec::new(rt.alloc());
     held.push(Value::Int(-3))?;
     held.push(bytes(rt.alloc(), b"text")?)?;
-    assert_eq!(rt; held.clone()?.as_slice(), held.as_slice());
+    same(&rt, held.clone()?.as_slice(), held.as_slice());
     Ok(())
 }
 
 #[test]
 fn bytes_and_vectors(rt: HostRuntime) -> Result<(), Fail> {
     let text = Bytes::from(Vec::from_slice(rt.alloc(), b"text")?);
-    assert_eq!(rt; text.clone()?, text);
-    assert_eq!(rt; text.as_slice(), b"text".as_slice());
-    assert_eq!(rt; Vec::<u8>::from(text).as_slice(), b"text".as_slice());
+    same(&rt, &text.clone()?, &text);
+    same(&rt, text.as_slice(), b"text".as_slice());
+    same(&rt, Vec::<u8>::from(text).as_slice(), b"text".as_slice());
     Ok(())
 }

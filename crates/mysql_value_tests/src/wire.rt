@@ -1,6 +1,6 @@
 //! The buffer: integers of each width, and length-encoded strings.
-use crate::shared::string_and_form;
-use mysql_wire_part::{ParseBuf, WireError, lenenc_str_len, put_lenenc_str};
+use crate::shared::{same, same_in, string_and_form};
+use mysql_wire_part::{ParseBuf, WireError, fill_lenenc_str, lenenc_str_len, put_lenenc_str};
 use std::test::Fail;
 
 // What each of the eight calls answers for the bytes, widened, and how many bytes it leaves.
@@ -58,10 +58,11 @@ fn integers_of_each_width(rt: HostRuntime) {
         let found = integers(bytes);
         for i in 0..8 {
             let width = 1 << (i / 2);
-            assert_eq!(rt;
-                found[i],
-                (Some(numbers[i]), 8 - width),
-                "call {i} on {bytes:?}"
+            same_in(
+                &rt,
+                &found[i],
+                &(Some(numbers[i]), 8 - width),
+                &(&i, &bytes),
             );
         }
     }
@@ -82,7 +83,7 @@ fn too_few_bytes(rt: HostRuntime) {
             if i < answered {
                 assert!(rt; found[i].0.is_some(), "call {i} on {bytes:?}");
             } else {
-                assert_eq!(rt; found[i], (None, bytes.len()), "call {i} on {bytes:?}");
+                same_in(&rt, &found[i], &(None, bytes.len()), &(&i, &bytes));
             }
         }
     }
@@ -101,7 +102,7 @@ fn stretches_of_bytes(rt: HostRuntime) {
     ];
     for (count, wanted) in table {
         let found = buf.checked_eat_buf(count).map(|front| front.0);
-        assert_eq!(rt; found, wanted, "{count} bytes");
+        same_in(&rt, &found, &wanted, &count);
     }
     assert!(rt; buf.is_empty());
 }
@@ -109,13 +110,13 @@ fn stretches_of_bytes(rt: HostRuntime) {
 // Lengths of strings, and how they are written.
 const LENGTHS: &[(usize, &[u8])] = &[
     (0, &[0]),
+    (1, &[1]),
     (250, &[0xFA]),
     (251, &[0xFC, 0xFB, 0]),
     (65535, &[0xFC, 0xFF, 0xFF]),
     (65536, &[0xFD, 0, 0, 1]),
     (16777215, &[0xFD, 0xFF, 0xFF, 0xFF]),
     (16777216, &[0xFE, 0, 0, 0, 1, 0, 0, 0, 0]),
-    (1, &[1]),
 ];
 
 #[test]
@@ -125,9 +126,12 @@ fn written_lengths(rt: HostRuntime) -> Result<(), Fail> {
         let (text, form) = string_and_form(alloc, *len, *head)?;
         let mut buf = vec![in alloc; 7]?;
         put_lenenc_str(&mut buf, &text)?;
-        assert_eq!(rt; buf[0], 7, "length {len}");
+        same_in(&rt, &buf[0], &7, &len);
         assert!(rt; &buf[1..] == form.as_slice(), "length {len}");
-        assert_eq!(rt; lenenc_str_len(&text), form.len() as u64, "length {len}");
+        same_in(&rt, &lenenc_str_len(&text), &(form.len() as u64), &len);
+        buf[1..].fill(0);
+        fill_lenenc_str(&mut buf[1..], &text);
+        assert!(rt; &buf[1..] == form.as_slice(), "length {len}");
     }
     Ok(())
 }
@@ -141,7 +145,7 @@ fn read_lengths(rt: HostRuntime) -> Result<(), Fail> {
         let mut buf = ParseBuf(&form);
         let read = buf.eat_lenenc_str();
         assert!(rt; read == Ok(text.as_slice()), "length {len}");
-        assert_eq!(rt; buf.0, [0x2A].as_slice(), "length {len}");
+        same_in(&rt, buf.0, [0x2A].as_slice(), &len);
     }
     Ok(())
 }
@@ -156,8 +160,8 @@ fn longer_spellings_than_needed(rt: HostRuntime) {
     ];
     for bytes in table {
         let mut buf = ParseBuf(bytes);
-        assert_eq!(rt; buf.eat_lenenc_str(), Ok(b"A".as_slice()), "{bytes:?}");
-        assert_eq!(rt; buf.0, [0x2A].as_slice(), "{bytes:?}");
+        same_in(&rt, &buf.eat_lenenc_str(), &Ok(b"A".as_slice()), &bytes);
+        same_in(&rt, buf.0, [0x2A].as_slice(), &bytes);
     }
 }
 
@@ -180,8 +184,8 @@ fn refused_strings_leave_the_buffer(rt: HostRuntime) {
     for bytes in TOO_SHORT {
         let mut buf = ParseBuf(*bytes);
         let read = buf.eat_lenenc_str();
-        assert_eq!(rt; read, Err(WireError::UnexpectedEof), "{bytes:?}");
-        assert_eq!(rt; buf.0, *bytes, "{bytes:?}");
+        same_in(&rt, &read, &Err(WireError::UnexpectedEof), &bytes);
+        same_in(&rt, buf.0, *bytes, &bytes);
     }
 }
 
@@ -191,7 +195,7 @@ fn refused_leads_leave_the_buffer(rt: HostRuntime) {
         let bytes = [lead, 1, 2];
         let mut buf = ParseBuf(&bytes);
         let read = buf.eat_lenenc_str();
-        assert_eq!(rt; read, Err(WireError::BadLengthLead(lead)));
-        assert_eq!(rt; buf.0, bytes.as_slice(), "lead {lead}");
+        same(&rt, &read, &Err(WireError::BadLengthLead(lead)));
+        same_in(&rt, buf.0, bytes.as_slice(), &lead);
     }
 }

@@ -2,6 +2,7 @@
 ghost use Rattle.std.specs.Prelude.{ℕ, List, ⊤};
 ghost use Rattle.mysql_wire_part.specs.Lenenc.{lenenc_spelling, read_lenenc};
 
+use crate::shared::{same, same_in};
 use mysql_wire_part::{
     ColumnFlags, ColumnType, Flags, MyDeserialize, MySerialize, ParseBuf, WireError, put_lenenc_str,
 };
@@ -21,7 +22,7 @@ fn messages(rt: HostRuntime) -> Result<(), Fail> {
         (WireError::from(AllocError), "out of memory"),
     ];
     for (error, message) in table {
-        assert_eq!(rt; error.to_string(alloc)?.as_str(), message);
+        same(&rt, error.to_string(alloc)?.as_str(), message);
     }
     Ok(())
 }
@@ -36,12 +37,13 @@ fn unsigned_flag(rt: HostRuntime) {
         (0xFFDF, false),
     ] {
         let flags = ColumnFlags::from_bits_retain(bits);
-        assert_eq!(rt;
-            flags.contains(ColumnFlags::UNSIGNED_FLAG),
-            unsigned,
-            "flags {bits}"
+        same_in(
+            &rt,
+            &flags.contains(ColumnFlags::UNSIGNED_FLAG),
+            &unsigned,
+            &bits,
         );
-        assert_eq!(rt; flags.bits(), bits);
+        same(&rt, &flags.bits(), &bits);
     }
 }
 
@@ -111,11 +113,11 @@ fn a_type_of_the_users_own(rt: HostRuntime) -> Result<(), Fail> {
         },
     ];
     let buf = written(alloc, &names)?;
-    assert_eq!(rt; buf.as_slice(), b"\x03abc\x00".as_slice());
+    same(&rt, buf.as_slice(), b"\x03abc\x00".as_slice());
     let mut rest = ParseBuf(&buf);
     let (first, second): (Name, Name) = read(alloc, &mut rest)?;
-    assert_eq!(rt; first.bytes.as_slice(), b"abc".as_slice());
-    assert_eq!(rt; second.bytes.as_slice(), b"".as_slice());
+    same(&rt, first.bytes.as_slice(), b"abc".as_slice());
+    same(&rt, second.bytes.as_slice(), b"".as_slice());
     assert!(rt; rest.is_empty());
     Ok(())
 }
