@@ -11,7 +11,7 @@ use Rattle.mysql_named_params.specs.declared.places.PlaceKind.{PlaceKind}
 use Rattle.mysql_named_params.specs.declared.places.PlaceKind.TheVariants as found_kind
 use Rattle.mysql_named_params.specs.declared.tokens.TokenKind.{TokenKind}
 use Rattle.mysql_named_params.specs.declared.tokens.TokenKind.TheVariants as kind
-use Rattle.mysql_named_params.proofs.TokenEnds.{not_plain_at}
+use Rattle.mysql_named_params.specs.TokensOf.{not_plain_at}
 use Rattle.mysql_named_params.proofs.TokenEndLemmas.{slice_from}
 use Rattle.mysql_named_params.proofs.FirstTokenLemmas.{plain_first, plain_other}
 use Rattle.mysql_named_params.proofs.TokenRowLemmas.{place_count-append, text_then-text_of}

@@ -7,7 +7,8 @@ use Rattle.mysql_named_params.specs.Bytes.{asterisk, backquote, colon, dash, dou
 use Rattle.mysql_named_params.specs.Tokens.{Token, bytes_of, IsToken, IsStringTail, QuotedString, QuotedIdentifier, HashComment, DashComment, BlockComment, Name, Mark, Plain}
 use Rattle.mysql_named_params.specs.FirstToken.{kind_of, opens_dash_comment, opens_block_comment, IsNameFront, IsFirstToken}
 use Rattle.mysql_named_params.specs.declared.tokens.TokenKind.TheVariants as kind
-use Rattle.mysql_named_params.proofs.TokenEnds.{not_plain_at, plain_at}
+use Rattle.mysql_named_params.specs.TokensOf.{not_plain_at}
+use Rattle.mysql_named_params.proofs.TokenEnds.{plain_at}
 use Rattle.mysql_named_params.proofs.TokenEndLemmas.{slice_from}
 
 -- a token before what follows it is the front

@@ -7,7 +7,8 @@ use Rattle.std.proofs.lemmas.Bool.{cases_Bool}
 use Rattle.memchr.specs.Find.{OccursAt, FindsNeedle, IsFirstByte, Passes, is_byte}
 use Rattle.memchr.proofs.lemmas.FindLemmas.{IsFirst-wider, IsFirst-agree, OccursAt-byte, byte-OccursAt}
 use Rattle.mysql_named_params.specs.Bytes.{asterisk, slash, IsUpTo}
-use Rattle.mysql_named_params.proofs.TokenEnds.{begins_with, begins_with_front, word_begins, len_up_to, up_to_is}
+use Rattle.mysql_named_params.specs.TokensOf.{begins_with, len_up_to}
+use Rattle.mysql_named_params.proofs.TokenEnds.{begins_with_front, word_begins, up_to_is}
 use Rattle.mysql_named_params.proofs.TokenEndLemmas.{up_to_at}
 
 -- ---- the near bytes

@@ -19,3 +19,10 @@ pub mod JumpLemmas
 pub mod RestLemmas
 pub mod LocalityLemmas
 pub mod ReparsedLemmas
+pub mod ServerTokenLemmas
+pub mod PortableLemmas
+pub mod GrammarLemmas
+pub mod SharpLemmas
+pub mod FrontLemmas
+pub mod UnportableLemmas
+pub mod PlaceTextLemmas

@@ -5,7 +5,8 @@ use Rattle.mysql_named_params.specs.Bytes.{backquote, colon, dash, hash, questio
 use Rattle.mysql_named_params.specs.Tokens.{Token, IsToken, QuotedString, QuotedIdentifier, HashComment, DashComment, BlockComment, Name, Mark, Plain}
 use Rattle.mysql_named_params.specs.FirstToken.{opens_dash_comment, opens_block_comment}
 use Rattle.mysql_named_params.specs.Locality.{looks_at, LooksAlike}
-use Rattle.mysql_named_params.proofs.TokenEnds.{not_plain_at, plain_at}
+use Rattle.mysql_named_params.specs.TokensOf.{not_plain_at}
+use Rattle.mysql_named_params.proofs.TokenEnds.{plain_at}
 use Rattle.mysql_named_params.proofs.PlainLemmas.{plain_none}
 use Rattle.mysql_named_params.proofs.RestLemmas.{string-alike, up_to-alike, block-alike, cond_none, some_none, dash_none, none_dash, block_none, none_block, name_none, none_name}
 

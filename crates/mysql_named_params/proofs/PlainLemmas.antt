@@ -4,7 +4,7 @@ use Rattle.std.proofs.lemmas.Bool.{and_parts, eqb-true, eqb-false}
 use Rattle.mysql_named_params.specs.Bytes.{asterisk, backquote, colon, dash, hash, newline, question_mark, slash, is_white_space, is_start_byte, is_string_quote, is_extension, begins}
 use Rattle.mysql_named_params.specs.Tokens.{Token, bytes_of, IsNotPlain, IsToken, Plain}
 use Rattle.mysql_named_params.specs.FirstToken.{opens_dash_comment, opens_block_comment}
-use Rattle.mysql_named_params.proofs.TokenEnds.{not_plain_at, dash_comment, block_comment, name_at, len_up_to, string_len, name_len}
+use Rattle.mysql_named_params.specs.TokensOf.{not_plain_at, dash_comment, block_comment, name_at, len_up_to, string_len, name_len}
 use Rattle.mysql_named_params.proofs.TokenEndLemmas.{up_to_gives, string_gives, name_gives}
 
 -- the text begins with this token, which is not plain, and something follows
@@ -15,7 +15,7 @@ token_found : (mode : Bool) (text : List ℕ) (u t : Token) → BeginsWithToken 
     Some u ≡ Some t → BeginsWithToken mode text t
 token_found mode text u t f e = let p : u ≡ t = cc in subst (BeginsWithToken mode text) p f
 
-cond_some : (c : Bool) (p q : Option Token) (t : Token) (P : Type 0) → (c ≡ true → p ≡ Some t → P) →
+pub cond_some : (c : Bool) (p q : Option Token) (t : Token) (P : Type 0) → (c ≡ true → p ≡ Some t → P) →
     (c ≡ false → q ≡ Some t → P) → cond c p q ≡ Some t → P
 cond_some true p q t P f g e = f refl e
 cond_some false p q t P f g e = g refl e

@@ -5,7 +5,8 @@ use Rattle.mysql_named_params.specs.Tokens.{Token, IsToken, IsStringTail, closed
 use Rattle.mysql_named_params.specs.Places.{IsPlace}
 use Rattle.mysql_named_params.specs.Locality.{IsOpenTail, units_alone, units_and_escape}
 use Rattle.mysql_named_params.specs.FirstToken.{opens_dash_comment, opens_block_comment}
-use Rattle.mysql_named_params.proofs.TokenEnds.{not_plain_at, plain_at, dash_comment, block_comment, name_at}
+use Rattle.mysql_named_params.specs.TokensOf.{not_plain_at, dash_comment, block_comment, name_at}
+use Rattle.mysql_named_params.proofs.TokenEnds.{plain_at}
 use Rattle.mysql_named_params.proofs.PlainLemmas.{plain_none}
 
 -- a byte that makes a comment of the two dashes before it

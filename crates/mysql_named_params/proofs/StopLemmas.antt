@@ -8,7 +8,7 @@ use Rattle.memchr.specs.Find.{is_byte2, Nowhere, NoneBefore, Passes}
 use Rattle.mysql_sql_text.specs.StringUnits.{is_escape}
 use Rattle.mysql_named_params.specs.Tokens.{IsStringTail}
 use Rattle.mysql_named_params.specs.NextByte.{HoldNoStop, IsNextStop}
-use Rattle.mysql_named_params.proofs.TokenEnds.{string_len}
+use Rattle.mysql_named_params.specs.TokensOf.{string_len}
 use Rattle.mysql_named_params.proofs.TokenEndLemmas.{string_at, string_stops, string_goes_on, string_skips, string_ends}
 
 -- so many bytes of the string are passed, and the next one is not escaped

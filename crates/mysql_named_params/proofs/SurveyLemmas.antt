@@ -82,6 +82,15 @@ counts_told mode query rest found i j o rest_is counts =
       ),
     )
 
+-- no more names are counted than there are
+pub no_more_counted : (mode : Bool) (query rest : List ℕ) (found : FoundPlace) (i j : ℕ) →
+    OnTokens mode query (λ ts. IsFirstPlace ts found) → rest ≡ drop found.before query →
+    OnTokens mode rest (λ us. (i ≡ length (names us)) × (j ≡ marks us)) →
+    OnTokens mode query (λ ts. i ≤ length (names ts))
+no_more_counted mode query rest found i j o rest_is counts =
+    let all = counted_from_first mode query rest found i j o rest_is counts in
+    (all.0, all.1, omega (arith, all.2.0))
+
 -- ---- without a byte `?` there is no mark
 
 abbrev pub is_other : ℕ → Bool

@@ -1,4 +1,4 @@
--- What `TokenEnds` computes is what the grammar says.
+-- What `TokensOf` computes is what the grammar says.
 use Rattle.std.proofs.Common.{◌≡◌, ◌≢◌, ℕ, suc, ◌+◌, ◌-◌, ◌<◌, ◌≤◌, get_or, eq-eqb, Bool, true, false, ◌==◌, ◌&&◌, nat_eq, List, [], ◌∷◌, ◌++◌, length, take, drop, refl, sym, ap, ◌∙◌, subst, inl, inr, arith, append_assoc, length-append, ne_eqb, true≢false, take_at, take-append-drop}
 use Rattle.std.specs.List.{starts_with}
 use Rattle.std.proofs.lemmas.List.{drop_more, drop_all, take_rest}
@@ -8,7 +8,8 @@ use Rattle.mysql_sql_text.specs.StringUnits.{is_escape}
 use Rattle.mysql_named_params.specs.Tokens.{IsStringTail, closed_string, open_string, open_in_escape}
 use Rattle.mysql_sql_text.specs.StringUnits.{no_units, byte_unit, escape_unit}
 use Rattle.mysql_named_params.specs.FirstToken.{IsNameFront}
-use Rattle.mysql_named_params.proofs.TokenEnds.{begins_with, len_up_to, string_len, name_len, begins_with_front, word_begins}
+use Rattle.mysql_named_params.specs.TokensOf.{begins_with, len_up_to, string_len, name_len}
+use Rattle.mysql_named_params.proofs.TokenEnds.{begins_with_front, word_begins}
 
 -- ---- words
 

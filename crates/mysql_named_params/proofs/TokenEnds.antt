@@ -1,60 +1,13 @@
--- Where a token ends, computed; and that a token before a rest ends there.
-use Rattle.std.proofs.Common.{◌≡◌, ◌≢◌, ℕ, suc, ◌+◌, ◌≤◌, Bool, true, false, cond, ◌==◌, ◌&&◌, List, [], ◌∷◌, ◌++◌, length, take, Option, Some, None, refl, sym, ap, ◌∙◌, subst, inl, inr, arith, append_assoc, append-nil, length-append, eq-eqb, ne_eqb, true≢false, take_at}
+-- A token before a rest ends where `TokensOf` computes its end.
+use Rattle.std.proofs.Common.{◌≡◌, ◌≢◌, ℕ, suc, ◌+◌, ◌≤◌, Bool, true, false, ◌==◌, List, [], ◌∷◌, ◌++◌, length, take, Some, None, refl, sym, ap, ◌∙◌, subst, inl, inr, arith, append_assoc, append-nil, length-append, eq-eqb, ne_eqb, true≢false, take_at}
 use Rattle.std.specs.List.{list_all}
 use Rattle.std.specs.Str.{byte}
 use Rattle.std.proofs.lemmas.Bool.{cases_Bool, and_parts, or_cases, eqb-true}
-use Rattle.mysql_named_params.specs.Bytes.{asterisk, backquote, colon, dash, double_quote, hash, newline, question_mark, single_quote, slash, is_start_byte, is_name_byte, is_string_quote, begins, Lacks, HoldsOnlyAtEnd, IsUpTo, up_to_word, up_to_end}
+use Rattle.mysql_named_params.specs.Bytes.{asterisk, backquote, double_quote, newline, single_quote, slash, is_name_byte, is_string_quote, begins, Lacks, HoldsOnlyAtEnd, IsUpTo, up_to_word, up_to_end}
 use Rattle.mysql_sql_text.specs.StringUnits.{is_escape}
-use Rattle.mysql_named_params.specs.FirstToken.{opens_dash_comment, opens_block_comment}
 use Rattle.mysql_named_params.specs.Tokens.{Token, bytes_of, IsNotPlain, IsToken, IsStringTail, closed_string, open_string, open_in_escape, QuotedString, QuotedIdentifier, HashComment, DashComment, BlockComment, Name, Mark, Plain}
 use Rattle.mysql_sql_text.specs.StringUnits.{AreUnits, no_units, byte_unit, escape_unit}
-
--- the text begins with the word
-abbrev pub begins_with : List ℕ → List ℕ → Bool
-begins_with [] text = true
-begins_with (w ∷ ws) [] = false
-begins_with (w ∷ ws) (b ∷ bs) = (w == b) && begins_with ws bs
-
--- how many bytes there are up to and with the first place of the word, or else to the end
-abbrev pub len_up_to : List ℕ → List ℕ → ℕ
-len_up_to word [] = 0
-len_up_to word (b ∷ bs) = cond (begins_with word (b ∷ bs)) (length word) (suc (len_up_to word bs))
-
--- how many bytes of a string are left; the flag says that the byte before escapes
-abbrev pub string_len : Bool → ℕ → Bool → List ℕ → ℕ
-string_len mode quote escaped [] = 0
-string_len mode quote true (b ∷ bs) = suc (string_len mode quote false bs)
-string_len mode quote false (b ∷ bs) = cond (b == quote) 1 (suc (string_len mode quote (is_escape mode b) bs))
-
--- how many name bytes the text begins with
-abbrev pub name_len : List ℕ → ℕ
-name_len [] = 0
-name_len (b ∷ bs) = cond (is_name_byte b) (suc (name_len bs)) 0
-
--- the token other than a plain one with which the text begins
-abbrev pub dash_comment : List ℕ → Option Token
-dash_comment [] = None
-dash_comment (b ∷ []) = None
-dash_comment (b ∷ w ∷ bs) = cond (opens_dash_comment (b ∷ w ∷ bs)) (Some (DashComment w (take (len_up_to (newline ∷ []) bs) bs))) None
-
-abbrev pub block_comment : List ℕ → Option Token
-block_comment [] = None
-block_comment (b ∷ bs) = cond (opens_block_comment (b ∷ bs)) (Some (BlockComment (take (len_up_to (asterisk ∷ slash ∷ []) bs) bs))) None
-
-abbrev pub name_at : List ℕ → Option Token
-name_at [] = None
-name_at (b ∷ bs) = cond (is_start_byte b) (Some (Name (b ∷ take (name_len bs) bs))) None
-
-abbrev pub not_plain_at : Bool → List ℕ → Option Token
-not_plain_at mode [] = None
-not_plain_at mode (b ∷ bs) =
-    cond (is_string_quote b) (Some (QuotedString b (take (string_len mode b false bs) bs)))
-    (cond (b == backquote) (Some (QuotedIdentifier (take (len_up_to (backquote ∷ []) bs) bs)))
-    (cond (b == hash) (Some (HashComment (take (len_up_to (newline ∷ []) bs) bs)))
-    (cond (b == dash) (dash_comment bs)
-    (cond (b == slash) (block_comment bs)
-    (cond (b == colon) (name_at bs)
-    (cond (b == question_mark) (Some Mark) None))))))
+use Rattle.mysql_named_params.specs.TokensOf.{begins_with, len_up_to, string_len, name_len, not_plain_at}
 
 -- ---- words
 
@@ -165,7 +118,7 @@ name_len_is (b ∷ bs) rest h e =
 -- ---- tokens
 
 -- the front of a text, by its length
-take_front : (a rest : List ℕ) (n : ℕ) → n ≡ length a → take n (a ++ rest) ≡ a
+pub take_front : (a rest : List ℕ) (n : ℕ) → n ≡ length a → take n (a ++ rest) ≡ a
 take_front a rest n e = take_at a rest n (sym e)
 
 -- a token other than a plain one, with which a text begins, is the one that is computed

@@ -3,7 +3,8 @@ use Rattle.std.specs.Prelude.{Bool}
 use Rattle.std.proofs.Common.{◌≡◌, ◌≢◌, ◌⊎◌, ℕ, List, [], ◌∷◌, ◌++◌, Some, refl, sym, ap, ◌∙◌, subst, inl, inr}
 use Rattle.std.proofs.lemmas.List.{append_cancel_left}
 use Rattle.mysql_named_params.specs.Tokens.{Token, bytes_of, IsNotPlain, IsToken, IsTokens, text_then, AreTokensBefore, QuotedString, QuotedIdentifier, HashComment, DashComment, BlockComment, Name, Mark, Plain}
-use Rattle.mysql_named_params.proofs.TokenEnds.{not_plain_at, not_plain_at_is}
+use Rattle.mysql_named_params.specs.TokensOf.{not_plain_at}
+use Rattle.mysql_named_params.proofs.TokenEnds.{not_plain_at_is}
 
 -- what a token is, where it is no plain one
 not_plain_or_plain : (mode : Bool) (t : Token) (r : List ℕ) → IsToken mode t r →

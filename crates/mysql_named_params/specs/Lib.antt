@@ -3,8 +3,13 @@ pub mod Tokens
 pub mod Places
 pub mod Locality
 pub mod FirstToken
+pub mod TokensOf
 pub mod NextByte
 pub mod FirstPlace
 pub mod Parsed
 pub mod SameParsed
 pub mod NamedParamsErrors
+pub mod Server
+pub mod Portable
+pub mod FirstUnportable
+pub mod FrontConstruct

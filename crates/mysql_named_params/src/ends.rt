@@ -8,10 +8,10 @@ ghost use Rattle.mysql_named_params.specs.NextByte.{IsNextStop};
 
 use memchr::{memchr, memchr2, memmem};
 
-// So many bytes are looked at one by one before a jump, whose start would cost more than a near end.
+// So many bytes are looked at one by one before a jump, whose start costs more than a near end.
 const NEAR: usize = 32;
 
-// After an escape these: where one stands the next is often near.
+// After an escape so many: where one stands the next is often near.
 const NEXT_TO_ESCAPES: usize = 48;
 
 fn is_escape(byte: u8, no_backslash_escape: bool) -> bool

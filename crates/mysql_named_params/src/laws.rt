@@ -2,16 +2,27 @@
 //! result do nothing: each is called for what it ensures.
 ghost use Rattle.std.specs.Prelude.{◌≡◌, ℕ, ◌+◌, ◌↔◌, Bool, List, [], length, IsTrue};
 ghost use Rattle.mysql_named_params.specs.Tokens.{Token, IsToken, IsTokens};
+ghost use Rattle.mysql_named_params.specs.TokensOf.{tokens_of};
 ghost use Rattle.mysql_named_params.specs.Locality.{LooksAlike};
 ghost use Rattle.mysql_named_params.specs.Parsed.{parsed};
 ghost use Rattle.mysql_named_params.specs.Places.{names, marks, positions, HavePlacesAt, AscendFrom, with_marks, with_names};
+ghost use Rattle.mysql_named_params.specs.Portable.{ArePortable, IsReadAs};
+ghost use Rattle.mysql_named_params.specs.Server.{Server, IsReadOn, grammar};
 
 use crate::named_params::{MixedParamsError, NamedParamsError, ParsedNamedParams};
+use crate::portable::Unportable;
 
 /// No query has two token lists in one mode.
 pub fn one_token_list()
     ensures unique { (mode : Bool) (query : List ℕ) (ts us : List Token) →
         IsTokens mode query ts → IsTokens mode query us → ts ≡ us }
+{}
+
+/// Every query has tokens, and a function gives them: where the query is a constant, they compute.
+pub fn tokens_exist()
+    ensures tokens { (mode : Bool) (query : List ℕ) → IsTokens mode query (tokens_of mode query) }
+    ensures unique { (mode : Bool) (query : List ℕ) (ts : List Token) →
+        IsTokens mode query ts → tokens_of mode query ≡ ts }
 {}
 
 /// A token looks at no more than two of the bytes after it, and an open one at whether there are
@@ -40,9 +51,53 @@ pub fn nameless_is_unchanged()
         IsTokens mode query ts → names ts ≡ [] → (parsed ts).query ≡ query }
 {}
 
+/// Each query has one token list on a server in a mode, and no other.
+pub fn one_list_on_a_server()
+    ensures unique { (server : Server) (mode : Bool) (query : List ℕ) (ts us : List Token) →
+        IsReadOn server mode query ts → IsReadOn server mode query us → ts ≡ us }
+    ensures some { (server : Server) (mode : Bool) (query : List ℕ) →
+        (ts : List Token) × IsReadOn server mode query ts }
+{}
+
+/// The grammar is one of the servers.
+pub fn grammar_is_a_server()
+    ensures reads { (mode : Bool) (query : List ℕ) (ts : List Token) →
+        IsTokens mode query ts → IsReadOn grammar mode query ts }
+    ensures is_read { (mode : Bool) (query : List ℕ) (ts : List Token) →
+        IsReadOn grammar mode query ts → IsTokens mode query ts }
+{}
+
+/// On every server the tokens of a portable query are the grammar's, but for `--` before a newline.
+pub fn portable_reading()
+    ensures alike { (server : Server) (mode : Bool) (query : List ℕ) (ts us : List Token) →
+        IsTokens mode query ts → ArePortable ts → IsReadOn server mode query us →
+        IsReadAs ts us }
+{}
+
+/// No weaker condition serves: a query that every server reads as the grammar does is portable.
+pub fn portable_is_sharp()
+    ensures sharp { (mode : Bool) (query : List ℕ) (ts : List Token) → IsTokens mode query ts →
+        ((server : Server) (us : List Token) → IsReadOn server mode query us →
+        IsReadAs ts us) → ArePortable ts }
+{}
+
+/// On every server a portable query has the same names and marks at the same positions.
+pub fn same_places()
+    ensures names { (server : Server) (mode : Bool) (query : List ℕ) (ts us : List Token) →
+        IsTokens mode query ts → ArePortable ts → IsReadOn server mode query us →
+        names us ≡ names ts }
+    ensures marks { (server : Server) (mode : Bool) (query : List ℕ) (ts us : List Token) →
+        IsTokens mode query ts → ArePortable ts → IsReadOn server mode query us →
+        marks us ≡ marks ts }
+    ensures positions { (server : Server) (mode : Bool) (query : List ℕ) (ts us : List Token) →
+        IsTokens mode query ts → ArePortable ts → IsReadOn server mode query us →
+        positions us ≡ positions ts }
+{}
+
 /// Errors of reading names are equal where they are the same error.
 pub fn mixed_error_equality(a: &MixedParamsError, b: &MixedParamsError) -> bool
     ensures same { IsTrue result ↔ (a.now ≡ b.now) }
+    ensures member { result ≡ ⟦<MixedParamsError as PartialEq>⟧.eq a.now b.now }
 {
     a == b
 }
@@ -50,6 +105,15 @@ pub fn mixed_error_equality(a: &MixedParamsError, b: &MixedParamsError) -> bool
 /// Errors of reading names are equal where variant and field are.
 pub fn named_params_error_equality(a: &NamedParamsError, b: &NamedParamsError) -> bool
     ensures same { IsTrue result ↔ (a.now ≡ b.now) }
+    ensures member { result ≡ ⟦<NamedParamsError as PartialEq>⟧.eq a.now b.now }
+{
+    a == b
+}
+
+/// What makes queries unportable is equal where construct and position are.
+pub fn unportable_equality(a: &Unportable, b: &Unportable) -> bool
+    ensures same { IsTrue result ↔ (a.now ≡ b.now) }
+    ensures member { result ≡ ⟦<Unportable as PartialEq>⟧.eq a.now b.now }
 {
     a == b
 }
@@ -57,6 +121,7 @@ pub fn named_params_error_equality(a: &NamedParamsError, b: &NamedParamsError) -
 /// Parsed queries are equal where the query with marks and the names are.
 pub fn parsed_equality(a: &ParsedNamedParams<'_>, b: &ParsedNamedParams<'_>) -> bool
     ensures same { IsTrue result ↔ (a.now ≡ b.now) }
+    ensures member { result ≡ ⟦<ParsedNamedParams<'static> as PartialEq>⟧.eq a.now b.now }
 {
     a == b
 }

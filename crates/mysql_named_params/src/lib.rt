@@ -1,8 +1,8 @@
 //! The tokens of MySQL queries, and their named and positional parameters.
 //!
 //! A query is bytes. [`named_params`] finds the names and marks outside its strings, quoted
-//! identifiers and comments. `mysql_params` hands on [`named_params`] and the
-//! laws.
+//! identifiers and comments; [`portable`] the first construct that servers read in different ways.
+//! `mysql_params` hands on both and the laws.
 #![tactic(auto)]
 
 mod ends;
@@ -10,4 +10,5 @@ pub mod laws;
 pub mod named_params;
 pub mod places;
 mod plain_bytes;
+pub mod portable;
 pub mod tokens;

@@ -66,6 +66,7 @@ impl<'a> ParsedNamedParams<'a> {
     ///
     /// The flag is the server's mode: with `true`, as where `sql_mode` has `NO_BACKSLASH_ESCAPES`,
     /// a backslash is a byte like any other; with `false` it escapes the byte after it in a string.
+    /// `Memory` is returned only for a query with names and without marks.
     // A query has one token list in each mode (`laws::one_token_list`), so the clauses speak of the
     // same `ts`.
     pub fn parse_in(
@@ -146,7 +147,8 @@ impl<'a> ParsedNamedParams<'a> {
         self.params.as_slice()
     }
 
-    /// A copy over the same query. The names are borrowed as before.
+    /// A copy over the same query. The names are borrowed as before. Only a copy of a query with
+    /// names allocates, on the allocator that its names hold.
     pub fn clone(&self) -> Result<ParsedNamedParams<'a>, AllocError>
         ensures equal { IfOk result (λ copy. copy ≡ self.now) }
         ensures memory { OnErr result (self.now.params ≢ []) }
@@ -169,7 +171,7 @@ impl<'a> ParsedNamedParams<'a> {
 
 // What is known of a query before anything is allocated.
 #[derive(Clone, Copy)]
-struct Survey {
+struct NameSurvey {
     has_name: bool,
     has_mark: bool,
     // No name and no mark stands before this index.
@@ -180,15 +182,17 @@ struct Survey {
 
 // Without a byte `?` there is no mark, and the names need no count. Else they and the marks are
 // counted, since a query with both is refused before anything is allocated.
-fn survey_of(query: &[u8], no_backslash_escape: bool) -> Survey
+fn survey_of(query: &[u8], no_backslash_escape: bool) -> NameSurvey
     ensures places { OnTokens no_backslash_escape query.now (λ ts.
         (IsTrue result.has_name ↔ HasName ts) × (IsTrue result.has_mark ↔ HasMark ts)) }
     ensures start { OnTokens no_backslash_escape query.now (λ ts.
         BeginPlacesFrom ts result.start) }
     ensures in_range { result.start ≤ length query.now }
+    ensures counted { OnTokens no_backslash_escape query.now (λ ts.
+        result.counted_names ≤ length (names ts)) }
 {
     let Some(first) = first_place(query, no_backslash_escape) else {
-        return Survey {
+        return NameSurvey {
             has_name: false,
             has_mark: false,
             start: query.len(),
@@ -197,7 +201,7 @@ fn survey_of(query: &[u8], no_backslash_escape: bool) -> Survey
     };
     let from_first = &query[first.before..];
     let Some(_) = memchr(b'?', from_first) else {
-        return Survey {
+        return NameSurvey {
             has_name: true,
             has_mark: false,
             start: first.before,
@@ -205,7 +209,7 @@ fn survey_of(query: &[u8], no_backslash_escape: bool) -> Survey
         };
     };
     let counts = count_places(from_first, no_backslash_escape);
-    Survey {
+    NameSurvey {
         has_name: counts.names > 0,
         has_mark: counts.marks > 0,
         start: first.before,
@@ -217,7 +221,7 @@ fn survey_of(query: &[u8], no_backslash_escape: bool) -> Survey
 fn renamed_query<'a>(
     alloc: Global,
     query: &'a [u8],
-    survey: Survey,
+    survey: NameSurvey,
     no_backslash_escape: bool,
 ) -> Result<ParsedNamedParams<'a>, AllocError>
     requires names { OnTokens no_backslash_escape query.now (λ ts. HasName ts × (marks ts ≡ 0)) }

@@ -1,5 +1,5 @@
-//! The first name or mark of a text, and how many a query has. `mysql_binding` goes from
-//! place to place by these; no user needs them.
+//! The first name or mark of a text, and how many a query has. `mysql_binding` and
+//! `mysql_flat_params` go from place to place by the first; no user needs it.
 ghost use Rattle.std.specs.Prelude.{◌≡◌, ◌+◌, ◌≤◌, ◌<◌, None, length, IfSome};
 ghost use Rattle.mysql_named_params.specs.Tokens.{OnTokens};
 ghost use Rattle.mysql_named_params.specs.Places.{names, marks, place_count};
@@ -62,15 +62,15 @@ pub fn first_place(text: &[u8], no_backslash_escape: bool) -> Option<FoundPlace>
 
 /// How many names and marks a query has.
 #[derive(Clone, Copy)]
-pub struct PlaceCounts {
+pub(crate) struct PlaceCounts {
     /// Names, with repeats.
-    pub names: usize,
+    pub(crate) names: usize,
     /// Marks.
-    pub marks: usize,
+    pub(crate) marks: usize,
 }
 
 /// Counts the names and marks of a query.
-pub fn count_places(query: &[u8], no_backslash_escape: bool) -> PlaceCounts
+pub(crate) fn count_places(query: &[u8], no_backslash_escape: bool) -> PlaceCounts
     ensures { OnTokens no_backslash_escape query.now (λ ts.
         (result.names ≡ length (names ts)) × (result.marks ≡ marks ts)) }
 {

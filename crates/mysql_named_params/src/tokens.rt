@@ -17,13 +17,13 @@ pub enum TokenKind {
     Other,
 }
 
-fn is_white_space(byte: u8) -> bool
+pub(crate) fn is_white_space(byte: u8) -> bool
     ensures { result ≡ is_white_space byte }
 {
     byte.is_ascii_whitespace()
 }
 
-fn is_start_byte(byte: u8) -> bool
+pub(crate) fn is_start_byte(byte: u8) -> bool
     ensures { result ≡ is_start_byte byte }
 {
     byte.is_ascii_lowercase() || byte == b'_'

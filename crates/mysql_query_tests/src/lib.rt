@@ -6,6 +6,8 @@ mod all_short_queries;
 #[cfg(test)]
 mod plain_tokens;
 #[cfg(test)]
+mod portable;
+#[cfg(test)]
 mod queries;
 #[cfg(test)]
 mod spellings;

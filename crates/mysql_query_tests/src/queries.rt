@@ -41,7 +41,7 @@ fn is_shown(
 }
 
 // Queries, and each with its marks and the names after newlines, or `mixed`.
-const QUERIES: &[(&str, &str)] = &[
+pub(crate) const QUERIES: &[(&str, &str)] = &[
     ("", ""),
     (":a_Aa:b", "?Aa?\na_\nb"),
     ("/**/:a", "/**/?\na"),
@@ -124,7 +124,7 @@ fn names_of_queries(rt: HostRuntime) -> Result<(), Fail> {
 
 // The same in the mode without backslash escapes. There a string ends at the next quote of its
 // kind, also after a backslash.
-const QUERIES_WITHOUT_BACKSLASHES: &[(&str, &str)] = &[
+pub(crate) const QUERIES_WITHOUT_BACKSLASHES: &[(&str, &str)] = &[
     ("", ""),
     ("SELECT 'a\\':b", "SELECT 'a\\'?\nb"),
     (
@@ -163,7 +163,7 @@ fn names_without_backslash_escapes(rt: HostRuntime) -> Result<(), Fail> {
 
 // After `--`: a space, a tab, a form feed and a carriage return open a comment; a vertical tab,
 // other control bytes, a newline and the end do not.
-const COMMENTS: &[(&[u8], &[u8])] = &[
+pub(crate) const COMMENTS: &[(&[u8], &[u8])] = &[
     (b"-- :a", b"-- :a"),
     (b"--\t:a", b"--\t:a"),
     (b"--\x0c:a", b"--\x0c:a"),
@@ -217,6 +217,7 @@ fn equality_of_refusals(rt: HostRuntime) {
     assert!(rt; mixed_error_equality(&MixedParamsError, &MixedParamsError));
     let memory = NamedParamsError::Memory(AllocError);
     let mixed = NamedParamsError::Mixed(MixedParamsError);
+    assert!(rt; named_params_error_equality(&mixed, &NamedParamsError::Mixed(MixedParamsError)));
     assert!(rt; !named_params_error_equality(&memory, &mixed));
 }
 

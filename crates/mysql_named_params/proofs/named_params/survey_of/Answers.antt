@@ -1,6 +1,6 @@
-use Rattle.std.proofs.Common.{refl}
+use Rattle.std.proofs.Common.{refl, arith}
 use Rattle.std.proofs.lemmas.List.{take_rest}
-use Rattle.mysql_named_params.proofs.SurveyLemmas.{no_place_told, counts_told, name_told, places_from_end, places_from_first}
+use Rattle.mysql_named_params.proofs.SurveyLemmas.{no_place_told, counts_told, no_more_counted, name_told, places_from_end, places_from_first}
 use Rattle.mysql_named_params.proofs.named_params.survey_of.Goals as goal
 
 pub returns-in_default-clause-places : goal.returns-in_default-clause-places
@@ -23,3 +23,17 @@ returns-clause-places c =
 
 pub returns-clause-start : goal.returns-clause-start
 returns-clause-start c = places_from_first _ _ _ c.in-Some.ensures.place
+
+pub returns-in_default-clause-counted : goal.returns-in_default-clause-counted
+returns-in_default-clause-counted c =
+    let o = c.in_default.ensures.none in
+    (o.0, o.1, omega arith)
+
+pub returns-in_default-memchr-clause-counted : goal.returns-in_default-memchr-clause-counted
+returns-in_default-memchr-clause-counted c =
+    let o = c.in-Some.ensures.place in
+    (o.0, o.1, omega arith)
+
+pub returns-clause-counted : goal.returns-clause-counted
+returns-clause-counted c =
+    no_more_counted _ _ _ _ _ _ c.in-Some.ensures.place (take_rest c.args.query.now c.in-Some.first.before) c.count_places-counts.ensures

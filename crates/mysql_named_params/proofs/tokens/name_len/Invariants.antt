@@ -1,5 +1,5 @@
 use Rattle.std.proofs.Common.{◌≡◌, ◌+◌, drop}
-use Rattle.mysql_named_params.proofs.TokenEnds as scan
+use Rattle.mysql_named_params.specs.TokensOf as scan
 use Rattle.mysql_named_params.proofs.tokens.name_len.Given as goal
 
 abbrev pub invariant-loop-i : goal.invariant-loop-i

@@ -1,0 +1,329 @@
+-- The tokens of a portable query, on a server.
+use Rattle.std.specs.Prelude.{Bool}
+use Rattle.std.proofs.Common.{◌≡◌, ◌≢◌, ◌⊎◌, ℕ, zero, suc, ◌+◌, ◌≤◌, true, false, cond, not, ◌==◌, ◌&&◌, ◌||◌, List, [], ◌∷◌, ◌++◌, length, Option, None, refl, sym, ap, ◌∙◌, subst, inl, inr, arith, true≢false, length-append, ne_eqb}
+use Rattle.std.proofs.lemmas.Bool.{cases_Bool, or_parts, not-true, not-false, eqb-true, eqb-false}
+use Rattle.std.proofs.lemmas.Bool.Decides.{nat_tests}
+use Rattle.mysql_named_params.specs.Bytes.{asterisk, backquote, colon, dash, double_quote, hash, newline, question_mark, slash, is_white_space, is_string_quote, begins, HoldsOnlyAtEnd, IsUpTo, up_to_word, up_to_end}
+use Rattle.mysql_sql_text.specs.StringUnits.{AreUnits, no_units, byte_unit}
+use Rattle.mysql_named_params.specs.Tokens.{Token, bytes_of, text_of, IsToken, IsTokens, AreTokensBefore, IsStringTail, closed_string, open_string, open_in_escape, QuotedString, QuotedIdentifier, HashComment, DashComment, BlockComment, Name, Mark, Plain}
+use Rattle.mysql_named_params.specs.Places.{names, marks, positions_from}
+use Rattle.mysql_named_params.specs.FirstToken.{opens_dash_comment}
+use Rattle.mysql_named_params.specs.TokensOf.{not_plain_at, dash_comment}
+use Rattle.mysql_named_params.proofs.TokenEnds.{plain_at}
+use Rattle.mysql_named_params.proofs.PlainLemmas.{plain_none}
+use Rattle.mysql_named_params.proofs.RestLemmas.{cond_none, some_none, dash_none}
+use Rattle.mysql_named_params.proofs.TokenListLemmas.{one_token}
+use Rattle.mysql_named_params.specs.Server.{Server, opens_line, is_printable, begins_special, begins_own, reads_in, usual_block, usual_quotes, IsTokenOn, AreTokensOn, IsReadOn}
+use Rattle.mysql_named_params.specs.Portable.{stands_inside, may_open_line, differs_at, is_portable, ArePortableBefore, IsReadAs, read_all, read_same, read_empty_comment}
+use Rattle.mysql_named_params.proofs.ServerTokenLemmas.{not_plain_on, plain_on, dash_comment_on, block_comment_on, own_on, one_list_on}
+
+-- ---- tests
+
+pub second_false : (a b : Bool) → (a && b) ≡ false → a ≡ true → b ≡ false
+second_false true b e h = e
+second_false false b e h = absurd (true≢false (sym h))
+
+pub false_if : (a b : Bool) → (a ≡ true → b ≡ false) → (a && b) ≡ false
+false_if true b f = f refl
+false_if false b f = refl
+
+cond_none_if : (c : Bool) (p q p' q' : Option Token) → (c ≡ true → p ≡ None → p' ≡ None) →
+    (q ≡ None → q' ≡ None) → cond c p q ≡ None → cond c p' q' ≡ None
+cond_none_if true p q p' q' f g e = f refl e
+cond_none_if false p q p' q' f g e = g e
+
+pub opens_at_white : (server : Server) (b : ℕ) → is_white_space b ≡ true → b ≢ newline → opens_line server b ≡ true
+opens_at_white server b h ne = rw (h, ne_eqb b newline ne) refl
+
+no_white_sign : (b : ℕ) → is_printable b ≡ true → is_white_space b ≡ false
+no_white_sign b h = grind (arith, nat_tests)
+
+opens_at_no_sign : (server : Server) (b : ℕ) → is_printable b ≡ true → opens_line server b ≡ false
+opens_at_no_sign server b h = rw (h, no_white_sign b h) refl
+
+-- ---- strings
+
+-- units without the quote, in the mode without backslashes
+units_without : (q : ℕ) (body : List ℕ) → stands_inside q (body ++ q ∷ []) ≡ false →
+    AreUnits true q body
+units_without q [] h = no_units
+units_without q (b ∷ []) h = byte_unit (eqb-false b q (or_parts (b == q) _ h).0) refl no_units
+units_without q (b ∷ c ∷ body) h =
+    let p = or_parts (b == q) (stands_inside q (c ∷ (body ++ q ∷ []))) h in
+    byte_unit (eqb-false b q p.0) refl (units_without q (c ∷ body) p.1)
+
+cons_unit : (q b : ℕ) (tail rest : List ℕ) → b ≢ q → IsStringTail true q tail rest →
+    IsStringTail true q (b ∷ tail) rest
+cons_unit q b tail rest ne (closed_string body u e) = closed_string (b ∷ body) (byte_unit ne refl u) (ap (λ x. b ∷ x) e)
+cons_unit q b tail rest ne (open_string u e) = open_string (byte_unit ne refl u) e
+cons_unit q b tail rest ne (open_in_escape body c u escapes e nil) = absurd (true≢false (sym escapes))
+
+last_tail : (q : ℕ) (tail : List ℕ) → stands_inside q tail ≡ false → IsStringTail true q tail []
+last_tail q [] h = open_string no_units refl
+last_tail q (b ∷ []) h =
+    elim (cases_Bool (b == q)) [
+      | inl e ↦ closed_string [] no_units (ap (λ x. x ∷ []) (sym (eqb-true b q e)))
+      | inr e ↦ open_string (byte_unit (eqb-false b q e) refl no_units) refl
+    ]
+last_tail q (b ∷ c ∷ bs) h =
+    let p = or_parts (b == q) (stands_inside q (c ∷ bs)) h in
+    cons_unit q b (c ∷ bs) [] (eqb-false b q p.0) (last_tail q (c ∷ bs) p.1)
+
+string_without : (q : ℕ) (tail rest : List ℕ) → IsStringTail false q tail rest →
+    stands_inside q tail ≡ false → IsStringTail true q tail rest
+string_without q tail rest (closed_string body u e) p = closed_string body (units_without q body (ap (stands_inside q) e ∙ p)) e
+string_without q tail rest (open_string u nil) p = subst (IsStringTail true q tail) (sym nil) (last_tail q tail p)
+string_without q tail rest (open_in_escape body b u s e nil) p = subst (IsStringTail true q tail) (sym nil) (last_tail q tail p)
+
+string_on : (server : Server) (mode : Bool) (q : ℕ) (tail rest : List ℕ) → IsStringTail mode q tail rest →
+    not (q == double_quote && stands_inside q tail) ≡ true →
+    IsStringTail (reads_in server mode q) q tail rest
+string_on server true q tail rest h p = h
+string_on server false q tail rest h p = go server.ansi_quotes (q == double_quote) p
+  where
+    go : (a d : Bool) → not (d && stands_inside q tail) ≡ true → IsStringTail (a && d) q tail rest
+    go false d p = h
+    go true false p = h
+    go true true p = string_without q tail rest h (not-true _ p)
+
+-- ---- comments
+
+pub line_on : (gap : ℕ) (tail rest : List ℕ) → gap ≢ newline → IsUpTo (newline ∷ []) tail rest →
+    IsUpTo (newline ∷ []) (gap ∷ tail) rest
+line_on gap tail rest ne (up_to_word body e ends) = up_to_word (gap ∷ body) (ap (λ x. gap ∷ x) e) ends'
+  where
+    ends' : HoldsOnlyAtEnd (newline ∷ []) (gap ∷ tail)
+    ends' [] back f = let g : newline ≡ gap = cc in absurd (ne (sym g))
+    ends' (c ∷ front) back f = let g : front ++ newline ∷ back ≡ tail = cc in ends front back g
+line_on gap tail rest ne (up_to_end lacks e) = up_to_end lacks' e
+  where
+    lacks' : (front back : List ℕ) → front ++ newline ∷ back ≢ gap ∷ tail
+    lacks' [] back f = let g : newline ≡ gap = cc in ne (sym g)
+    lacks' (c ∷ front) back f = let g : front ++ newline ∷ back ≡ tail = cc in lacks front back g
+
+pub empty_line : (rest : List ℕ) → IsUpTo (newline ∷ []) (newline ∷ []) rest
+empty_line rest = up_to_word [] refl ends
+  where
+    ends : HoldsOnlyAtEnd (newline ∷ []) (newline ∷ [])
+    ends front [] e = refl
+    ends front (b ∷ back) e = absurd (omega (arith, ap length e, length-append front (newline ∷ b ∷ back)))
+
+-- what tells a comment from a special text stands in the comment, or nowhere
+pub special_in_front : (tail rest : List ℕ) → IsUpTo (asterisk ∷ slash ∷ []) tail rest →
+    begins_special tail ≡ false → begins_special (tail ++ rest) ≡ false
+special_in_front [] rest (up_to_word body e ends) p = absurd (omega (arith, ap length e, length-append body (asterisk ∷ slash ∷ [])))
+special_in_front [] rest (up_to_end lacks e) p = rw e refl
+special_in_front (b ∷ []) rest (up_to_word body e ends) p = absurd (omega (arith, ap length e, length-append body (asterisk ∷ slash ∷ [])))
+special_in_front (b ∷ []) rest (up_to_end lacks e) p = rw e p
+special_in_front (b ∷ c ∷ tail) rest u p = p
+
+-- ---- plain bytes
+
+-- where `--` and a newline follow, the server opens no comment there
+abbrev pub NoEmptyComment : Server → List ℕ → Type 0
+NoEmptyComment server rest = (more : List ℕ) → dash ∷ newline ∷ more ≡ rest → opens_line server newline ≡ false
+
+dash_on : (server : Server) (rest : List ℕ) → may_open_line rest ≡ false → NoEmptyComment server rest →
+    dash_comment rest ≡ None → dash_comment_on server rest ≡ None
+dash_on server [] p n e = refl
+dash_on server (b ∷ []) p n e = refl
+dash_on server (b ∷ gap ∷ bs) p n e = rw (opens (cases_Bool (b == dash)) (dash_none (b ∷ gap ∷ bs) e) p) refl
+  where
+    no_gap : (w s : Bool) → is_white_space gap ≡ w → is_printable gap ≡ s → b ≡ dash →
+        (w && not (gap == newline)) ≡ false → not (w || s) ≡ false → opens_line server gap ≡ false
+    no_gap true s we se d e p =
+        let g : gap ≡ newline = eqb-true gap newline (not-false (gap == newline) e) in
+        ap (opens_line server) g ∙ n bs (ap (λ x. x ∷ newline ∷ bs) (sym d) ∙ ap (λ x. b ∷ x ∷ bs) (sym g))
+    no_gap false true we se d e p = opens_at_no_sign server gap se
+    no_gap false false we se d e p = absurd (true≢false p)
+
+    opens : ((b == dash) ≡ true) ⊎ ((b == dash) ≡ false) → opens_dash_comment (b ∷ gap ∷ bs) ≡ false →
+        may_open_line (b ∷ gap ∷ bs) ≡ false → (b == dash && opens_line server gap) ≡ false
+    opens (inl d) e p = rw d (no_gap (is_white_space gap) (is_printable gap) refl refl (eqb-true b dash d) (rw d at e) (rw d at p))
+    opens (inr d) e p = rw d refl
+
+slash_on : (server : Server) (rest : List ℕ) → begins (λ c. c == asterisk) rest ≡ false →
+    block_comment_on server rest ≡ None
+slash_on server [] p = refl
+slash_on server (b ∷ bs) p = rw p refl
+
+own_none : (server : Server) (b : ℕ) (rest : List ℕ) → begins_own b rest ≡ false → own_on server b rest ≡ None
+own_none server b rest p = rw p refl
+
+plain_alike : (server : Server) (mode : Bool) (b : ℕ) (rest : List ℕ) → differs_at b rest ≡ false →
+    (b ≡ dash → NoEmptyComment server rest) → not_plain_at mode (b ∷ rest) ≡ None →
+    not_plain_on server mode (b ∷ rest) ≡ None
+plain_alike server mode b rest p n =
+    let p1 = or_parts (b == slash && begins (λ c. c == asterisk) rest) _ p in
+    let p2 = or_parts (b == dash && may_open_line rest) (begins_own b rest) p1.1 in
+    cond_none (is_string_quote b) _ _ _ _ (some_none _ _)
+    (cond_none (b == backquote) _ _ _ _ (some_none _ _)
+    (cond_none (b == hash) _ _ _ _ (some_none _ _)
+    (cond_none_if (b == dash) _ _ _ _ (λ h. dash_on server rest (second_false _ _ p2.0 h) (n (eqb-true b dash h)))
+    (cond_none_if (b == slash) _ _ _ _ (λ h e. slash_on server rest (second_false _ _ p1.0 h))
+    (cond_none (b == colon) _ _ _ _ (λ e. e)
+    (cond_none (b == question_mark) _ _ _ _ (some_none _ _) (λ e. own_none server b rest p2.1)))))))
+
+-- a portable token is a token on the server
+pub token_on : (server : Server) (mode : Bool) (t : Token) (rest : List ℕ) → IsToken mode t rest →
+    is_portable t rest ≡ true → (t ≡ Plain dash → NoEmptyComment server rest) →
+    IsTokenOn server mode t rest
+token_on server mode (QuotedString quote tail) rest h p n = usual_quotes h.0 (string_on server mode quote tail rest h.1 p)
+token_on server mode (QuotedIdentifier tail) rest h p n = h
+token_on server mode (HashComment tail) rest h p n = h
+token_on server mode (DashComment gap tail) rest h p n = (opens_at_white server gap h.0 h.1, line_on gap tail rest h.1 h.2)
+token_on server mode (BlockComment tail) rest h p n = usual_block (rw (special_in_front tail rest h.1 (not-true _ p)) refl) h.1
+token_on server mode (Name name) rest h p n = h
+token_on server mode Mark rest h p n = tt
+token_on server mode (Plain b) rest h p n = plain_on server mode b rest (plain_alike server mode b rest (not-true _ p) (λ e. n (ap Plain e)) (plain_none mode b rest h))
+
+-- ---- the tokens of a query
+
+pub read_text : {ts us : List Token} → IsReadAs ts us → text_of us ≡ text_of ts
+read_text read_all = refl
+read_text (read_same {t = t} r) = ap (λ x. bytes_of t ++ x) (read_text r)
+read_text (read_empty_comment r) = ap (λ x. dash ∷ dash ∷ newline ∷ x) (read_text r)
+
+-- a text that begins with a byte that is plain there
+pub head_is : (mode : Bool) (ts : List Token) (b : ℕ) (more : List ℕ) → AreTokensBefore mode [] ts →
+    text_of ts ≡ b ∷ more → not_plain_at mode (b ∷ more) ≡ None →
+    (us : List Token) × (ts ≡ Plain b ∷ us) × (text_of us ≡ more)
+head_is mode [] b more h e p = cc
+head_is mode (t ∷ ts) b more h e p =
+    let same : t ≡ Plain b = one_token mode t (Plain b) (text_of ts) more h.0 (plain_at mode b more p) e in
+    let texts : b ∷ text_of ts ≡ b ∷ more = sym (ap (λ x. bytes_of x ++ text_of ts) same) ∙ e in
+    let rest : text_of ts ≡ more = cc in
+    (ts, ap (λ x. x ∷ ts) same, rest)
+
+newline_plain : (mode : Bool) (more : List ℕ) → not_plain_at mode (newline ∷ more) ≡ None
+newline_plain mode more = refl
+
+dash_plain : (mode : Bool) (more : List ℕ) → not_plain_at mode (dash ∷ newline ∷ more) ≡ None
+dash_plain mode [] = refl
+dash_plain mode (b ∷ more) = refl
+
+dash_line : (mode : Bool) (ts : List Token) (more : List ℕ) → AreTokensBefore mode [] ts →
+    dash ∷ newline ∷ more ≡ text_of ts → (us : List Token) × (ts ≡ Plain dash ∷ Plain newline ∷ us)
+dash_line mode ts more h e =
+    let a = head_is mode ts dash (newline ∷ more) h (sym e) (dash_plain mode more) in
+    let ha : AreTokensBefore mode [] (Plain dash ∷ a.0) = subst (AreTokensBefore mode []) a.1 h in
+    let b = head_is mode a.0 newline more ha.1 a.2 (newline_plain mode more) in
+    (b.0, a.1 ∙ ap (λ x. Plain dash ∷ x) b.1)
+
+-- whether an empty comment stands here
+pub data HasEmptyComment (t : Token) (rest : List ℕ) : Type 0 where
+  empty_here : (more : List ℕ) → t ≡ Plain dash → dash ∷ newline ∷ more ≡ rest → HasEmptyComment t rest
+  none_here : ((more : List ℕ) → t ≡ Plain dash → dash ∷ newline ∷ more ≢ rest) → HasEmptyComment t rest
+
+line_here : (t : Token) (rest : List ℕ) → t ≡ Plain dash → HasEmptyComment t rest
+line_here t [] h = none_here (λ more d e. cc)
+line_here t (b ∷ []) h = none_here (λ more d e. cc)
+line_here t (b ∷ c ∷ bs) h =
+    elim (cases_Bool (b == dash)) [
+      | inl f ↦ elim (cases_Bool (c == newline)) [
+        | inl g ↦ empty_here bs h (ap (λ x. x ∷ newline ∷ bs) (sym (eqb-true b dash f)) ∙ ap (λ x. b ∷ x ∷ bs) (sym (eqb-true c newline g)))
+        | inr g ↦ none_here (λ more d e. eqb-false c newline g (second more e))
+      ]
+      | inr f ↦ none_here (λ more d e. eqb-false b dash f (first more e))
+    ]
+  where
+    first : (more : List ℕ) → dash ∷ newline ∷ more ≡ b ∷ c ∷ bs → b ≡ dash
+    first more e = cc
+
+    second : (more : List ℕ) → dash ∷ newline ∷ more ≡ b ∷ c ∷ bs → c ≡ newline
+    second more e = cc
+
+has_empty : (t : Token) (rest : List ℕ) → HasEmptyComment t rest
+has_empty (Plain b) rest =
+    elim (cases_Bool (b == dash)) [
+      | inl e ↦ line_here (Plain b) rest (ap Plain (eqb-true b dash e))
+      | inr e ↦ none_here (λ more d f. eqb-false b dash e (is_dash b d))
+    ]
+  where
+    is_dash : (b : ℕ) → Plain b ≡ Plain dash → b ≡ dash
+    is_dash b e = cc
+has_empty (QuotedString quote tail) rest = none_here (λ more d f. cc)
+has_empty (QuotedIdentifier tail) rest = none_here (λ more d f. cc)
+has_empty (HashComment tail) rest = none_here (λ more d f. cc)
+has_empty (DashComment gap tail) rest = none_here (λ more d f. cc)
+has_empty (BlockComment tail) rest = none_here (λ more d f. cc)
+has_empty (Name name) rest = none_here (λ more d f. cc)
+has_empty Mark rest = none_here (λ more d f. cc)
+
+-- what the server makes of the tokens
+pub record ReadingOn (server : Server) (mode : Bool) (ts : List Token) : Type 0 where
+  pub tokens : List Token
+  pub alike : IsReadAs ts tokens
+  pub holds : AreTokensOn server mode tokens
+
+reading_same : (server : Server) (mode : Bool) (t : Token) (ts : List Token) →
+    IsTokenOn server mode t (text_of ts) → ReadingOn server mode ts → ReadingOn server mode (t ∷ ts)
+reading_same server mode t ts h r = record {
+  tokens = t ∷ r.tokens;
+  alike = read_same r.alike;
+  holds = (subst (IsTokenOn server mode t) (sym (read_text r.alike)) h, r.holds);
+}
+
+reading_empty : (server : Server) (mode : Bool) (ts : List Token) → opens_line server newline ≡ true →
+    ReadingOn server mode ts → ReadingOn server mode (Plain dash ∷ Plain dash ∷ Plain newline ∷ ts)
+reading_empty server mode ts o r = record {
+  tokens = DashComment newline [] ∷ r.tokens;
+  alike = read_empty_comment r.alike;
+  holds = ((o, empty_line _), r.holds);
+}
+
+reading_within : (server : Server) (mode : Bool) (n : ℕ) (ts : List Token) → length ts ≤ n →
+    AreTokensBefore mode [] ts → ArePortableBefore [] ts → ReadingOn server mode ts
+reading_within server mode n [] le h p = record { tokens = []; alike = read_all; holds = tt }
+reading_within server mode zero (t ∷ ts) le h p = absurd (omega arith)
+reading_within server mode (suc n) (t ∷ ts) le h p =
+    elim (cases_Bool (opens_line server newline)) [
+      | inr o ↦ reading_same server mode t ts (token_on server mode t (text_of ts) h.0 p.0 (λ d more e. o)) (reading_within server mode n ts (omega arith) h.1 p.1)
+      | inl o ↦ elim (has_empty t (text_of ts)) [
+        | none_here other ↦ reading_same server mode t ts (token_on server mode t (text_of ts) h.0 p.0 (λ d more e. absurd (other more d e))) (reading_within server mode n ts (omega arith) h.1 p.1)
+        | empty_here more d e ↦
+            let line = dash_line mode ts more h.1 e in
+            let h' : AreTokensBefore mode [] (Plain dash ∷ Plain newline ∷ line.0) = subst (AreTokensBefore mode []) line.1 h.1 in
+            let p' : ArePortableBefore [] (Plain dash ∷ Plain newline ∷ line.0) = subst (ArePortableBefore []) line.1 p.1 in
+            let shorter : length line.0 ≤ n = omega (arith, ap length line.1) in
+            let whole : Plain dash ∷ Plain dash ∷ Plain newline ∷ line.0 ≡ t ∷ ts = sym (ap (λ x. x ∷ ts) d ∙ ap (λ x. Plain dash ∷ x) line.1) in
+            subst (ReadingOn server mode) whole (reading_empty server mode line.0 o (reading_within server mode n line.0 shorter h'.1.1 p'.1.1))
+      ]
+    ]
+
+pub reading_on : (server : Server) (mode : Bool) (ts : List Token) → AreTokensBefore mode [] ts →
+    ArePortableBefore [] ts → ReadingOn server mode ts
+reading_on server mode ts h p = reading_within server mode (length ts) ts (omega arith) h p
+
+-- a portable query, on a server
+pub portable_read : (server : Server) (mode : Bool) (query : List ℕ) (ts us : List Token) →
+    IsTokens mode query ts → ArePortableBefore [] ts → IsReadOn server mode query us → IsReadAs ts us
+portable_read server mode query ts us h p u =
+    let r = reading_on server mode ts h.each p in
+    let same : r.tokens ≡ us = one_list_on server mode query r.tokens us (record { text = read_text r.alike ∙ h.text; each = r.holds }) u in
+    subst (IsReadAs ts) same r.alike
+
+-- ---- the places
+
+pub read_names : {ts us : List Token} → IsReadAs ts us → names us ≡ names ts
+read_names read_all = refl
+read_names (read_same {t = Name name} r) = ap (λ x. name ∷ x) (read_names r)
+read_names (read_same {t = Mark} r) = read_names r
+read_names (read_same {t = t} r) = read_names r
+read_names (read_empty_comment r) = read_names r
+
+pub read_marks : {ts us : List Token} → IsReadAs ts us → marks us ≡ marks ts
+read_marks read_all = refl
+read_marks (read_same {t = Mark} r) = ap (λ x. x + 1) (read_marks r)
+read_marks (read_same {t = Name name} r) = read_marks r
+read_marks (read_same {t = t} r) = read_marks r
+read_marks (read_empty_comment r) = read_marks r
+
+pub read_positions : {ts us : List Token} → IsReadAs ts us → (n : ℕ) → positions_from n us ≡ positions_from n ts
+read_positions read_all n = refl
+read_positions (read_same {t = Name name} r) n = ap (λ x. n ∷ x) (read_positions r _)
+read_positions (read_same {t = Mark} r) n = ap (λ x. n ∷ x) (read_positions r _)
+read_positions (read_same {t = t} r) n = read_positions r _
+read_positions (read_empty_comment {ts = ts} {us = us} r) n =
+    let e : n + 3 ≡ n + 1 + 1 + 1 = omega arith in
+    ap (λ x. positions_from x us) e ∙ read_positions r _

@@ -1,0 +1,180 @@
+-- No weaker condition than `ArePortable` serves: what every server reads alike is portable.
+use Rattle.std.specs.Prelude.{Bool}
+use Rattle.std.proofs.Common.{◌≡◌, ◌⊎◌, ℕ, true, false, cond, not, ◌==◌, ◌&&◌, ◌||◌, List, [], ◌∷◌, ◌++◌, take, Option, Some, None, refl, sym, ap, ◌∙◌, subst, inl, inr, true≢false, ne_eqb}
+use Rattle.std.specs.Str.{byte}
+use Rattle.std.proofs.lemmas.Bool.{cases_Bool, or_from, or_right, false_from_ne_true, eqb-true}
+use Rattle.mysql_sql_text.specs.StringUnits.{AreUnits, no_units, byte_unit, escape_unit}
+use Rattle.mysql_named_params.specs.Bytes.{asterisk, dash, double_quote, exclamation_mark, newline, slash, is_white_space, is_string_quote, begins}
+use Rattle.mysql_named_params.specs.Tokens.{Token, text_of, IsToken, IsTokens, AreTokensBefore, IsStringTail, closed_string, open_string, open_in_escape, QuotedString, QuotedIdentifier, HashComment, DashComment, BlockComment, Name, Mark, Plain}
+use Rattle.mysql_named_params.specs.Server.{Server, is_printable, begins_special, begins_own, comment, comment_of, block_on, reads_in, IsBlockTail, usual_block, own_block, IsQuotedTail, usual_quotes, own_quotes, IsTokenOn, AreTokensOn, IsReadOn}
+use Rattle.mysql_named_params.specs.Portable.{stands_inside, may_open_line, differs_at, is_portable, ArePortableBefore, IsReadAs, read_all, read_same, read_empty_comment}
+use Rattle.mysql_named_params.proofs.ServerTokenLemmas.{not_plain_on, dash_comment_on, block_comment_on, comment_by, own_is, own_at}
+use Rattle.mysql_named_params.proofs.GrammarLemmas.{not_plain_found_on, tokens_on}
+use Rattle.mysql_named_params.proofs.PortableLemmas.{false_if, read_text}
+
+-- a server that differs from the grammar wherever one may
+abbrev pub contrary : Server
+contrary = record {
+  special = λ text. comment_of 0;
+  quotes = λ b text. Some 0;
+  also_opens = λ b. true;
+  ansi_quotes = true;
+}
+
+-- ---- strings
+
+no_quote_inside : (q : ℕ) (body : List ℕ) → AreUnits true q body → stands_inside q body ≡ false
+no_quote_inside q [] no_units = refl
+no_quote_inside q (b ∷ []) (byte_unit ne p u) = refl
+no_quote_inside q (b ∷ c ∷ bs) (byte_unit ne p u) = or_from _ _ (ne_eqb b q ne) (no_quote_inside q (c ∷ bs) u)
+no_quote_inside q (b ∷ c ∷ bs) (escape_unit s u) = absurd (true≢false (sym s))
+
+no_quote_before : (q : ℕ) (body : List ℕ) → AreUnits true q body → stands_inside q (body ++ q ∷ []) ≡ false
+no_quote_before q [] no_units = refl
+no_quote_before q (b ∷ []) (byte_unit ne p u) = or_from _ _ (ne_eqb b q ne) refl
+no_quote_before q (b ∷ c ∷ bs) (byte_unit ne p u) = or_from _ _ (ne_eqb b q ne) (no_quote_before q (c ∷ bs) u)
+no_quote_before q (b ∷ c ∷ bs) (escape_unit s u) = absurd (true≢false (sym s))
+
+string_ends : (q : ℕ) (tail rest : List ℕ) → IsStringTail true q tail rest → stands_inside q tail ≡ false
+string_ends q tail rest (closed_string body u e) = subst (λ x. stands_inside q x ≡ false) e (no_quote_before q body u)
+string_ends q tail rest (open_string u nil) = no_quote_inside q tail u
+string_ends q tail rest (open_in_escape body b u s e nil) = absurd (true≢false (sym s))
+
+string_alike : (mode : Bool) (q : ℕ) (tail rest : List ℕ) → IsStringTail (reads_in contrary mode q) q tail rest →
+    not (q == double_quote && stands_inside q tail) ≡ true
+string_alike mode q tail rest h = go (q == double_quote) h
+  where
+    go : (d : Bool) → IsStringTail (mode || (true && d)) q tail rest → not (d && stands_inside q tail) ≡ true
+    go false h = refl
+    go true h = ap not (string_ends q tail rest (subst (λ m. IsStringTail m q tail rest) (or_right mode true refl) h))
+
+pub no_own_quote : (q : ℕ) (bs : List ℕ) → is_string_quote q ≡ true → begins_own q bs ≡ true → ⊥
+no_own_quote q bs h o = go (own_is q bs o)
+  where
+    go : (q ≡ byte "[") ⊎ ((q ≡ byte "$") ⊎ (q ≡ byte ".")) → ⊥
+    go (inl e) = true≢false (sym h ∙ ap is_string_quote e)
+    go (inr (inl e)) = true≢false (sym h ∙ ap is_string_quote e)
+    go (inr (inr e)) = true≢false (sym h ∙ ap is_string_quote e)
+
+quoted_alike : (mode : Bool) (q : ℕ) (tail rest : List ℕ) → is_string_quote q ≡ true → IsQuotedTail contrary mode q tail rest →
+    not (q == double_quote && stands_inside q tail) ≡ true
+quoted_alike mode q tail rest h (usual_quotes i s) = string_alike mode q tail rest s
+quoted_alike mode q tail rest h (own_quotes n o s e) = absurd (no_own_quote q (tail ++ rest) h o)
+
+-- ---- comments
+
+pub special_more : (tail rest : List ℕ) → begins_special tail ≡ true → begins_special (tail ++ rest) ≡ true
+special_more [] rest h = absurd (true≢false (sym h))
+special_more (b ∷ []) rest h = go _ _ h
+  where
+    go : (a c : Bool) → (a || (c && false)) ≡ true → (a || (c && begins (λ d. d == exclamation_mark) rest)) ≡ true
+    go true c h = refl
+    go false true h = absurd (true≢false (sym h))
+    go false false h = absurd (true≢false (sym h))
+special_more (b ∷ c ∷ tail) rest h = h
+
+block_alike : (tail rest : List ℕ) → IsBlockTail contrary tail rest → not (begins_special tail) ≡ true
+block_alike tail rest h = go (cases_Bool (begins_special tail)) h
+  where
+    no_usual : (s : Bool) → s ≡ true → cond s (comment_of 0) comment ≡ comment → ⊥
+    no_usual true p e = cc
+    no_usual false p e = true≢false (sym p)
+
+    no_length : (s : Bool) (n : ℕ) → s ≡ true → cond s (comment_of 0) comment ≡ comment_of n → n ≡ 0
+    no_length true n p e = cc
+    no_length false n p e = absurd (true≢false (sym p))
+
+    nothing : (n : ℕ) (xs : List ℕ) → n ≡ 0 → take n xs ≡ []
+    nothing n xs e = subst (λ k. take k xs ≡ []) (sym e) refl
+
+    go : (begins_special tail ≡ true) ⊎ (begins_special tail ≡ false) → IsBlockTail contrary tail rest → not (begins_special tail) ≡ true
+    go (inr p) h = ap not p
+    go (inl p) (usual_block k u) = absurd (no_usual (begins_special (tail ++ rest)) (special_more tail rest p) k)
+    go (inl p) (own_block n k e) =
+        let zero_is : n ≡ 0 = no_length (begins_special (tail ++ rest)) n (special_more tail rest p) k in
+        let nil : tail ≡ [] = sym e ∙ nothing n (tail ++ rest) zero_is in
+        absurd (true≢false (sym p ∙ ap begins_special nil))
+
+-- ---- plain bytes
+
+plain_none_on : (server : Server) (mode : Bool) (b : ℕ) (rest : List ℕ) → IsTokenOn server mode (Plain b) rest →
+    not_plain_on server mode (b ∷ rest) ≡ None
+plain_none_on server mode b rest h = go (not_plain_on server mode (b ∷ rest)) refl
+  where
+    go : (o : Option Token) → not_plain_on server mode (b ∷ rest) ≡ o → o ≡ None
+    go None e = refl
+    go (Some t) e = let f = not_plain_found_on server mode (b ∷ rest) t e in absurd (h t f.0 f.1 f.2)
+
+slash_none : (mode : Bool) (b : ℕ) (rest : List ℕ) → b ≡ slash → not_plain_on contrary mode (b ∷ rest) ≡ None →
+    block_comment_on contrary rest ≡ None
+slash_none mode b rest e = subst (λ x. not_plain_on contrary mode (x ∷ rest) ≡ None → block_comment_on contrary rest ≡ None) (sym e) (λ n. n)
+
+dash_none_there : (mode : Bool) (b : ℕ) (rest : List ℕ) → b ≡ dash → not_plain_on contrary mode (b ∷ rest) ≡ None →
+    dash_comment_on contrary rest ≡ None
+dash_none_there mode b rest e = subst (λ x. not_plain_on contrary mode (x ∷ rest) ≡ None → dash_comment_on contrary rest ≡ None) (sym e) (λ n. n)
+
+always_block : (bs : List ℕ) → comment_by bs (block_on contrary bs) ≡ None → ⊥
+always_block bs = go (begins_special bs)
+  where
+    go : (s : Bool) → comment_by bs (cond s (comment_of 0) comment) ≡ None → ⊥
+    go true e = cc
+    go false e = cc
+
+no_star : (rest : List ℕ) → block_comment_on contrary rest ≡ None → begins (λ c. c == asterisk) rest ≡ false
+no_star [] e = refl
+no_star (b ∷ bs) e = go (b == asterisk) e
+  where
+    go : (s : Bool) → cond s (comment_by bs (block_on contrary bs)) None ≡ None → s ≡ false
+    go true e = absurd (always_block bs e)
+    go false e = refl
+
+no_line : (rest : List ℕ) → dash_comment_on contrary rest ≡ None → may_open_line rest ≡ false
+no_line [] e = refl
+no_line (b ∷ []) e = refl
+no_line (b ∷ gap ∷ bs) e = go (b == dash) (is_white_space gap) (not (gap == newline)) (is_printable gap) _ e
+  where
+    go : (d w n p : Bool) (t : Token) → cond (d && ((w && n) || (not p && true))) (Some t) None ≡ None → (d && not (w || p)) ≡ false
+    go false w n p t e = refl
+    go true true n p t e = refl
+    go true false n true t e = refl
+    go true false n false t e = cc
+
+no_own : (mode : Bool) (b : ℕ) (rest : List ℕ) → not_plain_on contrary mode (b ∷ rest) ≡ None → begins_own b rest ≡ false
+no_own mode b rest n =
+    false_from_ne_true (begins_own b rest) (λ o. let bad : Some (QuotedString b []) ≡ None = sym (own_at contrary mode b rest o) ∙ n in cc)
+
+plain_alike : (mode : Bool) (b : ℕ) (rest : List ℕ) → not_plain_on contrary mode (b ∷ rest) ≡ None → differs_at b rest ≡ false
+plain_alike mode b rest n =
+    or_from _ _ (false_if (b == slash) _ (λ h. no_star rest (slash_none mode b rest (eqb-true b slash h) n)))
+    (or_from _ _ (false_if (b == dash) _ (λ h. no_line rest (dash_none_there mode b rest (eqb-true b dash h) n))) (no_own mode b rest n))
+
+-- a token of the grammar that is one of the contrary server is portable
+token_portable : (mode : Bool) (t : Token) (rest : List ℕ) → IsToken mode t rest → IsTokenOn contrary mode t rest →
+    is_portable t rest ≡ true
+token_portable mode (QuotedString quote tail) rest h o = quoted_alike mode quote tail rest h.0 o
+token_portable mode (QuotedIdentifier tail) rest h o = refl
+token_portable mode (HashComment tail) rest h o = refl
+token_portable mode (DashComment gap tail) rest h o = refl
+token_portable mode (BlockComment tail) rest h o = block_alike tail rest o
+token_portable mode (Name name) rest h o = refl
+token_portable mode Mark rest h o = refl
+token_portable mode (Plain b) rest h o = ap not (plain_alike mode b rest (plain_none_on contrary mode b rest o))
+
+second_dash : (text : List ℕ) → is_portable (Plain dash) (newline ∷ text) ≡ true
+second_dash [] = refl
+second_dash (b ∷ text) = refl
+
+all_portable : (mode : Bool) {ts us : List Token} → IsReadAs ts us → AreTokensBefore mode [] ts →
+    AreTokensOn contrary mode us → ArePortableBefore [] ts
+all_portable mode read_all h o = tt
+all_portable mode (read_same {t = t} {ts = ts} r) h o =
+    (token_portable mode t (text_of ts) h.0 (subst (IsTokenOn contrary mode t) (read_text r) o.0), all_portable mode r h.1 o.1)
+all_portable mode (read_empty_comment {ts = ts} r) h o =
+    (refl, (second_dash (text_of ts), (refl, all_portable mode r h.1.1.1 o.1)))
+
+pub sharp : (mode : Bool) (query : List ℕ) (ts : List Token) → IsTokens mode query ts →
+    ((server : Server) (us : List Token) → IsReadOn server mode query us → IsReadAs ts us) →
+    ArePortableBefore [] ts
+sharp mode query ts h alike =
+    let u = tokens_on contrary mode query in
+    all_portable mode (alike contrary u.0 u.1) h.each u.1.each

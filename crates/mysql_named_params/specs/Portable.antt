@@ -1,0 +1,87 @@
+-- Portable queries: those that every server of Server.antt reads as the grammar does (by the laws
+-- `portable_reading` and `portable_is_sharp`). Besides, as a condition of its own, no place stands
+-- directly after a number's exponent, where a value's digits would join the number.
+use Rattle.std.specs.Prelude.{ℕ, IsTrue, IsFalse, Bool, true, false, not, ◌==◌, ◌&&◌, ◌||◌, List, [], ◌∷◌, ⊤}
+use Rattle.std.specs.Char.{is_ascii_digit}
+use Rattle.std.specs.Str.{byte}
+use Rattle.mysql_named_params.specs.Bytes.{asterisk, colon, dash, double_quote, newline, plus, question_mark, slash, is_white_space, is_start_byte, begins}
+use Rattle.mysql_named_params.specs.Tokens.{Token, text_then, QuotedString, DashComment, BlockComment, Plain}
+use Rattle.mysql_named_params.specs.Server.{is_printable, begins_special, begins_own}
+
+-- the byte stands before the last one
+abbrev pub stands_inside : ℕ → List ℕ → Bool
+stands_inside q [] = false
+stands_inside q (b ∷ []) = false
+stands_inside q (b ∷ c ∷ bs) = b == q || stands_inside q (c ∷ bs)
+
+-- after a plain `-`: another, and a byte with which some servers open a comment
+abbrev pub may_open_line : List ℕ → Bool
+may_open_line [] = false
+may_open_line (b ∷ []) = false
+may_open_line (b ∷ gap ∷ bs) = b == dash && not (is_white_space gap || is_printable gap)
+
+-- this plain byte, before this text, begins a construct in which servers differ
+abbrev pub differs_at : ℕ → List ℕ → Bool
+differs_at b rest =
+    (b == slash && begins (λ c. c == asterisk) rest)
+    || ((b == dash && may_open_line rest) || begins_own b rest)
+
+-- every server ends this token before this text where the grammar does
+abbrev pub is_portable : Token → List ℕ → Bool
+is_portable (QuotedString quote tail) rest = not (quote == double_quote && stands_inside quote tail)
+is_portable (BlockComment tail) rest = not (begins_special tail)
+is_portable (Plain b) rest = not (differs_at b rest)
+is_portable t rest = true
+
+-- each of the tokens is portable, and then a rest
+abbrev pub ArePortableBefore : List ℕ → List Token → Type 0
+ArePortableBefore rest [] = ⊤
+ArePortableBefore rest (t ∷ ts) =
+    IsTrue (is_portable t (text_then rest ts)) × ArePortableBefore rest ts
+
+-- each of the tokens of a query is portable
+abbrev pub ArePortable : List Token → Type 0
+ArePortable = ArePortableBefore []
+
+-- `?`, or `:` and a start byte
+abbrev pub begins_place : List ℕ → Bool
+begins_place [] = false
+begins_place (b ∷ bs) = b == question_mark || (b == colon && begins is_start_byte bs)
+
+-- `e` or `E`, `+` or `-`, and a place
+abbrev pub begins_exponent : List ℕ → Bool
+begins_exponent [] = false
+begins_exponent (e ∷ []) = false
+begins_exponent (e ∷ sign ∷ bs) =
+    (e == byte "e" || e == byte "E") && ((sign == plus || sign == dash) && begins_place bs)
+
+-- A digit or a point before such a text: `1e+?`, `1.5E-:a`. It is more than is needed: that of
+-- `x1e+?` and of `t.e+?` belongs to no number.
+abbrev pub joins_number : Token → List ℕ → Bool
+joins_number (Plain b) rest = (is_ascii_digit b || b == byte ".") && begins_exponent rest
+joins_number t rest = false
+
+-- no place stands directly after an exponent, where a rest follows the tokens
+abbrev pub JoinNoNumberBefore : List ℕ → List Token → Type 0
+JoinNoNumberBefore rest [] = ⊤
+JoinNoNumberBefore rest (t ∷ ts) =
+    IsFalse (joins_number t (text_then rest ts)) × JoinNoNumberBefore rest ts
+
+-- no place of a query stands directly after an exponent
+abbrev pub JoinNoNumber : List Token → Type 0
+JoinNoNumber = JoinNoNumberBefore []
+
+-- the query of these tokens is portable, and no place of it joins a number
+pub record IsPortable (ts : List Token) : Type 0 where
+  -- every server reads it as the grammar does
+  pub alike : ArePortable ts
+  -- no value's digits join a number of the query
+  pub apart : JoinNoNumber ts
+
+-- The tokens of the grammar, and those of a server that may read `--` before a newline as one
+-- comment, with the newline in it.
+pub data IsReadAs : List Token → List Token → Type 0 where
+  read_all : IsReadAs [] []
+  read_same : {t : Token} {ts us : List Token} → IsReadAs ts us → IsReadAs (t ∷ ts) (t ∷ us)
+  read_empty_comment : {ts us : List Token} → IsReadAs ts us →
+      IsReadAs (Plain dash ∷ Plain dash ∷ Plain newline ∷ ts) (DashComment newline [] ∷ us)

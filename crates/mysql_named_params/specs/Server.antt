@@ -1,0 +1,165 @@
+-- A server, by the points in which servers read queries otherwise than the grammar of Tokens.antt,
+-- and the tokens of a query on it. A server is data without laws: each point is asked only where
+-- servers may differ, so every record is a server, also one that no one has built. The points:
+--   `/*!`, `/*+`    MySQL Reference Manual, "Comments" and "Optimizer Hints"
+--   `/*M!`          MariaDB Knowledge Base, "Comment Syntax"
+--   `--`            MySQL Reference Manual, "'--' as the Start of a Comment"
+--   `"`             MySQL Reference Manual, "Server SQL Modes" (ANSI_QUOTES)
+--   `[`             MariaDB Knowledge Base, "SQL_MODE=MSSQL"
+--   `$$`, `$tag$`   MySQL Reference Manual 9, "JavaScript Stored Programs" (dollar-quoted text)
+--   `1.e--`         MySQL Reference Manual, "Numeric Literals" (an exponent has digits)
+use Rattle.std.specs.Prelude.{◌≡◌, ◌≢◌, ℕ, IsTrue, IsFalse, Bool, false, not, ◌==◌, ◌&&◌, ◌||◌, nat_le, if◌then◌else◌, List, [], ◌∷◌, ◌++◌, take, Option, Some, None, ⊤}
+use Rattle.std.specs.Char.{is_ascii_digit}
+use Rattle.std.specs.Str.{byte}
+use Rattle.mysql_named_params.specs.Bytes.{asterisk, backquote, colon, dash, double_quote, exclamation_mark, newline, plus, question_mark, slash, is_white_space, is_name_byte, is_string_quote, is_extension, begins, IsUpTo}
+use Rattle.mysql_named_params.specs.Tokens.{Token, bytes_of, text_of, IsStringTail, IsName, QuotedString, QuotedIdentifier, HashComment, DashComment, BlockComment, Name, Mark, Plain}
+
+-- a printable byte of ASCII other than the space
+abbrev pub is_printable : ℕ → Bool
+is_printable b = nat_le 33 b && nat_le b 126
+
+-- after `/*`: `!`, `+` or `M!`, which make it a comment, a hint or a text that is executed
+abbrev pub begins_special : List ℕ → Bool
+begins_special [] = false
+begins_special (b ∷ bs) =
+    is_extension b || (b == byte "M" && begins (λ c. c == exclamation_mark) bs)
+
+-- a byte of an identifier
+abbrev pub is_tag_byte : ℕ → Bool
+is_tag_byte b = is_name_byte b || ((nat_le (byte "A") b && nat_le b (byte "Z")) || nat_le 128 b)
+
+-- after `$`: the rest of `$$` or `$tag$`, or a place, where a value may come to complete one
+abbrev pub begins_tag : List ℕ → Bool
+begins_tag [] = false
+begins_tag (b ∷ bs) =
+    b == byte "$" || ((b == question_mark || b == colon) || (is_tag_byte b && begins_tag bs))
+
+-- two dashes before a byte that is not printable
+abbrev pub begins_dashes : List ℕ → Bool
+begins_dashes [] = false
+begins_dashes (a ∷ []) = false
+begins_dashes (a ∷ b ∷ []) = false
+begins_dashes (a ∷ b ∷ gap ∷ bs) = a == dash && (b == dash && not (is_printable gap))
+
+-- after an exponent's `e`: such dashes, or a sign and such dashes
+abbrev pub begins_exponent_dashes : List ℕ → Bool
+begins_exponent_dashes [] = false
+begins_exponent_dashes (a ∷ bs) =
+    begins_dashes (a ∷ bs) || ((a == plus || a == dash) && begins_dashes bs)
+
+-- after `.`: digits, `e` and such dashes, or a place, where a value's digits may come to stand
+abbrev pub begins_fraction : List ℕ → Bool
+begins_fraction [] = false
+begins_fraction (b ∷ bs) =
+    (b == question_mark || b == colon)
+    || ((is_ascii_digit b && begins_fraction bs)
+    || ((b == byte "e" || b == byte "E") && begins_exponent_dashes bs))
+
+-- Some server may read a text of its own from this byte on, which opens nothing in the grammar:
+-- `[` an identifier, `$$` and `$tag$` a string; and of a number with `.e--` MySQL's lexer takes the
+-- first dash for the exponent's sign, so that the second opens no comment. After a sign a lexer may
+-- take one byte more in the same way: `.e+--`, `.e---`.
+abbrev pub begins_own : ℕ → List ℕ → Bool
+begins_own b bs =
+    b == byte "[" || ((b == byte "$" && begins_tag bs) || (b == byte "." && begins_fraction bs))
+
+-- what a server makes of `/*` and the text after it
+pub data Block : Type 0 where
+  -- the `/` is a plain byte, and what follows is read
+  executed : Block
+  -- a comment up to `*/`
+  comment : Block
+  -- a comment of so many bytes after `/*`: nested, or skipped by a version
+  comment_of : ℕ → Block
+
+-- a server
+pub record Server : Type 0 where
+  -- what it makes of `/*` and the text after it; asked where that begins `!`, `+` or `M!`
+  pub special : List ℕ → Block
+  -- how many bytes of the text after this byte belong to it, a closing quote among them; none: it is
+  -- a plain byte; asked where `begins_own`
+  pub quotes : ℕ → List ℕ → Option ℕ
+  -- with which bytes `--` opens a comment, beside the white space with which it always does; asked
+  -- of the newline, with which the comment is empty, and of bytes that are not printable
+  pub also_opens : ℕ → Bool
+  -- whether `"` opens an identifier, in which nothing escapes
+  pub ansi_quotes : Bool
+
+-- `--` before this byte opens a comment on the server
+abbrev pub opens_line : Server → ℕ → Bool
+opens_line server b =
+    (is_white_space b && not (b == newline)) || (not (is_printable b) && server.also_opens b)
+
+-- the mode in which a text in these quotes is read: that of strings, or without escapes
+abbrev pub reads_in : Server → Bool → ℕ → Bool
+reads_in server mode quote = mode || (server.ansi_quotes && quote == double_quote)
+
+-- what the server makes of `/*` and the text after it
+abbrev pub block_on : Server → List ℕ → Block
+block_on server text = if begins_special text then server.special text else comment
+
+-- what follows `/*` in a comment, before a rest
+pub data IsBlockTail (server : Server) (tail rest : List ℕ) : Type 0 where
+  -- up to `*/`
+  usual_block : block_on server (tail ++ rest) ≡ comment →
+      IsUpTo (asterisk ∷ slash ∷ []) tail rest → IsBlockTail server tail rest
+  -- as the server has it
+  own_block : (n : ℕ) → block_on server (tail ++ rest) ≡ comment_of n →
+      take n (tail ++ rest) ≡ tail → IsBlockTail server tail rest
+
+-- what follows this byte, which opens a text in quotes, before a rest
+pub data IsQuotedTail (server : Server) (mode : Bool) (quote : ℕ) (tail rest : List ℕ)
+    : Type 0 where
+  -- in the quotes of the grammar
+  usual_quotes : IsTrue (is_string_quote quote) →
+      IsStringTail (reads_in server mode quote) quote tail rest →
+      IsQuotedTail server mode quote tail rest
+  -- in the server's own
+  own_quotes : (n : ℕ) → IsTrue (begins_own quote (tail ++ rest)) →
+      server.quotes quote (tail ++ rest) ≡ Some n → take n (tail ++ rest) ≡ tail →
+      IsQuotedTail server mode quote tail rest
+
+-- a token other than a plain byte on the server, before a rest
+abbrev pub IsNotPlainOn : Server → Bool → Token → List ℕ → Type 0
+IsNotPlainOn server mode (QuotedString quote tail) rest = IsQuotedTail server mode quote tail rest
+IsNotPlainOn server mode (QuotedIdentifier tail) rest = IsUpTo (backquote ∷ []) tail rest
+IsNotPlainOn server mode (HashComment tail) rest = IsUpTo (newline ∷ []) tail rest
+IsNotPlainOn server mode (DashComment gap tail) rest =
+    IsTrue (opens_line server gap) × IsUpTo (newline ∷ []) (gap ∷ tail) rest
+IsNotPlainOn server mode (BlockComment tail) rest = IsBlockTail server tail rest
+IsNotPlainOn server mode (Name name) rest = IsName name × IsFalse (begins is_name_byte rest)
+IsNotPlainOn server mode Mark rest = ⊤
+IsNotPlainOn server mode (Plain b) rest = ⊥
+
+-- a token on the server before a rest: a plain byte is one with which no other token begins there
+abbrev pub IsTokenOn : Server → Bool → Token → List ℕ → Type 0
+IsTokenOn server mode (Plain b) rest =
+    (t : Token) (after : List ℕ) → IsNotPlainOn server mode t after →
+    bytes_of t ++ after ≢ b ∷ rest
+IsTokenOn server mode t rest = IsNotPlainOn server mode t rest
+
+-- each is a token on the server before the text of those after it
+abbrev pub AreTokensOn : Server → Bool → List Token → Type 0
+AreTokensOn server mode [] = ⊤
+AreTokensOn server mode (t ∷ ts) = IsTokenOn server mode t (text_of ts) × AreTokensOn server mode ts
+
+-- the tokens of a query on a server
+pub record IsReadOn (server : Server) (mode : Bool) (query : List ℕ) (ts : List Token)
+    : Type 0 where
+  -- their bytes are the query
+  pub text : text_of ts ≡ query
+  -- each is a token where it stands
+  pub each : AreTokensOn server mode ts
+
+-- as the grammar has it, `/*!` and `/*+` are read, and `/*M!` is a comment
+abbrev pub grammar_special : List ℕ → Block
+grammar_special text = if begins is_extension text then executed else comment
+
+-- the grammar, as a server
+abbrev pub grammar : Server
+grammar = record {
+  special = grammar_special;
+  quotes = λ b text. None;
+  also_opens = λ b. false;
+  ansi_quotes = false;
+}

@@ -1,0 +1,322 @@
+//! The first construct of a query that servers read in different ways.
+use crate::queries::{COMMENTS, QUERIES, QUERIES_WITHOUT_BACKSLASHES};
+use mysql_params::laws::unportable_equality;
+use mysql_params::{Construct, Unportable, first_unportable};
+use std::process::Abort;
+use std::test::Fail;
+
+// The modes: with backslash escapes, and without.
+const WITH: &[bool] = &[false];
+
+const WITHOUT: &[bool] = &[true];
+
+const BOTH: &[bool] = &[false, true];
+
+/// In each of these modes this is found in the query.
+fn is_found(rt: &impl Abort, query: &[u8], modes: &[bool], wanted: Option<Unportable>) {
+    for mode in modes {
+        let found = first_unportable(query, *mode);
+        assert_eq!(rt; found, wanted, "of {query:?} in the mode {mode:?}");
+    }
+}
+
+/// In each of these modes each query has this construct at this index.
+fn are_found(rt: &impl Abort, modes: &[bool], rows: &[(&[u8], Construct, usize)]) {
+    for (query, construct, at) in rows {
+        let wanted = Unportable {
+            construct: *construct,
+            at: *at,
+        };
+        is_found(rt, *query, modes, Some(wanted));
+    }
+}
+
+/// In each of these modes each query is portable.
+fn are_portable(rt: &impl Abort, modes: &[bool], queries: &[&[u8]]) {
+    for query in queries {
+        is_found(rt, *query, modes, None);
+    }
+}
+
+// Queries with which a value left its literal on some server.
+const LEAKS: &[(&[u8], Construct, usize)] = &[
+    (b"SELECT /*+ ? */ 1", Construct::Hint, 7),
+    (b"SELECT /*+ ' */ ' :a '", Construct::Hint, 7),
+    (
+        b"SELECT 1 /*!80000 it's */, ' :a ', :a",
+        Construct::ExecutableComment,
+        9,
+    ),
+    (b"SELECT 1 /*!80000 + ? */", Construct::ExecutableComment, 9),
+    (
+        b"SELECT 1 /*M! , ' */ :a ' */",
+        Construct::MariaDbComment,
+        9,
+    ),
+    (b"SELECT 1/*M!'*/ :a */", Construct::MariaDbComment, 8),
+    (b"SELECT --\x0b'\n' :a '", Construct::Dashes, 7),
+    (b"SELECT 1 --\x01 ?", Construct::Dashes, 9),
+    (b"SELECT 1 AS [it's], ?", Construct::Bracket, 12),
+    (b"SELECT $$ :a $$", Construct::DollarQuote, 7),
+    (b"SELECT $js$ :a $js$", Construct::DollarQuote, 7),
+    (b"SELECT 2 1.e-- :a", Construct::DashesAfterExponent, 10),
+    (b"SELECT 1.5e+?", Construct::PlaceAfterExponent, 9),
+];
+
+#[test]
+fn leaks(rt: HostRuntime) {
+    are_found(&rt, BOTH, LEAKS);
+}
+
+// Each construct in other forms, and where it stands.
+const FORMS: &[(&[u8], Construct, usize)] = &[
+    (b"/*!", Construct::ExecutableComment, 0),
+    (b"*/*! */", Construct::ExecutableComment, 1),
+    (b"1 /* a *//*!*/", Construct::ExecutableComment, 9),
+    (b"/*+", Construct::Hint, 0),
+    (b"//*+*/", Construct::Hint, 1),
+    (b"/*M!", Construct::MariaDbComment, 0),
+    (b"/**//*M!100100 a */", Construct::MariaDbComment, 4),
+    (b"--\x00", Construct::Dashes, 0),
+    (b"--\x08", Construct::Dashes, 0),
+    (b"--\x1f", Construct::Dashes, 0),
+    (b"--\x7f", Construct::Dashes, 0),
+    (b"--\x80", Construct::Dashes, 0),
+    (b"--\xa0", Construct::Dashes, 0),
+    (b"--\xff", Construct::Dashes, 0),
+    (b"---\x01", Construct::Dashes, 1),
+    (b"?[", Construct::Bracket, 1),
+    (b":a_b[", Construct::Bracket, 4),
+    (b"$A_z9\xc3\xa9$", Construct::DollarQuote, 0),
+    (b"v$a$b", Construct::DollarQuote, 1),
+    (b"$?", Construct::DollarQuote, 0),
+    (b"$ab:c", Construct::DollarQuote, 0),
+    (b".e-- ", Construct::DashesAfterExponent, 0),
+    (b"1.e+-- ' \n", Construct::DashesAfterExponent, 1),
+    (b"2.5E---\t", Construct::DashesAfterExponent, 1),
+    (b"1.05E--\n", Construct::DashesAfterExponent, 1),
+    (b"t.e--\x01", Construct::DashesAfterExponent, 1),
+    (b"1.?", Construct::DashesAfterExponent, 1),
+    (b"1.55:a", Construct::DashesAfterExponent, 1),
+    (b"1e+?", Construct::PlaceAfterExponent, 0),
+    (b"1e-?", Construct::PlaceAfterExponent, 0),
+    (b"12E-:a", Construct::PlaceAfterExponent, 1),
+    (b"1.e+:_", Construct::PlaceAfterExponent, 1),
+    (b"1.e-?", Construct::PlaceAfterExponent, 1),
+    // These belong to no number.
+    (b"x1e+?", Construct::PlaceAfterExponent, 1),
+    (b"t.e+?", Construct::PlaceAfterExponent, 1),
+    // The first of several.
+    (b"[ /*!", Construct::Bracket, 0),
+    (b"' [ ' $$ [", Construct::DollarQuote, 6),
+    (b"-- [\n/*+ [ */", Construct::Hint, 5),
+];
+
+#[test]
+fn forms(rt: HostRuntime) {
+    are_found(&rt, BOTH, FORMS);
+}
+
+// In strings, identifiers and comments.
+const INSIDE: &[&[u8]] = &[
+    b"SELECT '/*! /*+ /*M! --\x01 [ $$ .e-- 1e+? '",
+    b"SELECT \"/*! /*+ /*M! --\x01 [ $$ .e-- 1e+? \"",
+    b"SELECT `/*! /*+ /*M! --\x01 [ $$ .e-- 1e+? `",
+    b"SELECT 1 # /*! /*+ /*M! --\x01 [ $$ .e-- 1e+? \" '",
+    b"SELECT 1 -- /*! /*+ /*M! --\x01 [ $$ .e-- 1e+? \" '",
+    b"SELECT 1 /* /*! /*+ /*M! --\x01 [ $$ .e-- 1e+? \" ' */",
+];
+
+#[test]
+fn constructs_inside_are_portable(rt: HostRuntime) {
+    are_portable(&rt, BOTH, INSIDE);
+}
+
+// What is near a construct.
+const NEAR: &[&[u8]] = &[
+    b"SELECT 7 --\n-?",
+    b"SELECT 7 --",
+    b"--",
+    b"--5",
+    b"a--b",
+    b"--'a'",
+    b"---?",
+    b"--\t[",
+    b"--\r[",
+    b"--\x0c[",
+    b"/* ! */",
+    b"/* + */",
+    b"/* M! */",
+    b"/*m! */",
+    b"/*M !*/",
+    b"/*M*/",
+    b"/*M",
+    b"/*",
+    b"/",
+    b"2 * /* a */ 3 / 4",
+    b"\"a\"\"b\"",
+    b"\"a",
+    b"v$session",
+    b"$",
+    b"$a b$",
+    b"a $ $",
+    b"1.5e-3",
+    b"1.e--5",
+    b"1.e---5",
+    b"1.e+--5",
+    b"1.e*-- ",
+    b"1.e--",
+    b"1.5e - -?",
+    b"1e+ ?",
+    b"1e+5",
+    b"1e+",
+    b"1e++?",
+    b"1e+:A",
+    b"1_e+?",
+    b":a1e+?",
+    b"'1'e+?",
+    b"`1`e+?",
+];
+
+#[test]
+fn what_is_near_a_construct_is_portable(rt: HostRuntime) {
+    are_portable(&rt, BOTH, NEAR);
+}
+
+// A quote after a backslash, in a text in `"`: with backslash escapes it stands inside.
+const ESCAPED: &[(&[u8], Construct, usize)] = &[
+    (b"SELECT \"a\\\"b\"", Construct::EscapedQuote, 7),
+    (b"'\\'' \"\\\"\"", Construct::EscapedQuote, 5),
+    (b"\"\\\\\\\"\"", Construct::EscapedQuote, 0),
+    (b"\"\\\"?", Construct::EscapedQuote, 0),
+];
+
+// Backslashes that move the end of no text in `"`.
+const BACKSLASHES: &[&[u8]] = &[
+    b"SELECT \"a\\n\"",
+    b"\"a\\\\\"",
+    b"\"a\\'\"",
+    b"'a\\\"b'",
+    b"\"a\\\"",
+    b"`\\\"`",
+];
+
+#[test]
+fn escaped_quotes(rt: HostRuntime) {
+    are_found(&rt, WITH, ESCAPED);
+    are_portable(&rt, BOTH, BACKSLASHES);
+    for (query, _, _) in ESCAPED {
+        is_found(&rt, *query, WITHOUT, None);
+    }
+}
+
+// How those of the queries of the other tests begin that aren't portable.
+const UNPORTABLE: &[(&[u8], Construct, usize)] = &[
+    (b"/*! :a */", Construct::ExecutableComment, 0),
+    (b":a/*! :b", Construct::ExecutableComment, 2),
+    (
+        b"SELECT 1 FROM my_table WHERE thing = :param;/*",
+        Construct::ExecutableComment,
+        130,
+    ),
+    (b"--\x0b:a", Construct::Dashes, 0),
+    (b"--\x01:a", Construct::Dashes, 0),
+    (b"--\x7f:a", Construct::Dashes, 0),
+];
+
+const UNPORTABLE_WITH_BACKSLASHES: &[(&[u8], Construct, usize)] = &[(
+    b"SELECT '\"\\':a' \"'\\\"':c\" :b",
+    Construct::EscapedQuote,
+    15,
+)];
+
+/// The construct of the row that begins the query, if there is one.
+fn row_of(query: &[u8], rows: &[(&[u8], Construct, usize)]) -> Option<Unportable> {
+    for (beginning, construct, at) in rows {
+        if query.starts_with(*beginning) {
+            return Some(Unportable {
+                construct: *construct,
+                at: *at,
+            });
+        }
+    }
+    None
+}
+
+#[test]
+fn queries_of_the_other_tests(rt: HostRuntime) {
+    for (query, _) in QUERIES {
+        let query = query.as_bytes();
+        let wanted = row_of(query, UNPORTABLE).or(row_of(query, UNPORTABLE_WITH_BACKSLASHES));
+        is_found(&rt, query, WITH, wanted);
+    }
+    for (query, _) in QUERIES_WITHOUT_BACKSLASHES {
+        is_found(&rt, query.as_bytes(), WITHOUT, None);
+    }
+    for (query, _) in COMMENTS {
+        is_found(&rt, *query, BOTH, row_of(*query, UNPORTABLE));
+    }
+}
+
+const MESSAGES: &[(Construct, &str)] = &[
+    (
+        Construct::ExecutableComment,
+        "`/*!` is executed or skipped: write its text without it, or leave it out",
+    ),
+    (
+        Construct::Hint,
+        "`/*+` is a hint or a comment: leave it out, or write a space before the `+`",
+    ),
+    (
+        Construct::MariaDbComment,
+        "`/*M!` is executed or a comment: leave it out, or write a space before the `M`",
+    ),
+    (
+        Construct::Dashes,
+        "`--` is a comment or two signs here: write a space between them, or after them",
+    ),
+    (
+        Construct::EscapedQuote,
+        "`\\\"` may end an identifier here: write `\"\"`, or the text in `'`",
+    ),
+    (
+        Construct::Bracket,
+        "`[` may open an identifier: write the name in backquotes",
+    ),
+    (
+        Construct::DollarQuote,
+        "`$$` and `$tag$` may open a string: write it in `'`, or a name in backquotes",
+    ),
+    (
+        Construct::DashesAfterExponent,
+        "`--` after `.e` may open no comment: write the exponent's digits, or a space first",
+    ),
+    (
+        Construct::PlaceAfterExponent,
+        "a value's digits would join this number: write a space before the place",
+    ),
+];
+
+#[test]
+fn messages(rt: HostRuntime) -> Result<(), Fail> {
+    for (construct, message) in MESSAGES {
+        assert_eq!(rt; construct.to_string(rt.alloc())?.as_str(), *message);
+    }
+    Ok(())
+}
+
+#[test]
+fn equality(rt: HostRuntime) {
+    let hint = Unportable {
+        construct: Construct::Hint,
+        at: 3,
+    };
+    let later = Unportable { at: 4, ..hint };
+    let other = Unportable {
+        construct: Construct::Bracket,
+        ..hint
+    };
+    assert!(rt; unportable_equality(&hint, &hint));
+    assert!(rt; !unportable_equality(&hint, &later));
+    assert!(rt; !unportable_equality(&hint, &other));
+}
