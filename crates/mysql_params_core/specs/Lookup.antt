@@ -53,15 +53,10 @@ PositionTakesMemory (positional values) names = ⊥
 PositionTakesMemory (named entries) [] = ⊥
 PositionTakesMemory (named entries) (name ∷ names) = ⊤
 
--- a lookup of borrowed values allocates but where the parameters are of the other kind, and where
--- there are neither parameters nor names
-abbrev pub PlacesTakeMemory : Given → List (List ℕ) → Type 0
-PlacesTakeMemory empty [] = ⊥
-PlacesTakeMemory empty (name ∷ names) = ⊤
-PlacesTakeMemory (positional values) [] = ⊤
-PlacesTakeMemory (positional values) (name ∷ names) = ⊥
-PlacesTakeMemory (named entries) [] = ⊥
-PlacesTakeMemory (named entries) (name ∷ names) = ⊤
+-- a lookup of borrowed values allocates where a lookup does, and for positional values, if any
+abbrev pub PlaceValuesTakeMemory : Given → List (List ℕ) → Type 0
+PlaceValuesTakeMemory (positional (value ∷ values)) [] = ⊤
+PlaceValuesTakeMemory params names = LookupTakesMemory params names
 
 -- for named parameters and a list with names, both give the same values or both refuse
 abbrev pub LookupsAgree : Type 0

@@ -14,6 +14,7 @@ use crate::params::{
 /// Parameters are equal where the variants are, and the list or the map.
 pub fn params_equality(a: &Params, b: &Params) -> bool
     ensures same { IsTrue result ↔ (given a.now ≡ given b.now) }
+    ensures member { result ≡ ⟦<Params as PartialEq>⟧.eq a.now b.now }
 {
     a == b
 }
@@ -24,6 +25,7 @@ pub fn missing_named_parameter_error_equality(
     b: &MissingNamedParameterError,
 ) -> bool
     ensures same { IsTrue result ↔ (a.now.0.items ≡ b.now.0.items) }
+    ensures member { result ≡ ⟦<MissingNamedParameterError as PartialEq>⟧.eq a.now b.now }
 {
     a == b
 }
@@ -31,6 +33,7 @@ pub fn missing_named_parameter_error_equality(
 /// Errors of the kind of parameters are equal where the variants are.
 pub fn params_confusion_error_equality(a: &ParamsConfusionError, b: &ParamsConfusionError) -> bool
     ensures same { IsTrue result ↔ (a.now ≡ b.now) }
+    ensures member { result ≡ ⟦<ParamsConfusionError as PartialEq>⟧.eq a.now b.now }
 {
     a == b
 }
@@ -38,6 +41,7 @@ pub fn params_confusion_error_equality(a: &ParamsConfusionError, b: &ParamsConfu
 /// Errors of `into_values` are equal where variant and field are.
 pub fn params_error_equality(a: &ParamsError, b: &ParamsError) -> bool
     ensures same { IsTrue result ↔ AreEqualParamsErrors a.now b.now }
+    ensures member { result ≡ ⟦<ParamsError as PartialEq>⟧.eq a.now b.now }
 {
     a == b
 }
@@ -45,6 +49,7 @@ pub fn params_error_equality(a: &ParamsError, b: &ParamsError) -> bool
 /// Errors of `into_positional` are equal where variant and field are.
 pub fn into_positional_error_equality(a: &IntoPositionalError, b: &IntoPositionalError) -> bool
     ensures same { IsTrue result ↔ AreEqualPositionalErrors a.now b.now }
+    ensures member { result ≡ ⟦<IntoPositionalError as PartialEq>⟧.eq a.now b.now }
 {
     a == b
 }
@@ -52,6 +57,7 @@ pub fn into_positional_error_equality(a: &IntoPositionalError, b: &IntoPositiona
 /// Errors of the makers of parameters are equal where variant and field are.
 pub fn to_params_error_equality(a: &ToParamsError, b: &ToParamsError) -> bool
     ensures same { IsTrue result ↔ AreEqualMakerErrors a.now b.now }
+    ensures member { result ≡ ⟦<ToParamsError as PartialEq>⟧.eq a.now b.now }
 {
     a == b
 }

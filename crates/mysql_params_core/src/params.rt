@@ -6,6 +6,7 @@ mod borrowed;
 mod entries;
 mod errors;
 mod lookup;
+mod pair_tuples;
 mod pairs;
 mod shown;
 mod to_params;
@@ -17,6 +18,7 @@ pub use errors::{
     ToParamsError,
 };
 use mysql_values::value::Value;
+pub use pair_tuples::ToPairs;
 pub use pairs::ToName;
 use std::alloc::AllocError;
 use std::collections::HashMap;

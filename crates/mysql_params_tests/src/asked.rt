@@ -1,6 +1,6 @@
 //! Which things are asked for their value, and how often: each once, up to the first that decides.
 use crate::own_type::Counted;
-use mysql_params::params::{Params, ToParams, ToParamsError};
+use mysql_params::params::{Params, ToPairs, ToParams, ToParamsError};
 use mysql_values::value::convert::{ToValue, ToValueError};
 use std::alloc::{AllocError, Global};
 use std::process::Abort;
@@ -30,14 +30,16 @@ enum Maker {
     Tuple,
     Pairs,
     PairsOfObjects,
+    TupleOfPairs,
 }
 
-const MAKERS: [Maker; 5] = [
+const MAKERS: [Maker; 6] = [
     Maker::List,
     Maker::Objects,
     Maker::Tuple,
     Maker::Pairs,
     Maker::PairsOfObjects,
+    Maker::TupleOfPairs,
 ];
 
 /// Pairs of the things and names of one byte each.
@@ -78,6 +80,9 @@ fn make(alloc: Global, maker: Maker, things: &[Counted; 3]) -> Result<Params, To
         Maker::Tuple => (&things[0], &things[1], &things[2]).to_params(alloc),
         Maker::Pairs => pairs(alloc, b"abc", things),
         Maker::PairsOfObjects => pairs_of_objects(alloc, b"abc", things),
+        Maker::TupleOfPairs => {
+            (("a", &things[0]), ("b", &things[1]), ("c", &things[2])).to_named(alloc)
+        }
     }
 }
 

@@ -13,4 +13,6 @@ mod makers;
 mod messages;
 pub mod own_type;
 #[cfg(test)]
+mod pair_tuples;
+#[cfg(test)]
 mod shared;

@@ -1,7 +1,13 @@
 //! What parameters give to the names of a query.
 use crate::shared::{bytes, named, names, positional};
+use mysql_params::laws::{
+    into_positional_error_equality, missing_named_parameter_error_equality,
+    params_confusion_error_equality, params_equality, params_error_equality,
+    to_params_error_equality,
+};
 use mysql_params::params::{
     IntoPositionalError, MissingNamedParameterError, Params, ParamsConfusionError, ParamsError,
+    ToParamsError,
 };
 use mysql_values::value::Value;
 use std::alloc::{AllocError, Global};
@@ -143,5 +149,48 @@ fn copies_of_errors_without_a_name(rt: HostRuntime) -> Result<(), Fail> {
     assert_eq!(rt; error.clone()?, error);
     let error = ParamsError::Memory(AllocError);
     assert_eq!(rt; error.clone()?, error);
+    Ok(())
+}
+
+#[test]
+fn equality_of_parameters(rt: HostRuntime) -> Result<(), Fail> {
+    let alloc = rt.alloc();
+    let a = named(alloc, b"a")?;
+    assert!(rt; params_equality(&a, &named(alloc, b"a")?));
+    assert!(rt; !params_equality(&a, &named(alloc, b"b")?));
+    Ok(())
+}
+
+#[test]
+fn equality_of_missing_names(rt: HostRuntime) -> Result<(), Fail> {
+    let alloc = rt.alloc();
+    let a = misses(alloc, b'a')?;
+    assert!(rt; missing_named_parameter_error_equality(&a, &misses(alloc, b'a')?));
+    assert!(rt; !missing_named_parameter_error_equality(&a, &misses(alloc, b'b')?));
+    Ok(())
+}
+
+#[test]
+fn equality_of_confusions(rt: HostRuntime) {
+    let by_name = ParamsConfusionError::NamedParamsForPositionalQuery;
+    let by_position = ParamsConfusionError::PositionalParamsForNamedQuery;
+    assert!(rt; params_confusion_error_equality(&by_name, &by_name));
+    assert!(rt; !params_confusion_error_equality(&by_name, &by_position));
+    let confused = ParamsError::Confusion(by_name);
+    assert!(rt; params_error_equality(&confused, &ParamsError::Confusion(by_name)));
+    assert!(rt; !params_error_equality(&confused, &ParamsError::Memory(AllocError)));
+}
+
+#[test]
+fn equality_of_refusals(rt: HostRuntime) -> Result<(), Fail> {
+    let alloc = rt.alloc();
+    let missing = IntoPositionalError::Missing(misses(alloc, b'a')?);
+    let other = IntoPositionalError::Missing(misses(alloc, b'b')?);
+    assert!(rt; into_positional_error_equality(&missing, &missing));
+    assert!(rt; !into_positional_error_equality(&missing, &other));
+    let again = ToParamsError::Redefined(Vec::from_slice(alloc, b"a")?);
+    let other = ToParamsError::Redefined(Vec::from_slice(alloc, b"b")?);
+    assert!(rt; to_params_error_equality(&again, &again));
+    assert!(rt; !to_params_error_equality(&again, &other));
     Ok(())
 }

@@ -156,9 +156,11 @@ fn pairs(rt: HostRuntime) -> Result<(), Fail> {
     let alloc = rt.alloc();
     let pairs = [("a", 1u8), ("b", 2u8)];
     assert_eq!(rt; Params::from_pairs(alloc, &pairs)?, named(alloc, b"ab")?);
+    let error = Some(ToParamsError::Redefined(Vec::from_slice(alloc, b"a")?));
+    let pairs = [("a", 1u8), ("a", 2u8)];
+    assert_eq!(rt; Params::from_pairs(alloc, &pairs).err(), error);
     let pairs = [("a", 1u8), ("b", 2u8), ("a", 3u8)];
-    let error = ToParamsError::Redefined(Vec::from_slice(alloc, b"a")?);
-    assert_eq!(rt; Params::from_pairs(alloc, &pairs).err(), Some(error));
+    assert_eq!(rt; Params::from_pairs(alloc, &pairs).err(), error);
 
     let pairs: [(&[u8], &dyn ToValue); 2] = [(b"a", &1u8), (b"b", &"x")];
     let values = [("a", Value::UInt(1)), ("b", bytes(alloc, b"x")?)];

@@ -1,12 +1,12 @@
 //! The values of the names of a query where they stand, without a copy.
-ghost use Rattle.std.specs.Prelude.{◌≡◌, ◌⊎◌, ◌<◌, IfOk, IsErrOf, None, Some, alloc_error, length, ⊤};
+ghost use Rattle.std.specs.Prelude.{◌≡◌, ◌⊎◌, ◌<◌, IfOk, IsErrOf, OnErr, None, Some, alloc_error, length, ⊤};
 ghost use Rattle.std.specs.List.{list_any};
 ghost use Rattle.std.specs.FinMap.{contains_key};
 ghost use Rattle.mysql_wire_part.specs.Answer.{IsAnswer};
 ghost use Rattle.mysql_params_core.specs.Errors.{lookup_refusal};
 ghost use Rattle.mysql_params_core.specs.FirstAbsent.{IsFirstAbsent};
 ghost use Rattle.mysql_params_core.specs.Given.{given, value_map, named};
-ghost use Rattle.mysql_params_core.specs.Lookup.{lookup, missing, PlacesTakeMemory};
+ghost use Rattle.mysql_params_core.specs.Lookup.{lookup, missing, PlaceValuesTakeMemory};
 ghost use Rattle.mysql_params_core.specs.Names.{missing_name};
 ghost use Rattle.mysql_params_core.specs.Referents.{referents};
 
@@ -21,8 +21,8 @@ use std::collections::HashMap;
 /// means a query without names.
 ///
 /// `Missing` and `Confusion` are as with [`Params::into_values`]. `Memory` is returned only for a
-/// list with names, of `Named` or `Empty`, and for an empty list, of `Positional`. The crates above
-/// bind by this; no user needs it.
+/// list with names, of `Named` or `Empty`, and for an empty list, of `Positional` with values. The
+/// crates above bind by this; no user needs it.
 pub fn place_values<'p>(
     alloc: Global,
     params: &'p Params,
@@ -31,7 +31,7 @@ pub fn place_values<'p>(
     ensures values { IsAnswer (λ values. referents values.items) lookup_refusal
         (lookup (given params.now) (referents names.now)) ⊤ result }
     ensures memory { IsErrOf result (ParamsError.Memory alloc_error) →
-        PlacesTakeMemory (given params.now) (referents names.now) }
+        PlaceValuesTakeMemory (given params.now) (referents names.now) }
 {
     match params {
         Params::Empty => match names.first() {
@@ -60,7 +60,8 @@ pub fn place_values<'p>(
 
 // References to the values, in order.
 fn borrowed_values<'v>(alloc: Global, values: &'v [Value]) -> Result<Vec<&'v Value>, AllocError>
-    ensures { IfOk result (λ references. referents references.items ≡ values.now) }
+    ensures values { IfOk result (λ references. referents references.items ≡ values.now) }
+    ensures memory { OnErr result (0 < length values.now) }
 {
     let mut references = Vec::with_capacity(alloc, values.len())?;
     for value in values {

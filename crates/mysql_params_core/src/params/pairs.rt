@@ -59,7 +59,8 @@ impl ToName for String {
 impl Params {
     /// Named parameters of pairs, taken in order. A pair with the name of an earlier pair is refused
     /// as `Redefined` with that name, and its thing isn't asked for its value; a thing that has no
-    /// value is refused as `Value`. The first refusal ends it. No pairs make an empty map.
+    /// value is refused as `Value`. The first refusal ends it. No pairs make an empty map. `Memory`
+    /// may come in place of any other result.
     pub fn from_pairs<N: ToName, V: ToValue>(
         alloc: Global,
         pairs: &[(N, V)],
@@ -95,7 +96,7 @@ impl Params {
 }
 
 // Inserts the value of a thing under its name, which may not be in the map yet.
-fn insert_pair<V: ToValue>(
+pub(crate) fn insert_pair<V: ToValue>(
     alloc: Global,
     entries: &mut HashMap<Vec<u8>, Value>,
     name: &[u8],

@@ -21,6 +21,7 @@ pub trait ToParams {
     ghost takes_memory: { Self → Type 0 };
 
     /// The parameters that the thing makes, or the refusal of the first item that has no value.
+    /// `Memory` is returned only where the type says that it allocates; `Value` never holds it.
     fn to_params(&self, alloc: Global) -> Result<Params, ToParamsError>
         ensures made { IsAnswer given maker_refusal (made self.now) ⊤ result }
         ensures memory { IsErrOf result (ToParamsError.Memory alloc_error) → takes_memory self.now }

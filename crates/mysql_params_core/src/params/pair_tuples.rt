@@ -1,0 +1,405 @@
+//! Tuples of pairs of a name and a thing make named parameters.
+ghost use Rattle.std.specs.Prelude.{◌≢◌, ◌∷◌, ℕ, List, [], Ok, IfErr, alloc_error, fold, ⊤};
+ghost use Rattle.mysql_wire_part.specs.Answer.{IsAnswer};
+ghost use Rattle.mysql_value_core.specs.declared.value.convert.ToValueError.TheVariants as to_value;
+ghost use Rattle.mysql_value_core.specs.ValueOf.{Meaning};
+ghost use Rattle.mysql_params_core.specs.Errors.{maker_refusal};
+ghost use Rattle.mysql_params_core.specs.Given.{given, value_map};
+ghost use Rattle.mysql_params_core.specs.Made.{pairs_made, with_pair};
+
+use crate::params::pairs::insert_pair;
+use crate::params::{Params, ToParamsError};
+use mysql_values::value::Value;
+use mysql_values::value::convert::ToValue;
+use std::alloc::Global;
+use std::collections::HashMap;
+
+/// Pairs of a name and a thing, as tuples of them: `(("id", 7), ("name", "x"))`.
+pub trait ToPairs {
+    // the names, and the values of the things
+    ghost pairs: { Self → List (List ℕ × Meaning) };
+
+    /// The named parameters that the pairs make, taken in order, as
+    /// [`Params::from_pairs`](crate::params::Params::from_pairs) makes them: a pair with the name
+    /// of an earlier pair is refused as `Redefined` with that name, and its thing isn't asked for
+    /// its value; a thing that has no value is refused as `Value`. The first refusal ends it.
+    fn to_named(&self, alloc: Global) -> Result<Params, ToParamsError>
+        ensures made { IsAnswer given maker_refusal (pairs_made (pairs self.now)) ⊤ result }
+        ensures value { IfErr result (λ error.
+            error ≢ ToParamsError.Value (to_value.Memory alloc_error)) };
+}
+
+impl<A: ToValue> ToPairs for ((&str, A),) {
+    ghost pairs = { λ pairs. (pairs.0.0.now, A.value_of pairs.0.1) ∷ [] };
+
+    fn to_named(&self, alloc: Global) -> Result<Params, ToParamsError> {
+        let mut entries = HashMap::new(alloc);
+        insert_pair(alloc, &mut entries, self.0.0.as_bytes(), &self.0.1)?;
+        Ok(Params::Named(entries))
+    }
+}
+
+impl<A: ToValue, B: ToValue> ToPairs for ((&str, A), (&str, B)) {
+    ghost pairs = { λ pairs. (pairs.0.0.now, A.value_of pairs.0.1) ∷
+        (pairs.1.0.now, B.value_of pairs.1.1) ∷ [] };
+
+    fn to_named(&self, alloc: Global) -> Result<Params, ToParamsError> {
+        let mut entries = HashMap::new(alloc);
+        insert_two(alloc, &mut entries, &self.0, &self.1)?;
+        Ok(Params::Named(entries))
+    }
+}
+
+impl<A: ToValue, B: ToValue, C: ToValue> ToPairs for ((&str, A), (&str, B), (&str, C)) {
+    ghost pairs = { λ pairs. (pairs.0.0.now, A.value_of pairs.0.1) ∷
+        (pairs.1.0.now, B.value_of pairs.1.1) ∷
+        (pairs.2.0.now, C.value_of pairs.2.1) ∷ [] };
+
+    fn to_named(&self, alloc: Global) -> Result<Params, ToParamsError> {
+        let mut entries = HashMap::new(alloc);
+        insert_two(alloc, &mut entries, &self.0, &self.1)?;
+        insert_pair(alloc, &mut entries, self.2.0.as_bytes(), &self.2.1)?;
+        Ok(Params::Named(entries))
+    }
+}
+
+impl<A: ToValue, B: ToValue, C: ToValue, D: ToValue> ToPairs
+    for ((&str, A), (&str, B), (&str, C), (&str, D)) {
+    ghost pairs = { λ pairs. (pairs.0.0.now, A.value_of pairs.0.1) ∷
+        (pairs.1.0.now, B.value_of pairs.1.1) ∷
+        (pairs.2.0.now, C.value_of pairs.2.1) ∷
+        (pairs.3.0.now, D.value_of pairs.3.1) ∷ [] };
+
+    fn to_named(&self, alloc: Global) -> Result<Params, ToParamsError> {
+        let mut entries = HashMap::new(alloc);
+        insert_four(alloc, &mut entries, &self.0, &self.1, &self.2, &self.3)?;
+        Ok(Params::Named(entries))
+    }
+}
+
+impl<A: ToValue, B: ToValue, C: ToValue, D: ToValue, E: ToValue> ToPairs
+    for ((&str, A), (&str, B), (&str, C), (&str, D), (&str, E)) {
+    ghost pairs = { λ pairs. (pairs.0.0.now, A.value_of pairs.0.1) ∷
+        (pairs.1.0.now, B.value_of pairs.1.1) ∷
+        (pairs.2.0.now, C.value_of pairs.2.1) ∷
+        (pairs.3.0.now, D.value_of pairs.3.1) ∷
+        (pairs.4.0.now, E.value_of pairs.4.1) ∷ [] };
+
+    fn to_named(&self, alloc: Global) -> Result<Params, ToParamsError> {
+        let mut entries = HashMap::new(alloc);
+        insert_four(alloc, &mut entries, &self.0, &self.1, &self.2, &self.3)?;
+        insert_pair(alloc, &mut entries, self.4.0.as_bytes(), &self.4.1)?;
+        Ok(Params::Named(entries))
+    }
+}
+
+impl<A: ToValue, B: ToValue, C: ToValue, D: ToValue, E: ToValue, F: ToValue> ToPairs
+    for (
+        (&str, A),
+        (&str, B),
+        (&str, C),
+        (&str, D),
+        (&str, E),
+        (&str, F),
+    ) {
+    ghost pairs = { λ pairs. (pairs.0.0.now, A.value_of pairs.0.1) ∷
+        (pairs.1.0.now, B.value_of pairs.1.1) ∷
+        (pairs.2.0.now, C.value_of pairs.2.1) ∷
+        (pairs.3.0.now, D.value_of pairs.3.1) ∷
+        (pairs.4.0.now, E.value_of pairs.4.1) ∷
+        (pairs.5.0.now, F.value_of pairs.5.1) ∷ [] };
+
+    fn to_named(&self, alloc: Global) -> Result<Params, ToParamsError> {
+        let mut entries = HashMap::new(alloc);
+        insert_four(alloc, &mut entries, &self.0, &self.1, &self.2, &self.3)?;
+        insert_two(alloc, &mut entries, &self.4, &self.5)?;
+        Ok(Params::Named(entries))
+    }
+}
+
+impl<A: ToValue, B: ToValue, C: ToValue, D: ToValue, E: ToValue, F: ToValue, G: ToValue> ToPairs
+    for (
+        (&str, A),
+        (&str, B),
+        (&str, C),
+        (&str, D),
+        (&str, E),
+        (&str, F),
+        (&str, G),
+    ) {
+    ghost pairs = { λ pairs. (pairs.0.0.now, A.value_of pairs.0.1) ∷
+        (pairs.1.0.now, B.value_of pairs.1.1) ∷
+        (pairs.2.0.now, C.value_of pairs.2.1) ∷
+        (pairs.3.0.now, D.value_of pairs.3.1) ∷
+        (pairs.4.0.now, E.value_of pairs.4.1) ∷
+        (pairs.5.0.now, F.value_of pairs.5.1) ∷
+        (pairs.6.0.now, G.value_of pairs.6.1) ∷ [] };
+
+    fn to_named(&self, alloc: Global) -> Result<Params, ToParamsError> {
+        let mut entries = HashMap::new(alloc);
+        insert_four(alloc, &mut entries, &self.0, &self.1, &self.2, &self.3)?;
+        insert_two(alloc, &mut entries, &self.4, &self.5)?;
+        insert_pair(alloc, &mut entries, self.6.0.as_bytes(), &self.6.1)?;
+        Ok(Params::Named(entries))
+    }
+}
+
+impl<
+    A: ToValue,
+    B: ToValue,
+    C: ToValue,
+    D: ToValue,
+    E: ToValue,
+    F: ToValue,
+    G: ToValue,
+    H: ToValue,
+> ToPairs
+    for (
+        (&str, A),
+        (&str, B),
+        (&str, C),
+        (&str, D),
+        (&str, E),
+        (&str, F),
+        (&str, G),
+        (&str, H),
+    ) {
+    ghost pairs = { λ pairs. (pairs.0.0.now, A.value_of pairs.0.1) ∷
+        (pairs.1.0.now, B.value_of pairs.1.1) ∷
+        (pairs.2.0.now, C.value_of pairs.2.1) ∷
+        (pairs.3.0.now, D.value_of pairs.3.1) ∷
+        (pairs.4.0.now, E.value_of pairs.4.1) ∷
+        (pairs.5.0.now, F.value_of pairs.5.1) ∷
+        (pairs.6.0.now, G.value_of pairs.6.1) ∷
+        (pairs.7.0.now, H.value_of pairs.7.1) ∷ [] };
+
+    fn to_named(&self, alloc: Global) -> Result<Params, ToParamsError> {
+        let mut entries = HashMap::new(alloc);
+        insert_four(alloc, &mut entries, &self.0, &self.1, &self.2, &self.3)?;
+        insert_four(alloc, &mut entries, &self.4, &self.5, &self.6, &self.7)?;
+        Ok(Params::Named(entries))
+    }
+}
+
+impl<
+    A: ToValue,
+    B: ToValue,
+    C: ToValue,
+    D: ToValue,
+    E: ToValue,
+    F: ToValue,
+    G: ToValue,
+    H: ToValue,
+    I: ToValue,
+> ToPairs
+    for (
+        (&str, A),
+        (&str, B),
+        (&str, C),
+        (&str, D),
+        (&str, E),
+        (&str, F),
+        (&str, G),
+        (&str, H),
+        (&str, I),
+    ) {
+    ghost pairs = { λ pairs. (pairs.0.0.now, A.value_of pairs.0.1) ∷
+        (pairs.1.0.now, B.value_of pairs.1.1) ∷
+        (pairs.2.0.now, C.value_of pairs.2.1) ∷
+        (pairs.3.0.now, D.value_of pairs.3.1) ∷
+        (pairs.4.0.now, E.value_of pairs.4.1) ∷
+        (pairs.5.0.now, F.value_of pairs.5.1) ∷
+        (pairs.6.0.now, G.value_of pairs.6.1) ∷
+        (pairs.7.0.now, H.value_of pairs.7.1) ∷
+        (pairs.8.0.now, I.value_of pairs.8.1) ∷ [] };
+
+    fn to_named(&self, alloc: Global) -> Result<Params, ToParamsError> {
+        let mut entries = HashMap::new(alloc);
+        insert_four(alloc, &mut entries, &self.0, &self.1, &self.2, &self.3)?;
+        insert_four(alloc, &mut entries, &self.4, &self.5, &self.6, &self.7)?;
+        insert_pair(alloc, &mut entries, self.8.0.as_bytes(), &self.8.1)?;
+        Ok(Params::Named(entries))
+    }
+}
+
+impl<
+    A: ToValue,
+    B: ToValue,
+    C: ToValue,
+    D: ToValue,
+    E: ToValue,
+    F: ToValue,
+    G: ToValue,
+    H: ToValue,
+    I: ToValue,
+    J: ToValue,
+> ToPairs
+    for (
+        (&str, A),
+        (&str, B),
+        (&str, C),
+        (&str, D),
+        (&str, E),
+        (&str, F),
+        (&str, G),
+        (&str, H),
+        (&str, I),
+        (&str, J),
+    ) {
+    ghost pairs = { λ pairs. (pairs.0.0.now, A.value_of pairs.0.1) ∷
+        (pairs.1.0.now, B.value_of pairs.1.1) ∷
+        (pairs.2.0.now, C.value_of pairs.2.1) ∷
+        (pairs.3.0.now, D.value_of pairs.3.1) ∷
+        (pairs.4.0.now, E.value_of pairs.4.1) ∷
+        (pairs.5.0.now, F.value_of pairs.5.1) ∷
+        (pairs.6.0.now, G.value_of pairs.6.1) ∷
+        (pairs.7.0.now, H.value_of pairs.7.1) ∷
+        (pairs.8.0.now, I.value_of pairs.8.1) ∷
+        (pairs.9.0.now, J.value_of pairs.9.1) ∷ [] };
+
+    fn to_named(&self, alloc: Global) -> Result<Params, ToParamsError> {
+        let mut entries = HashMap::new(alloc);
+        insert_four(alloc, &mut entries, &self.0, &self.1, &self.2, &self.3)?;
+        insert_four(alloc, &mut entries, &self.4, &self.5, &self.6, &self.7)?;
+        insert_two(alloc, &mut entries, &self.8, &self.9)?;
+        Ok(Params::Named(entries))
+    }
+}
+
+impl<
+    A: ToValue,
+    B: ToValue,
+    C: ToValue,
+    D: ToValue,
+    E: ToValue,
+    F: ToValue,
+    G: ToValue,
+    H: ToValue,
+    I: ToValue,
+    J: ToValue,
+    K: ToValue,
+> ToPairs
+    for (
+        (&str, A),
+        (&str, B),
+        (&str, C),
+        (&str, D),
+        (&str, E),
+        (&str, F),
+        (&str, G),
+        (&str, H),
+        (&str, I),
+        (&str, J),
+        (&str, K),
+    ) {
+    ghost pairs = { λ pairs. (pairs.0.0.now, A.value_of pairs.0.1) ∷
+        (pairs.1.0.now, B.value_of pairs.1.1) ∷
+        (pairs.2.0.now, C.value_of pairs.2.1) ∷
+        (pairs.3.0.now, D.value_of pairs.3.1) ∷
+        (pairs.4.0.now, E.value_of pairs.4.1) ∷
+        (pairs.5.0.now, F.value_of pairs.5.1) ∷
+        (pairs.6.0.now, G.value_of pairs.6.1) ∷
+        (pairs.7.0.now, H.value_of pairs.7.1) ∷
+        (pairs.8.0.now, I.value_of pairs.8.1) ∷
+        (pairs.9.0.now, J.value_of pairs.9.1) ∷
+        (pairs.10.0.now, K.value_of pairs.10.1) ∷ [] };
+
+    fn to_named(&self, alloc: Global) -> Result<Params, ToParamsError> {
+        let mut entries = HashMap::new(alloc);
+        insert_four(alloc, &mut entries, &self.0, &self.1, &self.2, &self.3)?;
+        insert_four(alloc, &mut entries, &self.4, &self.5, &self.6, &self.7)?;
+        insert_two(alloc, &mut entries, &self.8, &self.9)?;
+        insert_pair(alloc, &mut entries, self.10.0.as_bytes(), &self.10.1)?;
+        Ok(Params::Named(entries))
+    }
+}
+
+impl<
+    A: ToValue,
+    B: ToValue,
+    C: ToValue,
+    D: ToValue,
+    E: ToValue,
+    F: ToValue,
+    G: ToValue,
+    H: ToValue,
+    I: ToValue,
+    J: ToValue,
+    K: ToValue,
+    L: ToValue,
+> ToPairs
+    for (
+        (&str, A),
+        (&str, B),
+        (&str, C),
+        (&str, D),
+        (&str, E),
+        (&str, F),
+        (&str, G),
+        (&str, H),
+        (&str, I),
+        (&str, J),
+        (&str, K),
+        (&str, L),
+    ) {
+    ghost pairs = { λ pairs. (pairs.0.0.now, A.value_of pairs.0.1) ∷
+        (pairs.1.0.now, B.value_of pairs.1.1) ∷
+        (pairs.2.0.now, C.value_of pairs.2.1) ∷
+        (pairs.3.0.now, D.value_of pairs.3.1) ∷
+        (pairs.4.0.now, E.value_of pairs.4.1) ∷
+        (pairs.5.0.now, F.value_of pairs.5.1) ∷
+        (pairs.6.0.now, G.value_of pairs.6.1) ∷
+        (pairs.7.0.now, H.value_of pairs.7.1) ∷
+        (pairs.8.0.now, I.value_of pairs.8.1) ∷
+        (pairs.9.0.now, J.value_of pairs.9.1) ∷
+        (pairs.10.0.now, K.value_of pairs.10.1) ∷
+        (pairs.11.0.now, L.value_of pairs.11.1) ∷ [] };
+
+    fn to_named(&self, alloc: Global) -> Result<Params, ToParamsError> {
+        let mut entries = HashMap::new(alloc);
+        insert_four(alloc, &mut entries, &self.0, &self.1, &self.2, &self.3)?;
+        insert_four(alloc, &mut entries, &self.4, &self.5, &self.6, &self.7)?;
+        insert_four(alloc, &mut entries, &self.8, &self.9, &self.10, &self.11)?;
+        Ok(Params::Named(entries))
+    }
+}
+
+// Inserts the values of two pairs, one after the other.
+fn insert_two<A: ToValue, B: ToValue>(
+    alloc: Global,
+    entries: &mut HashMap<Vec<u8>, Value>,
+    first: &(&str, A),
+    second: &(&str, B),
+) -> Result<(), ToParamsError>
+    ensures made { IsAnswer (λ _. value_map entries.new.entries) maker_refusal
+        (fold with_pair (Ok (value_map entries.old.entries))
+        ((first.now.0.now, A.value_of first.now.1) ∷
+        (second.now.0.now, B.value_of second.now.1) ∷ [])) ⊤ result }
+    ensures value { IfErr result (λ error.
+        error ≢ ToParamsError.Value (to_value.Memory alloc_error)) }
+{
+    insert_pair(alloc, entries, first.0.as_bytes(), &first.1)?;
+    insert_pair(alloc, entries, second.0.as_bytes(), &second.1)
+}
+
+// Inserts the values of four pairs, one after another.
+fn insert_four<A: ToValue, B: ToValue, C: ToValue, D: ToValue>(
+    alloc: Global,
+    entries: &mut HashMap<Vec<u8>, Value>,
+    first: &(&str, A),
+    second: &(&str, B),
+    third: &(&str, C),
+    fourth: &(&str, D),
+) -> Result<(), ToParamsError>
+    ensures made { IsAnswer (λ _. value_map entries.new.entries) maker_refusal
+        (fold with_pair (Ok (value_map entries.old.entries))
+        ((first.now.0.now, A.value_of first.now.1) ∷
+        (second.now.0.now, B.value_of second.now.1) ∷
+        (third.now.0.now, C.value_of third.now.1) ∷
+        (fourth.now.0.now, D.value_of fourth.now.1) ∷ [])) ⊤ result }
+    ensures value { IfErr result (λ error.
+        error ≢ ToParamsError.Value (to_value.Memory alloc_error)) }
+{
+    insert_two(alloc, entries, first, second)?;
+    insert_two(alloc, entries, third, fourth)
+}
