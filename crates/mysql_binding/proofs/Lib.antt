@@ -1,4 +1,5 @@
 pub mod LiteralTokenLemmas
+pub mod UpToLiteralLemmas
 pub mod BoundText
 pub mod PieceLemmas
 pub mod ReplacedLemmas
@@ -16,3 +17,4 @@ pub mod WrittenTextLemmas
 pub mod FilledTextLemmas
 pub mod BoundTextLemmas
 pub mod BoundAgainLemmas
+pub mod BoundOnServerLemmas

@@ -1,32 +1,53 @@
--- A literal, known by its shape alone: it opens nothing with the byte before it, and its tokens, none of
--- them a place, end where it ends, whatever follows.
-use Rattle.std.proofs.Common.{◌≡◌, ◌++◌, ◌==◌, ◌||◌, ℕ, Bool, true, false, List, [], ◌∷◌, None, arith, inl, inr, refl, ap, ◌∙◌, sym, append-nil, append_assoc, true≢false}
+-- A literal, known by its shape alone: its first bytes, which open nothing with the byte before them,
+-- and its tokens. None of them is a place, and they end where it ends and are portable, whatever follows.
+use Rattle.std.specs.Prelude.{⊤}
+use Rattle.std.proofs.Common.{◌≡◌, ◌++◌, ◌==◌, ◌&&◌, ◌||◌, not, ℕ, Bool, true, false, List, [], ◌∷◌, None, arith, inl, inr, refl, ap, ◌∙◌, sym, subst, append-nil, append_assoc, true≢false}
 use Rattle.std.specs.Char.{is_ascii_digit}
 use Rattle.std.specs.List.{list_all}
 use Rattle.std.specs.Str.{byte}
-use Rattle.std.proofs.lemmas.Bool.{and_parts, and_from, cases_Bool, eqb-true}
+use Rattle.std.proofs.lemmas.Bool.{and_parts, and_from, or_cases, cases_Bool, eqb-true}
 use Rattle.std.proofs.lemmas.Bool.Decides.{nat_tests}
 use Rattle.mysql_sql_text.specs.StringUnits.{AreUnits}
 use Rattle.mysql_sql_text.specs.ReadLiteral.{is_hexadecimal_digit}
 use Rattle.mysql_sql_text.specs.LiteralEnd.{is_letter}
 use Rattle.mysql_sql_text.specs.LiteralShape.{AreDigits, AreHexadecimalPairs, IsClosedString, closed_string, AreClosedStrings, one_string, more_strings, IsQuoted, IsLiteral, null_literal, natural_literal, negative_literal, hexadecimal_literal, quoted_literal}
-use Rattle.mysql_named_params.specs.Bytes.{asterisk, backquote, colon, dash, double_quote, hash, question_mark, single_quote, slash}
-use Rattle.mysql_named_params.specs.Tokens.{Token, IsToken, text_of, AreTokensBefore, QuotedString, Plain}
+use Rattle.mysql_named_params.specs.Bytes.{asterisk, backquote, colon, dash, double_quote, hash, question_mark, single_quote, slash, begins}
+use Rattle.mysql_named_params.specs.Tokens.{Token, IsToken, text_of, text_then, AreTokensBefore, QuotedString, Plain}
 use Rattle.mysql_named_params.specs.Tokens.{closed_string as closed_tail}
 use Rattle.mysql_named_params.specs.FirstToken.{opens_dash_comment}
 use Rattle.mysql_named_params.specs.Places.{place_count}
-use Rattle.mysql_named_params.proofs.TokenRowLemmas.{text_of-append, AreTokensBefore-append, place_count-append}
-use Rattle.mysql_named_params.proofs.TokenEnds.{plain_at, dash_comment}
+use Rattle.mysql_named_params.specs.Portable.{may_open_line, is_portable}
+use Rattle.mysql_named_params.specs.TokensOf.{dash_comment}
+use Rattle.mysql_named_params.proofs.TokenRowLemmas.{text_then-append, text_of-append, AreTokensBefore-append, place_count-append}
+use Rattle.mysql_named_params.proofs.TokenEnds.{plain_at}
 use Rattle.mysql_named_params.proofs.RestLemmas.{OpensNothing}
 
 -- a digit or a letter
 abbrev pub is_alphanumeric : ℕ → Bool
 is_alphanumeric b = is_ascii_digit b || is_letter b
 
+-- no dash before another
+abbrev pub no_double : Token → List ℕ → Bool
+no_double (Plain b) rest = not (b == dash && begins (λ c. c == dash) rest)
+no_double t rest = true
+
+-- portable, and no part of an empty comment
+abbrev pub AreSettledBefore : List ℕ → List Token → Type 0
+AreSettledBefore rest [] = ⊤
+AreSettledBefore rest (t ∷ ts) =
+    (is_portable t (text_then rest ts) ≡ true) × (no_double t (text_then rest ts) ≡ true)
+    × AreSettledBefore rest ts
+
+AreSettledBefore-append : (xs ys : List Token) (rest : List ℕ) → AreSettledBefore (text_then rest ys) xs →
+    AreSettledBefore rest ys → AreSettledBefore rest (xs ++ ys)
+AreSettledBefore-append [] ys rest b h = h
+AreSettledBefore-append (x ∷ xs) ys rest b h = (rw (text_then-append xs ys rest) b.0, rw (text_then-append xs ys rest) b.1, AreSettledBefore-append xs ys rest b.2 h)
+
 -- this text is these tokens, whatever follows
 pub record IsCutBefore (mode : Bool) (text : List ℕ) (ts : List Token) : Type 0 where
   pub cut_text : text_of ts ≡ text
   pub cut_tokens : (rest : List ℕ) → AreTokensBefore mode rest ts
+  pub cut_settled : (rest : List ℕ) → AreSettledBefore rest ts
   pub cut_places : place_count ts ≡ 0
 
 abbrev pub plain_tokens : List ℕ → List Token
@@ -50,6 +71,13 @@ is_alphanumeric-plain mode b h rest =
     not_k : (k : ℕ) → is_alphanumeric k ≡ false → (b == k) ≡ false
     not_k k f = other is_alphanumeric b k h f
 
+alphanumeric_portable : (b : ℕ) → is_alphanumeric b ≡ true → (rest : List ℕ) →
+    is_portable (Plain b) rest ≡ true
+alphanumeric_portable b h rest = rw (other is_alphanumeric b slash h refl, other is_alphanumeric b dash h refl, other is_alphanumeric b (byte "[") h refl, other is_alphanumeric b (byte "$") h refl, other is_alphanumeric b (byte ".") h refl) refl
+
+alphanumeric_single : (b : ℕ) → is_alphanumeric b ≡ true → (rest : List ℕ) → no_double (Plain b) rest ≡ true
+alphanumeric_single b h rest = rw (other is_alphanumeric b dash h refl) refl
+
 plain_text : (bytes : List ℕ) → text_of (plain_tokens bytes) ≡ bytes
 plain_text [] = refl
 plain_text (b ∷ bytes) = ap (λ x. b ∷ x) (plain_text bytes)
@@ -63,9 +91,14 @@ plain_before : (mode : Bool) (bytes : List ℕ) → list_all is_alphanumeric byt
 plain_before mode [] h rest = tt
 plain_before mode (b ∷ bytes) h rest = let p = and_parts (is_alphanumeric b) (list_all is_alphanumeric bytes) h in (is_alphanumeric-plain mode b p.0 _, plain_before mode bytes p.1 rest)
 
+plain_settled : (bytes : List ℕ) → list_all is_alphanumeric bytes ≡ true → (rest : List ℕ) →
+    AreSettledBefore rest (plain_tokens bytes)
+plain_settled [] h rest = tt
+plain_settled (b ∷ bytes) h rest = let p = and_parts (is_alphanumeric b) (list_all is_alphanumeric bytes) h in (alphanumeric_portable b p.0 (text_then rest (plain_tokens bytes)), alphanumeric_single b p.0 (text_then rest (plain_tokens bytes)), plain_settled bytes p.1 rest)
+
 alphanumeric_cut : (mode : Bool) (bytes : List ℕ) → list_all is_alphanumeric bytes ≡ true →
     (ts : List Token) × IsCutBefore mode bytes ts
-alphanumeric_cut mode bytes h = (plain_tokens bytes, record { cut_text = plain_text bytes; cut_tokens = plain_before mode bytes h; cut_places = plain_places bytes })
+alphanumeric_cut mode bytes h = (plain_tokens bytes, record { cut_text = plain_text bytes; cut_tokens = plain_before mode bytes h; cut_settled = plain_settled bytes h; cut_places = plain_places bytes })
 
 digit_alphanumeric : (b : ℕ) → is_ascii_digit b ≡ true → is_alphanumeric b ≡ true
 digit_alphanumeric b h = rw h refl
@@ -97,6 +130,16 @@ minus_plain mode d rest h = plain_at mode dash (d ∷ rest) (none_there rest)
     none_there [] = refl
     none_there (w ∷ rest) = rw (other is_ascii_digit d dash h refl) refl
 
+minus_portable : (d : ℕ) (rest : List ℕ) → is_ascii_digit d ≡ true → is_portable (Plain dash) (d ∷ rest) ≡ true
+minus_portable d rest h = rw (no_line rest) refl
+  where
+    no_line : (rest : List ℕ) → may_open_line (d ∷ rest) ≡ false
+    no_line [] = refl
+    no_line (w ∷ rest) = rw (other is_ascii_digit d dash h refl) refl
+
+minus_single : (d : ℕ) (rest : List ℕ) → is_ascii_digit d ≡ true → no_double (Plain dash) (d ∷ rest) ≡ true
+minus_single d rest h = rw (other is_ascii_digit d dash h refl) refl
+
 minus_cut : (mode : Bool) (digits : List ℕ) → AreDigits digits →
     (ts : List Token) × IsCutBefore mode (dash ∷ digits) ts
 minus_cut mode [] h = absurd h
@@ -105,6 +148,7 @@ minus_cut mode (d ∷ digits) h = (
   record {
     cut_text = plain_text (dash ∷ d ∷ digits);
     cut_tokens = λ rest. (minus_plain mode d _ h.0, plain_before mode (d ∷ digits) (AreDigits-alphanumeric (d ∷ digits) h) rest);
+    cut_settled = λ rest. (minus_portable d (text_then rest (plain_tokens digits)) h.0, minus_single d (text_then rest (plain_tokens digits)) h.0, plain_settled (d ∷ digits) (AreDigits-alphanumeric (d ∷ digits) h) rest);
     cut_places = plain_places digits;
   },
 )
@@ -120,6 +164,7 @@ string_cut mode (closed_string body u) = (
   record {
     cut_text = append-nil (single_quote ∷ (body ++ single_quote ∷ []));
     cut_tokens = λ rest. (string_before mode body _ u, tt);
+    cut_settled = λ rest. (refl, refl, tt);
     cut_places = refl;
   },
 )
@@ -130,6 +175,7 @@ cut_both : (mode : Bool) (text more : List ℕ) (ts us : List Token) → IsCutBe
 cut_both mode text more ts us h k = record {
   cut_text = text_of-append ts us ∙ (ap (λ x. x ++ text_of us) h.cut_text ∙ ap (λ x. text ++ x) k.cut_text);
   cut_tokens = λ rest. AreTokensBefore-append mode ts us rest (h.cut_tokens _) (k.cut_tokens rest);
+  cut_settled = λ rest. AreSettledBefore-append ts us rest (h.cut_settled _) (k.cut_settled rest);
   cut_places = rw (place_count-append ts us, h.cut_places, k.cut_places) refl;
 }
 
@@ -154,9 +200,46 @@ IsLiteral-cut mode (negative_literal digits h) = minus_cut mode _ h
 IsLiteral-cut mode (hexadecimal_literal pairs h) = alphanumeric_cut mode _ (AreHexadecimalPairs-alphanumeric pairs h)
 IsLiteral-cut mode (quoted_literal literal h) = quoted_cut mode literal h
 
+-- ---- its first bytes
+
 -- a byte with which a literal other than a negative one begins
 abbrev first_byte : ℕ → Bool
 first_byte b = is_ascii_digit b || (b == single_quote || b == byte "N")
+
+-- such a byte, or a dash and a digit
+abbrev pub begins_literal : List ℕ → Bool
+begins_literal [] = false
+begins_literal (b ∷ bs) = first_byte b || (b == dash && begins is_ascii_digit bs)
+
+digits_begin : (digits rest : List ℕ) → AreDigits digits → begins_literal (digits ++ rest) ≡ true
+digits_begin [] rest h = absurd h
+digits_begin (d ∷ digits) rest h = rw h.0 refl
+
+minus_begins : (digits rest : List ℕ) → AreDigits digits → begins_literal (dash ∷ (digits ++ rest)) ≡ true
+minus_begins [] rest h = absurd h
+minus_begins (d ∷ digits) rest h = rw h.0 refl
+
+string_begins : {mode : Bool} {string : List ℕ} → IsClosedString mode string → (rest : List ℕ) →
+    begins_literal (string ++ rest) ≡ true
+string_begins (closed_string body u) rest = refl
+
+strings_begin : {mode : Bool} {literal : List ℕ} → AreClosedStrings mode literal → (rest : List ℕ) →
+    begins_literal (literal ++ rest) ≡ true
+strings_begin (one_string string h) rest = string_begins h rest
+strings_begin (more_strings string more h hs) rest = rw (append_assoc string more rest) (string_begins h (more ++ rest))
+
+quoted_begins : (mode : Bool) (literal : List ℕ) → IsQuoted mode literal → (rest : List ℕ) →
+    begins_literal (literal ++ rest) ≡ true
+quoted_begins false literal h rest = string_begins h rest
+quoted_begins true literal h rest = strings_begin h rest
+
+pub IsLiteral-begins : (mode : Bool) {literal : List ℕ} → IsLiteral mode literal → (rest : List ℕ) →
+    begins_literal (literal ++ rest) ≡ true
+IsLiteral-begins mode null_literal rest = refl
+IsLiteral-begins mode (natural_literal digits h) rest = digits_begin digits rest h
+IsLiteral-begins mode (negative_literal digits h) rest = minus_begins digits rest h
+IsLiteral-begins mode (hexadecimal_literal pairs h) rest = refl
+IsLiteral-begins mode (quoted_literal literal h) rest = quoted_begins mode literal h rest
 
 first_opens_nothing : (b : ℕ) (rest : List ℕ) → first_byte b ≡ true → OpensNothing (b ∷ rest)
 first_opens_nothing b rest h =
@@ -171,33 +254,18 @@ first_opens_nothing b rest h =
     no_line [] = refl
     no_line (w ∷ rest) = rw (other first_byte b dash h refl) refl
 
-AreDigits-open_nothing : (digits rest : List ℕ) → AreDigits digits → OpensNothing (digits ++ rest)
-AreDigits-open_nothing [] rest h = absurd h
-AreDigits-open_nothing (d ∷ digits) rest h = first_opens_nothing d (digits ++ rest) (rw h.0 refl)
+minus_opens_nothing : (rest : List ℕ) → begins is_ascii_digit rest ≡ true → OpensNothing (dash ∷ rest)
+minus_opens_nothing [] h = absurd (true≢false (sym h))
+minus_opens_nothing (d ∷ rest) h =
+    record { no_line = (first_opens_nothing d rest (rw h refl)).no_gap; no_gap = refl; no_block = refl; no_start = refl }
 
-minus_opens_nothing : (digits rest : List ℕ) → AreDigits digits → OpensNothing (dash ∷ (digits ++ rest))
-minus_opens_nothing [] rest h = absurd h
-minus_opens_nothing (d ∷ digits) rest h =
-    record { no_line = (AreDigits-open_nothing (d ∷ digits) rest h).no_gap; no_gap = refl; no_block = refl; no_start = refl }
-
-string_opens_nothing : {mode : Bool} {string : List ℕ} → IsClosedString mode string → (rest : List ℕ) →
-    OpensNothing (string ++ rest)
-string_opens_nothing (closed_string body u) rest = first_opens_nothing single_quote _ refl
-
-strings_open_nothing : {mode : Bool} {literal : List ℕ} → AreClosedStrings mode literal →
-    (rest : List ℕ) → OpensNothing (literal ++ rest)
-strings_open_nothing (one_string string h) rest = string_opens_nothing h rest
-strings_open_nothing (more_strings string more h hs) rest = rw (append_assoc string more rest) (string_opens_nothing h (more ++ rest))
-
-quoted_opens_nothing : (mode : Bool) (literal : List ℕ) → IsQuoted mode literal → (rest : List ℕ) →
-    OpensNothing (literal ++ rest)
-quoted_opens_nothing false literal h rest = string_opens_nothing h rest
-quoted_opens_nothing true literal h rest = strings_open_nothing h rest
-
-pub IsLiteral-opens_nothing : (mode : Bool) {literal : List ℕ} → IsLiteral mode literal →
-    (rest : List ℕ) → OpensNothing (literal ++ rest)
-IsLiteral-opens_nothing mode null_literal rest = first_opens_nothing (byte "N") _ refl
-IsLiteral-opens_nothing mode (natural_literal digits h) rest = AreDigits-open_nothing digits rest h
-IsLiteral-opens_nothing mode (negative_literal digits h) rest = minus_opens_nothing digits rest h
-IsLiteral-opens_nothing mode (hexadecimal_literal pairs h) rest = first_opens_nothing (byte "0") _ refl
-IsLiteral-opens_nothing mode (quoted_literal literal h) rest = quoted_opens_nothing mode literal h rest
+-- they open nothing with the byte before them
+pub begins_literal-opens_nothing : (text : List ℕ) → begins_literal text ≡ true → OpensNothing text
+begins_literal-opens_nothing [] h = absurd (true≢false (sym h))
+begins_literal-opens_nothing (b ∷ bs) h =
+    elim (or_cases (first_byte b) (b == dash && begins is_ascii_digit bs) h) [
+      | inl f ↦ first_opens_nothing b bs f
+      | inr m ↦
+          let p = and_parts (b == dash) (begins is_ascii_digit bs) m in
+          subst (λ x. OpensNothing (x ∷ bs)) (sym (eqb-true b dash p.0)) (minus_opens_nothing bs p.1)
+    ]

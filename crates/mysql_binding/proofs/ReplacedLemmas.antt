@@ -5,13 +5,14 @@ use Rattle.std.proofs.Common.{◌≡◌, ◌++◌, ℕ, List, [], ◌∷◌, len
 use Rattle.mysql_sql_text.specs.LiteralShape.{IsLiteral}
 use Rattle.mysql_named_params.specs.Tokens.{Token, IsTokens, AreTokensBefore, text_of, bytes_of, Name, Mark}
 use Rattle.mysql_named_params.specs.Places.{place_count}
-use Rattle.mysql_named_params.proofs.RestLemmas.{SameUpToPlace, at_end, at_place, same-append, IsToken-move}
+use Rattle.mysql_named_params.proofs.RestLemmas.{IsToken-move}
 use Rattle.mysql_named_params.proofs.TokenListLemmas.{one_token_list}
 use Rattle.mysql_binding.specs.Replaced.{AreLiterals, AreTokensOf, with_literal_tokens}
 use Rattle.mysql_binding.specs.Pieces.{pieces, joined_text}
 use Rattle.mysql_binding.proofs.PieceLemmas.{joined_text_count, joined_text_is}
 use Rattle.mysql_binding.proofs.BoundText.{bound}
-use Rattle.mysql_binding.proofs.LiteralTokenLemmas.{IsCutBefore, IsLiteral-cut, IsLiteral-opens_nothing}
+use Rattle.mysql_binding.proofs.LiteralTokenLemmas.{IsCutBefore, IsLiteral-cut, IsLiteral-begins}
+use Rattle.mysql_binding.proofs.UpToLiteralLemmas.{SameUpToLiteral, at_end, at_place, same-append, up_to_place}
 use Rattle.mysql_named_params.proofs.TokenRowLemmas.{text_then-append, text_then-text_of, AreTokensBefore-append, place_count-append}
 
 -- the tokens of a literal end where it ends, whatever follows
@@ -30,14 +31,14 @@ literal_lists mode (literal ∷ literals) h =
     let more = literal_lists mode literals h.1 in
     (cut.0 ∷ more.0, (record { text = cut.1.cut_text; each = cut.1.cut_tokens [] }, more.1))
 
-pub bound_up_to_place : (mode : Bool) (ts : List Token) (literals : List (List ℕ)) →
-    AreLiterals mode literals → SameUpToPlace (text_of ts) (bound ts literals)
-bound_up_to_place mode [] literals a = at_end
-bound_up_to_place mode (Name name ∷ ts) [] a = same-append (bytes_of (Name name)) (bound_up_to_place mode ts [] a)
-bound_up_to_place mode (Name name ∷ ts) (literal ∷ literals) a = at_place (inl refl) (IsLiteral-opens_nothing mode a.0 _)
-bound_up_to_place mode (Mark ∷ ts) [] a = same-append (bytes_of Mark) (bound_up_to_place mode ts [] a)
-bound_up_to_place mode (Mark ∷ ts) (literal ∷ literals) a = at_place (inr refl) (IsLiteral-opens_nothing mode a.0 _)
-bound_up_to_place mode (t ∷ ts) literals a = same-append (bytes_of t) (bound_up_to_place mode ts literals a)
+bound_up_to_literal : (mode : Bool) (ts : List Token) (literals : List (List ℕ)) →
+    AreLiterals mode literals → SameUpToLiteral (text_of ts) (bound ts literals)
+bound_up_to_literal mode [] literals a = at_end
+bound_up_to_literal mode (Name name ∷ ts) [] a = same-append (bytes_of (Name name)) (bound_up_to_literal mode ts [] a)
+bound_up_to_literal mode (Name name ∷ ts) (literal ∷ literals) a = at_place (inl refl) (IsLiteral-begins mode a.0 _)
+bound_up_to_literal mode (Mark ∷ ts) [] a = same-append (bytes_of Mark) (bound_up_to_literal mode ts [] a)
+bound_up_to_literal mode (Mark ∷ ts) (literal ∷ literals) a = at_place (inr refl) (IsLiteral-begins mode a.0 _)
+bound_up_to_literal mode (t ∷ ts) literals a = same-append (bytes_of t) (bound_up_to_literal mode ts literals a)
 
 list_text : (mode : Bool) (literal : List ℕ) (list ts : List Token) (rest : List ℕ) →
     IsTokens mode literal list → text_of ts ≡ rest → text_of (list ++ ts) ≡ literal ++ rest
@@ -55,10 +56,10 @@ replaced_text mode (Mark ∷ ts) (literal ∷ literals) [] a l = absurd a
 replaced_text mode (Mark ∷ ts) (literal ∷ literals) (list ∷ lists) a l = list_text mode literal list _ _ a.0 (replaced_text mode ts literals lists a.1 (omega arith))
 replaced_text mode (t ∷ ts) literals lists a l = ap (λ u. bytes_of t ++ u) (replaced_text mode ts literals lists a l)
 
-replaced_up_to_place : (mode : Bool) (ts : List Token) (literals : List (List ℕ)) (lists : List (List Token)) →
+pub replaced_up_to_literal : (mode : Bool) (ts : List Token) (literals : List (List ℕ)) (lists : List (List Token)) →
     AreLiterals mode literals → AreTokensOf mode literals lists → length literals ≡ place_count ts →
-    SameUpToPlace (text_of ts) (text_of (with_literal_tokens ts lists))
-replaced_up_to_place mode ts literals lists s a l = subst (λ u. SameUpToPlace (text_of ts) u) (sym (replaced_text mode ts literals lists a l)) (bound_up_to_place mode ts literals s)
+    SameUpToLiteral (text_of ts) (text_of (with_literal_tokens ts lists))
+replaced_up_to_literal mode ts literals lists s a l = subst (λ u. SameUpToLiteral (text_of ts) u) (sym (replaced_text mode ts literals lists a l)) (bound_up_to_literal mode ts literals s)
 
 -- isolation: the tokens of the bound text
 pub replaced_tokens : (mode : Bool) (ts : List Token) (literals : List (List ℕ)) (lists : List (List Token)) →
@@ -74,7 +75,7 @@ replaced_tokens mode (Mark ∷ ts) (literal ∷ literals) [] h s a l = absurd a
 replaced_tokens mode (Mark ∷ ts) (literal ∷ literals) (list ∷ lists) h s a l =
     AreTokensBefore-append mode list (with_literal_tokens ts lists) [] ((IsLiteral-tokens mode literal list s.0 a.0).cut_tokens _) (replaced_tokens mode ts literals lists h.1 s.1 a.1 (omega arith))
 replaced_tokens mode (t ∷ ts) literals lists h s a l =
-    (IsToken-move mode t _ _ (λ p. p) (replaced_up_to_place mode ts literals lists s a l) h.0, replaced_tokens mode ts literals lists h.1 s a l)
+    (IsToken-move mode t _ _ (λ p. p) (up_to_place (replaced_up_to_literal mode ts literals lists s a l)) h.0, replaced_tokens mode ts literals lists h.1 s a l)
 
 list_places : (mode : Bool) (literal : List ℕ) (list ts : List Token) → IsLiteral mode literal →
     IsTokens mode literal list → place_count ts ≡ 0 → place_count (list ++ ts) ≡ 0

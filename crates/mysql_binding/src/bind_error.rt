@@ -10,7 +10,8 @@ pub enum BindError {
     /// The query has both named and positional parameters.
     #[error("Named and positional params in one query")]
     Mixed,
-    /// The parameters don't give the values for the query's names. It is never out of memory.
+    /// What [`Params::into_values`](mysql_params_core::params::Params::into_values) refuses: a name
+    /// without a value, or parameters of the other kind. It is never out of memory.
     #[error(transparent)]
     Params(ParamsError),
     /// The query has no names, and its marks are not as many as the values.

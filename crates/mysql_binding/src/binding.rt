@@ -40,6 +40,9 @@ use std::alloc::Global;
 /// [`ParsedNamedParams`](mysql_named_params::named_params::ParsedNamedParams) reads it, and the
 /// literals are written: with `true`, as where `sql_mode` has `NO_BACKSLASH_ESCAPES`, a backslash
 /// is a byte like any other; with `false` it escapes the byte after it in a string.
+///
+/// `Memory` may come in place of any other result, but not for a query with names and marks. It also
+/// comes where the text would be longer than `isize::MAX` bytes.
 // A query has one token list in each mode (`mysql_named_params::laws::one_token_list`), so the
 // clauses speak of the same `ts`.
 pub fn bind_text_in(

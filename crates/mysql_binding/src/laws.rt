@@ -3,11 +3,13 @@ ghost use Rattle.std.specs.Prelude.{◌≡◌, ◌↔◌, ℕ, Bool, List, [], N
 ghost use Rattle.mysql_values.specs.Content.{content_of};
 ghost use Rattle.mysql_named_params.specs.Tokens.{Token, IsTokens, text_of};
 ghost use Rattle.mysql_named_params.specs.Places.{place_count, positions, with_marks};
+ghost use Rattle.mysql_named_params.specs.Portable.{ArePortable, IsPortable};
+ghost use Rattle.mysql_named_params.specs.Server.{Server, IsReadOn};
 ghost use Rattle.mysql_params_core.specs.Given.{Given, empty, positional};
 ghost use Rattle.mysql_binding.specs.BindErrors.{AreEqualBindErrors};
 ghost use Rattle.mysql_binding.specs.Isolation.{IsBoundText};
 ghost use Rattle.mysql_binding.specs.Pieces.{pieces, joined_text};
-ghost use Rattle.mysql_binding.specs.Replaced.{AreLiterals, AreTokensOf, with_literal_tokens};
+ghost use Rattle.mysql_binding.specs.Replaced.{AreLiterals, AreReadOn, AreTokensOf, with_literal_tokens};
 ghost use Rattle.mysql_binding.specs.StandsAlone.{AllAlone, IsFirstNotAlone, first_not_alone};
 
 use crate::bind_error::BindError;
@@ -25,6 +27,21 @@ pub fn isolation()
         AreLiterals mode literals → AreTokensOf mode literals lists →
         joined_text (pieces ts) literals ≡ Some text →
         place_count (with_literal_tokens ts lists) ≡ 0 }
+{}
+
+/// A text that is bound to a portable query is portable, and on every server, whatever stands in the
+/// values, its tokens are the query's, with those of one literal in place of each name and mark.
+pub fn bound_texts_on_servers()
+    ensures portable { (mode : Bool) (ts : List Token) (given : Given) (text : List ℕ) →
+        (b : IsBoundText mode ts given text) → ArePortable ts →
+        IsPortable (with_literal_tokens ts b.lists) }
+    ensures tokens { (server : Server) (mode : Bool) (query text : List ℕ) (ts us : List Token)
+        (given : Given) → IsTokens mode query ts → (b : IsBoundText mode ts given text) →
+        ArePortable ts → IsReadOn server mode query us →
+        IsReadOn server mode text (with_literal_tokens us b.lists) }
+    ensures literals { (server : Server) (mode : Bool) (ts : List Token) (given : Given)
+        (text : List ℕ) → (b : IsBoundText mode ts given text) →
+        AreReadOn server mode b.literals b.lists }
 {}
 
 /// No name and no mark is left in a bound text.
@@ -76,6 +93,7 @@ pub fn first_not_alone_is_first()
 /// Errors of binding are equal where variant and fields are.
 pub fn bind_error_equality(a: &BindError, b: &BindError) -> bool
     ensures same { IsTrue result ↔ AreEqualBindErrors a.now b.now }
+    ensures member { result ≡ ⟦<BindError as PartialEq>⟧.eq a.now b.now }
 {
     a == b
 }

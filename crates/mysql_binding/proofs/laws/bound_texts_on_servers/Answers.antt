@@ -1,0 +1,16 @@
+use Rattle.std.specs.Prelude.{[]}
+use Rattle.mysql_named_params.proofs.PlaceTextLemmas.{placeless_join_no_number}
+use Rattle.mysql_binding.proofs.BoundOnServerLemmas.{replaced_portable, isolated_on, literals_on}
+use Rattle.mysql_binding.proofs.PieceLemmas.{joined_text_count}
+use Rattle.mysql_binding.proofs.ReplacedLemmas.{isolated_places}
+use Rattle.mysql_binding.proofs.laws.bound_texts_on_servers.Goals as goal
+
+pub returns : goal.returns
+returns c = record {
+  portable = λ mode ts given text b p. record {
+    alike = replaced_portable mode ts b.literals b.lists p b.shapes b.tokens_of_literals (joined_text_count [] ts b.literals text b.exact);
+    apart = placeless_join_no_number mode _ b.isolated.each (isolated_places mode text ts b.literals b.lists b.shapes b.tokens_of_literals b.exact);
+  };
+  tokens = λ server mode query text ts us given h b p u. isolated_on server mode query text ts us b.literals b.lists h p b.shapes b.tokens_of_literals b.exact u;
+  literals = λ server mode ts given text b. literals_on server mode b.literals b.lists b.shapes b.tokens_of_literals;
+}
