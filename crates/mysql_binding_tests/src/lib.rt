@@ -6,6 +6,7 @@
 mod any_bytes;
 #[cfg(test)]
 mod binding;
+pub mod fixed_query;
 #[cfg(test)]
 mod isolation;
 pub mod paths;

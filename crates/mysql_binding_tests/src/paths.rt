@@ -1,10 +1,14 @@
-//! Every public path that a user may name, so that one that moves is noticed: it is handed on here,
-//! and a path that is gone doesn't compile.
+//! Every public path of `mysql_params`, `mysql_values` and `mysql_wire_part` that a user may name,
+//! so that one that moves is noticed: it is handed on here, and one that is gone doesn't compile.
 
 pub use mysql_params::BindError;
 pub use mysql_params::RunError;
 pub use mysql_params::bind_text;
 pub use mysql_params::bind_text_in;
+pub use mysql_params::fixed_query::bind_named;
+pub use mysql_params::fixed_query::bind_named_in;
+pub use mysql_params::fixed_query::bind_positional;
+pub use mysql_params::fixed_query::bind_positional_in;
 pub use mysql_params::laws::beginnings_are_found;
 pub use mysql_params::laws::bind_error_equality;
 pub use mysql_params::laws::bound_again_is_the_same;
@@ -30,6 +34,7 @@ pub use mysql_params::laws::positions_of_places;
 pub use mysql_params::laws::renaming_undone;
 pub use mysql_params::laws::run_error_equality;
 pub use mysql_params::laws::to_params_error_equality;
+pub use mysql_params::laws::tokens_exist;
 pub use mysql_params::named_params::MixedParamsError;
 pub use mysql_params::named_params::NamedParamsError;
 pub use mysql_params::named_params::ParsedNamedParams;
@@ -39,11 +44,10 @@ pub use mysql_params::params::Params;
 pub use mysql_params::params::ParamsConfusionError;
 pub use mysql_params::params::ParamsError;
 pub use mysql_params::params::ToName;
+pub use mysql_params::params::ToPairs;
 pub use mysql_params::params::ToParams;
 pub use mysql_params::params::ToParamsError;
 pub use mysql_params::run;
-pub use mysql_value_core::laws::escapes_read as core_escapes_read;
-pub use mysql_value_core::laws::numbers_read as core_numbers_read;
 pub use mysql_values::bytes::Bytes;
 pub use mysql_values::laws::array_converts_back;
 pub use mysql_values::laws::as_sql_error_equality;

@@ -1,10 +1,14 @@
 pub use Rattle.mysql_named_params.specs.Bytes
 pub use Rattle.mysql_named_params.specs.Tokens
 pub use Rattle.mysql_named_params.specs.Places
+pub use Rattle.mysql_named_params.specs.TokensOf
 pub use Rattle.mysql_named_params.specs.Locality
 pub use Rattle.mysql_named_params.specs.Parsed
 pub use Rattle.mysql_named_params.specs.SameParsed
 pub use Rattle.mysql_named_params.specs.NamedParamsErrors
+pub use Rattle.mysql_named_params.specs.Server
+pub use Rattle.mysql_named_params.specs.Portable
+pub use Rattle.mysql_named_params.specs.FirstUnportable
 pub use Rattle.mysql_params_core.specs.Given
 pub use Rattle.mysql_params_core.specs.Answer
 pub use Rattle.mysql_params_core.specs.Names
@@ -19,6 +23,8 @@ pub use Rattle.mysql_binding.specs.FirstCause
 pub use Rattle.mysql_binding.specs.ValueLiterals
 pub use Rattle.mysql_binding.specs.BindErrors
 pub use Rattle.mysql_binding.specs.Isolation
+pub use Rattle.mysql_fixed_query.specs.Bindable
+pub use Rattle.mysql_fixed_query.specs.FixedText
 pub use Rattle.mysql_program.specs.Words
 pub use Rattle.mysql_program.specs.WordErrors
 pub use Rattle.mysql_program.specs.Program

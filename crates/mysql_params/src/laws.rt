@@ -1,14 +1,16 @@
-//! Laws of the definitions that the contracts cite, and of equality, of all crates below, handed on by
-//! name. No program needs to call them.
+//! Laws of the definitions that the contracts cite, and of equality, of all crates below, handed on
+//! by name. A program calls them for what they ensure alone, where a proof needs it.
 
 pub use mysql_binding::laws::{
-    bind_error_equality, bound_again_is_the_same, by_position_is_the_same,
+    bind_error_equality, bound_again_is_the_same, bound_texts_on_servers, by_position_is_the_same,
     equal_texts_say_the_same, first_not_alone_is_first, isolation, no_place_is_left,
     position_of_first_not_alone,
 };
 pub use mysql_named_params::laws::{
-    locality, mixed_error_equality, named_params_error_equality, nameless_is_unchanged,
-    one_token_list, parsed_equality, positions_of_places, renaming_undone,
+    grammar_is_a_server, locality, mixed_error_equality, named_params_error_equality,
+    nameless_is_unchanged, one_list_on_a_server, one_token_list, parsed_equality,
+    portable_is_sharp, portable_reading, positions_of_places, renaming_undone, same_places,
+    tokens_exist, unportable_equality,
 };
 pub use mysql_params_core::laws::{
     beginnings_are_found, into_positional_error_equality, lookups_agree,

@@ -3,12 +3,16 @@
 //! A query is bytes. [`named_params`] finds the names and marks outside its strings, quoted
 //! identifiers and comments; [`params`] are what is given to them, and [`bind_text`] puts the
 //! literals of the values in their places; [`bind_text_in`] does so in either mode of backslashes.
+//! [`first_unportable`] finds what servers read in different ways, before a query is bound.
+//! Where the query is a constant, [`fixed_query`] binds it, refused for nothing but memory.
 //! [`run`] is the program, with its commands `names` and `bind`, for any reader and writer.
 #![tactic(auto)]
 
+pub mod fixed_query;
 pub mod laws;
 pub mod named_params;
 pub mod params;
 
 pub use mysql_binding::{BindError, bind_text, bind_text_in};
+pub use mysql_named_params::portable::{Construct, Unportable, first_unportable};
 pub use mysql_program::{RunError, run};

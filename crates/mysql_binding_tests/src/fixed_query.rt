@@ -1,0 +1,111 @@
+//! Fixed queries: of each function the prover computes that its query is bindable, and of one its
+//! text. The tests hold the texts against what was written by hand.
+ghost use Rattle.std.specs.Prelude.{◌≡◌, ◌++◌, IfOk, codes};
+ghost use Rattle.std.specs.Fmt.{decimal};
+ghost use Rattle.mysql_values.specs.LiteralText.{bytes_literal};
+ghost use Rattle.mysql_values.specs.StringUnits.{with_backslashes};
+
+use mysql_params::fixed_query::{bind_named, bind_named_in, bind_positional, bind_positional_in};
+use std::alloc::{AllocError, Global};
+
+const CUSTOMER: &[u8] = b"SELECT ':id' FROM customer WHERE id=:id AND :name <> name";
+
+/// The query for a customer.
+pub fn customer(alloc: Global, id: u32, name: &str) -> Result<Vec<u8>, AllocError>
+    ensures { IfOk result (λ text. text.items
+        ≡ codes "SELECT ':id' FROM customer WHERE id=" ++ (decimal id ++ (codes " AND "
+        ++ (bytes_literal with_backslashes name.now ++ codes " <> name")))) }
+{
+    bind_named(alloc, CUSTOMER, &(("name", name), ("id", id)))
+}
+
+/// The same without backslash escapes.
+pub fn customer_in(alloc: Global, id: u32, name: &str) -> Result<Vec<u8>, AllocError> {
+    bind_named_in(alloc, CUSTOMER, &(("name", name), ("id", id)), true)
+}
+
+/// Orders of a customer, of whom no name may be known.
+pub fn orders(
+    alloc: Global,
+    least: i64,
+    name: Option<&str>,
+    paid: bool,
+) -> Result<Vec<u8>, AllocError> {
+    let things = (least, name, paid);
+    bind_positional(
+        alloc,
+        b"SELECT * FROM orders -- ?\nWHERE total>? AND (name=? OR paid=?)",
+        &things,
+    )
+}
+
+// With backslash escapes the string of this query would end after the mark.
+const PATH: &[u8] = b"SELECT 'C:\\', ?";
+
+/// A query in which a backslash ends a string, without backslash escapes.
+pub fn path(alloc: Global, folder: &str) -> Result<Vec<u8>, AllocError> {
+    bind_positional_in(alloc, PATH, &(folder,), true)
+}
+
+/// A name that stands twice.
+pub fn twice(alloc: Global, a: u8) -> Result<Vec<u8>, AllocError> {
+    bind_named(alloc, b"SELECT :a*:a", &(("a", a),))
+}
+
+/// A query without places.
+pub fn nothing(alloc: Global) -> Result<Vec<u8>, AllocError> {
+    bind_positional(alloc, b"SELECT ':a', '?'", &())
+}
+
+#[cfg(test)]
+mod tests {
+    use super::*;
+    use std::test::Fail;
+
+    const PAID_ORDERS: &[u8] = b"SELECT * FROM orders -- ?\nWHERE total>-3 \
+        AND (name='x\\' OR \\'1\\'=\\'1' OR paid=1)";
+
+    const HOSTILE: &str = "x' OR '1'='1";
+
+    #[test]
+    fn by_name(rt: HostRuntime) -> Result<(), Fail> {
+        let text = customer(rt.alloc(), 42, HOSTILE)?;
+        let wanted = b"SELECT ':id' FROM customer WHERE id=42 AND 'x\\' OR \\'1\\'=\\'1' <> name";
+        assert_eq!(rt; text.as_slice(), wanted.as_slice());
+        let text = twice(rt.alloc(), 7)?;
+        assert_eq!(rt; text.as_slice(), b"SELECT 7*7".as_slice());
+        Ok(())
+    }
+
+    #[test]
+    fn by_name_without_backslashes(rt: HostRuntime) -> Result<(), Fail> {
+        let text = customer_in(rt.alloc(), 42, "\\' OR 1=1 -- ")?;
+        let wanted = b"SELECT ':id' FROM customer WHERE id=42 AND '\\'' OR 1=1 -- ' <> name";
+        assert_eq!(rt; text.as_slice(), wanted.as_slice());
+        Ok(())
+    }
+
+    #[test]
+    fn by_position(rt: HostRuntime) -> Result<(), Fail> {
+        let text = orders(rt.alloc(), -3, Some(HOSTILE), true)?;
+        assert_eq!(rt; text.as_slice(), PAID_ORDERS);
+        let text = orders(rt.alloc(), 0, None, false)?;
+        let wanted = b"SELECT * FROM orders -- ?\nWHERE total>0 AND (name=NULL OR paid=0)";
+        assert_eq!(rt; text.as_slice(), wanted.as_slice());
+        Ok(())
+    }
+
+    #[test]
+    fn by_position_without_backslashes(rt: HostRuntime) -> Result<(), Fail> {
+        let text = path(rt.alloc(), "D:\\it's")?;
+        assert_eq!(rt; text.as_slice(), b"SELECT 'C:\\', 'D:\\it''s'".as_slice());
+        Ok(())
+    }
+
+    #[test]
+    fn without_places(rt: HostRuntime) -> Result<(), Fail> {
+        let text = nothing(rt.alloc())?;
+        assert_eq!(rt; text.as_slice(), b"SELECT ':a', '?'".as_slice());
+        Ok(())
+    }
+}

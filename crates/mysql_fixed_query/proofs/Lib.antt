@@ -1,0 +1,4 @@
+pub mod GivenLemmas
+pub mod CauseLemmas
+pub mod TextLemmas
+pub mod AnswerLemmas

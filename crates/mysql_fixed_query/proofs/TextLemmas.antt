@@ -1,0 +1,45 @@
+-- The text of a bound query is the one that is computed.
+use Rattle.std.specs.Prelude.{Bool, Result, Ok, Err, IfOk, unwrap_or}
+use Rattle.std.proofs.Common.{◌≡◌, ℕ, List, [], ◌∷◌, map, Some, refl, sym, ap, ◌∙◌}
+use Rattle.mysql_values.specs.declared.value.Value.{Value}
+use Rattle.mysql_values.specs.Literal.{literal_of}
+use Rattle.mysql_named_params.specs.TokensOf.{tokens_of}
+use Rattle.mysql_named_params.specs.Places.{names}
+use Rattle.mysql_params_core.specs.Given.{Given}
+use Rattle.mysql_params_core.specs.Lookup.{lookup}
+use Rattle.mysql_binding.specs.Isolation.{IsBoundText}
+use Rattle.mysql_binding.specs.Pieces.{pieces, joined_text}
+use Rattle.mysql_fixed_query.specs.FixedText.{literal_in, bound_text}
+
+map-literal_in : (mode : Bool) (values : List Value) (literals : List (List ℕ)) →
+    map (literal_of mode) values ≡ map Some literals → map (literal_in mode) values ≡ literals
+map-literal_in mode [] [] e = refl
+map-literal_in mode [] (literal ∷ literals) e = cc
+map-literal_in mode (value ∷ values) [] e = cc
+map-literal_in mode (value ∷ values) (literal ∷ literals) e =
+    let here : literal_of mode value ≡ Some literal = cc in
+    let later : map (literal_of mode) values ≡ map Some literals = cc in
+    ap (λ x. x ∷ map (literal_in mode) values) (ap (λ o. unwrap_or o []) here)
+    ∙ ap (λ x. literal ∷ x) (map-literal_in mode values literals later)
+
+text_is_computed : (mode : Bool) (query : List ℕ) (g : Given) (values : List Value)
+    (text : List ℕ) → lookup g (names (tokens_of mode query)) ≡ Ok values →
+    IsBoundText mode (tokens_of mode query) g text → text ≡ bound_text mode query values
+text_is_computed mode query g values text looked_up bound =
+    let twice = sym bound.looked_up ∙ looked_up in
+    let same : bound.values ≡ values = cc in
+    let literals : map (literal_in mode) values ≡ bound.literals =
+    ap (map (literal_in mode)) (sym same)
+    ∙ map-literal_in mode bound.values bound.literals bound.written in
+    sym (ap (λ o. unwrap_or o [])
+    (ap (joined_text (pieces (tokens_of mode query))) literals ∙ bound.exact))
+
+-- the same of an answer
+pub answer_is_computed : {A E : Type 0} (items : A → List ℕ) (r : Result A E) (mode : Bool)
+    (query : List ℕ) (g : Given) (values : List Value) →
+    lookup g (names (tokens_of mode query)) ≡ Ok values →
+    IfOk r (λ text. IsBoundText mode (tokens_of mode query) g (items text)) →
+    IfOk r (λ text. items text ≡ bound_text mode query values)
+answer_is_computed items (Ok text) mode query g values looked_up bound =
+    text_is_computed mode query g values (items text) looked_up bound
+answer_is_computed items (Err e) mode query g values looked_up bound = tt

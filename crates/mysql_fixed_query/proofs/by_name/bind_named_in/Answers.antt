@@ -1,0 +1,26 @@
+use Rattle.mysql_fixed_query.specs.Bindable.{given_by, valued}
+use Rattle.mysql_fixed_query.specs.FixedText.{values_under}
+use Rattle.mysql_fixed_query.proofs.AnswerLemmas.{answer_at}
+use Rattle.mysql_fixed_query.proofs.CauseLemmas.{pairs_made_is, names_looked_up, no_cause_by_name}
+use Rattle.mysql_fixed_query.proofs.TextLemmas.{answer_is_computed}
+use Rattle.mysql_fixed_query.proofs.by_name.bind_named_in.Goals as goal
+
+pub bind_made-requires-clause-no_cause : goal.bind_made-requires-clause-no_cause
+bind_made-requires-clause-no_cause g c = (
+  given_by (valued (g.P.ToPairs.pairs c.args.pairs.now)),
+  answer_at _ _ c.to_named.result (pairs_made_is c.requires) c.to_named.ensures.made,
+  no_cause_by_name c.requires,
+)
+
+pub returns-clause-bound : goal.returns-clause-bound
+returns-clause-bound g c =
+    c.bind_made.ensures.bound (given_by (valued (g.P.ToPairs.pairs c.args.pairs.now)))
+    (answer_at _ _ c.to_named.result (pairs_made_is c.requires) c.to_named.ensures.made)
+
+pub returns-clause-text : goal.returns-clause-text
+returns-clause-text g c =
+    let pairs = valued (g.P.ToPairs.pairs c.args.pairs.now) in
+    answer_is_computed (λ text. text.items) c.bind_made.result c.args.no_backslash_escape
+    c.args.query.now (given_by pairs)
+    (values_under c.args.no_backslash_escape c.args.query.now pairs)
+    (names_looked_up c.requires) (returns-clause-bound g c)

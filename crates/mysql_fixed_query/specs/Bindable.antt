@@ -1,0 +1,89 @@
+-- Which queries nothing but memory refuses to bind to which values: facts that the prover computes
+-- where the query is a constant. A mode is the flag `no_backslash_escape`: `true` is the mode
+-- without backslash escapes.
+use Rattle.std.specs.Prelude.{◌≡◌, ◌<◌, ℕ, Bool, true, false, not, ◌&&◌, List, [], ◌∷◌, ◌++◌, length, map, None, Ok, Err, IsTrue}
+use Rattle.std.specs.List.{list_all, list_any}
+use Rattle.std.specs.Ordering.{eq_by_cmp, nat_cmp}
+use Rattle.std.specs.Cmp.Lexicographic.{slice_cmp}
+use Rattle.std.specs.FinMap.{from_entries}
+use Rattle.mysql_values.specs.declared.value.Value.{Value}
+use Rattle.mysql_values.specs.Literal.{is_float}
+use Rattle.mysql_values.specs.ValueOf.{Meaning}
+use Rattle.mysql_named_params.specs.TokensOf.{tokens_of}
+use Rattle.mysql_named_params.specs.Places.{names, marks}
+use Rattle.mysql_params_core.specs.Given.{Given, empty, named, positional}
+use Rattle.mysql_params_core.specs.Made.{Made}
+use Rattle.mysql_binding.specs.StandsAlone.{first_not_alone}
+use Rattle.mysql_binding.specs.FirstCause.{first_float}
+
+-- the names of pairs
+abbrev pub names_of : {A : Type 0} → List (List ℕ × A) → List (List ℕ)
+names_of pairs = map (λ pair. pair.0) pairs
+
+-- whether the name is one of these
+abbrev pub is_among : List (List ℕ) → List ℕ → Bool
+is_among names name = list_any (eq_by_cmp (slice_cmp nat_cmp) name) names
+
+-- whether each name is none of those before it, and none of the first list
+abbrev pub are_new : List (List ℕ) → List (List ℕ) → Bool
+are_new known [] = true
+are_new known (name ∷ names) = not (is_among known name) && are_new (known ++ name ∷ []) names
+
+-- whether the thing has a value, and that is no float
+abbrev pub has_literal : Meaning → Bool
+has_literal (Ok value) = not (is_float value)
+has_literal (Err duration) = false
+
+-- whether each thing of the pairs has a value, and none is a float
+abbrev pub have_literals : List (List ℕ × Meaning) → Bool
+have_literals pairs = list_all (λ pair. has_literal pair.1) pairs
+
+-- nothing but memory refuses to bind the query to these pairs of a name and a thing
+pub record IsBindable (mode : Bool) (query : List ℕ) (pairs : List (List ℕ × Meaning))
+    : Type 0 where
+  -- it has a name and no mark,
+  pub has_name : 0 < length (names (tokens_of mode query))
+  pub no_mark : marks (tokens_of mode query) ≡ 0
+  -- each of its places stands alone,
+  pub alone : first_not_alone (tokens_of mode query) ≡ None
+  -- each of its names is that of a pair, and each pair's name is one of its names,
+  pub given : IsTrue (list_all (is_among (names_of pairs)) (names (tokens_of mode query)))
+  pub wanted : IsTrue (list_all (is_among (names (tokens_of mode query))) (names_of pairs))
+  -- no name stands twice among the pairs,
+  pub differ : IsTrue (are_new [] (names_of pairs))
+  -- and each thing has a value, and no float.
+  pub literals : IsTrue (have_literals pairs)
+
+-- the pairs with the values of their things, without the things that have none
+abbrev pub valued : List (List ℕ × Meaning) → List (List ℕ × Value)
+valued [] = []
+valued ((name, Ok value) ∷ pairs) = (name, value) ∷ valued pairs
+valued ((name, Err duration) ∷ pairs) = valued pairs
+
+-- what pairs of a name and a value give to a query
+abbrev pub given_by : List (List ℕ × Value) → Given
+given_by pairs = named (from_entries pairs)
+
+-- whether these are values by position, or nothing
+abbrev pub is_by_position : Made → Bool
+is_by_position (Ok empty) = true
+is_by_position (Ok (positional values)) = true
+is_by_position (Ok (named entries)) = false
+is_by_position (Err refusal) = false
+
+-- the values by position; where nothing is made by position there are none
+abbrev pub values_of : Made → List Value
+values_of (Ok (positional values)) = values
+values_of made = []
+
+-- nothing but memory refuses to bind the query to what things made, by position
+pub record IsBindableByPosition (mode : Bool) (query : List ℕ) (made : Made) : Type 0 where
+  -- these are values by position, or nothing,
+  pub by_position : IsTrue (is_by_position made)
+  -- it has no name, and as many marks as there are values,
+  pub no_name : names (tokens_of mode query) ≡ []
+  pub count : marks (tokens_of mode query) ≡ length (values_of made)
+  -- each of its places stands alone,
+  pub alone : first_not_alone (tokens_of mode query) ≡ None
+  -- and no value is a float.
+  pub literals : first_float (values_of made) ≡ None

@@ -1,0 +1,2 @@
+pub mod Bindable
+pub mod FixedText

@@ -1,0 +1,53 @@
+//! Fixed queries, bound to values by position.
+ghost use Rattle.std.specs.Prelude.{◌≡◌, IfOk};
+ghost use Rattle.mysql_sql_text.specs.StringUnits.{with_backslashes};
+ghost use Rattle.mysql_named_params.specs.TokensOf.{tokens_of};
+ghost use Rattle.mysql_binding.specs.Isolation.{IsBoundText};
+ghost use Rattle.mysql_fixed_query.specs.Bindable.{IsBindableByPosition, values_of};
+ghost use Rattle.mysql_fixed_query.specs.FixedText.{bound_text};
+
+use crate::made::bind_made;
+use mysql_params_core::params::ToParams;
+use std::alloc::{AllocError, Global};
+
+/// The query with the literals of the values in the places of its marks, in order, in a mode of the
+/// server, as [`bind_text_in`](mysql_binding::bind_text_in) gives it. The flag is the mode: with
+/// `true` a backslash is a byte like any other.
+///
+/// The caller proves that nothing refuses it: the things make values by position, or nothing, the
+/// query has no name, and as many marks as there are values, each of its places stands alone, and
+/// no value is a float. Where the query is a constant and the things are a tuple the prover
+/// computes that by itself. So the only error is out of memory. A query without places takes `&()`.
+pub fn bind_positional_in<P: ToParams>(
+    alloc: Global,
+    query: &[u8],
+    things: &P,
+    no_backslash_escape: bool,
+) -> Result<Vec<u8>, AllocError>
+    requires { IsBindableByPosition no_backslash_escape query.now (P.made things.now) }
+    ensures bound { IfOk (P.made things.now) (λ given. IfOk result (λ text.
+        IsBoundText no_backslash_escape (tokens_of no_backslash_escape query.now) given
+        text.items)) }
+    ensures text { IfOk result (λ text. text.items ≡ bound_text no_backslash_escape query.now
+        (values_of (P.made things.now))) }
+{
+    bind_made(alloc, query, things.to_params(alloc), no_backslash_escape)
+}
+
+/// The query with the literals of the values in the places of its marks, in order, in the mode in
+/// which a backslash escapes: [`bind_positional_in`] with `false`, which says what the caller
+/// proves. For example `bind_positional(alloc, b"SELECT a FROM t WHERE b = ?", &(7,))`, with the
+/// query a constant.
+pub fn bind_positional<P: ToParams>(
+    alloc: Global,
+    query: &[u8],
+    things: &P,
+) -> Result<Vec<u8>, AllocError>
+    requires { IsBindableByPosition with_backslashes query.now (P.made things.now) }
+    ensures bound { IfOk (P.made things.now) (λ given. IfOk result (λ text.
+        IsBoundText with_backslashes (tokens_of with_backslashes query.now) given text.items)) }
+    ensures text { IfOk result (λ text. text.items ≡ bound_text with_backslashes query.now
+        (values_of (P.made things.now))) }
+{
+    bind_positional_in(alloc, query, things, false)
+}

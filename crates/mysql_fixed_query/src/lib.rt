@@ -1,0 +1,14 @@
+//! Fixed queries: those that are constants of a program, and are proved bindable. What the prover
+//! computes of such a query stands in `specs/Bindable.antt`; its binding is then refused for
+//! nothing but memory.
+//!
+//! [`bind_named`] takes values by name, [`bind_positional`] by position, in the mode in which a
+//! backslash escapes; [`bind_named_in`] and [`bind_positional_in`] take the mode.
+#![tactic(auto)]
+
+mod by_name;
+mod by_position;
+mod made;
+
+pub use by_name::{bind_named, bind_named_in};
+pub use by_position::{bind_positional, bind_positional_in};

@@ -1,0 +1,65 @@
+//! Binding to parameters that nothing but memory refuses.
+ghost use Rattle.std.specs.Prelude.{◌≡◌, ◌≢◌, None, Ok, IfErr, IfOk, alloc_error, ⊤};
+ghost use Rattle.mysql_wire_part.specs.Answer.{IsAnswer};
+ghost use Rattle.mysql_value_core.specs.declared.value.convert.ToValueError.TheVariants as to_value;
+ghost use Rattle.mysql_named_params.specs.TokensOf.{tokens_of};
+ghost use Rattle.mysql_params_core.specs.Errors.{maker_refusal};
+ghost use Rattle.mysql_params_core.specs.Given.{Given, given};
+ghost use Rattle.mysql_binding.specs.FirstCause.{first_cause};
+ghost use Rattle.mysql_binding.specs.Isolation.{IsBoundText};
+
+use mysql_binding::{BindError, bind_text_in};
+use mysql_named_params::laws::tokens_exist;
+use mysql_params_core::params::{Params, ToParamsError};
+use std::alloc::{AllocError, Global};
+
+// The text of a query with what was made for it, where making and binding are refused for nothing
+// but memory.
+pub(crate) fn bind_made(
+    alloc: Global,
+    query: &[u8],
+    made: Result<Params, ToParamsError>,
+    no_backslash_escape: bool,
+) -> Result<Vec<u8>, AllocError>
+    requires no_cause { (expected : Given) × IsAnswer given maker_refusal (Ok expected) ⊤ made
+        × (first_cause (tokens_of no_backslash_escape query.now) expected ≡ None) }
+    requires value { IfErr made (λ error.
+        error ≢ ToParamsError.Value (to_value.Memory alloc_error)) }
+    ensures bound { (expected : Given) → IsAnswer given maker_refusal (Ok expected) ⊤ made →
+        IfOk result (λ text. IsBoundText no_backslash_escape
+        (tokens_of no_backslash_escape query.now) expected text.items) }
+{
+    tokens_exist();
+    let params = match made {
+        Ok(params) => params,
+        Err(error) => return Err(memory_of_maker(error)),
+    };
+    match bind_text_in(alloc, query, params, no_backslash_escape) {
+        Ok(text) => Ok(text),
+        Err(error) => Err(memory_of_binding(error)),
+    }
+}
+
+// The error of a maker that is known to be out of memory.
+fn memory_of_maker(error: ToParamsError) -> AllocError
+    requires { error ≡ ToParamsError.Memory alloc_error }
+{
+    match error {
+        ToParamsError::Memory(error) => error,
+        ToParamsError::Redefined(_) | ToParamsError::Value(_) => unreachable!(),
+    }
+}
+
+// The error of binding that is known to be out of memory.
+fn memory_of_binding(error: BindError) -> AllocError
+    requires { error ≡ BindError.Memory alloc_error }
+{
+    match error {
+        BindError::Memory(error) => error,
+        BindError::Mixed
+        | BindError::Params(_)
+        | BindError::MarkCount { .. }
+        | BindError::NotAlone { .. }
+        | BindError::Float { .. } => unreachable!(),
+    }
+}
