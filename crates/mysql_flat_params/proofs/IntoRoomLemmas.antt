@@ -1,7 +1,7 @@
 -- What an outcome says, by what the calls below returned.
 use Rattle.std.specs.Prelude.{Option, Some, None, Result, Ok, Err, IsOk, alloc_error, option_map}
 use Rattle.std.specs.List.{Contains}
-use Rattle.std.proofs.Common.{◌≡◌, inl, inr, ℕ, Bool, List, [], ◌∷◌, length, take, sym, ap, ◌∙◌, subst}
+use Rattle.std.proofs.Common.{◌≡◌, ◌⊎◌, inl, inr, ℕ, Bool, List, [], ◌∷◌, length, take, refl, sym, ap, ◌∙◌, subst}
 use Rattle.mysql_named_params.specs.Tokens.{OnTokens}
 use Rattle.mysql_named_params.specs.Places.{names, HasName, HasMark}
 use Rattle.mysql_named_params.specs.Parsed.{Parsed, parsed}
@@ -16,7 +16,7 @@ use Rattle.mysql_binding.specs.BindErrors.{IsRefusal, cause_of}
 use Rattle.mysql_binding.specs.FirstCause.{Cause, first_cause, refused_params}
 use Rattle.mysql_binding.specs.declared.bind_error.BindError.{BindError}
 use Rattle.mysql_binding.specs.declared.bind_error.BindError.TheVariants as bind
-use Rattle.mysql_flat_params.specs.FlatForm.{IsFormReading, read_parameter, read_to_end}
+use Rattle.mysql_flat_params.specs.FlatForm.{FormRefusal, IsReadFrom, IsFormReading, read_parameter, read_to_end, refused_at, read_on}
 use Rattle.mysql_flat_params.specs.FormErrors.{IsFormRefusal}
 use Rattle.mysql_flat_params.specs.declared.form_error.FormError.{FormError}
 use Rattle.mysql_flat_params.specs.declared.form_error.FormError.TheVariants.{Memory}
@@ -78,6 +78,17 @@ empty_not_refused [] error none (inr why) allocates =
     let same : Err why.0 ≡ Ok empty = one_reading 0 0 empty [] (Err why.0) (Ok empty) why.1 (read_to_end 0 0 empty) in
     cc
 empty_not_refused (b ∷ form) error none refused allocates = cc
+
+-- a form that is read is empty, or its first parameter stands whole
+first_read : (total place : ℕ) (given : Given) (bytes : List ℕ) (reading : Result Given FormRefusal) (more : Given) →
+    IsReadFrom total place given bytes reading → reading ≡ Ok more → (bytes ≡ []) ⊎ IsOk (read_parameter total place given bytes)
+first_read total place given [] _ more (read_to_end _ _ _) h = inl refl
+first_read total place given (b ∷ bytes) _ more (refused_at _ _ _ _ _ refusal is) h = cc
+first_read total place given (b ∷ bytes) _ more (read_on _ _ _ _ _ next rest reading is reads) h = inr (rw is refl)
+
+pub first_stands : (form : List ℕ) (given : Given) → IsFormReading form (Ok given) →
+    (form ≡ []) ⊎ IsOk (read_parameter (length form) 0 empty form)
+first_stands form given reads = first_read (length form) 0 empty form (Ok given) given reads refl
 
 -- ---- names
 

@@ -31,7 +31,7 @@ module _ (place position number : ℕ) where
       subst (λ e. IsExpectedRefusal (in_parameter place position number read) (IsOk (in_parameter place position number read)) (form_refusal e)) (sym (memory refl))
       (read_is_ok read answer)
 
--- the same of a value behind its type and flags
+-- the same of a value after its type and flags
 pub value_refused : (place position : ℕ) (bytes : List ℕ) (column : ColumnType) (unsigned : Bool) (wire : Option ReadRefusal) (error : FormError) →
     2 ≤ length bytes → Some column ≡ column_type (get_or bytes 0 0) → unsigned ≡ is_unsigned_parameter (get_or bytes 1 0) →
     IsExpectedRefusal (read_binary column unsigned (take (length bytes - 2) (drop 2 bytes)))

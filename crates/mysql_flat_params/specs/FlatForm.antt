@@ -4,7 +4,7 @@
 -- are those of the MySQL client/server protocol ("Protocol::LengthEncodedString",
 -- "COM_STMT_EXECUTE", "Binary Protocol Value"); that they stand one after another, without a
 -- bitmap of NULLs, is this library's.
-use Rattle.std.specs.Prelude.{◌≡◌, ℕ, ◌+◌, ◌-◌, Bool, List, [], ◌∷◌, ◌++◌, length, if◌then◌else◌, Option, Some, None, Result, Ok, Err}
+use Rattle.std.specs.Prelude.{◌≡◌, ℕ, ◌+◌, ◌-◌, Bool, List, [], ◌∷◌, ◌++◌, length, if◌then◌else◌, Option, Some, None, Result, Ok, IsOk, Err}
 use Rattle.std.specs.FinMap as finite
 use Rattle.mysql_wire_part.specs.Reading.{ReadRefusal, Reading, unexpected_eof, bad_length_lead, unsupported_column}
 use Rattle.mysql_wire_part.specs.Lenenc.{read_lenenc}
@@ -107,6 +107,10 @@ abbrev pub read_parameter : (total place : ℕ) → Given → List ℕ → FormR
 read_parameter total place given bytes =
     after_name total place (total - length bytes) given
     (read_name place (total - length bytes) bytes)
+
+-- a first parameter stands whole in the form
+abbrev pub HasFirstParameter : List ℕ → Type 0
+HasFirstParameter form = IsOk (read_parameter (length form) 0 empty form)
 
 -- what the end of a form says after `place` parameters that give this, or why it is refused
 pub data IsReadFrom : (total place : ℕ) → Given → List ℕ → Result Given FormRefusal → Type 0 where

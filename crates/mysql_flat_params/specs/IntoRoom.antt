@@ -14,7 +14,7 @@ use Rattle.mysql_flat_params.specs.NamesAnswer.{names_answer}
 use Rattle.mysql_flat_params.specs.declared.outcome.Outcome.{Outcome}
 use Rattle.mysql_flat_params.specs.declared.outcome.Outcome.TheVariants.{Done, OutOfMemory, Room, FormEnd, FormLengthLead, FormType, FormMixed, FormRepeated, Mixed, Missing, NamedForPositional, PositionalForNamed, MarkCount, NotAlone, Float}
 
--- The answer stands at the front of the room, and what is behind it is unchanged; or the room is
+-- The answer stands at the front of the room, and what is after it is unchanged; or the room is
 -- shorter than the answer, and unchanged. The bytes of the room are `old` before the call and `new`
 -- after it.
 abbrev pub IsInRoom : (answer old new : List ℕ) → Outcome → Type 0

@@ -5,3 +5,4 @@ pub mod Outcomes
 pub mod NamePlace
 pub mod NamesAnswer
 pub mod IntoRoom
+pub mod UnportableReport

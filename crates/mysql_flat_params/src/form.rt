@@ -6,7 +6,7 @@ ghost use Rattle.mysql_wire_part.specs.Column.{is_unsigned};
 ghost use Rattle.mysql_wire_part.specs.ParseBuf.{left, read_refusal};
 ghost use Rattle.mysql_params_core.specs.Given.{empty, given, named, positional, value_map};
 ghost use Rattle.mysql_flat_params.specs.ColumnNumbers.{is_unsigned_parameter};
-ghost use Rattle.mysql_flat_params.specs.FlatForm.{IsFormReading, IsReadFrom, name_refusal, refused_in, read_name, read_parameter, read_value};
+ghost use Rattle.mysql_flat_params.specs.FlatForm.{HasFirstParameter, IsFormReading, IsReadFrom, name_refusal, refused_in, read_name, read_parameter, read_value};
 ghost use Rattle.mysql_flat_params.specs.FormErrors.{IsFormRefusal, IsRefusalFrom, form_refusal};
 
 use crate::column_number::column_type;
@@ -49,7 +49,7 @@ pub fn params_of_form(alloc: Global, form: &[u8]) -> Result<Params, FormError>
 
     // Only a form in which a first parameter stands whole allocates.
     ensures memory { IsErrOf result (FormError.Memory alloc_error) →
-        IsOk (read_parameter (length form.now) 0 empty form.now) }
+        HasFirstParameter form.now }
 {
     let mut rest = ParseBuf(form);
     if rest.is_empty() {

@@ -1,14 +1,15 @@
 //! Answers in a room that the caller lends.
-ghost use Rattle.std.specs.Prelude.{◌≡◌, ◌≤◌, ◌<◌, ◌++◌, ℕ, Bool, List, [], ◌∷◌, Ok, length, take, drop, map, IfOk, OnOk};
+ghost use Rattle.std.specs.Prelude.{◌≡◌, ◌⊎◌, ◌+◌, ◌≤◌, ◌<◌, ◌++◌, ℕ, Bool, List, [], ◌∷◌, None, Ok, length, take, drop, map, IfSome, alloc_error};
 ghost use Rattle.std.specs.Cow.{cow_slice_items};
 ghost use Rattle.std.specs.List.{Contains};
+ghost use Rattle.mysql_wire_part.specs.Lenenc.{lenenc_spelling};
 ghost use Rattle.mysql_sql_text.specs.StringUnits.{with_backslashes};
 ghost use Rattle.mysql_named_params.specs.Tokens.{OnTokens};
 ghost use Rattle.mysql_named_params.specs.Places.{names};
 ghost use Rattle.mysql_params_core.specs.Given.{Given};
 ghost use Rattle.mysql_binding.specs.BindErrors.{IsRefusal};
 ghost use Rattle.mysql_binding.specs.FirstCause.{first_cause};
-ghost use Rattle.mysql_flat_params.specs.FlatForm.{IsFormReading};
+ghost use Rattle.mysql_flat_params.specs.FlatForm.{HasFirstParameter, IsFormReading};
 ghost use Rattle.mysql_flat_params.specs.FormErrors.{IsFormRefusal};
 ghost use Rattle.mysql_flat_params.specs.IntoRoom.{IfMixed, IsBindOutcome, IsBoundForm, IsInRoom, IsMissingName, IsNamesAnswer, IsNamesOutcome};
 ghost use Rattle.mysql_flat_params.specs.NamesAnswer.{lenenc_row, names_answer};
@@ -21,8 +22,8 @@ use crate::outcome::Outcome;
 use mysql_binding::{BindError, bind_text_in};
 use mysql_named_params::named_params::{NamedParamsError, ParsedNamedParams};
 use mysql_params_core::params::{ParamsConfusionError, ParamsError};
-use mysql_wire_part::put_lenenc_str;
-use std::alloc::{AllocError, Global};
+use mysql_wire_part::{fill_lenenc_str, lenenc_str_len};
+use std::alloc::Global;
 use std::borrow::CowSlice;
 
 /// Binds into a query what a form says, as [`bind_text_in`] binds the form's parameters in a mode,
@@ -31,7 +32,9 @@ use std::borrow::CowSlice;
 /// `Done` has the length of the text; the rest of the room is unchanged. `Room` has the length that
 /// the room would need. A form is refused before the query; then the first of the causes of
 /// [`bind_text_in`] refuses it. `Missing` tells the first place that has the missing name. The empty
-/// form over a query with names and marks is `Mixed`, without allocating. After every outcome but
+/// form over a query with names and marks is `Mixed`, without allocating; so is the refusal of a
+/// form whose first parameter doesn't stand whole. Any other outcome may be `OutOfMemory` instead,
+/// which also comes where the text would be longer than `isize::MAX` bytes. After every outcome but
 /// `Done` the room is as before.
 pub fn bind_into_in(
     alloc: Global,
@@ -47,6 +50,10 @@ pub fn bind_into_in(
     // The empty form over a query with a name and a mark is refused without allocating.
     ensures mixed { form.now ≡ [] →
         IfMixed no_backslash_escape query.now (result ≡ Outcome.Mixed) }
+
+    // A form whose first parameter doesn't stand whole is refused without allocating.
+    ensures memory { result ≡ Outcome.OutOfMemory →
+        (form.now ≡ []) ⊎ HasFirstParameter form.now }
     ensures rest { IfDone result (λ len.
         (len ≤ length room.old) × (drop len room.new ≡ drop len room.old)) }
     ensures too_long { IfTooLong result (λ len. length room.old < len) }
@@ -72,6 +79,10 @@ pub fn bind_into(alloc: Global, query: &[u8], form: &[u8], room: &mut [u8]) -> O
     // The empty form over a query with a name and a mark is refused without allocating.
     ensures mixed { form.now ≡ [] →
         IfMixed with_backslashes query.now (result ≡ Outcome.Mixed) }
+
+    // A form whose first parameter doesn't stand whole is refused without allocating.
+    ensures memory { result ≡ Outcome.OutOfMemory →
+        (form.now ≡ []) ⊎ HasFirstParameter form.now }
     ensures rest { IfDone result (λ len.
         (len ≤ length room.old) × (drop len room.new ≡ drop len room.old)) }
     ensures too_long { IfTooLong result (λ len. length room.old < len) }
@@ -110,9 +121,9 @@ pub fn names_into_in(
         Err(NamedParamsError::Mixed(_)) => return Outcome::Mixed,
         Err(NamedParamsError::Memory(_)) => return Outcome::OutOfMemory,
     };
-    match names_text(alloc, &parsed) {
-        Ok(text) => fill_front(room, text.as_slice()),
-        Err(_) => Outcome::OutOfMemory,
+    match answer_in_room(room, &parsed) {
+        Some(outcome) => outcome,
+        None => Outcome::OutOfMemory,
     }
 }
 
@@ -133,43 +144,73 @@ pub fn names_into(alloc: Global, query: &[u8], room: &mut [u8]) -> Outcome
     names_into_in(alloc, query, false, room)
 }
 
-// The parsed query and its names, each as a length-encoded string.
-fn names_text(alloc: Global, parsed: &ParsedNamedParams<'_>) -> Result<Vec<u8>, AllocError>
-    ensures { IfOk result (λ text. text.items ≡ names_answer parsed.now) }
+// Writes the parsed query and its names, each as a length-encoded string, to the front of the room,
+// if the room is long enough. None where no room is.
+fn answer_in_room(room: &mut [u8], parsed: &ParsedNamedParams<'_>) -> Option<Outcome>
+    ensures written { IfSome result (λ outcome.
+        IsInRoom (names_answer parsed.now) room.old room.new outcome) }
+    ensures unchanged { result ≡ None → room.new ≡ room.old }
 {
-    let mut text = Vec::new(alloc);
-    put_lenenc_str(&mut text, parsed.query())?;
-    append_names(&mut text, parsed.params())?;
-    Ok(text)
+    let len = row_len(parsed.query(), parsed.params())?;
+    if room.len() < len {
+        return Some(Outcome::Room { len });
+    }
+    fill_row(&mut room[..len], parsed.query(), parsed.params());
+    Some(Outcome::Done { len })
 }
 
-// Appends each name as a length-encoded string.
-fn append_names(text: &mut Vec<u8>, names: &[CowSlice<'_, u8>]) -> Result<(), AllocError>
-    ensures { OnOk result (
-        text.new.items ≡ text.old.items ++ lenenc_row (map cow_slice_items names.now)) }
+// How long a query and names are, each as a length-encoded string. None where no room is so long.
+fn row_len(query: &[u8], names: &[CowSlice<'_, u8>]) -> Option<usize>
+    ensures { IfSome result (λ len.
+        len ≡ length (lenenc_row (query.now ∷ map cow_slice_items names.now))) }
 {
+    let mut len = lenenc_str_len(query);
     for name in names {
-        put_lenenc_str(text, name.as_slice())?;
+        len = len.checked_add(lenenc_str_len(name.as_slice()))?;
     }
-    Ok(())
+    Some(len as usize)
+}
+
+// Fills the slice with a query and names, each as a length-encoded string.
+fn fill_row(slice: &mut [u8], query: &[u8], names: &[CowSlice<'_, u8>])
+    requires { length slice.old
+        ≡ length (lenenc_row (query.now ∷ map cow_slice_items names.now)) }
+    ensures { slice.new ≡ lenenc_row (query.now ∷ map cow_slice_items names.now) }
+{
+    let mut at = append_lenenc_str(slice, 0, query);
+    for name in names {
+        at = append_lenenc_str(slice, at, name.as_slice());
+    }
+}
+
+// Writes the bytes as a length-encoded string into the slice from this index on, and returns the
+// index after it. What stands before it is kept.
+fn append_lenenc_str(slice: &mut [u8], at: usize, bytes: &[u8]) -> usize
+    requires { at + length (lenenc_spelling bytes.now) ≤ length slice.old }
+    ensures next { result ≡ at + length (lenenc_spelling bytes.now) }
+    ensures front { take result slice.new ≡ take at slice.old ++ lenenc_spelling bytes.now }
+{
+    let end = at + lenenc_str_len(bytes) as usize;
+    fill_lenenc_str(&mut slice[at..end], bytes);
+    end
 }
 
 // Writes the answer to the front of the room, if the room has its length.
 fn fill_front(room: &mut [u8], answer: &[u8]) -> Outcome
     ensures { IsInRoom answer.now room.old room.new result }
 {
-    let len = answer.len();
-    if room.len() < len {
-        return Outcome::Room { len };
+    if room.len() < answer.len() {
+        return Outcome::Room { len: answer.len() };
     }
-    room[..len].copy_from_slice(answer);
-    Outcome::Done { len }
+    room[..answer.len()].copy_from_slice(answer);
+    Outcome::Done { len: answer.len() }
 }
 
 // A refusal of a form.
 fn form_outcome(error: FormError) -> Outcome
     ensures outcome { (mode : Bool) (query form : List ℕ) → IsFormRefusal form error →
         IsBindOutcome mode query form result }
+    ensures memory { result ≡ Outcome.OutOfMemory → error ≡ FormError.Memory alloc_error }
     ensures refused { IsRefused result }
 {
     match error {

@@ -25,6 +25,7 @@ pub fn one_outcome()
 /// Equality of the errors of forms is of variant and fields.
 pub fn form_error_equality(a: &FormError, b: &FormError) -> bool
     ensures same { IsTrue result ↔ (a.now ≡ b.now) }
+    ensures member { result ≡ ⟦<FormError as PartialEq>⟧.eq a.now b.now }
 {
     a == b
 }
@@ -32,6 +33,7 @@ pub fn form_error_equality(a: &FormError, b: &FormError) -> bool
 /// Equality of outcomes is of variant and fields.
 pub fn outcome_equality(a: &Outcome, b: &Outcome) -> bool
     ensures same { IsTrue result ↔ (a.now ≡ b.now) }
+    ensures member { result ≡ ⟦<Outcome as PartialEq>⟧.eq a.now b.now }
 {
     a == b
 }
@@ -39,6 +41,7 @@ pub fn outcome_equality(a: &Outcome, b: &Outcome) -> bool
 /// Equality of reports is of all fields.
 pub fn report_equality(a: &Report, b: &Report) -> bool
     ensures same { IsTrue result ↔ (a.now ≡ b.now) }
+    ensures member { result ≡ ⟦<Report as PartialEq>⟧.eq a.now b.now }
 {
     a == b
 }

@@ -3,7 +3,8 @@
 //!
 //! [`params_of_form`] reads the form. [`bind_into_in`] and [`names_into_in`] write their answer into
 //! the room, or leave it as it was and say by an [`Outcome`] why; [`bind_into`] and [`names_into`] are
-//! the same for the mode in which a backslash escapes.
+//! the same for the mode in which a backslash escapes. [`report_first_unportable`] tells the first
+//! construct for which a query isn't portable.
 #![tactic(auto)]
 
 mod column_number;
@@ -13,8 +14,10 @@ mod into_room;
 pub mod laws;
 mod missing_place;
 mod outcome;
+mod unportable;
 
 pub use form::params_of_form;
 pub use form_error::FormError;
 pub use into_room::{bind_into, bind_into_in, names_into, names_into_in};
 pub use outcome::{Outcome, Report};
+pub use unportable::report_first_unportable;

@@ -114,7 +114,7 @@ pub struct Report {
 }
 
 // The report of an outcome without fields.
-const NO_FIELDS: Report = Report {
+pub(crate) const NO_FIELDS: Report = Report {
     len: 0,
     place: 0,
     position: 0,

@@ -8,6 +8,8 @@ mod hostile;
 #[cfg(test)]
 mod outcomes;
 #[cfg(test)]
+mod portable;
+#[cfg(test)]
 mod rooms;
 #[cfg(test)]
 mod shared;

@@ -1,21 +1,29 @@
 //! Binding for C, and for every language that calls C: the static library over `mysql_flat_params`.
 //!
-//! Each export writes its answer into the room that the caller lends and tells what became of the
-//! call: its result is the number of an [`Outcome`](mysql_flat_params::Outcome), and `report` has
-//! the outcome's fields. A slice comes from C as a pointer that is not null, also for no bytes, and
-//! a length of at most `isize::MAX`. Nothing is kept after a call. C passes nothing for the
-//! allocator.
+//! Each export but the last writes its answer into the room that the caller lends and tells what
+//! became of the call: its result is the number of an [`Outcome`](mysql_flat_params::Outcome), and
+//! `report` has the outcome's fields. [`mysql_params_first_unportable`] tells a construct of a query
+//! by its number and, in `report`, its position. A slice comes from C as a pointer that is not null,
+//! also for no bytes, and a length of at most `isize::MAX`. Nothing is kept after a call. C passes
+//! nothing for the allocator.
 //!
 //! The contracts hold for callers that keep to `bindings/c/mysql_params.h`: `room` and `report`
 //! overlap neither each other nor what is read, and their bytes have values before the call.
 #![tactic(auto)]
 
-ghost use Rattle.std.specs.Prelude.{◌≡◌, ◌≢◌, ◌≤◌, ◌<◌, [], length, take, drop, pos};
+ghost use Rattle.std.specs.Prelude.{◌≡◌, ◌≢◌, ◌⊎◌, ◌↔◌, ◌≤◌, ◌<◌, [], length, take, drop, pos};
 ghost use Rattle.mysql_sql_text.specs.StringUnits.{with_backslashes};
+ghost use Rattle.mysql_flat_params.specs.FlatForm.{HasFirstParameter};
 ghost use Rattle.mysql_flat_params.specs.IntoRoom.{IfMixed, IsBindOutcome, IsBoundForm, IsNamesAnswer, IsNamesOutcome};
 ghost use Rattle.mysql_flat_params.specs.Outcomes.{IsTold};
+ghost use Rattle.mysql_flat_params.specs.UnportableReport.{unportable_number, unportable_report};
+ghost use Rattle.mysql_named_params.specs.FirstUnportable.{first_unportable};
+ghost use Rattle.mysql_named_params.specs.Portable.{IsPortable};
+ghost use Rattle.mysql_named_params.specs.Tokens.{OnTokens};
 
-use mysql_flat_params::{Report, bind_into, bind_into_in, names_into, names_into_in};
+use mysql_flat_params::{
+    Report, bind_into, bind_into_in, names_into, names_into_in, report_first_unportable,
+};
 use std::alloc::Global;
 
 /// Writes the query with `?` in place of each name, and then each name, each as a length-encoded
@@ -53,9 +61,10 @@ pub extern "C" fn mysql_params_names(
 ///
 /// Returns the number of any [`Outcome`](mysql_flat_params::Outcome): 0 (`Done`) with the length of
 /// the text in the report's `len`, 2 (`Room`) with the length that the room would need, 3 to 7 for a
-/// form that is refused, 8 to 14 for a query that is refused, or 1 (`OutOfMemory`), which the empty
-/// form over a query with names and marks never is. The report has the fields of the outcome, and 0
-/// in all others. At each number but 0 the room is as before.
+/// form that is refused, 8 to 14 for a query that is refused, or 1 (`OutOfMemory`), but not for the
+/// empty form over a query with names and marks, nor for a form whose first parameter doesn't stand
+/// whole. The report has the fields of the outcome, and 0 in all others. At each number but 0 the
+/// room is as before.
 #[unsafe(no_mangle)]
 pub extern "C" fn mysql_params_bind(
     alloc: Global,
@@ -71,6 +80,9 @@ pub extern "C" fn mysql_params_bind(
     // The empty form over a query with a name and a mark is refused without allocating.
     ensures mixed { form.now ≡ [] →
         IfMixed with_backslashes query.now (result ≡ pos 8) }
+
+    // A form whose first parameter doesn't stand whole is refused without allocating.
+    ensures memory { result ≡ pos 1 → (form.now ≡ []) ⊎ HasFirstParameter form.now }
     ensures rest { result ≡ pos 0 → (report.new.len ≤ length room.old)
         × (drop report.new.len room.new ≡ drop report.new.len room.old) }
     ensures too_long { result ≡ pos 2 → length room.old < report.new.len }
@@ -128,6 +140,9 @@ pub extern "C" fn mysql_params_bind_in(
     // The empty form over a query with a name and a mark is refused without allocating.
     ensures mixed { form.now ≡ [] →
         IfMixed no_backslash_escape query.now (result ≡ pos 8) }
+
+    // A form whose first parameter doesn't stand whole is refused without allocating.
+    ensures memory { result ≡ pos 1 → (form.now ≡ []) ⊎ HasFirstParameter form.now }
     ensures rest { result ≡ pos 0 → (report.new.len ≤ length room.old)
         × (drop report.new.len room.new ≡ drop report.new.len room.old) }
     ensures too_long { result ≡ pos 2 → length room.old < report.new.len }
@@ -136,4 +151,28 @@ pub extern "C" fn mysql_params_bind_in(
     let outcome = bind_into_in(alloc, query, form, no_backslash_escape, room);
     *report = outcome.report();
     outcome.number()
+}
+
+/// Finds the first construct of the query that servers read in different ways, or in which a value
+/// would join a number: [`report_first_unportable`].
+///
+/// Returns 0 where there is none, and only there: then the query is portable. Else it returns the
+/// number of the [`Construct`](mysql_named_params::portable::Construct), 1 to 9 in the order of its
+/// declaration, and the report has its position in the query. All other fields of the report are 0.
+/// Nothing is allocated. The flag is true where the connection's `sql_mode` has
+/// `NO_BACKSLASH_ESCAPES`.
+#[unsafe(no_mangle)]
+pub extern "C" fn mysql_params_first_unportable(
+    query: &[u8],
+    no_backslash_escape: bool,
+    report: &mut Report,
+) -> i32
+    ensures number { OnTokens no_backslash_escape query.now (λ ts.
+        result ≡ pos (unportable_number (first_unportable ts))) }
+    ensures report { OnTokens no_backslash_escape query.now (λ ts.
+        report.new ≡ unportable_report (first_unportable ts)) }
+    ensures portable { OnTokens no_backslash_escape query.now (λ ts.
+        (result ≡ pos 0) ↔ IsPortable ts) }
+{
+    report_first_unportable(query, no_backslash_escape, report)
 }

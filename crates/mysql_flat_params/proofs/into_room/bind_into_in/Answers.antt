@@ -1,4 +1,6 @@
-use Rattle.mysql_flat_params.proofs.IntoRoomLemmas.{empty_not_refused}
+use Rattle.std.specs.Prelude.{Err}
+use Rattle.std.proofs.Common.{ap, inr}
+use Rattle.mysql_flat_params.proofs.IntoRoomLemmas.{empty_not_refused, first_stands}
 use Rattle.mysql_flat_params.proofs.into_room.bind_into_in.Goals as goal
 
 pub returns-in-Err-clause-outcome : goal.returns-in-Err-clause-outcome
@@ -8,3 +10,9 @@ returns-in-Err-clause-outcome c =
 pub returns-in-Err-clause-mixed : goal.returns-in-Err-clause-mixed
 returns-in-Err-clause-mixed c = λ none.
     absurd (empty_not_refused c.args.form.now _ none c.in-Err.ensures.refused c.in-Err.ensures.memory)
+
+pub returns-in-Err-clause-memory : goal.returns-in-Err-clause-memory
+returns-in-Err-clause-memory c = λ is. inr (c.in-Err.ensures.memory (ap (λ e. Err e) (c.form_outcome.ensures.memory is)))
+
+pub returns-in-Err-bind_text_in-clause-memory : goal.returns-in-Err-bind_text_in-clause-memory
+returns-in-Err-bind_text_in-clause-memory c = λ is. first_stands _ _ c.in-Ok.ensures.params

@@ -1,0 +1,29 @@
+-- What is told of the first construct for which a query isn't portable: a number and a position.
+use Rattle.std.specs.Prelude.{ℕ, Option, Some, None}
+use Rattle.mysql_named_params.specs.declared.portable.Construct.{Construct}
+use Rattle.mysql_named_params.specs.declared.portable.Construct.TheVariants.{ExecutableComment, Hint, MariaDbComment, Dashes, EscapedQuote, Bracket, DollarQuote, DashesAfterExponent, PlaceAfterExponent}
+use Rattle.mysql_named_params.specs.declared.portable.Unportable.{Unportable}
+use Rattle.mysql_flat_params.specs.Outcomes.{no_fields}
+use Rattle.mysql_flat_params.specs.declared.outcome.Report.{Report}
+
+-- the number of a construct
+abbrev pub construct_number : Construct → ℕ
+construct_number ExecutableComment = 1
+construct_number Hint = 2
+construct_number MariaDbComment = 3
+construct_number Dashes = 4
+construct_number EscapedQuote = 5
+construct_number Bracket = 6
+construct_number DollarQuote = 7
+construct_number DashesAfterExponent = 8
+construct_number PlaceAfterExponent = 9
+
+-- the number of what was found: 0 where there is nothing
+abbrev pub unportable_number : Option Unportable → ℕ
+unportable_number None = 0
+unportable_number (Some found) = construct_number found.construct
+
+-- the fields of what was found: its position
+abbrev pub unportable_report : Option Unportable → Report
+unportable_report None = no_fields
+unportable_report (Some found) = record no_fields { position = found.at }

@@ -1,0 +1,55 @@
+//! The first construct for which a query isn't portable, as a number and a report.
+ghost use Rattle.std.specs.Prelude.{◌≡◌, ◌↔◌, pos};
+ghost use Rattle.mysql_named_params.specs.FirstUnportable.{first_unportable};
+ghost use Rattle.mysql_named_params.specs.Portable.{IsPortable};
+ghost use Rattle.mysql_named_params.specs.Tokens.{OnTokens};
+ghost use Rattle.mysql_flat_params.specs.UnportableReport.{construct_number, unportable_number, unportable_report};
+
+use crate::outcome::{NO_FIELDS, Report};
+use mysql_named_params::portable::{Construct, first_unportable};
+
+/// Finds the first construct for which a query isn't portable, as [`first_unportable`] does in a
+/// mode: returns its number, and writes its position to the report. Where the query is portable,
+/// and only there, it returns 0, and the position is 0 too.
+///
+/// The numbers are 1 for [`Construct::ExecutableComment`], and then in the order of the
+/// declaration up to 9. All other fields of the report are 0. Nothing is allocated.
+pub fn report_first_unportable(query: &[u8], no_backslash_escape: bool, report: &mut Report) -> i32
+    ensures number { OnTokens no_backslash_escape query.now (λ ts.
+        result ≡ pos (unportable_number (first_unportable ts))) }
+    ensures report { OnTokens no_backslash_escape query.now (λ ts.
+        report.new ≡ unportable_report (first_unportable ts)) }
+    ensures portable { OnTokens no_backslash_escape query.now (λ ts.
+        (result ≡ pos 0) ↔ IsPortable ts) }
+{
+    match first_unportable(query, no_backslash_escape) {
+        None => {
+            *report = NO_FIELDS;
+            0
+        }
+        Some(found) => {
+            *report = Report {
+                position: found.at,
+                ..NO_FIELDS
+            };
+            construct_number(found.construct)
+        }
+    }
+}
+
+// The number of a construct.
+fn construct_number(construct: Construct) -> i32
+    ensures { result ≡ pos (construct_number construct) }
+{
+    match construct {
+        Construct::ExecutableComment => 1,
+        Construct::Hint => 2,
+        Construct::MariaDbComment => 3,
+        Construct::Dashes => 4,
+        Construct::EscapedQuote => 5,
+        Construct::Bracket => 6,
+        Construct::DollarQuote => 7,
+        Construct::DashesAfterExponent => 8,
+        Construct::PlaceAfterExponent => 9,
+    }
+}

@@ -1,0 +1,92 @@
+//! The first construct for which a query isn't portable, as a number and a report.
+use mysql_flat_params::{Report, report_first_unportable};
+use std::process::Abort;
+use std::test::Fail;
+
+/// Queries that are portable in either mode.
+const PORTABLE: &[&[u8]] = &[
+    b"",
+    b"SELECT :id, ':id', :name",
+    b"SELECT '/*! [ $$ 1e+?', `--\x01 \"\\\"\"`, ? /* [ */ # $$\n -- [",
+    b"5--1, a--\n?, a---",
+    b"\"a\\n\"",
+    b"x.5e--2, 1e-- x",
+    b"1e+ ?, 1e+5",
+];
+
+/// Queries, and in either mode the number and the position of their first construct.
+const CONSTRUCTS: &[(&[u8], i32, usize)] = &[
+    (b"SELECT /*!80000 1 */", 1, 7),
+    (b"SELECT /*+ x */ 1", 2, 7),
+    (b"1 /*M! 2 */", 3, 2),
+    (b"1 --\x7f", 4, 2),
+    (b"a, [b]", 6, 3),
+    (b"$x y$_0\xff$", 7, 4),
+    (b"1.5e-- x", 8, 1),
+    (b"12.75E-:a", 9, 4),
+    // Of several the first.
+    (b"'[', $$, [", 7, 5),
+];
+
+/// Queries with a backslash before a quote, and number and position: with backslash escapes, and
+/// without.
+const AFTER_A_BACKSLASH: &[(&[u8], (i32, usize), (i32, usize))] = &[
+    (b"1, \"a\\\" :b", (5, 3), (0, 0)),
+    (b"1, \"a\\\" [", (5, 3), (6, 8)),
+    // The last quote is the last byte, so that both readings end there.
+    (b"1, \"a\\\"", (0, 0), (0, 0)),
+    (b"'a\\' [", (0, 0), (6, 5)),
+    (b"'a\\', '[', :a", (6, 7), (0, 0)),
+    (b"\"\\\\\" $:a", (7, 5), (7, 5)),
+];
+
+/// In a mode the query is told by this number and this position, over a report that says
+/// something else.
+fn tells(rt: &impl Abort, query: &[u8], mode: bool, number: i32, position: usize) {
+    let mut report = Report {
+        len: 9,
+        place: 9,
+        position: 9,
+        marks: 9,
+        values: 9,
+        byte: 9,
+    };
+    let told = report_first_unportable(query, mode, &mut report);
+    assert_eq!(rt; told, number, "of {query:?} in mode {mode}");
+    let wanted = Report {
+        len: 0,
+        place: 0,
+        position,
+        marks: 0,
+        values: 0,
+        byte: 0,
+    };
+    assert_eq!(rt; report, wanted, "of {query:?} in mode {mode}");
+}
+
+#[test]
+fn portable_queries(rt: HostRuntime) -> Result<(), Fail> {
+    for query in PORTABLE {
+        tells(&rt, *query, false, 0, 0);
+        tells(&rt, *query, true, 0, 0);
+    }
+    Ok(())
+}
+
+#[test]
+fn first_constructs(rt: HostRuntime) -> Result<(), Fail> {
+    for (query, number, position) in CONSTRUCTS {
+        tells(&rt, *query, false, *number, *position);
+        tells(&rt, *query, true, *number, *position);
+    }
+    Ok(())
+}
+
+#[test]
+fn quotes_after_a_backslash(rt: HostRuntime) -> Result<(), Fail> {
+    for (query, (number, position), (without, at)) in AFTER_A_BACKSLASH {
+        tells(&rt, *query, false, *number, *position);
+        tells(&rt, *query, true, *without, *at);
+    }
+    Ok(())
+}
