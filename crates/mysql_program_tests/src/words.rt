@@ -62,3 +62,15 @@ fn a_repeated_name_is_refused_before_a_read(rt: HostRuntime) -> Result<(), Fail>
     assert_eq!(rt; ran.calls, (0, 0));
     Ok(())
 }
+
+#[test]
+fn a_name_given_at_once_again_is_refused_before_a_read(rt: HostRuntime) -> Result<(), Fail> {
+    let texts = ["bind", "a=i:1", "a=i:2"];
+    let input = SlowReader::new(b":a", 1, 1);
+    let output = SlowWriter::new(rt.alloc(), 1, Fault::Fails, 1);
+    let ran = run_over(rt.alloc(), &texts, input, output)?;
+    let name = Vec::from_slice(rt.alloc(), b"a")?;
+    assert_eq!(rt; ran.answer, Err(RunError::Redefined(name)));
+    assert_eq!(rt; ran.calls, (0, 0));
+    Ok(())
+}

@@ -23,7 +23,7 @@ pub(crate) fn case(alloc: Global, name: &str) -> Option<Case> {
     }
     let outcome = match name {
         "names_into of two names" => names_written(alloc, b":a :b", b"\x03? ?\x01a\x01b"),
-        "names_into of no names" => names_written(alloc, b"?", b"\x01?"),
+        "names_into of no names" => nameless_written(alloc),
         "names_into of names and marks" => names_refused(alloc),
         "names_into of a room that is too short" => names_too_long(alloc),
         "params_of_form of a name" => named_form(alloc),
@@ -35,7 +35,7 @@ pub(crate) fn case(alloc: Global, name: &str) -> Option<Case> {
     Some(Ok(outcome))
 }
 
-/// Whether the room has the text in front, and is as before behind it.
+/// Whether the room has the text in front, and is as before after it.
 fn is_written(room: &[u8], text: &[u8]) -> bool {
     match room.strip_prefix(text) {
         Some(rest) => match ROOM.get(text.len()..) {
@@ -74,6 +74,14 @@ fn names_written(alloc: Global, query: &[u8], text: &[u8]) -> Outcome {
     let mut room = *ROOM;
     let told = names_into(alloc, query, &mut room);
     written(told, &room, text)
+}
+
+// A query without names is written without a vector of its own.
+fn nameless_written(alloc: Global) -> Outcome {
+    let mut room = *ROOM;
+    let told = names_into(alloc, b"?", &mut room);
+    let holds = told.number() == 0 && is_written(&room, b"\x01?");
+    Outcome::AnswerWithoutMemory.if_holds(holds)
 }
 
 fn names_refused(alloc: Global) -> Outcome {

@@ -16,6 +16,7 @@ pub(crate) fn case(alloc: Global, name: &str) -> Option<Case> {
         "a query without places" => Ok(nothing(alloc)),
         "a text without backslash escapes" => text_without_backslashes(alloc),
         "names and marks" => Ok(mixed(alloc)),
+        "names and marks without backslash escapes" => Ok(mixed_without_backslashes(alloc)),
         "a missing name" => missing_name(alloc),
         "nothing for a name" => nothing_for_name(alloc),
         "named parameters for marks" => named_for_marks(alloc),
@@ -91,6 +92,13 @@ fn nothing(alloc: Global) -> Outcome {
 
 fn mixed(alloc: Global) -> Outcome {
     match bind_text(alloc, b":a ?", Params::Empty) {
+        Err(error) => Outcome::AnswerWithoutMemory.if_holds(error == BindError::Mixed),
+        Ok(_) => Outcome::Wrong,
+    }
+}
+
+fn mixed_without_backslashes(alloc: Global) -> Outcome {
+    match bind_text_in(alloc, b"'\\', :a, ?", Params::Empty, true) {
         Err(error) => Outcome::AnswerWithoutMemory.if_holds(error == BindError::Mixed),
         Ok(_) => Outcome::Wrong,
     }

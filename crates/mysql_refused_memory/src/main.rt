@@ -5,6 +5,7 @@ mod archive_cases;
 mod binding_cases;
 mod conversion_cases;
 mod copy_cases;
+mod fixed_query_cases;
 mod inputs;
 mod lookup_cases;
 mod maker_cases;
@@ -61,6 +62,9 @@ fn query_case(alloc: Global, name: &str) -> Option<Case> {
         return Some(case);
     }
     if let Some(case) = binding_cases::case(alloc, name) {
+        return Some(case);
+    }
+    if let Some(case) = fixed_query_cases::case(alloc, name) {
         return Some(case);
     }
     if let Some(case) = program_cases::case(alloc, name) {

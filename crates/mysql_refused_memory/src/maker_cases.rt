@@ -1,7 +1,7 @@
-//! What makes parameters: `to_params`, `from_pairs` and `from_objects`.
+//! What makes parameters: `to_params`, `from_pairs`, `from_objects` and `to_named`.
 use crate::inputs::{bytes, is_bytes, named, positional};
 use crate::outcome::{Case, Outcome};
-use mysql_params::params::{Params, ToParams, ToParamsError};
+use mysql_params::params::{Params, ToPairs, ToParams, ToParamsError};
 use mysql_values::value::Value;
 use mysql_values::value::convert::{ToValue, ToValueError};
 use std::alloc::Global;
@@ -23,6 +23,10 @@ pub(crate) fn case(alloc: Global, name: &str) -> Option<Case> {
         "from_objects of two names" => Ok(objects_by_name(alloc)),
         "from_objects of a repeated name" => repeated_object(alloc),
         "from_objects of a duration that is too long" => Ok(object_too_long(alloc)),
+        "to_named of two pairs" => Ok(two_pairs(alloc)),
+        "to_named of twelve pairs" => Ok(twelve_pairs(alloc)),
+        "to_named of a repeated name" => repeated_pair_of_tuple(alloc),
+        "to_named of a duration that is too long" => Ok(pair_of_tuple_too_long(alloc)),
         _ => return None,
     };
     Some(case)
@@ -316,4 +320,34 @@ fn object_too_long(alloc: Global) -> Outcome {
     let long = Duration::from_secs(TOO_LONG);
     let pairs: [(&[u8], &dyn ToValue); 2] = [(b"a", &"x"), (b"b", &long)];
     is_too_long(Params::from_objects(alloc, &pairs))
+}
+
+fn two_pairs(alloc: Global) -> Outcome {
+    match (("a", 1u8), ("b", "x")).to_named(alloc) {
+        Err(ToParamsError::Memory(_)) => Outcome::Memory,
+        Ok(params) => Outcome::Answer.if_holds(is_second_text(&params)),
+        Err(_) => Outcome::Wrong,
+    }
+}
+
+fn twelve_pairs(alloc: Global) -> Outcome {
+    let (a, b, c, d) = (("a", 1u8), ("b", 2u8), ("c", 3u8), ("d", 4u8));
+    let (e, f, g, h) = (("e", 5u8), ("f", 6u8), ("g", 7u8), ("h", 8u8));
+    let (i, j, k, l) = (("i", 9u8), ("j", 10u8), ("k", 11u8), ("l", 12u8));
+    match (a, b, c, d, e, f, g, h, i, j, k, l).to_named(alloc) {
+        Err(ToParamsError::Memory(_)) => Outcome::Memory,
+        Ok(Params::Named(entries)) => Outcome::Answer.if_holds(
+            entries.len() == 12 && entries.get(b"l".as_slice()) == Some(&Value::UInt(12)),
+        ),
+        _ => Outcome::Wrong,
+    }
+}
+
+fn repeated_pair_of_tuple(alloc: Global) -> Case {
+    Ok(is_redefined((("a", 1u8), ("a", 2u8)).to_named(alloc)))
+}
+
+fn pair_of_tuple_too_long(alloc: Global) -> Outcome {
+    let pairs = (("a", 1u8), ("b", Duration::from_secs(TOO_LONG)));
+    is_too_long(pairs.to_named(alloc))
 }

@@ -72,6 +72,21 @@ fn is_written(room: &[u8; 32], left: usize, text: &[u8]) -> bool {
     }
 }
 
+/// The words are refused before the query is read, and nothing is written.
+fn refuses_words(alloc: Global, texts: &[&str], query: &[u8], refusal: RunError) -> Case {
+    let words = words(alloc, texts)?;
+    let mut input = query;
+    let mut room = [0u8; 32];
+    let mut output = room.as_mut_slice();
+    let answer = run(alloc, &words, &mut input, &mut output);
+    let untouched = input.len() == query.len() && output.len() == 32;
+    Ok(match answer {
+        Err(RunError::Memory(_)) => Outcome::Memory.if_holds(untouched),
+        Err(error) => Outcome::Refusal.if_holds(untouched && error == refusal),
+        Ok(()) => Outcome::Wrong,
+    })
+}
+
 /// The words are refused for the query, and nothing is written.
 fn refuses(alloc: Global, texts: &[&str], query: &[u8], refusal: RunError) -> Case {
     let words = words(alloc, texts)?;
@@ -95,7 +110,7 @@ fn bound_by_position(alloc: Global) -> Case {
 fn redefined(alloc: Global) -> Case {
     let name = Vec::from_slice(alloc, b"a")?;
     let words = ["bind", "a=i:1", "a=i:2"];
-    refuses(alloc, &words, b":a", RunError::Redefined(name))
+    refuses_words(alloc, &words, b":a", RunError::Redefined(name))
 }
 
 /// `bind` with one name refuses the query.
@@ -121,7 +136,7 @@ fn values_for_names(alloc: Global) -> Case {
 }
 
 fn mixed_words(alloc: Global) -> Case {
-    refuses(alloc, &["bind", "a=i:1", "=null"], b":a", RunError::Usage)
+    refuses_words(alloc, &["bind", "a=i:1", "=null"], b":a", RunError::Usage)
 }
 
 fn too_few(alloc: Global) -> Case {

@@ -13,6 +13,8 @@ pub(crate) fn case(alloc: Global, name: &str) -> Option<Case> {
         "parse of an open string" => Ok(unchanged(alloc, b"SELECT 'a\\':b")),
         "parse of names and marks" => Ok(mixed(alloc)),
         "parse_in of a name after a backslash" => Ok(name_after_a_backslash(alloc)),
+        "parse_in of no names" => Ok(no_names_without_backslashes(alloc)),
+        "parse_in of names and marks" => Ok(mixed_without_backslashes(alloc)),
         "query and params of what was parsed" => parts_of_parsed(alloc),
         _ => return None,
     };
@@ -54,6 +56,25 @@ fn name_after_a_backslash(alloc: Global) -> Outcome {
         Ok(parsed) => {
             Outcome::Answer.if_holds(parsed.query() == marks && parsed.params().len() == 1)
         }
+    }
+}
+
+fn no_names_without_backslashes(alloc: Global) -> Outcome {
+    let query = b"'\\' ?".as_slice();
+    match ParsedNamedParams::parse_in(alloc, query, true) {
+        Err(_) => Outcome::Wrong,
+        Ok(parsed) => Outcome::AnswerWithoutMemory.if_holds(
+            parsed.query() == query && parsed.params().is_empty(),
+        ),
+    }
+}
+
+fn mixed_without_backslashes(alloc: Global) -> Outcome {
+    match ParsedNamedParams::parse_in(alloc, b"'\\':a ?", true) {
+        Ok(_) => Outcome::Wrong,
+        Err(error) => Outcome::AnswerWithoutMemory.if_holds(
+            error == NamedParamsError::Mixed(MixedParamsError),
+        ),
     }
 }
 

@@ -1,0 +1,50 @@
+//! Fixed queries: `bind_named`, `bind_positional`, and both in a mode.
+use crate::outcome::{Case, Outcome};
+use mysql_params::fixed_query::{bind_named, bind_named_in, bind_positional, bind_positional_in};
+use std::alloc::{AllocError, Global};
+
+/// How the call of this name went, if it stands here.
+pub(crate) fn case(alloc: Global, name: &str) -> Option<Case> {
+    let outcome = match name {
+        "bind_named of a text and a number" => by_name(alloc),
+        "bind_named_in of a text without backslash escapes" => by_name_in(alloc),
+        "bind_positional of a text and a number" => by_position(alloc),
+        "bind_positional of a query without places" => nothing(alloc),
+        "bind_positional_in of a text without backslash escapes" => by_position_in(alloc),
+        _ => return None,
+    };
+    Some(Ok(outcome))
+}
+
+/// The call returned this text.
+fn is_bound(answer: Result<Vec<u8>, AllocError>, text: &[u8]) -> Outcome {
+    match answer {
+        Err(AllocError) => Outcome::Memory,
+        Ok(bound) => Outcome::Answer.if_holds(bound.as_slice() == text),
+    }
+}
+
+fn by_name(alloc: Global) -> Outcome {
+    let pairs = (("id", 42u8), ("name", "it's"));
+    let answer = bind_named(alloc, b"SELECT :name, :id", &pairs);
+    is_bound(answer, b"SELECT 'it\\'s', 42")
+}
+
+fn by_name_in(alloc: Global) -> Outcome {
+    let answer = bind_named_in(alloc, b"SELECT 'a\\', :b", &(("b", "it's\\"),), true);
+    is_bound(answer, b"SELECT 'a\\', 'it''s\\'")
+}
+
+fn by_position(alloc: Global) -> Outcome {
+    let answer = bind_positional(alloc, b"SELECT ?, ?", &("it's", 42u8));
+    is_bound(answer, b"SELECT 'it\\'s', 42")
+}
+
+fn nothing(alloc: Global) -> Outcome {
+    is_bound(bind_positional(alloc, b"SELECT '?'", &()), b"SELECT '?'")
+}
+
+fn by_position_in(alloc: Global) -> Outcome {
+    let answer = bind_positional_in(alloc, b"SELECT 'a\\', ?", &("it's\\",), true);
+    is_bound(answer, b"SELECT 'a\\', 'it''s\\'")
+}
