@@ -166,7 +166,7 @@ static int32_t number_of(const char *name)
     return -1;
 }
 
-/* Reads one FIELD=VALUE of a refusal. */
+/* Reads one FIELD=VALUE of a refusal or a construct. */
 static void read_field(test_case *it, char *field)
 {
     char *value = strchr(field, '=');
@@ -191,10 +191,25 @@ static void read_field(test_case *it, char *field)
         stop("this field is not known");
 }
 
-static void read_refusal(test_case *it, char *text)
+/* Names of the constructs, as in enum mysql_params_construct. */
+static const char *const CONSTRUCTS[] = {
+    "PORTABLE", "EXECUTABLE_COMMENT", "HINT", "MARIADB_COMMENT", "DASHES", "ESCAPED_QUOTE", "BRACKET", "DOLLAR_QUOTE",
+    "DASHES_AFTER_EXPONENT", "PLACE_AFTER_EXPONENT"};
+
+static int32_t construct_of(const char *name)
+{
+    for (int32_t number = 1; number <= MYSQL_PARAMS_PLACE_AFTER_EXPONENT; number++)
+        if (strcmp(CONSTRUCTS[number], name) == 0)
+            return number;
+    stop("this construct is not known");
+    return -1;
+}
+
+/* Reads a name, which the function knows, and the fields after it. */
+static void read_named(test_case *it, char *text, int32_t (*known)(const char *))
 {
     char *word = strtok(text, " ");
-    it->number = number_of(word == NULL ? "" : word);
+    it->number = known(word == NULL ? "" : word);
     while ((word = strtok(NULL, " ")) != NULL)
         read_field(it, word);
 }
@@ -219,7 +234,11 @@ static void read_line(test_case *it, const char *word, char *text)
     } else if (strcmp(word, "message") == 0)
         append_text(&it->message, text);
     else if (strcmp(word, "refused") == 0)
-        read_refusal(it, text);
+        read_named(it, text, number_of);
+    else if (strcmp(word, "unportable") == 0)
+        read_named(it, text, construct_of);
+    else if (strcmp(word, "portable") == 0)
+        it->portable = true;
     else
         stop("this word is not known");
     clear_bytes(&whole);

@@ -4,7 +4,7 @@
 
 #include "mysql_params_form.h"
 
-/* Bytes, with a zero byte behind them that `len` does not count. */
+/* Bytes, with a zero byte after them that `len` does not count. */
 typedef struct bytes {
     uint8_t *at;
     size_t len;
@@ -17,7 +17,8 @@ typedef struct test_case {
     bytes form;                 /* the parameters, as a flat form */
     bool no_backslash_escape;   /* the mode */
     bytes answer;               /* the text, or the answer of names as length-encoded strings */
-    int32_t number;             /* the number that is wanted */
+    int32_t number;             /* the number that is wanted: of a call's end, or of a construct */
+    bool portable;              /* whether it says that the query is portable */
     mysql_params_report report; /* the report that is wanted */
     bytes name;                 /* the name that the report has to tell */
     bytes message;              /* the message that is wanted, or empty */

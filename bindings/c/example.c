@@ -1,4 +1,5 @@
-/* Binds the query of README.md, with a name that tries to leave its literal, and writes the text. */
+/* Binds the query of README.md, with a name that tries to leave its literal, and writes the text. A query that servers
+ * read in different ways is refused. */
 #include "mysql_params_form.h"
 
 #include <stdio.h>
@@ -8,6 +9,13 @@ int main(void)
 {
     const char *query = "SELECT * FROM t WHERE id = :id AND name = :name";
     const uint8_t *query_bytes = (const uint8_t *)query;
+
+    mysql_params_report report = {0};
+    int32_t construct = mysql_params_first_unportable(query_bytes, strlen(query), false, &report);
+    if (construct != MYSQL_PARAMS_PORTABLE) {
+        fprintf(stderr, "not portable at byte %zu: %s\n", report.position, mysql_params_construct_message(construct));
+        return 1;
+    }
 
     uint8_t form_room[128] = {0};
     mysql_params_form form = mysql_params_form_in(form_room, sizeof form_room);
@@ -19,7 +27,6 @@ int main(void)
     }
 
     uint8_t text[256] = {0};
-    mysql_params_report report = {0};
     int32_t number = mysql_params_bind(query_bytes, strlen(query), form.room, form.len, text, sizeof text, &report);
     if (number != MYSQL_PARAMS_DONE) {
         char line[256];

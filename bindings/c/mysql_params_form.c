@@ -1,4 +1,4 @@
-/* The flat form written, answers taken apart, and refusals told: see mysql_params_form.h. */
+/* The flat form written, answers taken apart, refusals and constructs told: see mysql_params_form.h. */
 #include "mysql_params_form.h"
 
 #include <stdarg.h>
@@ -302,4 +302,25 @@ size_t mysql_params_message(int32_t number, const mysql_params_report *report,
     if (line_len > 0)
         line_room[to.len < line_len ? to.len : line_len - 1] = '\0';
     return to.len;
+}
+
+/* Messages of the constructs, and else null. */
+static const char *const CONSTRUCT_MESSAGES[] = {
+    [MYSQL_PARAMS_EXECUTABLE_COMMENT] = "`/*!` is executed or skipped: write its text without it, or leave it out",
+    [MYSQL_PARAMS_HINT] = "`/*+` is a hint or a comment: leave it out, or write a space before the `+`",
+    [MYSQL_PARAMS_MARIADB_COMMENT] = "`/*M!` is executed or a comment: leave it out, or write a space before the `M`",
+    [MYSQL_PARAMS_DASHES] = "`--` is a comment or two signs here: write a space between them, or after them",
+    [MYSQL_PARAMS_ESCAPED_QUOTE] = "`\\\"` may end an identifier here: write `\"\"`, or the text in `'`",
+    [MYSQL_PARAMS_BRACKET] = "`[` may open an identifier: write the name in backquotes",
+    [MYSQL_PARAMS_DOLLAR_QUOTE] = "`$$` and `$tag$` may open a string: write it in `'`, or a name in backquotes",
+    [MYSQL_PARAMS_DASHES_AFTER_EXPONENT] =
+        "`--` after `.e` may open no comment: write the exponent's digits, or a space first",
+    [MYSQL_PARAMS_PLACE_AFTER_EXPONENT] = "a value's digits would join this number: write a space before the place",
+};
+
+const char *mysql_params_construct_message(int32_t construct)
+{
+    if (construct < 0 || construct > MYSQL_PARAMS_PLACE_AFTER_EXPONENT)
+        return NULL;
+    return CONSTRUCT_MESSAGES[construct];
 }

@@ -1,6 +1,6 @@
 /* mysql_params_form.h: parameters written as the flat form that mysql_params_bind reads, answers taken apart, and
- * refusals told in a line. Plain C, without memory of its own: compile mysql_params_form.c with your program. It is
- * tested, not proved. */
+ * refusals and constructs told in a line. Plain C, without memory of its own: compile mysql_params_form.c with your
+ * program. It is tested, not proved. */
 #ifndef MYSQL_PARAMS_FORM_H
 #define MYSQL_PARAMS_FORM_H
 
@@ -84,7 +84,7 @@ typedef struct mysql_params_string {
 } mysql_params_string;
 
 /* Takes the next length-encoded string off the front of an answer: the query with marks first, then each name. It moves
- * `*answer` and `*len` behind it. Returns false, and changes nothing, where no whole string stands there. */
+ * `*answer` and `*len` after it. Returns false, and changes nothing, where no whole string stands there. */
 bool mysql_params_next_string(const uint8_t **answer, size_t *len, mysql_params_string *string);
 
 /* Writes what a number and its report say into `line`: one line of printable ASCII, ended by a zero byte, cut to
@@ -93,6 +93,10 @@ bool mysql_params_next_string(const uint8_t **answer, size_t *len, mysql_params_
 size_t mysql_params_message(int32_t number, const mysql_params_report *report,
                             const uint8_t *source, size_t source_len,
                             char *line, size_t line_len);
+
+/* Returns what a number of enum mysql_params_construct says, with what to write instead: one line of printable ASCII,
+ * ended by a zero byte. Null for MYSQL_PARAMS_PORTABLE, and for what is no number of that enum. */
+const char *mysql_params_construct_message(int32_t construct);
 
 #ifdef __cplusplus
 }

@@ -215,6 +215,36 @@ static void names_of_queries(void)
     each_case(folder, "names.txt", try_case);
 }
 
+/* A query in its mode: the first construct, its position and its message. No allocation is asked for. */
+static void try_construct(const test_case *it)
+{
+    mysql_params_report report = {9, 9, 9, 9, 9, 9};
+    uint8_t *query = exact_copy(it->query);
+    expect(it->portable == (it->number == MYSQL_PARAMS_PORTABLE), it, "the case says both or neither");
+    allocation_refused = false;
+    allocations_left = 0;
+    int32_t number = mysql_params_first_unportable(query, it->query.len, it->no_backslash_escape, &report);
+    allocations_left = ALL;
+    free(query);
+    expect(!allocation_refused, it, "it allocates");
+    expect(number == it->number, it, "another construct is wanted");
+    expect(same_report(&report, &it->report), it, "another report is wanted");
+    const char *message = mysql_params_construct_message(number);
+    expect((message == NULL) == it->portable, it, "a construct has a message, and nothing else has one");
+    if (it->message.len > 0)
+        expect(message != NULL && strcmp(message, (const char *)it->message.at) == 0, it, "another text is wanted");
+}
+
+static void portable_queries(void)
+{
+    each_case(folder, "portable.txt", try_construct);
+    /* Numbers that are no construct. */
+    static const int32_t others[] = {0, 10, -1, INT32_MAX, INT32_MIN};
+    test_case it = {0};
+    for (size_t i = 0; i < sizeof others / sizeof others[0]; i++)
+        expect(mysql_params_construct_message(others[i]) == NULL, &it, "a message of no construct");
+}
+
 /* Appends a byte, often. */
 static void append_run(bytes *to, char byte, size_t len)
 {
@@ -357,14 +387,14 @@ static void rooms_of_forms(void)
         expect(form.needed == 19, &it, "another need is wanted");
         expect(form.len == (room_len >= 19 ? 19 : room_len >= 13 ? 13 : 0), &it, "another length is wanted");
         expect(memcmp(room, wanted, form.len) == 0, &it, "another form is wanted");
-        expect(is_untouched(room, form.len, sizeof room), &it, "the room is written behind the form");
+        expect(is_untouched(room, form.len, sizeof room), &it, "the room is written after the form");
     }
     /* Once one does not fit (6 bytes), a shorter one (3 bytes) is not appended either. */
     uint8_t room[4];
     mysql_params_form form = mysql_params_form_in(room, sizeof room);
     it.line = 0;
     expect(!mysql_params_append_text(&form, NULL, "xx"), &it, "a text without room is appended");
-    expect(!mysql_params_append_null(&form, NULL), &it, "NULL is appended behind a text without room");
+    expect(!mysql_params_append_null(&form, NULL), &it, "NULL is appended after a text without room");
     expect(form.len == 0 && form.needed == 9, &it, "another need is wanted");
 }
 
@@ -400,7 +430,7 @@ static void cut_messages(void)
         expect(len == strlen(whole), &it, "another length is wanted");
         expect(memcmp(line, whole, shown) == 0 && (line_len == 0 || line[shown] == '\0'), &it, "another line is wanted");
         for (size_t i = line_len; i < sizeof line; i++)
-            expect((uint8_t)line[i] == UNTOUCHED, &it, "the memory behind the line is written");
+            expect((uint8_t)line[i] == UNTOUCHED, &it, "the memory after the line is written");
     }
 }
 
@@ -484,6 +514,7 @@ int main(int count, char **words)
     bool all = passed("table_of_binding", table_of_binding);
     all &= passed("flat_forms", flat_forms);
     all &= passed("names_of_queries", names_of_queries);
+    all &= passed("portable_queries", portable_queries);
     all &= passed("names_of_long_queries", names_of_long_queries);
     all &= passed("each_value_of_one_byte", each_value_of_one_byte);
     all &= passed("values_of_each_length", values_of_each_length);

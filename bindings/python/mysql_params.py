@@ -1,5 +1,7 @@
 """Values bound into SQL queries for MySQL, over the library made of the archive libmysql_params_c.a.
 
+    >>> first_unportable("SELECT * FROM t WHERE id = :id AND name = :name") is None
+    True
     >>> bind("SELECT * FROM t WHERE id = :id AND name = :name", {"id": 42, "name": "x' OR '1'='1"})
     b"SELECT * FROM t WHERE id = 42 AND name = 'x\\\\' OR \\\\'1\\\\'=\\\\'1'"
 
@@ -15,6 +17,7 @@ from __future__ import annotations
 
 import ctypes
 import datetime
+import enum
 import os
 import pathlib
 import struct
@@ -22,6 +25,7 @@ from collections.abc import Mapping, Sequence
 from typing import NamedTuple, Optional, Union
 
 __all__ = [
+    "Construct",
     "Error",
     "FloatError",
     "FormEndError",
@@ -39,9 +43,11 @@ __all__ = [
     "Params",
     "PositionalForNamedError",
     "RepeatedNameError",
+    "Unportable",
     "Value",
     "bind",
     "bind_form",
+    "first_unportable",
     "names",
 ]
 
@@ -61,6 +67,53 @@ class Names(NamedTuple):
     """The query with ``?`` in the place of each name."""
     names: list[str]
     """The names without their colons, in order, with repeats."""
+
+
+class Construct(enum.IntEnum):
+    """A construct that servers read in different ways, or in which a value's digits join a number.
+
+    Its number is that of mysql_params.h, and `message` says what to write instead.
+    """
+
+    message: str
+
+    def __new__(cls, number: int, message: str) -> Construct:
+        """Take the number and the message."""
+        construct = int.__new__(cls, number)
+        construct._value_ = number
+        construct.message = message
+        return construct
+
+    EXECUTABLE_COMMENT = 1, "`/*!` is executed or skipped: write its text without it, or leave it out"
+    """``/*!``: executed, or skipped by the version of the server."""
+    HINT = 2, "`/*+` is a hint or a comment: leave it out, or write a space before the `+`"
+    """``/*+``: an optimizer hint after some words, a comment elsewhere."""
+    MARIADB_COMMENT = 3, "`/*M!` is executed or a comment: leave it out, or write a space before the `M`"
+    """``/*M!``: executed by MariaDB, a comment to MySQL."""
+    DASHES = 4, "`--` is a comment or two signs here: write a space between them, or after them"
+    """``--`` before a byte that is neither printable ASCII nor white space: a comment on some servers."""
+    ESCAPED_QUOTE = 5, "`\\\"` may end an identifier here: write `\"\"`, or the text in `'`"
+    """``"..\\".."``: with ANSI_QUOTES an identifier, which ends at the quote after the backslash."""
+    BRACKET = 6, "`[` may open an identifier: write the name in backquotes"
+    """``[``: opens an identifier in MariaDB's sql_mode MSSQL."""
+    DOLLAR_QUOTE = 7, "`$$` and `$tag$` may open a string: write it in `'`, or a name in backquotes"
+    """``$$`` or ``$tag$``, or a place on the way to the second ``$``, as in ``$?``: opens a string in MySQL 9."""
+    DASHES_AFTER_EXPONENT = 8, "`--` after `.e` may open no comment: write the exponent's digits, or a space first"
+    """``.5e-- ``, to MySQL a sign and no comment; or a place on the way to the ``e``, as in ``1.?``."""
+    PLACE_AFTER_EXPONENT = 9, "a value's digits would join this number: write a space before the place"
+    """``1e+?``: the digits of a value would join the number."""
+
+
+class Unportable(NamedTuple):
+    """A construct of a query, and where it begins."""
+
+    construct: Construct
+    """Which it is."""
+    position: int
+    """The byte of the query at which it begins.
+
+    That is of ``"..\\".."`` its first quote, of a place after an exponent the digit or point before the ``e``.
+    """
 
 
 class _Report(ctypes.Structure):
@@ -160,7 +213,7 @@ class MixedError(Error):
 class MissingError(Error):
     """The name `name` of the query has no value.
 
-    `place` is the number of its first place, `position` the byte of the query at which it begins there, behind its
+    `place` is the number of its first place, `position` the byte of the query at which it begins there, after its
     colon.
     """
 
@@ -215,7 +268,7 @@ class FloatError(Error):
     _text = "Float at place {place}"
 
 
-_DONE, _ROOM = 0, 2
+_DONE, _ROOM, _PORTABLE = 0, 2, 0
 
 _ERRORS: dict[int, type[Error]] = {
     error.number: error
@@ -273,6 +326,8 @@ def _library() -> ctypes.CDLL:
     library.mysql_params_names_in.restype = ctypes.c_int32
     library.mysql_params_bind_in.argtypes = string + string + [ctypes.c_bool] + answer
     library.mysql_params_bind_in.restype = ctypes.c_int32
+    library.mysql_params_first_unportable.argtypes = string + [ctypes.c_bool, ctypes.POINTER(_Report)]
+    library.mysql_params_first_unportable.restype = ctypes.c_int32
     return library
 
 
@@ -295,6 +350,24 @@ def _call(
     else:
         number = _LIBRARY.mysql_params_bind_in(query, len(query), form, len(form), mode, *answer)
     return number, report
+
+
+def _first_unportable(query: bytes, mode: bool) -> tuple[int, _Report]:
+    """Return the number and the report of the first construct of a query. The mode is as for _call."""
+    report = _Report()
+    number = _LIBRARY.mysql_params_first_unportable(query, len(query), mode, ctypes.byref(report))
+    return number, report
+
+
+def _unportable(number: int, report: _Report) -> Optional[Unportable]:
+    """Return what such a number with its report says."""
+    if number == _PORTABLE:
+        return None
+    try:
+        construct = Construct(number)
+    except ValueError:
+        raise RuntimeError(f"Unknown answer {number} of the archive") from None
+    return Unportable(construct, report.position)
 
 
 def _whole_answer(query: bytes, form: Optional[bytes], mode: bool, guess: int) -> bytes:
@@ -405,7 +478,7 @@ def _copy(source: bytes) -> bytes:
 
 
 def _next_string(answer: bytes, begin: int) -> tuple[bytes, int]:
-    """Return the length-encoded string that begins at a byte of an answer, and the byte behind it."""
+    """Return the length-encoded string that begins at a byte of an answer, and the byte after it."""
     lead = answer[begin]
     count = {0xFC: 2, 0xFD: 3, 0xFE: 8}.get(lead, 0)
     first = begin + 1 + count
@@ -431,10 +504,26 @@ def names(query: Union[str, bytes], no_backslash_escape: bool = False) -> Names:
     return Names(renamed, found)
 
 
+def first_unportable(query: Union[str, bytes], no_backslash_escape: bool = False) -> Optional[Unportable]:
+    """Return the first construct of a query that servers read in different ways, and where it begins.
+
+    A place after an exponent, where a value's digits would join a number, is one too. None says that the query is
+    portable. Ask it of each query, once, before you bind to it. What stands within strings, quoted identifiers and
+    comments is none, but a quote after a backslash in a string in double quotes. A str is taken as its UTF-8, and
+    positions count its bytes. The flag is that of bind.
+
+    >>> found = first_unportable("SELECT /*! :a */ 1")
+    >>> found.construct.name, found.position
+    ('EXECUTABLE_COMMENT', 7)
+    """
+    return _unportable(*_first_unportable(_bytes_of(query), no_backslash_escape))
+
+
 def bind(query: Union[str, bytes], params: Params = None, no_backslash_escape: bool = False) -> bytes:
     """Return the query with the SQL literals of the values in its places: the text to send.
 
-    A str is taken as its UTF-8. A bool is 1 or 0. A datetime at midnight has the literal of its date.
+    Ask first_unportable of the query before. A str is taken as its UTF-8. A bool is 1 or 0. A datetime at midnight has
+    the literal of its date.
 
     The text is for a connection with backslash escapes, that is without NO_BACKSLASH_ESCAPES in its sql_mode; with the
     flag it is for one that has it. Ask on the connection that the text goes to: SELECT @@sql_mode. Where the two differ

@@ -12,7 +12,7 @@ import threading
 import unittest
 
 import mysql_params
-from mysql_params import bind, bind_form, names
+from mysql_params import Construct, bind, bind_form, first_unportable, names
 
 CASES = pathlib.Path(__file__).resolve().parent.parent / "cases"
 
@@ -50,6 +50,10 @@ NUMBERS = {"FORM_END": 3, "FORM_LENGTH_LEAD": 4, "FORM_TYPE": 5, "FORM_MIXED": 6
 NUMBERS.update({"MISSING": 9, "NAMED_FOR_POSITIONAL": 10, "POSITIONAL_FOR_NAMED": 11, "MARK_COUNT": 12})
 NUMBERS.update({"NOT_ALONE": 13, "FLOAT": 14})
 
+CONSTRUCTS = ["EXECUTABLE_COMMENT", "HINT", "MARIADB_COMMENT", "DASHES", "ESCAPED_QUOTE", "BRACKET", "DOLLAR_QUOTE"]
+CONSTRUCTS += ["DASHES_AFTER_EXPONENT", "PLACE_AFTER_EXPONENT"]
+"""Names of the constructs in cases, in the order of their numbers from 1 on."""
+
 FIELDS_OF_CASES = {"parameter": "place", "column_type": "byte"}
 """What cases call the fields that errors have by other names."""
 
@@ -83,7 +87,7 @@ class Case:
     def __init__(self, lines):
         self.lines, self.query, self.params, self.form = lines, b"", [], b""
         self.text, self.renamed, self.names, self.refusal, self.message = None, None, [], None, None
-        self.no_backslash_escape = False
+        self.no_backslash_escape, self.portable, self.construct = False, False, None
         for line in lines:
             word, _, rest = line.partition(" ")
             self.read(word, rest)
@@ -104,6 +108,11 @@ class Case:
             self.message = rest
         elif word == "refused":
             self.refusal, *fields = rest.split(" ")
+            self.fields = dict(field.split("=") for field in fields)
+        elif word == "portable":
+            self.portable = True
+        elif word == "unportable":
+            self.construct, *fields = rest.split(" ")
             self.fields = dict(field.split("=") for field in fields)
         else:
             raise ValueError(f"{word} is no word of a case")
@@ -190,6 +199,48 @@ class Test(unittest.TestCase):
                 self.assertEqual(names(case.query, case.no_backslash_escape), (case.renamed, case.names))
                 if not case.no_backslash_escape:
                     self.assertEqual(names(case.query), (case.renamed, case.names))
+
+    def expect_construct(self, case, found):
+        """What is found is the construct that the case wants, with its position and its message; or None."""
+        if case.portable:
+            self.assertIs(found, None)
+            return
+        construct, position = found
+        self.assertIs(type(construct), Construct)
+        self.assertEqual((construct.name, position), (case.construct, int(case.fields["position"])))
+        if case.message is not None:
+            self.assertEqual(construct.message, case.message)
+
+    def test_portable_queries(self):
+        for case in cases("portable.txt"):
+            with self.subTest(case=case.lines):
+                self.assertEqual(case.portable, case.construct is None)
+                self.expect_construct(case, first_unportable(case.query, case.no_backslash_escape))
+                if not case.no_backslash_escape:
+                    self.expect_construct(case, first_unportable(case.query))
+                number, report = mysql_params._first_unportable(case.query, case.no_backslash_escape)
+                self.assertEqual(number, 0 if case.portable else 1 + CONSTRUCTS.index(case.construct))
+                fields = {name: getattr(report, name) for name, _ in report._fields_}
+                wanted = dict.fromkeys(fields, 0)
+                wanted["position"] = 0 if case.portable else int(case.fields["position"])
+                self.assertEqual(fields, wanted)
+
+    def test_constructs(self):
+        self.assertEqual([construct.name for construct in Construct], CONSTRUCTS)
+        self.assertEqual([int(construct) for construct in Construct], list(range(1, 10)))
+        found = first_unportable("\u00e4 [")
+        self.assertEqual(found, (Construct.BRACKET, 3))
+        self.assertEqual((found.construct, found.position), (6, 3))
+        self.assertEqual(first_unportable(bytearray(b"'a\\' ["), no_backslash_escape=True), (Construct.BRACKET, 5))
+        copy = pickle.loads(pickle.dumps(found))
+        self.assertIs(copy.construct, Construct.BRACKET)
+        report = mysql_params._Report()
+        for number in (-1, 10):
+            with self.subTest(number=number), self.assertRaises(RuntimeError):
+                mysql_params._unportable(number, report)
+        for query in (None, 5):
+            with self.subTest(query=query), self.assertRaises(TypeError):
+                first_unportable(query)
 
     def test_names_of_long_queries(self):
         for length in (250, 251, 252, 65535, 65536, 65537):
@@ -342,7 +393,7 @@ class Test(unittest.TestCase):
         self.assertEqual(wrong, [])
 
     def test_examples_of_the_documentation(self):
-        self.assertEqual(doctest.testmod(mysql_params), (0, 1))
+        self.assertEqual(doctest.testmod(mysql_params), (0, 4))
 
 
 class Result(unittest.TestResult):

@@ -1,14 +1,18 @@
-//! Binds the query of the repository's README, with a name that tries to leave its literal, and writes the text.
-use mysql_params::{Params, Value, bind};
+//! Binds the query of the repository's README, with a name that tries to leave its literal, and writes the text. A query
+//! that servers read in different ways is refused.
+use mysql_params::{Params, Value, bind, first_unportable};
 use std::io::Write;
 
 fn main() -> Result<(), Box<dyn std::error::Error>> {
+    let query = b"SELECT * FROM t WHERE id = :id AND name = :name";
+    if let Some(found) = first_unportable(query)? {
+        let (position, message) = (found.position, found.construct);
+        return Err(format!("not portable at byte {position}: {message}").into());
+    }
+
     let name = "x' OR '1'='1";
     let pairs = [("id", Value::Int(42)), ("name", name.into())];
-    let mut text = bind(
-        b"SELECT * FROM t WHERE id = :id AND name = :name",
-        &Params::Named(&pairs),
-    )?;
+    let mut text = bind(query, &Params::Named(&pairs))?;
     text.push(b'\n');
     std::io::stdout().write_all(&text)?;
     Ok(())

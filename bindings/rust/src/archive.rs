@@ -1,5 +1,5 @@
 //! The calls of the archive for either mode, and their answers.
-use crate::Error;
+use crate::{Construct, Error, Unportable};
 
 /// What a call says beside its number: `mysql_params_report` of mysql_params.h.
 #[repr(C)]
@@ -34,12 +34,22 @@ unsafe extern "C" {
         room_len: usize,
         report: *mut Report,
     ) -> i32;
+
+    fn mysql_params_first_unportable(
+        query: *const u8,
+        query_len: usize,
+        no_backslash_escape: bool,
+        report: *mut Report,
+    ) -> i32;
 }
 
 /// The answer is written.
 pub(crate) const DONE: i32 = 0;
 /// The room is too short for the answer.
 pub(crate) const ROOM: i32 = 2;
+
+/// A query has no construct that servers read in different ways.
+const PORTABLE: i32 = 0;
 
 /// A call of the archive.
 #[derive(Clone, Copy, Debug)]
@@ -170,6 +180,34 @@ impl Call<'_> {
         room.truncate(report.len);
         Ok(room)
     }
+}
+
+/// The number and the report of the first construct of a query, in a mode.
+pub(crate) fn first_unportable(query: &[u8], no_backslash_escape: bool) -> (i32, Report) {
+    let mut report = Report::default();
+    // SAFETY: the pointer is that of a slice with its length, and so not null, and all bytes have a value. The report
+    // is borrowed for writing alone, and so overlaps nothing. The call keeps no pointer.
+    let number = unsafe {
+        mysql_params_first_unportable(
+            query.as_ptr(),
+            query.len(),
+            no_backslash_escape,
+            &mut report,
+        )
+    };
+    (number, report)
+}
+
+/// What such a number with its report says; or `Err` where the number isn't one of mysql_params.h.
+pub(crate) fn unportable(number: i32, report: &Report) -> Result<Option<Unportable>, Error> {
+    if number == PORTABLE {
+        return Ok(None);
+    }
+    let construct = Construct::of_number(number).ok_or(Error::UnknownAnswer { number })?;
+    Ok(Some(Unportable {
+        construct,
+        position: report.position,
+    }))
 }
 
 /// Bytes of a number, or out of memory.

@@ -59,7 +59,7 @@ pub enum Error {
     Missing {
         /// Number of the first place of that name.
         place: usize,
-        /// Byte of the query at which the name begins there, behind its colon.
+        /// Byte of the query at which the name begins there, after its colon.
         position: usize,
         /// The name.
         name: Vec<u8>,

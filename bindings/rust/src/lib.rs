@@ -5,11 +5,14 @@
 //! that matter for security" in the repository's README.md.
 //!
 //! ```
-//! use mysql_params::{bind, Params, Value};
+//! use mysql_params::{Params, Value, bind, first_unportable};
+//!
+//! let query = b"SELECT * FROM t WHERE id = :id AND name = :name";
+//! assert_eq!(first_unportable(query)?, None);
 //!
 //! let name = "x' OR '1'='1";
 //! let pairs = [("id", Value::Int(42)), ("name", name.into())];
-//! let text = bind(b"SELECT * FROM t WHERE id = :id AND name = :name", &Params::Named(&pairs))?;
+//! let text = bind(query, &Params::Named(&pairs))?;
 //! assert_eq!(text, br"SELECT * FROM t WHERE id = 42 AND name = 'x\' OR \'1\'=\'1'");
 //! # Ok::<(), mysql_params::Error>(())
 //! ```
@@ -18,11 +21,13 @@
 mod archive;
 mod error;
 mod form;
+mod portable;
 #[cfg(test)]
 mod tests;
 mod value;
 
 pub use error::Error;
+pub use portable::{Construct, Unportable};
 pub use value::{Date, Params, Time, Value};
 
 use archive::Call;
@@ -73,7 +78,42 @@ pub fn names_in(query: &[u8], no_backslash_escape: bool) -> Result<Names, Error>
     })
 }
 
-/// The query with the SQL literals of the values in its places: the text to send.
+/// The first construct of a query that servers read in different ways, or in which a value's digits would join a
+/// number; none exactly where the query is portable. Ask it of each query, once, before you bind to it. What stands
+/// within strings, quoted identifiers and comments is none, but `\"` in a string in `"`. It allocates nothing.
+///
+/// ```
+/// use mysql_params::{Construct, first_unportable};
+///
+/// assert_eq!(first_unportable(b"SELECT :a")?, None);
+/// let found = first_unportable(b"SELECT /*! :a */ 1")?.expect("an executable comment");
+/// assert_eq!((found.construct, found.position), (Construct::ExecutableComment, 7));
+/// # Ok::<(), mysql_params::Error>(())
+/// ```
+///
+/// # Errors
+///
+/// [`Error::UnknownAnswer`], from an archive that this crate wasn't written for.
+pub fn first_unportable(query: &[u8]) -> Result<Option<Unportable>, Error> {
+    first_unportable_in(query, false)
+}
+
+/// As [`first_unportable`], for a connection in either mode: the flag is true where `SELECT @@sql_mode` has
+/// `NO_BACKSLASH_ESCAPES`.
+///
+/// # Errors
+///
+/// Those of [`first_unportable`].
+pub fn first_unportable_in(
+    query: &[u8],
+    no_backslash_escape: bool,
+) -> Result<Option<Unportable>, Error> {
+    let (number, report) = archive::first_unportable(query, no_backslash_escape);
+    archive::unportable(number, &report)
+}
+
+/// The query with the SQL literals of the values in its places: the text to send. Ask [`first_unportable`] of the query
+/// before.
 ///
 /// The text is for a connection with backslash escapes, that is without `NO_BACKSLASH_ESCAPES` in its `sql_mode`; for
 /// another see [`bind_in`].

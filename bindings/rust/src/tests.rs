@@ -1,6 +1,6 @@
 //! Tests of what the public calls don't show: the room lent, whole reports, and numbers that come by fault alone.
-use crate::archive::{Call, DONE, ROOM, Report};
-use crate::{Error, Params, Value, bind, names};
+use crate::archive::{Call, DONE, ROOM, Report, first_unportable, unportable};
+use crate::{Construct, Error, Params, Unportable, Value, bind, names};
 
 /// What a byte of the room holds before a call.
 const UNTOUCHED: u8 = 0xA5;
@@ -169,6 +169,51 @@ fn numbers_that_come_by_fault_alone() {
     let report = Report { byte: 256, ..none };
     assert_eq!(call.error(4, &report), Error::UnknownAnswer { number: 4 });
     assert_eq!(call.error(5, &report), Error::UnknownAnswer { number: 5 });
+}
+
+#[test]
+fn whole_reports_of_constructs() {
+    let position = |position| Report {
+        position,
+        ..Report::default()
+    };
+    assert_eq!(first_unportable(b"a, [b]", false), (6, position(3)));
+    assert_eq!(first_unportable(b"'\\' 1e+?", true), (9, position(4)));
+    assert_eq!(first_unportable(b"'[' :a", false), (0, Report::default()));
+    assert_eq!(first_unportable(b"", true), (0, Report::default()));
+}
+
+#[test]
+fn numbers_of_constructs() {
+    let report = Report {
+        position: 7,
+        ..Report::default()
+    };
+    let found = |construct| {
+        Ok(Some(Unportable {
+            construct,
+            position: 7,
+        }))
+    };
+    assert_eq!(unportable(0, &Report::default()), Ok(None));
+    assert_eq!(unportable(1, &report), found(Construct::ExecutableComment));
+    assert_eq!(unportable(2, &report), found(Construct::Hint));
+    assert_eq!(unportable(3, &report), found(Construct::MariaDbComment));
+    assert_eq!(unportable(4, &report), found(Construct::Dashes));
+    assert_eq!(unportable(5, &report), found(Construct::EscapedQuote));
+    assert_eq!(unportable(6, &report), found(Construct::Bracket));
+    assert_eq!(unportable(7, &report), found(Construct::DollarQuote));
+    assert_eq!(
+        unportable(8, &report),
+        found(Construct::DashesAfterExponent)
+    );
+    assert_eq!(unportable(9, &report), found(Construct::PlaceAfterExponent));
+    for number in [-1, 10, i32::MAX, i32::MIN] {
+        assert_eq!(
+            unportable(number, &report),
+            Err(Error::UnknownAnswer { number })
+        );
+    }
 }
 
 #[test]

@@ -1,7 +1,7 @@
 //! The cases of bindings/cases, which say what they are in README.md there, and every value of one byte.
 use mysql_params::{
-    Date, Error, Names, Params, Time, Value, bind, bind_form, bind_form_in, bind_in, names,
-    names_in,
+    Construct, Date, Error, Names, Params, Time, Unportable, Value, bind, bind_form, bind_form_in,
+    bind_in, first_unportable, first_unportable_in, names, names_in,
 };
 use std::collections::HashMap;
 use std::path::Path;
@@ -33,6 +33,8 @@ struct Case {
     renamed: Vec<u8>,
     names: Vec<String>,
     refusal: Option<(String, HashMap<String, String>)>,
+    portable: bool,
+    unportable: Option<(String, HashMap<String, String>)>,
     message: Option<String>,
 }
 
@@ -101,7 +103,8 @@ fn value(text: &str) -> Owned {
     })
 }
 
-fn refusal(text: &str) -> (String, HashMap<String, String>) {
+/// A name, and the fields after it.
+fn named(text: &str) -> (String, HashMap<String, String>) {
     let mut words = text.split(' ');
     let name = words.next().expect("a name").to_string();
     let fields = words.map(|word| word.split_once('=').expect("FIELD=VALUE"));
@@ -126,7 +129,9 @@ fn read_line(case: &mut Case, line: &str) {
         "text" => case.text = Some(bytes(text)),
         "renamed" => case.renamed = bytes(text),
         "name" => case.names.push(text.to_string()),
-        "refused" => case.refusal = Some(refusal(text)),
+        "refused" => case.refusal = Some(named(text)),
+        "portable" => case.portable = true,
+        "unportable" => case.unportable = Some(named(text)),
         "message" => case.message = Some(text.to_string()),
         _ => panic!("{}: {word} is no word of a case", case.at),
     }
@@ -272,6 +277,45 @@ fn names_of_queries() {
         expect_names(&case, names_in(&case.query, mode));
         if !mode {
             expect_names(&case, names(&case.query));
+        }
+    }
+}
+
+/// The construct that a case wants.
+fn wanted_construct(case: &Case) -> Option<Unportable> {
+    let (name, fields) = case.unportable.as_ref()?;
+    let construct = match name.as_str() {
+        "EXECUTABLE_COMMENT" => Construct::ExecutableComment,
+        "HINT" => Construct::Hint,
+        "MARIADB_COMMENT" => Construct::MariaDbComment,
+        "DASHES" => Construct::Dashes,
+        "ESCAPED_QUOTE" => Construct::EscapedQuote,
+        "BRACKET" => Construct::Bracket,
+        "DOLLAR_QUOTE" => Construct::DollarQuote,
+        "DASHES_AFTER_EXPONENT" => Construct::DashesAfterExponent,
+        "PLACE_AFTER_EXPONENT" => Construct::PlaceAfterExponent,
+        _ => panic!("{}: {name} is no construct", case.at),
+    };
+    Some(Unportable {
+        construct,
+        position: number(&fields["position"]),
+    })
+}
+
+#[test]
+fn portable_queries() {
+    for case in cases("portable.txt") {
+        let wanted = wanted_construct(&case);
+        assert_eq!(case.portable, wanted.is_none(), "{}", case.at);
+        let mode = case.no_backslash_escape;
+        let found = first_unportable_in(&case.query, mode);
+        assert_eq!(found, Ok(wanted), "{}", case.at);
+        if !mode {
+            assert_eq!(first_unportable(&case.query), Ok(wanted), "{}", case.at);
+        }
+        if let Some(message) = &case.message {
+            let told = wanted.expect("a construct").construct.to_string();
+            assert_eq!(&told, message, "{}", case.at);
         }
     }
 }

@@ -1,0 +1,86 @@
+//! Constructs that servers read in different ways.
+use std::fmt;
+
+/// A construct that servers read in different ways, or in which a value's digits join a number. Its message says what
+/// to write instead.
+#[derive(Clone, Copy, Debug, PartialEq, Eq, Hash)]
+pub enum Construct {
+    /// `/*!`: executed, or skipped by the version of the server.
+    ExecutableComment,
+    /// `/*+`: an optimizer hint after some words, a comment elsewhere.
+    Hint,
+    /// `/*M!`: executed by MariaDB, a comment to MySQL.
+    MariaDbComment,
+    /// `--` before a byte that is neither printable ASCII nor white space: a comment on some servers.
+    Dashes,
+    /// `"..\".."`: with `ANSI_QUOTES` an identifier, which ends at the quote after the backslash.
+    EscapedQuote,
+    /// `[`: opens an identifier in MariaDB's `sql_mode` `MSSQL`.
+    Bracket,
+    /// `$$` or `$tag$`, or a place on the way to the second `$`, as in `$?`: opens a string in MySQL 9.
+    DollarQuote,
+    /// `.5e-- `, to MySQL a sign and no comment; or a place on the way to the `e`, as in `1.?`.
+    DashesAfterExponent,
+    /// `1e+?`: the digits of a value would join the number.
+    PlaceAfterExponent,
+}
+
+/// A construct of a query, and where it begins.
+#[derive(Clone, Copy, Debug, PartialEq, Eq, Hash)]
+pub struct Unportable {
+    /// Which it is.
+    pub construct: Construct,
+    /// Byte of the query at which it begins: of `"..\".."` its first quote, of a place after an exponent the digit or
+    /// point before the `e`.
+    pub position: usize,
+}
+
+impl Construct {
+    /// The construct of a number of mysql_params.h.
+    pub(crate) fn of_number(number: i32) -> Option<Construct> {
+        Some(match number {
+            1 => Construct::ExecutableComment,
+            2 => Construct::Hint,
+            3 => Construct::MariaDbComment,
+            4 => Construct::Dashes,
+            5 => Construct::EscapedQuote,
+            6 => Construct::Bracket,
+            7 => Construct::DollarQuote,
+            8 => Construct::DashesAfterExponent,
+            9 => Construct::PlaceAfterExponent,
+            _ => return None,
+        })
+    }
+}
+
+impl fmt::Display for Construct {
+    fn fmt(&self, f: &mut fmt::Formatter<'_>) -> fmt::Result {
+        f.write_str(match self {
+            Construct::ExecutableComment => {
+                "`/*!` is executed or skipped: write its text without it, or leave it out"
+            }
+            Construct::Hint => {
+                "`/*+` is a hint or a comment: leave it out, or write a space before the `+`"
+            }
+            Construct::MariaDbComment => {
+                "`/*M!` is executed or a comment: leave it out, or write a space before the `M`"
+            }
+            Construct::Dashes => {
+                "`--` is a comment or two signs here: write a space between them, or after them"
+            }
+            Construct::EscapedQuote => {
+                "`\\\"` may end an identifier here: write `\"\"`, or the text in `'`"
+            }
+            Construct::Bracket => "`[` may open an identifier: write the name in backquotes",
+            Construct::DollarQuote => {
+                "`$$` and `$tag$` may open a string: write it in `'`, or a name in backquotes"
+            }
+            Construct::DashesAfterExponent => {
+                "`--` after `.e` may open no comment: write the exponent's digits, or a space first"
+            }
+            Construct::PlaceAfterExponent => {
+                "a value's digits would join this number: write a space before the place"
+            }
+        })
+    }
+}
