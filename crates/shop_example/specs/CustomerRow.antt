@@ -1,0 +1,34 @@
+-- What the cells of a row are read as.
+use Rattle.std.specs.Prelude.{◌≡◌, ℕ, List, Ok, Err, Option, Some, None}
+use Rattle.std.specs.Option.{option_map}
+use Rattle.mysql_wire_part.specs.Reading.{ReadRefusal}
+use Rattle.mysql_wire_part.specs.ParseBuf.{read_refusal}
+use Rattle.mysql_values.specs.declared.value.Value.{Value}
+use Rattle.mysql_values.specs.TextCell.{read_cell}
+use Rattle.mysql_values.specs.FromValue.{text_of}
+use Rattle.mysql_values.specs.Intermediate.{committed}
+use Rattle.mysql_values.specs.WholeNumber.{whole_conversion, u32_type}
+use Rattle.shop_example.specs.declared.customer_row.CellError.{CellError}
+use Rattle.shop_example.specs.declared.customer_row.CellError.TheVariants as cell
+
+-- Why a cell of these bytes gave nothing, where `rest` is left: it can't be read, and nothing was
+-- taken; or it converts to nothing, and was taken.
+abbrev pub IsCellRefusal : {X : Type 0} → (Value → Option X) → (bytes rest : List ℕ) → CellError
+    → Type 0
+IsCellRefusal conversion bytes rest (cell.Wire error) =
+    ((refusal : ReadRefusal) → read_refusal error ≡ Some refusal → read_cell bytes ≡ Err refusal)
+    × (rest ≡ bytes)
+IsCellRefusal conversion bytes rest (cell.Value error) =
+    (read_cell bytes ≡ Ok (error.0, rest)) × (conversion error.0 ≡ None)
+
+-- the number that a value converts to, as a `u32`
+abbrev pub number_of : Value → Option ℕ
+number_of value = option_map committed
+    (whole_conversion u32_type.is_signed u32_type.width u32_type.of_number value)
+
+-- Two cells stand at the front of the bytes and `rest` follows them; the first converts to this
+-- number, the second to this text.
+abbrev pub IsCustomerRow : (id : ℕ) → (name bytes rest : List ℕ) → Type 0
+IsCustomerRow id name bytes rest = (first second : Value) × (after : List ℕ)
+    × (read_cell bytes ≡ Ok (first, after)) × (read_cell after ≡ Ok (second, rest))
+    × (number_of first ≡ Some id) × (text_of second ≡ Some name)

@@ -1,0 +1,4 @@
+pub mod BalanceQuery
+pub mod CustomerQuery
+pub mod CustomerRow
+pub mod Level
