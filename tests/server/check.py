@@ -1,0 +1,39 @@
+"""Runs all tests: check.py SOCKET MYSQL_QUERY FOLDER, for `run`, which starts the server and builds what is needed.
+
+FOLDER is a temporary one of the caller's, with the folder `rows` where the reader of rows can be built.
+"""
+
+import os
+import sys
+
+sys.path.insert(0, os.path.join(os.path.dirname(os.path.abspath(__file__)), "..", "..", "bindings", "python"))
+
+import beside
+import leaks
+import literals
+import program
+import rows
+import search
+from harness import Tests
+from protocol import Connection
+
+
+def main(path: str, mysql_query: str, folder: str) -> int:
+    """Run them, and print how many passed."""
+    tests = Tests()
+    connection = Connection(path)
+    print("server:", connection.query(b"SELECT VERSION()").rows()[0][0].decode(), flush=True)
+    connection.query(b"CREATE DATABASE strings")
+    connection.close()
+    literals.run(tests, path)
+    beside.run(tests, path)
+    program.run(tests, path, mysql_query, folder)
+    rows.run(tests, path, folder)
+    leaks.run(tests, path)
+    search.run(tests, path)
+    print(f"{tests.passed} passed, {tests.failed} failed")
+    return 1 if tests.failed else 0
+
+
+if __name__ == "__main__":
+    sys.exit(main(*sys.argv[1:4]))
