@@ -1,5 +1,6 @@
 //! Which things are asked for their value, and how often: each once, up to the first that decides.
 use crate::own_type::Counted;
+use crate::shared::same_in;
 use mysql_params::params::{Params, ToPairs, ToParams, ToParamsError};
 use mysql_values::value::convert::{ToValue, ToValueError};
 use std::alloc::{AllocError, Global};
@@ -91,7 +92,7 @@ fn each_thing_is_asked_once(rt: HostRuntime) {
     for maker in MAKERS {
         let things = three_things(Duration::from_secs(2));
         assert!(rt; make(rt.alloc(), maker, &things).is_ok(), "{maker:?}");
-        assert_eq!(rt; times_asked(&things), [1, 1, 1], "{maker:?}");
+        same_in(&rt, &times_asked(&things), &[1, 1, 1], &maker);
     }
 }
 
@@ -103,8 +104,8 @@ fn nothing_is_asked_after_a_refused_thing(rt: HostRuntime) {
         let things = three_things(long);
         let refusal = make(rt.alloc(), maker, &things).err();
         let too_long = ToParamsError::Value(ToValueError::DurationTooLong(long));
-        assert_eq!(rt; refusal, Some(too_long), "{maker:?}");
-        assert_eq!(rt; times_asked(&things), [1, 1, 0], "{maker:?}");
+        same_in(&rt, &refusal, &Some(too_long), &maker);
+        same_in(&rt, &times_asked(&things), &[1, 1, 0], &maker);
     }
 }
 
@@ -117,17 +118,18 @@ fn is_redefined(
 ) -> Result<(), Fail> {
     let error = ToParamsError::Redefined(Vec::from_slice(alloc, b"a")?);
     let things = three_things(Duration::from_secs(2));
-    assert_eq!(rt;
-        pairs(alloc, names, &things).err(),
-        Some(error),
-        "{names:?}"
+    same_in(
+        rt,
+        &pairs(alloc, names, &things).err(),
+        &Some(error),
+        &names,
     );
-    assert_eq!(rt; times_asked(&things), wanted, "{names:?}");
+    same_in(rt, &times_asked(&things), &wanted, &names);
     let error = ToParamsError::Redefined(Vec::from_slice(alloc, b"a")?);
     let things = three_things(Duration::from_secs(2));
     let refusal = pairs_of_objects(alloc, names, &things).err();
-    assert_eq!(rt; refusal, Some(error), "{names:?} of objects");
-    assert_eq!(rt; times_asked(&things), wanted, "{names:?} of objects");
+    same_in(rt, &refusal, &Some(error), &(names, "of objects"));
+    same_in(rt, &times_asked(&things), &wanted, &(names, "of objects"));
     Ok(())
 }
 

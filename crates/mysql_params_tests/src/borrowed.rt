@@ -1,6 +1,6 @@
 //! What parameters give to the names of a query, where it stands in them.
 use crate::lookups::{LOOKUPS, misses};
-use crate::shared::{named, positional};
+use crate::shared::{named, positional, same, same_in};
 use mysql_params::params::{Params, ParamsConfusionError, ParamsError};
 use mysql_params_core::params::place_values;
 use mysql_values::value::Value;
@@ -19,11 +19,24 @@ fn slices(alloc: Global, letters: &[u8]) -> Result<Vec<&[u8]>, AllocError> {
 
 // The values are these numbers.
 fn are_numbers(rt: &impl Abort, values: &[&Value], numbers: &[u64], case: &[u8]) {
-    assert_eq!(rt; values.len(), numbers.len(), "{case:?}");
+    // By this the proof knows that each index is in range.
+    assert_eq!(rt; values.len(), numbers.len(), "of {case:?}");
     for (i, value) in values.iter().enumerate() {
         let wanted = Value::UInt(numbers[i]);
-        assert_eq!(rt; **value, wanted, "{case:?}");
+        same_in(rt, *value, &wanted, &case);
     }
+}
+
+// The parameters have no values for these names, for this reason.
+fn is_refused(
+    rt: &impl Abort,
+    alloc: Global,
+    params: &Params,
+    names: &[&[u8]],
+    error: &ParamsError,
+) {
+    let refusal = place_values(alloc, params, names).err();
+    same_in(rt, &refusal.as_ref(), &Some(error), &names);
 }
 
 #[test]
@@ -32,12 +45,17 @@ fn named_values_in_place(rt: HostRuntime) -> Result<(), Fail> {
     for (given, case, numbers, missing) in LOOKUPS {
         let params = named(alloc, *given)?;
         let names = slices(alloc, *case)?;
-        let values = place_values(alloc, &params, names.as_slice());
+        let names = names.as_slice();
         match missing {
-            None => are_numbers(&rt, values?.as_slice(), *numbers, *case),
+            None => are_numbers(
+                &rt,
+                place_values(alloc, &params, names)?.as_slice(),
+                *numbers,
+                *case,
+            ),
             Some((by_values, _)) => {
                 let error = ParamsError::Missing(misses(alloc, *by_values)?);
-                assert_eq!(rt; values.err(), Some(error), "{case:?}");
+                is_refused(&rt, alloc, &params, names, &error);
             }
         }
     }
@@ -47,7 +65,12 @@ fn named_values_in_place(rt: HostRuntime) -> Result<(), Fail> {
 #[test]
 fn values_in_place_without_names(rt: HostRuntime) -> Result<(), Fail> {
     let alloc = rt.alloc();
-    assert_eq!(rt; place_values(alloc, &Params::Empty, &[])?.len(), 0);
+    are_numbers(
+        &rt,
+        place_values(alloc, &Params::Empty, &[])?.as_slice(),
+        &[],
+        b"",
+    );
     let params = positional(alloc, &[1, 2])?;
     are_numbers(
         &rt,
@@ -56,8 +79,7 @@ fn values_in_place_without_names(rt: HostRuntime) -> Result<(), Fail> {
         b"",
     );
     let error = ParamsError::Confusion(ParamsConfusionError::NamedParamsForPositionalQuery);
-    let params = named(alloc, b"a")?;
-    assert_eq!(rt; place_values(alloc, &params, &[]).err(), Some(error));
+    is_refused(&rt, alloc, &named(alloc, b"a")?, &[], &error);
     Ok(())
 }
 
@@ -66,11 +88,14 @@ fn other_parameters_in_place(rt: HostRuntime) -> Result<(), Fail> {
     let alloc = rt.alloc();
     let names = slices(alloc, b"ab")?;
     let error = ParamsError::Missing(misses(alloc, b'a')?);
-    let values = place_values(alloc, &Params::Empty, names.as_slice());
-    assert_eq!(rt; values.err(), Some(error));
+    is_refused(&rt, alloc, &Params::Empty, names.as_slice(), &error);
     let error = ParamsError::Confusion(ParamsConfusionError::PositionalParamsForNamedQuery);
-    let params = positional(alloc, &[1, 2])?;
-    let values = place_values(alloc, &params, names.as_slice());
-    assert_eq!(rt; values.err(), Some(error));
+    is_refused(
+        &rt,
+        alloc,
+        &positional(alloc, &[1, 2])?,
+        names.as_slice(),
+        &error,
+    );
     Ok(())
 }

@@ -1,5 +1,5 @@
 //! What parameters give to the names of a query.
-use crate::shared::{bytes, named, names, positional};
+use crate::shared::{bytes, named, names, positional, same, same_in};
 use mysql_params::laws::{
     into_positional_error_equality, missing_named_parameter_error_equality,
     params_confusion_error_equality, params_equality, params_error_equality,
@@ -11,6 +11,7 @@ use mysql_params::params::{
 };
 use mysql_values::value::Value;
 use std::alloc::{AllocError, Global};
+use std::process::Abort;
 use std::test::Fail;
 
 /// The names that are given, those of the query, the numbers of these names, and where one is missing
@@ -37,23 +38,64 @@ pub(crate) fn misses(alloc: Global, letter: u8) -> Result<MissingNamedParameterE
 fn named_parameters(rt: HostRuntime) -> Result<(), Fail> {
     let alloc = rt.alloc();
     for (given, case, numbers, missing) in LOOKUPS {
-        let wanted = positional(alloc, *numbers)?;
         let list = names(alloc, *case)?;
-        let values = named(alloc, *given)?.into_values(alloc, Some(list.as_slice()));
-        let by_position = named(alloc, *given)?.into_positional(alloc, list.as_slice());
+        let list = list.as_slice();
         match missing {
             None => {
-                assert_eq!(rt; Params::Positional(values?), wanted, "{case:?}");
-                assert_eq!(rt; by_position?, wanted, "{case:?}");
+                gives(&rt, alloc, named(alloc, *given)?, Some(list), *numbers)?;
+                let wanted = positional(alloc, *numbers)?;
+                gives_by_position(&rt, alloc, named(alloc, *given)?, list, &wanted)?;
             }
             Some((by_values, first)) => {
                 let error = ParamsError::Missing(misses(alloc, *by_values)?);
-                assert_eq!(rt; values.err(), Some(error), "{case:?}");
+                is_refused(&rt, alloc, named(alloc, *given)?, Some(list), error);
                 let error = IntoPositionalError::Missing(misses(alloc, *first)?);
-                assert_eq!(rt; by_position.err(), Some(error), "{case:?}");
+                let refusal = named(alloc, *given)?.into_positional(alloc, list).err();
+                same_in(&rt, &refusal, &Some(error), case);
             }
         }
     }
+    Ok(())
+}
+
+// The values that the parameters give to the names are these numbers.
+fn gives(
+    rt: &impl Abort,
+    alloc: Global,
+    params: Params,
+    list: Option<&[Vec<u8>]>,
+    numbers: &[u64],
+) -> Result<(), Fail> {
+    let values = Params::Positional(params.into_values(alloc, list)?);
+    same_in(rt, &values, &positional(alloc, numbers)?, &numbers);
+    Ok(())
+}
+
+// The parameters give no values to the names, for this reason.
+fn is_refused(
+    rt: &impl Abort,
+    alloc: Global,
+    params: Params,
+    list: Option<&[Vec<u8>]>,
+    error: ParamsError,
+) {
+    same_in(
+        rt,
+        &params.into_values(alloc, list).err(),
+        &Some(error),
+        &list,
+    );
+}
+
+// By position the parameters are these.
+fn gives_by_position(
+    rt: &impl Abort,
+    alloc: Global,
+    params: Params,
+    list: &[Vec<u8>],
+    wanted: &Params,
+) -> Result<(), Fail> {
+    same_in(rt, &params.into_positional(alloc, list)?, wanted, &list);
     Ok(())
 }
 
@@ -62,21 +104,26 @@ fn without_names(rt: HostRuntime) -> Result<(), Fail> {
     let alloc = rt.alloc();
     let none = names(alloc, b"")?;
     for list in [None, Some(none.as_slice())] {
-        assert_eq!(rt; Params::Empty.into_values(alloc, list)?.len(), 0);
-        let values = positional(alloc, &[1, 2])?.into_values(alloc, list)?;
-        assert_eq!(rt; Params::Positional(values), positional(alloc, &[1, 2])?);
+        gives(&rt, alloc, Params::Empty, list, &[])?;
+        gives(&rt, alloc, positional(alloc, &[1, 2])?, list, &[1, 2])?;
         let error = ParamsConfusionError::NamedParamsForPositionalQuery;
-        let values = named(alloc, b"a")?.into_values(alloc, list);
-        assert_eq!(rt; values.err(), Some(ParamsError::Confusion(error)));
-        let values = named(alloc, b"")?.into_values(alloc, list);
-        assert_eq!(rt; values.err(), Some(ParamsError::Confusion(error)));
+        is_refused(
+            &rt,
+            alloc,
+            named(alloc, b"a")?,
+            list,
+            ParamsError::Confusion(error),
+        );
+        is_refused(
+            &rt,
+            alloc,
+            named(alloc, b"")?,
+            list,
+            ParamsError::Confusion(error),
+        );
     }
-    let list = none.as_slice();
-    assert_eq!(rt;
-        named(alloc, b"a")?.into_positional(alloc, list)?,
-        positional(alloc, &[])?
-    );
-    Ok(())
+    let wanted = positional(alloc, &[])?;
+    gives_by_position(&rt, alloc, named(alloc, b"a")?, none.as_slice(), &wanted)
 }
 
 #[test]
@@ -84,16 +131,13 @@ fn other_parameters(rt: HostRuntime) -> Result<(), Fail> {
     let alloc = rt.alloc();
     let list = names(alloc, b"ab")?;
     let list = list.as_slice();
-    let error = MissingNamedParameterError(Vec::from_slice(alloc, b"a")?);
-    let values = Params::Empty.into_values(alloc, Some(list));
-    assert_eq!(rt; values.err(), Some(ParamsError::from(error)));
-    let error = ParamsConfusionError::PositionalParamsForNamedQuery;
-    let values = positional(alloc, &[1, 2])?.into_values(alloc, Some(list));
-    assert_eq!(rt; values.err(), Some(ParamsError::from(error)));
-    assert_eq!(rt; Params::Empty.into_positional(alloc, list)?, Params::Empty);
-    let kept = positional(alloc, &[1])?.into_positional(alloc, list)?;
-    assert_eq!(rt; kept, positional(alloc, &[1])?);
-    Ok(())
+    let error = ParamsError::from(misses(alloc, b'a')?);
+    is_refused(&rt, alloc, Params::Empty, Some(list), error);
+    let error = ParamsError::from(ParamsConfusionError::PositionalParamsForNamedQuery);
+    is_refused(&rt, alloc, positional(alloc, &[1, 2])?, Some(list), error);
+    gives_by_position(&rt, alloc, Params::Empty, list, &Params::Empty)?;
+    let kept = positional(alloc, &[1])?;
+    gives_by_position(&rt, alloc, kept.clone()?, list, &kept)
 }
 
 #[test]
@@ -102,10 +146,8 @@ fn a_value_given_twice(rt: HostRuntime) -> Result<(), Fail> {
     let params = Params::from_pairs(alloc, &[("a", Value::Int(1))])?;
     let list = names(alloc, b"aa")?;
     let values = params.into_values(alloc, Some(list.as_slice()))?;
-    assert_eq!(rt;
-        values.as_slice(),
-        [Value::Int(1), Value::Int(1)].as_slice()
-    );
+    let wanted = [Value::Int(1), Value::Int(1)];
+    same(&rt, values.as_slice(), wanted.as_slice());
     Ok(())
 }
 
@@ -116,40 +158,56 @@ fn values_of_bytes(rt: HostRuntime) -> Result<(), Fail> {
     let params = Params::from_pairs(alloc, &pairs)?;
     let list = names(alloc, b"bab")?;
     let values = params.into_values(alloc, Some(list.as_slice()))?;
-    assert_eq!(rt; values.len(), 3);
-    assert_eq!(rt; values[0], bytes(alloc, b"y")?);
-    assert_eq!(rt; values[1], bytes(alloc, b"x")?);
-    assert_eq!(rt; values[2], bytes(alloc, b"y")?);
+    let wanted = [
+        bytes(alloc, b"y")?,
+        bytes(alloc, b"x")?,
+        bytes(alloc, b"y")?,
+    ];
+    same(&rt, values.as_slice(), wanted.as_slice());
     Ok(())
+}
+
+// A copy of the parameters is the same.
+fn is_copied(rt: &impl Abort, params: &Params) -> Result<(), Fail> {
+    same(rt, &params.clone()?, params);
+    Ok(())
+}
+
+fn differ(rt: &impl Abort, first: Params, second: Params) {
+    assert!(rt; first != second, "{first:?} and {second:?} are equal");
 }
 
 #[test]
 fn equality_and_copies(rt: HostRuntime) -> Result<(), Fail> {
     let alloc = rt.alloc();
-    assert_eq!(rt; Params::Empty.clone()?, Params::Empty);
-    let by_name = named(alloc, b"ab")?;
-    assert_eq!(rt; by_name.clone()?, by_name);
-    let by_position = positional(alloc, &[1, 2])?;
-    assert_eq!(rt; by_position.clone()?, by_position);
-    assert!(rt; named(alloc, b"ab")? != named(alloc, b"ba")?);
-    assert!(rt; named(alloc, b"a")? != by_name);
-    assert!(rt; named(alloc, b"")? != Params::Empty);
-    assert!(rt; positional(alloc, &[])? != Params::Empty);
-    assert!(rt; positional(alloc, &[2, 1])? != by_position);
-    let missing = MissingNamedParameterError(Vec::from_slice(alloc, b"a")?);
-    assert_eq!(rt; missing.clone()?, missing);
-    let error = ParamsError::Missing(missing);
-    assert_eq!(rt; error.clone()?, error);
+    is_copied(&rt, &Params::Empty)?;
+    is_copied(&rt, &named(alloc, b"ab")?)?;
+    is_copied(&rt, &positional(alloc, &[1, 2])?)?;
+    differ(&rt, named(alloc, b"ab")?, named(alloc, b"ba")?);
+    differ(&rt, named(alloc, b"a")?, named(alloc, b"ab")?);
+    differ(&rt, named(alloc, b"")?, Params::Empty);
+    differ(&rt, positional(alloc, &[])?, Params::Empty);
+    differ(
+        &rt,
+        positional(alloc, &[2, 1])?,
+        positional(alloc, &[1, 2])?,
+    );
+    let missing = misses(alloc, b'a')?;
+    same(&rt, &missing.clone()?, &missing);
+    is_error_copied(&rt, &ParamsError::Missing(missing))
+}
+
+// A copy of the error is the same.
+fn is_error_copied(rt: &impl Abort, error: &ParamsError) -> Result<(), Fail> {
+    same(rt, &error.clone()?, error);
     Ok(())
 }
 
 #[test]
 fn copies_of_errors_without_a_name(rt: HostRuntime) -> Result<(), Fail> {
-    let error = ParamsError::Confusion(ParamsConfusionError::PositionalParamsForNamedQuery);
-    assert_eq!(rt; error.clone()?, error);
-    let error = ParamsError::Memory(AllocError);
-    assert_eq!(rt; error.clone()?, error);
-    Ok(())
+    let error = ParamsConfusionError::PositionalParamsForNamedQuery;
+    is_error_copied(&rt, &ParamsError::Confusion(error))?;
+    is_error_copied(&rt, &ParamsError::Memory(AllocError))
 }
 
 #[test]

@@ -1,21 +1,60 @@
 //! What things make parameters.
 use crate::own_type::Counted;
-use crate::shared::{bytes, named, positional};
+use crate::shared::{bytes, named, positional, same};
 use mysql_params::params::{Params, ToName, ToParams, ToParamsError};
 use mysql_values::value::Value;
 use mysql_values::value::convert::{ToValue, ToValueError};
-use std::alloc::{AllocError, Global};
+use std::alloc::Global;
+use std::process::Abort;
 use std::test::Fail;
 use std::time::Duration;
 
-// Through the bound alone.
+// Through the bound alone, as all helpers here.
 fn made<T: ToParams>(alloc: Global, things: &T) -> Result<Params, ToParamsError> {
     things.to_params(alloc)
 }
 
-// Through the bound alone.
-fn value<T: ToValue>(alloc: Global, thing: &T) -> Result<Value, ToValueError> {
-    thing.to_value(alloc)
+// The things make these parameters.
+fn make<T: ToParams>(
+    rt: &impl Abort,
+    alloc: Global,
+    things: &T,
+    wanted: &Params,
+) -> Result<(), Fail> {
+    same(rt, &made(alloc, things)?, wanted);
+    Ok(())
+}
+
+// The things make positional parameters of these numbers.
+fn make_numbers<T: ToParams>(
+    rt: &impl Abort,
+    alloc: Global,
+    things: &T,
+    numbers: &[u64],
+) -> Result<(), Fail> {
+    make(rt, alloc, things, &positional(alloc, numbers)?)
+}
+
+// The pairs make these parameters.
+fn pairs_make<N: ToName, T: ToValue>(
+    rt: &impl Abort,
+    alloc: Global,
+    pairs: &[(N, T)],
+    wanted: &Params,
+) -> Result<(), Fail> {
+    same(rt, &Params::from_pairs(alloc, pairs)?, wanted);
+    Ok(())
+}
+
+// The value of the thing is the wanted one.
+fn has_value<T: ToValue>(
+    rt: &impl Abort,
+    alloc: Global,
+    thing: &T,
+    wanted: &Value,
+) -> Result<(), Fail> {
+    same(rt, &thing.to_value(alloc)?, wanted);
+    Ok(())
 }
 
 // Through the bound alone.
@@ -26,12 +65,12 @@ fn has_bytes<N: ToName>(name: &N, wanted: &[u8]) -> bool {
 #[test]
 fn nested_values(rt: HostRuntime) -> Result<(), Fail> {
     let alloc = rt.alloc();
-    assert_eq!(rt; value(alloc, &&5u8)?, Value::UInt(5));
-    assert_eq!(rt; value(alloc, &Some(-5i64))?, Value::Int(-5));
-    assert_eq!(rt; value(alloc, &None::<i64>)?, Value::NULL);
-    assert_eq!(rt; value(alloc, &Some(Some(true)))?, Value::Int(1));
+    has_value(&rt, alloc, &&5u8, &Value::UInt(5))?;
+    has_value(&rt, alloc, &Some(-5i64), &Value::Int(-5))?;
+    has_value(&rt, alloc, &None::<i64>, &Value::NULL)?;
+    has_value(&rt, alloc, &Some(Some(true)), &Value::Int(1))?;
     for like in [Value::NULL, Value::Float(1), bytes(alloc, b"ab")?] {
-        assert_eq!(rt; value(alloc, &like)?, like);
+        has_value(&rt, alloc, &like, &like)?;
     }
     Ok(())
 }
@@ -39,14 +78,15 @@ fn nested_values(rt: HostRuntime) -> Result<(), Fail> {
 #[test]
 fn no_things(rt: HostRuntime) -> Result<(), Fail> {
     let alloc = rt.alloc();
-    assert_eq!(rt; made(alloc, &())?, Params::Empty);
-    assert_eq!(rt; made(alloc, &Vec::<u8>::new(alloc))?, Params::Empty);
+    make(&rt, alloc, &(), &Params::Empty)?;
+    make(&rt, alloc, &Vec::<u8>::new(alloc), &Params::Empty)?;
     let objects: [&dyn ToValue; 0] = [];
-    assert_eq!(rt; made(alloc, &objects.as_slice())?, Params::Empty);
+    make(&rt, alloc, &objects.as_slice(), &Params::Empty)?;
+    let none = named(alloc, b"")?;
     let pairs: [(&[u8], u8); 0] = [];
-    assert_eq!(rt; Params::from_pairs(alloc, &pairs)?, named(alloc, b"")?);
+    pairs_make(&rt, alloc, &pairs, &none)?;
     let pairs: [(&[u8], &dyn ToValue); 0] = [];
-    assert_eq!(rt; Params::from_objects(alloc, &pairs)?, named(alloc, b"")?);
+    same(&rt, &Params::from_objects(alloc, &pairs)?, &none);
     Ok(())
 }
 
@@ -54,76 +94,43 @@ fn no_things(rt: HostRuntime) -> Result<(), Fail> {
 fn lists(rt: HostRuntime) -> Result<(), Fail> {
     let alloc = rt.alloc();
     let list = Vec::from_slice(alloc, &[1u64, 2, 2])?;
-    assert_eq!(rt; made(alloc, &list)?, positional(alloc, &[1, 2, 2])?);
-    assert_eq!(rt; made(alloc, &&list)?, positional(alloc, &[1, 2, 2])?);
-    assert_eq!(rt; made(alloc, &named(alloc, b"ab")?)?, named(alloc, b"ab")?);
-    let numbers = positional(alloc, &[1, 2])?;
-    assert_eq!(rt; made(alloc, &numbers)?, numbers);
-    assert_eq!(rt; made(alloc, &Params::Empty)?, Params::Empty);
-    Ok(())
+    make_numbers(&rt, alloc, &list, &[1, 2, 2])?;
+    make_numbers(&rt, alloc, &&list, &[1, 2, 2])?;
+    make(&rt, alloc, &named(alloc, b"ab")?, &named(alloc, b"ab")?)?;
+    make_numbers(&rt, alloc, &positional(alloc, &[1, 2])?, &[1, 2])?;
+    make(&rt, alloc, &Params::Empty, &Params::Empty)
 }
+
+const NUMBERS: [u64; 12] = [1, 2, 3, 4, 5, 6, 7, 8, 9, 10, 11, 12];
 
 #[test]
 fn tuples(rt: HostRuntime) -> Result<(), Fail> {
     let alloc = rt.alloc();
-    assert_eq!(rt; made(alloc, &(1u8,))?, positional(alloc, &[1])?);
-    assert_eq!(rt; made(alloc, &(1u8, 2u64))?, positional(alloc, &[1, 2])?);
-    assert_eq!(rt;
-        made(alloc, &(1u8, 2u8, 3u8))?,
-        positional(alloc, &[1, 2, 3])?
-    );
-    assert_eq!(rt;
-        made(alloc, &(1u8, 2u8, 3u8, 4u8))?,
-        positional(alloc, &[1, 2, 3, 4])?
-    );
-    assert_eq!(rt;
-        made(alloc, &(1u8, 2u8, 3u8, 4u8, 5u8))?,
-        positional(alloc, &[1, 2, 3, 4, 5])?
-    );
-    assert_eq!(rt;
-        made(alloc, &(1u8, 2u8, 3u8, 4u8, 5u8, 6u8))?,
-        positional(alloc, &[1, 2, 3, 4, 5, 6])?
-    );
-    Ok(())
+    make_numbers(&rt, alloc, &(1u8,), &NUMBERS[..1])?;
+    make_numbers(&rt, alloc, &(1u8, 2u64), &NUMBERS[..2])?;
+    make_numbers(&rt, alloc, &(1u8, 2u8, 3u8), &NUMBERS[..3])?;
+    make_numbers(&rt, alloc, &(1u8, 2u8, 3u8, 4u8), &NUMBERS[..4])?;
+    make_numbers(&rt, alloc, &(1u8, 2u8, 3u8, 4u8, 5u8), &NUMBERS[..5])?;
+    make_numbers(&rt, alloc, &(1u8, 2u8, 3u8, 4u8, 5u8, 6u8), &NUMBERS[..6])
 }
 
 #[test]
 fn long_tuples(rt: HostRuntime) -> Result<(), Fail> {
     let alloc = rt.alloc();
-    let numbers = [1u64, 2, 3, 4, 5, 6, 7, 8, 9, 10, 11, 12];
-    assert_eq!(rt;
-        made(alloc, &(1u8, 2u16, 3u32, 4u64, 5usize, 6u8, 7u8))?,
-        positional(alloc, &numbers[..7])?
+    let seven = (1u8, 2u16, 3u32, 4u64, 5usize, 6u8, 7u8);
+    make_numbers(&rt, alloc, &seven, &NUMBERS[..7])?;
+    let eight = (1u8, 2u8, 3u8, 4u8, 5u8, 6u8, 7u8, 8u8);
+    make_numbers(&rt, alloc, &eight, &NUMBERS[..8])?;
+    let nine = (1u8, 2u8, 3u8, 4u8, 5u8, 6u8, 7u8, 8u8, 9u8);
+    make_numbers(&rt, alloc, &nine, &NUMBERS[..9])?;
+    let ten = (1u8, 2u8, 3u8, 4u8, 5u8, 6u8, 7u8, 8u8, 9u8, 10u8);
+    make_numbers(&rt, alloc, &ten, &NUMBERS[..10])?;
+    let eleven = (1u8, 2u8, 3u8, 4u8, 5u8, 6u8, 7u8, 8u8, 9u8, 10u8, 11u8);
+    make_numbers(&rt, alloc, &eleven, &NUMBERS[..11])?;
+    let twelve = (
+        1u8, 2u8, 3u8, 4u8, 5u8, 6u8, 7u8, 8u8, 9u8, 10u8, 11u8, 12u8,
     );
-    assert_eq!(rt;
-        made(alloc, &(1u8, 2u8, 3u8, 4u8, 5u8, 6u8, 7u8, 8u8))?,
-        positional(alloc, &numbers[..8])?
-    );
-    assert_eq!(rt;
-        made(alloc, &(1u8, 2u8, 3u8, 4u8, 5u8, 6u8, 7u8, 8u8, 9u8))?,
-        positional(alloc, &numbers[..9])?
-    );
-    assert_eq!(rt;
-        made(alloc, &(1u8, 2u8, 3u8, 4u8, 5u8, 6u8, 7u8, 8u8, 9u8, 10u8))?,
-        positional(alloc, &numbers[..10])?
-    );
-    assert_eq!(rt;
-        made(
-            alloc,
-            &(1u8, 2u8, 3u8, 4u8, 5u8, 6u8, 7u8, 8u8, 9u8, 10u8, 11u8)
-        )?,
-        positional(alloc, &numbers[..11])?
-    );
-    assert_eq!(rt;
-        made(
-            alloc,
-            &(
-                1u8, 2u8, 3u8, 4u8, 5u8, 6u8, 7u8, 8u8, 9u8, 10u8, 11u8, 12u8
-            )
-        )?,
-        positional(alloc, &numbers)?
-    );
-    Ok(())
+    make_numbers(&rt, alloc, &twelve, &NUMBERS)
 }
 
 #[test]
@@ -131,7 +138,6 @@ fn objects(rt: HostRuntime) -> Result<(), Fail> {
     let alloc = rt.alloc();
     let own = Counted::new(Duration::from_secs(7));
     let objects: [&dyn ToValue; 4] = [&1u8, &"x", &None::<i64>, &own];
-    let params = made(alloc, &objects.as_slice())?;
     let wanted = Vec::from_array(
         alloc,
         [
@@ -141,34 +147,36 @@ fn objects(rt: HostRuntime) -> Result<(), Fail> {
             Value::Time(false, 0, 0, 0, 7, 0),
         ],
     )?;
-    assert_eq!(rt; params, Params::Positional(wanted));
-    assert_eq!(rt; own.times_asked(), 1);
+    make(&rt, alloc, &objects.as_slice(), &Params::Positional(wanted))?;
+    same(&rt, own.times_asked(), 1);
     let twice: [&dyn ToValue; 2] = [&2u8, &2u8];
-    assert_eq!(rt;
-        made(alloc, &twice.as_slice())?,
-        positional(alloc, &[2, 2])?
-    );
+    make_numbers(&rt, alloc, &twice.as_slice(), &[2, 2])
+}
+
+// The pairs are refused for the name `a`.
+fn is_redefined(rt: &impl Abort, alloc: Global, pairs: &[(&str, u8)]) -> Result<(), Fail> {
+    let error = ToParamsError::Redefined(Vec::from_slice(alloc, b"a")?);
+    same(rt, &Params::from_pairs(alloc, pairs).err(), &Some(error));
     Ok(())
 }
 
 #[test]
 fn pairs(rt: HostRuntime) -> Result<(), Fail> {
     let alloc = rt.alloc();
-    let pairs = [("a", 1u8), ("b", 2u8)];
-    assert_eq!(rt; Params::from_pairs(alloc, &pairs)?, named(alloc, b"ab")?);
-    let error = Some(ToParamsError::Redefined(Vec::from_slice(alloc, b"a")?));
-    let pairs = [("a", 1u8), ("a", 2u8)];
-    assert_eq!(rt; Params::from_pairs(alloc, &pairs).err(), error);
-    let pairs = [("a", 1u8), ("b", 2u8), ("a", 3u8)];
-    assert_eq!(rt; Params::from_pairs(alloc, &pairs).err(), error);
+    pairs_make(&rt, alloc, &[("a", 1u8), ("b", 2u8)], &named(alloc, b"ab")?)?;
+    is_redefined(&rt, alloc, &[("a", 1), ("a", 2)])?;
+    is_redefined(&rt, alloc, &[("a", 1), ("b", 2), ("a", 3)])?;
 
     let pairs: [(&[u8], &dyn ToValue); 2] = [(b"a", &1u8), (b"b", &"x")];
+    let params = Params::from_objects(alloc, &pairs)?;
     let values = [("a", Value::UInt(1)), ("b", bytes(alloc, b"x")?)];
-    assert_eq!(rt;
-        Params::from_objects(alloc, &pairs)?,
-        Params::from_pairs(alloc, &values)?
-    );
-    Ok(())
+    pairs_make(&rt, alloc, &values, &params)
+}
+
+// The things are refused, since one has too many days.
+fn is_too_long(rt: &impl Abort, made: Result<Params, ToParamsError>, long: Duration) {
+    let error = ToParamsError::Value(ToValueError::DurationTooLong(long));
+    same(rt, &made.err(), &Some(error));
 }
 
 // The first thing that has no value decides.
@@ -178,16 +186,15 @@ fn refused_things(rt: HostRuntime) -> Result<(), Fail> {
     // One second more than a `Time` has days for, and two.
     let long = Duration::from_secs(371085174374400);
     let longer = Duration::from_secs(371085174374401);
-    let too_long = Some(ToParamsError::Value(ToValueError::DurationTooLong(long)));
-    assert_eq!(rt; made(alloc, &(1u8, long, longer)).err(), too_long);
+    is_too_long(&rt, made(alloc, &(1u8, long, longer)), long);
     let list = Vec::from_array(alloc, [long, longer])?;
-    assert_eq!(rt; made(alloc, &list).err(), too_long);
+    is_too_long(&rt, made(alloc, &list), long);
     let objects: [&dyn ToValue; 3] = [&1u8, &long, &longer];
-    assert_eq!(rt; made(alloc, &objects.as_slice()).err(), too_long);
+    is_too_long(&rt, made(alloc, &objects.as_slice()), long);
     let pairs = [("a", long), ("a", longer)];
-    assert_eq!(rt; Params::from_pairs(alloc, &pairs).err(), too_long);
+    is_too_long(&rt, Params::from_pairs(alloc, &pairs), long);
     let pairs: [(&[u8], &dyn ToValue); 3] = [(b"a", &1u8), (b"b", &long), (b"a", &1u8)];
-    assert_eq!(rt; Params::from_objects(alloc, &pairs).err(), too_long);
+    is_too_long(&rt, Params::from_objects(alloc, &pairs), long);
     Ok(())
 }
 

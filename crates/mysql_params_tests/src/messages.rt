@@ -1,5 +1,5 @@
 //! What errors and parameters show.
-use crate::shared::{bytes, named, positional};
+use crate::shared::{bytes, named, positional, same};
 use mysql_params::params::{
     IntoPositionalError, MissingNamedParameterError, Params, ParamsConfusionError, ParamsError,
     ToParamsError,
@@ -7,6 +7,8 @@ use mysql_params::params::{
 use mysql_values::value::Value;
 use mysql_values::value::convert::ToValueError;
 use std::alloc::{AllocError, Global};
+use std::fmt::Display;
+use std::process::Abort;
 use std::test::Fail;
 use std::time::Duration;
 
@@ -14,34 +16,56 @@ fn missing(alloc: Global) -> Result<MissingNamedParameterError, AllocError> {
     Ok(MissingNamedParameterError(Vec::from_slice(alloc, b"a\"\xFF")?))
 }
 
+// The error's message is the text.
+fn says<E: Display>(rt: &impl Abort, alloc: Global, error: &E, text: &str) -> Result<(), Fail> {
+    same(rt, format!(in alloc; "{error}")?.as_str(), text);
+    Ok(())
+}
+
+// The parameters are shown as the text.
+fn is_shown(rt: &impl Abort, alloc: Global, params: &Params, text: &str) -> Result<(), Fail> {
+    same(rt, format!(in alloc; "{params:?}")?.as_str(), text);
+    Ok(())
+}
+
+const CONFUSIONS: [(ParamsConfusionError, &str); 2] = [
+    (
+        ParamsConfusionError::NamedParamsForPositionalQuery,
+        "Named params given where positional params are expected",
+    ),
+    (
+        ParamsConfusionError::PositionalParamsForNamedQuery,
+        "Positional params given where named params are expected",
+    ),
+];
+
 #[test]
 fn messages_of_lookups(rt: HostRuntime) -> Result<(), Fail> {
     let alloc = rt.alloc();
     let text = "Missing named parameter `a\\x22\\xff` for statement";
-    let error = missing(alloc)?;
-    assert_eq!(rt; format!(in alloc; "{error}")?.as_str(), text);
-    let error = ParamsError::Missing(error);
-    assert_eq!(rt; format!(in alloc; "{error}")?.as_str(), text);
-    let error = IntoPositionalError::Missing(missing(alloc)?);
-    assert_eq!(rt; format!(in alloc; "{error}")?.as_str(), text);
-    let error = IntoPositionalError::Memory(AllocError);
-    assert_eq!(rt; format!(in alloc; "{error}")?.as_str(), "out of memory");
-    let error = ParamsError::Memory(AllocError);
-    assert_eq!(rt; format!(in alloc; "{error}")?.as_str(), "out of memory");
-    let table = [
-        (
-            ParamsConfusionError::NamedParamsForPositionalQuery,
-            "Named params given where positional params are expected",
-        ),
-        (
-            ParamsConfusionError::PositionalParamsForNamedQuery,
-            "Positional params given where named params are expected",
-        ),
-    ];
-    for (error, text) in table {
-        assert_eq!(rt; format!(in alloc; "{error}")?.as_str(), text);
-        let error = ParamsError::Confusion(error);
-        assert_eq!(rt; format!(in alloc; "{error}")?.as_str(), text);
+    says(&rt, alloc, &missing(alloc)?, text)?;
+    says(&rt, alloc, &ParamsError::Missing(missing(alloc)?), text)?;
+    says(
+        &rt,
+        alloc,
+        &IntoPositionalError::Missing(missing(alloc)?),
+        text,
+    )?;
+    says(
+        &rt,
+        alloc,
+        &IntoPositionalError::Memory(AllocError),
+        "out of memory",
+    )?;
+    says(
+        &rt,
+        alloc,
+        &ParamsError::Memory(AllocError),
+        "out of memory",
+    )?;
+    for (error, text) in CONFUSIONS {
+        says(&rt, alloc, &error, text)?;
+        says(&rt, alloc, &ParamsError::Confusion(error), text)?;
     }
     Ok(())
 }
@@ -50,49 +74,52 @@ fn messages_of_lookups(rt: HostRuntime) -> Result<(), Fail> {
 fn messages_of_makers(rt: HostRuntime) -> Result<(), Fail> {
     let alloc = rt.alloc();
     let error = ToParamsError::Redefined(Vec::from_slice(alloc, b"a\n")?);
-    let text = "Redefinition of named parameter `a\\x0a'";
-    assert_eq!(rt; format!(in alloc; "{error}")?.as_str(), text);
+    says(
+        &rt,
+        alloc,
+        &error,
+        "Redefinition of named parameter `a\\x0a'",
+    )?;
     let error = ToParamsError::Value(ToValueError::DurationTooLong(Duration::from_secs(1)));
-    assert_eq!(rt;
-        format!(in alloc; "{error}")?.as_str(),
-        "Duration has too many days"
-    );
-    let error = ToParamsError::Memory(AllocError);
-    assert_eq!(rt; format!(in alloc; "{error}")?.as_str(), "out of memory");
-    Ok(())
+    says(&rt, alloc, &error, "Duration has too many days")?;
+    says(
+        &rt,
+        alloc,
+        &ToParamsError::Memory(AllocError),
+        "out of memory",
+    )
+}
+
+// Two pairs, and four, not in the order of their names.
+fn two_pairs(alloc: Global) -> Result<Params, ToParamsError> {
+    Params::from_pairs(alloc, &[("b", Value::NULL), ("a", Value::Int(1))])
+}
+
+fn four_pairs(alloc: Global, text: Value) -> Result<Params, ToParamsError> {
+    let pairs = [
+        ("b", text),
+        ("ab", Value::NULL),
+        ("a", Value::Int(1)),
+        ("", Value::UInt(2)),
+    ];
+    Params::from_pairs(alloc, &pairs)
 }
 
 #[test]
 fn shown_parameters(rt: HostRuntime) -> Result<(), Fail> {
     let alloc = rt.alloc();
-    let empty = Params::Empty;
-    assert_eq!(rt; format!(in alloc; "{empty:?}")?.as_str(), "Empty");
-    let none = positional(alloc, &[])?;
-    assert_eq!(rt; format!(in alloc; "{none:?}")?.as_str(), "Positional([])");
+    is_shown(&rt, alloc, &Params::Empty, "Empty")?;
+    is_shown(&rt, alloc, &positional(alloc, &[])?, "Positional([])")?;
     let pair = Params::Positional(Vec::from_array(alloc, [Value::Int(1), Value::NULL])?);
-    assert_eq!(rt;
-        format!(in alloc; "{pair:?}")?.as_str(),
-        "Positional([Int(1), Null])"
-    );
-    let none = named(alloc, b"")?;
-    assert_eq!(rt; format!(in alloc; "{none:?}")?.as_str(), "Named({})");
-    let pairs = [
-        (b"b".as_slice(), Value::NULL),
-        (b"a".as_slice(), Value::Int(1)),
-    ];
-    let two = Params::from_pairs(alloc, &pairs)?;
-    assert_eq!(rt;
-        format!(in alloc; "{two:?}")?.as_str(),
-        "Named({\"a\": Int(1), \"b\": Null})"
-    );
-    let pairs = [
-        (b"b".as_slice(), bytes(alloc, b"x")?),
-        (b"ab".as_slice(), Value::NULL),
-        (b"a".as_slice(), Value::Int(1)),
-        (b"".as_slice(), Value::UInt(2)),
-    ];
-    let four = Params::from_pairs(alloc, &pairs)?;
+    is_shown(&rt, alloc, &pair, "Positional([Int(1), Null])")?;
+    is_shown(&rt, alloc, &named(alloc, b"")?, "Named({})")?;
+    is_shown(
+        &rt,
+        alloc,
+        &two_pairs(alloc)?,
+        "Named({\"a\": Int(1), \"b\": Null})",
+    )?;
+    let four = four_pairs(alloc, bytes(alloc, b"x")?)?;
     let text = "Named({\"\": UInt(2), \"a\": Int(1), \"ab\": Null, \"b\": Bytes(\"x\")})";
-    assert_eq!(rt; format!(in alloc; "{four:?}")?.as_str(), text);
-    Ok(())
+    is_shown(&rt, alloc, &four, text)
 }

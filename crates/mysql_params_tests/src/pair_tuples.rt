@@ -1,5 +1,5 @@
 //! Tuples of pairs of a name and a thing.
-use crate::shared::named;
+use crate::shared::{named, same, same_in};
 use mysql_params::params::{Params, ToPairs, ToParamsError};
 use mysql_values::value::convert::ToValueError;
 use std::alloc::Global;
@@ -19,7 +19,7 @@ fn makes<P: ToPairs>(
     pairs: &P,
     letters: &[u8],
 ) -> Result<(), Fail> {
-    assert_eq!(rt; made(alloc, pairs)?, named(alloc, letters)?, "{letters:?}");
+    same_in(rt, &made(alloc, pairs)?, &named(alloc, letters)?, &letters);
     Ok(())
 }
 
@@ -31,7 +31,7 @@ fn is_redefined<P: ToPairs>(
     name: &[u8],
 ) -> Result<(), Fail> {
     let refusal = ToParamsError::Redefined(Vec::from_slice(alloc, name)?);
-    assert_eq!(rt; made(alloc, pairs).err(), Some(refusal), "{name:?}");
+    same_in(rt, &made(alloc, pairs).err(), &Some(refusal), &name);
     Ok(())
 }
 
@@ -106,9 +106,9 @@ fn first_refusal(rt: HostRuntime) -> Result<(), Fail> {
     let longer = Duration::from_secs(371085174374401);
     let too_long = Some(ToParamsError::Value(ToValueError::DurationTooLong(long)));
     let pairs = (("a", 1u8), ("b", long), ("a", longer));
-    assert_eq!(rt; made(rt.alloc(), &pairs).err(), too_long);
+    same(&rt, &made(rt.alloc(), &pairs).err(), &too_long);
     let pairs = (("a", 1u8), ("b", long), ("c", longer));
-    assert_eq!(rt; made(rt.alloc(), &pairs).err(), too_long);
+    same(&rt, &made(rt.alloc(), &pairs).err(), &too_long);
     is_redefined(&rt, rt.alloc(), &(("a", 1u8), ("a", long)), b"a")
 }
 
@@ -121,9 +121,10 @@ fn named_text(alloc: Global, text: &str) -> Result<Params, ToParamsError> {
 fn a_lent_text(rt: HostRuntime) -> Result<(), Fail> {
     let alloc = rt.alloc();
     let pairs = [("a", None::<&str>), ("b", Some("it's"))];
-    assert_eq!(rt;
-        named_text(alloc, "it's")?,
-        Params::from_pairs(alloc, &pairs)?
+    same(
+        &rt,
+        &named_text(alloc, "it's")?,
+        &Params::from_pairs(alloc, &pairs)?,
     );
     Ok(())
 }
