@@ -1,62 +1,72 @@
 //! The values of bytes and texts.
-use crate::shared::bytes;
-use mysql_values::value::Value;
-use mysql_values::value::convert::{ToValue, ToValueError, from_value_opt};
+use crate::shared::{has_bytes, same};
+use mysql_values::value::convert::{FromValue, ToValue, from_value_opt};
 use std::alloc::Global;
 use std::borrow::{CowSlice, CowStr};
+use std::fmt::Debug;
 use std::process::Abort;
 use std::test::Fail;
 
-// By the bound alone, as generic callers do it.
-fn value_of<T: ToValue>(alloc: Global, thing: &T) -> Result<Value, ToValueError> {
-    thing.to_value(alloc)
+// The value of the thing converts to it again.
+fn comes_back<T: FromValue + ToValue + Debug + PartialEq + Drop>(
+    rt: &impl Abort,
+    alloc: Global,
+    thing: &T,
+) -> Result<(), Fail> {
+    same(rt, &from_value_opt::<T>(thing.to_value(alloc)?)?, thing);
+    Ok(())
 }
 
-fn has_value(rt: &impl Abort, alloc: Global, text: &str) -> Result<(), Fail> {
-    let value = bytes(alloc, text.as_bytes())?;
-    let owned = String::from_str(alloc, text)?;
-    assert_eq!(rt; value_of(alloc, &text)?, value, "of {text:?}");
-    assert_eq!(rt; value_of(alloc, &owned)?, value, "of {text:?}");
-    assert_eq!(rt;
-        CowStr::Borrowed(text).to_value(alloc)?,
-        value,
-        "of {text:?}"
-    );
-    assert_eq!(rt; from_value_opt::<String>(value_of(alloc, &owned)?)?, owned);
-    assert_eq!(rt; CowStr::Owned(owned).to_value(alloc)?, value, "of {text:?}");
-    Ok(())
+// The value of the text is that of its bytes, also where it is owned.
+fn text_has_bytes(rt: &impl Abort, alloc: Global, text: &str) -> Result<(), Fail> {
+    has_bytes(rt, alloc, &text, text.as_bytes())?;
+    has_bytes(rt, alloc, &CowStr::Borrowed(text), text.as_bytes())?;
+    owned_text_has_bytes(rt, alloc, String::from_str(alloc, text)?, text.as_bytes())
+}
+
+fn owned_text_has_bytes(
+    rt: &impl Abort,
+    alloc: Global,
+    owned: String,
+    text: &[u8],
+) -> Result<(), Fail> {
+    has_bytes(rt, alloc, &owned, text)?;
+    comes_back(rt, alloc, &owned)?;
+    has_bytes(rt, alloc, &CowStr::Owned(owned), text)
 }
 
 #[test]
 fn texts_to_values(rt: HostRuntime) -> Result<(), Fail> {
-    has_value(&rt, rt.alloc(), "")?;
-    has_value(&rt, rt.alloc(), "it's")?;
-    has_value(&rt, rt.alloc(), "\u{e9}t\u{e9}")
+    text_has_bytes(&rt, rt.alloc(), "")?;
+    text_has_bytes(&rt, rt.alloc(), "it's")?;
+    text_has_bytes(&rt, rt.alloc(), "\u{e9}t\u{e9}")
+}
+
+// The value of the bytes holds them, also where they are owned.
+fn bytes_have_bytes(rt: &impl Abort, alloc: Global, text: &[u8]) -> Result<(), Fail> {
+    has_bytes(rt, alloc, &text, text)?;
+    has_bytes(rt, alloc, &CowSlice::Borrowed(text), text)?;
+    owned_bytes_have_bytes(rt, alloc, Vec::from_slice(alloc, text)?, text)
+}
+
+fn owned_bytes_have_bytes(
+    rt: &impl Abort,
+    alloc: Global,
+    owned: Vec<u8>,
+    text: &[u8],
+) -> Result<(), Fail> {
+    has_bytes(rt, alloc, &owned, text)?;
+    has_bytes(rt, alloc, &CowSlice::Owned(owned), text)
 }
 
 #[test]
 fn bytes_to_values(rt: HostRuntime) -> Result<(), Fail> {
     let alloc = rt.alloc();
-    let table: [&[u8]; 4] = [b"", b"x", b"\xC3\x28", b"\x00'\\"];
-    for text in &table {
-        let value = bytes(alloc, *text)?;
-        let owned = Vec::from_slice(alloc, *text)?;
-        assert_eq!(rt; value_of(alloc, text)?, value, "of {text:?}");
-        assert_eq!(rt; value_of(alloc, &owned)?, value, "of {text:?}");
-        assert_eq!(rt;
-            CowSlice::Borrowed(*text).to_value(alloc)?,
-            value,
-            "of {text:?}"
-        );
-        assert_eq!(rt;
-            CowSlice::Owned(owned).to_value(alloc)?,
-            value,
-            "of {text:?}"
-        );
-    }
-    assert_eq!(rt; value_of(alloc, b"ab")?, bytes(alloc, b"ab")?);
-    assert_eq!(rt; value_of::<[u8; 0]>(alloc, &[])?, bytes(alloc, b"")?);
-    let array: [u8; 2] = from_value_opt(value_of(alloc, b"ab")?)?;
-    assert_eq!(rt; array, *b"ab");
-    Ok(())
+    bytes_have_bytes(&rt, alloc, b"")?;
+    bytes_have_bytes(&rt, alloc, b"x")?;
+    bytes_have_bytes(&rt, alloc, b"\xC3\x28")?;
+    bytes_have_bytes(&rt, alloc, b"\x00'\\")?;
+    has_bytes(&rt, alloc, b"ab", b"ab")?;
+    has_bytes::<[u8; 0]>(&rt, alloc, &[], b"")?;
+    comes_back(&rt, alloc, b"ab")
 }

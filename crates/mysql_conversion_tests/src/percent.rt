@@ -65,38 +65,37 @@ impl FromValue for Percent {
 #[cfg(test)]
 mod tests {
     use super::*;
-    use crate::shared::{bytes, refused};
-    use mysql_values::value::convert::{from_value, from_value_opt};
+    use crate::shared::{converts, hands_back, refused, refused_bytes, same};
+    use mysql_values::value::convert::from_value;
+    use std::process::Abort;
     use std::test::Fail;
+
+    fn is_forty_two(rt: &impl Abort, alloc: Global, value: Value) -> Result<(), Fail> {
+        let ir = Percent::get_intermediate(value.clone()?)?;
+        hands_back(rt, alloc, ir, &Value::UInt(42), &value)?;
+        converts(rt, value, &Percent(42))
+    }
 
     #[test]
     fn handed_back_as_the_same_number(rt: HostRuntime) -> Result<(), Fail> {
-        for value in [Value::Int(42), Value::UInt(42)] {
-            let ir = Percent::get_intermediate(value.clone()?)?;
-            assert_eq!(rt; ir.into_value(rt.alloc())?, Value::UInt(42), "of {value:?}");
-            assert_eq!(rt; from_value_opt::<Percent>(value)?, Percent(42));
-        }
-        Ok(())
+        is_forty_two(&rt, rt.alloc(), Value::Int(42))?;
+        is_forty_two(&rt, rt.alloc(), Value::UInt(42))
     }
 
     #[test]
     fn least_and_greatest(rt: HostRuntime) -> Result<(), Fail> {
-        assert_eq!(rt; from_value::<Percent>(Value::Int(0)), Percent(0));
-        assert_eq!(rt; from_value_opt::<Percent>(Value::UInt(100))?, Percent(100));
+        same(&rt, from_value::<Percent>(Value::Int(0)), Percent(0));
+        converts(&rt, Value::UInt(100), &Percent(100))?;
         refused::<Percent>(&rt, Value::Int(-1))?;
         refused::<Percent>(&rt, Value::Int(101))?;
         refused::<Percent>(&rt, Value::UInt(101))?;
         refused::<Percent>(&rt, Value::NULL)?;
-        refused::<Percent>(&rt, bytes(rt.alloc(), b"42")?)
+        refused_bytes::<Percent>(&rt, rt.alloc(), b"42")
     }
 
     #[test]
     fn optional(rt: HostRuntime) -> Result<(), Fail> {
-        assert_eq!(rt; from_value_opt::<Option<Percent>>(Value::NULL)?, None);
-        assert_eq!(rt;
-            from_value_opt::<Option<Percent>>(Value::Int(7))?,
-            Some(Percent(7))
-        );
-        Ok(())
+        converts::<Option<Percent>>(&rt, Value::NULL, &None)?;
+        converts::<Option<Percent>>(&rt, Value::Int(7), &Some(Percent(7)))
     }
 }

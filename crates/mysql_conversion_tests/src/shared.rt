@@ -1,14 +1,78 @@
 //! What several tests share.
 use mysql_values::bytes::Bytes;
 use mysql_values::value::Value;
-use mysql_values::value::convert::{FromValue, ToValue, from_value_opt};
+use mysql_values::value::convert::{
+    FromValue, FromValueError, IntoValue, ParseIrOpt, ToValue, from_value_opt,
+};
 use std::alloc::{AllocError, Global};
+use std::fmt::Debug;
 use std::process::Abort;
 use std::test::Fail;
+
+// The two are the same. A call is cheaper to prove than the message.
+pub(crate) fn same<T: Copy + Debug + PartialEq>(rt: &impl Abort, found: T, wanted: T) {
+    assert_eq!(rt; found, wanted);
+}
+
+// The same, with a message that names the case.
+pub(crate) fn same_in<T: Copy + Debug + PartialEq, C: Debug>(
+    rt: &impl Abort,
+    found: T,
+    wanted: T,
+    case: &C,
+) {
+    assert_eq!(rt; found, wanted, "of {case:?}");
+}
 
 // The value that holds these bytes.
 pub(crate) fn bytes(alloc: Global, text: &[u8]) -> Result<Value, AllocError> {
     Ok(Value::Bytes(Bytes::from(Vec::from_slice(alloc, text)?)))
+}
+
+// The thing's own value is the wanted one, by the bound alone, as generic callers do it.
+pub(crate) fn has_value<T: ToValue, C: Debug>(
+    rt: &impl Abort,
+    alloc: Global,
+    thing: &T,
+    wanted: &Value,
+    case: &C,
+) -> Result<(), Fail> {
+    same_in(rt, &thing.to_value(alloc)?, wanted, case);
+    Ok(())
+}
+
+// The thing's own value is that of the bytes.
+pub(crate) fn has_bytes<T: ToValue>(
+    rt: &impl Abort,
+    alloc: Global,
+    thing: &T,
+    text: &[u8],
+) -> Result<(), Fail> {
+    let wanted = bytes(alloc, text)?;
+    has_value(rt, alloc, thing, &wanted, &text)
+}
+
+// The value converts to the thing.
+pub(crate) fn converts<T: FromValue + Debug + PartialEq + Drop>(
+    rt: &impl Abort,
+    value: Value,
+    wanted: &T,
+) -> Result<(), Fail> {
+    let kept = value.clone()?;
+    same_in(rt, &from_value_opt::<T>(value)?, wanted, &kept);
+    Ok(())
+}
+
+// The bytes of the text convert to the thing.
+pub(crate) fn text_converts<T: FromValue + Debug + PartialEq + Drop>(
+    rt: &impl Abort,
+    alloc: Global,
+    text: &str,
+    wanted: &T,
+) -> Result<(), Fail> {
+    let value = bytes(alloc, text.as_bytes())?;
+    same_in(rt, &from_value_opt::<T>(value)?, wanted, &text);
+    Ok(())
 }
 
 // The value converts to a thing whose own value is the wanted one.
@@ -18,18 +82,64 @@ pub(crate) fn reads<T: FromValue + ToValue + Drop>(
     value: Value,
     wanted: &Value,
 ) -> Result<(), Fail> {
-    let same = value.clone()?;
+    let kept = value.clone()?;
     let thing: T = from_value_opt(value)?;
-    assert_eq!(rt; thing.to_value(alloc)?, *wanted, "of {same:?}");
+    has_value(rt, alloc, &thing, wanted, &kept)
+}
+
+// A thing or an intermediate is handed back as the value.
+pub(crate) fn hands_back<C: Debug>(
+    rt: &impl Abort,
+    alloc: Global,
+    thing: impl IntoValue,
+    wanted: &Value,
+    case: &C,
+) -> Result<(), Fail> {
+    same_in(rt, &thing.into_value(alloc)?, wanted, case);
+    Ok(())
+}
+
+// The intermediate keeps both the thing and the value that it was made of.
+pub(crate) fn keeps_both<T: Debug + PartialEq + Drop>(
+    rt: &impl Abort,
+    ir: &ParseIrOpt<T>,
+    thing: T,
+    value: &Value,
+) -> Result<(), Fail> {
+    same_in(rt, ir, &ParseIrOpt::Parsed(thing, value.clone()?), value);
+    Ok(())
+}
+
+// By std's traits the value becomes the intermediate, and that the thing.
+pub(crate) fn converts_by_std_traits<
+    Ir: TryFrom<Value, Error = FromValueError> + Debug + PartialEq + Drop,
+    T: From<Ir> + Debug + PartialEq + Drop,
+>(rt: &impl Abort, value: Value, intermediate: &Ir, thing: &T) -> Result<(), Fail> {
+    let ir = Ir::try_from(value)?;
+    same(rt, &ir, intermediate);
+    same(rt, &T::from(ir), thing);
+    Ok(())
+}
+
+// By std's trait a value that doesn't convert is handed back.
+pub(crate) fn refused_by_std_trait<Ir: TryFrom<Value, Error = FromValueError> + Drop>(
+    rt: &impl Abort,
+    value: Value,
+) -> Result<(), Fail> {
+    let kept = value.clone()?;
+    match Ir::try_from(value) {
+        Ok(_) => assert!(rt; false, "{kept:?} converts"),
+        Err(error) => same(rt, &error.0, &kept),
+    }
     Ok(())
 }
 
 // A value that doesn't convert is handed back.
 pub(crate) fn refused<T: FromValue + Drop>(rt: &impl Abort, value: Value) -> Result<(), Fail> {
-    let same = value.clone()?;
+    let kept = value.clone()?;
     match from_value_opt::<T>(value) {
-        Ok(_) => assert!(rt; false, "{same:?} converts"),
-        Err(error) => assert_eq!(rt; error.0, same),
+        Ok(_) => assert!(rt; false, "{kept:?} converts"),
+        Err(error) => same(rt, &error.0, &kept),
     }
     Ok(())
 }

@@ -1,10 +1,16 @@
 //! Conversions to whole numbers, and back.
-use crate::shared::{bytes, reads, refused, refused_bytes};
+use crate::shared::{bytes, has_value, reads, refused, refused_bytes, same, text_converts};
 use mysql_values::value::Value;
-use mysql_values::value::convert::{FromValue, ToValue, WholeNumber, from_value_opt};
+use mysql_values::value::convert::{FromValue, ToValue, WholeNumber};
 use std::alloc::Global;
 use std::process::Abort;
 use std::test::Fail;
+
+// The text of the number, as a value.
+fn text_of(alloc: Global, number: i128) -> Result<Value, Fail> {
+    let text = number.to_string(alloc)?;
+    Ok(bytes(alloc, text.as_bytes())?)
+}
 
 // Whatever stands for the number converts to a thing whose value is the wanted one.
 fn reads_back<T: FromValue + ToValue + Drop>(
@@ -13,8 +19,7 @@ fn reads_back<T: FromValue + ToValue + Drop>(
     number: i128,
     wanted: &Value,
 ) -> Result<(), Fail> {
-    let text = number.to_string(alloc)?;
-    reads::<T>(rt, alloc, bytes(alloc, text.as_bytes())?, wanted)?;
+    reads::<T>(rt, alloc, text_of(alloc, number)?, wanted)?;
     if let Ok(int) = i64::try_from(number) {
         reads::<T>(rt, alloc, Value::Int(int), wanted)?;
     }
@@ -30,8 +35,7 @@ fn refused_number<T: FromValue + Drop>(
     alloc: Global,
     number: i128,
 ) -> Result<(), Fail> {
-    let text = number.to_string(alloc)?;
-    refused_bytes::<T>(rt, alloc, text.as_bytes())
+    refused::<T>(rt, text_of(alloc, number)?)
 }
 
 fn signed<T: FromValue + ToValue + Drop>(
@@ -106,29 +110,54 @@ fn wide_numbers(rt: HostRuntime) -> Result<(), Fail> {
     refused_bytes::<i128>(&rt, alloc, b"170141183460469231731687303715884105728")
 }
 
+fn reads_uint<T: FromValue + ToValue + Drop>(
+    rt: &impl Abort,
+    alloc: Global,
+    value: Value,
+    wanted: u64,
+) -> Result<(), Fail> {
+    reads::<T>(rt, alloc, value, &Value::UInt(wanted))
+}
+
 #[test]
 fn wide_numbers_of_64_bits(rt: HostRuntime) -> Result<(), Fail> {
     let alloc = rt.alloc();
-    let beyond = Value::UInt(9223372036854775808);
-    let greatest = Value::UInt(18446744073709551615);
-    reads::<i128>(&rt, alloc, Value::UInt(9223372036854775808), &beyond)?;
+    reads_uint::<i128>(
+        &rt,
+        alloc,
+        Value::UInt(9223372036854775808),
+        9223372036854775808,
+    )?;
     reads::<i128>(&rt, alloc, Value::Int(-1), &Value::Int(-1))?;
-    reads::<u128>(&rt, alloc, Value::UInt(18446744073709551615), &greatest)?;
-    reads::<u128>(&rt, alloc, Value::Int(7), &Value::UInt(7))?;
-    assert_eq!(rt; 9223372036854775808i128.to_value(alloc)?, beyond);
-    Ok(())
+    reads_uint::<u128>(
+        &rt,
+        alloc,
+        Value::UInt(18446744073709551615),
+        18446744073709551615,
+    )?;
+    reads_uint::<u128>(&rt, alloc, Value::Int(7), 7)?;
+    let number = 9223372036854775808i128;
+    has_value(
+        &rt,
+        alloc,
+        &number,
+        &Value::UInt(9223372036854775808),
+        &number,
+    )
 }
+
+const TEXTS_OF_NO_NUMBER: [&str; 12] = [
+    "", "+", "-", "--1", "+-1", "256", "1a", " 1", "1 ", "0x1", "1.0", "\u{0661}",
+];
 
 #[test]
 fn texts(rt: HostRuntime) -> Result<(), Fail> {
     let alloc = rt.alloc();
-    for (text, number) in [("0000000255", 255), ("-0", 0), ("+7", 7), ("-000", 0)] {
-        let read: u8 = from_value_opt(bytes(alloc, text.as_bytes())?)?;
-        assert_eq!(rt; read, number, "of {text}");
-    }
-    for text in [
-        "", "+", "-", "--1", "+-1", "256", "1a", " 1", "1 ", "0x1", "1.0", "\u{0661}",
-    ] {
+    text_converts::<u8>(&rt, alloc, "0000000255", &255)?;
+    text_converts::<u8>(&rt, alloc, "-0", &0)?;
+    text_converts::<u8>(&rt, alloc, "+7", &7)?;
+    text_converts::<u8>(&rt, alloc, "-000", &0)?;
+    for text in &TEXTS_OF_NO_NUMBER {
         refused_bytes::<u8>(&rt, alloc, text.as_bytes())?;
     }
     refused_bytes::<u64>(&rt, alloc, b"-1")
@@ -146,42 +175,48 @@ fn values_that_a_type_does_not_hold(rt: HostRuntime) -> Result<(), Fail> {
     refused::<i64>(&rt, Value::UInt(9223372036854775808))
 }
 
+const TEXTS_THAT_NO_TYPE_HOLDS: [&[u8]; 4] = [
+    b"340282366920938463463374607431768211456",
+    b"-170141183460469231731687303715884105729",
+    b"-340282366920938463463374607431768211457",
+    b"9999999999999999999999999999999999999999999999999999",
+];
+
+fn refused_by_signed(rt: &impl Abort, alloc: Global, text: &[u8]) -> Result<(), Fail> {
+    refused_bytes::<i8>(rt, alloc, text)?;
+    refused_bytes::<i16>(rt, alloc, text)?;
+    refused_bytes::<i32>(rt, alloc, text)?;
+    refused_bytes::<i64>(rt, alloc, text)?;
+    refused_bytes::<i128>(rt, alloc, text)?;
+    refused_bytes::<isize>(rt, alloc, text)
+}
+
+fn refused_by_unsigned(rt: &impl Abort, alloc: Global, text: &[u8]) -> Result<(), Fail> {
+    refused_bytes::<u8>(rt, alloc, text)?;
+    refused_bytes::<u16>(rt, alloc, text)?;
+    refused_bytes::<u32>(rt, alloc, text)?;
+    refused_bytes::<u64>(rt, alloc, text)?;
+    refused_bytes::<u128>(rt, alloc, text)?;
+    refused_bytes::<usize>(rt, alloc, text)
+}
+
 #[test]
 fn texts_that_no_type_holds(rt: HostRuntime) -> Result<(), Fail> {
-    let alloc = rt.alloc();
-    let texts: [&[u8]; 4] = [
-        b"340282366920938463463374607431768211456",
-        b"-170141183460469231731687303715884105729",
-        b"-340282366920938463463374607431768211457",
-        b"9999999999999999999999999999999999999999999999999999",
-    ];
-    for text in texts {
-        refused_bytes::<i8>(&rt, alloc, text)?;
-        refused_bytes::<i16>(&rt, alloc, text)?;
-        refused_bytes::<i32>(&rt, alloc, text)?;
-        refused_bytes::<i64>(&rt, alloc, text)?;
-        refused_bytes::<i128>(&rt, alloc, text)?;
-        refused_bytes::<isize>(&rt, alloc, text)?;
-        refused_bytes::<u8>(&rt, alloc, text)?;
-        refused_bytes::<u16>(&rt, alloc, text)?;
-        refused_bytes::<u32>(&rt, alloc, text)?;
-        refused_bytes::<u64>(&rt, alloc, text)?;
-        refused_bytes::<u128>(&rt, alloc, text)?;
-        refused_bytes::<usize>(&rt, alloc, text)?;
+    for text in &TEXTS_THAT_NO_TYPE_HOLDS {
+        refused_by_signed(&rt, rt.alloc(), *text)?;
+        refused_by_unsigned(&rt, rt.alloc(), *text)?;
     }
     Ok(())
 }
 
 #[test]
 fn parts(rt: HostRuntime) {
-    assert_eq!(rt; (-128i8).to_parts(), (true, 128));
-    assert_eq!(rt; 0i8.to_parts(), (false, 0));
-    assert_eq!(rt; 255u8.to_parts(), (false, 255));
-    assert_eq!(rt;
-        i128::MIN.to_parts(),
-        (true, 170141183460469231731687303715884105728)
-    );
-    assert_eq!(rt; u8::from_parts(false, 256), None);
-    assert_eq!(rt; i8::from_parts(true, 128), Some(-128));
-    assert_eq!(rt; u8::from_parts(true, 0), Some(0));
+    same(&rt, (-128i8).to_parts(), (true, 128));
+    same(&rt, 0i8.to_parts(), (false, 0));
+    same(&rt, 255u8.to_parts(), (false, 255));
+    let wanted = (true, 170141183460469231731687303715884105728);
+    same(&rt, i128::MIN.to_parts(), wanted);
+    same(&rt, u8::from_parts(false, 256), None);
+    same(&rt, i8::from_parts(true, 128), Some(-128));
+    same(&rt, u8::from_parts(true, 0), Some(0));
 }

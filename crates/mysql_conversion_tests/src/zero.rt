@@ -46,16 +46,21 @@ impl FromValue for Zero {
 #[cfg(test)]
 mod tests {
     use super::*;
-    use mysql_values::value::convert::{IntoValue, from_value_opt};
+    use crate::shared::{hands_back, same};
+    use mysql_values::value::convert::from_value_opt;
+    use std::alloc::Global;
+    use std::process::Abort;
     use std::test::Fail;
+
+    fn comes_back(rt: &impl Abort, alloc: Global, value: Value) -> Result<(), Fail> {
+        let ir = Zero::get_intermediate(value.clone()?)?;
+        hands_back(rt, alloc, ir, &value, &value)
+    }
 
     #[test]
     fn handed_back(rt: HostRuntime) -> Result<(), Fail> {
-        for value in [Value::Int(0), Value::NULL] {
-            let ir = Zero::get_intermediate(value.clone()?)?;
-            assert_eq!(rt; ir.into_value(rt.alloc())?, value);
-        }
-        Ok(())
+        comes_back(&rt, rt.alloc(), Value::Int(0))?;
+        comes_back(&rt, rt.alloc(), Value::NULL)
     }
 
     #[test]
@@ -66,7 +71,7 @@ mod tests {
         let optional: Option<Zero> = from_value_opt(Value::NULL)?;
         assert!(rt; optional.is_none());
         let refusal = from_value_opt::<Zero>(Value::Int(1)).err();
-        assert_eq!(rt; refusal, Some(FromValueError(Value::Int(1))));
+        same(&rt, &refusal, &Some(FromValueError(Value::Int(1))));
         Ok(())
     }
 }
