@@ -1,5 +1,5 @@
 //! The values of bytes and texts.
-use crate::shared::{has_bytes, same};
+use crate::shared::{gives, has_bytes};
 use mysql_values::value::convert::{FromValue, ToValue, from_value_opt};
 use std::alloc::Global;
 use std::borrow::{CowSlice, CowStr};
@@ -13,8 +13,8 @@ fn comes_back<T: FromValue + ToValue + Debug + PartialEq + Drop>(
     alloc: Global,
     thing: &T,
 ) -> Result<(), Fail> {
-    same(rt, &from_value_opt::<T>(thing.to_value(alloc)?)?, thing);
-    Ok(())
+    let value = thing.to_value(alloc)?;
+    gives(rt, from_value_opt::<T>(value), thing, thing)
 }
 
 // The value of the text is that of its bytes, also where it is owned.

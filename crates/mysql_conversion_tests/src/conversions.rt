@@ -1,7 +1,8 @@
 //! Conversions to truth values, texts, bytes and optional things, and their way back.
 use crate::shared::{
-    bytes, converts, converts_by_std_traits, hands_back, has_value, keeps_both, refused,
-    refused_by_std_trait, refused_bytes, refuses_other_variants, same, same_in, text_converts,
+    bytes, converts, converts_by_std_traits, gives, gives_back, hands_back, has_value, keeps_both,
+    refused, refused_by_std_trait, refused_bytes, refuses_other_variants, same, same_in,
+    text_converts,
 };
 use mysql_values::value::convert::{
     FromValue, FromValueError, IntoValue, OptionIr2, ParseIr, ParseIrOpt, ToValue, ToValueError,
@@ -55,8 +56,7 @@ fn rolls_back<T: ToValue + Drop>(
     ir: ParseIrOpt<T>,
     wanted: &Value,
 ) -> Result<(), Fail> {
-    same(rt, &ir.rollback(alloc)?, wanted);
-    Ok(())
+    gives(rt, ir.rollback(alloc), wanted, wanted)
 }
 
 #[test]
@@ -108,26 +108,26 @@ fn way_back_of_optional_things(rt: HostRuntime) -> Result<(), Fail> {
     is_handed_back(&rt, alloc, present, &ready, &Value::UInt(5))
 }
 
-fn intermediate_is_cloned(rt: &impl Abort, ir: &ValueIr) -> Result<(), Fail> {
-    same(rt, &ir.clone()?, ir);
-    Ok(())
-}
-
 #[test]
 fn kept_values(rt: HostRuntime) -> Result<(), Fail> {
     same(&rt, ParseIr(5, Value::Int(5)).commit(), 5);
     same(&rt, &ParseIr(5, Value::Int(6)).rollback(), &Value::Int(6));
-    intermediate_is_cloned(&rt, &ValueIr(bytes(rt.alloc(), b"ab")?))
+    let ir = ValueIr(bytes(rt.alloc(), b"ab")?);
+    gives(&rt, ir.clone(), &ir, &ir)
+}
+
+fn intermediate_of_value(rt: &impl Abort, ir: ValueIr) -> Result<(), Fail> {
+    gives(rt, ir.clone(), &ir, &ir)?;
+    assert!(rt; ValueIr(Value::NULL) < ir);
+    becomes_value(rt, ir, &Value::Float(7), &"ValueIr");
+    Ok(())
 }
 
 #[test]
 fn intermediates_of_values(rt: HostRuntime) -> Result<(), Fail> {
-    let ir = Value::get_intermediate(Value::Float(7))?;
-    intermediate_is_cloned(&rt, &ir)?;
-    assert!(rt; ValueIr(Value::NULL) < ir);
-    same(&rt, &Value::from(ir), &Value::Float(7));
-    same(&rt, &ValueIr::try_from(Value::NULL)?, &ValueIr(Value::NULL));
-    Ok(())
+    intermediate_of_value(&rt, Value::get_intermediate(Value::Float(7))?)?;
+    let null = ValueIr(Value::NULL);
+    gives(&rt, ValueIr::try_from(Value::NULL), &null, &null)
 }
 
 #[test]
@@ -148,22 +148,23 @@ fn optional_things_by_std_traits(rt: HostRuntime) -> Result<(), Fail> {
     Ok(())
 }
 
-// By std's trait the value becomes the thing.
-fn becomes<T: TryFrom<Value, Error = FromValueError> + Debug + PartialEq + Drop>(
+// By std's trait the bytes become the thing.
+fn bytes_become<T: TryFrom<Value, Error = FromValueError> + Debug + PartialEq + Drop>(
     rt: &impl Abort,
-    value: Value,
-    wanted: &T,
+    alloc: Global,
+    text: &[u8],
+    wanted: T,
 ) -> Result<(), Fail> {
-    same(rt, &T::try_from(value)?, wanted);
-    Ok(())
+    let value = bytes(alloc, text)?;
+    gives(rt, T::try_from(value), &wanted, &wanted)
 }
 
 #[test]
 fn texts_by_std_traits(rt: HostRuntime) -> Result<(), Fail> {
     let alloc = rt.alloc();
-    becomes(&rt, bytes(alloc, b"ab")?, &String::from_str(alloc, "ab")?)?;
-    becomes(&rt, bytes(alloc, b"ab")?, b"ab")?;
-    becomes(&rt, bytes(alloc, b"ab")?, &Vec::from_slice(alloc, b"ab")?)
+    bytes_become(&rt, alloc, b"ab", String::from_str(alloc, "ab")?)?;
+    bytes_become(&rt, alloc, b"ab", *b"ab")?;
+    bytes_become(&rt, alloc, b"ab", Vec::from_slice(alloc, b"ab")?)
 }
 
 #[test]
@@ -258,14 +259,16 @@ fn refused_texts_and_bytes(rt: HostRuntime) -> Result<(), Fail> {
 
 // `refused` can't be proved at the types of these two: docs/DECISIONS.md says why.
 fn refused_as_cow_text(rt: &impl Abort, value: &Value) -> Result<(), Fail> {
-    let refusal = from_value_opt::<CowStr<'static>>(value.clone()?).err();
-    same(rt, &refusal, &Some(FromValueError(value.clone()?)));
+    gives_back(rt, from_value_opt::<CowStr<'static>>(value.clone()?), value);
     Ok(())
 }
 
 fn refused_as_cow_bytes(rt: &impl Abort, value: &Value) -> Result<(), Fail> {
-    let refusal = from_value_opt::<CowSlice<'static, u8>>(value.clone()?).err();
-    same(rt, &refusal, &Some(FromValueError(value.clone()?)));
+    gives_back(
+        rt,
+        from_value_opt::<CowSlice<'static, u8>>(value.clone()?),
+        value,
+    );
     Ok(())
 }
 
@@ -356,35 +359,21 @@ fn values_of_texts_and_bytes(rt: HostRuntime) -> Result<(), Fail> {
     Ok(())
 }
 
-fn object_has_value(
-    rt: &impl Abort,
-    alloc: Global,
-    object: &dyn ToValue,
-    wanted: &Value,
-) -> Result<(), Fail> {
-    same(rt, &object.to_value(alloc)?, wanted);
-    Ok(())
-}
-
 #[test]
 fn values_through_dyn(rt: HostRuntime) -> Result<(), Fail> {
     let alloc = rt.alloc();
     let objects: [(&dyn ToValue, i64); 2] = [(&-1i128, -1), (&false, 0)];
     for (object, number) in objects {
-        object_has_value(&rt, alloc, object, &Value::Int(number))?;
+        gives(&rt, object.to_value(alloc), &Value::Int(number), &number)?;
     }
-    object_has_value(&rt, alloc, &1u8, &Value::UInt(1))
+    let object: &dyn ToValue = &1u8;
+    gives(&rt, object.to_value(alloc), &Value::UInt(1), &"u8")
 }
 
 // What is printed of a refusal.
 fn says(rt: &impl Abort, alloc: Global, refusal: &impl Display, message: &str) -> Result<(), Fail> {
     let printed = refusal.to_string(alloc)?;
     same(rt, printed.as_str(), message);
-    Ok(())
-}
-
-fn refusal_is_cloned(rt: &impl Abort, refusal: &FromValueError) -> Result<(), Fail> {
-    same(rt, &refusal.clone()?, refusal);
     Ok(())
 }
 
@@ -395,7 +384,7 @@ fn refused_value_says(
     message: &str,
 ) -> Result<(), Fail> {
     let refusal = FromValueError(value);
-    refusal_is_cloned(rt, &refusal)?;
+    gives(rt, refusal.clone(), &refusal, &refusal)?;
     says(rt, alloc, &refusal, message)
 }
 

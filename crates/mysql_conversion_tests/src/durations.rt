@@ -1,7 +1,7 @@
 //! Conversions of durations, both ways.
 use crate::shared::{
-    bytes, converts, converts_by_std_traits, has_value, keeps_both, refused, refused_by_std_trait,
-    same, same_in,
+    bytes, converts, converts_by_std_traits, gives, has_value, keeps_both, refused,
+    refused_by_std_trait, same, same_in,
 };
 use mysql_values::value::Value;
 use mysql_values::value::convert::{FromValue, ParseIrOpt, ToValue, ToValueError};
@@ -30,8 +30,7 @@ fn has_intermediate(
 ) -> Result<(), Fail> {
     let ir = Duration::get_intermediate(value.clone()?)?;
     keeps_both(rt, &ir, duration, value)?;
-    same(rt, &ir.rollback(alloc)?, value);
-    Ok(())
+    gives(rt, ir.rollback(alloc), value, value)
 }
 
 fn commits(rt: &impl Abort, value: &Value, duration: Duration) -> Result<(), Fail> {

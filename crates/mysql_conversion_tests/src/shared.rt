@@ -24,6 +24,29 @@ pub(crate) fn same_in<T: Copy + Debug + PartialEq, C: Debug>(
     assert_eq!(rt; found, wanted, "of {case:?}");
 }
 
+// What is found is the wanted thing and no error. Here alone errors let go of all that lives.
+pub(crate) fn gives<T: Debug + PartialEq + Drop, E: Debug + Drop, C: Debug>(
+    rt: &impl Abort,
+    found: Result<T, E>,
+    wanted: &T,
+    case: &C,
+) -> Result<(), Fail> {
+    same_in(rt, &found?, wanted, case);
+    Ok(())
+}
+
+// A conversion hands back the value.
+pub(crate) fn gives_back<T: Drop>(
+    rt: &impl Abort,
+    found: Result<T, FromValueError>,
+    value: &Value,
+) {
+    match found {
+        Ok(_) => assert!(rt; false, "{value:?} converts"),
+        Err(error) => same(rt, &error.0, value),
+    }
+}
+
 // The value that holds these bytes.
 pub(crate) fn bytes(alloc: Global, text: &[u8]) -> Result<Value, AllocError> {
     Ok(Value::Bytes(Bytes::from(Vec::from_slice(alloc, text)?)))
@@ -37,8 +60,7 @@ pub(crate) fn has_value<T: ToValue, C: Debug>(
     wanted: &Value,
     case: &C,
 ) -> Result<(), Fail> {
-    same_in(rt, &thing.to_value(alloc)?, wanted, case);
-    Ok(())
+    gives(rt, thing.to_value(alloc), wanted, case)
 }
 
 // The thing's own value is that of the bytes.
@@ -59,8 +81,7 @@ pub(crate) fn converts<T: FromValue + Debug + PartialEq + Drop>(
     wanted: &T,
 ) -> Result<(), Fail> {
     let kept = value.clone()?;
-    same_in(rt, &from_value_opt::<T>(value)?, wanted, &kept);
-    Ok(())
+    gives(rt, from_value_opt::<T>(value), wanted, &kept)
 }
 
 // The bytes of the text convert to the thing.
@@ -71,8 +92,7 @@ pub(crate) fn text_converts<T: FromValue + Debug + PartialEq + Drop>(
     wanted: &T,
 ) -> Result<(), Fail> {
     let value = bytes(alloc, text.as_bytes())?;
-    same_in(rt, &from_value_opt::<T>(value)?, wanted, &text);
-    Ok(())
+    gives(rt, from_value_opt::<T>(value), wanted, &text)
 }
 
 // The value converts to a thing whose own value is the wanted one.
@@ -95,8 +115,7 @@ pub(crate) fn hands_back<C: Debug>(
     wanted: &Value,
     case: &C,
 ) -> Result<(), Fail> {
-    same_in(rt, &thing.into_value(alloc)?, wanted, case);
-    Ok(())
+    gives(rt, thing.into_value(alloc), wanted, case)
 }
 
 // The intermediate keeps both the thing and the value that it was made of.
@@ -127,20 +146,14 @@ pub(crate) fn refused_by_std_trait<Ir: TryFrom<Value, Error = FromValueError> + 
     value: Value,
 ) -> Result<(), Fail> {
     let kept = value.clone()?;
-    match Ir::try_from(value) {
-        Ok(_) => assert!(rt; false, "{kept:?} converts"),
-        Err(error) => same(rt, &error.0, &kept),
-    }
+    gives_back(rt, Ir::try_from(value), &kept);
     Ok(())
 }
 
 // A value that doesn't convert is handed back.
 pub(crate) fn refused<T: FromValue + Drop>(rt: &impl Abort, value: Value) -> Result<(), Fail> {
     let kept = value.clone()?;
-    match from_value_opt::<T>(value) {
-        Ok(_) => assert!(rt; false, "{kept:?} converts"),
-        Err(error) => same(rt, &error.0, &kept),
-    }
+    gives_back(rt, from_value_opt::<T>(value), &kept);
     Ok(())
 }
 

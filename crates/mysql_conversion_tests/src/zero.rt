@@ -46,7 +46,7 @@ impl FromValue for Zero {
 #[cfg(test)]
 mod tests {
     use super::*;
-    use crate::shared::{hands_back, same};
+    use crate::shared::{hands_back, refused};
     use mysql_values::value::convert::from_value_opt;
     use std::alloc::Global;
     use std::process::Abort;
@@ -70,8 +70,6 @@ mod tests {
         assert!(rt; optional.is_some());
         let optional: Option<Zero> = from_value_opt(Value::NULL)?;
         assert!(rt; optional.is_none());
-        let refusal = from_value_opt::<Zero>(Value::Int(1)).err();
-        same(&rt, &refusal, &Some(FromValueError(Value::Int(1))));
-        Ok(())
+        refused::<Zero>(&rt, Value::Int(1))
     }
 }
