@@ -1,8 +1,8 @@
 //! Conversions to truth values, texts, bytes and optional things, and their way back.
 use crate::shared::{
-    bytes, converts, converts_by_std_traits, gives, gives_back, hands_back, has_value, keeps_both,
-    refused, refused_by_std_trait, refused_bytes, refuses_other_variants, same, same_in,
-    text_converts,
+    bytes, comes_back, commits, converts, converts_by_std_traits, gives, gives_back, hands_back,
+    has_value, keeps_both, refused, refused_by_std_trait, refused_bytes, refuses_other_variants,
+    rolls_back, same, same_in, text_converts,
 };
 use mysql_values::value::convert::{
     FromValue, FromValueError, IntoValue, OptionIr2, ParseIr, ParseIrOpt, ToValue, ToValueError,
@@ -44,46 +44,38 @@ fn truth_values(rt: HostRuntime) -> Result<(), Fail> {
     refused::<bool>(&rt, Value::Float(1065353216))
 }
 
-// The thing of an intermediate.
-fn commits<T: Debug + PartialEq + Drop>(rt: &impl Abort, ir: ParseIrOpt<T>, wanted: &T) {
-    same(rt, &ir.commit(), wanted);
-}
-
-// The value of a whole number or a truth value that an intermediate is rolled back to.
-fn rolls_back<T: ToValue + Drop>(
-    rt: &impl Abort,
-    alloc: Global,
-    ir: ParseIrOpt<T>,
-    wanted: &Value,
-) -> Result<(), Fail> {
-    gives(rt, ir.rollback(alloc), wanted, wanted)
-}
-
 #[test]
 fn way_back_of_numbers(rt: HostRuntime) -> Result<(), Fail> {
     let alloc = rt.alloc();
-    commits(&rt, u8::get_intermediate(Value::Int(5))?, &5);
-    let ir = u8::get_intermediate(Value::Int(5))?;
-    rolls_back(&rt, alloc, ir, &Value::UInt(5))?;
-    commits(&rt, bool::get_intermediate(Value::Int(7))?, &true);
-    let ir = bool::get_intermediate(Value::Int(7))?;
-    rolls_back(&rt, alloc, ir, &Value::Int(1))?;
+    commits(&rt, u8::get_intermediate(Value::Int(5)), &5)?;
+    rolls_back(
+        &rt,
+        alloc,
+        u8::get_intermediate(Value::Int(5)),
+        &Value::UInt(5),
+    )?;
+    commits(&rt, bool::get_intermediate(Value::Int(7)), &true)?;
+    rolls_back(
+        &rt,
+        alloc,
+        bool::get_intermediate(Value::Int(7)),
+        &Value::Int(1),
+    )?;
     let text = bytes(alloc, b"18446744073709551616")?;
-    let ir = ParseIrOpt::Ready(18446744073709551616u128);
-    rolls_back(&rt, alloc, ir, &text)
-}
-
-fn truth_way_back(rt: &impl Abort, alloc: Global, value: Value) -> Result<(), Fail> {
-    let ir = bool::get_intermediate(value.clone()?)?;
-    keeps_both(rt, &ir, true, &value)?;
-    rolls_back(rt, alloc, ir, &value)
+    rolls_back(
+        &rt,
+        alloc,
+        Ok(ParseIrOpt::Ready(18446744073709551616u128)),
+        &text,
+    )
 }
 
 #[test]
 fn way_back_of_texts(rt: HostRuntime) -> Result<(), Fail> {
     let alloc = rt.alloc();
-    truth_way_back(&rt, alloc, bytes(alloc, b"1")?)?;
-    intermediate_comes_back::<bool>(&rt, alloc, bytes(alloc, b"1")?)
+    let one = bytes(alloc, b"1")?;
+    keeps_both(&rt, alloc, bool::get_intermediate(one.clone()?), true, &one)?;
+    comes_back(&rt, alloc, bool::get_intermediate(one.clone()?), &one)
 }
 
 // The intermediate is the wanted one, and is handed back as the value.
@@ -193,41 +185,22 @@ fn numbers_are_no_bytes(rt: HostRuntime) -> Result<(), Fail> {
     refused::<[u8; 1]>(&rt, Value::UInt(97))
 }
 
-// The intermediate of the value is handed back as it.
-fn intermediate_comes_back<T: FromValue>(
-    rt: &impl Abort,
-    alloc: Global,
-    value: Value,
-) -> Result<(), Fail> {
-    let ir = T::get_intermediate(value.clone()?)?;
-    hands_back(rt, alloc, ir, &value, &value)
-}
-
-// The thing that the value converts to is handed back as it.
-fn thing_comes_back<T: FromValue + IntoValue>(
-    rt: &impl Abort,
-    alloc: Global,
-    value: Value,
-) -> Result<(), Fail> {
-    let thing = from_value_opt::<T>(value.clone()?)?;
-    hands_back(rt, alloc, thing, &value, &value)
-}
-
 // The thing that bytes convert to, and its intermediate, are handed back as the same bytes.
-fn comes_back<T: FromValue + IntoValue>(
+fn bytes_come_back<T: FromValue + IntoValue>(
     rt: &impl Abort,
     alloc: Global,
     text: &[u8],
 ) -> Result<(), Fail> {
-    intermediate_comes_back::<T>(rt, alloc, bytes(alloc, text)?)?;
-    thing_comes_back::<T>(rt, alloc, bytes(alloc, text)?)
+    let value = bytes(alloc, text)?;
+    comes_back(rt, alloc, T::get_intermediate(value.clone()?), &value)?;
+    comes_back(rt, alloc, from_value_opt::<T>(value.clone()?), &value)
 }
 
 fn all_come_back(rt: &impl Abort, alloc: Global, text: &[u8]) -> Result<(), Fail> {
-    comes_back::<String>(rt, alloc, text)?;
-    comes_back::<Vec<u8>>(rt, alloc, text)?;
-    comes_back::<CowStr<'static>>(rt, alloc, text)?;
-    comes_back::<CowSlice<'static, u8>>(rt, alloc, text)
+    bytes_come_back::<String>(rt, alloc, text)?;
+    bytes_come_back::<Vec<u8>>(rt, alloc, text)?;
+    bytes_come_back::<CowStr<'static>>(rt, alloc, text)?;
+    bytes_come_back::<CowSlice<'static, u8>>(rt, alloc, text)
 }
 
 #[test]
@@ -235,7 +208,7 @@ fn texts_and_bytes(rt: HostRuntime) -> Result<(), Fail> {
     let alloc = rt.alloc();
     all_come_back(&rt, alloc, b"ab")?;
     all_come_back(&rt, alloc, b"")?;
-    comes_back::<[u8; 2]>(&rt, alloc, b"ab")?;
+    bytes_come_back::<[u8; 2]>(&rt, alloc, b"ab")?;
     text_converts(&rt, alloc, "ab", b"ab")
 }
 
@@ -337,26 +310,28 @@ fn values_of_numbers(rt: HostRuntime) {
     becomes_value(&rt, true, &Value::Int(1), &"bool");
 }
 
-fn text_becomes_value(rt: &impl Abort, alloc: Global, text: &str) -> Result<(), Fail> {
-    let value = bytes(alloc, text.as_bytes())?;
-    becomes_value(rt, String::from_str(alloc, text)?, &value, &text);
+// By std's trait the thing becomes the value of the bytes.
+fn becomes_bytes<T: Into<Value> + Drop>(
+    rt: &impl Abort,
+    alloc: Global,
+    thing: T,
+    text: &[u8],
+) -> Result<(), Fail> {
+    let wanted = bytes(alloc, text)?;
+    becomes_value(rt, thing, &wanted, &text);
     Ok(())
 }
 
-fn bytes_become_value(rt: &impl Abort, alloc: Global, text: &[u8]) -> Result<(), Fail> {
-    let value = bytes(alloc, text)?;
-    becomes_value(rt, Vec::from_slice(alloc, text)?, &value, &text);
-    Ok(())
+fn owned_become_value(rt: &impl Abort, alloc: Global, text: &str) -> Result<(), Fail> {
+    let items = Vec::from_slice(alloc, text.as_bytes())?;
+    becomes_bytes(rt, alloc, items, text.as_bytes())?;
+    becomes_bytes(rt, alloc, String::from_str(alloc, text)?, text.as_bytes())
 }
 
 #[test]
 fn values_of_texts_and_bytes(rt: HostRuntime) -> Result<(), Fail> {
-    let alloc = rt.alloc();
-    for text in ["ab", ""] {
-        bytes_become_value(&rt, alloc, text.as_bytes())?;
-        text_becomes_value(&rt, alloc, text)?;
-    }
-    Ok(())
+    owned_become_value(&rt, rt.alloc(), "ab")?;
+    owned_become_value(&rt, rt.alloc(), "")
 }
 
 #[test]

@@ -1,6 +1,6 @@
 //! Conversions of durations, both ways.
 use crate::shared::{
-    bytes, converts, converts_by_std_traits, gives, has_value, keeps_both, refused,
+    bytes, commits, converts, converts_by_std_traits, has_value, keeps_both, refused,
     refused_by_std_trait, same, same_in,
 };
 use mysql_values::value::Value;
@@ -17,26 +17,10 @@ fn reads_duration(
     value: Value,
     duration: Duration,
 ) -> Result<(), Fail> {
-    has_intermediate(rt, alloc, &value, duration)?;
-    commits(rt, &value, duration)?;
+    let found = Duration::get_intermediate(value.clone()?);
+    keeps_both(rt, alloc, found, duration, &value)?;
+    commits(rt, Duration::get_intermediate(value.clone()?), &duration)?;
     converts::<Duration>(rt, value, &duration)
-}
-
-fn has_intermediate(
-    rt: &impl Abort,
-    alloc: Global,
-    value: &Value,
-    duration: Duration,
-) -> Result<(), Fail> {
-    let ir = Duration::get_intermediate(value.clone()?)?;
-    keeps_both(rt, &ir, duration, value)?;
-    gives(rt, ir.rollback(alloc), value, value)
-}
-
-fn commits(rt: &impl Abort, value: &Value, duration: Duration) -> Result<(), Fail> {
-    let ir = Duration::get_intermediate(value.clone()?)?;
-    same_in(rt, &ir.commit(), &duration, value);
-    Ok(())
 }
 
 const TEXTS: [(&[u8], u64, u32); 5] = [

@@ -118,15 +118,51 @@ pub(crate) fn hands_back<C: Debug>(
     gives(rt, thing.into_value(alloc), wanted, case)
 }
 
-// The intermediate keeps both the thing and the value that it was made of.
-pub(crate) fn keeps_both<T: Debug + PartialEq + Drop>(
+// What a value converts to, or its intermediate, is handed back as that value.
+pub(crate) fn comes_back<I: IntoValue>(
     rt: &impl Abort,
-    ir: &ParseIrOpt<T>,
+    alloc: Global,
+    found: Result<I, FromValueError>,
+    value: &Value,
+) -> Result<(), Fail> {
+    let thing = found?;
+    hands_back(rt, alloc, thing, value, value)
+}
+
+// The thing of the intermediate that was found.
+pub(crate) fn commits<T: Debug + PartialEq + Drop>(
+    rt: &impl Abort,
+    found: Result<ParseIrOpt<T>, FromValueError>,
+    wanted: &T,
+) -> Result<(), Fail> {
+    let ir = found?;
+    same(rt, &ir.commit(), wanted);
+    Ok(())
+}
+
+// The value of a whole number or a truth value that the intermediate is rolled back to.
+pub(crate) fn rolls_back<T: ToValue + Drop>(
+    rt: &impl Abort,
+    alloc: Global,
+    found: Result<ParseIrOpt<T>, FromValueError>,
+    wanted: &Value,
+) -> Result<(), Fail> {
+    let ir = found?;
+    gives(rt, ir.rollback(alloc), wanted, wanted)
+}
+
+// The intermediate keeps both the thing and the value, to which it is rolled back.
+pub(crate) fn keeps_both<T: ToValue + Debug + PartialEq + Drop>(
+    rt: &impl Abort,
+    alloc: Global,
+    found: Result<ParseIrOpt<T>, FromValueError>,
     thing: T,
     value: &Value,
 ) -> Result<(), Fail> {
-    same_in(rt, ir, &ParseIrOpt::Parsed(thing, value.clone()?), value);
-    Ok(())
+    let wanted = ParseIrOpt::Parsed(thing, value.clone()?);
+    let ir = found?;
+    same_in(rt, &ir, &wanted, value);
+    gives(rt, ir.rollback(alloc), value, value)
 }
 
 // By std's traits the value becomes the intermediate, and that the thing.

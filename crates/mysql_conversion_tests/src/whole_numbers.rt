@@ -89,24 +89,26 @@ fn text_comes_back<T: FromValue + ToValue + Drop>(
     reads::<T>(rt, alloc, value.clone()?, &value)
 }
 
+// Beyond 64 bits, and within 127.
+const WIDE: &str = "169999999999999999999999999999999999999";
+
+const WIDE_SIGNED: [&str; 6] = [
+    WIDE,
+    "-169999999999999999999999999999999999999",
+    "-170141183460469231731687303715884105728",
+    "170141183460469231731687303715884105727",
+    "-9223372036854775809",
+    "18446744073709551616",
+];
+
 #[test]
 fn wide_numbers(rt: HostRuntime) -> Result<(), Fail> {
     let alloc = rt.alloc();
-    // Beyond 64 bits, and within 127.
-    let text = "169999999999999999999999999999999999999";
-    for text in [
-        text,
-        "-169999999999999999999999999999999999999",
-        "-170141183460469231731687303715884105728",
-        "170141183460469231731687303715884105727",
-        "-9223372036854775809",
-        "18446744073709551616",
-    ] {
-        text_comes_back::<i128>(&rt, alloc, text)?;
+    for text in &WIDE_SIGNED {
+        text_comes_back::<i128>(&rt, alloc, *text)?;
     }
-    for text in [text, "340282366920938463463374607431768211455"] {
-        text_comes_back::<u128>(&rt, alloc, text)?;
-    }
+    text_comes_back::<u128>(&rt, alloc, WIDE)?;
+    text_comes_back::<u128>(&rt, alloc, "340282366920938463463374607431768211455")?;
     refused_bytes::<i128>(&rt, alloc, b"170141183460469231731687303715884105728")
 }
 

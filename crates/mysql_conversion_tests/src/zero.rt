@@ -46,21 +46,20 @@ impl FromValue for Zero {
 #[cfg(test)]
 mod tests {
     use super::*;
-    use crate::shared::{hands_back, refused};
+    use crate::shared::{comes_back, refused};
     use mysql_values::value::convert::from_value_opt;
     use std::alloc::Global;
     use std::process::Abort;
     use std::test::Fail;
 
-    fn comes_back(rt: &impl Abort, alloc: Global, value: Value) -> Result<(), Fail> {
-        let ir = Zero::get_intermediate(value.clone()?)?;
-        hands_back(rt, alloc, ir, &value, &value)
+    fn zero_comes_back(rt: &impl Abort, alloc: Global, value: Value) -> Result<(), Fail> {
+        comes_back(rt, alloc, Zero::get_intermediate(value.clone()?), &value)
     }
 
     #[test]
     fn handed_back(rt: HostRuntime) -> Result<(), Fail> {
-        comes_back(&rt, rt.alloc(), Value::Int(0))?;
-        comes_back(&rt, rt.alloc(), Value::NULL)
+        zero_comes_back(&rt, rt.alloc(), Value::Int(0))?;
+        zero_comes_back(&rt, rt.alloc(), Value::NULL)
     }
 
     #[test]
