@@ -230,7 +230,7 @@ fn refused_texts_and_bytes(rt: HostRuntime) -> Result<(), Fail> {
     refused::<Vec<u8>>(&rt, Value::NULL)
 }
 
-// `refused` can't be proved at the types of these two: docs/DECISIONS.md says why.
+// `refused` has no proof at the types of these two: its type parameter has the bound `Drop`.
 fn refused_as_cow_text(rt: &impl Abort, value: &Value) -> Result<(), Fail> {
     gives_back(rt, from_value_opt::<CowStr<'static>>(value.clone()?), value);
     Ok(())
