@@ -1,6 +1,8 @@
 //! Any bytes: readings from buffers that nobody wrote. A success leaves exactly the rest, a refusal
 //! leaves the buffer.
-use crate::shared::{DateFields, SIGNED, TimeFields, UNSIGNED, date, read, refuses, same_in, time};
+use crate::shared::{
+    DateFields, SIGNED, TimeFields, UNSIGNED, date, read, reads, refuses, same_in, time,
+};
 use mysql_values::value::Value;
 use mysql_wire_part::{ColumnType, ParseBuf, WireError};
 use std::alloc::{AllocError, Global};
@@ -8,7 +10,7 @@ use std::process::Abort;
 use std::test::Fail;
 
 // How a type of column is read.
-#[derive(Clone, Copy, Debug)]
+#[derive(Clone, Copy)]
 enum Kind {
     // So many bytes.
     Fixed(usize),
@@ -59,7 +61,7 @@ const KINDS: [(ColumnType, Kind); 34] = [
 ];
 
 // How many bytes a reading eats, or why there is none.
-#[derive(Clone, Copy, Debug)]
+#[derive(Clone, Copy)]
 enum Expected {
     Bytes(usize),
     TooFew,
@@ -126,26 +128,25 @@ fn eats(
     input: &[u8],
 ) {
     let mut buf = ParseBuf(input);
+    let case = (column, input);
     let found = read(alloc, column, flags, &mut buf);
     match reading_of(kind, input) {
         Expected::Bytes(count) => {
-            assert!(rt; found.is_ok(), "{column:?} of {input:?}");
-            same_in(
-                rt,
-                buf.0,
-                input.get(count..).unwrap_or(&[]),
-                &(&column, &input),
-            );
+            same_in(rt, &found.is_ok(), &true, &case);
+            same_in(rt, buf.0, input.get(count..).unwrap_or(&[]), &case);
         }
         refused => {
-            same_in(
-                rt,
-                &found,
-                &Err(error_of(column, refused)),
-                &(&column, &input),
-            );
-            same_in(rt, buf.0, input, &(&column, &input));
+            same_in(rt, &found, &Err(error_of(column, refused)), &case);
+            same_in(rt, buf.0, input, &case);
         }
+    }
+}
+
+// So it is of every buffer of one or two bytes that begins with this one.
+fn eats_after(rt: &impl Abort, alloc: Global, column: (ColumnType, Kind), flags: u16, first: u8) {
+    eats(rt, alloc, column, flags, &[first]);
+    for second in 0..=255u8 {
+        eats(rt, alloc, column, flags, &[first, second]);
     }
 }
 
@@ -155,10 +156,7 @@ fn every_buffer_of_up_to_two_bytes(rt: HostRuntime) {
         for flags in [SIGNED, UNSIGNED] {
             eats(&rt, rt.alloc(), column, flags, &[]);
             for first in 0..=255u8 {
-                eats(&rt, rt.alloc(), column, flags, &[first]);
-                for second in 0..=255u8 {
-                    eats(&rt, rt.alloc(), column, flags, &[first, second]);
-                }
+                eats_after(&rt, rt.alloc(), column, flags, first);
             }
         }
     }
@@ -174,18 +172,22 @@ fn counted(alloc: Global, count: u8) -> Result<Vec<u8>, AllocError> {
     Ok(form)
 }
 
+// Each column eats what it should of the form, and of the form without its last one or two bytes.
+fn eats_cut(rt: &impl Abort, alloc: Global, form: &[u8]) {
+    for column in KINDS {
+        for missing in 0..=2usize {
+            let input = form.get(..form.len().saturating_sub(missing));
+            eats(rt, alloc, column, SIGNED, input.unwrap_or(form));
+        }
+    }
+}
+
 // After each length byte a payload that is one byte short, exact, and one byte long.
 #[test]
 fn every_length_byte(rt: HostRuntime) -> Result<(), Fail> {
     for count in 0..=255u8 {
         let form = counted(rt.alloc(), count)?;
-        let exact = form.split_last().map_or(form.as_slice(), |(_, rest)| rest);
-        let short = exact.split_last().map_or(exact, |(_, rest)| rest);
-        for column in KINDS {
-            for input in [short, exact, form.as_slice()] {
-                eats(&rt, rt.alloc(), column, SIGNED, input);
-            }
-        }
+        eats_cut(&rt, rt.alloc(), &form);
     }
     Ok(())
 }
@@ -218,14 +220,7 @@ fn reads_whole(
     form: &[u8],
     value: Value,
 ) -> Result<(), Fail> {
-    let mut buf = ParseBuf(form);
-    same_in(
-        rt,
-        &read(alloc, column, SIGNED, &mut buf)?,
-        &value,
-        &(&column, &form),
-    );
-    same_in(rt, buf.0, [42].as_slice(), &(&column, &form));
+    reads(rt, alloc, (column, SIGNED), form, &[42], value)?;
     for cut in 0..form.len().saturating_sub(1) {
         let input = form.get(..cut).unwrap_or(form);
         refuses(rt, alloc, (column, SIGNED), input, WireError::UnexpectedEof);

@@ -62,7 +62,7 @@ fn read_integers(rt: HostRuntime) -> Result<(), Fail> {
             (*column, SIGNED),
             *input,
             &[],
-            &Value::Int(*signed),
+            Value::Int(*signed),
         )?;
         // Other flags say nothing.
         let flags = UNSIGNED | 1;
@@ -72,7 +72,7 @@ fn read_integers(rt: HostRuntime) -> Result<(), Fail> {
             (*column, flags),
             *input,
             &[],
-            &Value::Int(*unsigned),
+            Value::Int(*unsigned),
         )?;
         let error = WireError::UnexpectedEof;
         refuses(&rt, alloc, (*column, UNSIGNED), &input[1..], error);
@@ -86,9 +86,9 @@ fn integer_beyond_63_bits(rt: HostRuntime) -> Result<(), Fail> {
     let column = ColumnType::MYSQL_TYPE_LONGLONG;
     let input = [0, 0, 0, 0, 0, 0, 0, 0x80];
     let least = Value::Int(-9223372036854775808);
-    reads(&rt, alloc, (column, SIGNED), &input, &[], &least)?;
+    reads(&rt, alloc, (column, SIGNED), &input, &[], least)?;
     let unsigned = Value::UInt(9223372036854775808);
-    reads(&rt, alloc, (column, UNSIGNED | 1), &input, &[], &unsigned)?;
+    reads(&rt, alloc, (column, UNSIGNED | 1), &input, &[], unsigned)?;
     refuses(
         &rt,
         alloc,
@@ -103,14 +103,14 @@ fn integer_beyond_63_bits(rt: HostRuntime) -> Result<(), Fail> {
 fn read_null_and_floats(rt: HostRuntime) -> Result<(), Fail> {
     let alloc = rt.alloc();
     let null = (ColumnType::MYSQL_TYPE_NULL, SIGNED);
-    reads(&rt, alloc, null, b"*", b"*", &Value::NULL)?;
+    reads(&rt, alloc, null, b"*", b"*", Value::NULL)?;
     let float = (ColumnType::MYSQL_TYPE_FLOAT, SIGNED);
     let one = Value::Float(1065353216);
-    reads(&rt, alloc, float, b"\x00\x00\x80\x3F*", b"*", &one)?;
+    reads(&rt, alloc, float, b"\x00\x00\x80\x3F*", b"*", one)?;
     let double = (ColumnType::MYSQL_TYPE_DOUBLE, SIGNED);
     let least = Value::Double(1);
     let input = b"\x01\x00\x00\x00\x00\x00\x00\x00*";
-    reads(&rt, alloc, double, input, b"*", &least)
+    reads(&rt, alloc, double, input, b"*", least)
 }
 
 // Dates, and after them the byte 42.
@@ -171,7 +171,7 @@ fn read_dates_and_times(rt: HostRuntime) -> Result<(), Fail> {
             (*column, SIGNED),
             *input,
             &[0x2A],
-            &date(*fields),
+            date(*fields),
         )?;
     }
     for (column, input, fields) in TIMES {
@@ -181,7 +181,7 @@ fn read_dates_and_times(rt: HostRuntime) -> Result<(), Fail> {
             (*column, SIGNED),
             *input,
             &[0x2A],
-            &time(*fields),
+            time(*fields),
         )?;
     }
     Ok(())
@@ -254,10 +254,10 @@ const STRINGS: [ColumnType; 15] = [
 
 #[test]
 fn types_that_are_read_as_strings(rt: HostRuntime) -> Result<(), Fail> {
-    let value = bytes(rt.alloc(), b"A")?;
     for column in STRINGS {
         let input = [1, 0x41, 0x2A];
-        reads(&rt, rt.alloc(), (column, UNSIGNED), &input, &[0x2A], &value)?;
+        let value = bytes(rt.alloc(), b"A")?;
+        reads(&rt, rt.alloc(), (column, UNSIGNED), &input, &[0x2A], value)?;
     }
     Ok(())
 }
@@ -276,7 +276,7 @@ const TEXTS: &[(ColumnType, &[u8], &[u8])] = &[
 fn read_strings(rt: HostRuntime) -> Result<(), Fail> {
     for (column, input, text) in TEXTS {
         let value = bytes(rt.alloc(), *text)?;
-        reads(&rt, rt.alloc(), (*column, SIGNED), *input, &[0x2A], &value)?;
+        reads(&rt, rt.alloc(), (*column, SIGNED), *input, &[0x2A], value)?;
     }
     Ok(())
 }

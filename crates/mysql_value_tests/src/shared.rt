@@ -32,6 +32,11 @@ pub(crate) fn same_in<T: Copy + Debug + PartialEq, C: Debug>(
     assert_eq!(rt; found, wanted, "of {case:?}");
 }
 
+// Bytes that are the same, and too many to be shown.
+pub(crate) fn same_bytes_in<C: Debug>(rt: &impl Abort, found: &[u8], wanted: &[u8], case: &C) {
+    assert!(rt; found == wanted, "of {case:?}");
+}
+
 // A table of plain data is cheaper to prove than one of values.
 pub(crate) fn date((year, month, day, hour, minute, second, microseconds): DateFields) -> Value {
     Value::Date(year, month, day, hour, minute, second, microseconds)
@@ -49,13 +54,22 @@ pub(crate) fn read(
     buf: &mut ParseBuf<'_>,
 ) -> Result<Value, WireError> {
     let ctx = (column, ColumnFlags::from_bits_retain(flags));
-    let value = ValueDeserializer::<BinValue>::deserialize(alloc, ctx, buf)?;
-    Ok(value.0)
+    match ValueDeserializer::<BinValue>::deserialize(alloc, ctx, buf) {
+        Ok(read) => Ok(read.0),
+        Err(error) => Err(error),
+    }
 }
 
 // The value that holds these bytes.
 pub(crate) fn bytes(alloc: Global, text: &[u8]) -> Result<Value, AllocError> {
     Ok(Value::Bytes(Bytes::from(Vec::from_slice(alloc, text)?)))
+}
+
+// The bytes of both, one after the other.
+fn joined(alloc: Global, front: &[u8], back: &[u8]) -> Result<Vec<u8>, AllocError> {
+    let mut bytes = Vec::from_slice(alloc, front)?;
+    bytes.extend_from_slice(back)?;
+    Ok(bytes)
 }
 
 // A string of so many bytes, and its form with the head that states its length.
@@ -65,8 +79,7 @@ pub(crate) fn string_and_form(
     head: &[u8],
 ) -> Result<(Vec<u8>, Vec<u8>), AllocError> {
     let text = vec![in alloc; b'a'; len]?;
-    let mut form = Vec::from_slice(alloc, head)?;
-    form.extend_from_slice(&text)?;
+    let form = joined(alloc, head, &text)?;
     Ok((text, form))
 }
 
@@ -77,12 +90,13 @@ pub(crate) fn reads(
     (column, flags): (ColumnType, u16),
     input: &[u8],
     left: &[u8],
-    value: &Value,
+    value: Value,
 ) -> Result<(), Fail> {
     let mut buf = ParseBuf(input);
+    let case = (column, input, flags);
     let found = read(alloc, column, flags, &mut buf)?;
-    same_in(rt, &found, value, &(&column, &input, &flags));
-    same_in(rt, buf.0, left, &(&column, &input, &flags));
+    same_in(rt, &found, &value, &case);
+    same_in(rt, buf.0, left, &case);
     Ok(())
 }
 
@@ -95,7 +109,8 @@ pub(crate) fn refuses(
     error: WireError,
 ) {
     let mut buf = ParseBuf(input);
+    let case = (column, input, flags);
     let refused = read(alloc, column, flags, &mut buf);
-    same_in(rt, &refused, &Err(error), &(&column, &input, &flags));
-    same_in(rt, buf.0, input, &(&column, &input, &flags));
+    same_in(rt, &refused, &Err(error), &case);
+    same_in(rt, buf.0, input, &case);
 }

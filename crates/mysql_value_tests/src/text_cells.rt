@@ -60,9 +60,10 @@ fn rows(rt: HostRuntime) -> Result<(), Fail> {
 // So many cells are refused, and the bytes are left.
 fn refuses(rt: &impl Abort, alloc: Global, input: &[u8], count: usize, error: WireError) {
     let mut buf = ParseBuf(input);
+    let case = (count, input);
     let refusal = read_text_cells(alloc, &mut buf, count).err();
-    same_in(rt, &refusal, &Some(error), &(&count, &input));
-    same_in(rt, buf.0, input, &(&count, &input));
+    same_in(rt, &refusal, &Some(error), &case);
+    same_in(rt, buf.0, input, &case);
 }
 
 // Bytes that end before so many cells do.
@@ -96,14 +97,25 @@ const CELLS: &[(&[u8], Option<&[u8]>)] = &[
     (&[2, 0x61, 0x62, 9], Some(b"ab")),
 ];
 
+// The cell is read at the front of the bytes, and the byte 9 is left.
+fn reads_cell(
+    rt: &impl Abort,
+    alloc: Global,
+    input: &[u8],
+    cell: Option<&[u8]>,
+) -> Result<(), Fail> {
+    let mut buf = ParseBuf(input);
+    let read = ValueDeserializer::<TextValue>::deserialize(alloc, (), &mut buf)?;
+    same_in(rt, &read.0, &value_of(alloc, cell)?, &input);
+    same_in(rt, buf.0, [9].as_slice(), &input);
+    Ok(())
+}
+
 #[test]
 fn single_cells(rt: HostRuntime) -> Result<(), Fail> {
     let alloc = rt.alloc();
     for (input, cell) in CELLS {
-        let mut buf = ParseBuf(*input);
-        let read = ValueDeserializer::<TextValue>::deserialize(alloc, (), &mut buf)?;
-        same_in(&rt, &read.0, &value_of(alloc, *cell)?, &input);
-        same_in(&rt, buf.0, [9].as_slice(), &input);
+        reads_cell(&rt, alloc, *input, *cell)?;
     }
     Ok(())
 }

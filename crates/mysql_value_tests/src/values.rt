@@ -3,12 +3,19 @@ use crate::shared::{DateFields, TimeFields, bytes, date, same, same_in, time};
 use mysql_values::bytes::Bytes;
 use mysql_values::value::Value;
 use std::alloc::{AllocError, Global};
+use std::fmt::Debug;
 use std::process::Abort;
 use std::test::Fail;
 
 // The value is shown as the text.
-fn is_shown(rt: &impl Abort, alloc: Global, value: &Value, text: &str) -> Result<(), Fail> {
-    same(rt, format!(in alloc; "{value:?}")?.as_str(), text);
+fn is_shown<T: Debug + Drop>(
+    rt: &impl Abort,
+    alloc: Global,
+    value: T,
+    text: &str,
+) -> Result<(), Fail> {
+    let shown = format!(in alloc; "{value:?}")?;
+    same(rt, shown.as_str(), text);
     Ok(())
 }
 
@@ -51,13 +58,13 @@ const SHOWN_TIMES: &[(TimeFields, &str)] = &[
 fn debug_texts(rt: HostRuntime) -> Result<(), Fail> {
     let alloc = rt.alloc();
     for (held, text) in SHOWN_BYTES {
-        is_shown(&rt, alloc, &bytes(alloc, *held)?, *text)?;
+        is_shown(&rt, alloc, bytes(alloc, *held)?, *text)?;
     }
     for (fields, text) in SHOWN_DATES {
-        is_shown(&rt, alloc, &date(*fields), *text)?;
+        is_shown(&rt, alloc, date(*fields), *text)?;
     }
     for (fields, text) in SHOWN_TIMES {
-        is_shown(&rt, alloc, &time(*fields), *text)?;
+        is_shown(&rt, alloc, time(*fields), *text)?;
     }
     Ok(())
 }
@@ -65,48 +72,69 @@ fn debug_texts(rt: HostRuntime) -> Result<(), Fail> {
 #[test]
 fn debug_texts_of_null_and_numbers(rt: HostRuntime) -> Result<(), Fail> {
     let alloc = rt.alloc();
-    is_shown(&rt, alloc, &Value::NULL, "Null")?;
-    is_shown(&rt, alloc, &Value::Int(-3), "Int(-3)")?;
-    is_shown(&rt, alloc, &Value::UInt(5), "UInt(5)")?;
-    is_shown(&rt, alloc, &Value::Float(1065353216), "Float(1065353216)")?;
-    is_shown(&rt, alloc, &Value::Double(0), "Double(0)")
+    is_shown(&rt, alloc, Value::NULL, "Null")?;
+    is_shown(&rt, alloc, Value::Int(-3), "Int(-3)")?;
+    is_shown(&rt, alloc, Value::UInt(5), "UInt(5)")?;
+    is_shown(&rt, alloc, Value::Float(1065353216), "Float(1065353216)")?;
+    is_shown(&rt, alloc, Value::Double(0), "Double(0)")
 }
 
+const ASCENDING_BYTES: &[&[u8]] = &[b"", b"a", b"ab", b"b", b"\xff"];
+
+const ASCENDING_DATES: &[DateFields] = &[
+    (2018, 12, 31, 23, 59, 59, 999999),
+    (2019, 1, 1, 0, 0, 0, 0),
+    (2019, 1, 1, 0, 0, 0, 1),
+];
+
+const ASCENDING_TIMES: &[TimeFields] = &[
+    (false, 1, 0, 0, 0, 0),
+    (false, 1, 0, 0, 1, 0),
+    (true, 0, 0, 0, 0, 0),
+    (true, 1, 0, 0, 0, 0),
+];
+
 // Values in their order, no two of them equal.
-fn ascending(alloc: Global) -> Result<[Value; 20], AllocError> {
-    Ok([
-        Value::NULL,
-        bytes(alloc, b"")?,
-        bytes(alloc, b"a")?,
-        bytes(alloc, b"ab")?,
-        bytes(alloc, b"b")?,
-        bytes(alloc, b"\xff")?,
-        Value::Int(-1),
-        Value::Int(0),
-        Value::UInt(0),
-        Value::UInt(9223372036854775808),
-        // The bits of 1.0 and of -1.0.
-        Value::Float(1065353216),
-        Value::Float(3212836864),
-        Value::Double(0),
-        Value::Date(2018, 12, 31, 23, 59, 59, 999999),
-        Value::Date(2019, 1, 1, 0, 0, 0, 0),
-        Value::Date(2019, 1, 1, 0, 0, 0, 1),
-        Value::Time(false, 1, 0, 0, 0, 0),
-        Value::Time(false, 1, 0, 0, 1, 0),
-        Value::Time(true, 0, 0, 0, 0, 0),
-        Value::Time(true, 1, 0, 0, 0, 0),
-    ])
+fn ascending(alloc: Global) -> Result<Vec<Value>, AllocError> {
+    let mut values = Vec::new(alloc);
+    values.push(Value::NULL)?;
+    for held in ASCENDING_BYTES {
+        values.push(bytes(alloc, *held)?)?;
+    }
+    for number in [-1, 0] {
+        values.push(Value::Int(number))?;
+    }
+    for number in [0, 9223372036854775808] {
+        values.push(Value::UInt(number))?;
+    }
+    // The bits of 1.0 and of -1.0.
+    for bits in [1065353216, 3212836864] {
+        values.push(Value::Float(bits))?;
+    }
+    values.push(Value::Double(0))?;
+    for fields in ASCENDING_DATES {
+        values.push(date(*fields))?;
+    }
+    for fields in ASCENDING_TIMES {
+        values.push(time(*fields))?;
+    }
+    Ok(values)
+}
+
+// Two values are equal where their places are, and stand in the order of these.
+fn are_in_order<T: Debug + Ord>(rt: &impl Abort, (i, a): (usize, &T), (j, b): (usize, &T)) {
+    same_in(rt, &(a == b), &(i == j), &(a, b));
+    same_in(rt, &a.cmp(b), &i.cmp(&j), &(a, b));
+    same_in(rt, &a.partial_cmp(b), &Some(i.cmp(&j)), &(a, b));
 }
 
 #[test]
 fn equality_and_order(rt: HostRuntime) -> Result<(), Fail> {
     let values = ascending(rt.alloc())?;
+    same(&rt, &values.len(), &20);
     for (i, a) in values.iter().enumerate() {
         for (j, b) in values.iter().enumerate() {
-            same_in(&rt, &(a == b), &(i == j), &(&a, &b));
-            same_in(&rt, &a.cmp(b), &i.cmp(&j), &(&a, &b));
-            same_in(&rt, &a.partial_cmp(b), &Some(i.cmp(&j)), &(&a, &b));
+            are_in_order(&rt, (i, a), (j, b));
         }
     }
     Ok(())
