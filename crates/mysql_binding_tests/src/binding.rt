@@ -1,5 +1,5 @@
 //! Queries with values bound into them, and those that are refused.
-use crate::shared::{EITHER_MODE, Given, Plain, Refused, is_bound, is_refused_by};
+use crate::shared::{EITHER_MODE, Given, Plain, Refused, is_bound, is_refused_by, same_in, says};
 use mysql_params::laws::bind_error_equality;
 use mysql_params::{BindError, bind_text};
 use std::alloc::{AllocError, Global};
@@ -54,8 +54,8 @@ fn vectors_of_exactly_the_length(rt: HostRuntime) -> Result<(), Fail> {
     for (query, given, wanted) in TEXTS {
         let params = given.params(rt.alloc())?;
         match bind_text(rt.alloc(), *query, params) {
-            Ok(text) => assert_eq!(rt; text.capacity(), wanted.len(), "of {query:?}"),
-            Err(error) => assert!(rt; false, "{query:?}: {error}"),
+            Ok(text) => same_in(&rt, &text.capacity(), &wanted.len(), query),
+            Err(error) => same_in(&rt, &Some(error), &None, query),
         }
     }
     Ok(())
@@ -163,48 +163,61 @@ fn first_cause_of_refusal(rt: HostRuntime) -> Result<(), Fail> {
     Ok(())
 }
 
-/// The refusal prints the message.
-fn says(rt: &impl Abort, alloc: Global, error: BindError, message: &str) -> Result<(), Fail> {
-    assert_eq!(rt; error.to_string(alloc)?.as_str(), message);
-    Ok(())
-}
+/// Refusals, and what they print.
+const MESSAGES: &[(Refused<'_>, &str)] = &[
+    (Refused::Mixed, "Named and positional params in one query"),
+    (
+        Refused::Missing(b"a\n"),
+        "Missing named parameter `a\\x0a` for statement",
+    ),
+    (
+        Refused::NamedGiven,
+        "Named params given where positional params are expected",
+    ),
+    (
+        Refused::PositionalGiven,
+        "Positional params given where named params are expected",
+    ),
+    (Refused::MarkCount(2, 1), "Query has 2 marks and 1 values"),
+    (
+        Refused::NotAlone(0, 1),
+        "Place 0 at byte 1 does not stand alone",
+    ),
+    (Refused::Float(0), "Float at place 0"),
+];
 
 #[test]
 fn messages(rt: HostRuntime) -> Result<(), Fail> {
     let alloc = rt.alloc();
-    let mixed = "Named and positional params in one query";
-    says(&rt, alloc, Refused::Mixed.error(alloc)?, mixed)?;
-    let missing = "Missing named parameter `a\\x0a` for statement";
-    says(&rt, alloc, Refused::Missing(b"a\n").error(alloc)?, missing)?;
-    let named = "Named params given where positional params are expected";
-    says(&rt, alloc, Refused::NamedGiven.error(alloc)?, named)?;
-    let positional = "Positional params given where named params are expected";
-    says(
-        &rt,
-        alloc,
-        Refused::PositionalGiven.error(alloc)?,
-        positional,
-    )?;
-    let count = "Query has 2 marks and 1 values";
-    says(&rt, alloc, Refused::MarkCount(2, 1).error(alloc)?, count)?;
-    let alone = "Place 0 at byte 1 does not stand alone";
-    says(&rt, alloc, Refused::NotAlone(0, 1).error(alloc)?, alone)?;
-    says(
-        &rt,
-        alloc,
-        Refused::Float(0).error(alloc)?,
-        "Float at place 0",
-    )?;
+    for (refused, message) in MESSAGES {
+        says(&rt, alloc, refused.error(alloc)?, *message)?;
+    }
     says(&rt, alloc, BindError::Memory(AllocError), "out of memory")
+}
+
+/// The two refusals are equal, or are not.
+fn are_equal(
+    rt: &impl Abort,
+    alloc: Global,
+    a: Refused<'_>,
+    b: Refused<'_>,
+    equal: bool,
+) -> Result<(), Fail> {
+    let first = a.error(alloc)?;
+    let second = b.error(alloc)?;
+    same_in(
+        rt,
+        &bind_error_equality(&first, &second),
+        &equal,
+        &(&first, &second),
+    );
+    Ok(())
 }
 
 #[test]
 fn equality_of_refusals(rt: HostRuntime) -> Result<(), Fail> {
-    let a = Refused::Missing(b"a").error(rt.alloc())?;
-    let same = Refused::Missing(b"a").error(rt.alloc())?;
-    let other = Refused::Missing(b"b").error(rt.alloc())?;
-    assert!(rt; bind_error_equality(&a, &same));
-    assert!(rt; !bind_error_equality(&a, &other));
-    assert!(rt; !bind_error_equality(&a, &BindError::Mixed));
-    Ok(())
+    let missing = Refused::Missing(b"a");
+    are_equal(&rt, rt.alloc(), missing, missing, true)?;
+    are_equal(&rt, rt.alloc(), missing, Refused::Missing(b"b"), false)?;
+    are_equal(&rt, rt.alloc(), missing, Refused::Mixed, false)
 }

@@ -60,6 +60,7 @@ pub fn nothing(alloc: Global) -> Result<Vec<u8>, AllocError> {
 #[cfg(test)]
 mod tests {
     use super::*;
+    use crate::shared::is_text;
     use std::test::Fail;
 
     const PAID_ORDERS: &[u8] = b"SELECT * FROM orders -- ?\nWHERE total>-3 \
@@ -69,43 +70,44 @@ mod tests {
 
     #[test]
     fn by_name(rt: HostRuntime) -> Result<(), Fail> {
-        let text = customer(rt.alloc(), 42, HOSTILE)?;
         let wanted = b"SELECT ':id' FROM customer WHERE id=42 AND 'x\\' OR \\'1\\'=\\'1' <> name";
-        assert_eq!(rt; text.as_slice(), wanted.as_slice());
-        let text = twice(rt.alloc(), 7)?;
-        assert_eq!(rt; text.as_slice(), b"SELECT 7*7".as_slice());
+        is_text(&rt, customer(rt.alloc(), 42, HOSTILE)?, wanted);
+        is_text(&rt, twice(rt.alloc(), 7)?, b"SELECT 7*7");
         Ok(())
     }
 
     #[test]
     fn by_name_without_backslashes(rt: HostRuntime) -> Result<(), Fail> {
-        let text = customer_in(rt.alloc(), 42, "\\' OR 1=1 -- ")?;
         let wanted = b"SELECT ':id' FROM customer WHERE id=42 AND '\\'' OR 1=1 -- ' <> name";
-        assert_eq!(rt; text.as_slice(), wanted.as_slice());
+        is_text(&rt, customer_in(rt.alloc(), 42, "\\' OR 1=1 -- ")?, wanted);
         Ok(())
     }
 
     #[test]
     fn by_position(rt: HostRuntime) -> Result<(), Fail> {
-        let text = orders(rt.alloc(), -3, Some(HOSTILE), true)?;
-        assert_eq!(rt; text.as_slice(), PAID_ORDERS);
-        let text = orders(rt.alloc(), 0, None, false)?;
+        is_text(
+            &rt,
+            orders(rt.alloc(), -3, Some(HOSTILE), true)?,
+            PAID_ORDERS,
+        );
         let wanted = b"SELECT * FROM orders -- ?\nWHERE total>0 AND (name=NULL OR paid=0)";
-        assert_eq!(rt; text.as_slice(), wanted.as_slice());
+        is_text(&rt, orders(rt.alloc(), 0, None, false)?, wanted);
         Ok(())
     }
 
     #[test]
     fn by_position_without_backslashes(rt: HostRuntime) -> Result<(), Fail> {
-        let text = path(rt.alloc(), "D:\\it's")?;
-        assert_eq!(rt; text.as_slice(), b"SELECT 'C:\\', 'D:\\it''s'".as_slice());
+        is_text(
+            &rt,
+            path(rt.alloc(), "D:\\it's")?,
+            b"SELECT 'C:\\', 'D:\\it''s'",
+        );
         Ok(())
     }
 
     #[test]
     fn without_places(rt: HostRuntime) -> Result<(), Fail> {
-        let text = nothing(rt.alloc())?;
-        assert_eq!(rt; text.as_slice(), b"SELECT ':a', '?'".as_slice());
+        is_text(&rt, nothing(rt.alloc())?, b"SELECT ':a', '?'");
         Ok(())
     }
 }

@@ -1,5 +1,7 @@
 //! Values that try to leave their literals.
-use crate::shared::{Given, Plain, WITHOUT_BACKSLASHES, is_bound, is_bound_by};
+use crate::shared::{
+    Given, Plain, WITH_BACKSLASHES, WITHOUT_BACKSLASHES, is_bound, string_is_bound_by,
+};
 use std::alloc::{AllocError, Global};
 use std::test::Fail;
 
@@ -52,10 +54,7 @@ fn literal_without_backslashes(alloc: Global, byte: u8) -> Result<Vec<u8>, Alloc
 fn each_value_of_one_byte(rt: HostRuntime) -> Result<(), Fail> {
     for byte in 0..=255u8 {
         let wanted = literal(rt.alloc(), byte)?;
-        let value = [byte];
-        let values = [Plain::Text(&value)];
-        let given = Given::Positional(&values);
-        is_bound(&rt, rt.alloc(), b"?", given, wanted.as_slice())?;
+        string_is_bound_by(&rt, rt.alloc(), WITH_BACKSLASHES, b"?", &[byte], &wanted)?;
     }
     Ok(())
 }
@@ -64,53 +63,54 @@ fn each_value_of_one_byte(rt: HostRuntime) -> Result<(), Fail> {
 fn each_value_of_one_byte_without_backslashes(rt: HostRuntime) -> Result<(), Fail> {
     for byte in 0..=255u8 {
         let wanted = literal_without_backslashes(rt.alloc(), byte)?;
-        let value = [byte];
-        let values = [Plain::Text(&value)];
-        let given = Given::Positional(&values);
-        is_bound_by(
-            &rt,
-            rt.alloc(),
-            WITHOUT_BACKSLASHES,
-            b"?",
-            given,
-            wanted.as_slice(),
-        )?;
+        string_is_bound_by(&rt, rt.alloc(), WITHOUT_BACKSLASHES, b"?", &[byte], &wanted)?;
     }
     Ok(())
 }
 
+/// Queries, and what is given to them: values that look like places.
+const LIKE_PLACES: &[(&[u8], Given<'_>)] = &[
+    (
+        b"SELECT :a, :b",
+        Given::Named(&[(b"a", Plain::Text(b":b")), (b"b", Plain::Text(b"?"))]),
+    ),
+    (b"SELECT ':b', '?'", Given::Nothing),
+    (
+        b"SELECT ?, ?",
+        Given::Positional(&[Plain::Text(b":b"), Plain::Text(b"?")]),
+    ),
+];
+
 #[test]
 fn values_that_look_like_places(rt: HostRuntime) -> Result<(), Fail> {
-    let alloc = rt.alloc();
-    let bound = b"SELECT ':b', '?'";
-    let named = Given::Named(&[(b"a", Plain::Text(b":b")), (b"b", Plain::Text(b"?"))]);
-    is_bound(&rt, alloc, b"SELECT :a, :b", named, bound)?;
-    is_bound(&rt, alloc, bound, Given::Nothing, bound)?;
-    let positional = Given::Positional(&[Plain::Text(b":b"), Plain::Text(b"?")]);
-    is_bound(&rt, alloc, b"SELECT ?, ?", positional, bound)
+    for (query, given) in LIKE_PLACES {
+        is_bound(&rt, rt.alloc(), *query, *given, b"SELECT ':b', '?'")?;
+    }
+    Ok(())
 }
+
+/// Queries, what is given to them, and the text: values of two types that say the same.
+const SAME: &[(&[u8], Given<'_>, &[u8])] = &[
+    (b":a", Given::Named(&[(b"a", Plain::Int(5))]), b"5"),
+    (b":a", Given::Named(&[(b"a", Plain::UInt(5))]), b"5"),
+    (
+        b"?",
+        Given::Positional(&[Plain::Day(2019, 11, 27)]),
+        b"'2019-11-27'",
+    ),
+    (
+        b"?",
+        Given::Positional(&[Plain::Text(b"2019-11-27")]),
+        b"'2019-11-27'",
+    ),
+];
 
 #[test]
 fn values_that_say_the_same(rt: HostRuntime) -> Result<(), Fail> {
-    let alloc = rt.alloc();
-    is_bound(
-        &rt,
-        alloc,
-        b":a",
-        Given::Named(&[(b"a", Plain::Int(5))]),
-        b"5",
-    )?;
-    is_bound(
-        &rt,
-        alloc,
-        b":a",
-        Given::Named(&[(b"a", Plain::UInt(5))]),
-        b"5",
-    )?;
-    let day = Given::Positional(&[Plain::Day(2019, 11, 27)]);
-    is_bound(&rt, alloc, b"?", day, b"'2019-11-27'")?;
-    let text = Given::Positional(&[Plain::Text(b"2019-11-27")]);
-    is_bound(&rt, alloc, b"?", text, b"'2019-11-27'")
+    for (query, given, wanted) in SAME {
+        is_bound(&rt, rt.alloc(), *query, *given, *wanted)?;
+    }
+    Ok(())
 }
 
 /// Values that end a string, a comment or a statement elsewhere.
@@ -128,9 +128,8 @@ const HOSTILE: &[(&[u8], &[u8])] = &[
 #[test]
 fn hostile_values(rt: HostRuntime) -> Result<(), Fail> {
     for (value, wanted) in HOSTILE {
-        let values = [Plain::Text(*value)];
-        let given = Given::Positional(&values);
-        is_bound(&rt, rt.alloc(), b"SELECT ?, 1", given, *wanted)?;
+        let query = b"SELECT ?, 1";
+        string_is_bound_by(&rt, rt.alloc(), WITH_BACKSLASHES, query, *value, *wanted)?;
     }
     Ok(())
 }

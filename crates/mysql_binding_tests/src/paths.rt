@@ -120,6 +120,7 @@ pub use mysql_wire_part::put_lenenc_str;
 #[cfg(test)]
 mod tests {
     use super::*;
+    use crate::shared::same;
     use std::alloc::{AllocError, Global};
     use std::test::Fail;
 
@@ -129,9 +130,13 @@ mod tests {
         let Ok(cells) = read_text_cells(alloc, &mut buf, 1) else {
             return Ok(None);
         };
-        let [cell, ..] = cells.as_slice() else {
-            return Ok(None);
-        };
+        match cells.as_slice() {
+            [cell, ..] => literal_of(alloc, cell),
+            [] => Ok(None),
+        }
+    }
+
+    fn literal_of(alloc: Global, cell: &Value) -> Result<Option<String>, AllocError> {
         match cell.as_sql(alloc, false) {
             Ok(literal) => Ok(Some(literal)),
             Err(AsSqlError::Memory(error)) => Err(error),
@@ -142,13 +147,13 @@ mod tests {
     #[test]
     fn paths_are_those_of_the_types_that_calls_name(rt: HostRuntime) -> Result<(), Fail> {
         let literal = literal_of_cell(rt.alloc(), b"\x04it's")?;
-        assert_eq!(rt; literal.ok_or("no literal")?.as_str(), "'it\\'s'");
+        same(&rt, literal.ok_or("no literal")?.as_str(), "'it\\'s'");
         let refusal: Option<BindError> = bind_text(rt.alloc(), b"?", Params::Empty).err();
         let count = BindError::MarkCount {
             marks: 1,
             values: 0,
         };
-        assert_eq!(rt; refusal, Some(count));
+        same(&rt, &refusal, &Some(count));
         Ok(())
     }
 }

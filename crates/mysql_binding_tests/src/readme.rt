@@ -33,23 +33,34 @@ pub fn customer_by_position(alloc: Global, id: u64, name: &str) -> Result<Vec<u8
 #[cfg(test)]
 mod tests {
     use super::*;
+    use std::process::Abort;
     use std::test::Fail;
 
     const HOSTILE: &str = "x' OR '1'='1";
 
     const BOUND: &[u8] = b"SELECT 42, ':id', 'x\\' OR \\'1\\'=\\'1'";
 
+    // The text is this.
+    fn is_text(rt: &impl Abort, text: Vec<u8>, wanted: &[u8]) {
+        assert_eq!(rt; text.as_slice(), wanted);
+    }
+
+    // The error prints the message.
+    fn says(rt: &impl Abort, alloc: Global, error: QueryError, message: &str) -> Result<(), Fail> {
+        let printed = error.to_string(alloc)?;
+        assert_eq!(rt; printed.as_str(), message);
+        Ok(())
+    }
+
     #[test]
     fn by_name(rt: HostRuntime) -> Result<(), Fail> {
-        let text = customer(rt.alloc(), 42, HOSTILE)?;
-        assert_eq!(rt; text.as_slice(), BOUND);
+        is_text(&rt, customer(rt.alloc(), 42, HOSTILE)?, BOUND);
         Ok(())
     }
 
     #[test]
     fn by_position(rt: HostRuntime) -> Result<(), Fail> {
-        let text = customer_by_position(rt.alloc(), 42, HOSTILE)?;
-        assert_eq!(rt; text.as_slice(), BOUND);
+        is_text(&rt, customer_by_position(rt.alloc(), 42, HOSTILE)?, BOUND);
         Ok(())
     }
 
@@ -57,12 +68,15 @@ mod tests {
     #[test]
     fn errors(rt: HostRuntime) -> Result<(), Fail> {
         let refusal = QueryError::from(BindError::Float { place: 0 });
-        assert_eq!(rt; refusal.to_string(rt.alloc())?.as_str(), "Float at place 0");
+        says(&rt, rt.alloc(), refusal, "Float at place 0")?;
         let name = Vec::from_slice(rt.alloc(), b"id")?;
         let refusal = QueryError::from(ToParamsError::Redefined(name));
-        let message = "Redefinition of named parameter `id'";
-        assert_eq!(rt; refusal.to_string(rt.alloc())?.as_str(), message);
-        Ok(())
+        says(
+            &rt,
+            rt.alloc(),
+            refusal,
+            "Redefinition of named parameter `id'",
+        )
     }
 
     #[test]
@@ -70,16 +84,22 @@ mod tests {
         let alloc = rt.alloc();
         let pairs: [(&[u8], &dyn ToValue); 2] = [(b"id", &42u8), (b"name", &"it's")];
         let params = Params::from_objects(alloc, &pairs)?;
-        let text = bind_text(alloc, b"SELECT :id, ':id', :name", params)?;
-        assert_eq!(rt; text.as_slice(), b"SELECT 42, ':id', 'it\\'s'".as_slice());
+        is_text(
+            &rt,
+            bind_text(alloc, b"SELECT :id, ':id', :name", params)?,
+            b"SELECT 42, ':id', 'it\\'s'",
+        );
         Ok(())
     }
 
     #[test]
     fn literals_by_position(rt: HostRuntime) -> Result<(), Fail> {
         let params = (42u8, None::<i64>).to_params(rt.alloc())?;
-        let text = bind_text(rt.alloc(), b"SELECT ?, ?", params)?;
-        assert_eq!(rt; text.as_slice(), b"SELECT 42, NULL".as_slice());
+        is_text(
+            &rt,
+            bind_text(rt.alloc(), b"SELECT ?, ?", params)?,
+            b"SELECT 42, NULL",
+        );
         Ok(())
     }
 }

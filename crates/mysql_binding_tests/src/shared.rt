@@ -5,8 +5,41 @@ use mysql_values::bytes::Bytes;
 use mysql_values::value::Value;
 use std::alloc::{AllocError, Global};
 use std::collections::HashMap;
+use std::fmt::{Debug, Display};
 use std::process::Abort;
 use std::test::Fail;
+
+/// The two are the same. A call is cheaper to prove than the message.
+pub(crate) fn same<T: Copy + Debug + PartialEq>(rt: &impl Abort, found: T, wanted: T) {
+    assert_eq!(rt; found, wanted);
+}
+
+/// The same, with a message that names the case.
+pub(crate) fn same_in<T: Copy + Debug + PartialEq, C: Debug>(
+    rt: &impl Abort,
+    found: T,
+    wanted: T,
+    case: &C,
+) {
+    assert_eq!(rt; found, wanted, "of {case:?}");
+}
+
+/// The text is this.
+pub(crate) fn is_text(rt: &impl Abort, text: Vec<u8>, wanted: &[u8]) {
+    same(rt, text.as_slice(), wanted);
+}
+
+/// The error prints the message.
+pub(crate) fn says<E: Display + Drop>(
+    rt: &impl Abort,
+    alloc: Global,
+    error: E,
+    message: &str,
+) -> Result<(), Fail> {
+    let printed = error.to_string(alloc)?;
+    same(rt, printed.as_str(), message);
+    Ok(())
+}
 
 /// A value.
 #[derive(Clone, Copy, Debug)]
@@ -29,7 +62,7 @@ pub(crate) enum Given<'a> {
 }
 
 /// Why a query is refused.
-#[derive(Clone, Copy, Debug)]
+#[derive(Clone, Copy)]
 pub(crate) enum Refused<'a> {
     Mixed,
     Missing(&'a [u8]),
@@ -38,6 +71,11 @@ pub(crate) enum Refused<'a> {
     MarkCount(usize, usize),
     NotAlone(usize, usize),
     Float(usize),
+}
+
+/// The value that holds these bytes.
+fn bytes(alloc: Global, text: &[u8]) -> Result<Value, AllocError> {
+    Ok(Value::Bytes(Bytes::from(Vec::from_slice(alloc, text)?)))
 }
 
 impl Plain<'_> {
@@ -49,7 +87,7 @@ impl Plain<'_> {
             Plain::Float => Ok(Value::Float(0)),
             Plain::Double => Ok(Value::Double(0)),
             Plain::Day(year, month, day) => Ok(Value::Date(year, month, day, 0, 0, 0, 0)),
-            Plain::Text(bytes) => Ok(Value::Bytes(Bytes::from(Vec::from_slice(alloc, bytes)?))),
+            Plain::Text(text) => bytes(alloc, text),
         }
     }
 }
@@ -57,11 +95,8 @@ impl Plain<'_> {
 fn named(alloc: Global, pairs: &[(&[u8], Plain<'_>)]) -> Result<Params, AllocError> {
     let mut entries = HashMap::new(alloc);
     for (name, plain) in pairs {
-        let value = plain.value(alloc)?;
-        if entries
-            .insert(Vec::from_slice(alloc, *name)?, value)
-            .is_err()
-        {
+        let name = Vec::from_slice(alloc, *name)?;
+        if entries.insert(name, plain.value(alloc)?).is_err() {
             return Err(AllocError);
         }
     }
@@ -86,14 +121,17 @@ impl Given<'_> {
     }
 }
 
+/// The refusal of a query whose params lack this name.
+fn missing(alloc: Global, name: &[u8]) -> Result<BindError, AllocError> {
+    let missing = MissingNamedParameterError(Vec::from_slice(alloc, name)?);
+    Ok(BindError::Params(ParamsError::Missing(missing)))
+}
+
 impl Refused<'_> {
     pub(crate) fn error(self, alloc: Global) -> Result<BindError, AllocError> {
         match self {
             Refused::Mixed => Ok(BindError::Mixed),
-            Refused::Missing(name) => {
-                let missing = MissingNamedParameterError(Vec::from_slice(alloc, name)?);
-                Ok(BindError::Params(ParamsError::Missing(missing)))
-            }
+            Refused::Missing(name) => missing(alloc, name),
             Refused::NamedGiven => Ok(BindError::Params(ParamsError::Confusion(
                 ParamsConfusionError::NamedParamsForPositionalQuery,
             ))),
@@ -154,13 +192,10 @@ pub(crate) fn is_bound_by(
     wanted: &[u8],
 ) -> Result<(), Fail> {
     for spelling in spellings {
+        let case = (query, given, spelling);
         match spelling.bound(alloc, query, given.params(alloc)?) {
-            Ok(text) => assert_eq!(rt;
-                text.as_slice(),
-                wanted,
-                "of {query:?} and {given:?} by {spelling:?}"
-            ),
-            Err(error) => assert!(rt; false, "{query:?} and {given:?} by {spelling:?}: {error}"),
+            Ok(text) => same_in(rt, text.as_slice(), wanted, &case),
+            Err(error) => same_in(rt, &Some(error), &None, &case),
         }
     }
     Ok(())
@@ -177,6 +212,26 @@ pub(crate) fn is_bound(
     is_bound_by(rt, alloc, WITH_BACKSLASHES, query, given, wanted)
 }
 
+/// By each of the calls, the query is bound to the text where its one mark stands for this string.
+pub(crate) fn string_is_bound_by(
+    rt: &impl Abort,
+    alloc: Global,
+    spellings: &[Spelling],
+    query: &[u8],
+    string: &[u8],
+    wanted: &[u8],
+) -> Result<(), Fail> {
+    let values = [Plain::Text(string)];
+    is_bound_by(
+        rt,
+        alloc,
+        spellings,
+        query,
+        Given::Positional(&values),
+        wanted,
+    )
+}
+
 /// By each of the calls, the query is refused so.
 pub(crate) fn is_refused_by(
     rt: &impl Abort,
@@ -187,15 +242,10 @@ pub(crate) fn is_refused_by(
     refused: Refused<'_>,
 ) -> Result<(), Fail> {
     for spelling in spellings {
-        let wanted = refused.error(alloc)?;
-        match spelling.bound(alloc, query, given.params(alloc)?) {
-            Ok(_) => assert!(rt; false, "{query:?} and {given:?} are bound by {spelling:?}"),
-            Err(error) => assert_eq!(rt;
-                error,
-                wanted,
-                "of {query:?} and {given:?} by {spelling:?}"
-            ),
-        }
+        let case = (query, given, spelling);
+        let found = spelling.bound(alloc, query, given.params(alloc)?).err();
+        let wanted = Some(refused.error(alloc)?);
+        same_in(rt, &found, &wanted, &case);
     }
     Ok(())
 }

@@ -2,6 +2,7 @@
 //! in literals.
 use crate::shared::{
     Given, Plain, Refused, WITH_BACKSLASHES, WITHOUT_BACKSLASHES, is_bound_by, is_refused_by,
+    string_is_bound_by,
 };
 use std::test::Fail;
 
@@ -80,15 +81,8 @@ const HOSTILE: &[(&[u8], &[u8])] = &[
 #[test]
 fn hostile_values(rt: HostRuntime) -> Result<(), Fail> {
     for (value, wanted) in HOSTILE {
-        let values = [Plain::Text(*value)];
-        is_bound_by(
-            &rt,
-            rt.alloc(),
-            WITHOUT_BACKSLASHES,
-            b"SELECT ?, 1",
-            Given::Positional(&values),
-            *wanted,
-        )?;
+        let query = b"SELECT ?, 1";
+        string_is_bound_by(&rt, rt.alloc(), WITHOUT_BACKSLASHES, query, *value, *wanted)?;
     }
     Ok(())
 }
