@@ -1,5 +1,5 @@
 //! The command `bind`.
-use crate::shared::run_over_memory;
+use crate::shared::{refuses, same_in, writes};
 use mysql_params::params::{MissingNamedParameterError, ParamsConfusionError, ParamsError};
 use mysql_params::{BindError, RunError};
 use std::alloc::Global;
@@ -62,16 +62,13 @@ const ANSWERS: &[(&[&str], &[u8], &[u8])] = &[
 #[test]
 fn bound_queries(rt: HostRuntime) -> Result<(), Fail> {
     for (texts, query, wanted) in ANSWERS {
-        let ran = run_over_memory(rt.alloc(), *texts, *query)?;
-        assert_eq!(rt; ran.answer, Ok(()), "to {texts:?}");
-        assert_eq!(rt; ran.written.as_slice(), *wanted, "to {texts:?}");
-        assert_eq!(rt; ran.left, 0, "to {texts:?}");
+        writes(&rt, rt.alloc(), *texts, *query, *wanted)?;
     }
     Ok(())
 }
 
 /// The query is read, and refused with the status 1; nothing is written.
-fn refuses(
+fn refuses_to_bind(
     rt: &impl Abort,
     alloc: Global,
     texts: &[&str],
@@ -79,11 +76,8 @@ fn refuses(
     refusal: BindError,
 ) -> Result<(), Fail> {
     let wanted = RunError::Bind(refusal);
-    assert_eq!(rt; wanted.status(), 1, "to {texts:?}");
-    let ran = run_over_memory(alloc, texts, query)?;
-    assert_eq!(rt; ran.answer, Err(wanted), "to {texts:?}");
-    assert_eq!(rt; (ran.left, ran.written.len()), (0, 0), "to {texts:?}");
-    Ok(())
+    same_in(rt, &wanted.status(), &1, &texts);
+    refuses(rt, alloc, texts, query, wanted)
 }
 
 #[test]
@@ -92,13 +86,13 @@ fn queries_that_are_not_bound(rt: HostRuntime) -> Result<(), Fail> {
         marks: 1,
         values: 0,
     };
-    refuses(&rt, rt.alloc(), &["bind"], b"?", count)?;
-    refuses(&rt, rt.alloc(), &["bind"], b":a ?", BindError::Mixed)?;
+    refuses_to_bind(&rt, rt.alloc(), &["bind"], b"?", count)?;
+    refuses_to_bind(&rt, rt.alloc(), &["bind"], b":a ?", BindError::Mixed)?;
     let named = ParamsConfusionError::NamedParamsForPositionalQuery;
     let named = BindError::Params(ParamsError::Confusion(named));
-    refuses(&rt, rt.alloc(), &["bind", "A=i:1"], b"SELECT 1", named)?;
+    refuses_to_bind(&rt, rt.alloc(), &["bind", "A=i:1"], b"SELECT 1", named)?;
     let alone = BindError::NotAlone { place: 0, at: 1 };
-    refuses(&rt, rt.alloc(), &["bind", "a=s:x"], b"x:a", alone)
+    refuses_to_bind(&rt, rt.alloc(), &["bind", "a=s:x"], b"x:a", alone)
 }
 
 // The name ends before the capital.
@@ -106,7 +100,7 @@ fn queries_that_are_not_bound(rt: HostRuntime) -> Result<(), Fail> {
 fn a_name_with_a_capital_in_it(rt: HostRuntime) -> Result<(), Fail> {
     let name = Vec::from_slice(rt.alloc(), b"user")?;
     let missing = BindError::Params(ParamsError::Missing(MissingNamedParameterError(name)));
-    refuses(
+    refuses_to_bind(
         &rt,
         rt.alloc(),
         &["bind", "userId=i:1"],
@@ -114,5 +108,5 @@ fn a_name_with_a_capital_in_it(rt: HostRuntime) -> Result<(), Fail> {
         missing,
     )?;
     let alone = BindError::NotAlone { place: 0, at: 0 };
-    refuses(&rt, rt.alloc(), &["bind", "user=i:1"], b":userId", alone)
+    refuses_to_bind(&rt, rt.alloc(), &["bind", "user=i:1"], b":userId", alone)
 }

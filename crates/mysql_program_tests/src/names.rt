@@ -1,5 +1,5 @@
 //! The command `names`.
-use crate::shared::run_over_memory;
+use crate::shared::{refuses, writes};
 use mysql_params::RunError;
 use std::test::Fail;
 
@@ -15,18 +15,12 @@ const ANSWERS: &[(&[u8], &[u8])] = &[
 #[test]
 fn writes_the_query_and_its_names(rt: HostRuntime) -> Result<(), Fail> {
     for (query, wanted) in ANSWERS {
-        let ran = run_over_memory(rt.alloc(), &["names"], *query)?;
-        assert_eq!(rt; ran.answer, Ok(()), "of {query:?}");
-        assert_eq!(rt; ran.written.as_slice(), *wanted, "of {query:?}");
-        assert_eq!(rt; ran.left, 0, "of {query:?}");
+        writes(&rt, rt.alloc(), &["names"], *query, *wanted)?;
     }
     Ok(())
 }
 
 #[test]
 fn a_mixed_query_writes_nothing(rt: HostRuntime) -> Result<(), Fail> {
-    let ran = run_over_memory(rt.alloc(), &["names"], b":a ?")?;
-    assert_eq!(rt; ran.answer, Err(RunError::Mixed));
-    assert_eq!(rt; (ran.left, ran.written.len()), (0, 0));
-    Ok(())
+    refuses(&rt, rt.alloc(), &["names"], b":a ?", RunError::Mixed)
 }

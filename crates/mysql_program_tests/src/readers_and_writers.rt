@@ -1,8 +1,8 @@
 //! Both commands over readers and writers that give and take little, and fail at a stated call: how
 //! often they are called, and what was written.
-use crate::shared::{Fault, SlowReader, SlowWriter, run_over};
+use crate::shared::{Fault, SlowReader, SlowWriter, run_over, same, same_in};
 use mysql_params::{BindError, RunError};
-use std::alloc::Global;
+use std::alloc::{AllocError, Global};
 use std::process::Abort;
 use std::test::Fail;
 
@@ -20,23 +20,33 @@ fn nothing_is_read_after_the_end(rt: HostRuntime) -> Result<(), Fail> {
         let input = SlowReader::new(*query, 1, 0);
         let output = SlowWriter::new(rt.alloc(), 1, Fault::Fails, 0);
         let ran = run_over(rt.alloc(), *texts, input, output)?;
-        assert_eq!(rt; ran.answer, Ok(()), "to {texts:?}");
+        same_in(&rt, &ran.answer, &Ok(()), texts);
         // A read for each byte and one for the end; a write for each byte.
-        assert_eq!(rt; ran.calls, (query.len() + 1, wanted.len()), "to {texts:?}");
+        same_in(&rt, &ran.calls, &(query.len() + 1, wanted.len()), texts);
+    }
+    Ok(())
+}
+
+/// The reader fails at each of its calls in turn; nothing more is read, or written.
+fn failed_read_is_told_and_not_repeated(
+    rt: &impl Abort,
+    alloc: Global,
+    (texts, query, _): Case,
+) -> Result<(), Fail> {
+    for k in 1..=query.len() + 1 {
+        let input = SlowReader::new(query, 1, k);
+        let output = SlowWriter::new(alloc, 1, Fault::Fails, 0);
+        let ran = run_over(alloc, texts, input, output)?;
+        same_in(rt, &ran.answer, &Err(RunError::Read), &(texts, k));
+        same_in(rt, &ran.calls, &(k, 0), &(texts, k));
     }
     Ok(())
 }
 
 #[test]
 fn a_failed_read_is_told_and_not_repeated(rt: HostRuntime) -> Result<(), Fail> {
-    for (texts, query, _) in CASES {
-        for k in 1..=query.len() + 1 {
-            let input = SlowReader::new(*query, 1, k);
-            let output = SlowWriter::new(rt.alloc(), 1, Fault::Fails, 0);
-            let ran = run_over(rt.alloc(), *texts, input, output)?;
-            assert_eq!(rt; ran.answer, Err(RunError::Read), "{texts:?} at call {k}");
-            assert_eq!(rt; ran.calls, (k, 0), "{texts:?} at call {k}");
-        }
+    for case in CASES {
+        failed_read_is_told_and_not_repeated(&rt, rt.alloc(), *case)?;
     }
     Ok(())
 }
@@ -52,13 +62,9 @@ fn is_told_and_not_repeated(
         let input = SlowReader::new(query, 1, 0);
         let output = SlowWriter::new(alloc, 1, fault, k);
         let ran = run_over(alloc, texts, input, output)?;
-        assert_eq!(rt; ran.answer, Err(RunError::Write), "{fault:?} at call {k}");
-        assert_eq!(rt;
-            ran.taken.as_slice(),
-            &wanted[..k - 1],
-            "{fault:?} at call {k}"
-        );
-        assert_eq!(rt; ran.calls, (query.len() + 1, k), "{fault:?} at call {k}");
+        same_in(rt, &ran.answer, &Err(RunError::Write), &(fault, k));
+        same_in(rt, ran.taken.as_slice(), &wanted[..k - 1], &(fault, k));
+        same_in(rt, &ran.calls, &(query.len() + 1, k), &(fault, k));
     }
     Ok(())
 }
@@ -72,36 +78,57 @@ fn a_failed_write_is_told_and_not_repeated(rt: HostRuntime) -> Result<(), Fail> 
     Ok(())
 }
 
-#[test]
-fn small_pieces_change_no_answer(rt: HostRuntime) -> Result<(), Fail> {
-    for (texts, query, wanted) in CASES {
-        for step in 1..=9usize {
-            let input = SlowReader::new(*query, step, 0);
-            let output = SlowWriter::new(rt.alloc(), step, Fault::Fails, 0);
-            let ran = run_over(rt.alloc(), *texts, input, output)?;
-            assert_eq!(rt; ran.answer, Ok(()), "{texts:?} in pieces of {step}");
-            assert_eq!(rt;
-                ran.taken.as_slice(),
-                *wanted,
-                "{texts:?} in pieces of {step}"
-            );
-        }
+/// In pieces of up to nine bytes, the answer is the same.
+fn is_the_same_in_small_pieces(
+    rt: &impl Abort,
+    alloc: Global,
+    (texts, query, wanted): Case,
+) -> Result<(), Fail> {
+    for step in 1..=9usize {
+        let input = SlowReader::new(query, step, 0);
+        let output = SlowWriter::new(alloc, step, Fault::Fails, 0);
+        let ran = run_over(alloc, texts, input, output)?;
+        same_in(rt, &ran.answer, &Ok(()), &(texts, step));
+        same_in(rt, ran.taken.as_slice(), wanted, &(texts, step));
     }
     Ok(())
 }
 
 #[test]
-fn a_query_longer_than_one_read(rt: HostRuntime) -> Result<(), Fail> {
-    let mut query = vec![in rt.alloc(); b' '; 4095]?;
-    let mut wanted = query.clone()?;
-    query.extend_from_slice(b":a")?;
-    wanted.extend_from_slice(b"?\na\n")?;
-    let input = SlowReader::new(&query, 5000, 0);
-    let output = SlowWriter::new(rt.alloc(), 5000, Fault::Fails, 0);
-    let ran = run_over(rt.alloc(), &["names"], input, output)?;
-    assert_eq!(rt; ran.answer, Ok(()));
-    assert!(rt; ran.taken.as_slice() == wanted.as_slice());
+fn small_pieces_change_no_answer(rt: HostRuntime) -> Result<(), Fail> {
+    for case in CASES {
+        is_the_same_in_small_pieces(&rt, rt.alloc(), *case)?;
+    }
     Ok(())
+}
+
+/// So many spaces, and the bytes after them.
+fn after_spaces(alloc: Global, spaces: usize, bytes: &[u8]) -> Result<Vec<u8>, AllocError> {
+    let mut text = vec![in alloc; b' '; spaces]?;
+    text.extend_from_slice(bytes)?;
+    Ok(text)
+}
+
+/// The query is read and its answer written in large pieces.
+fn is_written_in_large_pieces(
+    rt: &impl Abort,
+    alloc: Global,
+    query: &[u8],
+    wanted: &[u8],
+) -> Result<(), Fail> {
+    let input = SlowReader::new(query, 5000, 0);
+    let output = SlowWriter::new(alloc, 5000, Fault::Fails, 0);
+    let ran = run_over(alloc, &["names"], input, output)?;
+    same(rt, &ran.answer, &Ok(()));
+    assert!(rt; ran.taken.as_slice() == wanted);
+    Ok(())
+}
+
+#[test]
+fn a_query_longer_than_one_read(rt: HostRuntime) -> Result<(), Fail> {
+    let query = after_spaces(rt.alloc(), 4095, b":a")?;
+    let wanted = after_spaces(rt.alloc(), 4095, b"?\na\n")?;
+    is_written_in_large_pieces(&rt, rt.alloc(), &query, &wanted)
 }
 
 /// The query is read in pieces of one byte and refused as over memory; nothing is written.
@@ -115,8 +142,8 @@ fn refuses_in_pieces(
     let input = SlowReader::new(query, 1, 0);
     let output = SlowWriter::new(alloc, 1, Fault::Fails, 1);
     let ran = run_over(alloc, texts, input, output)?;
-    assert_eq!(rt; ran.answer, Err(refusal), "to {texts:?}");
-    assert_eq!(rt; ran.calls, (query.len() + 1, 0), "to {texts:?}");
+    same_in(rt, &ran.answer, &Err(refusal), &texts);
+    same_in(rt, &ran.calls, &(query.len() + 1, 0), &texts);
     Ok(())
 }
 

@@ -1,4 +1,5 @@
 //! What refusals of the program print, their statuses, and their equality.
+use crate::shared::{same, same_in};
 use mysql_params::laws::run_error_equality;
 use mysql_params::{BindError, RunError};
 use std::alloc::{AllocError, Global};
@@ -13,8 +14,9 @@ fn says(
     status: u8,
     message: &str,
 ) -> Result<(), Fail> {
-    assert_eq!(rt; refusal.status(), status, "{message}");
-    assert_eq!(rt; refusal.to_string(alloc)?.as_str(), message);
+    same_in(rt, &refusal.status(), &status, &message);
+    let printed = refusal.to_string(alloc)?;
+    same(rt, printed.as_str(), message);
     Ok(())
 }
 

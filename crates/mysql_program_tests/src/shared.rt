@@ -2,8 +2,26 @@
 //! program over them leaves.
 use mysql_params::{RunError, run};
 use std::alloc::{AllocError, Global};
+use std::fmt::Debug;
 use std::io;
 use std::io::{ErrorKind, Read, Write};
+use std::process::Abort;
+use std::test::Fail;
+
+/// The two are the same. A call is cheaper to prove than the message.
+pub(crate) fn same<T: Copy + Debug + PartialEq>(rt: &impl Abort, found: T, wanted: T) {
+    assert_eq!(rt; found, wanted);
+}
+
+/// The same, with a message that names the case.
+pub(crate) fn same_in<T: Copy + Debug + PartialEq, C: Debug>(
+    rt: &impl Abort,
+    found: T,
+    wanted: T,
+    case: &C,
+) {
+    assert_eq!(rt; found, wanted, "of {case:?}");
+}
 
 /// Gives its bytes in pieces of at most `step`, and fails at call `fails_at`, counted from 1.
 #[derive(Drop)]
@@ -143,4 +161,35 @@ pub(crate) fn run_over_memory(
         left: input.len(),
         written,
     })
+}
+
+/// The program reads the query to its end, and writes this.
+pub(crate) fn writes(
+    rt: &impl Abort,
+    alloc: Global,
+    texts: &[&str],
+    query: &[u8],
+    wanted: &[u8],
+) -> Result<(), Fail> {
+    let case = (texts, query);
+    let ran = run_over_memory(alloc, texts, query)?;
+    same_in(rt, &ran.answer, &Ok(()), &case);
+    same_in(rt, ran.written.as_slice(), wanted, &case);
+    same_in(rt, &ran.left, &0, &case);
+    Ok(())
+}
+
+/// The program reads the query to its end, and refuses it so; nothing is written.
+pub(crate) fn refuses(
+    rt: &impl Abort,
+    alloc: Global,
+    texts: &[&str],
+    query: &[u8],
+    refusal: RunError,
+) -> Result<(), Fail> {
+    let case = (texts, query);
+    let ran = run_over_memory(alloc, texts, query)?;
+    same_in(rt, &ran.answer, &Err(refusal), &case);
+    same_in(rt, &(ran.left, ran.written.len()), &(0, 0), &case);
+    Ok(())
 }

@@ -1,6 +1,8 @@
 //! Words that ask for nothing that the program does: they are refused before anything is read.
-use crate::shared::{Fault, SlowReader, SlowWriter, run_over};
+use crate::shared::{Fault, SlowReader, SlowWriter, run_over, same_in};
 use mysql_params::RunError;
+use std::alloc::Global;
+use std::process::Abort;
 use std::test::Fail;
 
 /// Words that are refused as usage.
@@ -39,14 +41,25 @@ const USAGE: &[&[&str]] = &[
     &["bind", "a=i:1", "a=i:2", "b"],
 ];
 
+/// The words are refused so, before anything is read.
+fn is_refused_before_a_read(
+    rt: &impl Abort,
+    alloc: Global,
+    texts: &[&str],
+    refusal: RunError,
+) -> Result<(), Fail> {
+    let input = SlowReader::new(b":a", 1, 1);
+    let output = SlowWriter::new(alloc, 1, Fault::Fails, 1);
+    let ran = run_over(alloc, texts, input, output)?;
+    same_in(rt, &ran.answer, &Err(refusal), &texts);
+    same_in(rt, &ran.calls, &(0, 0), &texts);
+    Ok(())
+}
+
 #[test]
 fn other_words_are_refused_before_a_read(rt: HostRuntime) -> Result<(), Fail> {
     for texts in USAGE {
-        let input = SlowReader::new(b":a", 1, 1);
-        let output = SlowWriter::new(rt.alloc(), 1, Fault::Fails, 1);
-        let ran = run_over(rt.alloc(), *texts, input, output)?;
-        assert_eq!(rt; ran.answer, Err(RunError::Usage), "to {texts:?}");
-        assert_eq!(rt; ran.calls, (0, 0), "to {texts:?}");
+        is_refused_before_a_read(&rt, rt.alloc(), *texts, RunError::Usage)?;
     }
     Ok(())
 }
@@ -54,23 +67,13 @@ fn other_words_are_refused_before_a_read(rt: HostRuntime) -> Result<(), Fail> {
 #[test]
 fn a_repeated_name_is_refused_before_a_read(rt: HostRuntime) -> Result<(), Fail> {
     let texts = ["bind", "a=i:1", "b=i:1", "a=i:1", "b=i:2"];
-    let input = SlowReader::new(b":a", 1, 1);
-    let output = SlowWriter::new(rt.alloc(), 1, Fault::Fails, 1);
-    let ran = run_over(rt.alloc(), &texts, input, output)?;
     let name = Vec::from_slice(rt.alloc(), b"a")?;
-    assert_eq!(rt; ran.answer, Err(RunError::Redefined(name)));
-    assert_eq!(rt; ran.calls, (0, 0));
-    Ok(())
+    is_refused_before_a_read(&rt, rt.alloc(), &texts, RunError::Redefined(name))
 }
 
 #[test]
 fn a_name_given_at_once_again_is_refused_before_a_read(rt: HostRuntime) -> Result<(), Fail> {
     let texts = ["bind", "a=i:1", "a=i:2"];
-    let input = SlowReader::new(b":a", 1, 1);
-    let output = SlowWriter::new(rt.alloc(), 1, Fault::Fails, 1);
-    let ran = run_over(rt.alloc(), &texts, input, output)?;
     let name = Vec::from_slice(rt.alloc(), b"a")?;
-    assert_eq!(rt; ran.answer, Err(RunError::Redefined(name)));
-    assert_eq!(rt; ran.calls, (0, 0));
-    Ok(())
+    is_refused_before_a_read(&rt, rt.alloc(), &texts, RunError::Redefined(name))
 }

@@ -1,8 +1,10 @@
 //! Every query of up to three bytes over the bytes that the grammar names, alone and before a name,
 //! against a plain reading of the grammar that shares no code with the crate, in both modes.
+use crate::shared::same_in;
 use crate::spellings::Spelling;
 use mysql_params::named_params::NamedParamsError;
 use std::alloc::{AllocError, Global};
+use std::process::Abort;
 use std::test::Fail;
 
 /// The bytes that the grammar names but the form feed, and one of each kind of other byte.
@@ -119,34 +121,34 @@ const SPELLINGS: &[Spelling] = &[
     Spelling::ParseIn(true),
 ];
 
-/// Whether each call answers as the plain reading.
-fn agrees(alloc: Global, query: &[u8]) -> Result<bool, AllocError> {
+/// Each call answers as the plain reading.
+fn agrees(rt: &impl Abort, alloc: Global, query: &[u8]) -> Result<(), Fail> {
     for spelling in SPELLINGS {
-        if !answers(alloc, query, *spelling)? {
-            return Ok(false);
+        let same = answers(alloc, query, *spelling)?;
+        same_in(rt, &same, &true, &(query, spelling));
+    }
+    Ok(())
+}
+
+/// So it is of each query of one to three bytes that begins with this one, and of those of three
+/// before a name.
+fn all_agree(rt: &impl Abort, alloc: Global, first: u8) -> Result<(), Fail> {
+    agrees(rt, alloc, &[first])?;
+    for second in ALPHABET {
+        agrees(rt, alloc, &[first, *second])?;
+        for third in ALPHABET {
+            agrees(rt, alloc, &[first, *second, *third])?;
+            agrees(rt, alloc, &[first, *second, *third, b':', b'b'])?;
         }
     }
-    Ok(true)
+    Ok(())
 }
 
 #[test]
 fn parse_agrees_with_a_plain_reading(rt: HostRuntime) -> Result<(), Fail> {
-    let alloc = rt.alloc();
-    assert!(rt; agrees(alloc, b"")?, "of the empty query");
+    agrees(&rt, rt.alloc(), b"")?;
     for first in ALPHABET {
-        assert!(rt; agrees(alloc, &[*first])?, "of {first}");
-        for second in ALPHABET {
-            assert!(rt; agrees(alloc, &[*first, *second])?, "of {first} {second}");
-            for third in ALPHABET {
-                let query = [*first, *second, *third];
-                assert!(rt; agrees(alloc, &query)?, "of {first} {second} {third}");
-                let before_a_name = [*first, *second, *third, b':', b'b'];
-                assert!(rt;
-                    agrees(alloc, &before_a_name)?,
-                    "of {first} {second} {third} :b"
-                );
-            }
-        }
+        all_agree(&rt, rt.alloc(), *first)?;
     }
     Ok(())
 }
@@ -155,24 +157,12 @@ fn parse_agrees_with_a_plain_reading(rt: HostRuntime) -> Result<(), Fail> {
 fn parse_agrees_on_all_bytes(rt: HostRuntime) -> Result<(), Fail> {
     let alloc = rt.alloc();
     for first in 0..=255u8 {
-        assert!(rt; agrees(alloc, &[first])?, "of {first}");
-        assert!(rt;
-            agrees(alloc, &[b'-', b'-', first, b':', b'a'])?,
-            "of -- {first} :a"
-        );
-        assert!(rt;
-            agrees(alloc, &[b'/', b'*', first, b':', b'a'])?,
-            "of /* {first} :a"
-        );
-        assert!(rt;
-            agrees(alloc, &[b':', first, b':', b'a'])?,
-            "of : {first} :a"
-        );
+        agrees(&rt, alloc, &[first])?;
+        agrees(&rt, alloc, &[b'-', b'-', first, b':', b'a'])?;
+        agrees(&rt, alloc, &[b'/', b'*', first, b':', b'a'])?;
+        agrees(&rt, alloc, &[b':', first, b':', b'a'])?;
         for second in 0..=255u8 {
-            assert!(rt;
-                agrees(rt.alloc(), &[first, second])?,
-                "of {first} {second}"
-            );
+            agrees(&rt, alloc, &[first, second])?;
         }
     }
     Ok(())

@@ -10,4 +10,6 @@ mod portable;
 #[cfg(test)]
 mod queries;
 #[cfg(test)]
+mod shared;
+#[cfg(test)]
 mod spellings;

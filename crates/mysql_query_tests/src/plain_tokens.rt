@@ -1,9 +1,11 @@
 //! Tokens that end by jumps, and runs of plain bytes that are passed 16 at once, against the same
 //! found byte by byte: for each kind of token every length from 0 to 70 of its inside, closed and
 //! open, and with a backslash before each place of it, in both modes.
+use crate::shared::same_in;
 use mysql_named_params::places::{FoundPlace, PlaceKind, first_place};
 use mysql_named_params::tokens::{TokenKind, first_token};
-use std::alloc::{AllocError, Global};
+use std::alloc::Global;
+use std::process::Abort;
 use std::test::Fail;
 
 // The first two are the bodies that the crate had before its jumps; the others read the rules.
@@ -130,14 +132,16 @@ const KINDS: &[Kind] = &[
     (b"", b'\xff', b"?"),
 ];
 
-/// Whether all is the same of a token with so many bytes inside, and a backslash before one place
-/// of these, where there is one: open, and closed.
+/// All is the same of a token with so many bytes inside, and a backslash before one place of these,
+/// where there is one: open, and closed.
 fn agrees(
+    rt: &impl Abort,
     alloc: Global,
     kind: &Kind,
     inside: usize,
     backslash: Option<usize>,
-) -> Result<bool, AllocError> {
+) -> Result<(), Fail> {
+    let case = (kind, inside, backslash);
     let mut text = Vec::from_slice(alloc, kind.0)?;
     for at in 0..=inside {
         if backslash == Some(at) {
@@ -147,25 +151,19 @@ fn agrees(
             text.push(kind.1)?;
         }
     }
-    let open = same_in_both_modes(text.as_slice());
+    same_in(rt, &same_in_both_modes(&text), &true, &case);
     text.extend_from_slice(kind.2)?;
-    Ok(open && same_in_both_modes(text.as_slice()))
+    same_in(rt, &same_in_both_modes(&text), &true, &case);
+    Ok(())
 }
 
 #[test]
 fn tokens_end_where_a_plain_reading_ends_them(rt: HostRuntime) -> Result<(), Fail> {
-    let alloc = rt.alloc();
     for kind in KINDS {
         for inside in 0..=70 {
-            assert!(rt;
-                agrees(alloc, kind, inside, None)?,
-                "{kind:?} with {inside}"
-            );
+            agrees(&rt, rt.alloc(), kind, inside, None)?;
             for place in 0..=inside {
-                assert!(rt;
-                    agrees(alloc, kind, inside, Some(place))?,
-                    "{kind:?} with {inside} and a backslash at {place}"
-                );
+                agrees(&rt, rt.alloc(), kind, inside, Some(place))?;
             }
         }
     }

@@ -1,5 +1,6 @@
 //! The first construct of a query that servers read in different ways.
 use crate::queries::{COMMENTS, QUERIES, QUERIES_WITHOUT_BACKSLASHES};
+use crate::shared::{same_in, says};
 use mysql_params::laws::unportable_equality;
 use mysql_params::{Construct, Unportable, first_unportable};
 use std::process::Abort;
@@ -16,7 +17,7 @@ const BOTH: &[bool] = &[false, true];
 fn is_found(rt: &impl Abort, query: &[u8], modes: &[bool], wanted: Option<Unportable>) {
     for mode in modes {
         let found = first_unportable(query, *mode);
-        assert_eq!(rt; found, wanted, "of {query:?} in the mode {mode:?}");
+        same_in(rt, &found, &wanted, &(query, mode));
     }
 }
 
@@ -300,7 +301,7 @@ const MESSAGES: &[(Construct, &str)] = &[
 #[test]
 fn messages(rt: HostRuntime) -> Result<(), Fail> {
     for (construct, message) in MESSAGES {
-        assert_eq!(rt; construct.to_string(rt.alloc())?.as_str(), *message);
+        says(&rt, rt.alloc(), construct, *message)?;
     }
     Ok(())
 }

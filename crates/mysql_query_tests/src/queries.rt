@@ -1,10 +1,10 @@
 //! Names and marks of single queries.
+use crate::shared::{same, same_in, says};
 use crate::spellings::{Spelling, WITH_BACKSLASHES};
 use mysql_params::laws::{mixed_error_equality, named_params_error_equality, parsed_equality};
 use mysql_params::named_params::{MixedParamsError, NamedParamsError, ParsedNamedParams};
 use std::alloc::{AllocError, Global};
 use std::borrow::CowSlice;
-use std::fmt::Display;
 use std::process::Abort;
 use std::test::Fail;
 
@@ -35,7 +35,7 @@ fn is_shown(
 ) -> Result<(), Fail> {
     for spelling in spellings {
         let text = shown(alloc, query, *spelling)?;
-        assert_eq!(rt; text.as_slice(), wanted, "of {query:?} by {spelling:?}");
+        same_in(rt, text.as_slice(), wanted, &(query, spelling));
     }
     Ok(())
 }
@@ -194,9 +194,9 @@ fn bytes_that_open_and_close_comments(rt: HostRuntime) -> Result<(), Fail> {
 fn copies(rt: HostRuntime) -> Result<(), Fail> {
     let parsed = ParsedNamedParams::parse(rt.alloc(), b"SELECT :a, :b")?;
     let copy = parsed.clone()?;
-    assert!(rt; parsed == copy);
-    assert!(rt; parsed_equality(&parsed, &copy));
-    assert_eq!(rt; copy.params().len(), 2);
+    same(&rt, &(parsed == copy), &true);
+    same(&rt, &parsed_equality(&parsed, &copy), &true);
+    same(&rt, &copy.params().len(), &2);
     Ok(())
 }
 
@@ -206,8 +206,8 @@ fn equality(rt: HostRuntime) -> Result<(), Fail> {
     let others: [&[u8]; 2] = [b"SELECT :a, :c", b"SELECT :a; :b"];
     for query in others {
         let other = ParsedNamedParams::parse(rt.alloc(), query)?;
-        assert!(rt; parsed != other, "{query:?}");
-        assert!(rt; !parsed_equality(&parsed, &other), "{query:?}");
+        same_in(&rt, &(parsed != other), &true, &query);
+        same_in(&rt, &parsed_equality(&parsed, &other), &false, &query);
     }
     Ok(())
 }
@@ -219,12 +219,6 @@ fn equality_of_refusals(rt: HostRuntime) {
     let mixed = NamedParamsError::Mixed(MixedParamsError);
     assert!(rt; named_params_error_equality(&mixed, &NamedParamsError::Mixed(MixedParamsError)));
     assert!(rt; !named_params_error_equality(&memory, &mixed));
-}
-
-/// What is printed of a refusal.
-fn says(rt: &impl Abort, alloc: Global, refusal: &impl Display, text: &str) -> Result<(), Fail> {
-    assert_eq!(rt; refusal.to_string(alloc)?.as_str(), text);
-    Ok(())
 }
 
 #[test]
@@ -262,7 +256,7 @@ fn first_name<'a>(alloc: Global, query: &'a [u8]) -> Result<Option<&'a [u8]>, Na
 fn names_outlive_what_parsed_them(rt: HostRuntime) -> Result<(), Fail> {
     let query = String::from_str(rt.alloc(), "SELECT :a")?;
     let name = first_name(rt.alloc(), query.as_bytes())?;
-    assert_eq!(rt; name.ok_or("no name")?, b"a".as_slice());
+    same(&rt, name.ok_or("no name")?, b"a".as_slice());
     let _gone = query;
     Ok(())
 }
