@@ -1,5 +1,8 @@
 //! Queries with values bound into them, and those that are refused.
-use crate::shared::{EITHER_MODE, Given, Plain, Refused, is_bound, is_refused_by, same_in, says};
+use crate::shared::{
+    EITHER_MODE, Given, Plain, Refused, WITH_BACKSLASHES, are_bound_by, is_refused_by, same_in,
+    says,
+};
 use mysql_params::laws::bind_error_equality;
 use mysql_params::{BindError, bind_text};
 use std::alloc::{AllocError, Global};
@@ -43,8 +46,20 @@ const TEXTS: &[(&[u8], Given<'_>, &[u8])] = &[
 
 #[test]
 fn bound_texts(rt: HostRuntime) -> Result<(), Fail> {
-    for (query, given, wanted) in TEXTS {
-        is_bound(&rt, rt.alloc(), *query, *given, *wanted)?;
+    are_bound_by(&rt, rt.alloc(), WITH_BACKSLASHES, TEXTS)
+}
+
+/// The query is bound to a text whose vector has exactly this capacity.
+fn has_capacity(
+    rt: &impl Abort,
+    alloc: Global,
+    query: &[u8],
+    given: Given<'_>,
+    wanted: usize,
+) -> Result<(), Fail> {
+    match bind_text(alloc, query, given.params(alloc)?) {
+        Ok(text) => same_in(rt, &text.capacity(), &wanted, &query),
+        Err(error) => same_in(rt, &Some(error), &None, &query),
     }
     Ok(())
 }
@@ -52,11 +67,7 @@ fn bound_texts(rt: HostRuntime) -> Result<(), Fail> {
 #[test]
 fn vectors_of_exactly_the_length(rt: HostRuntime) -> Result<(), Fail> {
     for (query, given, wanted) in TEXTS {
-        let params = given.params(rt.alloc())?;
-        match bind_text(rt.alloc(), *query, params) {
-            Ok(text) => same_in(&rt, &text.capacity(), &wanted.len(), query),
-            Err(error) => same_in(&rt, &Some(error), &None, query),
-        }
+        has_capacity(&rt, rt.alloc(), *query, *given, wanted.len())?;
     }
     Ok(())
 }

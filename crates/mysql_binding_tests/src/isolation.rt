@@ -1,6 +1,6 @@
 //! Values that try to leave their literals.
 use crate::shared::{
-    Given, Plain, WITH_BACKSLASHES, WITHOUT_BACKSLASHES, is_bound, string_is_bound_by,
+    Given, Plain, WITH_BACKSLASHES, WITHOUT_BACKSLASHES, are_bound_by, is_bound, string_is_bound_by,
 };
 use std::alloc::{AllocError, Global};
 use std::test::Fail;
@@ -107,10 +107,7 @@ const SAME: &[(&[u8], Given<'_>, &[u8])] = &[
 
 #[test]
 fn values_that_say_the_same(rt: HostRuntime) -> Result<(), Fail> {
-    for (query, given, wanted) in SAME {
-        is_bound(&rt, rt.alloc(), *query, *given, *wanted)?;
-    }
-    Ok(())
+    are_bound_by(&rt, rt.alloc(), WITH_BACKSLASHES, SAME)
 }
 
 /// Values that end a string, a comment or a statement elsewhere.

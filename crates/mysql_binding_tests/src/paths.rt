@@ -122,6 +122,7 @@ mod tests {
     use super::*;
     use crate::shared::same;
     use std::alloc::{AllocError, Global};
+    use std::process::Abort;
     use std::test::Fail;
 
     // By the paths above alone: the literal of a value that a text row holds, as text.
@@ -144,10 +145,15 @@ mod tests {
         }
     }
 
+    fn has_literal(rt: &impl Abort, alloc: Global, row: &[u8], wanted: &str) -> Result<(), Fail> {
+        let literal = literal_of_cell(alloc, row)?.ok_or("no literal")?;
+        same(rt, literal.as_str(), wanted);
+        Ok(())
+    }
+
     #[test]
     fn paths_are_those_of_the_types_that_calls_name(rt: HostRuntime) -> Result<(), Fail> {
-        let literal = literal_of_cell(rt.alloc(), b"\x04it's")?;
-        same(&rt, literal.ok_or("no literal")?.as_str(), "'it\\'s'");
+        has_literal(&rt, rt.alloc(), b"\x04it's", "'it\\'s'")?;
         let refusal: Option<BindError> = bind_text(rt.alloc(), b"?", Params::Empty).err();
         let count = BindError::MarkCount {
             marks: 1,

@@ -33,6 +33,7 @@ pub fn customer_by_position(alloc: Global, id: u64, name: &str) -> Result<Vec<u8
 #[cfg(test)]
 mod tests {
     use super::*;
+    use std::fmt::Display;
     use std::process::Abort;
     use std::test::Fail;
 
@@ -46,7 +47,12 @@ mod tests {
     }
 
     // The error prints the message.
-    fn says(rt: &impl Abort, alloc: Global, error: QueryError, message: &str) -> Result<(), Fail> {
+    fn says<E: Display + Drop>(
+        rt: &impl Abort,
+        alloc: Global,
+        error: E,
+        message: &str,
+    ) -> Result<(), Fail> {
         let printed = error.to_string(alloc)?;
         assert_eq!(rt; printed.as_str(), message);
         Ok(())

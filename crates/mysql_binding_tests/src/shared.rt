@@ -201,6 +201,19 @@ pub(crate) fn is_bound_by(
     Ok(())
 }
 
+/// By each of the calls, each query is bound to its text.
+pub(crate) fn are_bound_by(
+    rt: &impl Abort,
+    alloc: Global,
+    spellings: &[Spelling],
+    rows: &[(&[u8], Given<'_>, &[u8])],
+) -> Result<(), Fail> {
+    for (query, given, wanted) in rows {
+        is_bound_by(rt, alloc, spellings, *query, *given, *wanted)?;
+    }
+    Ok(())
+}
+
 /// In the mode in which a backslash escapes, the query is bound to the text.
 pub(crate) fn is_bound(
     rt: &impl Abort,

@@ -1,5 +1,5 @@
 //! Each byte directly before and directly after a place.
-use crate::shared::{EITHER_MODE, Given, Plain, Refused, is_bound_by, is_refused_by};
+use crate::shared::{EITHER_MODE, Given, Plain, Refused, are_bound_by, is_bound_by, is_refused_by};
 use std::alloc::Global;
 use std::process::Abort;
 use std::test::Fail;
@@ -84,10 +84,7 @@ const AFTER_A_SIGN: &[(&[u8], Given<'_>, &[u8])] = &[
 
 #[test]
 fn places_after_a_sign(rt: HostRuntime) -> Result<(), Fail> {
-    for (query, given, wanted) in AFTER_A_SIGN {
-        is_bound_by(&rt, rt.alloc(), EITHER_MODE, *query, *given, *wanted)?;
-    }
-    Ok(())
+    are_bound_by(&rt, rt.alloc(), EITHER_MODE, AFTER_A_SIGN)
 }
 
 #[test]

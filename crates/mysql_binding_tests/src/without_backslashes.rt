@@ -1,7 +1,7 @@
 //! The mode without backslash escapes: there a backslash is a byte like any other, in queries and
 //! in literals.
 use crate::shared::{
-    Given, Plain, Refused, WITH_BACKSLASHES, WITHOUT_BACKSLASHES, is_bound_by, is_refused_by,
+    Given, Plain, Refused, WITH_BACKSLASHES, WITHOUT_BACKSLASHES, are_bound_by, is_refused_by,
     string_is_bound_by,
 };
 use std::test::Fail;
@@ -50,17 +50,7 @@ const TEXTS: &[(&[u8], Given<'_>, &[u8])] = &[
 
 #[test]
 fn bound_texts(rt: HostRuntime) -> Result<(), Fail> {
-    for (query, given, wanted) in TEXTS {
-        is_bound_by(
-            &rt,
-            rt.alloc(),
-            WITHOUT_BACKSLASHES,
-            *query,
-            *given,
-            *wanted,
-        )?;
-    }
-    Ok(())
+    are_bound_by(&rt, rt.alloc(), WITHOUT_BACKSLASHES, TEXTS)
 }
 
 /// Values that end a string, a comment or a statement elsewhere.

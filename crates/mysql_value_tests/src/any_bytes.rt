@@ -23,7 +23,7 @@ enum Kind {
 }
 
 // Each type of column, and how it is read.
-const KINDS: [(ColumnType, Kind); 34] = [
+const KINDS: &[(ColumnType, Kind)] = &[
     (ColumnType::MYSQL_TYPE_STRING, Kind::Text),
     (ColumnType::MYSQL_TYPE_VAR_STRING, Kind::Text),
     (ColumnType::MYSQL_TYPE_BLOB, Kind::Text),
@@ -150,13 +150,15 @@ fn eats_after(rt: &impl Abort, alloc: Global, column: (ColumnType, Kind), flags:
     }
 }
 
+const FLAGS: &[u16] = &[SIGNED, UNSIGNED];
+
 #[test]
 fn every_buffer_of_up_to_two_bytes(rt: HostRuntime) {
     for column in KINDS {
-        for flags in [SIGNED, UNSIGNED] {
-            eats(&rt, rt.alloc(), column, flags, &[]);
+        for flags in FLAGS {
+            eats(&rt, rt.alloc(), *column, *flags, &[]);
             for first in 0..=255u8 {
-                eats_after(&rt, rt.alloc(), column, flags, first);
+                eats_after(&rt, rt.alloc(), *column, *flags, first);
             }
         }
     }
@@ -177,7 +179,7 @@ fn eats_cut(rt: &impl Abort, alloc: Global, form: &[u8]) {
     for column in KINDS {
         for missing in 0..=2usize {
             let input = form.get(..form.len().saturating_sub(missing));
-            eats(rt, alloc, column, SIGNED, input.unwrap_or(form));
+            eats(rt, alloc, *column, SIGNED, input.unwrap_or(form));
         }
     }
 }

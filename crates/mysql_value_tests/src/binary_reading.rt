@@ -187,7 +187,7 @@ fn read_dates_and_times(rt: HostRuntime) -> Result<(), Fail> {
     Ok(())
 }
 
-const UNSUPPORTED: [ColumnType; 5] = [
+const UNSUPPORTED: &[ColumnType] = &[
     ColumnType::MYSQL_TYPE_TIMESTAMP2,
     ColumnType::MYSQL_TYPE_DATETIME2,
     ColumnType::MYSQL_TYPE_TIME2,
@@ -198,10 +198,10 @@ const UNSUPPORTED: [ColumnType; 5] = [
 #[test]
 fn types_that_are_not_read(rt: HostRuntime) {
     for column in UNSUPPORTED {
-        for input in [b"\x01\x02".as_slice(), b"".as_slice()] {
-            let error = WireError::UnsupportedColumn(column);
-            refuses(&rt, rt.alloc(), (column, SIGNED), input, error);
-        }
+        let error = WireError::UnsupportedColumn(*column);
+        refuses(&rt, rt.alloc(), (*column, SIGNED), b"\x01\x02", error);
+        let error = WireError::UnsupportedColumn(*column);
+        refuses(&rt, rt.alloc(), (*column, SIGNED), b"", error);
     }
 }
 
@@ -234,7 +234,7 @@ fn refused_values_leave_the_buffer(rt: HostRuntime) {
     }
 }
 
-const STRINGS: [ColumnType; 15] = [
+const STRINGS: &[ColumnType] = &[
     ColumnType::MYSQL_TYPE_STRING,
     ColumnType::MYSQL_TYPE_VAR_STRING,
     ColumnType::MYSQL_TYPE_BLOB,
@@ -257,7 +257,7 @@ fn types_that_are_read_as_strings(rt: HostRuntime) -> Result<(), Fail> {
     for column in STRINGS {
         let input = [1, 0x41, 0x2A];
         let value = bytes(rt.alloc(), b"A")?;
-        reads(&rt, rt.alloc(), (column, UNSIGNED), &input, &[0x2A], value)?;
+        reads(&rt, rt.alloc(), (*column, UNSIGNED), &input, &[0x2A], value)?;
     }
     Ok(())
 }

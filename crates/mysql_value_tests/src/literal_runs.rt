@@ -1,6 +1,6 @@
 //! Literals of texts that the calls cross by runs, compared with a plain body that goes byte by
 //! byte.
-use crate::shared::bytes;
+use crate::shared::{MODES, bytes};
 use crate::sql_literals::has_literal;
 use std::alloc::{AllocError, Global};
 use std::process::Abort;
@@ -49,9 +49,9 @@ fn plain_literal(
 // The text has the literal of the plain body, in either mode.
 fn has_plain_literal(rt: &impl Abort, alloc: Global, text: &[u8]) -> Result<(), Fail> {
     let value = bytes(alloc, text)?;
-    for no_backslash_escape in [false, true] {
-        let literal = plain_literal(alloc, text, no_backslash_escape)?;
-        has_literal(rt, alloc, &value, no_backslash_escape, &literal)?;
+    for no_backslash_escape in MODES {
+        let literal = plain_literal(alloc, text, *no_backslash_escape)?;
+        has_literal(rt, alloc, &value, *no_backslash_escape, &literal)?;
     }
     Ok(())
 }
@@ -66,11 +66,22 @@ fn run(alloc: Global, len: usize, places: [usize; 2], byte: u8) -> Result<Vec<u8
     Ok(text)
 }
 
+// Such a text has the literal of the plain body.
+fn run_has_plain_literal(
+    rt: &impl Abort,
+    alloc: Global,
+    len: usize,
+    places: [usize; 2],
+    byte: u8,
+) -> Result<(), Fail> {
+    let text = run(alloc, len, places, byte)?;
+    has_plain_literal(rt, alloc, &text)
+}
+
 #[test]
 fn runs_without_escapes(rt: HostRuntime) -> Result<(), Fail> {
     for len in 0..=40 {
-        let text = run(rt.alloc(), len, [len, len], b'a')?;
-        has_plain_literal(&rt, rt.alloc(), &text)?;
+        run_has_plain_literal(&rt, rt.alloc(), len, [len, len], b'a')?;
     }
     Ok(())
 }
@@ -80,8 +91,7 @@ fn runs_with_an_escape_at_each_place(rt: HostRuntime) -> Result<(), Fail> {
     for byte in b"\x00\n\r\x1A\"'\\" {
         for len in 1..=40 {
             for place in 0..len {
-                let text = run(rt.alloc(), len, [place, place], *byte)?;
-                has_plain_literal(&rt, rt.alloc(), &text)?;
+                run_has_plain_literal(&rt, rt.alloc(), len, [place, place], *byte)?;
             }
         }
     }
@@ -92,8 +102,7 @@ fn runs_with_an_escape_at_each_place(rt: HostRuntime) -> Result<(), Fail> {
 fn runs_with_two_escapes(rt: HostRuntime) -> Result<(), Fail> {
     for first in 0..40usize {
         for second in 0..40usize {
-            let text = run(rt.alloc(), 40, [first, second], b'\'')?;
-            has_plain_literal(&rt, rt.alloc(), &text)?;
+            run_has_plain_literal(&rt, rt.alloc(), 40, [first, second], b'\'')?;
         }
     }
     Ok(())
@@ -103,11 +112,9 @@ fn runs_with_two_escapes(rt: HostRuntime) -> Result<(), Fail> {
 fn each_ascii_byte_at_each_place(rt: HostRuntime) -> Result<(), Fail> {
     for byte in 0..128u8 {
         for place in 0..33usize {
-            let text = run(rt.alloc(), 33, [place, place], byte)?;
-            has_plain_literal(&rt, rt.alloc(), &text)?;
+            run_has_plain_literal(&rt, rt.alloc(), 33, [place, place], byte)?;
         }
-        let text = run(rt.alloc(), 2, [0, 1], byte)?;
-        has_plain_literal(&rt, rt.alloc(), &text)?;
+        run_has_plain_literal(&rt, rt.alloc(), 2, [0, 1], byte)?;
     }
     Ok(())
 }

@@ -1,6 +1,6 @@
 //! Literals read back by a plain reader, which is written from docs/RULES.md, "How a literal is
 //! read", and shares no code with what writes them.
-use crate::shared::{bytes, date, same_in, time};
+use crate::shared::{MODES, bytes, date, same_in, time};
 use mysql_values::value::Value;
 use std::alloc::{AllocError, Global};
 use std::process::Abort;
@@ -47,17 +47,17 @@ fn read_pairs(alloc: Global, text: &[u8]) -> Result<Reading<'_>, AllocError> {
 
 // The number of the longest run of digits, of which there has to be one; none beyond 128 bits.
 fn read_number(text: &[u8], sign: i128) -> Reading<'_> {
-    let count = text.iter().take_while(|byte| byte.is_ascii_digit()).count();
-    let (digits, rest) = text.split_at(count.min(text.len()));
-    let mut number = 0i128;
-    for digit in digits {
+    let mut number = None;
+    let mut rest = text;
+    for _ in 0..text.len() {
+        let [digit @ b'0'..=b'9', after @ ..] = rest else {
+            break;
+        };
         let digit = sign.checked_mul(i128::from(digit.wrapping_sub(b'0')))?;
-        number = number.checked_mul(10)?.checked_add(digit)?;
+        number = Some(number.unwrap_or(0i128).checked_mul(10)?.checked_add(digit)?);
+        rest = after;
     }
-    if digits.is_empty() {
-        return None;
-    }
-    Some((Content::Number(number), rest))
+    Some((Content::Number(number?), rest))
 }
 
 // The bytes after a backslash with which they don't stand for themselves, and for what they do.
@@ -89,27 +89,22 @@ fn read_string(
     let mut bytes = Vec::new(alloc);
     let mut rest = text;
     for _ in 0..text.len() {
-        rest = match rest {
-            [b'\'', b'\'', after @ ..] => {
-                bytes.push(b'\'')?;
-                after
-            }
+        // What the unit says: a byte, and perhaps another before it.
+        let (before, byte, after) = match rest {
+            [b'\'', b'\'', after @ ..] => (None, b'\'', after),
             [b'\'', after @ ..] => return Ok(Some((Content::Bytes(bytes), after))),
             [b'\\', byte @ (b'%' | b'_'), after @ ..] if !no_backslash_escape => {
-                bytes.push(b'\\')?;
-                bytes.push(*byte)?;
-                after
+                (Some(b'\\'), *byte, after)
             }
-            [b'\\', byte, after @ ..] if !no_backslash_escape => {
-                bytes.push(unescaped(*byte))?;
-                after
-            }
-            [byte, after @ ..] => {
-                bytes.push(*byte)?;
-                after
-            }
+            [b'\\', byte, after @ ..] if !no_backslash_escape => (None, unescaped(*byte), after),
+            [byte, after @ ..] => (None, *byte, after),
             [] => return Ok(None),
         };
+        if let Some(before) = before {
+            bytes.push(before)?;
+        }
+        bytes.push(byte)?;
+        rest = after;
     }
     Ok(None)
 }
@@ -184,19 +179,24 @@ fn the_plain_reader(rt: HostRuntime) -> Result<(), Fail> {
     Ok(())
 }
 
-// In both modes the value's literal says the content, and what follows it is left.
-fn reads_back(
-    rt: &impl Abort,
+// The value's literal in a mode, and what follows it.
+fn literal_and_more(
     alloc: Global,
     value: &Value,
-    content: &Content,
-) -> Result<(), Fail> {
-    for no_backslash_escape in [false, true] {
-        let mut text = value.as_sql(alloc, no_backslash_escape)?.into_bytes();
-        text.extend_from_slice(b", 'b'")?;
-        match read_literal(alloc, &text, no_backslash_escape)? {
+    no_backslash_escape: bool,
+) -> Result<Vec<u8>, Fail> {
+    let mut text = value.as_sql(alloc, no_backslash_escape)?.into_bytes();
+    text.extend_from_slice(b", 'b'")?;
+    Ok(text)
+}
+
+// In both modes the value's literal says the content, and what follows it is left.
+fn reads_back(rt: &impl Abort, alloc: Global, value: Value, content: Content) -> Result<(), Fail> {
+    for no_backslash_escape in MODES {
+        let text = literal_and_more(alloc, &value, *no_backslash_escape)?;
+        match read_literal(alloc, &text, *no_backslash_escape)? {
             Some((found, rest)) => {
-                same_in(rt, &found, content, &value);
+                same_in(rt, &found, &content, &value);
                 same_in(rt, rest, b", 'b'".as_slice(), &value);
             }
             None => assert!(rt; false, "{value:?} has no literal"),
@@ -205,10 +205,15 @@ fn reads_back(
     Ok(())
 }
 
+// The value's literal says these bytes.
+fn reads_back_as(rt: &impl Abort, alloc: Global, value: Value, said: &[u8]) -> Result<(), Fail> {
+    let content = Content::Bytes(Vec::from_slice(alloc, said)?);
+    reads_back(rt, alloc, value, content)
+}
+
 // The value holds these bytes, and its literal says them.
 fn bytes_read_back(rt: &impl Abort, alloc: Global, held: &[u8]) -> Result<(), Fail> {
-    let content = Content::Bytes(Vec::from_slice(alloc, held)?);
-    reads_back(rt, alloc, &bytes(alloc, held)?, &content)
+    reads_back_as(rt, alloc, bytes(alloc, held)?, held)
 }
 
 #[test]
@@ -234,17 +239,21 @@ fn hostile_bytes_read_back(rt: HostRuntime) -> Result<(), Fail> {
     Ok(())
 }
 
+const INTS: &[i64] = &[0, 1, -1, 9223372036854775807, -9223372036854775808];
+
+const UINTS: &[u64] = &[0, 1, 18446744073709551615];
+
 #[test]
 fn null_and_numbers_read_back(rt: HostRuntime) -> Result<(), Fail> {
     let alloc = rt.alloc();
-    reads_back(&rt, alloc, &Value::NULL, &Content::Null)?;
-    for number in [0, 1, -1, 9223372036854775807, -9223372036854775808i64] {
-        let content = Content::Number(i128::from(number));
-        reads_back(&rt, alloc, &Value::Int(number), &content)?;
+    reads_back(&rt, alloc, Value::NULL, Content::Null)?;
+    for number in INTS {
+        let content = Content::Number(i128::from(*number));
+        reads_back(&rt, alloc, Value::Int(*number), content)?;
     }
-    for number in [0, 1, 18446744073709551615u64] {
-        let content = Content::Number(i128::from(number));
-        reads_back(&rt, alloc, &Value::UInt(number), &content)?;
+    for number in UINTS {
+        let content = Content::Number(i128::from(*number));
+        reads_back(&rt, alloc, Value::UInt(*number), content)?;
     }
     Ok(())
 }
@@ -252,8 +261,7 @@ fn null_and_numbers_read_back(rt: HostRuntime) -> Result<(), Fail> {
 #[test]
 fn dates_and_times_read_back(rt: HostRuntime) -> Result<(), Fail> {
     let alloc = rt.alloc();
-    let day = Content::Bytes(Vec::from_slice(alloc, b"2019-11-27")?);
-    reads_back(&rt, alloc, &date((2019, 11, 27, 0, 0, 0, 0)), &day)?;
-    let clock = Content::Bytes(Vec::from_slice(alloc, b"-7208:08:08.123456")?);
-    reads_back(&rt, alloc, &time((true, 300, 8, 8, 8, 123456)), &clock)
+    reads_back_as(&rt, alloc, date((2019, 11, 27, 0, 0, 0, 0)), b"2019-11-27")?;
+    let clock = time((true, 300, 8, 8, 8, 123456));
+    reads_back_as(&rt, alloc, clock, b"-7208:08:08.123456")
 }

@@ -11,6 +11,9 @@ pub const SIGNED: u16 = 0;
 
 pub const UNSIGNED: u16 = 32;
 
+// The modes: with backslash escapes, and without.
+pub(crate) const MODES: &[bool] = &[false, true];
+
 // The fields of a date: year, month, day, hour, minute, second, microseconds.
 pub type DateFields = (u16, u8, u8, u8, u8, u8, u32);
 

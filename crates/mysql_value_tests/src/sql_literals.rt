@@ -1,5 +1,5 @@
 //! SQL literals of values.
-use crate::shared::{DateFields, TimeFields, bytes, date, same, same_in, time};
+use crate::shared::{DateFields, MODES, TimeFields, bytes, date, same, same_in, time};
 use mysql_values::value::{AsSqlError, Value};
 use std::alloc::{AllocError, Global};
 use std::process::Abort;
@@ -13,8 +13,12 @@ pub(crate) fn has_literal(
     no_backslash_escape: bool,
     literal: &[u8],
 ) -> Result<(), Fail> {
-    let text = value.as_sql(alloc, no_backslash_escape)?;
-    same_in(rt, text.as_bytes(), literal, &value);
+    same_in(
+        rt,
+        value.as_sql(alloc, no_backslash_escape)?.as_bytes(),
+        literal,
+        &value,
+    );
     let len = value.sql_len(no_backslash_escape);
     // The call below needs this fact, which no call hands on.
     assert_eq!(rt; len, Some(literal.len() as u128), "{value:?}");
@@ -187,29 +191,34 @@ fn literal_of_byte(alloc: Global, byte: u8, table: &[(u8, &str)]) -> Result<Stri
     }
 }
 
+// In this mode the byte has the literal by the rules.
+fn byte_has_literal(
+    rt: &impl Abort,
+    alloc: Global,
+    byte: u8,
+    no_backslash_escape: bool,
+    table: &[(u8, &str)],
+) -> Result<(), Fail> {
+    let value = bytes(alloc, &[byte])?;
+    let literal = literal_of_byte(alloc, byte, table)?;
+    has_literal(rt, alloc, &value, no_backslash_escape, literal.as_bytes())
+}
+
 #[test]
 fn literals_of_each_byte(rt: HostRuntime) -> Result<(), Fail> {
     for byte in 0..=255u8 {
-        let value = bytes(rt.alloc(), &[byte])?;
-        let with_backslashes = literal_of_byte(rt.alloc(), byte, WITH_BACKSLASHES)?;
-        let without_backslashes = literal_of_byte(rt.alloc(), byte, WITHOUT_BACKSLASHES)?;
-        has_literals(
-            &rt,
-            rt.alloc(),
-            &value,
-            with_backslashes.as_str(),
-            without_backslashes.as_str(),
-        )?;
+        byte_has_literal(&rt, rt.alloc(), byte, false, WITH_BACKSLASHES)?;
+        byte_has_literal(&rt, rt.alloc(), byte, true, WITHOUT_BACKSLASHES)?;
     }
     Ok(())
 }
 
 // The value is refused as a float in either mode, and has no length of a literal.
 fn has_no_literal(rt: &impl Abort, alloc: Global, value: &Value) {
-    for no_backslash_escape in [false, true] {
-        let answer = value.as_sql(alloc, no_backslash_escape);
+    for no_backslash_escape in MODES {
+        let answer = value.as_sql(alloc, *no_backslash_escape);
         same_in(rt, &answer, &Err(AsSqlError::Float), &value);
-        same_in(rt, &value.sql_len(no_backslash_escape), &None, &value);
+        same_in(rt, &value.sql_len(*no_backslash_escape), &None, &value);
     }
 }
 

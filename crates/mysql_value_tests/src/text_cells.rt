@@ -98,15 +98,10 @@ const CELLS: &[(&[u8], Option<&[u8]>)] = &[
 ];
 
 // The cell is read at the front of the bytes, and the byte 9 is left.
-fn reads_cell(
-    rt: &impl Abort,
-    alloc: Global,
-    input: &[u8],
-    cell: Option<&[u8]>,
-) -> Result<(), Fail> {
+fn reads_cell(rt: &impl Abort, alloc: Global, input: &[u8], cell: Value) -> Result<(), Fail> {
     let mut buf = ParseBuf(input);
     let read = ValueDeserializer::<TextValue>::deserialize(alloc, (), &mut buf)?;
-    same_in(rt, &read.0, &value_of(alloc, cell)?, &input);
+    same_in(rt, &read.0, &cell, &input);
     same_in(rt, buf.0, [9].as_slice(), &input);
     Ok(())
 }
@@ -115,7 +110,7 @@ fn reads_cell(
 fn single_cells(rt: HostRuntime) -> Result<(), Fail> {
     let alloc = rt.alloc();
     for (input, cell) in CELLS {
-        reads_cell(&rt, alloc, *input, *cell)?;
+        reads_cell(&rt, alloc, *input, value_of(alloc, *cell)?)?;
     }
     Ok(())
 }

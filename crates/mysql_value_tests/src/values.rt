@@ -94,30 +94,47 @@ const ASCENDING_TIMES: &[TimeFields] = &[
     (true, 1, 0, 0, 0, 0),
 ];
 
+fn push_bytes(alloc: Global, values: &mut Vec<Value>) -> Result<(), AllocError> {
+    for held in ASCENDING_BYTES {
+        values.push(bytes(alloc, *held)?)?;
+    }
+    Ok(())
+}
+
+fn push_numbers(values: &mut Vec<Value>) -> Result<(), AllocError> {
+    values.push(Value::Int(-1))?;
+    values.push(Value::Int(0))?;
+    values.push(Value::UInt(0))?;
+    values.push(Value::UInt(9223372036854775808))?;
+    // The bits of 1.0 and of -1.0.
+    values.push(Value::Float(1065353216))?;
+    values.push(Value::Float(3212836864))?;
+    values.push(Value::Double(0))?;
+    Ok(())
+}
+
+fn push_dates(values: &mut Vec<Value>) -> Result<(), AllocError> {
+    for fields in ASCENDING_DATES {
+        values.push(date(*fields))?;
+    }
+    Ok(())
+}
+
+fn push_times(values: &mut Vec<Value>) -> Result<(), AllocError> {
+    for fields in ASCENDING_TIMES {
+        values.push(time(*fields))?;
+    }
+    Ok(())
+}
+
 // Values in their order, no two of them equal.
 fn ascending(alloc: Global) -> Result<Vec<Value>, AllocError> {
     let mut values = Vec::new(alloc);
     values.push(Value::NULL)?;
-    for held in ASCENDING_BYTES {
-        values.push(bytes(alloc, *held)?)?;
-    }
-    for number in [-1, 0] {
-        values.push(Value::Int(number))?;
-    }
-    for number in [0, 9223372036854775808] {
-        values.push(Value::UInt(number))?;
-    }
-    // The bits of 1.0 and of -1.0.
-    for bits in [1065353216, 3212836864] {
-        values.push(Value::Float(bits))?;
-    }
-    values.push(Value::Double(0))?;
-    for fields in ASCENDING_DATES {
-        values.push(date(*fields))?;
-    }
-    for fields in ASCENDING_TIMES {
-        values.push(time(*fields))?;
-    }
+    push_bytes(alloc, &mut values)?;
+    push_numbers(&mut values)?;
+    push_dates(&mut values)?;
+    push_times(&mut values)?;
     Ok(values)
 }
 

@@ -87,7 +87,7 @@ fn too_few_bytes(rt: HostRuntime) {
         let found = integers(*bytes);
         for i in 0..8 {
             if i < *answered {
-                assert!(rt; found[i].0.is_some(), "call {i} on {bytes:?}");
+                same_in(&rt, &found[i].0.is_some(), &true, &(&i, &bytes));
             } else {
                 same_in(&rt, &found[i], &(None, bytes.len()), &(&i, &bytes));
             }

@@ -7,24 +7,36 @@ use mysql_wire_part::{
     ColumnFlags, ColumnType, Flags, MyDeserialize, MySerialize, ParseBuf, WireError, put_lenenc_str,
 };
 use std::alloc::{AllocError, Global};
+use std::process::Abort;
 use std::test::Fail;
+
+const MESSAGES: &[(WireError, &str)] = &[
+    (WireError::UnexpectedEof, "Unexpected end of buffer"),
+    (WireError::BadLengthLead(255), "Bad length lead 255"),
+    (
+        WireError::UnsupportedColumn(ColumnType::MYSQL_TYPE_TIME2),
+        "Unsupported column type",
+    ),
+];
+
+// The error prints the message.
+fn says(rt: &impl Abort, alloc: Global, error: &WireError, message: &str) -> Result<(), Fail> {
+    let printed = error.to_string(alloc)?;
+    same(rt, printed.as_str(), message);
+    Ok(())
+}
 
 #[test]
 fn messages(rt: HostRuntime) -> Result<(), Fail> {
-    let alloc = rt.alloc();
-    let table = [
-        (WireError::UnexpectedEof, "Unexpected end of buffer"),
-        (WireError::BadLengthLead(255), "Bad length lead 255"),
-        (
-            WireError::UnsupportedColumn(ColumnType::MYSQL_TYPE_TIME2),
-            "Unsupported column type",
-        ),
-        (WireError::from(AllocError), "out of memory"),
-    ];
-    for (error, message) in table {
-        same(&rt, error.to_string(alloc)?.as_str(), message);
+    for (error, message) in MESSAGES {
+        says(&rt, rt.alloc(), error, *message)?;
     }
-    Ok(())
+    says(
+        &rt,
+        rt.alloc(),
+        &WireError::from(AllocError),
+        "out of memory",
+    )
 }
 
 #[test]
@@ -101,23 +113,34 @@ fn read<'de, T: MyDeserialize<'de, Ctx = ()> + Drop>(
     Ok((first, second))
 }
 
+fn name_of(alloc: Global, text: &[u8]) -> Result<Name, AllocError> {
+    let bytes = Vec::from_slice(alloc, text)?;
+    Ok(Name { bytes })
+}
+
+// The two names are read from the bytes, and nothing is left.
+fn names_are_read(
+    rt: &impl Abort,
+    alloc: Global,
+    bytes: &[u8],
+    wanted: (&[u8], &[u8]),
+) -> Result<(), Fail> {
+    let mut rest = ParseBuf(bytes);
+    let (first, second): (Name, Name) = read(alloc, &mut rest)?;
+    same(
+        rt,
+        &(first.bytes.as_slice(), second.bytes.as_slice()),
+        &wanted,
+    );
+    same(rt, &rest.is_empty(), &true);
+    Ok(())
+}
+
 #[test]
 fn a_type_of_the_users_own(rt: HostRuntime) -> Result<(), Fail> {
     let alloc = rt.alloc();
-    let names = [
-        Name {
-            bytes: Vec::from_slice(alloc, b"abc")?,
-        },
-        Name {
-            bytes: Vec::new(alloc),
-        },
-    ];
+    let names = [name_of(alloc, b"abc")?, name_of(alloc, b"")?];
     let buf = written(alloc, &names)?;
     same(&rt, buf.as_slice(), b"\x03abc\x00".as_slice());
-    let mut rest = ParseBuf(&buf);
-    let (first, second): (Name, Name) = read(alloc, &mut rest)?;
-    same(&rt, first.bytes.as_slice(), b"abc".as_slice());
-    same(&rt, second.bytes.as_slice(), b"".as_slice());
-    assert!(rt; rest.is_empty());
-    Ok(())
+    names_are_read(&rt, alloc, &buf, (b"abc", b""))
 }
