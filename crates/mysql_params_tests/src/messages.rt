@@ -1,8 +1,8 @@
 //! What errors and parameters show.
-use crate::shared::{bytes, named, positional, same};
+use crate::shared::{named, positional, same};
 use mysql_params::params::{
     IntoPositionalError, MissingNamedParameterError, Params, ParamsConfusionError, ParamsError,
-    ToParamsError,
+    ToPairs, ToParamsError,
 };
 use mysql_values::value::Value;
 use mysql_values::value::convert::ToValueError;
@@ -90,21 +90,6 @@ fn messages_of_makers(rt: HostRuntime) -> Result<(), Fail> {
     )
 }
 
-// Two pairs, and four, not in the order of their names.
-fn two_pairs(alloc: Global) -> Result<Params, ToParamsError> {
-    Params::from_pairs(alloc, &[("b", Value::NULL), ("a", Value::Int(1))])
-}
-
-fn four_pairs(alloc: Global, text: Value) -> Result<Params, ToParamsError> {
-    let pairs = [
-        ("b", text),
-        ("ab", Value::NULL),
-        ("a", Value::Int(1)),
-        ("", Value::UInt(2)),
-    ];
-    Params::from_pairs(alloc, &pairs)
-}
-
 #[test]
 fn shown_parameters(rt: HostRuntime) -> Result<(), Fail> {
     let alloc = rt.alloc();
@@ -113,13 +98,15 @@ fn shown_parameters(rt: HostRuntime) -> Result<(), Fail> {
     let pair = Params::Positional(Vec::from_array(alloc, [Value::Int(1), Value::NULL])?);
     is_shown(&rt, alloc, &pair, "Positional([Int(1), Null])")?;
     is_shown(&rt, alloc, &named(alloc, b"")?, "Named({})")?;
-    is_shown(
-        &rt,
-        alloc,
-        &two_pairs(alloc)?,
-        "Named({\"a\": Int(1), \"b\": Null})",
-    )?;
-    let four = four_pairs(alloc, bytes(alloc, b"x")?)?;
+    // They are shown in the order of their names.
+    let two = (("b", None::<u8>), ("a", 1i64)).to_named(alloc)?;
+    is_shown(&rt, alloc, &two, "Named({\"a\": Int(1), \"b\": Null})")
+}
+
+#[test]
+fn shown_text(rt: HostRuntime) -> Result<(), Fail> {
+    let alloc = rt.alloc();
+    let four = (("b", "x"), ("ab", None::<u8>), ("a", 1i64), ("", 2u64)).to_named(alloc)?;
     let text = "Named({\"\": UInt(2), \"a\": Int(1), \"ab\": Null, \"b\": Bytes(\"x\")})";
     is_shown(&rt, alloc, &four, text)
 }
