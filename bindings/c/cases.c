@@ -157,13 +157,19 @@ static const char *const NUMBERS[] = {
     "DONE", "OUT_OF_MEMORY", "ROOM", "FORM_END", "FORM_LENGTH_LEAD", "FORM_TYPE", "FORM_MIXED", "FORM_REPEATED", "MIXED",
     "MISSING", "NAMED_FOR_POSITIONAL", "POSITIONAL_FOR_NAMED", "MARK_COUNT", "NOT_ALONE", "FLOAT"};
 
+/* The number of a name: its index in the names, from first to last. */
+static int32_t index_of(const char *name, const char *const *names, int32_t first, int32_t last)
+{
+    for (int32_t number = first; number <= last; number++)
+        if (strcmp(names[number], name) == 0)
+            return number;
+    stop("this name is not known");
+    return -1;
+}
+
 static int32_t number_of(const char *name)
 {
-    for (int32_t number = 0; number <= MYSQL_PARAMS_FLOAT; number++)
-        if (strcmp(NUMBERS[number], name) == 0)
-            return number;
-    stop("this refusal is not known");
-    return -1;
+    return index_of(name, NUMBERS, 0, MYSQL_PARAMS_FLOAT);
 }
 
 /* Reads one FIELD=VALUE of a refusal or a construct. */
@@ -198,11 +204,7 @@ static const char *const CONSTRUCTS[] = {
 
 static int32_t construct_of(const char *name)
 {
-    for (int32_t number = 1; number <= MYSQL_PARAMS_PLACE_AFTER_EXPONENT; number++)
-        if (strcmp(CONSTRUCTS[number], name) == 0)
-            return number;
-    stop("this construct is not known");
-    return -1;
+    return index_of(name, CONSTRUCTS, 1, MYSQL_PARAMS_PLACE_AFTER_EXPONENT);
 }
 
 /* Reads a name, which the function knows, and the fields after it. */
