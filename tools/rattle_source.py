@@ -63,7 +63,9 @@ def opens(line, first):
     """Whether the line opens the braces of the item with this first line: it does so at the margin, or after a long head."""
     if not line.endswith("{") or line.startswith("//"):
         return False
-    return not line.startswith(" ") or (first.startswith("impl") and line.startswith(INDENT + "for "))
+    # The second form ends a type that goes over several lines.
+    after_head = line.startswith(INDENT + "for ") or line == INDENT + ") {"
+    return not line.startswith(" ") or (first.startswith("impl") and after_head)
 
 
 def is_comment(line):

@@ -21,10 +21,11 @@ list_made-nonempty [] h = absurd (omega arith)
 list_made-nonempty (m ∷ ms) h = refl
 
 -- a `?` hands on the error as it is
-pub error_is_handed_on : (m : Made) (r : Result Params ToParamsError) (e : ToParamsError) → IsErrAnd r (λ t. t ≡ e)
-    → IsExpectedRefusal m ⊤ (maker_refusal e) → IsAnswer given maker_refusal m ⊤ r
-error_is_handed_on m (Ok p) e same refused = absurd same
-error_is_handed_on m (Err t) e same refused =
+pub error_is_handed_on : {A Seen : Type 0} (seen : A → Seen) (m : Result Seen MakerRefusal) (r : Result A ToParamsError)
+    (e : ToParamsError) → IsErrAnd r (λ t. t ≡ e) → IsExpectedRefusal m ⊤ (maker_refusal e)
+    → IsAnswer seen maker_refusal m ⊤ r
+error_is_handed_on seen m (Ok a) e same refused = absurd same
+error_is_handed_on seen m (Err t) e same refused =
     subst (λ t. IsExpectedRefusal m ⊤ (maker_refusal t)) (sym same) refused
 
 -- a walk by g, which keeps a refusal
@@ -33,6 +34,12 @@ module _ {S A : Type 0} (g : Result S MakerRefusal → A → Result S MakerRefus
   fold-refused : (e : MakerRefusal) (rs : List A) → fold g (Err e) rs ≡ Err e
   fold-refused e [] = refl
   fold-refused e (r ∷ rs) = ap (λ s. fold g s rs) (stays e r) ∙ fold-refused e rs
+
+  -- the rest of a walk keeps the refusal that it starts with
+  pub refusal_stays : (e : ToParamsError) (rs : List A) → IsExpectedRefusal start ⊤ (maker_refusal e)
+      → IsExpectedRefusal (fold g start rs) ⊤ (maker_refusal e)
+  refusal_stays e rs = refusal_expected_too start (fold g start rs) ⊤ ⊤ (maker_refusal e)
+      (λ why refused. ap (λ s. fold g s rs) refused ∙ fold-refused why rs) (λ _. tt)
 
   -- x is the thing at i of the list xs, and f what is known of a thing
   module _ {X : Type 0} (f : X → A) (xs : List X) (i : ℕ) (x : X) (h : i < length xs) (is : x ≡ get_or xs i x) where
@@ -65,7 +72,7 @@ module _ {S A : Type 0} (g : Result S MakerRefusal → A → Result S MakerRefus
         → (r : Result Params ToParamsError) → IsErrAnd r (λ t. t ≡ e)
         → IsAnswer given maker_refusal (by (fold g start (map f xs))) ⊤ r
     refusal_is_handed_on by ends old e before answer r same =
-        error_is_handed_on (by (fold g start (map f xs))) r e same
+        error_is_handed_on given (by (fold g start (map f xs))) r e same
         (refusal_expected_too (g old (f x)) (by (fold g start (map f xs))) ⊤ ⊤ (maker_refusal e)
         (λ why refused. ap by (fold-refused_at old why before refused) ∙ ends why) (λ _. tt) answer)
 

@@ -8,6 +8,7 @@ mod errors;
 mod lookup;
 mod pair_tuples;
 mod pairs;
+mod row;
 mod shown;
 mod to_params;
 mod tuples;

@@ -8,6 +8,7 @@ ghost use Rattle.mysql_params_core.specs.Given.{given, value_map};
 ghost use Rattle.mysql_params_core.specs.Made.{pairs_made, with_pair};
 
 use crate::params::pairs::insert_pair;
+use crate::params::row::row;
 use crate::params::{Params, ToParamsError};
 use mysql_values::value::Value;
 use mysql_values::value::convert::ToValue;
@@ -33,9 +34,7 @@ impl<A: ToValue> ToPairs for ((&str, A),) {
     ghost pairs = { λ pairs. (pairs.0.0.now, A.value_of pairs.0.1) ∷ [] };
 
     fn to_named(&self, alloc: Global) -> Result<Params, ToParamsError> {
-        let mut entries = HashMap::new(alloc);
-        insert_pair(alloc, &mut entries, self.0.0.as_bytes(), &self.0.1)?;
-        Ok(Params::Named(entries))
+        params_by_name(alloc, &row!(&self.0))
     }
 }
 
@@ -44,9 +43,7 @@ impl<A: ToValue, B: ToValue> ToPairs for ((&str, A), (&str, B)) {
         (pairs.1.0.now, B.value_of pairs.1.1) ∷ [] };
 
     fn to_named(&self, alloc: Global) -> Result<Params, ToParamsError> {
-        let mut entries = HashMap::new(alloc);
-        insert_two(alloc, &mut entries, &self.0, &self.1)?;
-        Ok(Params::Named(entries))
+        params_by_name(alloc, &row!(&self.0, &self.1))
     }
 }
 
@@ -56,10 +53,7 @@ impl<A: ToValue, B: ToValue, C: ToValue> ToPairs for ((&str, A), (&str, B), (&st
         (pairs.2.0.now, C.value_of pairs.2.1) ∷ [] };
 
     fn to_named(&self, alloc: Global) -> Result<Params, ToParamsError> {
-        let mut entries = HashMap::new(alloc);
-        insert_two(alloc, &mut entries, &self.0, &self.1)?;
-        insert_pair(alloc, &mut entries, self.2.0.as_bytes(), &self.2.1)?;
-        Ok(Params::Named(entries))
+        params_by_name(alloc, &row!(&self.0, &self.1, &self.2))
     }
 }
 
@@ -71,9 +65,7 @@ impl<A: ToValue, B: ToValue, C: ToValue, D: ToValue> ToPairs
         (pairs.3.0.now, D.value_of pairs.3.1) ∷ [] };
 
     fn to_named(&self, alloc: Global) -> Result<Params, ToParamsError> {
-        let mut entries = HashMap::new(alloc);
-        insert_four(alloc, &mut entries, &self.0, &self.1, &self.2, &self.3)?;
-        Ok(Params::Named(entries))
+        params_by_name(alloc, &row!(&self.0, &self.1, &self.2, &self.3))
     }
 }
 
@@ -86,10 +78,7 @@ impl<A: ToValue, B: ToValue, C: ToValue, D: ToValue, E: ToValue> ToPairs
         (pairs.4.0.now, E.value_of pairs.4.1) ∷ [] };
 
     fn to_named(&self, alloc: Global) -> Result<Params, ToParamsError> {
-        let mut entries = HashMap::new(alloc);
-        insert_four(alloc, &mut entries, &self.0, &self.1, &self.2, &self.3)?;
-        insert_pair(alloc, &mut entries, self.4.0.as_bytes(), &self.4.1)?;
-        Ok(Params::Named(entries))
+        params_by_name(alloc, &row!(&self.0, &self.1, &self.2, &self.3, &self.4))
     }
 }
 
@@ -110,10 +99,10 @@ impl<A: ToValue, B: ToValue, C: ToValue, D: ToValue, E: ToValue, F: ToValue> ToP
         (pairs.5.0.now, F.value_of pairs.5.1) ∷ [] };
 
     fn to_named(&self, alloc: Global) -> Result<Params, ToParamsError> {
-        let mut entries = HashMap::new(alloc);
-        insert_four(alloc, &mut entries, &self.0, &self.1, &self.2, &self.3)?;
-        insert_two(alloc, &mut entries, &self.4, &self.5)?;
-        Ok(Params::Named(entries))
+        params_by_name(
+            alloc,
+            &row!(&self.0, &self.1, &self.2, &self.3, &self.4, &self.5),
+        )
     }
 }
 
@@ -136,11 +125,12 @@ impl<A: ToValue, B: ToValue, C: ToValue, D: ToValue, E: ToValue, F: ToValue, G: 
         (pairs.6.0.now, G.value_of pairs.6.1) ∷ [] };
 
     fn to_named(&self, alloc: Global) -> Result<Params, ToParamsError> {
-        let mut entries = HashMap::new(alloc);
-        insert_four(alloc, &mut entries, &self.0, &self.1, &self.2, &self.3)?;
-        insert_two(alloc, &mut entries, &self.4, &self.5)?;
-        insert_pair(alloc, &mut entries, self.6.0.as_bytes(), &self.6.1)?;
-        Ok(Params::Named(entries))
+        params_by_name(
+            alloc,
+            &row!(
+                &self.0, &self.1, &self.2, &self.3, &self.4, &self.5, &self.6
+            ),
+        )
     }
 }
 
@@ -174,10 +164,12 @@ impl<
         (pairs.7.0.now, H.value_of pairs.7.1) ∷ [] };
 
     fn to_named(&self, alloc: Global) -> Result<Params, ToParamsError> {
-        let mut entries = HashMap::new(alloc);
-        insert_four(alloc, &mut entries, &self.0, &self.1, &self.2, &self.3)?;
-        insert_four(alloc, &mut entries, &self.4, &self.5, &self.6, &self.7)?;
-        Ok(Params::Named(entries))
+        params_by_name(
+            alloc,
+            &row!(
+                &self.0, &self.1, &self.2, &self.3, &self.4, &self.5, &self.6, &self.7
+            ),
+        )
     }
 }
 
@@ -214,11 +206,12 @@ impl<
         (pairs.8.0.now, I.value_of pairs.8.1) ∷ [] };
 
     fn to_named(&self, alloc: Global) -> Result<Params, ToParamsError> {
-        let mut entries = HashMap::new(alloc);
-        insert_four(alloc, &mut entries, &self.0, &self.1, &self.2, &self.3)?;
-        insert_four(alloc, &mut entries, &self.4, &self.5, &self.6, &self.7)?;
-        insert_pair(alloc, &mut entries, self.8.0.as_bytes(), &self.8.1)?;
-        Ok(Params::Named(entries))
+        params_by_name(
+            alloc,
+            &row!(
+                &self.0, &self.1, &self.2, &self.3, &self.4, &self.5, &self.6, &self.7, &self.8
+            ),
+        )
     }
 }
 
@@ -258,11 +251,13 @@ impl<
         (pairs.9.0.now, J.value_of pairs.9.1) ∷ [] };
 
     fn to_named(&self, alloc: Global) -> Result<Params, ToParamsError> {
-        let mut entries = HashMap::new(alloc);
-        insert_four(alloc, &mut entries, &self.0, &self.1, &self.2, &self.3)?;
-        insert_four(alloc, &mut entries, &self.4, &self.5, &self.6, &self.7)?;
-        insert_two(alloc, &mut entries, &self.8, &self.9)?;
-        Ok(Params::Named(entries))
+        params_by_name(
+            alloc,
+            &row!(
+                &self.0, &self.1, &self.2, &self.3, &self.4, &self.5, &self.6, &self.7, &self.8,
+                &self.9
+            ),
+        )
     }
 }
 
@@ -305,12 +300,13 @@ impl<
         (pairs.10.0.now, K.value_of pairs.10.1) ∷ [] };
 
     fn to_named(&self, alloc: Global) -> Result<Params, ToParamsError> {
-        let mut entries = HashMap::new(alloc);
-        insert_four(alloc, &mut entries, &self.0, &self.1, &self.2, &self.3)?;
-        insert_four(alloc, &mut entries, &self.4, &self.5, &self.6, &self.7)?;
-        insert_two(alloc, &mut entries, &self.8, &self.9)?;
-        insert_pair(alloc, &mut entries, self.10.0.as_bytes(), &self.10.1)?;
-        Ok(Params::Named(entries))
+        params_by_name(
+            alloc,
+            &row!(
+                &self.0, &self.1, &self.2, &self.3, &self.4, &self.5, &self.6, &self.7, &self.8,
+                &self.9, &self.10
+            ),
+        )
     }
 }
 
@@ -356,11 +352,79 @@ impl<
         (pairs.11.0.now, L.value_of pairs.11.1) ∷ [] };
 
     fn to_named(&self, alloc: Global) -> Result<Params, ToParamsError> {
-        let mut entries = HashMap::new(alloc);
-        insert_four(alloc, &mut entries, &self.0, &self.1, &self.2, &self.3)?;
-        insert_four(alloc, &mut entries, &self.4, &self.5, &self.6, &self.7)?;
-        insert_four(alloc, &mut entries, &self.8, &self.9, &self.10, &self.11)?;
-        Ok(Params::Named(entries))
+        params_by_name(
+            alloc,
+            &row!(
+                &self.0, &self.1, &self.2, &self.3, &self.4, &self.5, &self.6, &self.7, &self.8,
+                &self.9, &self.10, &self.11
+            ),
+        )
+    }
+}
+
+// The named parameters that the pairs of a row make.
+fn params_by_name<R: InsertPairs>(alloc: Global, row: &R) -> Result<Params, ToParamsError>
+    ensures made { IsAnswer given maker_refusal (pairs_made (R.inserted row.now)) ⊤ result }
+    ensures value { IfErr result (λ error.
+        error ≢ ToParamsError.Value (to_value.Memory alloc_error)) }
+{
+    let mut entries = HashMap::new(alloc);
+    row.insert(alloc, &mut entries)?;
+    Ok(Params::Named(entries))
+}
+
+// A row of references to pairs, whose values go into a map.
+trait InsertPairs {
+    // the names, and the values of the things
+    ghost inserted: { Self → List (List ℕ × Meaning) };
+
+    // Inserts the values in order, up to the first refusal.
+    fn insert(
+        &self,
+        alloc: Global,
+        entries: &mut HashMap<Vec<u8>, Value>,
+    ) -> Result<(), ToParamsError>
+        ensures made { IsAnswer (λ _. value_map entries.new.entries) maker_refusal
+            (fold with_pair (Ok (value_map entries.old.entries)) (inserted self.now)) ⊤ result }
+        ensures value { IfErr result (λ error.
+            error ≢ ToParamsError.Value (to_value.Memory alloc_error)) };
+}
+
+impl InsertPairs for () {
+    ghost inserted = { λ _. [] };
+
+    fn insert(
+        &self,
+        _alloc: Global,
+        _entries: &mut HashMap<Vec<u8>, Value>,
+    ) -> Result<(), ToParamsError> {
+        Ok(())
+    }
+}
+
+impl<A: ToValue> InsertPairs for (&(&str, A),) {
+    ghost inserted = { λ row. (row.0.now.0.now, A.value_of row.0.now.1) ∷ [] };
+
+    fn insert(
+        &self,
+        alloc: Global,
+        entries: &mut HashMap<Vec<u8>, Value>,
+    ) -> Result<(), ToParamsError> {
+        insert_pair(alloc, entries, self.0.0.as_bytes(), &self.0.1)
+    }
+}
+
+impl<A: ToValue, B: ToValue, R: InsertPairs> InsertPairs for (&(&str, A), &(&str, B), R) {
+    ghost inserted = { λ row. (row.0.now.0.now, A.value_of row.0.now.1) ∷
+        (row.1.now.0.now, B.value_of row.1.now.1) ∷ R.inserted row.2 };
+
+    fn insert(
+        &self,
+        alloc: Global,
+        entries: &mut HashMap<Vec<u8>, Value>,
+    ) -> Result<(), ToParamsError> {
+        insert_two(alloc, entries, self.0, self.1)?;
+        self.2.insert(alloc, entries)
     }
 }
 
@@ -380,26 +444,4 @@ fn insert_two<A: ToValue, B: ToValue>(
 {
     insert_pair(alloc, entries, first.0.as_bytes(), &first.1)?;
     insert_pair(alloc, entries, second.0.as_bytes(), &second.1)
-}
-
-// Inserts the values of four pairs, one after another.
-fn insert_four<A: ToValue, B: ToValue, C: ToValue, D: ToValue>(
-    alloc: Global,
-    entries: &mut HashMap<Vec<u8>, Value>,
-    first: &(&str, A),
-    second: &(&str, B),
-    third: &(&str, C),
-    fourth: &(&str, D),
-) -> Result<(), ToParamsError>
-    ensures made { IsAnswer (λ _. value_map entries.new.entries) maker_refusal
-        (fold with_pair (Ok (value_map entries.old.entries))
-        ((first.now.0.now, A.value_of first.now.1) ∷
-        (second.now.0.now, B.value_of second.now.1) ∷
-        (third.now.0.now, C.value_of third.now.1) ∷
-        (fourth.now.0.now, D.value_of fourth.now.1) ∷ [])) ⊤ result }
-    ensures value { IfErr result (λ error.
-        error ≢ ToParamsError.Value (to_value.Memory alloc_error)) }
-{
-    insert_two(alloc, entries, first, second)?;
-    insert_two(alloc, entries, third, fourth)
 }

@@ -1,10 +1,13 @@
 //! Tuples of things that have values make positional parameters.
-ghost use Rattle.std.specs.Prelude.{◌≢◌, ◌∷◌, [], fold, Ok, IfErr, alloc_error, ⊤};
+ghost use Rattle.std.specs.Prelude.{◌≢◌, ◌∷◌, List, [], fold, Ok, IfErr, alloc_error, ⊤};
 ghost use Rattle.mysql_wire_part.specs.Answer.{IsAnswer};
 ghost use Rattle.mysql_value_core.specs.declared.value.convert.ToValueError.TheVariants as to_value;
+ghost use Rattle.mysql_value_core.specs.ValueOf.{Meaning};
 ghost use Rattle.mysql_params_core.specs.Errors.{maker_refusal};
-ghost use Rattle.mysql_params_core.specs.Made.{list_made, with_value};
+ghost use Rattle.mysql_params_core.specs.Given.{given};
+ghost use Rattle.mysql_params_core.specs.Made.{by_position, list_made, values_made, with_value};
 
+use crate::params::row::row;
 use crate::params::to_params::append_value;
 use crate::params::{Params, ToParams, ToParamsError};
 use mysql_values::value::Value;
@@ -17,9 +20,7 @@ impl<A: ToValue> ToParams for (A,) {
     ghost takes_memory = { λ _. ⊤ };
 
     fn to_params(&self, alloc: Global) -> Result<Params, ToParamsError> {
-        let mut values = Vec::new(alloc);
-        append_value(alloc, &mut values, &self.0)?;
-        Ok(Params::Positional(values))
+        params_by_position(alloc, &row!(&self.0))
     }
 }
 
@@ -29,10 +30,7 @@ impl<A: ToValue, B: ToValue> ToParams for (A, B) {
     ghost takes_memory = { λ _. ⊤ };
 
     fn to_params(&self, alloc: Global) -> Result<Params, ToParamsError> {
-        let mut values = Vec::new(alloc);
-        append_value(alloc, &mut values, &self.0)?;
-        append_value(alloc, &mut values, &self.1)?;
-        Ok(Params::Positional(values))
+        params_by_position(alloc, &row!(&self.0, &self.1))
     }
 }
 
@@ -43,11 +41,7 @@ impl<A: ToValue, B: ToValue, C: ToValue> ToParams for (A, B, C) {
     ghost takes_memory = { λ _. ⊤ };
 
     fn to_params(&self, alloc: Global) -> Result<Params, ToParamsError> {
-        let mut values = Vec::new(alloc);
-        append_value(alloc, &mut values, &self.0)?;
-        append_value(alloc, &mut values, &self.1)?;
-        append_value(alloc, &mut values, &self.2)?;
-        Ok(Params::Positional(values))
+        params_by_position(alloc, &row!(&self.0, &self.1, &self.2))
     }
 }
 
@@ -58,9 +52,7 @@ impl<A: ToValue, B: ToValue, C: ToValue, D: ToValue> ToParams for (A, B, C, D) {
     ghost takes_memory = { λ _. ⊤ };
 
     fn to_params(&self, alloc: Global) -> Result<Params, ToParamsError> {
-        let mut values = Vec::new(alloc);
-        append_four_values(alloc, &mut values, &self.0, &self.1, &self.2, &self.3)?;
-        Ok(Params::Positional(values))
+        params_by_position(alloc, &row!(&self.0, &self.1, &self.2, &self.3))
     }
 }
 
@@ -72,10 +64,7 @@ impl<A: ToValue, B: ToValue, C: ToValue, D: ToValue, E: ToValue> ToParams for (A
     ghost takes_memory = { λ _. ⊤ };
 
     fn to_params(&self, alloc: Global) -> Result<Params, ToParamsError> {
-        let mut values = Vec::new(alloc);
-        append_four_values(alloc, &mut values, &self.0, &self.1, &self.2, &self.3)?;
-        append_value(alloc, &mut values, &self.4)?;
-        Ok(Params::Positional(values))
+        params_by_position(alloc, &row!(&self.0, &self.1, &self.2, &self.3, &self.4))
     }
 }
 
@@ -88,11 +77,10 @@ impl<A: ToValue, B: ToValue, C: ToValue, D: ToValue, E: ToValue, F: ToValue> ToP
     ghost takes_memory = { λ _. ⊤ };
 
     fn to_params(&self, alloc: Global) -> Result<Params, ToParamsError> {
-        let mut values = Vec::new(alloc);
-        append_four_values(alloc, &mut values, &self.0, &self.1, &self.2, &self.3)?;
-        append_value(alloc, &mut values, &self.4)?;
-        append_value(alloc, &mut values, &self.5)?;
-        Ok(Params::Positional(values))
+        params_by_position(
+            alloc,
+            &row!(&self.0, &self.1, &self.2, &self.3, &self.4, &self.5),
+        )
     }
 }
 
@@ -106,12 +94,12 @@ impl<A: ToValue, B: ToValue, C: ToValue, D: ToValue, E: ToValue, F: ToValue, G: 
     ghost takes_memory = { λ _. ⊤ };
 
     fn to_params(&self, alloc: Global) -> Result<Params, ToParamsError> {
-        let mut values = Vec::new(alloc);
-        append_four_values(alloc, &mut values, &self.0, &self.1, &self.2, &self.3)?;
-        append_value(alloc, &mut values, &self.4)?;
-        append_value(alloc, &mut values, &self.5)?;
-        append_value(alloc, &mut values, &self.6)?;
-        Ok(Params::Positional(values))
+        params_by_position(
+            alloc,
+            &row!(
+                &self.0, &self.1, &self.2, &self.3, &self.4, &self.5, &self.6
+            ),
+        )
     }
 }
 
@@ -133,10 +121,12 @@ impl<
     ghost takes_memory = { λ _. ⊤ };
 
     fn to_params(&self, alloc: Global) -> Result<Params, ToParamsError> {
-        let mut values = Vec::new(alloc);
-        append_four_values(alloc, &mut values, &self.0, &self.1, &self.2, &self.3)?;
-        append_four_values(alloc, &mut values, &self.4, &self.5, &self.6, &self.7)?;
-        Ok(Params::Positional(values))
+        params_by_position(
+            alloc,
+            &row!(
+                &self.0, &self.1, &self.2, &self.3, &self.4, &self.5, &self.6, &self.7
+            ),
+        )
     }
 }
 
@@ -160,11 +150,12 @@ impl<
     ghost takes_memory = { λ _. ⊤ };
 
     fn to_params(&self, alloc: Global) -> Result<Params, ToParamsError> {
-        let mut values = Vec::new(alloc);
-        append_four_values(alloc, &mut values, &self.0, &self.1, &self.2, &self.3)?;
-        append_four_values(alloc, &mut values, &self.4, &self.5, &self.6, &self.7)?;
-        append_value(alloc, &mut values, &self.8)?;
-        Ok(Params::Positional(values))
+        params_by_position(
+            alloc,
+            &row!(
+                &self.0, &self.1, &self.2, &self.3, &self.4, &self.5, &self.6, &self.7, &self.8
+            ),
+        )
     }
 }
 
@@ -189,12 +180,13 @@ impl<
     ghost takes_memory = { λ _. ⊤ };
 
     fn to_params(&self, alloc: Global) -> Result<Params, ToParamsError> {
-        let mut values = Vec::new(alloc);
-        append_four_values(alloc, &mut values, &self.0, &self.1, &self.2, &self.3)?;
-        append_four_values(alloc, &mut values, &self.4, &self.5, &self.6, &self.7)?;
-        append_value(alloc, &mut values, &self.8)?;
-        append_value(alloc, &mut values, &self.9)?;
-        Ok(Params::Positional(values))
+        params_by_position(
+            alloc,
+            &row!(
+                &self.0, &self.1, &self.2, &self.3, &self.4, &self.5, &self.6, &self.7, &self.8,
+                &self.9
+            ),
+        )
     }
 }
 
@@ -221,13 +213,13 @@ impl<
     ghost takes_memory = { λ _. ⊤ };
 
     fn to_params(&self, alloc: Global) -> Result<Params, ToParamsError> {
-        let mut values = Vec::new(alloc);
-        append_four_values(alloc, &mut values, &self.0, &self.1, &self.2, &self.3)?;
-        append_four_values(alloc, &mut values, &self.4, &self.5, &self.6, &self.7)?;
-        append_value(alloc, &mut values, &self.8)?;
-        append_value(alloc, &mut values, &self.9)?;
-        append_value(alloc, &mut values, &self.10)?;
-        Ok(Params::Positional(values))
+        params_by_position(
+            alloc,
+            &row!(
+                &self.0, &self.1, &self.2, &self.3, &self.4, &self.5, &self.6, &self.7, &self.8,
+                &self.9, &self.10
+            ),
+        )
     }
 }
 
@@ -255,31 +247,80 @@ impl<
     ghost takes_memory = { λ _. ⊤ };
 
     fn to_params(&self, alloc: Global) -> Result<Params, ToParamsError> {
-        let mut values = Vec::new(alloc);
-        append_four_values(alloc, &mut values, &self.0, &self.1, &self.2, &self.3)?;
-        append_four_values(alloc, &mut values, &self.4, &self.5, &self.6, &self.7)?;
-        append_four_values(alloc, &mut values, &self.8, &self.9, &self.10, &self.11)?;
-        Ok(Params::Positional(values))
+        params_by_position(
+            alloc,
+            &row!(
+                &self.0, &self.1, &self.2, &self.3, &self.4, &self.5, &self.6, &self.7, &self.8,
+                &self.9, &self.10, &self.11
+            ),
+        )
     }
 }
 
-// Appends the values of four things: a row of them is cheaper to prove than each call in each tuple.
-fn append_four_values<A: ToValue, B: ToValue, C: ToValue, D: ToValue>(
-    alloc: Global,
-    values: &mut Vec<Value>,
-    a: &A,
-    b: &B,
-    c: &C,
-    d: &D,
-) -> Result<(), ToParamsError>
-    ensures made { IsAnswer (λ _. values.new.items) maker_refusal
-        (fold with_value (Ok values.old.items) (A.value_of a.now ∷ B.value_of b.now ∷
-        C.value_of c.now ∷ D.value_of d.now ∷ [])) ⊤ result }
+// The positional parameters that the things of a row make.
+fn params_by_position<R: AppendValues>(alloc: Global, row: &R) -> Result<Params, ToParamsError>
+    ensures made { IsAnswer given maker_refusal
+        (by_position (values_made (R.appended row.now))) ⊤ result }
     ensures value { IfErr result (λ error.
         error ≢ ToParamsError.Value (to_value.Memory alloc_error)) }
 {
-    append_value(alloc, values, a)?;
-    append_value(alloc, values, b)?;
-    append_value(alloc, values, c)?;
-    append_value(alloc, values, d)
+    let mut values = Vec::new(alloc);
+    row.append(alloc, &mut values)?;
+    Ok(Params::Positional(values))
+}
+
+// A row of references to things, whose values go to the end of a list.
+trait AppendValues {
+    // the values of the things
+    ghost appended: { Self → List Meaning };
+
+    // Appends the values in order, up to the first refusal.
+    fn append(&self, alloc: Global, values: &mut Vec<Value>) -> Result<(), ToParamsError>
+        ensures made { IsAnswer (λ _. values.new.items) maker_refusal
+            (fold with_value (Ok values.old.items) (appended self.now)) ⊤ result }
+        ensures value { IfErr result (λ error.
+            error ≢ ToParamsError.Value (to_value.Memory alloc_error)) };
+}
+
+impl AppendValues for () {
+    ghost appended = { λ _. [] };
+
+    fn append(&self, _alloc: Global, _values: &mut Vec<Value>) -> Result<(), ToParamsError> {
+        Ok(())
+    }
+}
+
+impl<A: ToValue> AppendValues for (&A,) {
+    ghost appended = { λ row. A.value_of row.0.now ∷ [] };
+
+    fn append(&self, alloc: Global, values: &mut Vec<Value>) -> Result<(), ToParamsError> {
+        append_value(alloc, values, self.0)
+    }
+}
+
+impl<A: ToValue, B: ToValue, R: AppendValues> AppendValues for (&A, &B, R) {
+    ghost appended = { λ row. A.value_of row.0.now ∷ B.value_of row.1.now ∷
+        R.appended row.2 };
+
+    fn append(&self, alloc: Global, values: &mut Vec<Value>) -> Result<(), ToParamsError> {
+        append_two(alloc, values, self.0, self.1)?;
+        self.2.append(alloc, values)
+    }
+}
+
+// Appends the values of two things, one after the other.
+fn append_two<A: ToValue, B: ToValue>(
+    alloc: Global,
+    values: &mut Vec<Value>,
+    first: &A,
+    second: &B,
+) -> Result<(), ToParamsError>
+    ensures made { IsAnswer (λ _. values.new.items) maker_refusal
+        (fold with_value (Ok values.old.items)
+        (A.value_of first.now ∷ B.value_of second.now ∷ [])) ⊤ result }
+    ensures value { IfErr result (λ error.
+        error ≢ ToParamsError.Value (to_value.Memory alloc_error)) }
+{
+    append_value(alloc, values, first)?;
+    append_value(alloc, values, second)
 }
