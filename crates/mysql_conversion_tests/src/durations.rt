@@ -1,26 +1,24 @@
 //! Conversions of durations, both ways.
 use crate::shared::{
-    bytes, commits, converts, converts_by_std_traits, has_value, keeps_both, refused,
+    bytes, commits, converts, converts_by_std_traits, has_value, keeps_both, made, refused,
     refused_by_std_trait, same, same_in,
 };
 use mysql_values::value::Value;
 use mysql_values::value::convert::{FromValue, ParseIrOpt, ToValue, ToValueError};
 use std::alloc::Global;
 use std::process::Abort;
-use std::test::Fail;
 use std::time::Duration;
 
 // The value converts to the duration, and its intermediate keeps both.
-fn reads_duration(
-    rt: &impl Abort,
-    alloc: Global,
-    value: Value,
-    duration: Duration,
-) -> Result<(), Fail> {
-    let found = Duration::get_intermediate(value.clone()?);
-    keeps_both(rt, alloc, found, duration, &value)?;
-    commits(rt, Duration::get_intermediate(value.clone()?), &duration)?;
-    converts::<Duration>(rt, value, &duration)
+fn reads_duration(rt: &impl Abort, alloc: Global, value: Value, duration: Duration) {
+    let found = Duration::get_intermediate(made(rt, value.clone()));
+    keeps_both(rt, alloc, found, duration, &value);
+    commits(
+        rt,
+        Duration::get_intermediate(made(rt, value.clone())),
+        &duration,
+    );
+    converts::<Duration>(rt, value, &duration);
 }
 
 const TEXTS: [(&[u8], u64, u32); 5] = [
@@ -32,13 +30,12 @@ const TEXTS: [(&[u8], u64, u32); 5] = [
 ];
 
 #[test]
-fn texts_to_durations(rt: HostRuntime) -> Result<(), Fail> {
+fn texts_to_durations(rt: HostRuntime) {
     for (text, seconds, nanoseconds) in &TEXTS {
-        let value = bytes(rt.alloc(), *text)?;
+        let value = bytes(&rt, rt.alloc(), *text);
         let duration = Duration::new(*seconds, *nanoseconds);
-        reads_duration(&rt, rt.alloc(), value, duration)?;
+        reads_duration(&rt, rt.alloc(), value, duration);
     }
-    Ok(())
 }
 
 const TEXTS_OF_NONE: [&[u8]; 10] = [
@@ -55,11 +52,10 @@ const TEXTS_OF_NONE: [&[u8]; 10] = [
 ];
 
 #[test]
-fn texts_to_no_duration(rt: HostRuntime) -> Result<(), Fail> {
+fn texts_to_no_duration(rt: HostRuntime) {
     for text in &TEXTS_OF_NONE {
-        refused::<Duration>(&rt, bytes(rt.alloc(), *text)?)?;
+        refused::<Duration>(&rt, bytes(&rt, rt.alloc(), *text));
     }
-    Ok(())
 }
 
 const TIMES: [(u32, u8, u8, u8, u32, u64, u32); 4] = [
@@ -77,25 +73,24 @@ const TIMES: [(u32, u8, u8, u8, u32, u64, u32); 4] = [
     ),
 ];
 
-fn times_that_are_durations(rt: &impl Abort, alloc: Global) -> Result<(), Fail> {
+fn times_that_are_durations(rt: &impl Abort, alloc: Global) {
     for (days, hours, minutes, seconds, microseconds, whole, nanoseconds) in &TIMES {
         let value = Value::Time(false, *days, *hours, *minutes, *seconds, *microseconds);
-        reads_duration(rt, alloc, value, Duration::new(*whole, *nanoseconds))?;
+        reads_duration(rt, alloc, value, Duration::new(*whole, *nanoseconds));
     }
-    Ok(())
 }
 
 #[test]
-fn times_to_durations(rt: HostRuntime) -> Result<(), Fail> {
-    times_that_are_durations(&rt, rt.alloc())?;
-    refused::<Duration>(&rt, Value::Time(true, 0, 0, 0, 0, 0))?;
-    refused::<Duration>(&rt, Value::Time(true, 0, 1, 0, 0, 0))?;
-    refused::<Duration>(&rt, Value::Int(1))?;
-    refused::<Duration>(&rt, Value::UInt(1))?;
-    refused::<Duration>(&rt, Value::Float(0))?;
-    refused::<Duration>(&rt, Value::Double(0))?;
-    refused::<Duration>(&rt, Value::Date(0, 0, 0, 0, 0, 0, 0))?;
-    refused::<Duration>(&rt, Value::NULL)
+fn times_to_durations(rt: HostRuntime) {
+    times_that_are_durations(&rt, rt.alloc());
+    refused::<Duration>(&rt, Value::Time(true, 0, 0, 0, 0, 0));
+    refused::<Duration>(&rt, Value::Time(true, 0, 1, 0, 0, 0));
+    refused::<Duration>(&rt, Value::Int(1));
+    refused::<Duration>(&rt, Value::UInt(1));
+    refused::<Duration>(&rt, Value::Float(0));
+    refused::<Duration>(&rt, Value::Double(0));
+    refused::<Duration>(&rt, Value::Date(0, 0, 0, 0, 0, 0, 0));
+    refused::<Duration>(&rt, Value::NULL);
 }
 
 const DURATIONS: [(u64, u32, u32, u8, u8, u8, u32); 7] = [
@@ -109,13 +104,12 @@ const DURATIONS: [(u64, u32, u32, u8, u8, u8, u32); 7] = [
 ];
 
 #[test]
-fn durations_to_values(rt: HostRuntime) -> Result<(), Fail> {
+fn durations_to_values(rt: HostRuntime) {
     for (whole, nanoseconds, days, hours, minutes, seconds, microseconds) in &DURATIONS {
         let duration = Duration::new(*whole, *nanoseconds);
         let wanted = Value::Time(false, *days, *hours, *minutes, *seconds, *microseconds);
-        has_value(&rt, rt.alloc(), &duration, &wanted, &duration)?;
+        has_value(&rt, rt.alloc(), &duration, &wanted, &duration);
     }
-    Ok(())
 }
 
 const TOO_LONG: [(u64, u32); 3] = [
@@ -125,25 +119,27 @@ const TOO_LONG: [(u64, u32); 3] = [
 ];
 
 #[test]
-fn durations_too_long_for_a_value(rt: HostRuntime) -> Result<(), Fail> {
+fn durations_too_long_for_a_value(rt: HostRuntime) {
     for (seconds, nanoseconds) in &TOO_LONG {
         let duration = Duration::new(*seconds, *nanoseconds);
         let wanted = Err(ToValueError::DurationTooLong(duration));
         same_in(&rt, &duration.to_value(rt.alloc()), &wanted, &duration);
     }
-    Ok(())
 }
 
-fn text_by_std_traits(rt: &impl Abort, value: Value, duration: Duration) -> Result<(), Fail> {
-    let intermediate = ParseIrOpt::Parsed(duration, value.clone()?);
-    converts_by_std_traits(rt, value, &intermediate, &duration)
+fn text_by_std_traits(rt: &impl Abort, value: Value, duration: Duration) {
+    let intermediate = ParseIrOpt::Parsed(duration, made(rt, value.clone()));
+    converts_by_std_traits(rt, value, &intermediate, &duration);
 }
 
 #[test]
-fn durations_by_std_traits(rt: HostRuntime) -> Result<(), Fail> {
-    let value = bytes(rt.alloc(), b"00:00:01.5")?;
-    text_by_std_traits(&rt, value, Duration::new(1, 500_000_000))?;
-    let ir = Duration::get_intermediate(Value::Time(false, 0, 0, 0, 2, 0))?;
+fn durations_by_std_traits(rt: HostRuntime) {
+    let value = bytes(&rt, rt.alloc(), b"00:00:01.5");
+    text_by_std_traits(&rt, value, Duration::new(1, 500_000_000));
+    let ir = made(
+        &rt,
+        Duration::get_intermediate(Value::Time(false, 0, 0, 0, 2, 0)),
+    );
     same(&rt, Duration::commit_intermediate(ir), Duration::new(2, 0));
-    refused_by_std_trait::<ParseIrOpt<Duration>>(&rt, Value::Int(1))
+    refused_by_std_trait::<ParseIrOpt<Duration>>(&rt, Value::Int(1));
 }

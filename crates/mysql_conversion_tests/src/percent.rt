@@ -65,37 +65,36 @@ impl FromValue for Percent {
 #[cfg(test)]
 mod tests {
     use super::*;
-    use crate::shared::{converts, hands_back, refused, refused_bytes, same};
+    use crate::shared::{converts, hands_back, made, refused, refused_bytes, same};
     use mysql_values::value::convert::from_value;
     use std::process::Abort;
-    use std::test::Fail;
 
-    fn is_forty_two(rt: &impl Abort, alloc: Global, value: Value) -> Result<(), Fail> {
-        let ir = Percent::get_intermediate(value.clone()?)?;
-        hands_back(rt, alloc, ir, &Value::UInt(42), &value)?;
-        converts(rt, value, &Percent(42))
+    fn is_forty_two(rt: &impl Abort, alloc: Global, value: Value) {
+        let ir = made(rt, Percent::get_intermediate(made(rt, value.clone())));
+        hands_back(rt, alloc, ir, &Value::UInt(42), &value);
+        converts(rt, value, &Percent(42));
     }
 
     #[test]
-    fn handed_back_as_the_same_number(rt: HostRuntime) -> Result<(), Fail> {
-        is_forty_two(&rt, rt.alloc(), Value::Int(42))?;
-        is_forty_two(&rt, rt.alloc(), Value::UInt(42))
+    fn handed_back_as_the_same_number(rt: HostRuntime) {
+        is_forty_two(&rt, rt.alloc(), Value::Int(42));
+        is_forty_two(&rt, rt.alloc(), Value::UInt(42));
     }
 
     #[test]
-    fn least_and_greatest(rt: HostRuntime) -> Result<(), Fail> {
+    fn least_and_greatest(rt: HostRuntime) {
         same(&rt, from_value::<Percent>(Value::Int(0)), Percent(0));
-        converts(&rt, Value::UInt(100), &Percent(100))?;
-        refused::<Percent>(&rt, Value::Int(-1))?;
-        refused::<Percent>(&rt, Value::Int(101))?;
-        refused::<Percent>(&rt, Value::UInt(101))?;
-        refused::<Percent>(&rt, Value::NULL)?;
-        refused_bytes::<Percent>(&rt, rt.alloc(), b"42")
+        converts(&rt, Value::UInt(100), &Percent(100));
+        refused::<Percent>(&rt, Value::Int(-1));
+        refused::<Percent>(&rt, Value::Int(101));
+        refused::<Percent>(&rt, Value::UInt(101));
+        refused::<Percent>(&rt, Value::NULL);
+        refused_bytes::<Percent>(&rt, rt.alloc(), b"42");
     }
 
     #[test]
-    fn optional(rt: HostRuntime) -> Result<(), Fail> {
-        converts::<Option<Percent>>(&rt, Value::NULL, &None)?;
-        converts::<Option<Percent>>(&rt, Value::Int(7), &Some(Percent(7)))
+    fn optional(rt: HostRuntime) {
+        converts::<Option<Percent>>(&rt, Value::NULL, &None);
+        converts::<Option<Percent>>(&rt, Value::Int(7), &Some(Percent(7)));
     }
 }

@@ -4,10 +4,9 @@ use mysql_values::value::Value;
 use mysql_values::value::convert::{
     FromValue, FromValueError, IntoValue, ParseIrOpt, ToValue, from_value_opt,
 };
-use std::alloc::{AllocError, Global};
+use std::alloc::Global;
 use std::fmt::Debug;
 use std::process::Abort;
-use std::test::Fail;
 
 // The two are the same. A call is cheaper to prove than the message.
 pub(crate) fn same<T: Copy + Debug + PartialEq>(rt: &impl Abort, found: T, wanted: T) {
@@ -24,15 +23,23 @@ pub(crate) fn same_in<T: Copy + Debug + PartialEq, C: Debug>(
     assert_eq!(rt; found, wanted, "of {case:?}");
 }
 
-// What is found is the wanted thing and no error. Here alone errors let go of all that lives.
+// The thing that was made. An error ends the test here, so that callers have none to meet: each `?`
+// would let go of all that lives there.
+pub(crate) fn made<T, E: Debug + Drop>(rt: &impl Abort, found: Result<T, E>) -> T {
+    found.expect(rt, "an error in place of what a test needs")
+}
+
+// What is found is the wanted thing and no error.
 pub(crate) fn gives<T: Debug + PartialEq + Drop, E: Debug + Drop, C: Debug>(
     rt: &impl Abort,
     found: Result<T, E>,
     wanted: &T,
     case: &C,
-) -> Result<(), Fail> {
-    same_in(rt, &found?, wanted, case);
-    Ok(())
+) {
+    match found {
+        Ok(found) => same_in(rt, &found, wanted, case),
+        Err(error) => assert!(rt; false, "{error:?} of {case:?}"),
+    }
 }
 
 // A conversion hands back the value.
@@ -48,8 +55,8 @@ pub(crate) fn gives_back<T: Drop>(
 }
 
 // The value that holds these bytes.
-pub(crate) fn bytes(alloc: Global, text: &[u8]) -> Result<Value, AllocError> {
-    Ok(Value::Bytes(Bytes::from(Vec::from_slice(alloc, text)?)))
+pub(crate) fn bytes(rt: &impl Abort, alloc: Global, text: &[u8]) -> Value {
+    Value::Bytes(Bytes::from(made(rt, Vec::from_slice(alloc, text))))
 }
 
 // The thing's own value is the wanted one, by the bound alone, as generic callers do it.
@@ -59,19 +66,14 @@ pub(crate) fn has_value<T: ToValue, C: Debug>(
     thing: &T,
     wanted: &Value,
     case: &C,
-) -> Result<(), Fail> {
-    gives(rt, thing.to_value(alloc), wanted, case)
+) {
+    gives(rt, thing.to_value(alloc), wanted, case);
 }
 
 // The thing's own value is that of the bytes.
-pub(crate) fn has_bytes<T: ToValue>(
-    rt: &impl Abort,
-    alloc: Global,
-    thing: &T,
-    text: &[u8],
-) -> Result<(), Fail> {
-    let wanted = bytes(alloc, text)?;
-    has_value(rt, alloc, thing, &wanted, &text)
+pub(crate) fn has_bytes<T: ToValue>(rt: &impl Abort, alloc: Global, thing: &T, text: &[u8]) {
+    let wanted = bytes(rt, alloc, text);
+    has_value(rt, alloc, thing, &wanted, &text);
 }
 
 // The value converts to the thing.
@@ -79,9 +81,9 @@ pub(crate) fn converts<T: FromValue + Debug + PartialEq + Drop>(
     rt: &impl Abort,
     value: Value,
     wanted: &T,
-) -> Result<(), Fail> {
-    let kept = value.clone()?;
-    gives(rt, from_value_opt::<T>(value), wanted, &kept)
+) {
+    let kept = made(rt, value.clone());
+    gives(rt, from_value_opt::<T>(value), wanted, &kept);
 }
 
 // The bytes of the text convert to the thing.
@@ -90,9 +92,9 @@ pub(crate) fn text_converts<T: FromValue + Debug + PartialEq + Drop>(
     alloc: Global,
     text: &str,
     wanted: &T,
-) -> Result<(), Fail> {
-    let value = bytes(alloc, text.as_bytes())?;
-    gives(rt, from_value_opt::<T>(value), wanted, &text)
+) {
+    let value = bytes(rt, alloc, text.as_bytes());
+    gives(rt, from_value_opt::<T>(value), wanted, &text);
 }
 
 // The value converts to a thing whose own value is the wanted one.
@@ -101,10 +103,10 @@ pub(crate) fn reads<T: FromValue + ToValue + Drop>(
     alloc: Global,
     value: Value,
     wanted: &Value,
-) -> Result<(), Fail> {
-    let kept = value.clone()?;
-    let thing: T = from_value_opt(value)?;
-    has_value(rt, alloc, &thing, wanted, &kept)
+) {
+    let kept = made(rt, value.clone());
+    let thing: T = made(rt, from_value_opt(value));
+    has_value(rt, alloc, &thing, wanted, &kept);
 }
 
 // A thing or an intermediate is handed back as the value.
@@ -114,8 +116,8 @@ pub(crate) fn hands_back<C: Debug>(
     thing: impl IntoValue,
     wanted: &Value,
     case: &C,
-) -> Result<(), Fail> {
-    gives(rt, thing.into_value(alloc), wanted, case)
+) {
+    gives(rt, thing.into_value(alloc), wanted, case);
 }
 
 // What a value converts to, or its intermediate, is handed back as that value.
@@ -124,9 +126,9 @@ pub(crate) fn comes_back<I: IntoValue>(
     alloc: Global,
     found: Result<I, FromValueError>,
     value: &Value,
-) -> Result<(), Fail> {
-    let thing = found?;
-    hands_back(rt, alloc, thing, value, value)
+) {
+    let thing = made(rt, found);
+    hands_back(rt, alloc, thing, value, value);
 }
 
 // The thing of the intermediate that was found.
@@ -134,10 +136,9 @@ pub(crate) fn commits<T: Debug + PartialEq + Drop>(
     rt: &impl Abort,
     found: Result<ParseIrOpt<T>, FromValueError>,
     wanted: &T,
-) -> Result<(), Fail> {
-    let ir = found?;
+) {
+    let ir = made(rt, found);
     same(rt, &ir.commit(), wanted);
-    Ok(())
 }
 
 // The value of a whole number or a truth value that the intermediate is rolled back to.
@@ -146,9 +147,9 @@ pub(crate) fn rolls_back<T: ToValue + Drop>(
     alloc: Global,
     found: Result<ParseIrOpt<T>, FromValueError>,
     wanted: &Value,
-) -> Result<(), Fail> {
-    let ir = found?;
-    gives(rt, ir.rollback(alloc), wanted, wanted)
+) {
+    let ir = made(rt, found);
+    gives(rt, ir.rollback(alloc), wanted, wanted);
 }
 
 // The intermediate keeps both the thing and the value, to which it is rolled back.
@@ -158,55 +159,48 @@ pub(crate) fn keeps_both<T: ToValue + Debug + PartialEq + Drop>(
     found: Result<ParseIrOpt<T>, FromValueError>,
     thing: T,
     value: &Value,
-) -> Result<(), Fail> {
-    let wanted = ParseIrOpt::Parsed(thing, value.clone()?);
-    let ir = found?;
+) {
+    let wanted = ParseIrOpt::Parsed(thing, made(rt, value.clone()));
+    let ir = made(rt, found);
     same_in(rt, &ir, &wanted, value);
-    gives(rt, ir.rollback(alloc), value, value)
+    gives(rt, ir.rollback(alloc), value, value);
 }
 
 // By std's traits the value becomes the intermediate, and that the thing.
 pub(crate) fn converts_by_std_traits<
     Ir: TryFrom<Value, Error = FromValueError> + Debug + PartialEq + Drop,
     T: From<Ir> + Debug + PartialEq + Drop,
->(rt: &impl Abort, value: Value, intermediate: &Ir, thing: &T) -> Result<(), Fail> {
-    let ir = Ir::try_from(value)?;
+>(rt: &impl Abort, value: Value, intermediate: &Ir, thing: &T) {
+    let ir = made(rt, Ir::try_from(value));
     same(rt, &ir, intermediate);
     same(rt, &T::from(ir), thing);
-    Ok(())
 }
 
 // By std's trait a value that doesn't convert is handed back.
 pub(crate) fn refused_by_std_trait<Ir: TryFrom<Value, Error = FromValueError> + Drop>(
     rt: &impl Abort,
     value: Value,
-) -> Result<(), Fail> {
-    let kept = value.clone()?;
+) {
+    let kept = made(rt, value.clone());
     gives_back(rt, Ir::try_from(value), &kept);
-    Ok(())
 }
 
 // A value that doesn't convert is handed back.
-pub(crate) fn refused<T: FromValue + Drop>(rt: &impl Abort, value: Value) -> Result<(), Fail> {
-    let kept = value.clone()?;
+pub(crate) fn refused<T: FromValue + Drop>(rt: &impl Abort, value: Value) {
+    let kept = made(rt, value.clone());
     gives_back(rt, from_value_opt::<T>(value), &kept);
-    Ok(())
 }
 
 // Bytes that don't convert are handed back.
-pub(crate) fn refused_bytes<T: FromValue + Drop>(
-    rt: &impl Abort,
-    alloc: Global,
-    text: &[u8],
-) -> Result<(), Fail> {
-    refused::<T>(rt, bytes(alloc, text)?)
+pub(crate) fn refused_bytes<T: FromValue + Drop>(rt: &impl Abort, alloc: Global, text: &[u8]) {
+    refused::<T>(rt, bytes(rt, alloc, text));
 }
 
 // The values of no number, no text and no bytes are handed back.
-pub(crate) fn refuses_other_variants<T: FromValue + Drop>(rt: &impl Abort) -> Result<(), Fail> {
-    refused::<T>(rt, Value::NULL)?;
-    refused::<T>(rt, Value::Float(0))?;
-    refused::<T>(rt, Value::Double(0))?;
-    refused::<T>(rt, Value::Date(0, 0, 0, 0, 0, 0, 0))?;
-    refused::<T>(rt, Value::Time(false, 0, 0, 0, 0, 0))
+pub(crate) fn refuses_other_variants<T: FromValue + Drop>(rt: &impl Abort) {
+    refused::<T>(rt, Value::NULL);
+    refused::<T>(rt, Value::Float(0));
+    refused::<T>(rt, Value::Double(0));
+    refused::<T>(rt, Value::Date(0, 0, 0, 0, 0, 0, 0));
+    refused::<T>(rt, Value::Time(false, 0, 0, 0, 0, 0));
 }

@@ -46,29 +46,33 @@ impl FromValue for Zero {
 #[cfg(test)]
 mod tests {
     use super::*;
-    use crate::shared::{comes_back, refused};
+    use crate::shared::{comes_back, made, refused};
     use mysql_values::value::convert::from_value_opt;
     use std::alloc::Global;
     use std::process::Abort;
-    use std::test::Fail;
 
-    fn zero_comes_back(rt: &impl Abort, alloc: Global, value: Value) -> Result<(), Fail> {
-        comes_back(rt, alloc, Zero::get_intermediate(value.clone()?), &value)
+    fn zero_comes_back(rt: &impl Abort, alloc: Global, value: Value) {
+        comes_back(
+            rt,
+            alloc,
+            Zero::get_intermediate(made(rt, value.clone())),
+            &value,
+        );
     }
 
     #[test]
-    fn handed_back(rt: HostRuntime) -> Result<(), Fail> {
-        zero_comes_back(&rt, rt.alloc(), Value::Int(0))?;
-        zero_comes_back(&rt, rt.alloc(), Value::NULL)
+    fn handed_back(rt: HostRuntime) {
+        zero_comes_back(&rt, rt.alloc(), Value::Int(0));
+        zero_comes_back(&rt, rt.alloc(), Value::NULL);
     }
 
     #[test]
-    fn converted(rt: HostRuntime) -> Result<(), Fail> {
-        let _zero: Zero = from_value_opt(Value::Int(0))?;
-        let optional: Option<Zero> = from_value_opt(Value::Int(0))?;
+    fn converted(rt: HostRuntime) {
+        let _zero: Zero = made(&rt, from_value_opt(Value::Int(0)));
+        let optional: Option<Zero> = made(&rt, from_value_opt(Value::Int(0)));
         assert!(rt; optional.is_some());
-        let optional: Option<Zero> = from_value_opt(Value::NULL)?;
+        let optional: Option<Zero> = made(&rt, from_value_opt(Value::NULL));
         assert!(rt; optional.is_none());
-        refused::<Zero>(&rt, Value::Int(1))
+        refused::<Zero>(&rt, Value::Int(1));
     }
 }

@@ -1,9 +1,10 @@
 //! Forms and queries that are bound, and those that are refused.
-use crate::shared::{FORM, QUERY, TEXT, binds, refuses};
+use crate::shared::{FORM, QUERY, TEXT, binds, refuses, same};
 use mysql_flat_params::laws::form_error_equality;
 use mysql_flat_params::{FormError, Outcome, params_of_form};
 use mysql_params_core::params::Params;
-use std::alloc::AllocError;
+use std::alloc::{AllocError, Global};
+use std::process::Abort;
 use std::test::Fail;
 
 /// Queries, forms, and the text.
@@ -253,13 +254,16 @@ fn refused_queries(rt: HostRuntime) -> Result<(), Fail> {
 }
 
 #[test]
-fn errors_of_forms(rt: HostRuntime) -> Result<(), Fail> {
-    let alloc = rt.alloc();
-    match params_of_form(alloc, b"") {
+fn the_form_of_no_parameter(rt: HostRuntime) {
+    match params_of_form(rt.alloc(), b"") {
         Ok(params) => assert!(rt; params == Params::Empty),
         Err(error) => assert!(rt; false, "{error}"),
     }
-    match params_of_form(alloc, b"\0\x06\0\xff") {
+}
+
+#[test]
+fn errors_of_forms(rt: HostRuntime) {
+    match params_of_form(rt.alloc(), b"\0\x06\0\xff") {
         Ok(_) => assert!(rt; false),
         Err(error) => {
             let wanted = FormError::LengthLead {
@@ -267,11 +271,11 @@ fn errors_of_forms(rt: HostRuntime) -> Result<(), Fail> {
                 position: 3,
                 lead: 255,
             };
-            assert!(rt; form_error_equality(&error, &wanted));
-            assert!(rt; !form_error_equality(&error, &FormError::Memory(AllocError)));
+            same(&rt, form_error_equality(&error, &wanted), true);
+            let memory = FormError::Memory(AllocError);
+            same(&rt, form_error_equality(&error, &memory), false);
         }
     }
-    Ok(())
 }
 
 /// Errors and their messages.
@@ -316,13 +320,22 @@ const MESSAGES: &[(FormError, &str)] = &[
     ),
 ];
 
+/// What is printed of the error.
+fn says(rt: &impl Abort, alloc: Global, error: &FormError, message: &str) -> Result<(), Fail> {
+    let printed = error.to_string(alloc)?;
+    same(rt, printed.as_str(), message);
+    Ok(())
+}
+
 #[test]
 fn messages(rt: HostRuntime) -> Result<(), Fail> {
-    let alloc = rt.alloc();
     for (error, text) in MESSAGES {
-        assert_eq!(rt; format!(in alloc; "{error}")?.as_str(), *text);
+        says(&rt, rt.alloc(), error, *text)?;
     }
-    let error = FormError::Memory(AllocError);
-    assert_eq!(rt; format!(in alloc; "{error}")?.as_str(), "out of memory");
-    Ok(())
+    says(
+        &rt,
+        rt.alloc(),
+        &FormError::Memory(AllocError),
+        "out of memory",
+    )
 }

@@ -1,5 +1,5 @@
 //! Bytes that are no form: each gets an answer or a named refusal.
-use crate::shared::{FORM, QUERY, TEXT, binds, refuses};
+use crate::shared::{FORM, QUERY, TEXT, binds, holds_alone, refuses, same_in, wrote};
 use mysql_binding::bind_text;
 use mysql_flat_params::{Outcome, bind_into, params_of_form};
 use std::alloc::Global;
@@ -59,8 +59,9 @@ fn answers_all_thirds(rt: &impl Abort, alloc: Global, first: u8, second: u8, wan
         let outcome = bind_into(alloc, b"", &[first, second, third], &mut room);
         all = all && outcome == wanted;
     }
-    assert!(rt; all, "of {first} {second} and a third byte");
-    assert_eq!(rt; &room, &[b'#'; 8], "of {first} {second} and a third byte");
+    let case = (first, second, "and a third byte");
+    same_in(rt, all, true, &case);
+    same_in(rt, room, [b'#'; 8], &case);
 }
 
 #[test]
@@ -129,21 +130,14 @@ fn is_done(outcome: Outcome) -> bool {
 fn writes_the_text_alone(rt: &impl Abort, alloc: Global, form: &[u8]) {
     let mut room = [b'#'; 400];
     let outcome = bind_into(alloc, QUERY, form, &mut room);
-    assert!(rt; outcome != Outcome::OutOfMemory, "of {form:?}");
-    let written = match bound_text(alloc, form) {
-        Some(text) => {
-            let len = text.len();
-            assert_eq!(rt; outcome, Outcome::Done { len }, "of {form:?}");
-            assert!(rt; room.starts_with(text.as_slice()), "of {form:?}");
-            len
-        }
+    same_in(rt, outcome != Outcome::OutOfMemory, true, &form);
+    match bound_text(alloc, form) {
+        Some(text) => wrote(rt, outcome, &room, &text, &form),
         None => {
-            assert!(rt; !is_done(outcome), "of {form:?}");
-            0
+            same_in(rt, is_done(outcome), false, &form);
+            holds_alone(rt, &room, b"", &form);
         }
-    };
-    let kept = room.iter().skip(written).all(|byte| *byte == b'#');
-    assert!(rt; kept, "of {form:?}");
+    }
 }
 
 #[test]

@@ -1,4 +1,5 @@
 //! Outcomes as numbers and fields.
+use crate::shared::{same, same_in};
 use mysql_flat_params::laws::{outcome_equality, report_equality};
 use mysql_flat_params::{Outcome, Report};
 use std::test::Fail;
@@ -93,8 +94,13 @@ fn numbers_and_fields(rt: HostRuntime) -> Result<(), Fail> {
             values: *values,
             byte: *byte,
         };
-        assert_eq!(rt; outcome.number(), *number);
-        assert!(rt; report_equality(&outcome.report(), &wanted), "of {number}");
+        same(&rt, outcome.number(), *number);
+        same_in(
+            &rt,
+            report_equality(&outcome.report(), &wanted),
+            true,
+            number,
+        );
     }
     Ok(())
 }

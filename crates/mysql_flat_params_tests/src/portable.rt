@@ -1,4 +1,5 @@
 //! The first construct for which a query isn't portable, as a number and a report.
+use crate::shared::same_in;
 use mysql_flat_params::{Report, report_first_unportable};
 use std::process::Abort;
 use std::test::Fail;
@@ -52,7 +53,8 @@ fn tells(rt: &impl Abort, query: &[u8], mode: bool, number: i32, position: usize
         byte: 9,
     };
     let told = report_first_unportable(query, mode, &mut report);
-    assert_eq!(rt; told, number, "of {query:?} in mode {mode}");
+    let case = (query, mode);
+    same_in(rt, told, number, &case);
     let wanted = Report {
         len: 0,
         place: 0,
@@ -61,7 +63,7 @@ fn tells(rt: &impl Abort, query: &[u8], mode: bool, number: i32, position: usize
         values: 0,
         byte: 0,
     };
-    assert_eq!(rt; report, wanted, "of {query:?} in mode {mode}");
+    same_in(rt, report, wanted, &case);
 }
 
 #[test]

@@ -1,6 +1,7 @@
 //! Forms, and what binding over them answers in a room.
 use mysql_flat_params::{Outcome, bind_into, bind_into_in, names_into, names_into_in};
 use std::alloc::Global;
+use std::fmt::Debug;
 use std::process::Abort;
 
 /// The query of README's example.
@@ -12,6 +13,40 @@ pub(crate) const FORM: &[u8] = b"\x02id\x08\0\x2a\0\0\0\0\0\0\0\x04name\xfd\0\x0
 
 /// Its text, of 36 bytes.
 pub(crate) const TEXT: &[u8] = b"SELECT 42, ':id', 'x\\' OR \\'1\\'=\\'1'";
+
+/// The two are the same. A call is cheaper to prove than the message.
+pub(crate) fn same<T: Copy + Debug + PartialEq>(rt: &impl Abort, found: T, wanted: T) {
+    assert_eq!(rt; found, wanted);
+}
+
+/// The same, with a message that names the case.
+pub(crate) fn same_in<T: Copy + Debug + PartialEq, C: Debug>(
+    rt: &impl Abort,
+    found: T,
+    wanted: T,
+    case: &C,
+) {
+    assert_eq!(rt; found, wanted, "of {case:?}");
+}
+
+/// The room begins with this text, and all of it after that is as before.
+pub(crate) fn holds_alone<C: Debug>(rt: &impl Abort, room: &[u8], text: &[u8], case: &C) {
+    same_in(rt, room.starts_with(text), true, case);
+    let kept = room.iter().skip(text.len()).all(|byte| *byte == b'#');
+    same_in(rt, kept, true, case);
+}
+
+/// The text was written to the front of the room, and alone there.
+pub(crate) fn wrote<C: Debug>(
+    rt: &impl Abort,
+    outcome: Outcome,
+    room: &[u8],
+    text: &[u8],
+    case: &C,
+) {
+    same_in(rt, outcome, Outcome::Done { len: text.len() }, case);
+    holds_alone(rt, room, text, case);
+}
 
 /// A call that answers in a room.
 #[derive(Clone, Copy, Debug)]
@@ -59,18 +94,7 @@ pub(crate) fn binds_by(
     for spelling in spellings {
         let mut room = [b'#'; 64];
         let outcome = spelling.bound(alloc, query, form, &mut room);
-        let len = text.len();
-        assert_eq!(rt;
-            outcome,
-            Outcome::Done { len },
-            "of {query:?} and {form:?} by {spelling:?}"
-        );
-        assert!(rt;
-            room.starts_with(text),
-            "of {query:?} and {form:?} by {spelling:?}"
-        );
-        let kept = room.iter().skip(len).all(|byte| *byte == b'#');
-        assert!(rt; kept, "of {query:?} and {form:?} by {spelling:?}");
+        wrote(rt, outcome, &room, text, &(query, form, spelling));
     }
 }
 
@@ -91,16 +115,9 @@ pub(crate) fn refuses_by(
     for spelling in spellings {
         let mut room = [b'#'; 64];
         let outcome = spelling.bound(alloc, query, form, &mut room);
-        assert_eq!(rt;
-            outcome,
-            wanted,
-            "of {query:?} and {form:?} by {spelling:?}"
-        );
-        assert_eq!(rt;
-            &room,
-            &[b'#'; 64],
-            "of {query:?} and {form:?} by {spelling:?}"
-        );
+        let case = (query, form, spelling);
+        same_in(rt, outcome, wanted, &case);
+        same_in(rt, room, [b'#'; 64], &case);
     }
 }
 
@@ -121,14 +138,6 @@ pub(crate) fn finds_by(
     for spelling in spellings {
         let mut room = [b'#'; 40];
         let outcome = spelling.names(alloc, query, &mut room);
-        let len = answer.len();
-        assert_eq!(rt;
-            outcome,
-            Outcome::Done { len },
-            "of {query:?} by {spelling:?}"
-        );
-        assert!(rt; room.starts_with(answer), "of {query:?} by {spelling:?}");
-        let kept = room.iter().skip(len).all(|byte| *byte == b'#');
-        assert!(rt; kept, "of {query:?} by {spelling:?}");
+        wrote(rt, outcome, &room, answer, &(query, spelling));
     }
 }

@@ -2,6 +2,7 @@
 use crate::shared::{binds, refuses};
 use mysql_flat_params::Outcome;
 use std::alloc::{AllocError, Global};
+use std::process::Abort;
 use std::test::Fail;
 
 /// Numbers of types, flags, bytes, and the literal of their value.
@@ -52,16 +53,26 @@ fn form(alloc: Global, number: u8, flags: u8, bytes: &[u8]) -> Result<Vec<u8>, A
     Ok(form)
 }
 
+// A parameter of this type is bound as this literal.
+fn is_bound_as(
+    rt: &impl Abort,
+    alloc: Global,
+    (number, flags): (u8, u8),
+    bytes: &[u8],
+    text: &[u8],
+) -> Result<(), Fail> {
+    let form = form(alloc, number, flags, bytes)?;
+    binds(rt, alloc, b"?", form.as_slice(), text);
+    Ok(())
+}
+
 #[test]
 fn values_of_types(rt: HostRuntime) -> Result<(), Fail> {
-    let alloc = rt.alloc();
     for (number, flags, bytes, text) in VALUES {
-        let form = form(alloc, *number, *flags, *bytes)?;
-        binds(&rt, alloc, b"?", form.as_slice(), *text);
+        is_bound_as(&rt, rt.alloc(), (*number, *flags), *bytes, *text)?;
     }
     for number in STRINGS {
-        let form = form(alloc, *number, 0, b"\x02it")?;
-        binds(&rt, alloc, b"?", form.as_slice(), b"'it'");
+        is_bound_as(&rt, rt.alloc(), (*number, 0), b"\x02it", b"'it'")?;
     }
     Ok(())
 }

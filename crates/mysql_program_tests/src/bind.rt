@@ -1,10 +1,9 @@
 //! The command `bind`.
-use crate::shared::{refuses, same_in, writes};
+use crate::shared::{made, refuses, same_in, writes};
 use mysql_params::params::{MissingNamedParameterError, ParamsConfusionError, ParamsError};
 use mysql_params::{BindError, RunError};
 use std::alloc::Global;
 use std::process::Abort;
-use std::test::Fail;
 
 /// Words, the input, and what is written.
 const ANSWERS: &[(&[&str], &[u8], &[u8])] = &[
@@ -60,11 +59,10 @@ const ANSWERS: &[(&[&str], &[u8], &[u8])] = &[
 ];
 
 #[test]
-fn bound_queries(rt: HostRuntime) -> Result<(), Fail> {
+fn bound_queries(rt: HostRuntime) {
     for (texts, query, wanted) in ANSWERS {
-        writes(&rt, rt.alloc(), *texts, *query, *wanted)?;
+        writes(&rt, rt.alloc(), *texts, *query, *wanted);
     }
-    Ok(())
 }
 
 /// The query is read, and refused with the status 1; nothing is written.
@@ -74,31 +72,31 @@ fn refuses_to_bind(
     texts: &[&str],
     query: &[u8],
     refusal: BindError,
-) -> Result<(), Fail> {
+) {
     let wanted = RunError::Bind(refusal);
     same_in(rt, &wanted.status(), &1, &texts);
-    refuses(rt, alloc, texts, query, wanted)
+    refuses(rt, alloc, texts, query, wanted);
 }
 
 #[test]
-fn queries_that_are_not_bound(rt: HostRuntime) -> Result<(), Fail> {
+fn queries_that_are_not_bound(rt: HostRuntime) {
     let count = BindError::MarkCount {
         marks: 1,
         values: 0,
     };
-    refuses_to_bind(&rt, rt.alloc(), &["bind"], b"?", count)?;
-    refuses_to_bind(&rt, rt.alloc(), &["bind"], b":a ?", BindError::Mixed)?;
+    refuses_to_bind(&rt, rt.alloc(), &["bind"], b"?", count);
+    refuses_to_bind(&rt, rt.alloc(), &["bind"], b":a ?", BindError::Mixed);
     let named = ParamsConfusionError::NamedParamsForPositionalQuery;
     let named = BindError::Params(ParamsError::Confusion(named));
-    refuses_to_bind(&rt, rt.alloc(), &["bind", "A=i:1"], b"SELECT 1", named)?;
+    refuses_to_bind(&rt, rt.alloc(), &["bind", "A=i:1"], b"SELECT 1", named);
     let alone = BindError::NotAlone { place: 0, at: 1 };
-    refuses_to_bind(&rt, rt.alloc(), &["bind", "a=s:x"], b"x:a", alone)
+    refuses_to_bind(&rt, rt.alloc(), &["bind", "a=s:x"], b"x:a", alone);
 }
 
 // The name ends before the capital.
 #[test]
-fn a_name_with_a_capital_in_it(rt: HostRuntime) -> Result<(), Fail> {
-    let name = Vec::from_slice(rt.alloc(), b"user")?;
+fn a_name_with_a_capital_in_it(rt: HostRuntime) {
+    let name = made(&rt, Vec::from_slice(rt.alloc(), b"user"));
     let missing = BindError::Params(ParamsError::Missing(MissingNamedParameterError(name)));
     refuses_to_bind(
         &rt,
@@ -106,7 +104,7 @@ fn a_name_with_a_capital_in_it(rt: HostRuntime) -> Result<(), Fail> {
         &["bind", "userId=i:1"],
         b":userId",
         missing,
-    )?;
+    );
     let alone = BindError::NotAlone { place: 0, at: 0 };
-    refuses_to_bind(&rt, rt.alloc(), &["bind", "user=i:1"], b":userId", alone)
+    refuses_to_bind(&rt, rt.alloc(), &["bind", "user=i:1"], b":userId", alone);
 }

@@ -1,10 +1,9 @@
 //! Both commands over readers and writers that give and take little, and fail at a stated call: how
 //! often they are called, and what was written.
-use crate::shared::{Fault, SlowReader, SlowWriter, run_over, same, same_in};
+use crate::shared::{Fault, SlowReader, SlowWriter, made, run_over, same, same_in};
 use mysql_params::{BindError, RunError};
 use std::alloc::{AllocError, Global};
 use std::process::Abort;
-use std::test::Fail;
 
 /// A command, a query, and what is written for it.
 type Case = (&'static [&'static str], &'static [u8], &'static [u8]);
@@ -15,40 +14,33 @@ const CASES: &[Case] = &[
 ];
 
 #[test]
-fn nothing_is_read_after_the_end(rt: HostRuntime) -> Result<(), Fail> {
+fn nothing_is_read_after_the_end(rt: HostRuntime) {
     for (texts, query, wanted) in CASES {
         let input = SlowReader::new(*query, 1, 0);
         let output = SlowWriter::new(rt.alloc(), 1, Fault::Fails, 0);
-        let ran = run_over(rt.alloc(), *texts, input, output)?;
+        let ran = made(&rt, run_over(rt.alloc(), *texts, input, output));
         same_in(&rt, &ran.answer, &Ok(()), texts);
         // A read for each byte and one for the end; a write for each byte.
         same_in(&rt, &ran.calls, &(query.len() + 1, wanted.len()), texts);
     }
-    Ok(())
 }
 
 /// The reader fails at each of its calls in turn; nothing more is read, or written.
-fn failed_read_is_told_and_not_repeated(
-    rt: &impl Abort,
-    alloc: Global,
-    (texts, query, _): Case,
-) -> Result<(), Fail> {
+fn failed_read_is_told_and_not_repeated(rt: &impl Abort, alloc: Global, (texts, query, _): Case) {
     for k in 1..=query.len() + 1 {
         let input = SlowReader::new(query, 1, k);
         let output = SlowWriter::new(alloc, 1, Fault::Fails, 0);
-        let ran = run_over(alloc, texts, input, output)?;
+        let ran = made(rt, run_over(alloc, texts, input, output));
         same_in(rt, &ran.answer, &Err(RunError::Read), &(texts, k));
         same_in(rt, &ran.calls, &(k, 0), &(texts, k));
     }
-    Ok(())
 }
 
 #[test]
-fn a_failed_read_is_told_and_not_repeated(rt: HostRuntime) -> Result<(), Fail> {
+fn a_failed_read_is_told_and_not_repeated(rt: HostRuntime) {
     for case in CASES {
-        failed_read_is_told_and_not_repeated(&rt, rt.alloc(), *case)?;
+        failed_read_is_told_and_not_repeated(&rt, rt.alloc(), *case);
     }
-    Ok(())
 }
 
 /// The writer has its fault at each of its calls in turn; nothing more is written, or read.
@@ -57,49 +49,41 @@ fn is_told_and_not_repeated(
     alloc: Global,
     (texts, query, wanted): Case,
     fault: Fault,
-) -> Result<(), Fail> {
+) {
     for k in 1..=wanted.len() {
         let input = SlowReader::new(query, 1, 0);
         let output = SlowWriter::new(alloc, 1, fault, k);
-        let ran = run_over(alloc, texts, input, output)?;
+        let ran = made(rt, run_over(alloc, texts, input, output));
         same_in(rt, &ran.answer, &Err(RunError::Write), &(fault, k));
         same_in(rt, ran.taken.as_slice(), &wanted[..k - 1], &(fault, k));
         same_in(rt, &ran.calls, &(query.len() + 1, k), &(fault, k));
     }
-    Ok(())
 }
 
 #[test]
-fn a_failed_write_is_told_and_not_repeated(rt: HostRuntime) -> Result<(), Fail> {
+fn a_failed_write_is_told_and_not_repeated(rt: HostRuntime) {
     for case in CASES {
-        is_told_and_not_repeated(&rt, rt.alloc(), *case, Fault::Fails)?;
-        is_told_and_not_repeated(&rt, rt.alloc(), *case, Fault::TakesNothing)?;
+        is_told_and_not_repeated(&rt, rt.alloc(), *case, Fault::Fails);
+        is_told_and_not_repeated(&rt, rt.alloc(), *case, Fault::TakesNothing);
     }
-    Ok(())
 }
 
 /// In pieces of up to nine bytes, the answer is the same.
-fn is_the_same_in_small_pieces(
-    rt: &impl Abort,
-    alloc: Global,
-    (texts, query, wanted): Case,
-) -> Result<(), Fail> {
+fn is_the_same_in_small_pieces(rt: &impl Abort, alloc: Global, (texts, query, wanted): Case) {
     for step in 1..=9usize {
         let input = SlowReader::new(query, step, 0);
         let output = SlowWriter::new(alloc, step, Fault::Fails, 0);
-        let ran = run_over(alloc, texts, input, output)?;
+        let ran = made(rt, run_over(alloc, texts, input, output));
         same_in(rt, &ran.answer, &Ok(()), &(texts, step));
         same_in(rt, ran.taken.as_slice(), wanted, &(texts, step));
     }
-    Ok(())
 }
 
 #[test]
-fn small_pieces_change_no_answer(rt: HostRuntime) -> Result<(), Fail> {
+fn small_pieces_change_no_answer(rt: HostRuntime) {
     for case in CASES {
-        is_the_same_in_small_pieces(&rt, rt.alloc(), *case)?;
+        is_the_same_in_small_pieces(&rt, rt.alloc(), *case);
     }
-    Ok(())
 }
 
 /// So many spaces, and the bytes after them.
@@ -110,25 +94,19 @@ fn after_spaces(alloc: Global, spaces: usize, bytes: &[u8]) -> Result<Vec<u8>, A
 }
 
 /// The query is read and its answer written in large pieces.
-fn is_written_in_large_pieces(
-    rt: &impl Abort,
-    alloc: Global,
-    query: &[u8],
-    wanted: &[u8],
-) -> Result<(), Fail> {
+fn is_written_in_large_pieces(rt: &impl Abort, alloc: Global, query: &[u8], wanted: &[u8]) {
     let input = SlowReader::new(query, 5000, 0);
     let output = SlowWriter::new(alloc, 5000, Fault::Fails, 0);
-    let ran = run_over(alloc, &["names"], input, output)?;
+    let ran = made(rt, run_over(alloc, &["names"], input, output));
     same(rt, &ran.answer, &Ok(()));
     assert!(rt; ran.taken.as_slice() == wanted);
-    Ok(())
 }
 
 #[test]
-fn a_query_longer_than_one_read(rt: HostRuntime) -> Result<(), Fail> {
-    let query = after_spaces(rt.alloc(), 4095, b":a")?;
-    let wanted = after_spaces(rt.alloc(), 4095, b"?\na\n")?;
-    is_written_in_large_pieces(&rt, rt.alloc(), &query, &wanted)
+fn a_query_longer_than_one_read(rt: HostRuntime) {
+    let query = made(&rt, after_spaces(rt.alloc(), 4095, b":a"));
+    let wanted = made(&rt, after_spaces(rt.alloc(), 4095, b"?\na\n"));
+    is_written_in_large_pieces(&rt, rt.alloc(), &query, &wanted);
 }
 
 /// The query is read in pieces of one byte and refused as over memory; nothing is written.
@@ -138,21 +116,20 @@ fn refuses_in_pieces(
     texts: &[&str],
     query: &[u8],
     refusal: RunError,
-) -> Result<(), Fail> {
+) {
     let input = SlowReader::new(query, 1, 0);
     let output = SlowWriter::new(alloc, 1, Fault::Fails, 1);
-    let ran = run_over(alloc, texts, input, output)?;
+    let ran = made(rt, run_over(alloc, texts, input, output));
     same_in(rt, &ran.answer, &Err(refusal), &texts);
     same_in(rt, &ran.calls, &(query.len() + 1, 0), &texts);
-    Ok(())
 }
 
 #[test]
-fn a_refused_query_writes_nothing(rt: HostRuntime) -> Result<(), Fail> {
+fn a_refused_query_writes_nothing(rt: HostRuntime) {
     let alloc = rt.alloc();
-    refuses_in_pieces(&rt, alloc, &["names"], b":a ?", RunError::Mixed)?;
+    refuses_in_pieces(&rt, alloc, &["names"], b":a ?", RunError::Mixed);
     let mixed = RunError::Bind(BindError::Mixed);
-    refuses_in_pieces(&rt, alloc, &["bind", "a=i:1"], b":a ?", mixed)?;
+    refuses_in_pieces(&rt, alloc, &["bind", "a=i:1"], b":a ?", mixed);
     let alone = RunError::Bind(BindError::NotAlone { place: 0, at: 1 });
-    refuses_in_pieces(&rt, alloc, &["bind", "a=i:1"], b"x:a", alone)
+    refuses_in_pieces(&rt, alloc, &["bind", "a=i:1"], b"x:a", alone);
 }

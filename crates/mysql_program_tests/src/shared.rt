@@ -6,7 +6,6 @@ use std::fmt::Debug;
 use std::io;
 use std::io::{ErrorKind, Read, Write};
 use std::process::Abort;
-use std::test::Fail;
 
 /// The two are the same. A call is cheaper to prove than the message.
 pub(crate) fn same<T: Copy + Debug + PartialEq>(rt: &impl Abort, found: T, wanted: T) {
@@ -21,6 +20,12 @@ pub(crate) fn same_in<T: Copy + Debug + PartialEq, C: Debug>(
     case: &C,
 ) {
     assert_eq!(rt; found, wanted, "of {case:?}");
+}
+
+/// The thing that was made. An error ends the test here, so that callers have none to meet: each `?`
+/// would let go of all that lives there.
+pub(crate) fn made<T, E: Debug + Drop>(rt: &impl Abort, found: Result<T, E>) -> T {
+    found.expect(rt, "an error in place of what a test needs")
 }
 
 /// Gives its bytes in pieces of at most `step`, and fails at call `fails_at`, counted from 1.
@@ -164,19 +169,12 @@ pub(crate) fn run_over_memory(
 }
 
 /// The program reads the query to its end, and writes this.
-pub(crate) fn writes(
-    rt: &impl Abort,
-    alloc: Global,
-    texts: &[&str],
-    query: &[u8],
-    wanted: &[u8],
-) -> Result<(), Fail> {
+pub(crate) fn writes(rt: &impl Abort, alloc: Global, texts: &[&str], query: &[u8], wanted: &[u8]) {
     let case = (texts, query);
-    let ran = run_over_memory(alloc, texts, query)?;
+    let ran = made(rt, run_over_memory(alloc, texts, query));
     same_in(rt, &ran.answer, &Ok(()), &case);
     same_in(rt, ran.written.as_slice(), wanted, &case);
     same_in(rt, &ran.left, &0, &case);
-    Ok(())
 }
 
 /// The program reads the query to its end, and refuses it so; nothing is written.
@@ -186,10 +184,9 @@ pub(crate) fn refuses(
     texts: &[&str],
     query: &[u8],
     refusal: RunError,
-) -> Result<(), Fail> {
+) {
     let case = (texts, query);
-    let ran = run_over_memory(alloc, texts, query)?;
+    let ran = made(rt, run_over_memory(alloc, texts, query));
     same_in(rt, &ran.answer, &Err(refusal), &case);
     same_in(rt, &(ran.left, ran.written.len()), &(0, 0), &case);
-    Ok(())
 }

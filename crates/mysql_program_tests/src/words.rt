@@ -1,9 +1,8 @@
 //! Words that ask for nothing that the program does: they are refused before anything is read.
-use crate::shared::{Fault, SlowReader, SlowWriter, run_over, same_in};
+use crate::shared::{Fault, SlowReader, SlowWriter, made, run_over, same_in};
 use mysql_params::RunError;
 use std::alloc::Global;
 use std::process::Abort;
-use std::test::Fail;
 
 /// Words that are refused as usage.
 const USAGE: &[&[&str]] = &[
@@ -42,38 +41,31 @@ const USAGE: &[&[&str]] = &[
 ];
 
 /// The words are refused so, before anything is read.
-fn is_refused_before_a_read(
-    rt: &impl Abort,
-    alloc: Global,
-    texts: &[&str],
-    refusal: RunError,
-) -> Result<(), Fail> {
+fn is_refused_before_a_read(rt: &impl Abort, alloc: Global, texts: &[&str], refusal: RunError) {
     let input = SlowReader::new(b":a", 1, 1);
     let output = SlowWriter::new(alloc, 1, Fault::Fails, 1);
-    let ran = run_over(alloc, texts, input, output)?;
+    let ran = made(rt, run_over(alloc, texts, input, output));
     same_in(rt, &ran.answer, &Err(refusal), &texts);
     same_in(rt, &ran.calls, &(0, 0), &texts);
-    Ok(())
 }
 
 #[test]
-fn other_words_are_refused_before_a_read(rt: HostRuntime) -> Result<(), Fail> {
+fn other_words_are_refused_before_a_read(rt: HostRuntime) {
     for texts in USAGE {
-        is_refused_before_a_read(&rt, rt.alloc(), *texts, RunError::Usage)?;
+        is_refused_before_a_read(&rt, rt.alloc(), *texts, RunError::Usage);
     }
-    Ok(())
 }
 
 #[test]
-fn a_repeated_name_is_refused_before_a_read(rt: HostRuntime) -> Result<(), Fail> {
+fn a_repeated_name_is_refused_before_a_read(rt: HostRuntime) {
     let texts = ["bind", "a=i:1", "b=i:1", "a=i:1", "b=i:2"];
-    let name = Vec::from_slice(rt.alloc(), b"a")?;
-    is_refused_before_a_read(&rt, rt.alloc(), &texts, RunError::Redefined(name))
+    let name = made(&rt, Vec::from_slice(rt.alloc(), b"a"));
+    is_refused_before_a_read(&rt, rt.alloc(), &texts, RunError::Redefined(name));
 }
 
 #[test]
-fn a_name_given_at_once_again_is_refused_before_a_read(rt: HostRuntime) -> Result<(), Fail> {
+fn a_name_given_at_once_again_is_refused_before_a_read(rt: HostRuntime) {
     let texts = ["bind", "a=i:1", "a=i:2"];
-    let name = Vec::from_slice(rt.alloc(), b"a")?;
-    is_refused_before_a_read(&rt, rt.alloc(), &texts, RunError::Redefined(name))
+    let name = made(&rt, Vec::from_slice(rt.alloc(), b"a"));
+    is_refused_before_a_read(&rt, rt.alloc(), &texts, RunError::Redefined(name));
 }

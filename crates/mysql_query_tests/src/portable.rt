@@ -4,7 +4,6 @@ use crate::shared::{same_in, says};
 use mysql_params::laws::unportable_equality;
 use mysql_params::{Construct, Unportable, first_unportable};
 use std::process::Abort;
-use std::test::Fail;
 
 // The modes: with backslash escapes, and without.
 const WITH: &[bool] = &[false];
@@ -299,11 +298,10 @@ const MESSAGES: &[(Construct, &str)] = &[
 ];
 
 #[test]
-fn messages(rt: HostRuntime) -> Result<(), Fail> {
+fn messages(rt: HostRuntime) {
     for (construct, message) in MESSAGES {
-        says(&rt, rt.alloc(), construct, *message)?;
+        says(&rt, rt.alloc(), construct, *message);
     }
-    Ok(())
 }
 
 #[test]

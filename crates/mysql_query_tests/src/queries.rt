@@ -1,5 +1,5 @@
 //! Names and marks of single queries.
-use crate::shared::{same, same_in, says};
+use crate::shared::{made, same, same_in, says};
 use crate::spellings::{Spelling, WITH_BACKSLASHES};
 use mysql_params::laws::{mixed_error_equality, named_params_error_equality, parsed_equality};
 use mysql_params::named_params::{MixedParamsError, NamedParamsError, ParsedNamedParams};
@@ -8,17 +8,21 @@ use std::borrow::CowSlice;
 use std::process::Abort;
 use std::test::Fail;
 
+/// Appends the query with marks, and then each name after a newline.
+fn append_shown(text: &mut Vec<u8>, parsed: &ParsedNamedParams<'_>) -> Result<(), AllocError> {
+    text.extend_from_slice(parsed.query())?;
+    for name in parsed.params() {
+        text.push(b'\n')?;
+        text.extend_from_slice(name.as_slice())?;
+    }
+    Ok(())
+}
+
 /// The query with marks, and then each name after a newline; or `mixed`.
 fn shown(alloc: Global, query: &[u8], spelling: Spelling) -> Result<Vec<u8>, AllocError> {
     let mut text = Vec::new(alloc);
     match spelling.parsed(alloc, query) {
-        Ok(parsed) => {
-            text.extend_from_slice(parsed.query())?;
-            for name in parsed.params() {
-                text.push(b'\n')?;
-                text.extend_from_slice(name.as_slice())?;
-            }
-        }
+        Ok(parsed) => append_shown(&mut text, &parsed)?,
         Err(NamedParamsError::Mixed(_)) => text.extend_from_slice(b"mixed")?,
         Err(NamedParamsError::Memory(error)) => return Err(error),
     }
@@ -26,18 +30,11 @@ fn shown(alloc: Global, query: &[u8], spelling: Spelling) -> Result<Vec<u8>, All
 }
 
 /// By each of the calls, the query is shown as this text.
-fn is_shown(
-    rt: &impl Abort,
-    alloc: Global,
-    spellings: &[Spelling],
-    query: &[u8],
-    wanted: &[u8],
-) -> Result<(), Fail> {
+fn is_shown(rt: &impl Abort, alloc: Global, spellings: &[Spelling], query: &[u8], wanted: &[u8]) {
     for spelling in spellings {
-        let text = shown(alloc, query, *spelling)?;
+        let text = made(rt, shown(alloc, query, *spelling));
         same_in(rt, text.as_slice(), wanted, &(query, spelling));
     }
-    Ok(())
 }
 
 // Queries, and each with its marks and the names after newlines, or `mixed`.
@@ -109,7 +106,7 @@ pub(crate) const QUERIES: &[(&str, &str)] = &[
 ];
 
 #[test]
-fn names_of_queries(rt: HostRuntime) -> Result<(), Fail> {
+fn names_of_queries(rt: HostRuntime) {
     for (query, wanted) in QUERIES {
         is_shown(
             &rt,
@@ -117,9 +114,8 @@ fn names_of_queries(rt: HostRuntime) -> Result<(), Fail> {
             WITH_BACKSLASHES,
             query.as_bytes(),
             wanted.as_bytes(),
-        )?;
+        );
     }
-    Ok(())
 }
 
 // The same in the mode without backslash escapes. There a string ends at the next quote of its
@@ -148,7 +144,7 @@ pub(crate) const QUERIES_WITHOUT_BACKSLASHES: &[(&str, &str)] = &[
 ];
 
 #[test]
-fn names_without_backslash_escapes(rt: HostRuntime) -> Result<(), Fail> {
+fn names_without_backslash_escapes(rt: HostRuntime) {
     for (query, wanted) in QUERIES_WITHOUT_BACKSLASHES {
         is_shown(
             &rt,
@@ -156,9 +152,8 @@ fn names_without_backslash_escapes(rt: HostRuntime) -> Result<(), Fail> {
             &[Spelling::ParseIn(true)],
             query.as_bytes(),
             wanted.as_bytes(),
-        )?;
+        );
     }
-    Ok(())
 }
 
 // After `--`: a space, a tab, a form feed and a carriage return open a comment; a vertical tab,
@@ -183,33 +178,41 @@ pub(crate) const COMMENTS: &[(&[u8], &[u8])] = &[
 ];
 
 #[test]
-fn bytes_that_open_and_close_comments(rt: HostRuntime) -> Result<(), Fail> {
+fn bytes_that_open_and_close_comments(rt: HostRuntime) {
     for (query, wanted) in COMMENTS {
-        is_shown(&rt, rt.alloc(), WITH_BACKSLASHES, *query, *wanted)?;
+        is_shown(&rt, rt.alloc(), WITH_BACKSLASHES, *query, *wanted);
     }
-    Ok(())
+}
+
+/// Whether the two are equal, by each way to ask.
+fn are_equal(
+    rt: &impl Abort,
+    parsed: &ParsedNamedParams<'_>,
+    other: &ParsedNamedParams<'_>,
+    wanted: bool,
+) {
+    let case = other.query();
+    same_in(rt, parsed == other, wanted, &case);
+    same_in(rt, parsed != other, !wanted, &case);
+    same_in(rt, parsed_equality(parsed, other), wanted, &case);
 }
 
 #[test]
-fn copies(rt: HostRuntime) -> Result<(), Fail> {
-    let parsed = ParsedNamedParams::parse(rt.alloc(), b"SELECT :a, :b")?;
-    let copy = parsed.clone()?;
-    same(&rt, &(parsed == copy), &true);
-    same(&rt, &parsed_equality(&parsed, &copy), &true);
-    same(&rt, &copy.params().len(), &2);
-    Ok(())
+fn copies(rt: HostRuntime) {
+    let parsed = made(&rt, ParsedNamedParams::parse(rt.alloc(), b"SELECT :a, :b"));
+    let copy = made(&rt, parsed.clone());
+    are_equal(&rt, &parsed, &copy, true);
+    same(&rt, copy.params().len(), 2);
 }
 
 #[test]
-fn equality(rt: HostRuntime) -> Result<(), Fail> {
-    let parsed = ParsedNamedParams::parse(rt.alloc(), b"SELECT :a, :b")?;
+fn equality(rt: HostRuntime) {
+    let parsed = made(&rt, ParsedNamedParams::parse(rt.alloc(), b"SELECT :a, :b"));
     let others: [&[u8]; 2] = [b"SELECT :a, :c", b"SELECT :a; :b"];
     for query in others {
-        let other = ParsedNamedParams::parse(rt.alloc(), query)?;
-        same_in(&rt, &(parsed != other), &true, &query);
-        same_in(&rt, &parsed_equality(&parsed, &other), &false, &query);
+        let other = made(&rt, ParsedNamedParams::parse(rt.alloc(), query));
+        are_equal(&rt, &parsed, &other, false);
     }
-    Ok(())
 }
 
 #[test]
@@ -222,22 +225,22 @@ fn equality_of_refusals(rt: HostRuntime) {
 }
 
 #[test]
-fn messages_of_refusals(rt: HostRuntime) -> Result<(), Fail> {
+fn messages_of_refusals(rt: HostRuntime) {
     let alloc = rt.alloc();
     let mixed = "Named and positional params in one query";
-    says(&rt, alloc, &MixedParamsError, mixed)?;
+    says(&rt, alloc, &MixedParamsError, mixed);
     says(
         &rt,
         alloc,
         &NamedParamsError::Mixed(MixedParamsError),
         mixed,
-    )?;
+    );
     says(
         &rt,
         alloc,
         &NamedParamsError::Memory(AllocError),
         "out of memory",
-    )
+    );
 }
 
 /// The first name of a query, which lives as long as the query.
@@ -254,8 +257,8 @@ fn first_name<'a>(alloc: Global, query: &'a [u8]) -> Result<Option<&'a [u8]>, Na
 
 #[test]
 fn names_outlive_what_parsed_them(rt: HostRuntime) -> Result<(), Fail> {
-    let query = String::from_str(rt.alloc(), "SELECT :a")?;
-    let name = first_name(rt.alloc(), query.as_bytes())?;
+    let query = made(&rt, String::from_str(rt.alloc(), "SELECT :a"));
+    let name = made(&rt, first_name(rt.alloc(), query.as_bytes()));
     same(&rt, name.ok_or("no name")?, b"a".as_slice());
     let _gone = query;
     Ok(())
