@@ -7,7 +7,6 @@ use mysql_params::laws::bind_error_equality;
 use mysql_params::{BindError, bind_text};
 use std::alloc::{AllocError, Global};
 use std::process::Abort;
-use std::test::Fail;
 
 /// Queries, what is given to them, and the text.
 const TEXTS: &[(&[u8], Given<'_>, &[u8])] = &[
@@ -45,31 +44,23 @@ const TEXTS: &[(&[u8], Given<'_>, &[u8])] = &[
 ];
 
 #[test]
-fn bound_texts(rt: HostRuntime) -> Result<(), Fail> {
-    are_bound_by(&rt, rt.alloc(), WITH_BACKSLASHES, TEXTS)
+fn bound_texts(rt: HostRuntime) {
+    are_bound_by(&rt, rt.alloc(), WITH_BACKSLASHES, TEXTS);
 }
 
 /// The query is bound to a text whose vector has exactly this capacity.
-fn has_capacity(
-    rt: &impl Abort,
-    alloc: Global,
-    query: &[u8],
-    given: Given<'_>,
-    wanted: usize,
-) -> Result<(), Fail> {
-    match bind_text(alloc, query, given.params(alloc)?) {
+fn has_capacity(rt: &impl Abort, alloc: Global, query: &[u8], given: Given<'_>, wanted: usize) {
+    match bind_text(alloc, query, given.params(rt, alloc)) {
         Ok(text) => same_in(rt, &text.capacity(), &wanted, &query),
         Err(error) => same_in(rt, &Some(error), &None, &query),
     }
-    Ok(())
 }
 
 #[test]
-fn vectors_of_exactly_the_length(rt: HostRuntime) -> Result<(), Fail> {
+fn vectors_of_exactly_the_length(rt: HostRuntime) {
     for (query, given, wanted) in TEXTS {
-        has_capacity(&rt, rt.alloc(), *query, *given, wanted.len())?;
+        has_capacity(&rt, rt.alloc(), *query, *given, wanted.len());
     }
-    Ok(())
 }
 
 /// Queries, what is given to them, and why they are refused. None has a backslash, so in either
@@ -167,11 +158,10 @@ const REFUSALS: &[(&[u8], Given<'_>, Refused<'_>)] = &[
 ];
 
 #[test]
-fn first_cause_of_refusal(rt: HostRuntime) -> Result<(), Fail> {
+fn first_cause_of_refusal(rt: HostRuntime) {
     for (query, given, refused) in REFUSALS {
-        is_refused_by(&rt, rt.alloc(), EITHER_MODE, *query, *given, *refused)?;
+        is_refused_by(&rt, rt.alloc(), EITHER_MODE, *query, *given, *refused);
     }
-    Ok(())
 }
 
 /// Refusals, and what they print.
@@ -198,37 +188,30 @@ const MESSAGES: &[(Refused<'_>, &str)] = &[
 ];
 
 #[test]
-fn messages(rt: HostRuntime) -> Result<(), Fail> {
+fn messages(rt: HostRuntime) {
     let alloc = rt.alloc();
     for (refused, message) in MESSAGES {
-        says(&rt, alloc, refused.error(alloc)?, *message)?;
+        says(&rt, alloc, refused.error(&rt, alloc), *message);
     }
-    says(&rt, alloc, BindError::Memory(AllocError), "out of memory")
+    says(&rt, alloc, BindError::Memory(AllocError), "out of memory");
 }
 
 /// The two refusals are equal, or are not.
-fn are_equal(
-    rt: &impl Abort,
-    alloc: Global,
-    a: Refused<'_>,
-    b: Refused<'_>,
-    equal: bool,
-) -> Result<(), Fail> {
-    let first = a.error(alloc)?;
-    let second = b.error(alloc)?;
+fn are_equal(rt: &impl Abort, alloc: Global, a: Refused<'_>, b: Refused<'_>, equal: bool) {
+    let first = a.error(rt, alloc);
+    let second = b.error(rt, alloc);
     same_in(
         rt,
         &bind_error_equality(&first, &second),
         &equal,
         &(&first, &second),
     );
-    Ok(())
 }
 
 #[test]
-fn equality_of_refusals(rt: HostRuntime) -> Result<(), Fail> {
+fn equality_of_refusals(rt: HostRuntime) {
     let missing = Refused::Missing(b"a");
-    are_equal(&rt, rt.alloc(), missing, missing, true)?;
-    are_equal(&rt, rt.alloc(), missing, Refused::Missing(b"b"), false)?;
-    are_equal(&rt, rt.alloc(), missing, Refused::Mixed, false)
+    are_equal(&rt, rt.alloc(), missing, missing, true);
+    are_equal(&rt, rt.alloc(), missing, Refused::Missing(b"b"), false);
+    are_equal(&rt, rt.alloc(), missing, Refused::Mixed, false);
 }

@@ -60,8 +60,7 @@ pub fn nothing(alloc: Global) -> Result<Vec<u8>, AllocError> {
 #[cfg(test)]
 mod tests {
     use super::*;
-    use crate::shared::is_text;
-    use std::test::Fail;
+    use crate::shared::{is_text, made};
 
     const PAID_ORDERS: &[u8] = b"SELECT * FROM orders -- ?\nWHERE total>-3 \
         AND (name='x\\' OR \\'1\\'=\\'1' OR paid=1)";
@@ -69,45 +68,44 @@ mod tests {
     const HOSTILE: &str = "x' OR '1'='1";
 
     #[test]
-    fn by_name(rt: HostRuntime) -> Result<(), Fail> {
+    fn by_name(rt: HostRuntime) {
         let wanted = b"SELECT ':id' FROM customer WHERE id=42 AND 'x\\' OR \\'1\\'=\\'1' <> name";
-        is_text(&rt, customer(rt.alloc(), 42, HOSTILE)?, wanted);
-        is_text(&rt, twice(rt.alloc(), 7)?, b"SELECT 7*7");
-        Ok(())
+        is_text(&rt, made(&rt, customer(rt.alloc(), 42, HOSTILE)), wanted);
+        is_text(&rt, made(&rt, twice(rt.alloc(), 7)), b"SELECT 7*7");
     }
 
     #[test]
-    fn by_name_without_backslashes(rt: HostRuntime) -> Result<(), Fail> {
+    fn by_name_without_backslashes(rt: HostRuntime) {
         let wanted = b"SELECT ':id' FROM customer WHERE id=42 AND '\\'' OR 1=1 -- ' <> name";
-        is_text(&rt, customer_in(rt.alloc(), 42, "\\' OR 1=1 -- ")?, wanted);
-        Ok(())
-    }
-
-    #[test]
-    fn by_position(rt: HostRuntime) -> Result<(), Fail> {
         is_text(
             &rt,
-            orders(rt.alloc(), -3, Some(HOSTILE), true)?,
+            made(&rt, customer_in(rt.alloc(), 42, "\\' OR 1=1 -- ")),
+            wanted,
+        );
+    }
+
+    #[test]
+    fn by_position(rt: HostRuntime) {
+        is_text(
+            &rt,
+            made(&rt, orders(rt.alloc(), -3, Some(HOSTILE), true)),
             PAID_ORDERS,
         );
         let wanted = b"SELECT * FROM orders -- ?\nWHERE total>0 AND (name=NULL OR paid=0)";
-        is_text(&rt, orders(rt.alloc(), 0, None, false)?, wanted);
-        Ok(())
+        is_text(&rt, made(&rt, orders(rt.alloc(), 0, None, false)), wanted);
     }
 
     #[test]
-    fn by_position_without_backslashes(rt: HostRuntime) -> Result<(), Fail> {
+    fn by_position_without_backslashes(rt: HostRuntime) {
         is_text(
             &rt,
-            path(rt.alloc(), "D:\\it's")?,
+            made(&rt, path(rt.alloc(), "D:\\it's")),
             b"SELECT 'C:\\', 'D:\\it''s'",
         );
-        Ok(())
     }
 
     #[test]
-    fn without_places(rt: HostRuntime) -> Result<(), Fail> {
-        is_text(&rt, nothing(rt.alloc())?, b"SELECT ':a', '?'");
-        Ok(())
+    fn without_places(rt: HostRuntime) {
+        is_text(&rt, made(&rt, nothing(rt.alloc())), b"SELECT ':a', '?'");
     }
 }

@@ -6,11 +6,14 @@
 mod any_bytes;
 #[cfg(test)]
 mod binding;
-pub mod fixed_query;
+#[cfg(test)]
+mod fixed_query;
 #[cfg(test)]
 mod isolation;
-pub mod paths;
-pub mod readme;
+#[cfg(test)]
+mod paths;
+#[cfg(test)]
+mod readme;
 #[cfg(test)]
 mod shared;
 #[cfg(test)]

@@ -120,10 +120,9 @@ pub use mysql_wire_part::put_lenenc_str;
 #[cfg(test)]
 mod tests {
     use super::*;
-    use crate::shared::same;
+    use crate::shared::{made, same};
     use std::alloc::{AllocError, Global};
     use std::process::Abort;
-    use std::test::Fail;
 
     // By the paths above alone: the literal of a value that a text row holds, as text.
     fn literal_of_cell(alloc: Global, row: &[u8]) -> Result<Option<String>, AllocError> {
@@ -145,21 +144,20 @@ mod tests {
         }
     }
 
-    fn has_literal(rt: &impl Abort, alloc: Global, row: &[u8], wanted: &str) -> Result<(), Fail> {
-        let literal = literal_of_cell(alloc, row)?.ok_or("no literal")?;
+    fn has_literal(rt: &impl Abort, alloc: Global, row: &[u8], wanted: &str) {
+        let literal = made(rt, literal_of_cell(alloc, row));
+        let literal = made(rt, literal.ok_or("no literal"));
         same(rt, literal.as_str(), wanted);
-        Ok(())
     }
 
     #[test]
-    fn paths_are_those_of_the_types_that_calls_name(rt: HostRuntime) -> Result<(), Fail> {
-        has_literal(&rt, rt.alloc(), b"\x04it's", "'it\\'s'")?;
+    fn paths_are_those_of_the_types_that_calls_name(rt: HostRuntime) {
+        has_literal(&rt, rt.alloc(), b"\x04it's", "'it\\'s'");
         let refusal: Option<BindError> = bind_text(rt.alloc(), b"?", Params::Empty).err();
         let count = BindError::MarkCount {
             marks: 1,
             values: 0,
         };
         same(&rt, &refusal, &Some(count));
-        Ok(())
     }
 }

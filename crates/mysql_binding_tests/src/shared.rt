@@ -3,11 +3,10 @@ use mysql_params::params::{MissingNamedParameterError, Params, ParamsConfusionEr
 use mysql_params::{BindError, bind_text, bind_text_in};
 use mysql_values::bytes::Bytes;
 use mysql_values::value::Value;
-use std::alloc::{AllocError, Global};
+use std::alloc::Global;
 use std::collections::HashMap;
 use std::fmt::{Debug, Display};
 use std::process::Abort;
-use std::test::Fail;
 
 /// The two are the same. A call is cheaper to prove than the message.
 pub(crate) fn same<T: Copy + Debug + PartialEq>(rt: &impl Abort, found: T, wanted: T) {
@@ -24,21 +23,21 @@ pub(crate) fn same_in<T: Copy + Debug + PartialEq, C: Debug>(
     assert_eq!(rt; found, wanted, "of {case:?}");
 }
 
+/// The thing that was made. An error ends the test here, so that callers have none to meet: each `?`
+/// would let go of all that lives there.
+pub(crate) fn made<T, E: Debug + Drop>(rt: &impl Abort, found: Result<T, E>) -> T {
+    found.expect(rt, "an error in place of what a test needs")
+}
+
 /// The text is this.
 pub(crate) fn is_text(rt: &impl Abort, text: Vec<u8>, wanted: &[u8]) {
     same(rt, text.as_slice(), wanted);
 }
 
 /// The error prints the message.
-pub(crate) fn says<E: Display + Drop>(
-    rt: &impl Abort,
-    alloc: Global,
-    error: E,
-    message: &str,
-) -> Result<(), Fail> {
-    let printed = error.to_string(alloc)?;
+pub(crate) fn says<E: Display + Drop>(rt: &impl Abort, alloc: Global, error: E, message: &str) {
+    let printed = made(rt, error.to_string(alloc));
     same(rt, printed.as_str(), message);
-    Ok(())
 }
 
 /// A value.
@@ -74,73 +73,71 @@ pub(crate) enum Refused<'a> {
 }
 
 /// The value that holds these bytes.
-fn bytes(alloc: Global, text: &[u8]) -> Result<Value, AllocError> {
-    Ok(Value::Bytes(Bytes::from(Vec::from_slice(alloc, text)?)))
+fn bytes(rt: &impl Abort, alloc: Global, text: &[u8]) -> Value {
+    Value::Bytes(Bytes::from(made(rt, Vec::from_slice(alloc, text))))
 }
 
 impl Plain<'_> {
-    pub(crate) fn value(self, alloc: Global) -> Result<Value, AllocError> {
+    pub(crate) fn value(self, rt: &impl Abort, alloc: Global) -> Value {
         match self {
-            Plain::Null => Ok(Value::NULL),
-            Plain::Int(number) => Ok(Value::Int(number)),
-            Plain::UInt(number) => Ok(Value::UInt(number)),
-            Plain::Float => Ok(Value::Float(0)),
-            Plain::Double => Ok(Value::Double(0)),
-            Plain::Day(year, month, day) => Ok(Value::Date(year, month, day, 0, 0, 0, 0)),
-            Plain::Text(text) => bytes(alloc, text),
+            Plain::Null => Value::NULL,
+            Plain::Int(number) => Value::Int(number),
+            Plain::UInt(number) => Value::UInt(number),
+            Plain::Float => Value::Float(0),
+            Plain::Double => Value::Double(0),
+            Plain::Day(year, month, day) => Value::Date(year, month, day, 0, 0, 0, 0),
+            Plain::Text(text) => bytes(rt, alloc, text),
         }
     }
 }
 
-fn named(alloc: Global, pairs: &[(&[u8], Plain<'_>)]) -> Result<Params, AllocError> {
+fn named(rt: &impl Abort, alloc: Global, pairs: &[(&[u8], Plain<'_>)]) -> Params {
     let mut entries = HashMap::new(alloc);
     for (name, plain) in pairs {
-        let name = Vec::from_slice(alloc, *name)?;
-        if entries.insert(name, plain.value(alloc)?).is_err() {
-            return Err(AllocError);
-        }
+        let name = made(rt, Vec::from_slice(alloc, *name));
+        made(rt, entries.insert(name, plain.value(rt, alloc)));
     }
-    Ok(Params::Named(entries))
+    Params::Named(entries)
 }
 
-fn positional(alloc: Global, plains: &[Plain<'_>]) -> Result<Params, AllocError> {
+fn positional(rt: &impl Abort, alloc: Global, plains: &[Plain<'_>]) -> Params {
     let mut values = Vec::new(alloc);
     for plain in plains {
-        values.push(plain.value(alloc)?)?;
+        made(rt, values.push(plain.value(rt, alloc)));
     }
-    Ok(Params::Positional(values))
+    Params::Positional(values)
 }
 
 impl Given<'_> {
-    pub(crate) fn params(self, alloc: Global) -> Result<Params, AllocError> {
+    pub(crate) fn params(self, rt: &impl Abort, alloc: Global) -> Params {
         match self {
-            Given::Nothing => Ok(Params::Empty),
-            Given::Named(pairs) => named(alloc, pairs),
-            Given::Positional(plains) => positional(alloc, plains),
+            Given::Nothing => Params::Empty,
+            Given::Named(pairs) => named(rt, alloc, pairs),
+            Given::Positional(plains) => positional(rt, alloc, plains),
         }
     }
 }
 
 /// The refusal of a query whose params lack this name.
-fn missing(alloc: Global, name: &[u8]) -> Result<BindError, AllocError> {
-    let missing = MissingNamedParameterError(Vec::from_slice(alloc, name)?);
-    Ok(BindError::Params(ParamsError::Missing(missing)))
+fn missing(rt: &impl Abort, alloc: Global, name: &[u8]) -> BindError {
+    let missing = MissingNamedParameterError(made(rt, Vec::from_slice(alloc, name)));
+    BindError::Params(ParamsError::Missing(missing))
 }
 
 impl Refused<'_> {
-    pub(crate) fn error(self, alloc: Global) -> Result<BindError, AllocError> {
+    pub(crate) fn error(self, rt: &impl Abort, alloc: Global) -> BindError {
         match self {
-            Refused::Mixed => Ok(BindError::Mixed),
-            Refused::Missing(name) => missing(alloc, name),
-            Refused::NamedGiven => Ok(BindError::Params(ParamsError::Confusion(
+            Refused::Mixed => BindError::Mixed,
+            Refused::Missing(name) => missing(rt, alloc, name),
+            Refused::NamedGiven => BindError::Params(ParamsError::Confusion(
                 ParamsConfusionError::NamedParamsForPositionalQuery,
-            ))),
-            Refused::PositionalGiven => Ok(BindError::Params(ParamsError::Confusion(
+            )),
+            Refused::PositionalGiven => BindError::Params(ParamsError::Confusion(
                 ParamsConfusionError::PositionalParamsForNamedQuery,
-            ))),
-            Refused::MarkCount(marks, values) => Ok(BindError::MarkCount { marks, values }),
-            Refused::NotAlone(place, at) => Ok(BindError::NotAlone { place, at }),
-            Refused::Float(place) => Ok(BindError::Float { place }),
+            )),
+            Refused::MarkCount(marks, values) => BindError::MarkCount { marks, values },
+            Refused::NotAlone(place, at) => BindError::NotAlone { place, at },
+            Refused::Float(place) => BindError::Float { place },
         }
     }
 }
@@ -190,15 +187,14 @@ pub(crate) fn is_bound_by(
     query: &[u8],
     given: Given<'_>,
     wanted: &[u8],
-) -> Result<(), Fail> {
+) {
     for spelling in spellings {
         let case = (query, given, spelling);
-        match spelling.bound(alloc, query, given.params(alloc)?) {
+        match spelling.bound(alloc, query, given.params(rt, alloc)) {
             Ok(text) => same_in(rt, text.as_slice(), wanted, &case),
             Err(error) => same_in(rt, &Some(error), &None, &case),
         }
     }
-    Ok(())
 }
 
 /// By each of the calls, each query is bound to its text.
@@ -207,11 +203,10 @@ pub(crate) fn are_bound_by(
     alloc: Global,
     spellings: &[Spelling],
     rows: &[(&[u8], Given<'_>, &[u8])],
-) -> Result<(), Fail> {
+) {
     for (query, given, wanted) in rows {
-        is_bound_by(rt, alloc, spellings, *query, *given, *wanted)?;
+        is_bound_by(rt, alloc, spellings, *query, *given, *wanted);
     }
-    Ok(())
 }
 
 /// In the mode in which a backslash escapes, the query is bound to the text.
@@ -221,8 +216,8 @@ pub(crate) fn is_bound(
     query: &[u8],
     given: Given<'_>,
     wanted: &[u8],
-) -> Result<(), Fail> {
-    is_bound_by(rt, alloc, WITH_BACKSLASHES, query, given, wanted)
+) {
+    is_bound_by(rt, alloc, WITH_BACKSLASHES, query, given, wanted);
 }
 
 /// By each of the calls, the query is bound to the text where its one mark stands for this string.
@@ -233,7 +228,7 @@ pub(crate) fn string_is_bound_by(
     query: &[u8],
     string: &[u8],
     wanted: &[u8],
-) -> Result<(), Fail> {
+) {
     let values = [Plain::Text(string)];
     is_bound_by(
         rt,
@@ -242,7 +237,7 @@ pub(crate) fn string_is_bound_by(
         query,
         Given::Positional(&values),
         wanted,
-    )
+    );
 }
 
 /// By each of the calls, the query is refused so.
@@ -253,12 +248,11 @@ pub(crate) fn is_refused_by(
     query: &[u8],
     given: Given<'_>,
     refused: Refused<'_>,
-) -> Result<(), Fail> {
+) {
     for spelling in spellings {
         let case = (query, given, spelling);
-        let found = spelling.bound(alloc, query, given.params(alloc)?).err();
-        let wanted = Some(refused.error(alloc)?);
+        let found = spelling.bound(alloc, query, given.params(rt, alloc)).err();
+        let wanted = Some(refused.error(rt, alloc));
         same_in(rt, &found, &wanted, &case);
     }
-    Ok(())
 }

@@ -2,7 +2,6 @@
 use crate::shared::{EITHER_MODE, Given, Plain, Refused, are_bound_by, is_bound_by, is_refused_by};
 use std::alloc::Global;
 use std::process::Abort;
-use std::test::Fail;
 
 const BEFORE: &[u8] = b"\t\n\x0c\r (,=<>+-*/%&|^~";
 
@@ -33,7 +32,7 @@ fn answers(
     may_stand: bool,
     wanted: &[u8],
     refused: Refused<'_>,
-) -> Result<(), Fail> {
+) {
     if may_stand {
         is_bound_by(rt, alloc, EITHER_MODE, query, NULL, wanted)
     } else {
@@ -42,7 +41,7 @@ fn answers(
 }
 
 #[test]
-fn each_byte_before_a_place(rt: HostRuntime) -> Result<(), Fail> {
+fn each_byte_before_a_place(rt: HostRuntime) {
     for byte in 0..=255u8 {
         answers(
             &rt,
@@ -51,9 +50,8 @@ fn each_byte_before_a_place(rt: HostRuntime) -> Result<(), Fail> {
             BEFORE.contains(&byte),
             &[byte, b'N', b'U', b'L', b'L'],
             refused(byte, 1),
-        )?;
+        );
     }
-    Ok(())
 }
 
 /// The name `a` with this value.
@@ -83,12 +81,12 @@ const AFTER_A_SIGN: &[(&[u8], Given<'_>, &[u8])] = &[
 ];
 
 #[test]
-fn places_after_a_sign(rt: HostRuntime) -> Result<(), Fail> {
-    are_bound_by(&rt, rt.alloc(), EITHER_MODE, AFTER_A_SIGN)
+fn places_after_a_sign(rt: HostRuntime) {
+    are_bound_by(&rt, rt.alloc(), EITHER_MODE, AFTER_A_SIGN);
 }
 
 #[test]
-fn each_byte_after_a_place(rt: HostRuntime) -> Result<(), Fail> {
+fn each_byte_after_a_place(rt: HostRuntime) {
     for byte in 0..=255u8 {
         answers(
             &rt,
@@ -97,7 +95,6 @@ fn each_byte_after_a_place(rt: HostRuntime) -> Result<(), Fail> {
             AFTER.contains(&byte),
             &[b'N', b'U', b'L', b'L', byte],
             refused(byte, 0),
-        )?;
+        );
     }
-    Ok(())
 }

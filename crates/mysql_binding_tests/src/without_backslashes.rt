@@ -4,7 +4,6 @@ use crate::shared::{
     Given, Plain, Refused, WITH_BACKSLASHES, WITHOUT_BACKSLASHES, are_bound_by, is_refused_by,
     string_is_bound_by,
 };
-use std::test::Fail;
 
 /// Queries, what is given to them, and the text.
 const TEXTS: &[(&[u8], Given<'_>, &[u8])] = &[
@@ -49,8 +48,8 @@ const TEXTS: &[(&[u8], Given<'_>, &[u8])] = &[
 ];
 
 #[test]
-fn bound_texts(rt: HostRuntime) -> Result<(), Fail> {
-    are_bound_by(&rt, rt.alloc(), WITHOUT_BACKSLASHES, TEXTS)
+fn bound_texts(rt: HostRuntime) {
+    are_bound_by(&rt, rt.alloc(), WITHOUT_BACKSLASHES, TEXTS);
 }
 
 /// Values that end a string, a comment or a statement elsewhere.
@@ -69,18 +68,17 @@ const HOSTILE: &[(&[u8], &[u8])] = &[
 ];
 
 #[test]
-fn hostile_values(rt: HostRuntime) -> Result<(), Fail> {
+fn hostile_values(rt: HostRuntime) {
     for (value, wanted) in HOSTILE {
         let query = b"SELECT ?, 1";
-        string_is_bound_by(&rt, rt.alloc(), WITHOUT_BACKSLASHES, query, *value, *wanted)?;
+        string_is_bound_by(&rt, rt.alloc(), WITHOUT_BACKSLASHES, query, *value, *wanted);
     }
-    Ok(())
 }
 
 const NULL_FOR_B: Given<'_> = Given::Named(&[(b"b", Plain::Null)]);
 
 #[test]
-fn a_name_after_a_string_with_a_backslash(rt: HostRuntime) -> Result<(), Fail> {
+fn a_name_after_a_string_with_a_backslash(rt: HostRuntime) {
     is_refused_by(
         &rt,
         rt.alloc(),
@@ -96,7 +94,7 @@ fn a_name_after_a_string_with_a_backslash(rt: HostRuntime) -> Result<(), Fail> {
 const NAMELESS_WITH_BACKSLASHES: &[&[u8]] = &[b"SELECT 'a\\':b", b"SELECT 'a\\', :b"];
 
 #[test]
-fn a_name_in_an_open_string(rt: HostRuntime) -> Result<(), Fail> {
+fn a_name_in_an_open_string(rt: HostRuntime) {
     for query in NAMELESS_WITH_BACKSLASHES {
         is_refused_by(
             &rt,
@@ -105,7 +103,6 @@ fn a_name_in_an_open_string(rt: HostRuntime) -> Result<(), Fail> {
             *query,
             NULL_FOR_B,
             Refused::NamedGiven,
-        )?;
+        );
     }
-    Ok(())
 }

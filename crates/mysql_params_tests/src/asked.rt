@@ -1,11 +1,10 @@
 //! Which things are asked for their value, and how often: each once, up to the first that decides.
 use crate::own_type::Counted;
-use crate::shared::same_in;
+use crate::shared::{made, same_in};
 use mysql_params::params::{Params, ToPairs, ToParams, ToParamsError};
 use mysql_values::value::convert::{ToValue, ToValueError};
-use std::alloc::{AllocError, Global};
+use std::alloc::Global;
 use std::process::Abort;
-use std::test::Fail;
 use std::time::Duration;
 
 /// Three things, of which the second may have no value.
@@ -72,11 +71,17 @@ fn objects<'a>(alloc: Global, things: &'a [Counted; 3]) -> Result<Params, ToPara
     objects.as_slice().to_params(alloc)
 }
 
-fn make(alloc: Global, maker: Maker, things: &[Counted; 3]) -> Result<Params, ToParamsError> {
+fn make(
+    rt: &impl Abort,
+    alloc: Global,
+    maker: Maker,
+    things: &[Counted; 3],
+) -> Result<Params, ToParamsError> {
     match maker {
-        Maker::List => Vec::from_array(alloc, [&things[0], &things[1], &things[2]])
-            .map_err(|_| ToParamsError::Memory(AllocError))?
-            .to_params(alloc),
+        Maker::List => {
+            let list = Vec::from_array(alloc, [&things[0], &things[1], &things[2]]);
+            made(rt, list).to_params(alloc)
+        }
         Maker::Objects => objects(alloc, things),
         Maker::Tuple => (&things[0], &things[1], &things[2]).to_params(alloc),
         Maker::Pairs => pairs(alloc, b"abc", things),
@@ -91,7 +96,7 @@ fn make(alloc: Global, maker: Maker, things: &[Counted; 3]) -> Result<Params, To
 fn each_thing_is_asked_once(rt: HostRuntime) {
     for maker in MAKERS {
         let things = three_things(Duration::from_secs(2));
-        assert!(rt; make(rt.alloc(), maker, &things).is_ok(), "{maker:?}");
+        assert!(rt; make(&rt, rt.alloc(), maker, &things).is_ok(), "{maker:?}");
         same_in(&rt, &times_asked(&things), &[1, 1, 1], &maker);
     }
 }
@@ -102,7 +107,7 @@ fn nothing_is_asked_after_a_refused_thing(rt: HostRuntime) {
     let long = Duration::from_secs(371085174374400);
     for maker in MAKERS {
         let things = three_things(long);
-        let refusal = make(rt.alloc(), maker, &things).err();
+        let refusal = make(&rt, rt.alloc(), maker, &things).err();
         let too_long = ToParamsError::Value(ToValueError::DurationTooLong(long));
         same_in(&rt, &refusal, &Some(too_long), &maker);
         same_in(&rt, &times_asked(&things), &[1, 1, 0], &maker);
@@ -110,13 +115,8 @@ fn nothing_is_asked_after_a_refused_thing(rt: HostRuntime) {
 }
 
 /// The pairs are refused for the name `a`, and so often the things were asked.
-fn is_redefined(
-    rt: &impl Abort,
-    alloc: Global,
-    names: &[u8; 3],
-    wanted: [u32; 3],
-) -> Result<(), Fail> {
-    let error = ToParamsError::Redefined(Vec::from_slice(alloc, b"a")?);
+fn is_redefined(rt: &impl Abort, alloc: Global, names: &[u8; 3], wanted: [u32; 3]) {
+    let error = ToParamsError::Redefined(made(rt, Vec::from_slice(alloc, b"a")));
     let things = three_things(Duration::from_secs(2));
     same_in(
         rt,
@@ -125,17 +125,16 @@ fn is_redefined(
         &names,
     );
     same_in(rt, &times_asked(&things), &wanted, &names);
-    let error = ToParamsError::Redefined(Vec::from_slice(alloc, b"a")?);
+    let error = ToParamsError::Redefined(made(rt, Vec::from_slice(alloc, b"a")));
     let things = three_things(Duration::from_secs(2));
     let refusal = pairs_of_objects(alloc, names, &things).err();
     same_in(rt, &refusal, &Some(error), &(names, "of objects"));
     same_in(rt, &times_asked(&things), &wanted, &(names, "of objects"));
-    Ok(())
 }
 
 #[test]
-fn nothing_is_asked_from_a_redefined_name_on(rt: HostRuntime) -> Result<(), Fail> {
-    is_redefined(&rt, rt.alloc(), b"aab", [1, 0, 0])?;
-    is_redefined(&rt, rt.alloc(), b"aba", [1, 1, 0])?;
-    is_redefined(&rt, rt.alloc(), b"aaa", [1, 0, 0])
+fn nothing_is_asked_from_a_redefined_name_on(rt: HostRuntime) {
+    is_redefined(&rt, rt.alloc(), b"aab", [1, 0, 0]);
+    is_redefined(&rt, rt.alloc(), b"aba", [1, 1, 0]);
+    is_redefined(&rt, rt.alloc(), b"aaa", [1, 0, 0]);
 }

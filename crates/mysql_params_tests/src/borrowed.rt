@@ -1,20 +1,19 @@
 //! What parameters give to the names of a query, where it stands in them.
 use crate::lookups::{LOOKUPS, misses};
-use crate::shared::{named, positional, same, same_in};
+use crate::shared::{made, named, positional, same, same_in};
 use mysql_params::params::{Params, ParamsConfusionError, ParamsError};
 use mysql_params_core::params::place_values;
 use mysql_values::value::Value;
-use std::alloc::{AllocError, Global};
+use std::alloc::Global;
 use std::process::Abort;
-use std::test::Fail;
 
 // A list of names of one byte each.
-fn slices(alloc: Global, letters: &[u8]) -> Result<Vec<&[u8]>, AllocError> {
+fn slices<'a>(rt: &impl Abort, alloc: Global, letters: &'a [u8]) -> Vec<&'a [u8]> {
     let mut names = Vec::new(alloc);
     for i in 0..letters.len() {
-        names.push(&letters[i..i + 1])?;
+        made(rt, names.push(&letters[i..i + 1]));
     }
-    Ok(names)
+    names
 }
 
 // The values are these numbers.
@@ -40,62 +39,59 @@ fn is_refused(
 }
 
 #[test]
-fn named_values_in_place(rt: HostRuntime) -> Result<(), Fail> {
+fn named_values_in_place(rt: HostRuntime) {
     let alloc = rt.alloc();
     for (given, case, numbers, missing) in LOOKUPS {
-        let params = named(alloc, *given)?;
-        let names = slices(alloc, *case)?;
+        let params = named(&rt, alloc, *given);
+        let names = slices(&rt, alloc, *case);
         let names = names.as_slice();
         match missing {
             None => are_numbers(
                 &rt,
-                place_values(alloc, &params, names)?.as_slice(),
+                made(&rt, place_values(alloc, &params, names)).as_slice(),
                 *numbers,
                 *case,
             ),
             Some((by_values, _)) => {
-                let error = ParamsError::Missing(misses(alloc, *by_values)?);
+                let error = ParamsError::Missing(misses(&rt, alloc, *by_values));
                 is_refused(&rt, alloc, &params, names, &error);
             }
         }
     }
-    Ok(())
 }
 
 #[test]
-fn values_in_place_without_names(rt: HostRuntime) -> Result<(), Fail> {
+fn values_in_place_without_names(rt: HostRuntime) {
     let alloc = rt.alloc();
     are_numbers(
         &rt,
-        place_values(alloc, &Params::Empty, &[])?.as_slice(),
+        made(&rt, place_values(alloc, &Params::Empty, &[])).as_slice(),
         &[],
         b"",
     );
-    let params = positional(alloc, &[1, 2])?;
+    let params = positional(&rt, alloc, &[1, 2]);
     are_numbers(
         &rt,
-        place_values(alloc, &params, &[])?.as_slice(),
+        made(&rt, place_values(alloc, &params, &[])).as_slice(),
         &[1, 2],
         b"",
     );
     let error = ParamsError::Confusion(ParamsConfusionError::NamedParamsForPositionalQuery);
-    is_refused(&rt, alloc, &named(alloc, b"a")?, &[], &error);
-    Ok(())
+    is_refused(&rt, alloc, &named(&rt, alloc, b"a"), &[], &error);
 }
 
 #[test]
-fn other_parameters_in_place(rt: HostRuntime) -> Result<(), Fail> {
+fn other_parameters_in_place(rt: HostRuntime) {
     let alloc = rt.alloc();
-    let names = slices(alloc, b"ab")?;
-    let error = ParamsError::Missing(misses(alloc, b'a')?);
+    let names = slices(&rt, alloc, b"ab");
+    let error = ParamsError::Missing(misses(&rt, alloc, b'a'));
     is_refused(&rt, alloc, &Params::Empty, names.as_slice(), &error);
     let error = ParamsError::Confusion(ParamsConfusionError::PositionalParamsForNamedQuery);
     is_refused(
         &rt,
         alloc,
-        &positional(alloc, &[1, 2])?,
+        &positional(&rt, alloc, &[1, 2]),
         names.as_slice(),
         &error,
     );
-    Ok(())
 }

@@ -11,7 +11,8 @@ mod lookups;
 mod makers;
 #[cfg(test)]
 mod messages;
-pub mod own_type;
+#[cfg(test)]
+mod own_type;
 #[cfg(test)]
 mod pair_tuples;
 #[cfg(test)]

@@ -1,5 +1,5 @@
 //! What parameters give to the names of a query.
-use crate::shared::{bytes, named, names, positional, same, same_in};
+use crate::shared::{bytes, made, named, names, positional, same, same_in};
 use mysql_params::laws::{
     into_positional_error_equality, missing_named_parameter_error_equality,
     params_confusion_error_equality, params_equality, params_error_equality,
@@ -12,7 +12,6 @@ use mysql_params::params::{
 use mysql_values::value::Value;
 use std::alloc::{AllocError, Global};
 use std::process::Abort;
-use std::test::Fail;
 
 /// The names that are given, those of the query, the numbers of these names, and where one is missing
 /// which `into_values` and which `into_positional` reports.
@@ -29,33 +28,32 @@ pub(crate) const LOOKUPS: &[(&[u8], &[u8], &[u64], Option<(u8, u8)>)] = &[
     (b"abc", b"cac", &[3, 1, 3], None),
 ];
 
-pub(crate) fn misses(alloc: Global, letter: u8) -> Result<MissingNamedParameterError, AllocError> {
-    let name = Vec::from_slice(alloc, &[letter])?;
-    Ok(MissingNamedParameterError(name))
+pub(crate) fn misses(rt: &impl Abort, alloc: Global, letter: u8) -> MissingNamedParameterError {
+    let name = made(rt, Vec::from_slice(alloc, &[letter]));
+    MissingNamedParameterError(name)
 }
 
 #[test]
-fn named_parameters(rt: HostRuntime) -> Result<(), Fail> {
+fn named_parameters(rt: HostRuntime) {
     let alloc = rt.alloc();
     for (given, case, numbers, missing) in LOOKUPS {
-        let list = names(alloc, *case)?;
+        let list = names(&rt, alloc, *case);
         let list = list.as_slice();
         match missing {
             None => {
-                gives(&rt, alloc, named(alloc, *given)?, Some(list), *numbers)?;
-                let wanted = positional(alloc, *numbers)?;
-                gives_by_position(&rt, alloc, named(alloc, *given)?, list, &wanted)?;
+                gives(&rt, alloc, named(&rt, alloc, *given), Some(list), *numbers);
+                let wanted = positional(&rt, alloc, *numbers);
+                gives_by_position(&rt, alloc, named(&rt, alloc, *given), list, &wanted);
             }
             Some((by_values, first)) => {
-                let error = ParamsError::Missing(misses(alloc, *by_values)?);
-                is_refused(&rt, alloc, named(alloc, *given)?, Some(list), error);
-                let error = IntoPositionalError::Missing(misses(alloc, *first)?);
-                let refusal = named(alloc, *given)?.into_positional(alloc, list).err();
+                let error = ParamsError::Missing(misses(&rt, alloc, *by_values));
+                is_refused(&rt, alloc, named(&rt, alloc, *given), Some(list), error);
+                let error = IntoPositionalError::Missing(misses(&rt, alloc, *first));
+                let refusal = named(&rt, alloc, *given).into_positional(alloc, list).err();
                 same_in(&rt, &refusal, &Some(error), case);
             }
         }
     }
-    Ok(())
 }
 
 // The values that the parameters give to the names are these numbers.
@@ -65,10 +63,9 @@ fn gives(
     params: Params,
     list: Option<&[Vec<u8>]>,
     numbers: &[u64],
-) -> Result<(), Fail> {
-    let values = Params::Positional(params.into_values(alloc, list)?);
-    same_in(rt, &values, &positional(alloc, numbers)?, &numbers);
-    Ok(())
+) {
+    let values = Params::Positional(made(rt, params.into_values(alloc, list)));
+    same_in(rt, &values, &positional(rt, alloc, numbers), &numbers);
 }
 
 // The parameters give no values to the names, for this reason.
@@ -94,83 +91,92 @@ fn gives_by_position(
     params: Params,
     list: &[Vec<u8>],
     wanted: &Params,
-) -> Result<(), Fail> {
-    same_in(rt, &params.into_positional(alloc, list)?, wanted, &list);
-    Ok(())
+) {
+    let found = made(rt, params.into_positional(alloc, list));
+    same_in(rt, &found, wanted, &list);
 }
 
 #[test]
-fn without_names(rt: HostRuntime) -> Result<(), Fail> {
+fn without_names(rt: HostRuntime) {
     let alloc = rt.alloc();
-    let none = names(alloc, b"")?;
+    let none = names(&rt, alloc, b"");
     for list in [None, Some(none.as_slice())] {
-        gives(&rt, alloc, Params::Empty, list, &[])?;
-        gives(&rt, alloc, positional(alloc, &[1, 2])?, list, &[1, 2])?;
+        gives(&rt, alloc, Params::Empty, list, &[]);
+        gives(&rt, alloc, positional(&rt, alloc, &[1, 2]), list, &[1, 2]);
         let error = ParamsConfusionError::NamedParamsForPositionalQuery;
         is_refused(
             &rt,
             alloc,
-            named(alloc, b"a")?,
+            named(&rt, alloc, b"a"),
             list,
             ParamsError::Confusion(error),
         );
         is_refused(
             &rt,
             alloc,
-            named(alloc, b"")?,
+            named(&rt, alloc, b""),
             list,
             ParamsError::Confusion(error),
         );
     }
-    let wanted = positional(alloc, &[])?;
-    gives_by_position(&rt, alloc, named(alloc, b"a")?, none.as_slice(), &wanted)
+    let wanted = positional(&rt, alloc, &[]);
+    gives_by_position(
+        &rt,
+        alloc,
+        named(&rt, alloc, b"a"),
+        none.as_slice(),
+        &wanted,
+    );
 }
 
 #[test]
-fn other_parameters(rt: HostRuntime) -> Result<(), Fail> {
+fn other_parameters(rt: HostRuntime) {
     let alloc = rt.alloc();
-    let list = names(alloc, b"ab")?;
+    let list = names(&rt, alloc, b"ab");
     let list = list.as_slice();
-    let error = ParamsError::from(misses(alloc, b'a')?);
+    let error = ParamsError::from(misses(&rt, alloc, b'a'));
     is_refused(&rt, alloc, Params::Empty, Some(list), error);
     let error = ParamsError::from(ParamsConfusionError::PositionalParamsForNamedQuery);
-    is_refused(&rt, alloc, positional(alloc, &[1, 2])?, Some(list), error);
-    gives_by_position(&rt, alloc, Params::Empty, list, &Params::Empty)?;
-    let kept = positional(alloc, &[1])?;
-    gives_by_position(&rt, alloc, kept.clone()?, list, &kept)
+    is_refused(
+        &rt,
+        alloc,
+        positional(&rt, alloc, &[1, 2]),
+        Some(list),
+        error,
+    );
+    gives_by_position(&rt, alloc, Params::Empty, list, &Params::Empty);
+    let kept = positional(&rt, alloc, &[1]);
+    gives_by_position(&rt, alloc, made(&rt, kept.clone()), list, &kept);
 }
 
 #[test]
-fn a_value_given_twice(rt: HostRuntime) -> Result<(), Fail> {
+fn a_value_given_twice(rt: HostRuntime) {
     let alloc = rt.alloc();
-    let params = Params::from_pairs(alloc, &[("a", Value::Int(1))])?;
-    let list = names(alloc, b"aa")?;
-    let values = params.into_values(alloc, Some(list.as_slice()))?;
+    let params = made(&rt, Params::from_pairs(alloc, &[("a", Value::Int(1))]));
+    let list = names(&rt, alloc, b"aa");
+    let values = made(&rt, params.into_values(alloc, Some(list.as_slice())));
     let wanted = [Value::Int(1), Value::Int(1)];
     same(&rt, values.as_slice(), wanted.as_slice());
-    Ok(())
 }
 
 #[test]
-fn values_of_bytes(rt: HostRuntime) -> Result<(), Fail> {
+fn values_of_bytes(rt: HostRuntime) {
     let alloc = rt.alloc();
     let pairs = [(b"a".as_slice(), "x"), (b"b".as_slice(), "y")];
-    let params = Params::from_pairs(alloc, &pairs)?;
-    let list = names(alloc, b"bab")?;
-    let values = params.into_values(alloc, Some(list.as_slice()))?;
+    let params = made(&rt, Params::from_pairs(alloc, &pairs));
+    let list = names(&rt, alloc, b"bab");
+    let values = made(&rt, params.into_values(alloc, Some(list.as_slice())));
     let wanted = [
-        bytes(alloc, b"y")?,
-        bytes(alloc, b"x")?,
-        bytes(alloc, b"y")?,
+        bytes(&rt, alloc, b"y"),
+        bytes(&rt, alloc, b"x"),
+        bytes(&rt, alloc, b"y"),
     ];
     same(&rt, values.as_slice(), wanted.as_slice());
-    Ok(())
 }
 
 // A copy of the parameters is the same.
-fn is_copied(rt: &impl Abort, params: &Params) -> Result<(), Fail> {
-    same(rt, &params.clone()?, params);
-    Ok(())
+fn is_copied(rt: &impl Abort, params: &Params) {
+    same(rt, &made(rt, params.clone()), params);
 }
 
 fn differ(rt: &impl Abort, first: Params, second: Params) {
@@ -178,54 +184,51 @@ fn differ(rt: &impl Abort, first: Params, second: Params) {
 }
 
 #[test]
-fn equality_and_copies(rt: HostRuntime) -> Result<(), Fail> {
+fn equality_and_copies(rt: HostRuntime) {
     let alloc = rt.alloc();
-    is_copied(&rt, &Params::Empty)?;
-    is_copied(&rt, &named(alloc, b"ab")?)?;
-    is_copied(&rt, &positional(alloc, &[1, 2])?)?;
-    differ(&rt, named(alloc, b"ab")?, named(alloc, b"ba")?);
-    differ(&rt, named(alloc, b"a")?, named(alloc, b"ab")?);
-    differ(&rt, named(alloc, b"")?, Params::Empty);
-    differ(&rt, positional(alloc, &[])?, Params::Empty);
+    is_copied(&rt, &Params::Empty);
+    is_copied(&rt, &named(&rt, alloc, b"ab"));
+    is_copied(&rt, &positional(&rt, alloc, &[1, 2]));
+    differ(&rt, named(&rt, alloc, b"ab"), named(&rt, alloc, b"ba"));
+    differ(&rt, named(&rt, alloc, b"a"), named(&rt, alloc, b"ab"));
+    differ(&rt, named(&rt, alloc, b""), Params::Empty);
+    differ(&rt, positional(&rt, alloc, &[]), Params::Empty);
     differ(
         &rt,
-        positional(alloc, &[2, 1])?,
-        positional(alloc, &[1, 2])?,
+        positional(&rt, alloc, &[2, 1]),
+        positional(&rt, alloc, &[1, 2]),
     );
-    let missing = misses(alloc, b'a')?;
-    same(&rt, &missing.clone()?, &missing);
-    is_error_copied(&rt, &ParamsError::Missing(missing))
+    let missing = misses(&rt, alloc, b'a');
+    same(&rt, &made(&rt, missing.clone()), &missing);
+    is_error_copied(&rt, &ParamsError::Missing(missing));
 }
 
 // A copy of the error is the same.
-fn is_error_copied(rt: &impl Abort, error: &ParamsError) -> Result<(), Fail> {
-    same(rt, &error.clone()?, error);
-    Ok(())
+fn is_error_copied(rt: &impl Abort, error: &ParamsError) {
+    same(rt, &made(rt, error.clone()), error);
 }
 
 #[test]
-fn copies_of_errors_without_a_name(rt: HostRuntime) -> Result<(), Fail> {
+fn copies_of_errors_without_a_name(rt: HostRuntime) {
     let error = ParamsConfusionError::PositionalParamsForNamedQuery;
-    is_error_copied(&rt, &ParamsError::Confusion(error))?;
-    is_error_copied(&rt, &ParamsError::Memory(AllocError))
+    is_error_copied(&rt, &ParamsError::Confusion(error));
+    is_error_copied(&rt, &ParamsError::Memory(AllocError));
 }
 
 #[test]
-fn equality_of_parameters(rt: HostRuntime) -> Result<(), Fail> {
+fn equality_of_parameters(rt: HostRuntime) {
     let alloc = rt.alloc();
-    let a = named(alloc, b"a")?;
-    assert!(rt; params_equality(&a, &named(alloc, b"a")?));
-    assert!(rt; !params_equality(&a, &named(alloc, b"b")?));
-    Ok(())
+    let a = named(&rt, alloc, b"a");
+    assert!(rt; params_equality(&a, &named(&rt, alloc, b"a")));
+    assert!(rt; !params_equality(&a, &named(&rt, alloc, b"b")));
 }
 
 #[test]
-fn equality_of_missing_names(rt: HostRuntime) -> Result<(), Fail> {
+fn equality_of_missing_names(rt: HostRuntime) {
     let alloc = rt.alloc();
-    let a = misses(alloc, b'a')?;
-    assert!(rt; missing_named_parameter_error_equality(&a, &misses(alloc, b'a')?));
-    assert!(rt; !missing_named_parameter_error_equality(&a, &misses(alloc, b'b')?));
-    Ok(())
+    let a = misses(&rt, alloc, b'a');
+    assert!(rt; missing_named_parameter_error_equality(&a, &misses(&rt, alloc, b'a')));
+    assert!(rt; !missing_named_parameter_error_equality(&a, &misses(&rt, alloc, b'b')));
 }
 
 #[test]
@@ -240,15 +243,14 @@ fn equality_of_confusions(rt: HostRuntime) {
 }
 
 #[test]
-fn equality_of_refusals(rt: HostRuntime) -> Result<(), Fail> {
+fn equality_of_refusals(rt: HostRuntime) {
     let alloc = rt.alloc();
-    let missing = IntoPositionalError::Missing(misses(alloc, b'a')?);
-    let other = IntoPositionalError::Missing(misses(alloc, b'b')?);
+    let missing = IntoPositionalError::Missing(misses(&rt, alloc, b'a'));
+    let other = IntoPositionalError::Missing(misses(&rt, alloc, b'b'));
     assert!(rt; into_positional_error_equality(&missing, &missing));
     assert!(rt; !into_positional_error_equality(&missing, &other));
-    let again = ToParamsError::Redefined(Vec::from_slice(alloc, b"a")?);
-    let other = ToParamsError::Redefined(Vec::from_slice(alloc, b"b")?);
+    let again = ToParamsError::Redefined(made(&rt, Vec::from_slice(alloc, b"a")));
+    let other = ToParamsError::Redefined(made(&rt, Vec::from_slice(alloc, b"b")));
     assert!(rt; to_params_error_equality(&again, &again));
     assert!(rt; !to_params_error_equality(&again, &other));
-    Ok(())
 }

@@ -1,38 +1,26 @@
 //! What things make parameters.
 use crate::own_type::Counted;
-use crate::shared::{bytes, named, positional, same};
+use crate::shared::{bytes, made, named, positional, same};
 use mysql_params::params::{Params, ToName, ToParams, ToParamsError};
 use mysql_values::value::Value;
 use mysql_values::value::convert::{ToValue, ToValueError};
 use std::alloc::Global;
 use std::process::Abort;
-use std::test::Fail;
 use std::time::Duration;
 
 // Through the bound alone, as all helpers here.
-fn made<T: ToParams>(alloc: Global, things: &T) -> Result<Params, ToParamsError> {
+fn params_of<T: ToParams>(alloc: Global, things: &T) -> Result<Params, ToParamsError> {
     things.to_params(alloc)
 }
 
 // The things make these parameters.
-fn make<T: ToParams>(
-    rt: &impl Abort,
-    alloc: Global,
-    things: &T,
-    wanted: &Params,
-) -> Result<(), Fail> {
-    same(rt, &made(alloc, things)?, wanted);
-    Ok(())
+fn make<T: ToParams>(rt: &impl Abort, alloc: Global, things: &T, wanted: &Params) {
+    same(rt, &made(rt, params_of(alloc, things)), wanted);
 }
 
 // The things make positional parameters of these numbers.
-fn make_numbers<T: ToParams>(
-    rt: &impl Abort,
-    alloc: Global,
-    things: &T,
-    numbers: &[u64],
-) -> Result<(), Fail> {
-    make(rt, alloc, things, &positional(alloc, numbers)?)
+fn make_numbers<T: ToParams>(rt: &impl Abort, alloc: Global, things: &T, numbers: &[u64]) {
+    make(rt, alloc, things, &positional(rt, alloc, numbers));
 }
 
 // The pairs make these parameters.
@@ -41,20 +29,13 @@ fn pairs_make<N: ToName, T: ToValue>(
     alloc: Global,
     pairs: &[(N, T)],
     wanted: &Params,
-) -> Result<(), Fail> {
-    same(rt, &Params::from_pairs(alloc, pairs)?, wanted);
-    Ok(())
+) {
+    same(rt, &made(rt, Params::from_pairs(alloc, pairs)), wanted);
 }
 
 // The value of the thing is the wanted one.
-fn has_value<T: ToValue>(
-    rt: &impl Abort,
-    alloc: Global,
-    thing: &T,
-    wanted: &Value,
-) -> Result<(), Fail> {
-    same(rt, &thing.to_value(alloc)?, wanted);
-    Ok(())
+fn has_value<T: ToValue>(rt: &impl Abort, alloc: Global, thing: &T, wanted: &Value) {
+    same(rt, &made(rt, thing.to_value(alloc)), wanted);
 }
 
 // Through the bound alone.
@@ -63,147 +44,151 @@ fn has_bytes<N: ToName>(name: &N, wanted: &[u8]) -> bool {
 }
 
 #[test]
-fn nested_values(rt: HostRuntime) -> Result<(), Fail> {
+fn nested_values(rt: HostRuntime) {
     let alloc = rt.alloc();
-    has_value(&rt, alloc, &&5u8, &Value::UInt(5))?;
-    has_value(&rt, alloc, &Some(-5i64), &Value::Int(-5))?;
-    has_value(&rt, alloc, &None::<i64>, &Value::NULL)?;
-    has_value(&rt, alloc, &Some(Some(true)), &Value::Int(1))?;
-    for like in [Value::NULL, Value::Float(1), bytes(alloc, b"ab")?] {
-        has_value(&rt, alloc, &like, &like)?;
+    has_value(&rt, alloc, &&5u8, &Value::UInt(5));
+    has_value(&rt, alloc, &Some(-5i64), &Value::Int(-5));
+    has_value(&rt, alloc, &None::<i64>, &Value::NULL);
+    has_value(&rt, alloc, &Some(Some(true)), &Value::Int(1));
+    for like in [Value::NULL, Value::Float(1), bytes(&rt, alloc, b"ab")] {
+        has_value(&rt, alloc, &like, &like);
     }
-    Ok(())
 }
 
 #[test]
-fn no_things(rt: HostRuntime) -> Result<(), Fail> {
+fn no_things(rt: HostRuntime) {
     let alloc = rt.alloc();
-    make(&rt, alloc, &(), &Params::Empty)?;
-    make(&rt, alloc, &Vec::<u8>::new(alloc), &Params::Empty)?;
+    make(&rt, alloc, &(), &Params::Empty);
+    make(&rt, alloc, &Vec::<u8>::new(alloc), &Params::Empty);
     let objects: [&dyn ToValue; 0] = [];
-    make(&rt, alloc, &objects.as_slice(), &Params::Empty)?;
-    let none = named(alloc, b"")?;
+    make(&rt, alloc, &objects.as_slice(), &Params::Empty);
+    let none = named(&rt, alloc, b"");
     let pairs: [(&[u8], u8); 0] = [];
-    pairs_make(&rt, alloc, &pairs, &none)?;
+    pairs_make(&rt, alloc, &pairs, &none);
     let pairs: [(&[u8], &dyn ToValue); 0] = [];
-    same(&rt, &Params::from_objects(alloc, &pairs)?, &none);
-    Ok(())
+    let params = made(&rt, Params::from_objects(alloc, &pairs));
+    same(&rt, &params, &none);
 }
 
 #[test]
-fn lists(rt: HostRuntime) -> Result<(), Fail> {
+fn lists(rt: HostRuntime) {
     let alloc = rt.alloc();
-    let list = Vec::from_slice(alloc, &[1u64, 2, 2])?;
-    make_numbers(&rt, alloc, &list, &[1, 2, 2])?;
-    make_numbers(&rt, alloc, &&list, &[1, 2, 2])?;
-    make(&rt, alloc, &named(alloc, b"ab")?, &named(alloc, b"ab")?)?;
-    make_numbers(&rt, alloc, &positional(alloc, &[1, 2])?, &[1, 2])?;
-    make(&rt, alloc, &Params::Empty, &Params::Empty)
+    let list = made(&rt, Vec::from_slice(alloc, &[1u64, 2, 2]));
+    make_numbers(&rt, alloc, &list, &[1, 2, 2]);
+    make_numbers(&rt, alloc, &&list, &[1, 2, 2]);
+    make(
+        &rt,
+        alloc,
+        &named(&rt, alloc, b"ab"),
+        &named(&rt, alloc, b"ab"),
+    );
+    make_numbers(&rt, alloc, &positional(&rt, alloc, &[1, 2]), &[1, 2]);
+    make(&rt, alloc, &Params::Empty, &Params::Empty);
 }
 
 const NUMBERS: [u64; 12] = [1, 2, 3, 4, 5, 6, 7, 8, 9, 10, 11, 12];
 
 #[test]
-fn tuples(rt: HostRuntime) -> Result<(), Fail> {
+fn tuples(rt: HostRuntime) {
     let alloc = rt.alloc();
-    make_numbers(&rt, alloc, &(1u8,), &NUMBERS[..1])?;
-    make_numbers(&rt, alloc, &(1u8, 2u64), &NUMBERS[..2])?;
-    make_numbers(&rt, alloc, &(1u8, 2u8, 3u8), &NUMBERS[..3])?;
-    make_numbers(&rt, alloc, &(1u8, 2u8, 3u8, 4u8), &NUMBERS[..4])?;
-    make_numbers(&rt, alloc, &(1u8, 2u8, 3u8, 4u8, 5u8), &NUMBERS[..5])?;
-    make_numbers(&rt, alloc, &(1u8, 2u8, 3u8, 4u8, 5u8, 6u8), &NUMBERS[..6])
+    make_numbers(&rt, alloc, &(1u8,), &NUMBERS[..1]);
+    make_numbers(&rt, alloc, &(1u8, 2u64), &NUMBERS[..2]);
+    make_numbers(&rt, alloc, &(1u8, 2u8, 3u8), &NUMBERS[..3]);
+    make_numbers(&rt, alloc, &(1u8, 2u8, 3u8, 4u8), &NUMBERS[..4]);
+    make_numbers(&rt, alloc, &(1u8, 2u8, 3u8, 4u8, 5u8), &NUMBERS[..5]);
+    make_numbers(&rt, alloc, &(1u8, 2u8, 3u8, 4u8, 5u8, 6u8), &NUMBERS[..6]);
 }
 
 #[test]
-fn long_tuples(rt: HostRuntime) -> Result<(), Fail> {
+fn long_tuples(rt: HostRuntime) {
     let alloc = rt.alloc();
     let seven = (1u8, 2u16, 3u32, 4u64, 5usize, 6u8, 7u8);
-    make_numbers(&rt, alloc, &seven, &NUMBERS[..7])?;
+    make_numbers(&rt, alloc, &seven, &NUMBERS[..7]);
     let eight = (1u8, 2u8, 3u8, 4u8, 5u8, 6u8, 7u8, 8u8);
-    make_numbers(&rt, alloc, &eight, &NUMBERS[..8])?;
+    make_numbers(&rt, alloc, &eight, &NUMBERS[..8]);
     let nine = (1u8, 2u8, 3u8, 4u8, 5u8, 6u8, 7u8, 8u8, 9u8);
-    make_numbers(&rt, alloc, &nine, &NUMBERS[..9])?;
+    make_numbers(&rt, alloc, &nine, &NUMBERS[..9]);
     let ten = (1u8, 2u8, 3u8, 4u8, 5u8, 6u8, 7u8, 8u8, 9u8, 10u8);
-    make_numbers(&rt, alloc, &ten, &NUMBERS[..10])?;
+    make_numbers(&rt, alloc, &ten, &NUMBERS[..10]);
     let eleven = (1u8, 2u8, 3u8, 4u8, 5u8, 6u8, 7u8, 8u8, 9u8, 10u8, 11u8);
-    make_numbers(&rt, alloc, &eleven, &NUMBERS[..11])?;
+    make_numbers(&rt, alloc, &eleven, &NUMBERS[..11]);
     let twelve = (
         1u8, 2u8, 3u8, 4u8, 5u8, 6u8, 7u8, 8u8, 9u8, 10u8, 11u8, 12u8,
     );
-    make_numbers(&rt, alloc, &twelve, &NUMBERS)
+    make_numbers(&rt, alloc, &twelve, &NUMBERS);
 }
 
 #[test]
-fn objects(rt: HostRuntime) -> Result<(), Fail> {
+fn objects(rt: HostRuntime) {
     let alloc = rt.alloc();
     let own = Counted::new(Duration::from_secs(7));
     let objects: [&dyn ToValue; 4] = [&1u8, &"x", &None::<i64>, &own];
-    let wanted = Vec::from_array(
-        alloc,
-        [
-            Value::UInt(1),
-            bytes(alloc, b"x")?,
-            Value::NULL,
-            Value::Time(false, 0, 0, 0, 7, 0),
-        ],
-    )?;
-    make(&rt, alloc, &objects.as_slice(), &Params::Positional(wanted))?;
+    let values = [
+        Value::UInt(1),
+        bytes(&rt, alloc, b"x"),
+        Value::NULL,
+        Value::Time(false, 0, 0, 0, 7, 0),
+    ];
+    let wanted = made(&rt, Vec::from_array(alloc, values));
+    make(&rt, alloc, &objects.as_slice(), &Params::Positional(wanted));
     same(&rt, own.times_asked(), 1);
     let twice: [&dyn ToValue; 2] = [&2u8, &2u8];
-    make_numbers(&rt, alloc, &twice.as_slice(), &[2, 2])
+    make_numbers(&rt, alloc, &twice.as_slice(), &[2, 2]);
 }
 
 // The pairs are refused for the name `a`.
-fn is_redefined(rt: &impl Abort, alloc: Global, pairs: &[(&str, u8)]) -> Result<(), Fail> {
-    let error = ToParamsError::Redefined(Vec::from_slice(alloc, b"a")?);
+fn is_redefined(rt: &impl Abort, alloc: Global, pairs: &[(&str, u8)]) {
+    let error = ToParamsError::Redefined(made(rt, Vec::from_slice(alloc, b"a")));
     same(rt, &Params::from_pairs(alloc, pairs).err(), &Some(error));
-    Ok(())
 }
 
 #[test]
-fn pairs(rt: HostRuntime) -> Result<(), Fail> {
+fn pairs(rt: HostRuntime) {
     let alloc = rt.alloc();
-    pairs_make(&rt, alloc, &[("a", 1u8), ("b", 2u8)], &named(alloc, b"ab")?)?;
-    is_redefined(&rt, alloc, &[("a", 1), ("a", 2)])?;
-    is_redefined(&rt, alloc, &[("a", 1), ("b", 2), ("a", 3)])?;
+    pairs_make(
+        &rt,
+        alloc,
+        &[("a", 1u8), ("b", 2u8)],
+        &named(&rt, alloc, b"ab"),
+    );
+    is_redefined(&rt, alloc, &[("a", 1), ("a", 2)]);
+    is_redefined(&rt, alloc, &[("a", 1), ("b", 2), ("a", 3)]);
 
     let pairs: [(&[u8], &dyn ToValue); 2] = [(b"a", &1u8), (b"b", &"x")];
-    let params = Params::from_objects(alloc, &pairs)?;
-    let values = [("a", Value::UInt(1)), ("b", bytes(alloc, b"x")?)];
-    pairs_make(&rt, alloc, &values, &params)
+    let params = made(&rt, Params::from_objects(alloc, &pairs));
+    let values = [("a", Value::UInt(1)), ("b", bytes(&rt, alloc, b"x"))];
+    pairs_make(&rt, alloc, &values, &params);
 }
 
 // The things are refused, since one has too many days.
-fn is_too_long(rt: &impl Abort, made: Result<Params, ToParamsError>, long: Duration) {
+fn is_too_long(rt: &impl Abort, found: Result<Params, ToParamsError>, long: Duration) {
     let error = ToParamsError::Value(ToValueError::DurationTooLong(long));
-    same(rt, &made.err(), &Some(error));
+    same(rt, &found.err(), &Some(error));
 }
 
 // The first thing that has no value decides.
 #[test]
-fn refused_things(rt: HostRuntime) -> Result<(), Fail> {
+fn refused_things(rt: HostRuntime) {
     let alloc = rt.alloc();
     // One second more than a `Time` has days for, and two.
     let long = Duration::from_secs(371085174374400);
     let longer = Duration::from_secs(371085174374401);
-    is_too_long(&rt, made(alloc, &(1u8, long, longer)), long);
-    let list = Vec::from_array(alloc, [long, longer])?;
-    is_too_long(&rt, made(alloc, &list), long);
+    is_too_long(&rt, params_of(alloc, &(1u8, long, longer)), long);
+    let list = made(&rt, Vec::from_array(alloc, [long, longer]));
+    is_too_long(&rt, params_of(alloc, &list), long);
     let objects: [&dyn ToValue; 3] = [&1u8, &long, &longer];
-    is_too_long(&rt, made(alloc, &objects.as_slice()), long);
+    is_too_long(&rt, params_of(alloc, &objects.as_slice()), long);
     let pairs = [("a", long), ("a", longer)];
     is_too_long(&rt, Params::from_pairs(alloc, &pairs), long);
     let pairs: [(&[u8], &dyn ToValue); 3] = [(b"a", &1u8), (b"b", &long), (b"a", &1u8)];
     is_too_long(&rt, Params::from_objects(alloc, &pairs), long);
-    Ok(())
 }
 
 #[test]
-fn names_of_every_kind(rt: HostRuntime) -> Result<(), Fail> {
+fn names_of_every_kind(rt: HostRuntime) {
     let alloc = rt.alloc();
     assert!(rt; has_bytes(&b"ab".as_slice(), b"ab"));
-    assert!(rt; has_bytes(&Vec::from_slice(alloc, b"ab")?, b"ab"));
+    assert!(rt; has_bytes(&made(&rt, Vec::from_slice(alloc, b"ab")), b"ab"));
     assert!(rt; has_bytes(&"ab", b"ab"));
-    assert!(rt; has_bytes(&String::from_str(alloc, "ab")?, b"ab"));
-    Ok(())
+    assert!(rt; has_bytes(&made(&rt, String::from_str(alloc, "ab")), b"ab"));
 }

@@ -2,7 +2,7 @@
 use mysql_params::params::Params;
 use mysql_values::bytes::Bytes;
 use mysql_values::value::Value;
-use std::alloc::{AllocError, Global};
+use std::alloc::Global;
 use std::collections::HashMap;
 use std::fmt::Debug;
 use std::process::Abort;
@@ -22,45 +22,42 @@ pub(crate) fn same_in<T: Copy + Debug + PartialEq, C: Debug>(
     assert_eq!(rt; found, wanted, "of {case:?}");
 }
 
+// The thing that was made. An error ends the test here, so that callers have none to meet: each `?`
+// would let go of all that lives there.
+pub(crate) fn made<T, E: Debug + Drop>(rt: &impl Abort, found: Result<T, E>) -> T {
+    found.expect(rt, "an error in place of what a test needs")
+}
+
 // The value that holds these bytes.
-pub(crate) fn bytes(alloc: Global, text: &[u8]) -> Result<Value, AllocError> {
-    Ok(Value::Bytes(Bytes::from(Vec::from_slice(alloc, text)?)))
+pub(crate) fn bytes(rt: &impl Abort, alloc: Global, text: &[u8]) -> Value {
+    Value::Bytes(Bytes::from(made(rt, Vec::from_slice(alloc, text))))
 }
 
 // A list of names of one byte each.
-pub(crate) fn names(alloc: Global, letters: &[u8]) -> Result<Vec<Vec<u8>>, AllocError> {
+pub(crate) fn names(rt: &impl Abort, alloc: Global, letters: &[u8]) -> Vec<Vec<u8>> {
     let mut names = Vec::new(alloc);
     for letter in letters {
-        let name = Vec::from_slice(alloc, &[*letter])?;
-        match names.push(name) {
-            Ok(()) => {}
-            Err(_) => return Err(AllocError),
-        }
+        let name = made(rt, Vec::from_slice(alloc, &[*letter]));
+        made(rt, names.push(name));
     }
-    Ok(names)
+    names
 }
 
 // Named parameters: each letter names the number of its place, from 1 on.
-pub(crate) fn named(alloc: Global, letters: &[u8]) -> Result<Params, AllocError> {
+pub(crate) fn named(rt: &impl Abort, alloc: Global, letters: &[u8]) -> Params {
     let mut entries = HashMap::new(alloc);
     for (i, letter) in letters.iter().enumerate() {
-        let name = Vec::from_slice(alloc, &[*letter])?;
-        match entries.insert(name, Value::UInt(i as u64 + 1)) {
-            Ok(_) => {}
-            Err(_) => return Err(AllocError),
-        }
+        let name = made(rt, Vec::from_slice(alloc, &[*letter]));
+        made(rt, entries.insert(name, Value::UInt(i as u64 + 1)));
     }
-    Ok(Params::Named(entries))
+    Params::Named(entries)
 }
 
 // Positional parameters: these numbers.
-pub(crate) fn positional(alloc: Global, numbers: &[u64]) -> Result<Params, AllocError> {
+pub(crate) fn positional(rt: &impl Abort, alloc: Global, numbers: &[u64]) -> Params {
     let mut values = Vec::new(alloc);
     for number in numbers {
-        match values.push(Value::UInt(*number)) {
-            Ok(()) => {}
-            Err(_) => return Err(AllocError),
-        }
+        made(rt, values.push(Value::UInt(*number)));
     }
-    Ok(Params::Positional(values))
+    Params::Positional(values)
 }
