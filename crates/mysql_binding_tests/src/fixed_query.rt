@@ -60,7 +60,7 @@ pub fn nothing(alloc: Global) -> Result<Vec<u8>, AllocError> {
 #[cfg(test)]
 mod tests {
     use super::*;
-    use crate::shared::{is_text, made};
+    use crate::shared::{answer_of, is_text};
 
     const PAID_ORDERS: &[u8] = b"SELECT * FROM orders -- ?\nWHERE total>-3 \
         AND (name='x\\' OR \\'1\\'=\\'1' OR paid=1)";
@@ -70,8 +70,12 @@ mod tests {
     #[test]
     fn by_name(rt: HostRuntime) {
         let wanted = b"SELECT ':id' FROM customer WHERE id=42 AND 'x\\' OR \\'1\\'=\\'1' <> name";
-        is_text(&rt, made(&rt, customer(rt.alloc(), 42, HOSTILE)), wanted);
-        is_text(&rt, made(&rt, twice(rt.alloc(), 7)), b"SELECT 7*7");
+        is_text(
+            &rt,
+            answer_of(&rt, customer(rt.alloc(), 42, HOSTILE)),
+            wanted,
+        );
+        is_text(&rt, answer_of(&rt, twice(rt.alloc(), 7)), b"SELECT 7*7");
     }
 
     #[test]
@@ -79,7 +83,7 @@ mod tests {
         let wanted = b"SELECT ':id' FROM customer WHERE id=42 AND '\\'' OR 1=1 -- ' <> name";
         is_text(
             &rt,
-            made(&rt, customer_in(rt.alloc(), 42, "\\' OR 1=1 -- ")),
+            answer_of(&rt, customer_in(rt.alloc(), 42, "\\' OR 1=1 -- ")),
             wanted,
         );
     }
@@ -88,24 +92,32 @@ mod tests {
     fn by_position(rt: HostRuntime) {
         is_text(
             &rt,
-            made(&rt, orders(rt.alloc(), -3, Some(HOSTILE), true)),
+            answer_of(&rt, orders(rt.alloc(), -3, Some(HOSTILE), true)),
             PAID_ORDERS,
         );
         let wanted = b"SELECT * FROM orders -- ?\nWHERE total>0 AND (name=NULL OR paid=0)";
-        is_text(&rt, made(&rt, orders(rt.alloc(), 0, None, false)), wanted);
+        is_text(
+            &rt,
+            answer_of(&rt, orders(rt.alloc(), 0, None, false)),
+            wanted,
+        );
     }
 
     #[test]
     fn by_position_without_backslashes(rt: HostRuntime) {
         is_text(
             &rt,
-            made(&rt, path(rt.alloc(), "D:\\it's")),
+            answer_of(&rt, path(rt.alloc(), "D:\\it's")),
             b"SELECT 'C:\\', 'D:\\it''s'",
         );
     }
 
     #[test]
     fn without_places(rt: HostRuntime) {
-        is_text(&rt, made(&rt, nothing(rt.alloc())), b"SELECT ':a', '?'");
+        is_text(
+            &rt,
+            answer_of(&rt, nothing(rt.alloc())),
+            b"SELECT ':a', '?'",
+        );
     }
 }

@@ -1,6 +1,6 @@
 //! Values that try to leave their literals.
 use crate::shared::{
-    Given, Plain, WITH_BACKSLASHES, WITHOUT_BACKSLASHES, are_bound_by, is_bound, made,
+    Given, Plain, WITH_BACKSLASHES, WITHOUT_BACKSLASHES, answer_of, are_bound_by, is_bound,
     string_is_bound_by,
 };
 use std::alloc::{AllocError, Global};
@@ -53,7 +53,7 @@ fn literal_without_backslashes(alloc: Global, byte: u8) -> Result<Vec<u8>, Alloc
 #[test]
 fn each_value_of_one_byte(rt: HostRuntime) {
     for byte in 0..=255u8 {
-        let wanted = made(&rt, literal(rt.alloc(), byte));
+        let wanted = answer_of(&rt, literal(rt.alloc(), byte));
         string_is_bound_by(&rt, rt.alloc(), WITH_BACKSLASHES, b"?", &[byte], &wanted);
     }
 }
@@ -61,7 +61,7 @@ fn each_value_of_one_byte(rt: HostRuntime) {
 #[test]
 fn each_value_of_one_byte_without_backslashes(rt: HostRuntime) {
     for byte in 0..=255u8 {
-        let wanted = made(&rt, literal_without_backslashes(rt.alloc(), byte));
+        let wanted = answer_of(&rt, literal_without_backslashes(rt.alloc(), byte));
         string_is_bound_by(&rt, rt.alloc(), WITHOUT_BACKSLASHES, b"?", &[byte], &wanted);
     }
 }

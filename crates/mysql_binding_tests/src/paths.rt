@@ -120,7 +120,7 @@ pub use mysql_wire_part::put_lenenc_str;
 #[cfg(test)]
 mod tests {
     use super::*;
-    use crate::shared::{made, same};
+    use crate::shared::{answer_of, same};
     use std::alloc::{AllocError, Global};
     use std::process::Abort;
 
@@ -145,8 +145,8 @@ mod tests {
     }
 
     fn has_literal(rt: &impl Abort, alloc: Global, row: &[u8], wanted: &str) {
-        let literal = made(rt, literal_of_cell(alloc, row));
-        let literal = made(rt, literal.ok_or("no literal"));
+        let literal = answer_of(rt, literal_of_cell(alloc, row));
+        let literal = answer_of(rt, literal.ok_or("no literal"));
         same(rt, literal.as_str(), wanted);
     }
 

@@ -23,10 +23,10 @@ pub(crate) fn same_in<T: Copy + Debug + PartialEq, C: Debug>(
     assert_eq!(rt; found, wanted, "of {case:?}");
 }
 
-/// The thing that was made. An error ends the test here, so that callers have none to meet: each `?`
+/// The answer of a call. An error ends the test here, so that callers have none to meet: each `?`
 /// would let go of all that lives there.
-pub(crate) fn made<T, E: Debug + Drop>(rt: &impl Abort, found: Result<T, E>) -> T {
-    found.expect(rt, "an error in place of what a test needs")
+pub(crate) fn answer_of<T, E: Debug + Drop>(rt: &impl Abort, found: Result<T, E>) -> T {
+    found.expect(rt, "an error in place of an answer")
 }
 
 /// The text is this.
@@ -36,7 +36,7 @@ pub(crate) fn is_text(rt: &impl Abort, text: Vec<u8>, wanted: &[u8]) {
 
 /// The error prints the message.
 pub(crate) fn says<E: Display + Drop>(rt: &impl Abort, alloc: Global, error: E, message: &str) {
-    let printed = made(rt, error.to_string(alloc));
+    let printed = answer_of(rt, error.to_string(alloc));
     same(rt, printed.as_str(), message);
 }
 
@@ -74,7 +74,7 @@ pub(crate) enum Refused<'a> {
 
 /// The value that holds these bytes.
 fn bytes(rt: &impl Abort, alloc: Global, text: &[u8]) -> Value {
-    Value::Bytes(Bytes::from(made(rt, Vec::from_slice(alloc, text))))
+    Value::Bytes(Bytes::from(answer_of(rt, Vec::from_slice(alloc, text))))
 }
 
 impl Plain<'_> {
@@ -94,8 +94,8 @@ impl Plain<'_> {
 fn named(rt: &impl Abort, alloc: Global, pairs: &[(&[u8], Plain<'_>)]) -> Params {
     let mut entries = HashMap::new(alloc);
     for (name, plain) in pairs {
-        let name = made(rt, Vec::from_slice(alloc, *name));
-        made(rt, entries.insert(name, plain.value(rt, alloc)));
+        let name = answer_of(rt, Vec::from_slice(alloc, *name));
+        answer_of(rt, entries.insert(name, plain.value(rt, alloc)));
     }
     Params::Named(entries)
 }
@@ -103,7 +103,7 @@ fn named(rt: &impl Abort, alloc: Global, pairs: &[(&[u8], Plain<'_>)]) -> Params
 fn positional(rt: &impl Abort, alloc: Global, plains: &[Plain<'_>]) -> Params {
     let mut values = Vec::new(alloc);
     for plain in plains {
-        made(rt, values.push(plain.value(rt, alloc)));
+        answer_of(rt, values.push(plain.value(rt, alloc)));
     }
     Params::Positional(values)
 }
@@ -120,7 +120,7 @@ impl Given<'_> {
 
 /// The refusal of a query whose params lack this name.
 fn missing(rt: &impl Abort, alloc: Global, name: &[u8]) -> BindError {
-    let missing = MissingNamedParameterError(made(rt, Vec::from_slice(alloc, name)));
+    let missing = MissingNamedParameterError(answer_of(rt, Vec::from_slice(alloc, name)));
     BindError::Params(ParamsError::Missing(missing))
 }
 

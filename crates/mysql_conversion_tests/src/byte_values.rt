@@ -1,5 +1,5 @@
 //! The values of bytes and texts.
-use crate::shared::{gives, has_bytes, made};
+use crate::shared::{answer_of, gives, has_bytes};
 use mysql_values::value::convert::{FromValue, ToValue, from_value_opt};
 use std::alloc::Global;
 use std::borrow::{CowSlice, CowStr};
@@ -12,7 +12,7 @@ fn comes_back<T: FromValue + ToValue + Debug + PartialEq + Drop>(
     alloc: Global,
     thing: &T,
 ) {
-    let value = made(rt, thing.to_value(alloc));
+    let value = answer_of(rt, thing.to_value(alloc));
     gives(rt, from_value_opt::<T>(value), thing, thing);
 }
 
@@ -23,7 +23,7 @@ fn text_has_bytes(rt: &impl Abort, alloc: Global, text: &str) {
     owned_text_has_bytes(
         rt,
         alloc,
-        made(rt, String::from_str(alloc, text)),
+        answer_of(rt, String::from_str(alloc, text)),
         text.as_bytes(),
     );
 }
@@ -45,7 +45,7 @@ fn texts_to_values(rt: HostRuntime) {
 fn bytes_have_bytes(rt: &impl Abort, alloc: Global, text: &[u8]) {
     has_bytes(rt, alloc, &text, text);
     has_bytes(rt, alloc, &CowSlice::Borrowed(text), text);
-    owned_bytes_have_bytes(rt, alloc, made(rt, Vec::from_slice(alloc, text)), text);
+    owned_bytes_have_bytes(rt, alloc, answer_of(rt, Vec::from_slice(alloc, text)), text);
 }
 
 fn owned_bytes_have_bytes(rt: &impl Abort, alloc: Global, owned: Vec<u8>, text: &[u8]) {

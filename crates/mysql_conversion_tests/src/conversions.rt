@@ -1,7 +1,7 @@
 //! Conversions to truth values, texts, bytes and optional things, and their way back.
 use crate::shared::{
-    bytes, comes_back, commits, converts, converts_by_std_traits, gives, gives_back, hands_back,
-    has_value, keeps_both, made, refused, refused_by_std_trait, refused_bytes,
+    answer_of, bytes, comes_back, commits, converts, converts_by_std_traits, gives, gives_back,
+    hands_back, has_value, keeps_both, refused, refused_by_std_trait, refused_bytes,
     refuses_other_variants, rolls_back, same, same_in, text_converts,
 };
 use mysql_values::value::convert::{
@@ -17,8 +17,8 @@ use std::time::Duration;
 
 // The value converts to the truth value, whose own value is 0 or 1.
 fn reads_truth(rt: &impl Abort, alloc: Global, value: Value, truth: bool) {
-    let kept = made(rt, value.clone());
-    let read: bool = made(rt, from_value_opt(value));
+    let kept = answer_of(rt, value.clone());
+    let read: bool = answer_of(rt, from_value_opt(value));
     same_in(rt, read, truth, &kept);
     has_value(rt, alloc, &read, &Value::Int(i64::from(truth)), &kept);
 }
@@ -76,14 +76,14 @@ fn way_back_of_texts(rt: HostRuntime) {
     keeps_both(
         &rt,
         alloc,
-        bool::get_intermediate(made(&rt, one.clone())),
+        bool::get_intermediate(answer_of(&rt, one.clone())),
         true,
         &one,
     );
     comes_back(
         &rt,
         alloc,
-        bool::get_intermediate(made(&rt, one.clone())),
+        bool::get_intermediate(answer_of(&rt, one.clone())),
         &one,
     );
 }
@@ -103,9 +103,9 @@ fn is_handed_back<Ir: IntoValue + Debug + PartialEq>(
 #[test]
 fn way_back_of_optional_things(rt: HostRuntime) {
     let alloc = rt.alloc();
-    let absent = made(&rt, Option::<u8>::get_intermediate(Value::NULL));
+    let absent = answer_of(&rt, Option::<u8>::get_intermediate(Value::NULL));
     is_handed_back(&rt, alloc, absent, &OptionIr2::None, &Value::NULL);
-    let present = made(&rt, Option::<u8>::get_intermediate(Value::Int(5)));
+    let present = answer_of(&rt, Option::<u8>::get_intermediate(Value::Int(5)));
     let ready = OptionIr2::Some(ParseIrOpt::Ready(5));
     is_handed_back(&rt, alloc, present, &ready, &Value::UInt(5));
 }
@@ -126,7 +126,10 @@ fn intermediate_of_value(rt: &impl Abort, ir: ValueIr) {
 
 #[test]
 fn intermediates_of_values(rt: HostRuntime) {
-    intermediate_of_value(&rt, made(&rt, Value::get_intermediate(Value::Float(7))));
+    intermediate_of_value(
+        &rt,
+        answer_of(&rt, Value::get_intermediate(Value::Float(7))),
+    );
     let null = ValueIr(Value::NULL);
     gives(&rt, ValueIr::try_from(Value::NULL), &null, &null);
 }
@@ -135,7 +138,7 @@ fn intermediates_of_values(rt: HostRuntime) {
 fn numbers_by_std_traits(rt: HostRuntime) {
     converts_by_std_traits(&rt, Value::Int(5), &ParseIrOpt::Ready(5), &5u8);
     refused_by_std_trait::<ParseIrOpt<u8>>(&rt, Value::Int(300));
-    let ir = made(
+    let ir = answer_of(
         &rt,
         ParseIrOpt::<bool>::try_from(bytes(&rt, rt.alloc(), b"1")),
     );
@@ -144,9 +147,9 @@ fn numbers_by_std_traits(rt: HostRuntime) {
 
 #[test]
 fn optional_things_by_std_traits(rt: HostRuntime) {
-    let ir = made(&rt, OptionIr2::<u8>::try_from(Value::NULL));
+    let ir = answer_of(&rt, OptionIr2::<u8>::try_from(Value::NULL));
     same(&rt, Option::<u8>::from(ir), None);
-    let ir = made(&rt, OptionIr2::<u8>::try_from(Value::UInt(5)));
+    let ir = answer_of(&rt, OptionIr2::<u8>::try_from(Value::UInt(5)));
     same(&rt, Option::<u8>::from(ir), Some(5));
 }
 
@@ -164,9 +167,19 @@ fn bytes_become<T: TryFrom<Value, Error = FromValueError> + Debug + PartialEq + 
 #[test]
 fn texts_by_std_traits(rt: HostRuntime) {
     let alloc = rt.alloc();
-    bytes_become(&rt, alloc, b"ab", made(&rt, String::from_str(alloc, "ab")));
+    bytes_become(
+        &rt,
+        alloc,
+        b"ab",
+        answer_of(&rt, String::from_str(alloc, "ab")),
+    );
     bytes_become(&rt, alloc, b"ab", *b"ab");
-    bytes_become(&rt, alloc, b"ab", made(&rt, Vec::from_slice(alloc, b"ab")));
+    bytes_become(
+        &rt,
+        alloc,
+        b"ab",
+        answer_of(&rt, Vec::from_slice(alloc, b"ab")),
+    );
 }
 
 #[test]
@@ -201,13 +214,13 @@ fn bytes_come_back<T: FromValue + IntoValue>(rt: &impl Abort, alloc: Global, tex
     comes_back(
         rt,
         alloc,
-        T::get_intermediate(made(rt, value.clone())),
+        T::get_intermediate(answer_of(rt, value.clone())),
         &value,
     );
     comes_back(
         rt,
         alloc,
-        from_value_opt::<T>(made(rt, value.clone())),
+        from_value_opt::<T>(answer_of(rt, value.clone())),
         &value,
     );
 }
@@ -250,7 +263,7 @@ fn refused_texts_and_bytes(rt: HostRuntime) {
 fn refused_as_cow_text(rt: &impl Abort, value: &Value) {
     gives_back(
         rt,
-        from_value_opt::<CowStr<'static>>(made(rt, value.clone())),
+        from_value_opt::<CowStr<'static>>(answer_of(rt, value.clone())),
         value,
     );
 }
@@ -258,7 +271,7 @@ fn refused_as_cow_text(rt: &impl Abort, value: &Value) {
 fn refused_as_cow_bytes(rt: &impl Abort, value: &Value) {
     gives_back(
         rt,
-        from_value_opt::<CowSlice<'static, u8>>(made(rt, value.clone())),
+        from_value_opt::<CowSlice<'static, u8>>(answer_of(rt, value.clone())),
         value,
     );
 }
@@ -335,12 +348,12 @@ fn becomes_bytes<T: Into<Value> + Drop>(rt: &impl Abort, alloc: Global, thing: T
 }
 
 fn owned_become_value(rt: &impl Abort, alloc: Global, text: &str) {
-    let items = made(rt, Vec::from_slice(alloc, text.as_bytes()));
+    let items = answer_of(rt, Vec::from_slice(alloc, text.as_bytes()));
     becomes_bytes(rt, alloc, items, text.as_bytes());
     becomes_bytes(
         rt,
         alloc,
-        made(rt, String::from_str(alloc, text)),
+        answer_of(rt, String::from_str(alloc, text)),
         text.as_bytes(),
     );
 }
@@ -364,7 +377,7 @@ fn values_through_dyn(rt: HostRuntime) {
 
 // What is printed of a refusal.
 fn says(rt: &impl Abort, alloc: Global, refusal: &impl Display, message: &str) {
-    let printed = made(rt, refusal.to_string(alloc));
+    let printed = answer_of(rt, refusal.to_string(alloc));
     same(rt, printed.as_str(), message);
 }
 

@@ -1,6 +1,6 @@
 //! Conversions of durations, both ways.
 use crate::shared::{
-    bytes, commits, converts, converts_by_std_traits, has_value, keeps_both, made, refused,
+    answer_of, bytes, commits, converts, converts_by_std_traits, has_value, keeps_both, refused,
     refused_by_std_trait, same, same_in,
 };
 use mysql_values::value::Value;
@@ -11,11 +11,11 @@ use std::time::Duration;
 
 // The value converts to the duration, and its intermediate keeps both.
 fn reads_duration(rt: &impl Abort, alloc: Global, value: Value, duration: Duration) {
-    let found = Duration::get_intermediate(made(rt, value.clone()));
+    let found = Duration::get_intermediate(answer_of(rt, value.clone()));
     keeps_both(rt, alloc, found, duration, &value);
     commits(
         rt,
-        Duration::get_intermediate(made(rt, value.clone())),
+        Duration::get_intermediate(answer_of(rt, value.clone())),
         &duration,
     );
     converts::<Duration>(rt, value, &duration);
@@ -128,7 +128,7 @@ fn durations_too_long_for_a_value(rt: HostRuntime) {
 }
 
 fn text_by_std_traits(rt: &impl Abort, value: Value, duration: Duration) {
-    let intermediate = ParseIrOpt::Parsed(duration, made(rt, value.clone()));
+    let intermediate = ParseIrOpt::Parsed(duration, answer_of(rt, value.clone()));
     converts_by_std_traits(rt, value, &intermediate, &duration);
 }
 
@@ -136,7 +136,7 @@ fn text_by_std_traits(rt: &impl Abort, value: Value, duration: Duration) {
 fn durations_by_std_traits(rt: HostRuntime) {
     let value = bytes(&rt, rt.alloc(), b"00:00:01.5");
     text_by_std_traits(&rt, value, Duration::new(1, 500_000_000));
-    let ir = made(
+    let ir = answer_of(
         &rt,
         Duration::get_intermediate(Value::Time(false, 0, 0, 0, 2, 0)),
     );

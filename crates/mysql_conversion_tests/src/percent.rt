@@ -65,12 +65,12 @@ impl FromValue for Percent {
 #[cfg(test)]
 mod tests {
     use super::*;
-    use crate::shared::{converts, hands_back, made, refused, refused_bytes, same};
+    use crate::shared::{answer_of, converts, hands_back, refused, refused_bytes, same};
     use mysql_values::value::convert::from_value;
     use std::process::Abort;
 
     fn is_forty_two(rt: &impl Abort, alloc: Global, value: Value) {
-        let ir = made(rt, Percent::get_intermediate(made(rt, value.clone())));
+        let ir = answer_of(rt, Percent::get_intermediate(answer_of(rt, value.clone())));
         hands_back(rt, alloc, ir, &Value::UInt(42), &value);
         converts(rt, value, &Percent(42));
     }

@@ -23,10 +23,10 @@ pub(crate) fn same_in<T: Copy + Debug + PartialEq, C: Debug>(
     assert_eq!(rt; found, wanted, "of {case:?}");
 }
 
-// The thing that was made. An error ends the test here, so that callers have none to meet: each `?`
+// The answer of a call. An error ends the test here, so that callers have none to meet: each `?`
 // would let go of all that lives there.
-pub(crate) fn made<T, E: Debug + Drop>(rt: &impl Abort, found: Result<T, E>) -> T {
-    found.expect(rt, "an error in place of what a test needs")
+pub(crate) fn answer_of<T, E: Debug + Drop>(rt: &impl Abort, found: Result<T, E>) -> T {
+    found.expect(rt, "an error in place of an answer")
 }
 
 // What is found is the wanted thing and no error.
@@ -56,7 +56,7 @@ pub(crate) fn gives_back<T: Drop>(
 
 // The value that holds these bytes.
 pub(crate) fn bytes(rt: &impl Abort, alloc: Global, text: &[u8]) -> Value {
-    Value::Bytes(Bytes::from(made(rt, Vec::from_slice(alloc, text))))
+    Value::Bytes(Bytes::from(answer_of(rt, Vec::from_slice(alloc, text))))
 }
 
 // The thing's own value is the wanted one, by the bound alone, as generic callers do it.
@@ -82,7 +82,7 @@ pub(crate) fn converts<T: FromValue + Debug + PartialEq + Drop>(
     value: Value,
     wanted: &T,
 ) {
-    let kept = made(rt, value.clone());
+    let kept = answer_of(rt, value.clone());
     gives(rt, from_value_opt::<T>(value), wanted, &kept);
 }
 
@@ -104,8 +104,8 @@ pub(crate) fn reads<T: FromValue + ToValue + Drop>(
     value: Value,
     wanted: &Value,
 ) {
-    let kept = made(rt, value.clone());
-    let thing: T = made(rt, from_value_opt(value));
+    let kept = answer_of(rt, value.clone());
+    let thing: T = answer_of(rt, from_value_opt(value));
     has_value(rt, alloc, &thing, wanted, &kept);
 }
 
@@ -127,7 +127,7 @@ pub(crate) fn comes_back<I: IntoValue>(
     found: Result<I, FromValueError>,
     value: &Value,
 ) {
-    let thing = made(rt, found);
+    let thing = answer_of(rt, found);
     hands_back(rt, alloc, thing, value, value);
 }
 
@@ -137,7 +137,7 @@ pub(crate) fn commits<T: Debug + PartialEq + Drop>(
     found: Result<ParseIrOpt<T>, FromValueError>,
     wanted: &T,
 ) {
-    let ir = made(rt, found);
+    let ir = answer_of(rt, found);
     same(rt, &ir.commit(), wanted);
 }
 
@@ -148,7 +148,7 @@ pub(crate) fn rolls_back<T: ToValue + Drop>(
     found: Result<ParseIrOpt<T>, FromValueError>,
     wanted: &Value,
 ) {
-    let ir = made(rt, found);
+    let ir = answer_of(rt, found);
     gives(rt, ir.rollback(alloc), wanted, wanted);
 }
 
@@ -160,8 +160,8 @@ pub(crate) fn keeps_both<T: ToValue + Debug + PartialEq + Drop>(
     thing: T,
     value: &Value,
 ) {
-    let wanted = ParseIrOpt::Parsed(thing, made(rt, value.clone()));
-    let ir = made(rt, found);
+    let wanted = ParseIrOpt::Parsed(thing, answer_of(rt, value.clone()));
+    let ir = answer_of(rt, found);
     same_in(rt, &ir, &wanted, value);
     gives(rt, ir.rollback(alloc), value, value);
 }
@@ -171,7 +171,7 @@ pub(crate) fn converts_by_std_traits<
     Ir: TryFrom<Value, Error = FromValueError> + Debug + PartialEq + Drop,
     T: From<Ir> + Debug + PartialEq + Drop,
 >(rt: &impl Abort, value: Value, intermediate: &Ir, thing: &T) {
-    let ir = made(rt, Ir::try_from(value));
+    let ir = answer_of(rt, Ir::try_from(value));
     same(rt, &ir, intermediate);
     same(rt, &T::from(ir), thing);
 }
@@ -181,13 +181,13 @@ pub(crate) fn refused_by_std_trait<Ir: TryFrom<Value, Error = FromValueError> + 
     rt: &impl Abort,
     value: Value,
 ) {
-    let kept = made(rt, value.clone());
+    let kept = answer_of(rt, value.clone());
     gives_back(rt, Ir::try_from(value), &kept);
 }
 
 // A value that doesn't convert is handed back.
 pub(crate) fn refused<T: FromValue + Drop>(rt: &impl Abort, value: Value) {
-    let kept = made(rt, value.clone());
+    let kept = answer_of(rt, value.clone());
     gives_back(rt, from_value_opt::<T>(value), &kept);
 }
 

@@ -1,5 +1,7 @@
 //! Conversions to whole numbers, and back.
-use crate::shared::{bytes, has_value, made, reads, refused, refused_bytes, same, text_converts};
+use crate::shared::{
+    answer_of, bytes, has_value, reads, refused, refused_bytes, same, text_converts,
+};
 use mysql_values::value::Value;
 use mysql_values::value::convert::{FromValue, ToValue, WholeNumber};
 use std::alloc::Global;
@@ -7,7 +9,7 @@ use std::process::Abort;
 
 // The text of the number, as a value.
 fn text_of(rt: &impl Abort, alloc: Global, number: i128) -> Value {
-    let text = made(rt, number.to_string(alloc));
+    let text = answer_of(rt, number.to_string(alloc));
     bytes(rt, alloc, text.as_bytes())
 }
 
@@ -72,7 +74,7 @@ fn least_and_greatest(rt: HostRuntime) {
 // The text converts to a number whose value is that text.
 fn text_comes_back<T: FromValue + ToValue + Drop>(rt: &impl Abort, alloc: Global, text: &str) {
     let value = bytes(rt, alloc, text.as_bytes());
-    reads::<T>(rt, alloc, made(rt, value.clone()), &value);
+    reads::<T>(rt, alloc, answer_of(rt, value.clone()), &value);
 }
 
 // Beyond 64 bits, and within 127.

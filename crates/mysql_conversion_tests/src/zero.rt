@@ -46,7 +46,7 @@ impl FromValue for Zero {
 #[cfg(test)]
 mod tests {
     use super::*;
-    use crate::shared::{comes_back, made, refused};
+    use crate::shared::{answer_of, comes_back, refused};
     use mysql_values::value::convert::from_value_opt;
     use std::alloc::Global;
     use std::process::Abort;
@@ -55,7 +55,7 @@ mod tests {
         comes_back(
             rt,
             alloc,
-            Zero::get_intermediate(made(rt, value.clone())),
+            Zero::get_intermediate(answer_of(rt, value.clone())),
             &value,
         );
     }
@@ -68,10 +68,10 @@ mod tests {
 
     #[test]
     fn converted(rt: HostRuntime) {
-        let _zero: Zero = made(&rt, from_value_opt(Value::Int(0)));
-        let optional: Option<Zero> = made(&rt, from_value_opt(Value::Int(0)));
+        let _zero: Zero = answer_of(&rt, from_value_opt(Value::Int(0)));
+        let optional: Option<Zero> = answer_of(&rt, from_value_opt(Value::Int(0)));
         assert!(rt; optional.is_some());
-        let optional: Option<Zero> = made(&rt, from_value_opt(Value::NULL));
+        let optional: Option<Zero> = answer_of(&rt, from_value_opt(Value::NULL));
         assert!(rt; optional.is_none());
         refused::<Zero>(&rt, Value::Int(1));
     }

@@ -1,6 +1,6 @@
 //! Which things are asked for their value, and how often: each once, up to the first that decides.
 use crate::own_type::Counted;
-use crate::shared::{made, same_in};
+use crate::shared::{answer_of, same_in};
 use mysql_params::params::{Params, ToPairs, ToParams, ToParamsError};
 use mysql_values::value::convert::{ToValue, ToValueError};
 use std::alloc::Global;
@@ -80,7 +80,7 @@ fn make(
     match maker {
         Maker::List => {
             let list = Vec::from_array(alloc, [&things[0], &things[1], &things[2]]);
-            made(rt, list).to_params(alloc)
+            answer_of(rt, list).to_params(alloc)
         }
         Maker::Objects => objects(alloc, things),
         Maker::Tuple => (&things[0], &things[1], &things[2]).to_params(alloc),
@@ -116,7 +116,7 @@ fn nothing_is_asked_after_a_refused_thing(rt: HostRuntime) {
 
 /// The pairs are refused for the name `a`, and so often the things were asked.
 fn is_redefined(rt: &impl Abort, alloc: Global, names: &[u8; 3], wanted: [u32; 3]) {
-    let error = ToParamsError::Redefined(made(rt, Vec::from_slice(alloc, b"a")));
+    let error = ToParamsError::Redefined(answer_of(rt, Vec::from_slice(alloc, b"a")));
     let things = three_things(Duration::from_secs(2));
     same_in(
         rt,
@@ -125,7 +125,7 @@ fn is_redefined(rt: &impl Abort, alloc: Global, names: &[u8; 3], wanted: [u32; 3
         &names,
     );
     same_in(rt, &times_asked(&things), &wanted, &names);
-    let error = ToParamsError::Redefined(made(rt, Vec::from_slice(alloc, b"a")));
+    let error = ToParamsError::Redefined(answer_of(rt, Vec::from_slice(alloc, b"a")));
     let things = three_things(Duration::from_secs(2));
     let refusal = pairs_of_objects(alloc, names, &things).err();
     same_in(rt, &refusal, &Some(error), &(names, "of objects"));

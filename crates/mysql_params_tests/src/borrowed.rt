@@ -1,6 +1,6 @@
 //! What parameters give to the names of a query, where it stands in them.
 use crate::lookups::{LOOKUPS, misses};
-use crate::shared::{made, named, positional, same, same_in};
+use crate::shared::{answer_of, named, positional, same, same_in};
 use mysql_params::params::{Params, ParamsConfusionError, ParamsError};
 use mysql_params_core::params::place_values;
 use mysql_values::value::Value;
@@ -11,7 +11,7 @@ use std::process::Abort;
 fn slices<'a>(rt: &impl Abort, alloc: Global, letters: &'a [u8]) -> Vec<&'a [u8]> {
     let mut names = Vec::new(alloc);
     for i in 0..letters.len() {
-        made(rt, names.push(&letters[i..i + 1]));
+        answer_of(rt, names.push(&letters[i..i + 1]));
     }
     names
 }
@@ -48,7 +48,7 @@ fn named_values_in_place(rt: HostRuntime) {
         match missing {
             None => are_numbers(
                 &rt,
-                made(&rt, place_values(alloc, &params, names)).as_slice(),
+                answer_of(&rt, place_values(alloc, &params, names)).as_slice(),
                 *numbers,
                 *case,
             ),
@@ -65,14 +65,14 @@ fn values_in_place_without_names(rt: HostRuntime) {
     let alloc = rt.alloc();
     are_numbers(
         &rt,
-        made(&rt, place_values(alloc, &Params::Empty, &[])).as_slice(),
+        answer_of(&rt, place_values(alloc, &Params::Empty, &[])).as_slice(),
         &[],
         b"",
     );
     let params = positional(&rt, alloc, &[1, 2]);
     are_numbers(
         &rt,
-        made(&rt, place_values(alloc, &params, &[])).as_slice(),
+        answer_of(&rt, place_values(alloc, &params, &[])).as_slice(),
         &[1, 2],
         b"",
     );

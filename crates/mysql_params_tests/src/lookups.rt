@@ -1,5 +1,5 @@
 //! What parameters give to the names of a query.
-use crate::shared::{bytes, made, named, names, positional, same, same_in};
+use crate::shared::{answer_of, bytes, named, names, positional, same, same_in};
 use mysql_params::laws::{
     into_positional_error_equality, missing_named_parameter_error_equality,
     params_confusion_error_equality, params_equality, params_error_equality,
@@ -29,7 +29,7 @@ pub(crate) const LOOKUPS: &[(&[u8], &[u8], &[u64], Option<(u8, u8)>)] = &[
 ];
 
 pub(crate) fn misses(rt: &impl Abort, alloc: Global, letter: u8) -> MissingNamedParameterError {
-    let name = made(rt, Vec::from_slice(alloc, &[letter]));
+    let name = answer_of(rt, Vec::from_slice(alloc, &[letter]));
     MissingNamedParameterError(name)
 }
 
@@ -64,7 +64,7 @@ fn gives(
     list: Option<&[Vec<u8>]>,
     numbers: &[u64],
 ) {
-    let values = Params::Positional(made(rt, params.into_values(alloc, list)));
+    let values = Params::Positional(answer_of(rt, params.into_values(alloc, list)));
     same_in(rt, &values, &positional(rt, alloc, numbers), &numbers);
 }
 
@@ -92,7 +92,7 @@ fn gives_by_position(
     list: &[Vec<u8>],
     wanted: &Params,
 ) {
-    let found = made(rt, params.into_positional(alloc, list));
+    let found = answer_of(rt, params.into_positional(alloc, list));
     same_in(rt, &found, wanted, &list);
 }
 
@@ -146,15 +146,15 @@ fn other_parameters(rt: HostRuntime) {
     );
     gives_by_position(&rt, alloc, Params::Empty, list, &Params::Empty);
     let kept = positional(&rt, alloc, &[1]);
-    gives_by_position(&rt, alloc, made(&rt, kept.clone()), list, &kept);
+    gives_by_position(&rt, alloc, answer_of(&rt, kept.clone()), list, &kept);
 }
 
 #[test]
 fn a_value_given_twice(rt: HostRuntime) {
     let alloc = rt.alloc();
-    let params = made(&rt, Params::from_pairs(alloc, &[("a", Value::Int(1))]));
+    let params = answer_of(&rt, Params::from_pairs(alloc, &[("a", Value::Int(1))]));
     let list = names(&rt, alloc, b"aa");
-    let values = made(&rt, params.into_values(alloc, Some(list.as_slice())));
+    let values = answer_of(&rt, params.into_values(alloc, Some(list.as_slice())));
     let wanted = [Value::Int(1), Value::Int(1)];
     same(&rt, values.as_slice(), wanted.as_slice());
 }
@@ -163,9 +163,9 @@ fn a_value_given_twice(rt: HostRuntime) {
 fn values_of_bytes(rt: HostRuntime) {
     let alloc = rt.alloc();
     let pairs = [(b"a".as_slice(), "x"), (b"b".as_slice(), "y")];
-    let params = made(&rt, Params::from_pairs(alloc, &pairs));
+    let params = answer_of(&rt, Params::from_pairs(alloc, &pairs));
     let list = names(&rt, alloc, b"bab");
-    let values = made(&rt, params.into_values(alloc, Some(list.as_slice())));
+    let values = answer_of(&rt, params.into_values(alloc, Some(list.as_slice())));
     let wanted = [
         bytes(&rt, alloc, b"y"),
         bytes(&rt, alloc, b"x"),
@@ -176,7 +176,7 @@ fn values_of_bytes(rt: HostRuntime) {
 
 // A copy of the parameters is the same.
 fn is_copied(rt: &impl Abort, params: &Params) {
-    same(rt, &made(rt, params.clone()), params);
+    same(rt, &answer_of(rt, params.clone()), params);
 }
 
 fn differ(rt: &impl Abort, first: Params, second: Params) {
@@ -199,13 +199,13 @@ fn equality_and_copies(rt: HostRuntime) {
         positional(&rt, alloc, &[1, 2]),
     );
     let missing = misses(&rt, alloc, b'a');
-    same(&rt, &made(&rt, missing.clone()), &missing);
+    same(&rt, &answer_of(&rt, missing.clone()), &missing);
     is_error_copied(&rt, &ParamsError::Missing(missing));
 }
 
 // A copy of the error is the same.
 fn is_error_copied(rt: &impl Abort, error: &ParamsError) {
-    same(rt, &made(rt, error.clone()), error);
+    same(rt, &answer_of(rt, error.clone()), error);
 }
 
 #[test]
@@ -249,8 +249,8 @@ fn equality_of_refusals(rt: HostRuntime) {
     let other = IntoPositionalError::Missing(misses(&rt, alloc, b'b'));
     assert!(rt; into_positional_error_equality(&missing, &missing));
     assert!(rt; !into_positional_error_equality(&missing, &other));
-    let again = ToParamsError::Redefined(made(&rt, Vec::from_slice(alloc, b"a")));
-    let other = ToParamsError::Redefined(made(&rt, Vec::from_slice(alloc, b"b")));
+    let again = ToParamsError::Redefined(answer_of(&rt, Vec::from_slice(alloc, b"a")));
+    let other = ToParamsError::Redefined(answer_of(&rt, Vec::from_slice(alloc, b"b")));
     assert!(rt; to_params_error_equality(&again, &again));
     assert!(rt; !to_params_error_equality(&again, &other));
 }

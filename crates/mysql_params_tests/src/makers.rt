@@ -1,6 +1,6 @@
 //! What things make parameters.
 use crate::own_type::Counted;
-use crate::shared::{bytes, made, named, positional, same};
+use crate::shared::{answer_of, bytes, named, positional, same};
 use mysql_params::params::{Params, ToName, ToParams, ToParamsError};
 use mysql_values::value::Value;
 use mysql_values::value::convert::{ToValue, ToValueError};
@@ -15,7 +15,7 @@ fn params_of<T: ToParams>(alloc: Global, things: &T) -> Result<Params, ToParamsE
 
 // The things make these parameters.
 fn make<T: ToParams>(rt: &impl Abort, alloc: Global, things: &T, wanted: &Params) {
-    same(rt, &made(rt, params_of(alloc, things)), wanted);
+    same(rt, &answer_of(rt, params_of(alloc, things)), wanted);
 }
 
 // The things make positional parameters of these numbers.
@@ -30,12 +30,12 @@ fn pairs_make<N: ToName, T: ToValue>(
     pairs: &[(N, T)],
     wanted: &Params,
 ) {
-    same(rt, &made(rt, Params::from_pairs(alloc, pairs)), wanted);
+    same(rt, &answer_of(rt, Params::from_pairs(alloc, pairs)), wanted);
 }
 
 // The value of the thing is the wanted one.
 fn has_value<T: ToValue>(rt: &impl Abort, alloc: Global, thing: &T, wanted: &Value) {
-    same(rt, &made(rt, thing.to_value(alloc)), wanted);
+    same(rt, &answer_of(rt, thing.to_value(alloc)), wanted);
 }
 
 // Through the bound alone.
@@ -66,14 +66,14 @@ fn no_things(rt: HostRuntime) {
     let pairs: [(&[u8], u8); 0] = [];
     pairs_make(&rt, alloc, &pairs, &none);
     let pairs: [(&[u8], &dyn ToValue); 0] = [];
-    let params = made(&rt, Params::from_objects(alloc, &pairs));
+    let params = answer_of(&rt, Params::from_objects(alloc, &pairs));
     same(&rt, &params, &none);
 }
 
 #[test]
 fn lists(rt: HostRuntime) {
     let alloc = rt.alloc();
-    let list = made(&rt, Vec::from_slice(alloc, &[1u64, 2, 2]));
+    let list = answer_of(&rt, Vec::from_slice(alloc, &[1u64, 2, 2]));
     make_numbers(&rt, alloc, &list, &[1, 2, 2]);
     make_numbers(&rt, alloc, &&list, &[1, 2, 2]);
     make(
@@ -129,7 +129,7 @@ fn objects(rt: HostRuntime) {
         Value::NULL,
         Value::Time(false, 0, 0, 0, 7, 0),
     ];
-    let wanted = made(&rt, Vec::from_array(alloc, values));
+    let wanted = answer_of(&rt, Vec::from_array(alloc, values));
     make(&rt, alloc, &objects.as_slice(), &Params::Positional(wanted));
     same(&rt, own.times_asked(), 1);
     let twice: [&dyn ToValue; 2] = [&2u8, &2u8];
@@ -138,7 +138,7 @@ fn objects(rt: HostRuntime) {
 
 // The pairs are refused for the name `a`.
 fn is_redefined(rt: &impl Abort, alloc: Global, pairs: &[(&str, u8)]) {
-    let error = ToParamsError::Redefined(made(rt, Vec::from_slice(alloc, b"a")));
+    let error = ToParamsError::Redefined(answer_of(rt, Vec::from_slice(alloc, b"a")));
     same(rt, &Params::from_pairs(alloc, pairs).err(), &Some(error));
 }
 
@@ -155,7 +155,7 @@ fn pairs(rt: HostRuntime) {
     is_redefined(&rt, alloc, &[("a", 1), ("b", 2), ("a", 3)]);
 
     let pairs: [(&[u8], &dyn ToValue); 2] = [(b"a", &1u8), (b"b", &"x")];
-    let params = made(&rt, Params::from_objects(alloc, &pairs));
+    let params = answer_of(&rt, Params::from_objects(alloc, &pairs));
     let values = [("a", Value::UInt(1)), ("b", bytes(&rt, alloc, b"x"))];
     pairs_make(&rt, alloc, &values, &params);
 }
@@ -174,7 +174,7 @@ fn refused_things(rt: HostRuntime) {
     let long = Duration::from_secs(371085174374400);
     let longer = Duration::from_secs(371085174374401);
     is_too_long(&rt, params_of(alloc, &(1u8, long, longer)), long);
-    let list = made(&rt, Vec::from_array(alloc, [long, longer]));
+    let list = answer_of(&rt, Vec::from_array(alloc, [long, longer]));
     is_too_long(&rt, params_of(alloc, &list), long);
     let objects: [&dyn ToValue; 3] = [&1u8, &long, &longer];
     is_too_long(&rt, params_of(alloc, &objects.as_slice()), long);
@@ -188,7 +188,7 @@ fn refused_things(rt: HostRuntime) {
 fn names_of_every_kind(rt: HostRuntime) {
     let alloc = rt.alloc();
     assert!(rt; has_bytes(&b"ab".as_slice(), b"ab"));
-    assert!(rt; has_bytes(&made(&rt, Vec::from_slice(alloc, b"ab")), b"ab"));
+    assert!(rt; has_bytes(&answer_of(&rt, Vec::from_slice(alloc, b"ab")), b"ab"));
     assert!(rt; has_bytes(&"ab", b"ab"));
-    assert!(rt; has_bytes(&made(&rt, String::from_str(alloc, "ab")), b"ab"));
+    assert!(rt; has_bytes(&answer_of(&rt, String::from_str(alloc, "ab")), b"ab"));
 }

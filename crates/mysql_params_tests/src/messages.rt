@@ -1,5 +1,5 @@
 //! What errors and parameters show.
-use crate::shared::{made, named, positional, same};
+use crate::shared::{answer_of, named, positional, same};
 use mysql_params::params::{
     IntoPositionalError, MissingNamedParameterError, Params, ParamsConfusionError, ParamsError,
     ToPairs, ToParamsError,
@@ -12,18 +12,18 @@ use std::process::Abort;
 use std::time::Duration;
 
 fn missing(rt: &impl Abort, alloc: Global) -> MissingNamedParameterError {
-    MissingNamedParameterError(made(rt, Vec::from_slice(alloc, b"a\"\xFF")))
+    MissingNamedParameterError(answer_of(rt, Vec::from_slice(alloc, b"a\"\xFF")))
 }
 
 // The error's message is the text.
 fn says<E: Display>(rt: &impl Abort, alloc: Global, error: &E, text: &str) {
-    let message = made(rt, format!(in alloc; "{error}"));
+    let message = answer_of(rt, format!(in alloc; "{error}"));
     same(rt, message.as_str(), text);
 }
 
 // The parameters are shown as the text.
 fn is_shown(rt: &impl Abort, alloc: Global, params: &Params, text: &str) {
-    let shown = made(rt, format!(in alloc; "{params:?}"));
+    let shown = answer_of(rt, format!(in alloc; "{params:?}"));
     same(rt, shown.as_str(), text);
 }
 
@@ -71,7 +71,7 @@ fn messages_of_lookups(rt: HostRuntime) {
 #[test]
 fn messages_of_makers(rt: HostRuntime) {
     let alloc = rt.alloc();
-    let error = ToParamsError::Redefined(made(&rt, Vec::from_slice(alloc, b"a\n")));
+    let error = ToParamsError::Redefined(answer_of(&rt, Vec::from_slice(alloc, b"a\n")));
     says(
         &rt,
         alloc,
@@ -93,12 +93,12 @@ fn shown_parameters(rt: HostRuntime) {
     let alloc = rt.alloc();
     is_shown(&rt, alloc, &Params::Empty, "Empty");
     is_shown(&rt, alloc, &positional(&rt, alloc, &[]), "Positional([])");
-    let values = made(&rt, Vec::from_array(alloc, [Value::Int(1), Value::NULL]));
+    let values = answer_of(&rt, Vec::from_array(alloc, [Value::Int(1), Value::NULL]));
     let pair = Params::Positional(values);
     is_shown(&rt, alloc, &pair, "Positional([Int(1), Null])");
     is_shown(&rt, alloc, &named(&rt, alloc, b""), "Named({})");
     // They are shown in the order of their names.
-    let two = made(&rt, (("b", None::<u8>), ("a", 1i64)).to_named(alloc));
+    let two = answer_of(&rt, (("b", None::<u8>), ("a", 1i64)).to_named(alloc));
     is_shown(&rt, alloc, &two, "Named({\"a\": Int(1), \"b\": Null})");
 }
 
@@ -106,7 +106,7 @@ fn shown_parameters(rt: HostRuntime) {
 fn shown_text(rt: HostRuntime) {
     let alloc = rt.alloc();
     let four = (("b", "x"), ("ab", None::<u8>), ("a", 1i64), ("", 2u64)).to_named(alloc);
-    let four = made(&rt, four);
+    let four = answer_of(&rt, four);
     let text = "Named({\"\": UInt(2), \"a\": Int(1), \"ab\": Null, \"b\": Bytes(\"x\")})";
     is_shown(&rt, alloc, &four, text);
 }

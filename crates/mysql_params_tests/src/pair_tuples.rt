@@ -1,5 +1,5 @@
 //! Tuples of pairs of a name and a thing.
-use crate::shared::{made, named, same, same_in};
+use crate::shared::{answer_of, named, same, same_in};
 use mysql_params::params::{Params, ToPairs, ToParamsError};
 use mysql_values::value::convert::ToValueError;
 use std::alloc::Global;
@@ -13,13 +13,13 @@ fn params_of<P: ToPairs>(alloc: Global, pairs: &P) -> Result<Params, ToParamsErr
 
 // The pairs name each letter, and give it the number of its place, from 1 on.
 fn makes<P: ToPairs>(rt: &impl Abort, alloc: Global, pairs: &P, letters: &[u8]) {
-    let found = made(rt, params_of(alloc, pairs));
+    let found = answer_of(rt, params_of(alloc, pairs));
     same_in(rt, &found, &named(rt, alloc, letters), &letters);
 }
 
 // The pairs are refused for this name.
 fn is_redefined<P: ToPairs>(rt: &impl Abort, alloc: Global, pairs: &P, name: &[u8]) {
-    let refusal = ToParamsError::Redefined(made(rt, Vec::from_slice(alloc, name)));
+    let refusal = ToParamsError::Redefined(answer_of(rt, Vec::from_slice(alloc, name)));
     same_in(rt, &params_of(alloc, pairs).err(), &Some(refusal), &name);
 }
 
@@ -109,7 +109,7 @@ fn named_text(alloc: Global, text: &str) -> Result<Params, ToParamsError> {
 fn a_lent_text(rt: HostRuntime) {
     let alloc = rt.alloc();
     let pairs = [("a", None::<&str>), ("b", Some("it's"))];
-    let found = made(&rt, named_text(alloc, "it's"));
-    let wanted = made(&rt, Params::from_pairs(alloc, &pairs));
+    let found = answer_of(&rt, named_text(alloc, "it's"));
+    let wanted = answer_of(&rt, Params::from_pairs(alloc, &pairs));
     same(&rt, &found, &wanted);
 }

@@ -22,23 +22,23 @@ pub(crate) fn same_in<T: Copy + Debug + PartialEq, C: Debug>(
     assert_eq!(rt; found, wanted, "of {case:?}");
 }
 
-// The thing that was made. An error ends the test here, so that callers have none to meet: each `?`
+// The answer of a call. An error ends the test here, so that callers have none to meet: each `?`
 // would let go of all that lives there.
-pub(crate) fn made<T, E: Debug + Drop>(rt: &impl Abort, found: Result<T, E>) -> T {
-    found.expect(rt, "an error in place of what a test needs")
+pub(crate) fn answer_of<T, E: Debug + Drop>(rt: &impl Abort, found: Result<T, E>) -> T {
+    found.expect(rt, "an error in place of an answer")
 }
 
 // The value that holds these bytes.
 pub(crate) fn bytes(rt: &impl Abort, alloc: Global, text: &[u8]) -> Value {
-    Value::Bytes(Bytes::from(made(rt, Vec::from_slice(alloc, text))))
+    Value::Bytes(Bytes::from(answer_of(rt, Vec::from_slice(alloc, text))))
 }
 
 // A list of names of one byte each.
 pub(crate) fn names(rt: &impl Abort, alloc: Global, letters: &[u8]) -> Vec<Vec<u8>> {
     let mut names = Vec::new(alloc);
     for letter in letters {
-        let name = made(rt, Vec::from_slice(alloc, &[*letter]));
-        made(rt, names.push(name));
+        let name = answer_of(rt, Vec::from_slice(alloc, &[*letter]));
+        answer_of(rt, names.push(name));
     }
     names
 }
@@ -47,8 +47,8 @@ pub(crate) fn names(rt: &impl Abort, alloc: Global, letters: &[u8]) -> Vec<Vec<u
 pub(crate) fn named(rt: &impl Abort, alloc: Global, letters: &[u8]) -> Params {
     let mut entries = HashMap::new(alloc);
     for (i, letter) in letters.iter().enumerate() {
-        let name = made(rt, Vec::from_slice(alloc, &[*letter]));
-        made(rt, entries.insert(name, Value::UInt(i as u64 + 1)));
+        let name = answer_of(rt, Vec::from_slice(alloc, &[*letter]));
+        answer_of(rt, entries.insert(name, Value::UInt(i as u64 + 1)));
     }
     Params::Named(entries)
 }
@@ -57,7 +57,7 @@ pub(crate) fn named(rt: &impl Abort, alloc: Global, letters: &[u8]) -> Params {
 pub(crate) fn positional(rt: &impl Abort, alloc: Global, numbers: &[u64]) -> Params {
     let mut values = Vec::new(alloc);
     for number in numbers {
-        made(rt, values.push(Value::UInt(*number)));
+        answer_of(rt, values.push(Value::UInt(*number)));
     }
     Params::Positional(values)
 }

@@ -1,5 +1,5 @@
 //! The command `bind`.
-use crate::shared::{made, refuses, same_in, writes};
+use crate::shared::{answer_of, refuses, same_in, writes};
 use mysql_params::params::{MissingNamedParameterError, ParamsConfusionError, ParamsError};
 use mysql_params::{BindError, RunError};
 use std::alloc::Global;
@@ -96,7 +96,7 @@ fn queries_that_are_not_bound(rt: HostRuntime) {
 // The name ends before the capital.
 #[test]
 fn a_name_with_a_capital_in_it(rt: HostRuntime) {
-    let name = made(&rt, Vec::from_slice(rt.alloc(), b"user"));
+    let name = answer_of(&rt, Vec::from_slice(rt.alloc(), b"user"));
     let missing = BindError::Params(ParamsError::Missing(MissingNamedParameterError(name)));
     refuses_to_bind(
         &rt,

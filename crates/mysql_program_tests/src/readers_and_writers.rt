@@ -1,6 +1,6 @@
 //! Both commands over readers and writers that give and take little, and fail at a stated call: how
 //! often they are called, and what was written.
-use crate::shared::{Fault, SlowReader, SlowWriter, made, run_over, same, same_in};
+use crate::shared::{Fault, SlowReader, SlowWriter, answer_of, run_over, same, same_in};
 use mysql_params::{BindError, RunError};
 use std::alloc::{AllocError, Global};
 use std::process::Abort;
@@ -18,7 +18,7 @@ fn nothing_is_read_after_the_end(rt: HostRuntime) {
     for (texts, query, wanted) in CASES {
         let input = SlowReader::new(*query, 1, 0);
         let output = SlowWriter::new(rt.alloc(), 1, Fault::Fails, 0);
-        let ran = made(&rt, run_over(rt.alloc(), *texts, input, output));
+        let ran = answer_of(&rt, run_over(rt.alloc(), *texts, input, output));
         same_in(&rt, &ran.answer, &Ok(()), texts);
         // A read for each byte and one for the end; a write for each byte.
         same_in(&rt, &ran.calls, &(query.len() + 1, wanted.len()), texts);
@@ -30,7 +30,7 @@ fn failed_read_is_told_and_not_repeated(rt: &impl Abort, alloc: Global, (texts, 
     for k in 1..=query.len() + 1 {
         let input = SlowReader::new(query, 1, k);
         let output = SlowWriter::new(alloc, 1, Fault::Fails, 0);
-        let ran = made(rt, run_over(alloc, texts, input, output));
+        let ran = answer_of(rt, run_over(alloc, texts, input, output));
         same_in(rt, &ran.answer, &Err(RunError::Read), &(texts, k));
         same_in(rt, &ran.calls, &(k, 0), &(texts, k));
     }
@@ -53,7 +53,7 @@ fn is_told_and_not_repeated(
     for k in 1..=wanted.len() {
         let input = SlowReader::new(query, 1, 0);
         let output = SlowWriter::new(alloc, 1, fault, k);
-        let ran = made(rt, run_over(alloc, texts, input, output));
+        let ran = answer_of(rt, run_over(alloc, texts, input, output));
         same_in(rt, &ran.answer, &Err(RunError::Write), &(fault, k));
         same_in(rt, ran.taken.as_slice(), &wanted[..k - 1], &(fault, k));
         same_in(rt, &ran.calls, &(query.len() + 1, k), &(fault, k));
@@ -73,7 +73,7 @@ fn is_the_same_in_small_pieces(rt: &impl Abort, alloc: Global, (texts, query, wa
     for step in 1..=9usize {
         let input = SlowReader::new(query, step, 0);
         let output = SlowWriter::new(alloc, step, Fault::Fails, 0);
-        let ran = made(rt, run_over(alloc, texts, input, output));
+        let ran = answer_of(rt, run_over(alloc, texts, input, output));
         same_in(rt, &ran.answer, &Ok(()), &(texts, step));
         same_in(rt, ran.taken.as_slice(), wanted, &(texts, step));
     }
@@ -97,15 +97,15 @@ fn after_spaces(alloc: Global, spaces: usize, bytes: &[u8]) -> Result<Vec<u8>, A
 fn is_written_in_large_pieces(rt: &impl Abort, alloc: Global, query: &[u8], wanted: &[u8]) {
     let input = SlowReader::new(query, 5000, 0);
     let output = SlowWriter::new(alloc, 5000, Fault::Fails, 0);
-    let ran = made(rt, run_over(alloc, &["names"], input, output));
+    let ran = answer_of(rt, run_over(alloc, &["names"], input, output));
     same(rt, &ran.answer, &Ok(()));
     assert!(rt; ran.taken.as_slice() == wanted);
 }
 
 #[test]
 fn a_query_longer_than_one_read(rt: HostRuntime) {
-    let query = made(&rt, after_spaces(rt.alloc(), 4095, b":a"));
-    let wanted = made(&rt, after_spaces(rt.alloc(), 4095, b"?\na\n"));
+    let query = answer_of(&rt, after_spaces(rt.alloc(), 4095, b":a"));
+    let wanted = answer_of(&rt, after_spaces(rt.alloc(), 4095, b"?\na\n"));
     is_written_in_large_pieces(&rt, rt.alloc(), &query, &wanted);
 }
 
@@ -119,7 +119,7 @@ fn refuses_in_pieces(
 ) {
     let input = SlowReader::new(query, 1, 0);
     let output = SlowWriter::new(alloc, 1, Fault::Fails, 1);
-    let ran = made(rt, run_over(alloc, texts, input, output));
+    let ran = answer_of(rt, run_over(alloc, texts, input, output));
     same_in(rt, &ran.answer, &Err(refusal), &texts);
     same_in(rt, &ran.calls, &(query.len() + 1, 0), &texts);
 }

@@ -1,5 +1,5 @@
 //! What refusals of the program print, their statuses, and their equality.
-use crate::shared::{made, same, same_in};
+use crate::shared::{answer_of, same, same_in};
 use mysql_params::laws::run_error_equality;
 use mysql_params::{BindError, RunError};
 use std::alloc::{AllocError, Global};
@@ -8,7 +8,7 @@ use std::process::Abort;
 /// The refusal has the status and prints the message.
 fn says(rt: &impl Abort, alloc: Global, refusal: RunError, status: u8, message: &str) {
     same_in(rt, &refusal.status(), &status, &message);
-    let printed = made(rt, refusal.to_string(alloc));
+    let printed = answer_of(rt, refusal.to_string(alloc));
     same(rt, printed.as_str(), message);
 }
 
@@ -31,7 +31,7 @@ fn statuses_and_messages(rt: HostRuntime) {
 
 #[test]
 fn messages_that_tell_what_is_refused(rt: HostRuntime) {
-    let name = made(&rt, Vec::from_slice(rt.alloc(), b"a\n"));
+    let name = answer_of(&rt, Vec::from_slice(rt.alloc(), b"a\n"));
     let redefined = "Redefinition of named parameter `a\\x0a'";
     says(&rt, rt.alloc(), RunError::Redefined(name), 1, redefined);
     let count = RunError::Bind(BindError::MarkCount {

@@ -22,10 +22,10 @@ pub(crate) fn same_in<T: Copy + Debug + PartialEq, C: Debug>(
     assert_eq!(rt; found, wanted, "of {case:?}");
 }
 
-/// The thing that was made. An error ends the test here, so that callers have none to meet: each `?`
+/// The answer of a call. An error ends the test here, so that callers have none to meet: each `?`
 /// would let go of all that lives there.
-pub(crate) fn made<T, E: Debug + Drop>(rt: &impl Abort, found: Result<T, E>) -> T {
-    found.expect(rt, "an error in place of what a test needs")
+pub(crate) fn answer_of<T, E: Debug + Drop>(rt: &impl Abort, found: Result<T, E>) -> T {
+    found.expect(rt, "an error in place of an answer")
 }
 
 /// Gives its bytes in pieces of at most `step`, and fails at call `fails_at`, counted from 1.
@@ -171,7 +171,7 @@ pub(crate) fn run_over_memory(
 /// The program reads the query to its end, and writes this.
 pub(crate) fn writes(rt: &impl Abort, alloc: Global, texts: &[&str], query: &[u8], wanted: &[u8]) {
     let case = (texts, query);
-    let ran = made(rt, run_over_memory(alloc, texts, query));
+    let ran = answer_of(rt, run_over_memory(alloc, texts, query));
     same_in(rt, &ran.answer, &Ok(()), &case);
     same_in(rt, ran.written.as_slice(), wanted, &case);
     same_in(rt, &ran.left, &0, &case);
@@ -186,7 +186,7 @@ pub(crate) fn refuses(
     refusal: RunError,
 ) {
     let case = (texts, query);
-    let ran = made(rt, run_over_memory(alloc, texts, query));
+    let ran = answer_of(rt, run_over_memory(alloc, texts, query));
     same_in(rt, &ran.answer, &Err(refusal), &case);
     same_in(rt, &(ran.left, ran.written.len()), &(0, 0), &case);
 }

@@ -1,5 +1,5 @@
 //! Words that ask for nothing that the program does: they are refused before anything is read.
-use crate::shared::{Fault, SlowReader, SlowWriter, made, run_over, same_in};
+use crate::shared::{Fault, SlowReader, SlowWriter, answer_of, run_over, same_in};
 use mysql_params::RunError;
 use std::alloc::Global;
 use std::process::Abort;
@@ -44,7 +44,7 @@ const USAGE: &[&[&str]] = &[
 fn is_refused_before_a_read(rt: &impl Abort, alloc: Global, texts: &[&str], refusal: RunError) {
     let input = SlowReader::new(b":a", 1, 1);
     let output = SlowWriter::new(alloc, 1, Fault::Fails, 1);
-    let ran = made(rt, run_over(alloc, texts, input, output));
+    let ran = answer_of(rt, run_over(alloc, texts, input, output));
     same_in(rt, &ran.answer, &Err(refusal), &texts);
     same_in(rt, &ran.calls, &(0, 0), &texts);
 }
@@ -59,13 +59,13 @@ fn other_words_are_refused_before_a_read(rt: HostRuntime) {
 #[test]
 fn a_repeated_name_is_refused_before_a_read(rt: HostRuntime) {
     let texts = ["bind", "a=i:1", "b=i:1", "a=i:1", "b=i:2"];
-    let name = made(&rt, Vec::from_slice(rt.alloc(), b"a"));
+    let name = answer_of(&rt, Vec::from_slice(rt.alloc(), b"a"));
     is_refused_before_a_read(&rt, rt.alloc(), &texts, RunError::Redefined(name));
 }
 
 #[test]
 fn a_name_given_at_once_again_is_refused_before_a_read(rt: HostRuntime) {
     let texts = ["bind", "a=i:1", "a=i:2"];
-    let name = made(&rt, Vec::from_slice(rt.alloc(), b"a"));
+    let name = answer_of(&rt, Vec::from_slice(rt.alloc(), b"a"));
     is_refused_before_a_read(&rt, rt.alloc(), &texts, RunError::Redefined(name));
 }

@@ -1,5 +1,5 @@
 //! Names and marks of single queries.
-use crate::shared::{made, same, same_in, says};
+use crate::shared::{answer_of, same, same_in, says};
 use crate::spellings::{Spelling, WITH_BACKSLASHES};
 use mysql_params::laws::{mixed_error_equality, named_params_error_equality, parsed_equality};
 use mysql_params::named_params::{MixedParamsError, NamedParamsError, ParsedNamedParams};
@@ -32,7 +32,7 @@ fn shown(alloc: Global, query: &[u8], spelling: Spelling) -> Result<Vec<u8>, All
 /// By each of the calls, the query is shown as this text.
 fn is_shown(rt: &impl Abort, alloc: Global, spellings: &[Spelling], query: &[u8], wanted: &[u8]) {
     for spelling in spellings {
-        let text = made(rt, shown(alloc, query, *spelling));
+        let text = answer_of(rt, shown(alloc, query, *spelling));
         same_in(rt, text.as_slice(), wanted, &(query, spelling));
     }
 }
@@ -199,18 +199,18 @@ fn are_equal(
 
 #[test]
 fn copies(rt: HostRuntime) {
-    let parsed = made(&rt, ParsedNamedParams::parse(rt.alloc(), b"SELECT :a, :b"));
-    let copy = made(&rt, parsed.clone());
+    let parsed = answer_of(&rt, ParsedNamedParams::parse(rt.alloc(), b"SELECT :a, :b"));
+    let copy = answer_of(&rt, parsed.clone());
     are_equal(&rt, &parsed, &copy, true);
     same(&rt, copy.params().len(), 2);
 }
 
 #[test]
 fn equality(rt: HostRuntime) {
-    let parsed = made(&rt, ParsedNamedParams::parse(rt.alloc(), b"SELECT :a, :b"));
+    let parsed = answer_of(&rt, ParsedNamedParams::parse(rt.alloc(), b"SELECT :a, :b"));
     let others: [&[u8]; 2] = [b"SELECT :a, :c", b"SELECT :a; :b"];
     for query in others {
-        let other = made(&rt, ParsedNamedParams::parse(rt.alloc(), query));
+        let other = answer_of(&rt, ParsedNamedParams::parse(rt.alloc(), query));
         are_equal(&rt, &parsed, &other, false);
     }
 }
@@ -257,8 +257,8 @@ fn first_name<'a>(alloc: Global, query: &'a [u8]) -> Result<Option<&'a [u8]>, Na
 
 #[test]
 fn names_outlive_what_parsed_them(rt: HostRuntime) -> Result<(), Fail> {
-    let query = made(&rt, String::from_str(rt.alloc(), "SELECT :a"));
-    let name = made(&rt, first_name(rt.alloc(), query.as_bytes()));
+    let query = answer_of(&rt, String::from_str(rt.alloc(), "SELECT :a"));
+    let name = answer_of(&rt, first_name(rt.alloc(), query.as_bytes()));
     same(&rt, name.ok_or("no name")?, b"a".as_slice());
     let _gone = query;
     Ok(())

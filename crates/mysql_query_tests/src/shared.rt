@@ -18,14 +18,14 @@ pub(crate) fn same_in<T: Copy + Debug + PartialEq, C: Debug>(
     assert_eq!(rt; found, wanted, "of {case:?}");
 }
 
-/// The thing that was made. An error ends the test here, so that callers have none to meet: each `?`
+/// The answer of a call. An error ends the test here, so that callers have none to meet: each `?`
 /// would let go of all that lives there.
-pub(crate) fn made<T, E: Debug + Drop>(rt: &impl Abort, found: Result<T, E>) -> T {
-    found.expect(rt, "an error in place of what a test needs")
+pub(crate) fn answer_of<T, E: Debug + Drop>(rt: &impl Abort, found: Result<T, E>) -> T {
+    found.expect(rt, "an error in place of an answer")
 }
 
 /// What is printed of the refusal.
 pub(crate) fn says(rt: &impl Abort, alloc: Global, refusal: &impl Display, message: &str) {
-    let printed = made(rt, refusal.to_string(alloc));
+    let printed = answer_of(rt, refusal.to_string(alloc));
     same(rt, printed.as_str(), message);
 }

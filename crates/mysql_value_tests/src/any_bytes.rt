@@ -1,13 +1,12 @@
 //! Any bytes: readings from buffers that nobody wrote. A success leaves exactly the rest, a refusal
 //! leaves the buffer.
 use crate::shared::{
-    DateFields, SIGNED, TimeFields, UNSIGNED, date, read, reads, refuses, same_in, time,
+    DateFields, SIGNED, TimeFields, UNSIGNED, answer_of, date, read, reads, refuses, same_in, time,
 };
 use mysql_values::value::Value;
 use mysql_wire_part::{ColumnType, ParseBuf, WireError};
-use std::alloc::{AllocError, Global};
+use std::alloc::Global;
 use std::process::Abort;
-use std::test::Fail;
 
 // How a type of column is read.
 #[derive(Clone, Copy)]
@@ -165,13 +164,13 @@ fn every_buffer_of_up_to_two_bytes(rt: HostRuntime) {
 }
 
 // The byte n, the bytes from 1 to n, and the byte 42.
-fn counted(alloc: Global, count: u8) -> Result<Vec<u8>, AllocError> {
-    let mut form = vec![in alloc; count; 1]?;
+fn counted(rt: &impl Abort, alloc: Global, count: u8) -> Vec<u8> {
+    let mut form = answer_of(rt, vec![in alloc; count; 1]);
     for byte in 1..=count {
-        form.push(byte)?;
+        answer_of(rt, form.push(byte));
     }
-    form.push(42)?;
-    Ok(form)
+    answer_of(rt, form.push(42));
+    form
 }
 
 // Each column eats what it should of the form, and of the form without its last one or two bytes.
@@ -186,12 +185,11 @@ fn eats_cut(rt: &impl Abort, alloc: Global, form: &[u8]) {
 
 // After each length byte a payload that is one byte short, exact, and one byte long.
 #[test]
-fn every_length_byte(rt: HostRuntime) -> Result<(), Fail> {
+fn every_length_byte(rt: HostRuntime) {
     for count in 0..=255u8 {
-        let form = counted(rt.alloc(), count)?;
+        let form = counted(&rt, rt.alloc(), count);
         eats_cut(&rt, rt.alloc(), &form);
     }
-    Ok(())
 }
 
 // The fields of a date of so many bytes, each of which is its number.
@@ -215,32 +213,24 @@ fn time_fields(count: u8) -> TimeFields {
 
 // The column reads the value of the whole form, leaves the byte after it, and refuses the form cut
 // before any of its bytes.
-fn reads_whole(
-    rt: &impl Abort,
-    alloc: Global,
-    column: ColumnType,
-    form: &[u8],
-    value: Value,
-) -> Result<(), Fail> {
-    reads(rt, alloc, (column, SIGNED), form, &[42], value)?;
+fn reads_whole(rt: &impl Abort, alloc: Global, column: ColumnType, form: &[u8], value: Value) {
+    reads(rt, alloc, (column, SIGNED), form, &[42], value);
     for cut in 0..form.len().saturating_sub(1) {
         let input = form.get(..cut).unwrap_or(form);
         refuses(rt, alloc, (column, SIGNED), input, WireError::UnexpectedEof);
     }
-    Ok(())
 }
 
 #[test]
-fn dates_and_times_of_every_length(rt: HostRuntime) -> Result<(), Fail> {
+fn dates_and_times_of_every_length(rt: HostRuntime) {
     let alloc = rt.alloc();
     for count in 0..=255u8 {
-        let form = counted(alloc, count)?;
+        let form = counted(&rt, alloc, count);
         let moment = ColumnType::MYSQL_TYPE_DATETIME;
-        reads_whole(&rt, alloc, moment, &form, date(date_fields(count)))?;
+        reads_whole(&rt, alloc, moment, &form, date(date_fields(count)));
         let clock = ColumnType::MYSQL_TYPE_TIME;
-        reads_whole(&rt, alloc, clock, &form, time(time_fields(count)))?;
+        reads_whole(&rt, alloc, clock, &form, time(time_fields(count)));
     }
-    Ok(())
 }
 
 // Lengths that are stated and aren't there.

@@ -2,7 +2,6 @@
 use crate::shared::{DateFields, SIGNED, TimeFields, UNSIGNED, bytes, date, reads, refuses, time};
 use mysql_values::value::Value;
 use mysql_wire_part::{ColumnType, WireError};
-use std::test::Fail;
 
 // Bytes of integers, and what they are without the flag of unsigned columns and with it.
 const INTEGERS: &[(ColumnType, &[u8], i64, i64)] = &[
@@ -53,7 +52,7 @@ const INTEGERS: &[(ColumnType, &[u8], i64, i64)] = &[
 ];
 
 #[test]
-fn read_integers(rt: HostRuntime) -> Result<(), Fail> {
+fn read_integers(rt: HostRuntime) {
     let alloc = rt.alloc();
     for (column, input, signed, unsigned) in INTEGERS {
         reads(
@@ -63,7 +62,7 @@ fn read_integers(rt: HostRuntime) -> Result<(), Fail> {
             *input,
             &[],
             Value::Int(*signed),
-        )?;
+        );
         // Other flags say nothing.
         let flags = UNSIGNED | 1;
         reads(
@@ -73,22 +72,21 @@ fn read_integers(rt: HostRuntime) -> Result<(), Fail> {
             *input,
             &[],
             Value::Int(*unsigned),
-        )?;
+        );
         let error = WireError::UnexpectedEof;
         refuses(&rt, alloc, (*column, UNSIGNED), &input[1..], error);
     }
-    Ok(())
 }
 
 #[test]
-fn integer_beyond_63_bits(rt: HostRuntime) -> Result<(), Fail> {
+fn integer_beyond_63_bits(rt: HostRuntime) {
     let alloc = rt.alloc();
     let column = ColumnType::MYSQL_TYPE_LONGLONG;
     let input = [0, 0, 0, 0, 0, 0, 0, 0x80];
     let least = Value::Int(-9223372036854775808);
-    reads(&rt, alloc, (column, SIGNED), &input, &[], least)?;
+    reads(&rt, alloc, (column, SIGNED), &input, &[], least);
     let unsigned = Value::UInt(9223372036854775808);
-    reads(&rt, alloc, (column, UNSIGNED | 1), &input, &[], unsigned)?;
+    reads(&rt, alloc, (column, UNSIGNED | 1), &input, &[], unsigned);
     refuses(
         &rt,
         alloc,
@@ -96,21 +94,20 @@ fn integer_beyond_63_bits(rt: HostRuntime) -> Result<(), Fail> {
         &input[1..],
         WireError::UnexpectedEof,
     );
-    Ok(())
 }
 
 #[test]
-fn read_null_and_floats(rt: HostRuntime) -> Result<(), Fail> {
+fn read_null_and_floats(rt: HostRuntime) {
     let alloc = rt.alloc();
     let null = (ColumnType::MYSQL_TYPE_NULL, SIGNED);
-    reads(&rt, alloc, null, b"*", b"*", Value::NULL)?;
+    reads(&rt, alloc, null, b"*", b"*", Value::NULL);
     let float = (ColumnType::MYSQL_TYPE_FLOAT, SIGNED);
     let one = Value::Float(1065353216);
-    reads(&rt, alloc, float, b"\x00\x00\x80\x3F*", b"*", one)?;
+    reads(&rt, alloc, float, b"\x00\x00\x80\x3F*", b"*", one);
     let double = (ColumnType::MYSQL_TYPE_DOUBLE, SIGNED);
     let least = Value::Double(1);
     let input = b"\x01\x00\x00\x00\x00\x00\x00\x00*";
-    reads(&rt, alloc, double, input, b"*", least)
+    reads(&rt, alloc, double, input, b"*", least);
 }
 
 // Dates, and after them the byte 42.
@@ -162,7 +159,7 @@ const TIMES: &[(ColumnType, &[u8], TimeFields)] = &[
 ];
 
 #[test]
-fn read_dates_and_times(rt: HostRuntime) -> Result<(), Fail> {
+fn read_dates_and_times(rt: HostRuntime) {
     let alloc = rt.alloc();
     for (column, input, fields) in DATES {
         reads(
@@ -172,7 +169,7 @@ fn read_dates_and_times(rt: HostRuntime) -> Result<(), Fail> {
             *input,
             &[0x2A],
             date(*fields),
-        )?;
+        );
     }
     for (column, input, fields) in TIMES {
         reads(
@@ -182,9 +179,8 @@ fn read_dates_and_times(rt: HostRuntime) -> Result<(), Fail> {
             *input,
             &[0x2A],
             time(*fields),
-        )?;
+        );
     }
-    Ok(())
 }
 
 const UNSUPPORTED: &[ColumnType] = &[
@@ -253,13 +249,12 @@ const STRINGS: &[ColumnType] = &[
 ];
 
 #[test]
-fn types_that_are_read_as_strings(rt: HostRuntime) -> Result<(), Fail> {
+fn types_that_are_read_as_strings(rt: HostRuntime) {
     for column in STRINGS {
         let input = [1, 0x41, 0x2A];
-        let value = bytes(rt.alloc(), b"A")?;
-        reads(&rt, rt.alloc(), (*column, UNSIGNED), &input, &[0x2A], value)?;
+        let value = bytes(&rt, rt.alloc(), b"A");
+        reads(&rt, rt.alloc(), (*column, UNSIGNED), &input, &[0x2A], value);
     }
-    Ok(())
 }
 
 // Strings, and after them the byte 42.
@@ -273,10 +268,9 @@ const TEXTS: &[(ColumnType, &[u8], &[u8])] = &[
 ];
 
 #[test]
-fn read_strings(rt: HostRuntime) -> Result<(), Fail> {
+fn read_strings(rt: HostRuntime) {
     for (column, input, text) in TEXTS {
-        let value = bytes(rt.alloc(), *text)?;
-        reads(&rt, rt.alloc(), (*column, SIGNED), *input, &[0x2A], value)?;
+        let value = bytes(&rt, rt.alloc(), *text);
+        reads(&rt, rt.alloc(), (*column, SIGNED), *input, &[0x2A], value);
     }
-    Ok(())
 }

@@ -1,17 +1,12 @@
 //! Literals of texts that the calls cross by runs, compared with a plain body that goes byte by
 //! byte.
-use crate::shared::{MODES, bytes};
+use crate::shared::{MODES, answer_of, bytes};
 use crate::sql_literals::has_literal;
-use std::alloc::{AllocError, Global};
+use std::alloc::Global;
 use std::process::Abort;
-use std::test::Fail;
 
 // What stands for a byte between quotes, by the rules.
-fn append_escaped(
-    literal: &mut Vec<u8>,
-    byte: u8,
-    no_backslash_escape: bool,
-) -> Result<(), AllocError> {
+fn append_escaped(rt: &impl Abort, literal: &mut Vec<u8>, byte: u8, no_backslash_escape: bool) {
     let escape: &[u8] = match byte {
         b'\'' if no_backslash_escape => b"''",
         _ if no_backslash_escape => &[],
@@ -25,96 +20,85 @@ fn append_escaped(
         _ => &[],
     };
     if escape.is_empty() {
-        literal.push(byte)?;
+        answer_of(rt, literal.push(byte));
     } else {
-        literal.extend_from_slice(escape)?;
+        answer_of(rt, literal.extend_from_slice(escape));
     }
-    Ok(())
 }
 
 // The literal of a text, byte by byte.
 fn plain_literal(
+    rt: &impl Abort,
     alloc: Global,
     text: &[u8],
     no_backslash_escape: bool,
-) -> Result<Vec<u8>, AllocError> {
-    let mut literal = Vec::from_slice(alloc, b"'")?;
+) -> Vec<u8> {
+    let mut literal = answer_of(rt, Vec::from_slice(alloc, b"'"));
     for byte in text {
-        append_escaped(&mut literal, *byte, no_backslash_escape)?;
+        append_escaped(rt, &mut literal, *byte, no_backslash_escape);
     }
-    literal.push(b'\'')?;
-    Ok(literal)
+    answer_of(rt, literal.push(b'\''));
+    literal
 }
 
 // The text has the literal of the plain body, in either mode.
-fn has_plain_literal(rt: &impl Abort, alloc: Global, text: &[u8]) -> Result<(), Fail> {
-    let value = bytes(alloc, text)?;
+fn has_plain_literal(rt: &impl Abort, alloc: Global, text: &[u8]) {
+    let value = bytes(rt, alloc, text);
     for no_backslash_escape in MODES {
-        let literal = plain_literal(alloc, text, *no_backslash_escape)?;
-        has_literal(rt, alloc, &value, *no_backslash_escape, &literal)?;
+        let literal = plain_literal(rt, alloc, text, *no_backslash_escape);
+        has_literal(rt, alloc, &value, *no_backslash_escape, &literal);
     }
-    Ok(())
 }
 
 // A text of so many bytes, with one byte at these places and a letter at all others.
-fn run(alloc: Global, len: usize, places: [usize; 2], byte: u8) -> Result<Vec<u8>, AllocError> {
+fn run(rt: &impl Abort, alloc: Global, len: usize, places: [usize; 2], byte: u8) -> Vec<u8> {
     let mut text = Vec::new(alloc);
     for place in 0..len {
         let is_there = place == places[0] || place == places[1];
-        text.push(if is_there { byte } else { b'a' })?;
+        answer_of(rt, text.push(if is_there { byte } else { b'a' }));
     }
-    Ok(text)
+    text
 }
 
 // Such a text has the literal of the plain body.
-fn run_has_plain_literal(
-    rt: &impl Abort,
-    alloc: Global,
-    len: usize,
-    places: [usize; 2],
-    byte: u8,
-) -> Result<(), Fail> {
-    let text = run(alloc, len, places, byte)?;
-    has_plain_literal(rt, alloc, &text)
+fn run_has_plain_literal(rt: &impl Abort, alloc: Global, len: usize, places: [usize; 2], byte: u8) {
+    let text = run(rt, alloc, len, places, byte);
+    has_plain_literal(rt, alloc, &text);
 }
 
 #[test]
-fn runs_without_escapes(rt: HostRuntime) -> Result<(), Fail> {
+fn runs_without_escapes(rt: HostRuntime) {
     for len in 0..=40 {
-        run_has_plain_literal(&rt, rt.alloc(), len, [len, len], b'a')?;
+        run_has_plain_literal(&rt, rt.alloc(), len, [len, len], b'a');
     }
-    Ok(())
 }
 
 #[test]
-fn runs_with_an_escape_at_each_place(rt: HostRuntime) -> Result<(), Fail> {
+fn runs_with_an_escape_at_each_place(rt: HostRuntime) {
     for byte in b"\x00\n\r\x1A\"'\\" {
         for len in 1..=40 {
             for place in 0..len {
-                run_has_plain_literal(&rt, rt.alloc(), len, [place, place], *byte)?;
+                run_has_plain_literal(&rt, rt.alloc(), len, [place, place], *byte);
             }
         }
     }
-    Ok(())
 }
 
 #[test]
-fn runs_with_two_escapes(rt: HostRuntime) -> Result<(), Fail> {
+fn runs_with_two_escapes(rt: HostRuntime) {
     for first in 0..40usize {
         for second in 0..40usize {
-            run_has_plain_literal(&rt, rt.alloc(), 40, [first, second], b'\'')?;
+            run_has_plain_literal(&rt, rt.alloc(), 40, [first, second], b'\'');
         }
     }
-    Ok(())
 }
 
 #[test]
-fn each_ascii_byte_at_each_place(rt: HostRuntime) -> Result<(), Fail> {
+fn each_ascii_byte_at_each_place(rt: HostRuntime) {
     for byte in 0..128u8 {
         for place in 0..33usize {
-            run_has_plain_literal(&rt, rt.alloc(), 33, [place, place], byte)?;
+            run_has_plain_literal(&rt, rt.alloc(), 33, [place, place], byte);
         }
-        run_has_plain_literal(&rt, rt.alloc(), 2, [0, 1], byte)?;
+        run_has_plain_literal(&rt, rt.alloc(), 2, [0, 1], byte);
     }
-    Ok(())
 }

@@ -2,10 +2,9 @@
 use mysql_values::bytes::Bytes;
 use mysql_values::value::{BinValue, Value, ValueDeserializer};
 use mysql_wire_part::{ColumnFlags, ColumnType, Flags, MyDeserialize, ParseBuf, WireError};
-use std::alloc::{AllocError, Global};
+use std::alloc::Global;
 use std::fmt::Debug;
 use std::process::Abort;
-use std::test::Fail;
 
 pub const SIGNED: u16 = 0;
 
@@ -33,6 +32,12 @@ pub(crate) fn same_in<T: Copy + Debug + PartialEq, C: Debug>(
     case: &C,
 ) {
     assert_eq!(rt; found, wanted, "of {case:?}");
+}
+
+// The answer of a call. An error ends the test here, so that callers have none to meet: each `?`
+// would let go of all that lives there.
+pub(crate) fn answer_of<T, E: Debug + Drop>(rt: &impl Abort, found: Result<T, E>) -> T {
+    found.expect(rt, "an error in place of an answer")
 }
 
 // Bytes that are the same, and too many to be shown.
@@ -64,26 +69,27 @@ pub(crate) fn read(
 }
 
 // The value that holds these bytes.
-pub(crate) fn bytes(alloc: Global, text: &[u8]) -> Result<Value, AllocError> {
-    Ok(Value::Bytes(Bytes::from(Vec::from_slice(alloc, text)?)))
+pub(crate) fn bytes(rt: &impl Abort, alloc: Global, text: &[u8]) -> Value {
+    Value::Bytes(Bytes::from(answer_of(rt, Vec::from_slice(alloc, text))))
 }
 
 // The bytes of both, one after the other.
-fn joined(alloc: Global, front: &[u8], back: &[u8]) -> Result<Vec<u8>, AllocError> {
-    let mut bytes = Vec::from_slice(alloc, front)?;
-    bytes.extend_from_slice(back)?;
-    Ok(bytes)
+fn joined(rt: &impl Abort, alloc: Global, front: &[u8], back: &[u8]) -> Vec<u8> {
+    let mut bytes = answer_of(rt, Vec::from_slice(alloc, front));
+    answer_of(rt, bytes.extend_from_slice(back));
+    bytes
 }
 
 // A string of so many bytes, and its form with the head that states its length.
 pub(crate) fn string_and_form(
+    rt: &impl Abort,
     alloc: Global,
     len: usize,
     head: &[u8],
-) -> Result<(Vec<u8>, Vec<u8>), AllocError> {
-    let text = vec![in alloc; b'a'; len]?;
-    let form = joined(alloc, head, &text)?;
-    Ok((text, form))
+) -> (Vec<u8>, Vec<u8>) {
+    let text = answer_of(rt, vec![in alloc; b'a'; len]);
+    let form = joined(rt, alloc, head, &text);
+    (text, form)
 }
 
 // The column reads the value at the front of the bytes, and leaves what is after it.
@@ -94,13 +100,12 @@ pub(crate) fn reads(
     input: &[u8],
     left: &[u8],
     value: Value,
-) -> Result<(), Fail> {
+) {
     let mut buf = ParseBuf(input);
     let case = (column, input, flags);
-    let found = read(alloc, column, flags, &mut buf)?;
+    let found = answer_of(rt, read(alloc, column, flags, &mut buf));
     same_in(rt, &found, &value, &case);
     same_in(rt, buf.0, left, &case);
-    Ok(())
 }
 
 // The column refuses the bytes, and leaves them.

@@ -1,9 +1,8 @@
 //! SQL literals of values.
-use crate::shared::{DateFields, MODES, TimeFields, bytes, date, same, same_in, time};
+use crate::shared::{DateFields, MODES, TimeFields, answer_of, bytes, date, same, same_in, time};
 use mysql_values::value::{AsSqlError, Value};
 use std::alloc::{AllocError, Global};
 use std::process::Abort;
-use std::test::Fail;
 
 // In this mode the value has the literal: as a text, as long as it says, and into a slice.
 pub(crate) fn has_literal(
@@ -12,20 +11,19 @@ pub(crate) fn has_literal(
     value: &Value,
     no_backslash_escape: bool,
     literal: &[u8],
-) -> Result<(), Fail> {
+) {
     same_in(
         rt,
-        value.as_sql(alloc, no_backslash_escape)?.as_bytes(),
+        answer_of(rt, value.as_sql(alloc, no_backslash_escape)).as_bytes(),
         literal,
         &value,
     );
     let len = value.sql_len(no_backslash_escape);
     // The call below needs this fact, which no call hands on.
     assert_eq!(rt; len, Some(literal.len() as u128), "{value:?}");
-    let mut room = vec![in alloc; 0xFFu8; literal.len()]?;
+    let mut room = vec![in alloc; 0xFFu8; literal.len()].expect(rt, "no memory");
     value.put_sql(no_backslash_escape, room.as_mut_slice());
     same_in(rt, room.as_slice(), literal, &value);
-    Ok(())
 }
 
 // The value has the literals with backslash escapes and without.
@@ -35,19 +33,14 @@ fn has_literals(
     value: &Value,
     with_backslashes: &str,
     without_backslashes: &str,
-) -> Result<(), Fail> {
-    has_literal(rt, alloc, value, false, with_backslashes.as_bytes())?;
-    has_literal(rt, alloc, value, true, without_backslashes.as_bytes())
+) {
+    has_literal(rt, alloc, value, false, with_backslashes.as_bytes());
+    has_literal(rt, alloc, value, true, without_backslashes.as_bytes());
 }
 
 // The value has the same literal in either mode.
-fn has_one_literal(
-    rt: &impl Abort,
-    alloc: Global,
-    value: Value,
-    literal: &str,
-) -> Result<(), Fail> {
-    has_literals(rt, alloc, &value, literal, literal)
+fn has_one_literal(rt: &impl Abort, alloc: Global, value: Value, literal: &str) {
+    has_literals(rt, alloc, &value, literal, literal);
 }
 
 // Bytes, and their literal with backslash escapes and without.
@@ -81,18 +74,17 @@ const BYTES: &[(&[u8], &str, &str)] = &[
 ];
 
 #[test]
-fn literals_of_bytes(rt: HostRuntime) -> Result<(), Fail> {
+fn literals_of_bytes(rt: HostRuntime) {
     for (held, with_backslashes, without_backslashes) in BYTES {
-        let value = bytes(rt.alloc(), *held)?;
+        let value = bytes(&rt, rt.alloc(), *held);
         has_literals(
             &rt,
             rt.alloc(),
             &value,
             *with_backslashes,
             *without_backslashes,
-        )?;
+        );
     }
-    Ok(())
 }
 
 const INTS: &[(i64, &str)] = &[
@@ -111,16 +103,15 @@ const UINTS: &[(u64, &str)] = &[
 ];
 
 #[test]
-fn literals_of_null_and_numbers(rt: HostRuntime) -> Result<(), Fail> {
+fn literals_of_null_and_numbers(rt: HostRuntime) {
     let alloc = rt.alloc();
-    has_one_literal(&rt, alloc, Value::NULL, "NULL")?;
+    has_one_literal(&rt, alloc, Value::NULL, "NULL");
     for (number, literal) in INTS {
-        has_one_literal(&rt, alloc, Value::Int(*number), *literal)?;
+        has_one_literal(&rt, alloc, Value::Int(*number), *literal);
     }
     for (number, literal) in UINTS {
-        has_one_literal(&rt, alloc, Value::UInt(*number), *literal)?;
+        has_one_literal(&rt, alloc, Value::UInt(*number), *literal);
     }
-    Ok(())
 }
 
 const DATES: &[(DateFields, &str)] = &[
@@ -153,15 +144,14 @@ const TIMES: &[(TimeFields, &str)] = &[
 ];
 
 #[test]
-fn literals_of_dates_and_times(rt: HostRuntime) -> Result<(), Fail> {
+fn literals_of_dates_and_times(rt: HostRuntime) {
     let alloc = rt.alloc();
     for (fields, literal) in DATES {
-        has_one_literal(&rt, alloc, date(*fields), *literal)?;
+        has_one_literal(&rt, alloc, date(*fields), *literal);
     }
     for (fields, literal) in TIMES {
-        has_one_literal(&rt, alloc, time(*fields), *literal)?;
+        has_one_literal(&rt, alloc, time(*fields), *literal);
     }
-    Ok(())
 }
 
 const WITH_BACKSLASHES: &[(u8, &str)] = &[
@@ -178,16 +168,16 @@ const WITHOUT_BACKSLASHES: &[(u8, &str)] = &[(b'\'', "''''")];
 
 // The literal of one byte by the rules: what the table has, or else hexadecimal from 128 on, as one
 // such byte isn't UTF-8, and below that the byte itself in quotes.
-fn literal_of_byte(alloc: Global, byte: u8, table: &[(u8, &str)]) -> Result<String, AllocError> {
+fn literal_of_byte(rt: &impl Abort, alloc: Global, byte: u8, table: &[(u8, &str)]) -> String {
     for (escaped, text) in table {
         if *escaped == byte {
-            return String::from_str(alloc, *text);
+            return answer_of(rt, String::from_str(alloc, *text));
         }
     }
     if byte < 128 {
-        format!(in alloc; "'{}'", byte as char)
+        answer_of(rt, format!(in alloc; "'{}'", byte as char))
     } else {
-        format!(in alloc; "0x{byte:02X}")
+        answer_of(rt, format!(in alloc; "0x{byte:02X}"))
     }
 }
 
@@ -198,19 +188,18 @@ fn byte_has_literal(
     byte: u8,
     no_backslash_escape: bool,
     table: &[(u8, &str)],
-) -> Result<(), Fail> {
-    let value = bytes(alloc, &[byte])?;
-    let literal = literal_of_byte(alloc, byte, table)?;
-    has_literal(rt, alloc, &value, no_backslash_escape, literal.as_bytes())
+) {
+    let value = bytes(rt, alloc, &[byte]);
+    let literal = literal_of_byte(rt, alloc, byte, table);
+    has_literal(rt, alloc, &value, no_backslash_escape, literal.as_bytes());
 }
 
 #[test]
-fn literals_of_each_byte(rt: HostRuntime) -> Result<(), Fail> {
+fn literals_of_each_byte(rt: HostRuntime) {
     for byte in 0..=255u8 {
-        byte_has_literal(&rt, rt.alloc(), byte, false, WITH_BACKSLASHES)?;
-        byte_has_literal(&rt, rt.alloc(), byte, true, WITHOUT_BACKSLASHES)?;
+        byte_has_literal(&rt, rt.alloc(), byte, false, WITH_BACKSLASHES);
+        byte_has_literal(&rt, rt.alloc(), byte, true, WITHOUT_BACKSLASHES);
     }
-    Ok(())
 }
 
 // The value is refused as a float in either mode, and has no length of a literal.
@@ -247,23 +236,21 @@ const LENGTHS_OF_BYTES: &[(&[u8], u128, u128)] = &[
 ];
 
 #[test]
-fn lengths_of_literals(rt: HostRuntime) -> Result<(), Fail> {
+fn lengths_of_literals(rt: HostRuntime) {
     for (held, with_backslashes, without_backslashes) in LENGTHS_OF_BYTES {
-        let value = bytes(rt.alloc(), *held)?;
+        let value = bytes(&rt, rt.alloc(), *held);
         has_lengths(&rt, &value, *with_backslashes, *without_backslashes);
     }
     has_lengths(&rt, &Value::NULL, 4, 4);
     has_lengths(&rt, &Value::Int(-9223372036854775808), 20, 20);
     has_lengths(&rt, &time((true, 300, 8, 8, 8, 123456)), 20, 20);
     has_lengths(&rt, &date((65535, 255, 255, 0, 0, 0, 4294967295)), 35, 35);
-    Ok(())
 }
 
 #[test]
-fn messages_of_refusals(rt: HostRuntime) -> Result<(), Fail> {
-    let message = AsSqlError::Float.to_string(rt.alloc())?;
+fn messages_of_refusals(rt: HostRuntime) {
+    let message = answer_of(&rt, AsSqlError::Float.to_string(rt.alloc()));
     same(&rt, message.as_str(), "Float has no SQL text");
-    let message = AsSqlError::Memory(AllocError).to_string(rt.alloc())?;
+    let message = answer_of(&rt, AsSqlError::Memory(AllocError).to_string(rt.alloc()));
     same(&rt, message.as_str(), "out of memory");
-    Ok(())
 }

@@ -1,25 +1,24 @@
 //! Values of rows in text form.
-use crate::shared::{bytes, same, same_in};
+use crate::shared::{answer_of, bytes, same, same_in};
 use mysql_values::value::{TextValue, Value, ValueDeserializer, read_text_cells};
 use mysql_wire_part::{MyDeserialize, ParseBuf, WireError};
-use std::alloc::{AllocError, Global};
+use std::alloc::Global;
 use std::process::Abort;
-use std::test::Fail;
 
 // The value of a cell, where None is NULL.
-fn value_of(alloc: Global, cell: Option<&[u8]>) -> Result<Value, AllocError> {
+fn value_of(rt: &impl Abort, alloc: Global, cell: Option<&[u8]>) -> Value {
     match cell {
-        Some(text) => bytes(alloc, text),
-        None => Ok(Value::NULL),
+        Some(text) => bytes(rt, alloc, text),
+        None => Value::NULL,
     }
 }
 
-fn values(alloc: Global, cells: &[Option<&[u8]>]) -> Result<Vec<Value>, AllocError> {
+fn values(rt: &impl Abort, alloc: Global, cells: &[Option<&[u8]>]) -> Vec<Value> {
     let mut values = Vec::new(alloc);
     for cell in cells {
-        values.push(value_of(alloc, *cell)?)?;
+        answer_of(rt, values.push(value_of(rt, alloc, *cell)));
     }
-    Ok(values)
+    values
 }
 
 // Bytes, the cells in front of them, and what is left.
@@ -45,16 +44,15 @@ const ROWS: &[(&[u8], &[Option<&[u8]>], &[u8])] = &[
 ];
 
 #[test]
-fn rows(rt: HostRuntime) -> Result<(), Fail> {
+fn rows(rt: HostRuntime) {
     let alloc = rt.alloc();
     for (input, cells, left) in ROWS {
         let mut buf = ParseBuf(*input);
-        let row = read_text_cells(alloc, &mut buf, cells.len())?;
-        let wanted = values(alloc, *cells)?;
+        let row = answer_of(&rt, read_text_cells(alloc, &mut buf, cells.len()));
+        let wanted = values(&rt, alloc, *cells);
         same_in(&rt, row.as_slice(), wanted.as_slice(), &input);
         same_in(&rt, buf.0, *left, &input);
     }
-    Ok(())
 }
 
 // So many cells are refused, and the bytes are left.
@@ -98,21 +96,22 @@ const CELLS: &[(&[u8], Option<&[u8]>)] = &[
 ];
 
 // The cell is read at the front of the bytes, and the byte 9 is left.
-fn reads_cell(rt: &impl Abort, alloc: Global, input: &[u8], cell: Value) -> Result<(), Fail> {
+fn reads_cell(rt: &impl Abort, alloc: Global, input: &[u8], cell: Value) {
     let mut buf = ParseBuf(input);
-    let read = ValueDeserializer::<TextValue>::deserialize(alloc, (), &mut buf)?;
+    let read = answer_of(
+        rt,
+        ValueDeserializer::<TextValue>::deserialize(alloc, (), &mut buf),
+    );
     same_in(rt, &read.0, &cell, &input);
     same_in(rt, buf.0, [9].as_slice(), &input);
-    Ok(())
 }
 
 #[test]
-fn single_cells(rt: HostRuntime) -> Result<(), Fail> {
+fn single_cells(rt: HostRuntime) {
     let alloc = rt.alloc();
     for (input, cell) in CELLS {
-        reads_cell(&rt, alloc, *input, value_of(alloc, *cell)?)?;
+        reads_cell(&rt, alloc, *input, value_of(&rt, alloc, *cell));
     }
-    Ok(())
 }
 
 #[test]

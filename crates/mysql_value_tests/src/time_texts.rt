@@ -1,7 +1,6 @@
 //! The reader of time texts.
 use crate::shared::same_in;
 use mysql_sql_text::time_text::read_time_text;
-use std::test::Fail;
 
 const READ: &[(&[u8], bool, u64)] = &[
     (b"00:00:00", false, 0),
@@ -20,7 +19,7 @@ const READ: &[(&[u8], bool, u64)] = &[
 ];
 
 #[test]
-fn time_texts_are_read(rt: HostRuntime) -> Result<(), Fail> {
+fn time_texts_are_read(rt: HostRuntime) {
     for (text, negative, microseconds) in READ {
         same_in(
             &rt,
@@ -29,7 +28,6 @@ fn time_texts_are_read(rt: HostRuntime) -> Result<(), Fail> {
             &text,
         );
     }
-    Ok(())
 }
 
 const NOT_READ: &[&[u8]] = &[
@@ -67,9 +65,8 @@ const NOT_READ: &[&[u8]] = &[
 ];
 
 #[test]
-fn other_texts_are_not_read(rt: HostRuntime) -> Result<(), Fail> {
+fn other_texts_are_not_read(rt: HostRuntime) {
     for text in NOT_READ {
         same_in(&rt, &read_time_text(*text), &None, &text);
     }
-    Ok(())
 }

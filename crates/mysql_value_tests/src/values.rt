@@ -1,22 +1,15 @@
 //! Values: how they are shown, compared and copied.
-use crate::shared::{DateFields, TimeFields, bytes, date, same, same_in, time};
+use crate::shared::{DateFields, TimeFields, answer_of, bytes, date, same, same_in, time};
 use mysql_values::bytes::Bytes;
 use mysql_values::value::Value;
-use std::alloc::{AllocError, Global};
+use std::alloc::Global;
 use std::fmt::Debug;
 use std::process::Abort;
-use std::test::Fail;
 
 // The value is shown as the text.
-fn is_shown<T: Debug + Drop>(
-    rt: &impl Abort,
-    alloc: Global,
-    value: T,
-    text: &str,
-) -> Result<(), Fail> {
-    let shown = format!(in alloc; "{value:?}")?;
+fn is_shown<T: Debug + Drop>(rt: &impl Abort, alloc: Global, value: T, text: &str) {
+    let shown = answer_of(rt, format!(in alloc; "{value:?}"));
     same(rt, shown.as_str(), text);
-    Ok(())
 }
 
 const SHOWN_BYTES: &[(&[u8], &str)] = &[
@@ -55,28 +48,27 @@ const SHOWN_TIMES: &[(TimeFields, &str)] = &[
 ];
 
 #[test]
-fn debug_texts(rt: HostRuntime) -> Result<(), Fail> {
+fn debug_texts(rt: HostRuntime) {
     let alloc = rt.alloc();
     for (held, text) in SHOWN_BYTES {
-        is_shown(&rt, alloc, bytes(alloc, *held)?, *text)?;
+        is_shown(&rt, alloc, bytes(&rt, alloc, *held), *text);
     }
     for (fields, text) in SHOWN_DATES {
-        is_shown(&rt, alloc, date(*fields), *text)?;
+        is_shown(&rt, alloc, date(*fields), *text);
     }
     for (fields, text) in SHOWN_TIMES {
-        is_shown(&rt, alloc, time(*fields), *text)?;
+        is_shown(&rt, alloc, time(*fields), *text);
     }
-    Ok(())
 }
 
 #[test]
-fn debug_texts_of_null_and_numbers(rt: HostRuntime) -> Result<(), Fail> {
+fn debug_texts_of_null_and_numbers(rt: HostRuntime) {
     let alloc = rt.alloc();
-    is_shown(&rt, alloc, Value::NULL, "Null")?;
-    is_shown(&rt, alloc, Value::Int(-3), "Int(-3)")?;
-    is_shown(&rt, alloc, Value::UInt(5), "UInt(5)")?;
-    is_shown(&rt, alloc, Value::Float(1065353216), "Float(1065353216)")?;
-    is_shown(&rt, alloc, Value::Double(0), "Double(0)")
+    is_shown(&rt, alloc, Value::NULL, "Null");
+    is_shown(&rt, alloc, Value::Int(-3), "Int(-3)");
+    is_shown(&rt, alloc, Value::UInt(5), "UInt(5)");
+    is_shown(&rt, alloc, Value::Float(1065353216), "Float(1065353216)");
+    is_shown(&rt, alloc, Value::Double(0), "Double(0)");
 }
 
 const ASCENDING_BYTES: &[&[u8]] = &[b"", b"a", b"ab", b"b", b"\xff"];
@@ -94,48 +86,44 @@ const ASCENDING_TIMES: &[TimeFields] = &[
     (true, 1, 0, 0, 0, 0),
 ];
 
-fn push_bytes(alloc: Global, values: &mut Vec<Value>) -> Result<(), AllocError> {
+fn push_bytes(rt: &impl Abort, alloc: Global, values: &mut Vec<Value>) {
     for held in ASCENDING_BYTES {
-        values.push(bytes(alloc, *held)?)?;
+        answer_of(rt, values.push(bytes(rt, alloc, *held)));
     }
-    Ok(())
 }
 
-fn push_numbers(values: &mut Vec<Value>) -> Result<(), AllocError> {
-    values.push(Value::Int(-1))?;
-    values.push(Value::Int(0))?;
-    values.push(Value::UInt(0))?;
-    values.push(Value::UInt(9223372036854775808))?;
+fn push_numbers(rt: &impl Abort, values: &mut Vec<Value>) {
+    answer_of(rt, values.push(Value::Int(-1)));
+    answer_of(rt, values.push(Value::Int(0)));
+    answer_of(rt, values.push(Value::UInt(0)));
+    answer_of(rt, values.push(Value::UInt(9223372036854775808)));
     // The bits of 1.0 and of -1.0.
-    values.push(Value::Float(1065353216))?;
-    values.push(Value::Float(3212836864))?;
-    values.push(Value::Double(0))?;
-    Ok(())
+    answer_of(rt, values.push(Value::Float(1065353216)));
+    answer_of(rt, values.push(Value::Float(3212836864)));
+    answer_of(rt, values.push(Value::Double(0)));
 }
 
-fn push_dates(values: &mut Vec<Value>) -> Result<(), AllocError> {
+fn push_dates(rt: &impl Abort, values: &mut Vec<Value>) {
     for fields in ASCENDING_DATES {
-        values.push(date(*fields))?;
+        answer_of(rt, values.push(date(*fields)));
     }
-    Ok(())
 }
 
-fn push_times(values: &mut Vec<Value>) -> Result<(), AllocError> {
+fn push_times(rt: &impl Abort, values: &mut Vec<Value>) {
     for fields in ASCENDING_TIMES {
-        values.push(time(*fields))?;
+        answer_of(rt, values.push(time(*fields)));
     }
-    Ok(())
 }
 
 // Values in their order, no two of them equal.
-fn ascending(alloc: Global) -> Result<Vec<Value>, AllocError> {
+fn ascending(rt: &impl Abort, alloc: Global) -> Vec<Value> {
     let mut values = Vec::new(alloc);
-    values.push(Value::NULL)?;
-    push_bytes(alloc, &mut values)?;
-    push_numbers(&mut values)?;
-    push_dates(&mut values)?;
-    push_times(&mut values)?;
-    Ok(values)
+    answer_of(rt, values.push(Value::NULL));
+    push_bytes(rt, alloc, &mut values);
+    push_numbers(rt, &mut values);
+    push_dates(rt, &mut values);
+    push_times(rt, &mut values);
+    values
 }
 
 // Two values are equal where their places are, and stand in the order of these.
@@ -146,40 +134,40 @@ fn are_in_order<T: Debug + Ord>(rt: &impl Abort, (i, a): (usize, &T), (j, b): (u
 }
 
 #[test]
-fn equality_and_order(rt: HostRuntime) -> Result<(), Fail> {
-    let values = ascending(rt.alloc())?;
+fn equality_and_order(rt: HostRuntime) {
+    let values = ascending(&rt, rt.alloc());
     same(&rt, &values.len(), &20);
     for (i, a) in values.iter().enumerate() {
         for (j, b) in values.iter().enumerate() {
             are_in_order(&rt, (i, a), (j, b));
         }
     }
-    Ok(())
 }
 
 #[test]
-fn copies(rt: HostRuntime) -> Result<(), Fail> {
-    for value in &ascending(rt.alloc())? {
-        same(&rt, &value.clone()?, value);
+fn copies(rt: HostRuntime) {
+    for value in &ascending(&rt, rt.alloc()) {
+        same(&rt, &answer_of(&rt, value.clone()), value);
     }
-    Ok(())
 }
 
 #[test]
-fn copy_of_a_vector(rt: HostRuntime) -> Result<(), Fail> {
+fn copy_of_a_vector(rt: HostRuntime) {
     // The copy of a vector goes by the trait.
     let mut held = Vec::new(rt.alloc());
-    held.push(Value::Int(-3))?;
-    held.push(bytes(rt.alloc(), b"text")?)?;
-    same(&rt, held.clone()?.as_slice(), held.as_slice());
-    Ok(())
+    answer_of(&rt, held.push(Value::Int(-3)));
+    answer_of(&rt, held.push(bytes(&rt, rt.alloc(), b"text")));
+    same(
+        &rt,
+        answer_of(&rt, held.clone()).as_slice(),
+        held.as_slice(),
+    );
 }
 
 #[test]
-fn bytes_and_vectors(rt: HostRuntime) -> Result<(), Fail> {
-    let text = Bytes::from(Vec::from_slice(rt.alloc(), b"text")?);
-    same(&rt, &text.clone()?, &text);
+fn bytes_and_vectors(rt: HostRuntime) {
+    let text = Bytes::from(answer_of(&rt, Vec::from_slice(rt.alloc(), b"text")));
+    same(&rt, &answer_of(&rt, text.clone()), &text);
     same(&rt, text.as_slice(), b"text".as_slice());
     same(&rt, Vec::<u8>::from(text).as_slice(), b"text".as_slice());
-    Ok(())
 }

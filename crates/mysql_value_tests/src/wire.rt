@@ -1,10 +1,9 @@
 //! The buffer: integers of each width, and length-encoded strings.
-use crate::shared::{same_bytes_in, same_in, string_and_form};
+use crate::shared::{answer_of, same_bytes_in, same_in, string_and_form};
 use mysql_wire_part::{ParseBuf, WireError, fill_lenenc_str, lenenc_str_len, put_lenenc_str};
 use std::alloc::Global;
 use std::fmt::Debug;
 use std::process::Abort;
-use std::test::Fail;
 
 // What each of the eight calls answers for the bytes, widened, and how many bytes it leaves.
 fn integers(bytes: &[u8]) -> [(Option<i128>, usize); 8] {
@@ -128,27 +127,26 @@ const LENGTHS: &[(usize, &[u8])] = &[
 
 // The string is written after what stands in the buffer, as the form, whose length it knows; and
 // once more over that.
-fn is_written(rt: &impl Abort, alloc: Global, text: &[u8], form: &[u8]) -> Result<(), Fail> {
+fn is_written(rt: &impl Abort, alloc: Global, text: &[u8], form: &[u8]) {
     let len = text.len();
-    let mut buf = vec![in alloc; 7]?;
-    put_lenenc_str(&mut buf, text)?;
+    let mut buf = vec![in alloc; 7].expect(rt, "no memory");
+    // Only this call itself says how long the bytes are, which the calls below need.
+    put_lenenc_str(&mut buf, text).expect(rt, "no memory");
     same_in(rt, &buf[0], &7, &len);
     same_bytes_in(rt, &buf[1..], form, &len);
     same_in(rt, &lenenc_str_len(text), &(form.len() as u64), &len);
     buf[1..].fill(0);
     fill_lenenc_str(&mut buf[1..], text);
     same_bytes_in(rt, &buf[1..], form, &len);
-    Ok(())
 }
 
 #[test]
-fn written_lengths(rt: HostRuntime) -> Result<(), Fail> {
+fn written_lengths(rt: HostRuntime) {
     let alloc = rt.alloc();
     for (len, head) in LENGTHS {
-        let (text, form) = string_and_form(alloc, *len, *head)?;
-        is_written(&rt, alloc, &text, &form)?;
+        let (text, form) = string_and_form(&rt, alloc, *len, *head);
+        is_written(&rt, alloc, &text, &form);
     }
-    Ok(())
 }
 
 // The string is read at the front of its form, and what is after it is left.
@@ -162,14 +160,13 @@ fn is_read<C: Debug>(rt: &impl Abort, text: &[u8], form: &[u8], left: &[u8], cas
 }
 
 #[test]
-fn read_lengths(rt: HostRuntime) -> Result<(), Fail> {
+fn read_lengths(rt: HostRuntime) {
     let alloc = rt.alloc();
     for (len, head) in LENGTHS {
-        let (text, mut form) = string_and_form(alloc, *len, *head)?;
-        form.push(0x2A)?;
+        let (text, mut form) = string_and_form(&rt, alloc, *len, *head);
+        answer_of(&rt, form.push(0x2A));
         is_read(&rt, &text, &form, &[0x2A], len);
     }
-    Ok(())
 }
 
 // The string of one letter, and after it the byte 42.

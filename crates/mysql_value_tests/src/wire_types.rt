@@ -2,13 +2,12 @@
 ghost use Rattle.std.specs.Prelude.{ℕ, List, ⊤};
 ghost use Rattle.mysql_wire_part.specs.Lenenc.{lenenc_spelling, read_lenenc};
 
-use crate::shared::{same, same_in};
+use crate::shared::{answer_of, same, same_in};
 use mysql_wire_part::{
     ColumnFlags, ColumnType, Flags, MyDeserialize, MySerialize, ParseBuf, WireError, put_lenenc_str,
 };
 use std::alloc::{AllocError, Global};
 use std::process::Abort;
-use std::test::Fail;
 
 const MESSAGES: &[(WireError, &str)] = &[
     (WireError::UnexpectedEof, "Unexpected end of buffer"),
@@ -20,23 +19,22 @@ const MESSAGES: &[(WireError, &str)] = &[
 ];
 
 // The error prints the message.
-fn says(rt: &impl Abort, alloc: Global, error: &WireError, message: &str) -> Result<(), Fail> {
-    let printed = error.to_string(alloc)?;
+fn says(rt: &impl Abort, alloc: Global, error: &WireError, message: &str) {
+    let printed = answer_of(rt, error.to_string(alloc));
     same(rt, printed.as_str(), message);
-    Ok(())
 }
 
 #[test]
-fn messages(rt: HostRuntime) -> Result<(), Fail> {
+fn messages(rt: HostRuntime) {
     for (error, message) in MESSAGES {
-        says(&rt, rt.alloc(), error, *message)?;
+        says(&rt, rt.alloc(), error, *message);
     }
     says(
         &rt,
         rt.alloc(),
         &WireError::from(AllocError),
         "out of memory",
-    )
+    );
 }
 
 #[test]
@@ -96,51 +94,46 @@ impl<'de> MyDeserialize<'de> for Name {
 }
 
 // Two values, written one after the other.
-fn written<T: MySerialize>(alloc: Global, values: &[T; 2]) -> Result<Vec<u8>, AllocError> {
+fn written<T: MySerialize>(rt: &impl Abort, alloc: Global, values: &[T; 2]) -> Vec<u8> {
     let mut buf = Vec::new(alloc);
-    values[0].serialize(&mut buf)?;
-    values[1].serialize(&mut buf)?;
-    Ok(buf)
+    answer_of(rt, values[0].serialize(&mut buf));
+    answer_of(rt, values[1].serialize(&mut buf));
+    buf
 }
 
 // Two values, read one after the other.
 fn read<'de, T: MyDeserialize<'de, Ctx = ()> + Drop>(
+    rt: &impl Abort,
     alloc: Global,
     buf: &mut ParseBuf<'de>,
-) -> Result<(T, T), WireError> {
-    let first = T::deserialize(alloc, (), buf)?;
-    let second = T::deserialize(alloc, (), buf)?;
-    Ok((first, second))
+) -> (T, T) {
+    let first = answer_of(rt, T::deserialize(alloc, (), buf));
+    let second = answer_of(rt, T::deserialize(alloc, (), buf));
+    (first, second)
 }
 
-fn name_of(alloc: Global, text: &[u8]) -> Result<Name, AllocError> {
-    let bytes = Vec::from_slice(alloc, text)?;
-    Ok(Name { bytes })
+fn name_of(rt: &impl Abort, alloc: Global, text: &[u8]) -> Name {
+    let bytes = answer_of(rt, Vec::from_slice(alloc, text));
+    Name { bytes }
 }
 
 // The two names are read from the bytes, and nothing is left.
-fn names_are_read(
-    rt: &impl Abort,
-    alloc: Global,
-    bytes: &[u8],
-    wanted: (&[u8], &[u8]),
-) -> Result<(), Fail> {
+fn names_are_read(rt: &impl Abort, alloc: Global, bytes: &[u8], wanted: (&[u8], &[u8])) {
     let mut rest = ParseBuf(bytes);
-    let (first, second): (Name, Name) = read(alloc, &mut rest)?;
+    let (first, second): (Name, Name) = read(rt, alloc, &mut rest);
     same(
         rt,
         &(first.bytes.as_slice(), second.bytes.as_slice()),
         &wanted,
     );
     same(rt, &rest.is_empty(), &true);
-    Ok(())
 }
 
 #[test]
-fn a_type_of_the_users_own(rt: HostRuntime) -> Result<(), Fail> {
+fn a_type_of_the_users_own(rt: HostRuntime) {
     let alloc = rt.alloc();
-    let names = [name_of(alloc, b"abc")?, name_of(alloc, b"")?];
-    let buf = written(alloc, &names)?;
+    let names = [name_of(&rt, alloc, b"abc"), name_of(&rt, alloc, b"")];
+    let buf = written(&rt, alloc, &names);
     same(&rt, buf.as_slice(), b"\x03abc\x00".as_slice());
-    names_are_read(&rt, alloc, &buf, (b"abc", b""))
+    names_are_read(&rt, alloc, &buf, (b"abc", b""));
 }
