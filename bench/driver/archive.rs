@@ -38,6 +38,12 @@ unsafe extern "C" {
         room_len: usize,
         report: *mut Report,
     ) -> i32;
+    fn mysql_params_first_unportable(
+        query: *const u8,
+        query_len: usize,
+        no_backslash_escape: bool,
+        report: *mut Report,
+    ) -> i32;
 }
 
 /// A report that no call gives: the archive has to write each field.
@@ -106,6 +112,17 @@ pub fn bind_without_backslashes(query: &[u8], form: &[u8], room: &mut [u8]) -> (
             room.len(),
             &mut report,
         )
+    };
+    (number, report)
+}
+
+/// The first construct for which the query isn't portable.
+pub fn first_unportable(query: &[u8], no_backslash_escape: bool) -> (i32, Report) {
+    let mut report = UNWRITTEN;
+    let (query_at, query_len) = (query.as_ptr(), query.len());
+    // SAFETY: pointer and length are those of a slice, and the report is the archive's to write.
+    let number = unsafe {
+        mysql_params_first_unportable(query_at, query_len, no_backslash_escape, &mut report)
     };
     (number, report)
 }

@@ -1,9 +1,10 @@
-//! Compares the archive with plain Rust: on every short query over the special bytes, and on
-//! random bindings.
+//! Compares the archive with plain Rust: on every short query over the special bytes, on random
+//! bindings, and on portable queries.
 
 use crate::bindings;
 use crate::differences::{Differences, Mode};
 use crate::other_mode::WithoutBackslashes;
+use crate::portable;
 use plain::form;
 use plain::query::next_place;
 use plain::search::{Search, Table};
@@ -17,7 +18,7 @@ const ALPHABET: &[u8] = b"'\"`\\#-/*:?a1 \n\t!(+\xFF";
 /// Room for each answer to a query of up to 8 bytes.
 const SHORT_ROOM: usize = 256;
 
-/// Compares on every query of up to `longest` bytes, and on so many random bindings.
+/// Compares on every query of up to `longest` bytes, and on so many random bindings and queries.
 pub fn compare(longest: usize, count: u64) -> ExitCode {
     let start = Instant::now();
     let mut differences = Differences::default();
@@ -29,7 +30,9 @@ pub fn compare(longest: usize, count: u64) -> ExitCode {
     let calls = differences.calls - calls;
     let seconds = start.elapsed().as_secs() - seconds;
     println!("{count} random bindings: {calls} calls, {seconds} s");
-    differences.print()
+    let is_judged_alike = portable::compare(longest, count);
+    let printed = differences.print();
+    if is_judged_alike { printed } else { ExitCode::FAILURE }
 }
 
 /// Compares the calls on every query of up to so many bytes; gives their number.

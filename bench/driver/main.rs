@@ -7,6 +7,7 @@ mod differences;
 mod inputs;
 mod memory;
 mod other_mode;
+mod portable;
 mod random;
 mod report;
 mod sides;

@@ -3,6 +3,7 @@
 
 pub mod bind;
 pub mod form;
+pub mod portable;
 pub mod query;
 pub mod room;
 pub mod search;

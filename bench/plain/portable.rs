@@ -1,0 +1,114 @@
+//! The first construct of a query that servers read in different ways, after docs/RULES.md,
+//! "Portable queries": one byte after the other, with token ends of its own.
+
+/// The names of the numbers, from 0.
+pub const CONSTRUCTS: [&str; 10] = [
+    "PORTABLE",
+    "EXECUTABLE_COMMENT",
+    "HINT",
+    "MARIADB_COMMENT",
+    "DASHES",
+    "ESCAPED_QUOTE",
+    "BRACKET",
+    "DOLLAR_QUOTE",
+    "DASHES_AFTER_EXPONENT",
+    "PLACE_AFTER_EXPONENT",
+];
+
+/// The number of the construct, and the index of its first byte; both are 0 where there is none.
+pub fn first_unportable(query: &[u8], no_backslash_escape: bool) -> (i32, usize) {
+    let mut at = 0;
+    while at < query.len() {
+        let number = construct(query[at], &query[at + 1..]);
+        if number != 0 {
+            return (number, at);
+        }
+        let rest = &query[at + 1..];
+        at += 1 + match query[at] {
+            quote @ (b'\'' | b'"') => {
+                let (len, is_escaped_inside) = string_len(rest, quote, no_backslash_escape);
+                if quote == b'"' && is_escaped_inside {
+                    return (5, at);
+                }
+                len
+            }
+            b'`' => len_with(rest, b"`"),
+            b'#' => len_with(rest, b"\n"),
+            b'-' if matches!(rest, [b'-', 9 | 12 | 13 | 32, ..]) => 2 + len_with(&rest[2..], b"\n"),
+            b'/' if rest.starts_with(b"*") => 1 + len_with(&rest[1..], b"*/"),
+            b':' if rest.first().is_some_and(begins_name) => {
+                rest.iter().take_while(|byte| begins_name(byte) || byte.is_ascii_digit()).count()
+            }
+            _ => 0,
+        };
+    }
+    (0, 0)
+}
+
+/// The construct that begins with this byte before this text, but for a text in quotes.
+fn construct(byte: u8, rest: &[u8]) -> i32 {
+    match (byte, rest) {
+        (b'/', [b'*', b'!', ..]) => 1,
+        (b'/', [b'*', b'+', ..]) => 2,
+        (b'/', [b'*', b'M', b'!', ..]) => 3,
+        (b'-', [b'-', gap, ..]) if !gap.is_ascii_graphic() && !gap.is_ascii_whitespace() => 4,
+        (b'[', _) => 6,
+        (b'$', _) if leads_to_dollar(rest) => 7,
+        (b'.', _) if leads_to_dashes(rest) => 8,
+        (b'.' | b'0'..=b'9', [b'e' | b'E', b'+' | b'-', place @ ..]) if begins_place(place) => 9,
+        _ => 0,
+    }
+}
+
+/// Bytes of an identifier, and then `$` or a place.
+fn leads_to_dollar(text: &[u8]) -> bool {
+    let is_of_tag = |byte: &u8| byte.is_ascii_alphanumeric() || *byte == b'_' || *byte >= 128;
+    matches!(text.iter().find(|byte| !is_of_tag(byte)), Some(b'$' | b'?' | b':'))
+}
+
+/// Digits, and then a place, or `e` and two dashes that open a comment, perhaps after a sign.
+fn leads_to_dashes(text: &[u8]) -> bool {
+    let digits = text.iter().take_while(|byte| byte.is_ascii_digit()).count();
+    let opens = |text: &[u8]| matches!(text, [b'-', b'-', gap, ..] if !gap.is_ascii_graphic());
+    match &text[digits..] {
+        [b'?' | b':', ..] => true,
+        [b'e' | b'E', b'+' | b'-', after @ ..] if opens(after) => true,
+        [b'e' | b'E', after @ ..] => opens(after),
+        _ => false,
+    }
+}
+
+fn begins_place(text: &[u8]) -> bool {
+    match text {
+        [b'?', ..] => true,
+        [b':', byte, ..] => begins_name(byte),
+        _ => false,
+    }
+}
+
+fn begins_name(byte: &u8) -> bool {
+    matches!(byte, b'a'..=b'z' | b'_')
+}
+
+/// The bytes up to and with this end, or all.
+fn len_with(text: &[u8], end: &[u8]) -> usize {
+    let found = text.windows(end.len()).position(|bytes| bytes == end);
+    found.map_or(text.len(), |at| at + end.len())
+}
+
+/// The bytes of a text after its opening quote, and whether an escaped one stands before the last.
+fn string_len(text: &[u8], quote: u8, no_backslash_escape: bool) -> (usize, bool) {
+    let mut first_escaped = None;
+    let mut at = 0;
+    while at < text.len() && text[at] != quote {
+        if text[at] == b'\\' && !no_backslash_escape {
+            at += 1;
+            if text.get(at) == Some(&quote) && first_escaped.is_none() {
+                first_escaped = Some(at);
+            }
+        }
+        at += 1;
+    }
+    let len = (at + 1).min(text.len());
+    (len, first_escaped.is_some_and(|escaped| escaped + 1 < len))
+}
