@@ -1,6 +1,17 @@
 //! The first construct of a query that servers read in different ways, after docs/RULES.md,
 //! "Portable queries": one byte after the other, with token ends of its own.
 
+const PORTABLE: i32 = 0;
+const EXECUTABLE_COMMENT: i32 = 1;
+const HINT: i32 = 2;
+const MARIADB_COMMENT: i32 = 3;
+const DASHES: i32 = 4;
+const ESCAPED_QUOTE: i32 = 5;
+const BRACKET: i32 = 6;
+const DOLLAR_QUOTE: i32 = 7;
+const DASHES_AFTER_EXPONENT: i32 = 8;
+const PLACE_AFTER_EXPONENT: i32 = 9;
+
 /// The names of the numbers, from 0.
 pub const CONSTRUCTS: [&str; 10] = [
     "PORTABLE",
@@ -19,16 +30,15 @@ pub const CONSTRUCTS: [&str; 10] = [
 pub fn first_unportable(query: &[u8], no_backslash_escape: bool) -> (i32, usize) {
     let mut at = 0;
     while at < query.len() {
-        let number = construct(query[at], &query[at + 1..]);
-        if number != 0 {
+        let rest = &query[at + 1..];
+        if let Some(number) = construct(query[at], rest) {
             return (number, at);
         }
-        let rest = &query[at + 1..];
         at += 1 + match query[at] {
             quote @ (b'\'' | b'"') => {
                 let (len, is_escaped_inside) = string_len(rest, quote, no_backslash_escape);
                 if quote == b'"' && is_escaped_inside {
-                    return (5, at);
+                    return (ESCAPED_QUOTE, at);
                 }
                 len
             }
@@ -42,22 +52,24 @@ pub fn first_unportable(query: &[u8], no_backslash_escape: bool) -> (i32, usize)
             _ => 0,
         };
     }
-    (0, 0)
+    (PORTABLE, 0)
 }
 
 /// The construct that begins with this byte before this text, but for a text in quotes.
-fn construct(byte: u8, rest: &[u8]) -> i32 {
-    match (byte, rest) {
-        (b'/', [b'*', b'!', ..]) => 1,
-        (b'/', [b'*', b'+', ..]) => 2,
-        (b'/', [b'*', b'M', b'!', ..]) => 3,
-        (b'-', [b'-', gap, ..]) if !gap.is_ascii_graphic() && !gap.is_ascii_whitespace() => 4,
-        (b'[', _) => 6,
-        (b'$', _) if leads_to_dollar(rest) => 7,
-        (b'.', _) if leads_to_dashes(rest) => 8,
-        (b'.' | b'0'..=b'9', [b'e' | b'E', b'+' | b'-', place @ ..]) if begins_place(place) => 9,
-        _ => 0,
-    }
+fn construct(byte: u8, rest: &[u8]) -> Option<i32> {
+    Some(match (byte, rest) {
+        (b'/', [b'*', b'!', ..]) => EXECUTABLE_COMMENT,
+        (b'/', [b'*', b'+', ..]) => HINT,
+        (b'/', [b'*', b'M', b'!', ..]) => MARIADB_COMMENT,
+        (b'-', [b'-', gap, ..]) if !gap.is_ascii_graphic() && !gap.is_ascii_whitespace() => DASHES,
+        (b'[', _) => BRACKET,
+        (b'$', _) if leads_to_dollar(rest) => DOLLAR_QUOTE,
+        (b'.', _) if leads_to_dashes(rest) => DASHES_AFTER_EXPONENT,
+        (b'.' | b'0'..=b'9', [b'e' | b'E', b'+' | b'-', place @ ..]) if begins_place(place) => {
+            PLACE_AFTER_EXPONENT
+        }
+        _ => return None,
+    })
 }
 
 /// Bytes of an identifier, and then `$` or a place.
