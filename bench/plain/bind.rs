@@ -1,7 +1,7 @@
 //! Binding in one scan into one vector, after docs/RULES.md.
 
 use crate::query::next_place;
-use crate::search::Search;
+use crate::search::{Search, set};
 use crate::value::{Params, Value, append_literal};
 
 #[derive(Debug)]
@@ -32,18 +32,8 @@ pub struct Name {
     pub end: usize,
 }
 
-const fn neighbours(bytes: &[u8]) -> [bool; 256] {
-    let mut table = [false; 256];
-    let mut at = 0;
-    while at < bytes.len() {
-        table[bytes[at] as usize] = true;
-        at += 1;
-    }
-    table
-}
-
-static MAY_STAND_BEFORE: [bool; 256] = neighbours(b"\t\n\x0c\r (,=<>+-*/%&|^~");
-static MAY_STAND_AFTER: [bool; 256] = neighbours(b"\t\n\x0c\r ),;=<>+-*/%&|^!");
+static MAY_STAND_BEFORE: [bool; 256] = set(b"\t\n\x0c\r (,=<>+-*/%&|^~");
+static MAY_STAND_AFTER: [bool; 256] = set(b"\t\n\x0c\r ),;=<>+-*/%&|^!");
 
 #[inline(always)]
 fn stands_alone(query: &[u8], start: usize, end: usize) -> bool {

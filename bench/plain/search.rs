@@ -26,7 +26,8 @@ pub trait Search {
     fn escaped(text: &[u8], from: usize) -> usize;
 }
 
-const fn set(bytes: &[u8]) -> [bool; 256] {
+/// A table that is true at these bytes.
+pub(crate) const fn set(bytes: &[u8]) -> [bool; 256] {
     let mut table = [false; 256];
     let mut at = 0;
     while at < bytes.len() {
