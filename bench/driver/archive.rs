@@ -56,73 +56,52 @@ const UNWRITTEN: Report = Report {
     byte: usize::MAX,
 };
 
-pub fn names(query: &[u8], room: &mut [u8]) -> (i32, Report) {
+/// The number and the report of a call, which has to write each field.
+#[inline(always)]
+fn told(call: impl FnOnce(*mut Report) -> i32) -> (i32, Report) {
     let mut report = UNWRITTEN;
-    // SAFETY: pointers and lengths are those of slices, and the report is the archive's to write.
-    let number = unsafe {
-        mysql_params_names(query.as_ptr(), query.len(), room.as_mut_ptr(), room.len(), &mut report)
-    };
+    let number = call(&mut report);
     (number, report)
 }
 
+// SAFETY, of each call below: pointers and lengths are those of slices, and the report is the archive's to write.
+
+pub fn names(query: &[u8], room: &mut [u8]) -> (i32, Report) {
+    let (query_at, room_at) = (query.as_ptr(), room.as_mut_ptr());
+    told(|report| unsafe { mysql_params_names(query_at, query.len(), room_at, room.len(), report) })
+}
+
 pub fn bind(query: &[u8], form: &[u8], room: &mut [u8]) -> (i32, Report) {
-    let mut report = UNWRITTEN;
-    let (form_at, room_at) = (form.as_ptr(), room.as_mut_ptr());
-    // SAFETY: pointers and lengths are those of slices, and the report is the archive's to write.
-    let number = unsafe {
-        let (query_at, query_len) = (query.as_ptr(), query.len());
-        mysql_params_bind(
-            query_at,
-            query_len,
-            form_at,
-            form.len(),
-            room_at,
-            room.len(),
-            &mut report,
-        )
-    };
-    (number, report)
+    let (query_at, form_at, room_at) = (query.as_ptr(), form.as_ptr(), room.as_mut_ptr());
+    told(|report| unsafe {
+        let query_len = query.len();
+        mysql_params_bind(query_at, query_len, form_at, form.len(), room_at, room.len(), report)
+    })
 }
 
 /// `names` in the mode without backslash escapes.
 pub fn names_without_backslashes(query: &[u8], room: &mut [u8]) -> (i32, Report) {
-    let mut report = UNWRITTEN;
     let (query_at, room_at) = (query.as_ptr(), room.as_mut_ptr());
-    // SAFETY: pointers and lengths are those of slices, and the report is the archive's to write.
-    let number = unsafe {
-        mysql_params_names_in(query_at, query.len(), true, room_at, room.len(), &mut report)
-    };
-    (number, report)
+    told(|report| unsafe {
+        mysql_params_names_in(query_at, query.len(), true, room_at, room.len(), report)
+    })
 }
 
 /// `bind` in the mode without backslash escapes.
 pub fn bind_without_backslashes(query: &[u8], form: &[u8], room: &mut [u8]) -> (i32, Report) {
-    let mut report = UNWRITTEN;
-    let (form_at, room_at) = (form.as_ptr(), room.as_mut_ptr());
-    // SAFETY: pointers and lengths are those of slices, and the report is the archive's to write.
-    let number = unsafe {
-        let (query_at, query_len) = (query.as_ptr(), query.len());
+    let (query_at, form_at, room_at) = (query.as_ptr(), form.as_ptr(), room.as_mut_ptr());
+    let (query_len, form_len, room_len) = (query.len(), form.len(), room.len());
+    told(|report| unsafe {
         mysql_params_bind_in(
-            query_at,
-            query_len,
-            form_at,
-            form.len(),
-            true,
-            room_at,
-            room.len(),
-            &mut report,
+            query_at, query_len, form_at, form_len, true, room_at, room_len, report,
         )
-    };
-    (number, report)
+    })
 }
 
 /// The first construct for which the query isn't portable.
 pub fn first_unportable(query: &[u8], no_backslash_escape: bool) -> (i32, Report) {
-    let mut report = UNWRITTEN;
-    let (query_at, query_len) = (query.as_ptr(), query.len());
-    // SAFETY: pointer and length are those of a slice, and the report is the archive's to write.
-    let number = unsafe {
-        mysql_params_first_unportable(query_at, query_len, no_backslash_escape, &mut report)
-    };
-    (number, report)
+    let query_at = query.as_ptr();
+    told(|report| unsafe {
+        mysql_params_first_unportable(query_at, query.len(), no_backslash_escape, report)
+    })
 }

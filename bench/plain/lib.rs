@@ -29,32 +29,24 @@ pub struct Kind {
     pub bind: Bind,
 }
 
+/// The calls by one way to search. They aren't generic, so that they are compiled in this crate.
+macro_rules! kind {
+    ($search:ty) => {{
+        fn names(query: &[u8], room: &mut [u8]) -> (i32, Report) {
+            room::names::<$search>(query, room)
+        }
+        fn bind_form(query: &[u8], form: &[u8], room: &mut [u8]) -> (i32, Report) {
+            room::bind_form(query, form, room, bind)
+        }
+        fn bind(query: &[u8], params: &Params) -> Result<Vec<u8>, BindError> {
+            bind::bind::<$search>(query, params)
+        }
+        Kind { names, bind_form, bind }
+    }};
+}
+
 /// One byte after the other, by tables.
-pub const TABLE: Kind = Kind { names: table_names, bind_form: table_bind_form, bind: table_bind };
+pub const TABLE: Kind = kind!(Table);
 
 /// 16 bytes at once.
-pub const WIDE: Kind = Kind { names: wide_names, bind_form: wide_bind_form, bind: wide_bind };
-
-fn table_names(query: &[u8], room: &mut [u8]) -> (i32, Report) {
-    room::names::<Table>(query, room)
-}
-
-fn table_bind_form(query: &[u8], form: &[u8], room: &mut [u8]) -> (i32, Report) {
-    room::bind_form(query, form, room, table_bind)
-}
-
-fn table_bind(query: &[u8], params: &Params) -> Result<Vec<u8>, BindError> {
-    bind::bind::<Table>(query, params)
-}
-
-fn wide_names(query: &[u8], room: &mut [u8]) -> (i32, Report) {
-    room::names::<Wide>(query, room)
-}
-
-fn wide_bind_form(query: &[u8], form: &[u8], room: &mut [u8]) -> (i32, Report) {
-    room::bind_form(query, form, room, wide_bind)
-}
-
-fn wide_bind(query: &[u8], params: &Params) -> Result<Vec<u8>, BindError> {
-    bind::bind::<Wide>(query, params)
-}
+pub const WIDE: Kind = kind!(Wide);

@@ -116,6 +116,15 @@ bool mysql_params_append_text(mysql_params_form *form, const char *name, const c
     return mysql_params_append_bytes(form, name, text, strlen(text));
 }
 
+/* The 7 bytes of a time of day. */
+static void fill_clock(uint8_t *clock, uint8_t hour, uint8_t minute, uint8_t second, uint32_t microsecond)
+{
+    clock[0] = hour;
+    clock[1] = minute;
+    clock[2] = second;
+    fill_number(clock + 3, 4, microsecond);
+}
+
 /* Always the longest form, which says every field. */
 bool mysql_params_append_date(mysql_params_form *form, const char *name, mysql_params_date date)
 {
@@ -123,10 +132,7 @@ bool mysql_params_append_date(mysql_params_form *form, const char *name, mysql_p
     fill_number(value + 1, 2, date.year);
     value[3] = date.month;
     value[4] = date.day;
-    value[5] = date.hour;
-    value[6] = date.minute;
-    value[7] = date.second;
-    fill_number(value + 8, 4, date.microsecond);
+    fill_clock(value + 5, date.hour, date.minute, date.second, date.microsecond);
     return append_parameter(form, name, TYPE_DATETIME, 0, value, 12, NULL, 0);
 }
 
@@ -136,10 +142,7 @@ bool mysql_params_append_time(mysql_params_form *form, const char *name, mysql_p
     uint8_t value[VALUE_ROOM] = {12};
     value[1] = time.negative ? 1 : 0;
     fill_number(value + 2, 4, time.days);
-    value[6] = time.hours;
-    value[7] = time.minutes;
-    value[8] = time.seconds;
-    fill_number(value + 9, 4, time.microseconds);
+    fill_clock(value + 6, time.hours, time.minutes, time.seconds, time.microseconds);
     return append_parameter(form, name, TYPE_TIME, 0, value, 13, NULL, 0);
 }
 

@@ -75,49 +75,30 @@ fn rooms_for_names() {
     has_answer(Call::Names { query: b":a+:b" }, b"\x03?+?\x01a\x01b");
 }
 
+/// The refusal leaves the room as it was.
+fn is_refused(query: &[u8], form: &[u8], wanted: (i32, Report)) {
+    let mut room = [UNTOUCHED; 32];
+    let answer = Call::Bind { query, form }.answer(false, &mut room);
+    assert_eq!(answer, wanted, "{query:?}");
+    assert_eq!(room, [UNTOUCHED; 32], "{query:?}");
+}
+
 #[test]
 fn refusals_leave_the_room() {
-    let mut room = [UNTOUCHED; 32];
-    let mixed = Call::Bind {
-        query: b"? :a",
-        form: b"",
-    }
-    .answer(false, &mut room);
-    assert_eq!(mixed, (8, Report::default()));
-    let missing = Call::Bind {
-        query: b"x, :abc",
-        form: b"",
-    }
-    .answer(false, &mut room);
-    assert_eq!(
-        missing,
-        (
-            9,
-            Report {
-                len: 3,
-                position: 4,
-                ..Report::default()
-            }
-        )
-    );
-    let lead = Call::Bind {
-        query: b"?",
-        form: b"\x00\x06\x00\xFB",
-    }
-    .answer(false, &mut room);
-    assert_eq!(
-        lead,
-        (
-            4,
-            Report {
-                place: 1,
-                position: 3,
-                byte: 251,
-                ..Report::default()
-            }
-        )
-    );
-    assert_eq!(room, [UNTOUCHED; 32]);
+    is_refused(b"? :a", b"", (8, Report::default()));
+    let missing = Report {
+        len: 3,
+        position: 4,
+        ..Report::default()
+    };
+    is_refused(b"x, :abc", b"", (9, missing));
+    let lead = Report {
+        place: 1,
+        position: 3,
+        byte: 251,
+        ..Report::default()
+    };
+    is_refused(b"?", b"\x00\x06\x00\xFB", (4, lead));
 }
 
 #[test]

@@ -107,21 +107,34 @@ fn values_that_say_the_same(rt: HostRuntime) {
     are_bound_by(&rt, rt.alloc(), WITH_BACKSLASHES, SAME);
 }
 
-/// Values that end a string, a comment or a statement elsewhere.
-const HOSTILE: &[(&[u8], &[u8])] = &[
-    (b"'", b"SELECT '\\'', 1"),
-    (b"\\", b"SELECT '\\\\', 1"),
-    (b"\\'", b"SELECT '\\\\\\'', 1"),
-    (b"*/", b"SELECT '*/', 1"),
-    (b"-- ", b"SELECT '-- ', 1"),
-    (b"; DROP TABLE t #", b"SELECT '; DROP TABLE t #', 1"),
-    (b"\xBF'", b"SELECT 0xBF27, 1"),
-    (b"\n", b"SELECT '\\n', 1"),
+/// Values that end a string, a comment or a statement elsewhere, and each bound: with backslash
+/// escapes, and without.
+pub(crate) const HOSTILE: &[(&[u8], &[u8], &[u8])] = &[
+    (b"'", b"SELECT '\\'', 1", b"SELECT '''', 1"),
+    (b"\\", b"SELECT '\\\\', 1", b"SELECT '\\', 1"),
+    (b"\\'", b"SELECT '\\\\\\'', 1", b"SELECT '\\''', 1"),
+    (b"\\\\'", b"SELECT '\\\\\\\\\\'', 1", b"SELECT '\\\\''', 1"),
+    (b"'\\", b"SELECT '\\'\\\\', 1", b"SELECT '''\\', 1"),
+    (b"\"", b"SELECT '\\\"', 1", b"SELECT '\"', 1"),
+    (b"*/", b"SELECT '*/', 1", b"SELECT '*/', 1"),
+    (b"-- ", b"SELECT '-- ', 1", b"SELECT '-- ', 1"),
+    (
+        b"; DROP TABLE t #",
+        b"SELECT '; DROP TABLE t #', 1",
+        b"SELECT '; DROP TABLE t #', 1",
+    ),
+    (b"\xBF'", b"SELECT 0xBF27, 1", b"SELECT 0xBF27, 1"),
+    (b"\n", b"SELECT '\\n', 1", b"SELECT '\n', 1"),
+    (
+        b"\n\r\x00\x1a",
+        b"SELECT '\\n\\r\\0\\Z', 1",
+        b"SELECT '\n\r\x00\x1a', 1",
+    ),
 ];
 
 #[test]
 fn hostile_values(rt: HostRuntime) {
-    for (value, wanted) in HOSTILE {
+    for (value, wanted, _) in HOSTILE {
         let query = b"SELECT ?, 1";
         string_is_bound_by(&rt, rt.alloc(), WITH_BACKSLASHES, query, *value, *wanted);
     }

@@ -1,5 +1,6 @@
 //! The mode without backslash escapes: there a backslash is a byte like any other, in queries and
 //! in literals.
+use crate::isolation::HOSTILE;
 use crate::shared::{
     Given, Plain, Refused, WITH_BACKSLASHES, WITHOUT_BACKSLASHES, are_bound_by, is_refused_by,
     string_is_bound_by,
@@ -52,24 +53,9 @@ fn bound_texts(rt: HostRuntime) {
     are_bound_by(&rt, rt.alloc(), WITHOUT_BACKSLASHES, TEXTS);
 }
 
-/// Values that end a string, a comment or a statement elsewhere.
-const HOSTILE: &[(&[u8], &[u8])] = &[
-    (b"'", b"SELECT '''', 1"),
-    (b"\\", b"SELECT '\\', 1"),
-    (b"\\'", b"SELECT '\\''', 1"),
-    (b"\\\\'", b"SELECT '\\\\''', 1"),
-    (b"'\\", b"SELECT '''\\', 1"),
-    (b"\"", b"SELECT '\"', 1"),
-    (b"*/", b"SELECT '*/', 1"),
-    (b"-- ", b"SELECT '-- ', 1"),
-    (b"; DROP TABLE t #", b"SELECT '; DROP TABLE t #', 1"),
-    (b"\xBF'", b"SELECT 0xBF27, 1"),
-    (b"\n\r\x00\x1a", b"SELECT '\n\r\x00\x1a', 1"),
-];
-
 #[test]
 fn hostile_values(rt: HostRuntime) {
-    for (value, wanted) in HOSTILE {
+    for (value, _, wanted) in HOSTILE {
         let query = b"SELECT ?, 1";
         string_is_bound_by(&rt, rt.alloc(), WITHOUT_BACKSLASHES, query, *value, *wanted);
     }

@@ -37,6 +37,13 @@ fn is_shown(rt: &impl Abort, alloc: Global, spellings: &[Spelling], query: &[u8]
     }
 }
 
+/// By each of the calls, each query is shown as the text beside it.
+fn are_shown(rt: &impl Abort, alloc: Global, spellings: &[Spelling], queries: &[(&str, &str)]) {
+    for (query, wanted) in queries {
+        is_shown(rt, alloc, spellings, query.as_bytes(), wanted.as_bytes());
+    }
+}
+
 // Queries, and each with its marks and the names after newlines, or `mixed`.
 pub(crate) const QUERIES: &[(&str, &str)] = &[
     ("", ""),
@@ -107,15 +114,7 @@ pub(crate) const QUERIES: &[(&str, &str)] = &[
 
 #[test]
 fn names_of_queries(rt: HostRuntime) {
-    for (query, wanted) in QUERIES {
-        is_shown(
-            &rt,
-            rt.alloc(),
-            WITH_BACKSLASHES,
-            query.as_bytes(),
-            wanted.as_bytes(),
-        );
-    }
+    are_shown(&rt, rt.alloc(), WITH_BACKSLASHES, QUERIES);
 }
 
 // The same in the mode without backslash escapes. There a string ends at the next quote of its
@@ -145,15 +144,8 @@ pub(crate) const QUERIES_WITHOUT_BACKSLASHES: &[(&str, &str)] = &[
 
 #[test]
 fn names_without_backslash_escapes(rt: HostRuntime) {
-    for (query, wanted) in QUERIES_WITHOUT_BACKSLASHES {
-        is_shown(
-            &rt,
-            rt.alloc(),
-            &[Spelling::ParseIn(true)],
-            query.as_bytes(),
-            wanted.as_bytes(),
-        );
-    }
+    let spellings = [Spelling::ParseIn(true)];
+    are_shown(&rt, rt.alloc(), &spellings, QUERIES_WITHOUT_BACKSLASHES);
 }
 
 // After `--`: a space, a tab, a form feed and a carriage return open a comment; a vertical tab,

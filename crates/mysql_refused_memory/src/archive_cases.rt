@@ -1,5 +1,5 @@
 //! The calls of the archive, whose answer goes into the caller's room, and the reading of its form.
-use crate::inputs::is_bytes;
+use crate::inputs::{is_bytes, is_named};
 use crate::outcome::{Case, Outcome};
 use mysql_flat_params::{FormError, bind_into, names_into, params_of_form};
 use mysql_params::params::Params;
@@ -241,19 +241,8 @@ fn float(alloc: Global) -> Outcome {
 fn named_form(alloc: Global) -> Outcome {
     match params_of_form(alloc, b"\x01a\xFC\x00\x02ab") {
         Err(FormError::Memory(_)) => Outcome::Memory,
-        Ok(params) => Outcome::Answer.if_holds(is_named(&params)),
+        Ok(params) => Outcome::Answer.if_holds(is_named(&params, b"ab")),
         Err(_) => Outcome::Wrong,
-    }
-}
-
-/// Whether the parameters are `a` with the bytes `ab`.
-fn is_named(params: &Params) -> bool {
-    match params {
-        Params::Named(entries) => match entries.get(b"a".as_slice()) {
-            Some(value) => entries.len() == 1 && is_bytes(value, b"ab"),
-            None => false,
-        },
-        _ => false,
     }
 }
 

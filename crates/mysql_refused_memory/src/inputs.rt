@@ -28,6 +28,17 @@ pub(crate) fn named(alloc: Global, name: &[u8], value: Value) -> Result<Params, 
     }
 }
 
+/// Whether the parameters are `a` with these bytes.
+pub(crate) fn is_named(params: &Params, text: &[u8]) -> bool {
+    match params {
+        Params::Named(entries) => match entries.get(b"a".as_slice()) {
+            Some(value) => entries.len() == 1 && is_bytes(value, text),
+            None => false,
+        },
+        _ => false,
+    }
+}
+
 /// Positional parameters: one value.
 pub(crate) fn positional(alloc: Global, value: Value) -> Result<Params, AllocError> {
     let mut values = Vec::new(alloc);

@@ -1,5 +1,5 @@
 //! What makes parameters: `to_params`, `from_pairs`, `from_objects` and `to_named`.
-use crate::inputs::{bytes, is_bytes, named, positional};
+use crate::inputs::{bytes, is_bytes, is_named, named, positional};
 use crate::outcome::{Case, Outcome};
 use mysql_params::params::{Params, ToPairs, ToParams, ToParamsError};
 use mysql_values::value::Value;
@@ -253,21 +253,10 @@ fn pairs(alloc: Global) -> Outcome {
     }
 }
 
-/// Whether the parameters are `a` with the bytes `x`.
-fn is_named_text(params: &Params) -> bool {
-    match params {
-        Params::Named(entries) => match entries.get(b"a".as_slice()) {
-            Some(value) => entries.len() == 1 && is_bytes(value, b"x"),
-            None => false,
-        },
-        _ => false,
-    }
-}
-
 fn pair_of_text(alloc: Global) -> Outcome {
     match Params::from_pairs(alloc, &[(b"a".as_slice(), "x")]) {
         Err(ToParamsError::Memory(_)) => Outcome::Memory,
-        Ok(params) => Outcome::Answer.if_holds(is_named_text(&params)),
+        Ok(params) => Outcome::Answer.if_holds(is_named(&params, b"x")),
         Err(_) => Outcome::Wrong,
     }
 }

@@ -72,34 +72,39 @@ fn is_written(room: &[u8; 32], left: usize, text: &[u8]) -> bool {
     }
 }
 
-/// The words are refused before the query is read, and nothing is written.
-fn refuses_words(alloc: Global, texts: &[&str], query: &[u8], refusal: RunError) -> Case {
+/// The answer to the words, and how many bytes of the query are left unread and how many of the
+/// room of 32 unwritten.
+type Ran = (Result<(), RunError>, usize, usize);
+
+fn ran(alloc: Global, texts: &[&str], query: &[u8]) -> Result<Ran, AllocError> {
     let words = words(alloc, texts)?;
     let mut input = query;
     let mut room = [0u8; 32];
     let mut output = room.as_mut_slice();
     let answer = run(alloc, &words, &mut input, &mut output);
-    let untouched = input.len() == query.len() && output.len() == 32;
-    Ok(match answer {
-        Err(RunError::Memory(_)) => Outcome::Memory.if_holds(untouched),
-        Err(error) => Outcome::Refusal.if_holds(untouched && error == refusal),
+    Ok((answer, input.len(), output.len()))
+}
+
+/// The refusal is this one, or out of memory, and leaves what it should.
+fn refusal_told(answer: Result<(), RunError>, refusal: RunError, is_left: bool) -> Outcome {
+    match answer {
+        Err(RunError::Memory(_)) => Outcome::Memory.if_holds(is_left),
+        Err(error) => Outcome::Refusal.if_holds(is_left && error == refusal),
         Ok(()) => Outcome::Wrong,
-    })
+    }
+}
+
+/// The words are refused before the query is read, and nothing is written.
+fn refuses_words(alloc: Global, texts: &[&str], query: &[u8], refusal: RunError) -> Case {
+    let (answer, unread, unwritten) = ran(alloc, texts, query)?;
+    let is_left = unread == query.len() && unwritten == 32;
+    Ok(refusal_told(answer, refusal, is_left))
 }
 
 /// The words are refused for the query, and nothing is written.
 fn refuses(alloc: Global, texts: &[&str], query: &[u8], refusal: RunError) -> Case {
-    let words = words(alloc, texts)?;
-    let mut input = query;
-    let mut room = [0u8; 32];
-    let mut output = room.as_mut_slice();
-    let answer = run(alloc, &words, &mut input, &mut output);
-    let unwritten = output.len() == 32;
-    Ok(match answer {
-        Err(RunError::Memory(_)) => Outcome::Memory.if_holds(unwritten),
-        Err(error) => Outcome::Refusal.if_holds(unwritten && error == refusal),
-        Ok(()) => Outcome::Wrong,
-    })
+    let (answer, _, unwritten) = ran(alloc, texts, query)?;
+    Ok(refusal_told(answer, refusal, unwritten == 32))
 }
 
 fn bound_by_position(alloc: Global) -> Case {
@@ -152,11 +157,7 @@ fn not_alone(alloc: Global) -> Case {
 }
 
 fn usage(alloc: Global) -> Case {
-    let words = words(alloc, &["names", "x"])?;
-    let mut input = b":a".as_slice();
-    let mut room = [0u8; 32];
-    let mut output = room.as_mut_slice();
-    let answer = run(alloc, &words, &mut input, &mut output);
-    let untouched = input.len() == 2 && output.len() == 32;
-    Ok(Outcome::AnswerWithoutMemory.if_holds(untouched && answer == Err(RunError::Usage)))
+    let (answer, unread, unwritten) = ran(alloc, &["names", "x"], b":a")?;
+    let is_left = unread == 2 && unwritten == 32;
+    Ok(Outcome::AnswerWithoutMemory.if_holds(is_left && answer == Err(RunError::Usage)))
 }

@@ -1,6 +1,6 @@
 //! Values in binary form: as they are written, and what comes back of them.
 use crate::shared::{
-    DateFields, SIGNED, TimeFields, UNSIGNED, answer_of, bytes, date, read, reads, same,
+    DateFields, LENGTHS, SIGNED, TimeFields, UNSIGNED, answer_of, bytes, date, read, reads, same,
     same_bytes_in, same_in, string_and_form, time,
 };
 use mysql_values::value::{
@@ -92,14 +92,6 @@ fn written_integers(rt: HostRuntime) {
     let form = [255, 255, 255, 255, 255, 255, 255, 0x7F];
     is_written(&rt, alloc, Value::UInt(9223372036854775807), &form);
 }
-
-// Lengths of byte strings, and how they are written.
-const LENGTHS: &[(usize, &[u8])] = &[
-    (250, &[0xFA]),
-    (251, &[0xFC, 0xFB, 0]),
-    (65535, &[0xFC, 0xFF, 0xFF]),
-    (65536, &[0xFD, 0, 0, 1]),
-];
 
 // The value is written as the form, whose length it knows.
 fn is_written_as(rt: &impl Abort, alloc: Global, value: Value, form: &[u8], len: &usize) {

@@ -80,6 +80,18 @@ fn joined(rt: &impl Abort, alloc: Global, front: &[u8], back: &[u8]) -> Vec<u8> 
     bytes
 }
 
+// Lengths of strings, and how they are written.
+pub(crate) const LENGTHS: &[(usize, &[u8])] = &[
+    (0, &[0]),
+    (1, &[1]),
+    (250, &[0xFA]),
+    (251, &[0xFC, 0xFB, 0]),
+    (65535, &[0xFC, 0xFF, 0xFF]),
+    (65536, &[0xFD, 0, 0, 1]),
+    (16777215, &[0xFD, 0xFF, 0xFF, 0xFF]),
+    (16777216, &[0xFE, 0, 0, 0, 1, 0, 0, 0, 0]),
+];
+
 // A string of so many bytes, and its form with the head that states its length.
 pub(crate) fn string_and_form(
     rt: &impl Abort,

@@ -1,5 +1,5 @@
 //! The buffer: integers of each width, and length-encoded strings.
-use crate::shared::{answer_of, same_bytes_in, same_in, string_and_form};
+use crate::shared::{LENGTHS, answer_of, same_bytes_in, same_in, string_and_form};
 use mysql_wire_part::{ParseBuf, WireError, fill_lenenc_str, lenenc_str_len, put_lenenc_str};
 use std::alloc::Global;
 use std::fmt::Debug;
@@ -112,18 +112,6 @@ fn stretches_of_bytes(rt: HostRuntime) {
     }
     assert!(rt; buf.is_empty());
 }
-
-// Lengths of strings, and how they are written.
-const LENGTHS: &[(usize, &[u8])] = &[
-    (0, &[0]),
-    (1, &[1]),
-    (250, &[0xFA]),
-    (251, &[0xFC, 0xFB, 0]),
-    (65535, &[0xFC, 0xFF, 0xFF]),
-    (65536, &[0xFD, 0, 0, 1]),
-    (16777215, &[0xFD, 0xFF, 0xFF, 0xFF]),
-    (16777216, &[0xFE, 0, 0, 0, 1, 0, 0, 0, 0]),
-];
 
 // The string is written after what stands in the buffer, as the form, whose length it knows; and
 // once more over that.
