@@ -58,7 +58,7 @@ const UNWRITTEN: Report = Report {
 
 /// The number and the report of a call, which has to write each field.
 #[inline(always)]
-fn told(call: impl FnOnce(*mut Report) -> i32) -> (i32, Report) {
+fn number_and_report(call: impl FnOnce(*mut Report) -> i32) -> (i32, Report) {
     let mut report = UNWRITTEN;
     let number = call(&mut report);
     (number, report)
@@ -68,12 +68,14 @@ fn told(call: impl FnOnce(*mut Report) -> i32) -> (i32, Report) {
 
 pub fn names(query: &[u8], room: &mut [u8]) -> (i32, Report) {
     let (query_at, room_at) = (query.as_ptr(), room.as_mut_ptr());
-    told(|report| unsafe { mysql_params_names(query_at, query.len(), room_at, room.len(), report) })
+    number_and_report(|report| unsafe {
+        mysql_params_names(query_at, query.len(), room_at, room.len(), report)
+    })
 }
 
 pub fn bind(query: &[u8], form: &[u8], room: &mut [u8]) -> (i32, Report) {
     let (query_at, form_at, room_at) = (query.as_ptr(), form.as_ptr(), room.as_mut_ptr());
-    told(|report| unsafe {
+    number_and_report(|report| unsafe {
         let query_len = query.len();
         mysql_params_bind(query_at, query_len, form_at, form.len(), room_at, room.len(), report)
     })
@@ -82,7 +84,7 @@ pub fn bind(query: &[u8], form: &[u8], room: &mut [u8]) -> (i32, Report) {
 /// `names` in the mode without backslash escapes.
 pub fn names_without_backslashes(query: &[u8], room: &mut [u8]) -> (i32, Report) {
     let (query_at, room_at) = (query.as_ptr(), room.as_mut_ptr());
-    told(|report| unsafe {
+    number_and_report(|report| unsafe {
         mysql_params_names_in(query_at, query.len(), true, room_at, room.len(), report)
     })
 }
@@ -91,7 +93,7 @@ pub fn names_without_backslashes(query: &[u8], room: &mut [u8]) -> (i32, Report)
 pub fn bind_without_backslashes(query: &[u8], form: &[u8], room: &mut [u8]) -> (i32, Report) {
     let (query_at, form_at, room_at) = (query.as_ptr(), form.as_ptr(), room.as_mut_ptr());
     let (query_len, form_len, room_len) = (query.len(), form.len(), room.len());
-    told(|report| unsafe {
+    number_and_report(|report| unsafe {
         mysql_params_bind_in(
             query_at, query_len, form_at, form_len, true, room_at, room_len, report,
         )
@@ -101,7 +103,7 @@ pub fn bind_without_backslashes(query: &[u8], form: &[u8], room: &mut [u8]) -> (
 /// The first construct for which the query isn't portable.
 pub fn first_unportable(query: &[u8], no_backslash_escape: bool) -> (i32, Report) {
     let query_at = query.as_ptr();
-    told(|report| unsafe {
+    number_and_report(|report| unsafe {
         mysql_params_first_unportable(query_at, query.len(), no_backslash_escape, report)
     })
 }

@@ -74,9 +74,13 @@ fn is_written(room: &[u8; 32], left: usize, text: &[u8]) -> bool {
 
 /// The answer to the words, and how many bytes of the query are left unread and how many of the
 /// room of 32 unwritten.
-type Ran = (Result<(), RunError>, usize, usize);
+type AnswerToWords = (Result<(), RunError>, usize, usize);
 
-fn ran(alloc: Global, texts: &[&str], query: &[u8]) -> Result<Ran, AllocError> {
+fn answer_to_words(
+    alloc: Global,
+    texts: &[&str],
+    query: &[u8],
+) -> Result<AnswerToWords, AllocError> {
     let words = words(alloc, texts)?;
     let mut input = query;
     let mut room = [0u8; 32];
@@ -86,7 +90,7 @@ fn ran(alloc: Global, texts: &[&str], query: &[u8]) -> Result<Ran, AllocError> {
 }
 
 /// The refusal is this one, or out of memory, and leaves what it should.
-fn refusal_told(answer: Result<(), RunError>, refusal: RunError, is_left: bool) -> Outcome {
+fn outcome_of_refusal(answer: Result<(), RunError>, refusal: RunError, is_left: bool) -> Outcome {
     match answer {
         Err(RunError::Memory(_)) => Outcome::Memory.if_holds(is_left),
         Err(error) => Outcome::Refusal.if_holds(is_left && error == refusal),
@@ -96,15 +100,15 @@ fn refusal_told(answer: Result<(), RunError>, refusal: RunError, is_left: bool) 
 
 /// The words are refused before the query is read, and nothing is written.
 fn refuses_words(alloc: Global, texts: &[&str], query: &[u8], refusal: RunError) -> Case {
-    let (answer, unread, unwritten) = ran(alloc, texts, query)?;
+    let (answer, unread, unwritten) = answer_to_words(alloc, texts, query)?;
     let is_left = unread == query.len() && unwritten == 32;
-    Ok(refusal_told(answer, refusal, is_left))
+    Ok(outcome_of_refusal(answer, refusal, is_left))
 }
 
 /// The words are refused for the query, and nothing is written.
 fn refuses(alloc: Global, texts: &[&str], query: &[u8], refusal: RunError) -> Case {
-    let (answer, _, unwritten) = ran(alloc, texts, query)?;
-    Ok(refusal_told(answer, refusal, unwritten == 32))
+    let (answer, _, unwritten) = answer_to_words(alloc, texts, query)?;
+    Ok(outcome_of_refusal(answer, refusal, unwritten == 32))
 }
 
 fn bound_by_position(alloc: Global) -> Case {
@@ -157,7 +161,7 @@ fn not_alone(alloc: Global) -> Case {
 }
 
 fn usage(alloc: Global) -> Case {
-    let (answer, unread, unwritten) = ran(alloc, &["names", "x"], b":a")?;
+    let (answer, unread, unwritten) = answer_to_words(alloc, &["names", "x"], b":a")?;
     let is_left = unread == 2 && unwritten == 32;
     Ok(Outcome::AnswerWithoutMemory.if_holds(is_left && answer == Err(RunError::Usage)))
 }
