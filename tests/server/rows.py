@@ -188,17 +188,20 @@ def _read(folder: str, requests: list) -> list:
 
 def _by_program(connection: Connection, cases: list, folder: str, sent: set) -> str:
     """What the reader of rows prints of all rows is what the server says of them."""
-    rows = [row for case in cases for row in _single_values(connection, case, sent)] + _whole_rows(connection)
+    kinds = set()
+    rows = [row for case in cases for row in _single_values(connection, case, kinds)] + _whole_rows(connection)
     answers = _read(folder, [request for _, request, _ in rows])
     for (of, _, wanted), answer in zip(rows, answers):
         same(answer, wanted, of)
+    # Only now is each of these types known to be read.
+    sent.update(kinds)
     return f"{len(rows)} rows, {sum(len(wanted) for _, _, wanted in rows)} values"
 
 
-def _single_values(connection: Connection, case: Case, sent: set) -> list:
-    """Each value alone in its row, in both forms: what it is, the request, the lines wanted."""
+def _single_values(connection: Connection, case: Case, kinds: set) -> list:
+    """Each value alone in its row, in both forms: what it is, the request, the lines wanted. Add the columns' kinds."""
     text, binary = connection.query(case.query), connection.binary(case.query)
-    sent.update(column.kind for column in text.columns + binary.columns)
+    kinds.update(column.kind for column in text.columns + binary.columns)
     shown = _ACCOUNTS[case.kind] if case.kind in ("bytes", "bits") else b"HEX(CAST(c AS CHAR))"
     texts = connection.query(b"SELECT %s FROM (%s) AS z" % (shown, case.query)).rows()
     rows = []
