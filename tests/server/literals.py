@@ -67,6 +67,7 @@ def _stored(connection: Connection, mode: bool, values: list) -> None:
         pairs = [each for i, value in enumerate(batch, begin) for each in (i, value)]
         connection.query(mysql_params.bind(query, pairs, mode))
     rows = connection.query(b"SELECT v FROM strings.s ORDER BY i").rows()
+    same(len(rows), len(values), "rows stored")
     for value, row in zip(values, rows):
         same(row[0], value, value)
     for i, value in enumerate(values[:200]):
