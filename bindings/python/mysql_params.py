@@ -334,6 +334,13 @@ def _library() -> ctypes.CDLL:
 _LIBRARY = _library()
 
 
+def _flag(mode: bool) -> bool:
+    """Return the mode of a call. ctypes would take the truth of any object, and so the wrong mode without a word."""
+    if mode is True or mode is False:
+        return mode
+    raise TypeError(f"no_backslash_escape is True or False, and not {mode!r}")
+
+
 def _call(
     query: bytes, form: Optional[bytes], mode: bool, room: ctypes.Array[ctypes.c_char], room_len: int
 ) -> tuple[int, _Report]:
@@ -346,16 +353,16 @@ def _call(
     report = _Report()
     answer = (ctypes.addressof(room), room_len, ctypes.byref(report))
     if form is None:
-        number = _LIBRARY.mysql_params_names_in(query, len(query), mode, *answer)
+        number = _LIBRARY.mysql_params_names_in(query, len(query), _flag(mode), *answer)
     else:
-        number = _LIBRARY.mysql_params_bind_in(query, len(query), form, len(form), mode, *answer)
+        number = _LIBRARY.mysql_params_bind_in(query, len(query), form, len(form), _flag(mode), *answer)
     return number, report
 
 
 def _first_unportable(query: bytes, mode: bool) -> tuple[int, _Report]:
     """Return the number and the report of the first construct of a query. The mode is as for _call."""
     report = _Report()
-    number = _LIBRARY.mysql_params_first_unportable(query, len(query), mode, ctypes.byref(report))
+    number = _LIBRARY.mysql_params_first_unportable(query, len(query), _flag(mode), ctypes.byref(report))
     return number, report
 
 
@@ -527,7 +534,7 @@ def bind(query: Union[str, bytes], params: Params = None, no_backslash_escape: b
 
     The text is for a connection with backslash escapes, that is without NO_BACKSLASH_ESCAPES in its sql_mode; with the
     flag it is for one that has it. Ask on the connection that the text goes to: SELECT @@sql_mode. Where the two differ
-    a value can leave its literal.
+    a value can leave its literal. The flag is True or False: anything else, also the sql_mode itself, is a TypeError.
 
     Of the parameters: raise TypeError for what has no literal, OverflowError for a whole number of more than 64 bits,
     ValueError for an empty name, RepeatedNameError for a name given as str and as bytes. Then, of the query, the first

@@ -357,6 +357,19 @@ class Test(unittest.TestCase):
         with self.assertRaises(TypeError):
             names(None)
 
+    def test_flags_that_are_no_bool(self):
+        calls = (
+            lambda mode: bind("SELECT ?", ["\\' OR 1=1 -- "], mode),
+            lambda mode: bind_form("SELECT 1", b"", mode),
+            lambda mode: names("SELECT :a", mode),
+            lambda mode: first_unportable("SELECT :a", mode),
+        )
+        for mode in ("ANSI_QUOTES", "", None, 1, 0):
+            for call in calls:
+                with self.subTest(mode=mode), self.assertRaises(TypeError) as raised:
+                    call(mode)
+                self.assertEqual(str(raised.exception), f"no_backslash_escape is True or False, and not {mode!r}")
+
     def test_nothing_given(self):
         for nothing in (None, [], (), {}):
             self.assertEqual(bind("SELECT 1", nothing), b"SELECT 1")
