@@ -9,8 +9,8 @@ What a call gives and when it refuses is stated in the repository's docs/RULES.m
 input; this module, which hands values in and answers out, is tested. Before you send a bound text read "Limits that
 matter for security" in the repository's README.md.
 
-The library is the file that the environment variable MYSQL_PARAMS_LIBRARY names, else libmysql_params_c.so beside this
-module; `bindings/build FOLDER` makes it.
+The library is the file that the environment variable MYSQL_PARAMS_LIBRARY names, by its path, else libmysql_params_c.so
+beside this module; `bindings/build FOLDER` makes it.
 """
 
 from __future__ import annotations
@@ -313,21 +313,22 @@ def _error(number: int, report: _Report, query: bytes, form: bytes) -> Exception
 def _library() -> ctypes.CDLL:
     """Load the library, with the types of its functions for either mode."""
     beside = pathlib.Path(__file__).resolve().parent / "libmysql_params_c.so"
-    path = os.environ.get("MYSQL_PARAMS_LIBRARY", str(beside))
+    # The loader takes a name without a folder for one on its own search path, so it is handed a whole path.
+    path = os.path.abspath(os.environ.get("MYSQL_PARAMS_LIBRARY") or beside)
+    string = [ctypes.c_char_p, ctypes.c_size_t]
+    answer = [ctypes.c_void_p, ctypes.c_size_t, ctypes.POINTER(_Report)]
     try:
         library = ctypes.CDLL(path)
-    except OSError as fault:
+        library.mysql_params_names_in.argtypes = string + [ctypes.c_bool] + answer
+        library.mysql_params_names_in.restype = ctypes.c_int32
+        library.mysql_params_bind_in.argtypes = string + string + [ctypes.c_bool] + answer
+        library.mysql_params_bind_in.restype = ctypes.c_int32
+        library.mysql_params_first_unportable.argtypes = string + [ctypes.c_bool, ctypes.POINTER(_Report)]
+        library.mysql_params_first_unportable.restype = ctypes.c_int32
+    except (OSError, AttributeError) as fault:  # No library, or an older one, which lacks a function.
         raise ImportError(
             f"{fault}. Set MYSQL_PARAMS_LIBRARY to the path of libmysql_params_c.so, which `bindings/build FOLDER` makes"
         ) from fault
-    string = [ctypes.c_char_p, ctypes.c_size_t]
-    answer = [ctypes.c_void_p, ctypes.c_size_t, ctypes.POINTER(_Report)]
-    library.mysql_params_names_in.argtypes = string + [ctypes.c_bool] + answer
-    library.mysql_params_names_in.restype = ctypes.c_int32
-    library.mysql_params_bind_in.argtypes = string + string + [ctypes.c_bool] + answer
-    library.mysql_params_bind_in.restype = ctypes.c_int32
-    library.mysql_params_first_unportable.argtypes = string + [ctypes.c_bool, ctypes.POINTER(_Report)]
-    library.mysql_params_first_unportable.restype = ctypes.c_int32
     return library
 
 

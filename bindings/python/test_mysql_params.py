@@ -4,12 +4,14 @@ import ctypes
 import datetime
 import doctest
 import enum
+import os
 import pathlib
 import pickle
 import re
 import sys
 import threading
 import unittest
+from unittest import mock
 
 import mysql_params
 from mysql_params import Construct, bind, bind_form, first_unportable, names
@@ -369,6 +371,26 @@ class Test(unittest.TestCase):
                 with self.subTest(mode=mode), self.assertRaises(TypeError) as raised:
                     call(mode)
                 self.assertEqual(str(raised.exception), f"no_backslash_escape is True or False, and not {mode!r}")
+
+    def test_paths_of_the_library(self):
+        library = pathlib.Path(mysql_params._LIBRARY._name).resolve()
+        beside = pathlib.Path(mysql_params.__file__).resolve().parent / "libmysql_params_c.so"
+        self.addCleanup(os.chdir, os.getcwd())
+        os.chdir(library.parent)
+        for given, wanted in ((str(library), library), (library.name, library), ("", beside)):
+            with self.subTest(given=given), mock.patch.dict(os.environ, MYSQL_PARAMS_LIBRARY=given):
+                with mock.patch.object(ctypes, "CDLL") as load:
+                    mysql_params._library()
+                load.assert_called_once_with(str(wanted))
+
+    def test_libraries_that_cannot_be_used(self):
+        wanted = "Set MYSQL_PARAMS_LIBRARY to the path of libmysql_params_c.so"
+        with mock.patch.dict(os.environ, MYSQL_PARAMS_LIBRARY=os.path.join(os.curdir, "no such file.so")):
+            with self.assertRaisesRegex(ImportError, wanted):
+                mysql_params._library()
+        # One without the functions, as an older library lacks some.
+        with mock.patch.object(ctypes, "CDLL", return_value=object()), self.assertRaisesRegex(ImportError, wanted):
+            mysql_params._library()
 
     def test_nothing_given(self):
         for nothing in (None, [], (), {}):
