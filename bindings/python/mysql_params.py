@@ -148,7 +148,11 @@ class Error(Exception):
 
 
 class OutOfMemoryError(Error, MemoryError):
-    """There was no memory. It may come in place of any other result."""
+    """There was no memory for the call or for the room of its answer. It may come in place of any other result.
+
+    Where Python itself has none for an object, as the form of the parameters, it raises a MemoryError, of which this is
+    one.
+    """
 
     number = 1
     _text = "out of memory"
@@ -378,14 +382,24 @@ def _unportable(number: int, report: _Report) -> Optional[Unportable]:
     return Unportable(construct, report.position)
 
 
+def _room(length: int) -> ctypes.Array[ctypes.c_char]:
+    """Return a room of a length."""
+    try:
+        return ctypes.create_string_buffer(length)
+    except MemoryError:
+        raise OutOfMemoryError() from None
+
+
 def _whole_answer(query: bytes, form: Optional[bytes], mode: bool, guess: int) -> bytes:
     """Return the whole answer: asked for in a room of a guessed length, and again in one of the length needed."""
-    room = ctypes.create_string_buffer(guess)
-    number, report = _call(query, form, mode, room, guess)
+    try:
+        room = _room(guess)
+    except OutOfMemoryError:
+        room = _room(0)  # The answer may be far shorter than the guess, and then there is room for it.
+    number, report = _call(query, form, mode, room, len(room))
     if number == _ROOM:
-        needed = report.len
-        room = ctypes.create_string_buffer(needed)
-        number, report = _call(query, form, mode, room, needed)
+        room = _room(report.len)
+        number, report = _call(query, form, mode, room, len(room))
     if number != _DONE:
         raise _error(number, report, query, form or b"")
     return ctypes.string_at(room, report.len)

@@ -311,6 +311,30 @@ class Test(unittest.TestCase):
         self.assertEqual(text, b",".join([b"'" + b"\\'" * 300 + b"'"] * 100))
         self.assertEqual(names(",".join([":a"] * 1000)), (b",".join([b"?"] * 1000), ["a"] * 1000))
 
+    def test_rooms_without_memory(self):
+        create = ctypes.create_string_buffer
+
+        def up_to(longest):
+            """Let no room be made that is longer."""
+
+            def made(length):
+                if length > longest:
+                    raise MemoryError
+                return create(length)
+
+            return mock.patch.object(ctypes, "create_string_buffer", made)
+
+        # The first room is longer than the answer, for which there is memory.
+        with up_to(8):
+            self.assertEqual(bind("SELECT ?", [1]), b"SELECT 1")
+            self.assertEqual(names(":a+:b"), (b"?+?", ["a", "b"]))
+        for longest in (7, 0, -1):
+            with self.subTest(longest=longest), up_to(longest):
+                for call in (lambda: bind("SELECT ?", [1]), lambda: names("SELECT :a")):
+                    with self.assertRaises(mysql_params.OutOfMemoryError) as raised:
+                        call()
+                    self.assertEqual((str(raised.exception), raised.exception.args), ("out of memory", ()))
+
     def test_values_of_own_types(self):
         class Color(enum.IntEnum):
             RED = 3
