@@ -102,17 +102,16 @@ impl Call<'_> {
         };
         let end = report.position.checked_add(report.len);
         let name = end.and_then(|end| source.get(report.position..end));
-        name.map(<[u8]>::to_vec)
-            .ok_or(Error::UnknownAnswer { number })
+        copy_of(name.ok_or(Error::UnknownAnswer { number })?)
     }
 
     /// The error that a number with its report is, for any number but `DONE`.
     pub(crate) fn error(self, number: i32, report: &Report) -> Error {
         self.known_error(number, report)
-            .unwrap_or_else(|unknown| unknown)
+            .unwrap_or_else(|other| other)
     }
 
-    /// The same; or `Err` where the number or its report isn't one of mysql_params.h.
+    /// The same; or `Err` where the number or its report isn't one of mysql_params.h, or the name finds no memory.
     fn known_error(self, number: i32, report: &Report) -> Result<Error, Error> {
         let Report {
             place,
@@ -168,7 +167,8 @@ impl Call<'_> {
         no_backslash_escape: bool,
         guess: usize,
     ) -> Result<Vec<u8>, Error> {
-        let mut room = room_of(guess)?;
+        // The answer may be far shorter than the guess: where that finds no memory, the archive tells the length.
+        let mut room = room_of(guess).unwrap_or_default();
         let (mut number, mut report) = self.answer(no_backslash_escape, &mut room);
         if number == ROOM {
             room = room_of(report.len)?;
@@ -217,4 +217,13 @@ fn room_of(len: usize) -> Result<Vec<u8>, Error> {
         .map_err(|_| Error::OutOfMemory)?;
     room.resize(len, 0);
     Ok(room)
+}
+
+/// A copy of bytes, or out of memory.
+pub(crate) fn copy_of(bytes: &[u8]) -> Result<Vec<u8>, Error> {
+    let mut copy = Vec::new();
+    copy.try_reserve_exact(bytes.len())
+        .map_err(|_| Error::OutOfMemory)?;
+    copy.extend_from_slice(bytes);
+    Ok(copy)
 }

@@ -30,7 +30,7 @@ pub use error::Error;
 pub use portable::{Construct, Unportable};
 pub use value::{Date, Params, Time, Value};
 
-use archive::Call;
+use archive::{Call, copy_of};
 
 /// The names of a query.
 #[derive(Clone, Debug, PartialEq, Eq)]
@@ -69,11 +69,13 @@ pub fn names_in(query: &[u8], no_backslash_escape: bool) -> Result<Names, Error>
     let mut names = Vec::new();
     while !rest.is_empty() {
         let (name, after) = form::next_string(rest).ok_or_else(unknown)?;
-        names.push(String::from_utf8(name.to_vec()).map_err(|_| unknown())?);
+        let name = String::from_utf8(copy_of(name)?).map_err(|_| unknown())?;
+        names.try_reserve(1).map_err(|_| Error::OutOfMemory)?;
+        names.push(name);
         rest = after;
     }
     Ok(Names {
-        query: renamed.to_vec(),
+        query: copy_of(renamed)?,
         names,
     })
 }

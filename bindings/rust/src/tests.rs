@@ -122,6 +122,27 @@ fn names_longer_than_the_first_room() {
 }
 
 #[test]
+fn first_rooms_that_find_no_memory() {
+    let bound = Call::Bind {
+        query: b":a, :a",
+        form: b"\x01a\x06\x00",
+    };
+    let empty = Call::Bind {
+        query: b"",
+        form: b"",
+    };
+    let found = Call::Names { query: b":a+:b" };
+    for (call, answer) in [
+        (bound, &b"NULL, NULL"[..]),
+        (empty, b""),
+        (found, b"\x03?+?\x01a\x01b"),
+    ] {
+        let whole = call.whole_answer(false, usize::MAX);
+        assert_eq!(whole, Ok(answer.to_vec()), "{call:?}");
+    }
+}
+
+#[test]
 fn numbers_that_come_by_fault_alone() {
     let call = Call::Bind {
         query: b":a",
