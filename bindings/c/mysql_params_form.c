@@ -26,7 +26,9 @@ enum { VALUE_ROOM = 13 };
 
 mysql_params_form mysql_params_form_in(uint8_t *room, size_t room_len)
 {
-    mysql_params_form form = {room, room_len, 0, 0};
+    /* Stands where no memory is given, for mysql_params_bind takes no null. Its length is 0, so it is never written. */
+    static uint8_t nothing;
+    mysql_params_form form = {room == NULL ? &nothing : room, room == NULL ? 0 : room_len, 0, 0};
     return form;
 }
 

@@ -13,8 +13,7 @@ extern "C" {
 
 /* A form that is being written into memory of the caller's. Set it up with mysql_params_form_in. */
 typedef struct mysql_params_form {
-    /* The caller's memory. It may be null where `room_len` is 0, but mysql_params_bind takes no null, not for an empty
-     * form either. */
+    /* The caller's memory. It is never null, also where none was given. */
     uint8_t *room;
     /* Bytes of that memory. */
     size_t room_len;
@@ -46,7 +45,8 @@ typedef struct mysql_params_time {
     uint32_t microseconds; /* microseconds */
 } mysql_params_time;
 
-/* Returns an empty form in the memory given. With no memory (null and 0) appending only counts `needed`. */
+/* Returns an empty form in the memory given. With no memory (null and 0) appending only counts `needed`; a form that
+ * stays empty can be handed to mysql_params_bind as any other. */
 mysql_params_form mysql_params_form_in(uint8_t *room, size_t room_len);
 
 /* The functions below append one parameter. `name` is the name without a colon, ended by a zero byte; null or "" gives

@@ -398,6 +398,23 @@ static void rooms_of_forms(void)
     expect(form.len == 0 && form.needed == 9, &it, "another need is wanted");
 }
 
+/* An empty form without memory can be bound, and holds nothing. */
+static void forms_without_memory(void)
+{
+    static const uint8_t query[] = "SELECT 1";
+    uint8_t room[8] = {0};
+    mysql_params_report report = {0};
+    test_case it = {0};
+    mysql_params_form form = mysql_params_form_in(NULL, 0);
+    expect(form.room != NULL && form.room_len == 0, &it, "the form has a null pointer, or room");
+    expect(form.len == 0 && form.needed == 0, &it, "the form isn't empty");
+    int32_t number = mysql_params_bind(query, 8, form.room, form.len, room, sizeof room, &report);
+    expect(number == MYSQL_PARAMS_DONE && report.len == 8, &it, "a text is wanted");
+    expect(memcmp(room, query, 8) == 0, &it, "another text is wanted");
+    expect(!mysql_params_append_null(&form, NULL), &it, "NULL is appended without a room");
+    expect(form.len == 0 && form.needed == 3, &it, "another need is wanted");
+}
+
 /* Answers that end within a string, or begin with no length. */
 static void broken_answers(void)
 {
@@ -519,6 +536,7 @@ int main(int count, char **words)
     all &= passed("each_value_of_one_byte", each_value_of_one_byte);
     all &= passed("values_of_each_length", values_of_each_length);
     all &= passed("rooms_of_forms", rooms_of_forms);
+    all &= passed("forms_without_memory", forms_without_memory);
     all &= passed("broken_answers", broken_answers);
     all &= passed("cut_messages", cut_messages);
     all &= passed("other_messages", other_messages);
