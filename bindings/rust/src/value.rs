@@ -85,6 +85,20 @@ value_from! {
     f32, Float; f64, Double;
 }
 
+// `isize` and `usize` have at most 64 bits, but no `into()` says so.
+
+impl From<isize> for Value<'_> {
+    fn from(number: isize) -> Self {
+        Value::Int(number as i64)
+    }
+}
+
+impl From<usize> for Value<'_> {
+    fn from(number: usize) -> Self {
+        Value::UInt(number as u64)
+    }
+}
+
 impl From<Date> for Value<'_> {
     fn from(date: Date) -> Self {
         Value::Date(date)

@@ -396,10 +396,12 @@ fn values_of_own_types() {
         (-2i16).into(),
         (-3i32).into(),
         (-4i64).into(),
+        isize::MIN.into(),
         1u8.into(),
         2u16.into(),
         3u32.into(),
         u64::MAX.into(),
+        usize::MAX.into(),
         true.into(),
         false.into(),
         "t".into(),
@@ -423,7 +425,8 @@ fn values_of_own_types() {
         .into(),
     ];
     let query = vec!["?"; values.len()].join(",");
-    let wanted = "-1,-2,-3,-4,1,2,3,18446744073709551615,1,0,'t','b','s','a',0xFF,NULL,'x','2019-11-27','-000:00:00'";
+    let wanted = "-1,-2,-3,-4,-9223372036854775808,1,2,3,18446744073709551615,18446744073709551615,1,0,'t','b','s','a',\
+        0xFF,NULL,'x','2019-11-27','-000:00:00'";
     assert_eq!(
         bind(query.as_bytes(), &Params::Positional(&values)),
         Ok(wanted.as_bytes().to_vec())
