@@ -135,7 +135,7 @@ pub fn repeat(side: &str, call: &str, input: &str) -> ExitCode {
     let query = queries.iter().find(|query| query.0 == input);
     let binding = bindings.iter().find(|binding| binding.name == input);
     let side: Side = match (side, call, query, binding) {
-        (_, "names", Some((_, query)), _) => {
+        ("archive" | "table" | "wide", "names", Some((_, query)), _) => {
             let names = match side {
                 "archive" => archive::names,
                 "table" => TABLE.names,
