@@ -1,5 +1,5 @@
 -- What the cells of a row are read as.
-use Rattle.std.specs.Prelude.{◌≡◌, ℕ, List, Ok, Err, Option, Some, None}
+use Rattle.std.specs.Prelude.{◌≡◌, ◌⊎◌, ℕ, List, Ok, Err, Option, Some, None}
 use Rattle.std.specs.Option.{option_map}
 use Rattle.mysql_wire_part.specs.Reading.{ReadRefusal}
 use Rattle.mysql_wire_part.specs.ParseBuf.{read_refusal}
@@ -32,3 +32,11 @@ abbrev pub IsCustomerRow : (id : ℕ) → (name bytes rest : List ℕ) → Type 
 IsCustomerRow id name bytes rest = (first second : Value) × (after : List ℕ)
     × (read_cell bytes ≡ Ok (first, after)) × (read_cell after ≡ Ok (second, rest))
     × (number_of first ≡ Some id) × (text_of second ≡ Some name)
+
+-- Why a row of a number and a text gave nothing, where `rest` is left: its first cell was refused, or
+-- that gave a number, and the second was refused.
+abbrev pub IsRowRefusal : (bytes rest : List ℕ) → CellError → Type 0
+IsRowRefusal bytes rest error = IsCellRefusal number_of bytes rest error
+    ⊎ ((first : Value) × (id : ℕ) × (after : List ℕ)
+    × (read_cell bytes ≡ Ok (first, after)) × (number_of first ≡ Some id)
+    × IsCellRefusal text_of after rest error)

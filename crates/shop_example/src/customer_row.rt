@@ -6,7 +6,7 @@ ghost use Rattle.mysql_values.specs.Intermediate.{committed};
 ghost use Rattle.mysql_values.specs.FromValue.{text_of};
 ghost use Rattle.mysql_values.specs.TextCell.{read_cell, read_cells};
 ghost use Rattle.mysql_values.specs.declared.value.Value as value;
-ghost use Rattle.shop_example.specs.CustomerRow.{IsCellRefusal, IsCustomerRow};
+ghost use Rattle.shop_example.specs.CustomerRow.{IsCellRefusal, IsCustomerRow, IsRowRefusal};
 
 use mysql_values::value::convert::{FromValue, FromValueError, from_value_opt};
 use mysql_values::value::{TextValue, ValueDeserializer};
@@ -53,6 +53,7 @@ pub fn cell<T: FromValue>(alloc: Global, buf: &mut ParseBuf<'_>) -> Result<T, Ce
 pub fn read_customer(alloc: Global, buf: &mut ParseBuf<'_>) -> Result<Customer, CellError>
     ensures row { IfOk result (λ customer.
         IsCustomerRow customer.id (string_bytes customer.name) (left buf.old) (left buf.new)) }
+    ensures refused { IfErr result (IsRowRefusal (left buf.old) (left buf.new)) }
 {
     let id = cell::<u32>(alloc, buf)?;
     let name = cell::<String>(alloc, buf)?;
