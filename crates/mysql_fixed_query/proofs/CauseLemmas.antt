@@ -14,7 +14,7 @@ use Rattle.mysql_binding.specs.StandsAlone.{first_not_alone}
 use Rattle.mysql_binding.specs.FirstCause.{first_cause, first_float, mixed_cause, mixed_query, count_cause, mark_count, mark_count_differs, not_alone_cause, not_alone, float_cause, float_value, later_cause, cause_after_lookup}
 use Rattle.mysql_fixed_query.specs.Bindable.{IsBindable, IsBindableByPosition, given_by, valued, is_by_position, values_of}
 use Rattle.mysql_fixed_query.specs.FixedText.{values_under}
-use Rattle.mysql_fixed_query.proofs.GivenLemmas.{names_of-valued, pairs_made-new, lookup-given_by, no_float_given}
+use Rattle.mysql_fixed_query.proofs.GivenLemmas.{pair_names-valued, pairs_made-new, lookup-given_by, no_float_given}
 
 -- none of the causes, one after another
 no_cause : (ts : List Token) (g : Given) (values : List Value) → has_both ts ≡ false →
@@ -60,7 +60,7 @@ module _ {mode : Bool} {query : List ℕ} {pairs : List (List ℕ × Meaning)}
       ≡ Ok (values_under mode query (valued pairs))
   names_looked_up =
       lookup-given_by (valued pairs) (names (tokens_of mode query)) h.has_name
-      (rw (names_of-valued pairs h.literals) h.given)
+      (rw (pair_names-valued pairs h.literals) h.given)
 
   pub no_cause_by_name : first_cause (tokens_of mode query) (given_by (valued pairs)) ≡ None
   no_cause_by_name =

@@ -15,7 +15,7 @@ use Rattle.mysql_params_core.specs.Lookup.{lookup, values_at, missing}
 use Rattle.mysql_params_core.specs.Names.{missing_name}
 use Rattle.mysql_params_core.specs.Made.{with_pair, pairs_made}
 use Rattle.mysql_binding.specs.FirstCause.{first_float_from}
-use Rattle.mysql_fixed_query.specs.Bindable.{names_of, is_among, are_new, have_literals, valued, given_by}
+use Rattle.mysql_fixed_query.specs.Bindable.{pair_names, is_among, are_new, have_literals, valued, given_by}
 use Rattle.mysql_fixed_query.specs.FixedText.{value_under}
 
 abbrev pub Pairs : Type 0
@@ -33,7 +33,7 @@ meant pair = (pair.0, Ok pair.1)
 
 -- a map of pairs has the names of the pairs
 has_name-from_entries : (pairs : Pairs) (name : List ℕ) →
-    contains_key {R = slice_cmp nat_cmp} (from_entries pairs) name ≡ is_among (names_of pairs) name
+    contains_key {R = slice_cmp nat_cmp} (from_entries pairs) name ≡ is_among (pair_names pairs) name
 has_name-from_entries pairs name =
     ap is_some (get-from_entries nat_list_cmp_total pairs name)
     ∙ is_some-find (slice_cmp nat_cmp) name pairs
@@ -42,13 +42,13 @@ none_of_not_some : {A : Type 0} (o : Option A) → is_some o ≡ false → o ≡
 none_of_not_some None e = refl
 none_of_not_some (Some a) e = absurd (true≢false e)
 
-names_of-push : (pairs : Pairs) (pair : List ℕ × Value) →
-    names_of (pairs ++ pair ∷ []) ≡ names_of pairs ++ pair.0 ∷ []
-names_of-push [] pair = refl
-names_of-push (first ∷ pairs) pair = ap (λ x. first.0 ∷ x) (names_of-push pairs pair)
+pair_names-push : (pairs : Pairs) (pair : List ℕ × Value) →
+    pair_names (pairs ++ pair ∷ []) ≡ pair_names pairs ++ pair.0 ∷ []
+pair_names-push [] pair = refl
+pair_names-push (first ∷ pairs) pair = ap (λ x. first.0 ∷ x) (pair_names-push pairs pair)
 
 -- one pair more, of a new name
-with_pair-new : (done : Pairs) (pair : List ℕ × Value) → is_among (names_of done) pair.0 ≡ false →
+with_pair-new : (done : Pairs) (pair : List ℕ × Value) → is_among (pair_names done) pair.0 ≡ false →
     with_pair (Ok (from_entries done)) (meant pair) ≡ Ok (from_entries (done ++ pair ∷ []))
 with_pair-new done pair is_new =
     let absent : contains_key {R = slice_cmp nat_cmp} (from_entries done) pair.0 ≡ false =
@@ -61,15 +61,15 @@ with_pair-new done pair is_new =
     rw (absent, pushed) refl
 
 -- pairs of new names, one after another
-fold-with_pair : (done rest : Pairs) → are_new (names_of done) (names_of rest) ≡ true →
+fold-with_pair : (done rest : Pairs) → are_new (pair_names done) (pair_names rest) ≡ true →
     fold with_pair (Ok (from_entries done)) (map meant rest) ≡ Ok (from_entries (done ++ rest))
 fold-with_pair done [] h = ap (λ x. Ok (from_entries x)) (sym (append-nil done))
 fold-with_pair done (pair ∷ rest) h =
     let parts = and_parts _ _ h in
-    let is_new : is_among (names_of done) pair.0 ≡ false =
-    not-true (is_among (names_of done) pair.0) parts.0 in
+    let is_new : is_among (pair_names done) pair.0 ≡ false =
+    not-true (is_among (pair_names done) pair.0) parts.0 in
     let later = fold-with_pair (done ++ pair ∷ []) rest
-    (subst (λ x. are_new x (names_of rest) ≡ true) (sym (names_of-push done pair)) parts.1) in
+    (subst (λ x. are_new x (pair_names rest) ≡ true) (sym (pair_names-push done pair)) parts.1) in
     ap (λ x. fold with_pair x (map meant rest)) (with_pair-new done pair is_new)
     ∙ (later ∙ ap (λ x. Ok (from_entries x)) (append_assoc done (pair ∷ []) rest))
 
@@ -81,20 +81,20 @@ map-meant-valued ((name, Ok value) ∷ pairs) h =
     ap (λ x. (name, Ok value) ∷ x) (map-meant-valued pairs (and_parts _ _ h).1)
 map-meant-valued ((name, Err duration) ∷ pairs) h = absurd (true≢false (sym h))
 
-names_of-map-meant : (pairs : Pairs) → names_of (map meant pairs) ≡ names_of pairs
-names_of-map-meant [] = refl
-names_of-map-meant (pair ∷ pairs) = ap (λ x. pair.0 ∷ x) (names_of-map-meant pairs)
+pair_names-map-meant : (pairs : Pairs) → pair_names (map meant pairs) ≡ pair_names pairs
+pair_names-map-meant [] = refl
+pair_names-map-meant (pair ∷ pairs) = ap (λ x. pair.0 ∷ x) (pair_names-map-meant pairs)
 
-pub names_of-valued : (pairs : List (List ℕ × Meaning)) → have_literals pairs ≡ true →
-    names_of (valued pairs) ≡ names_of pairs
-names_of-valued pairs h =
-    sym (names_of-map-meant (valued pairs)) ∙ ap names_of (map-meant-valued pairs h)
+pub pair_names-valued : (pairs : List (List ℕ × Meaning)) → have_literals pairs ≡ true →
+    pair_names (valued pairs) ≡ pair_names pairs
+pair_names-valued pairs h =
+    sym (pair_names-map-meant (valued pairs)) ∙ ap pair_names (map-meant-valued pairs h)
 
 pub pairs_made-new : (pairs : List (List ℕ × Meaning)) → have_literals pairs ≡ true →
-    are_new [] (names_of pairs) ≡ true → pairs_made pairs ≡ Ok (given_by (valued pairs))
+    are_new [] (pair_names pairs) ≡ true → pairs_made pairs ≡ Ok (given_by (valued pairs))
 pairs_made-new pairs h new =
-    let new_too : are_new [] (names_of (valued pairs)) ≡ true =
-    rw (names_of-valued pairs h) new in
+    let new_too : are_new [] (pair_names (valued pairs)) ≡ true =
+    rw (pair_names-valued pairs h) new in
     let made : fold with_pair (Ok empty) pairs ≡ Ok (from_entries (valued pairs)) =
     rw (map-meant-valued pairs h) at (fold-with_pair [] (valued pairs) new_too) in
     rw made refl
@@ -107,11 +107,11 @@ some_of (Some b) a e = refl
 
 -- names of the pairs have their values in the map
 values_at-from_entries : (pairs : Pairs) (names : List (List ℕ)) →
-    list_all (is_among (names_of pairs)) names ≡ true →
+    list_all (is_among (pair_names pairs)) names ≡ true →
     values_at (from_entries pairs) names ≡ Some (map (value_under pairs) names)
 values_at-from_entries pairs [] h = refl
 values_at-from_entries pairs (name ∷ names) h =
-    let parts = and_parts (is_among (names_of pairs) name) _ h in
+    let parts = and_parts (is_among (pair_names pairs) name) _ h in
     let here : get {R = slice_cmp nat_cmp} (from_entries pairs) name
     ≡ Some (value_under pairs name) =
     get-from_entries nat_list_cmp_total pairs name
@@ -119,7 +119,7 @@ values_at-from_entries pairs (name ∷ names) h =
     rw (here, values_at-from_entries pairs names parts.1) refl
 
 pub lookup-given_by : (pairs : Pairs) (names : List (List ℕ)) → 0 < length names →
-    list_all (is_among (names_of pairs)) names ≡ true →
+    list_all (is_among (pair_names pairs)) names ≡ true →
     lookup (given_by pairs) names ≡ Ok (map (value_under pairs) names)
 lookup-given_by pairs [] some h = absurd (omega (arith, some))
 lookup-given_by pairs (name ∷ names) some h =

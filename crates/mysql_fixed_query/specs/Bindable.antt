@@ -1,5 +1,5 @@
--- Which queries nothing but memory refuses to bind to which values: facts that the prover computes
--- where the query is a constant. A mode is the flag `no_backslash_escape`: `true` is the mode
+-- Which queries fit exactly what is given to them, so that nothing but memory refuses to bind them:
+-- facts that the prover computes where the query is a constant. A mode is the flag `no_backslash_escape`: `true` is the mode
 -- without backslash escapes.
 use Rattle.std.specs.Prelude.{◌≡◌, ◌<◌, ℕ, Bool, true, false, not, ◌&&◌, List, [], ◌∷◌, ◌++◌, length, map, None, Ok, Err, IsTrue}
 use Rattle.std.specs.List.{list_all, list_any}
@@ -17,8 +17,8 @@ use Rattle.mysql_binding.specs.StandsAlone.{first_not_alone}
 use Rattle.mysql_binding.specs.FirstCause.{first_float}
 
 -- the names of pairs
-abbrev pub names_of : {A : Type 0} → List (List ℕ × A) → List (List ℕ)
-names_of pairs = map (λ pair. pair.0) pairs
+abbrev pub pair_names : {A : Type 0} → List (List ℕ × A) → List (List ℕ)
+pair_names pairs = map (λ pair. pair.0) pairs
 
 -- whether the name is one of these
 abbrev pub is_among : List (List ℕ) → List ℕ → Bool
@@ -38,7 +38,8 @@ has_literal (Err duration) = false
 abbrev pub have_literals : List (List ℕ × Meaning) → Bool
 have_literals pairs = list_all (λ pair. has_literal pair.1) pairs
 
--- nothing but memory refuses to bind the query to these pairs of a name and a thing
+-- the query fits these pairs of a name and a thing: nothing but memory refuses to bind it to them,
+-- and none of them is idle
 pub record IsBindable (mode : Bool) (query : List ℕ) (pairs : List (List ℕ × Meaning))
     : Type 0 where
   -- it has a name and no mark,
@@ -47,10 +48,10 @@ pub record IsBindable (mode : Bool) (query : List ℕ) (pairs : List (List ℕ �
   -- each of its places stands alone,
   pub alone : first_not_alone (tokens_of mode query) ≡ None
   -- each of its names is that of a pair, and each pair's name is one of its names,
-  pub given : IsTrue (list_all (is_among (names_of pairs)) (names (tokens_of mode query)))
-  pub wanted : IsTrue (list_all (is_among (names (tokens_of mode query))) (names_of pairs))
+  pub given : IsTrue (list_all (is_among (pair_names pairs)) (names (tokens_of mode query)))
+  pub wanted : IsTrue (list_all (is_among (names (tokens_of mode query))) (pair_names pairs))
   -- no name stands twice among the pairs,
-  pub differ : IsTrue (are_new [] (names_of pairs))
+  pub differ : IsTrue (are_new [] (pair_names pairs))
   -- and each thing has a value, and no float.
   pub literals : IsTrue (have_literals pairs)
 
@@ -76,7 +77,7 @@ abbrev pub values_of : Made → List Value
 values_of (Ok (positional values)) = values
 values_of made = []
 
--- nothing but memory refuses to bind the query to what things made, by position
+-- the query fits what things made, by position: nothing but memory refuses to bind it to that
 pub record IsBindableByPosition (mode : Bool) (query : List ℕ) (made : Made) : Type 0 where
   -- these are values by position, or nothing,
   pub by_position : IsTrue (is_by_position made)

@@ -93,24 +93,24 @@ sign_byte-test false = refl
 read_time-time_form : (n : Bool) (d h m s u : ℕ) (rest : List ℕ) → d < 2 ^ 32 → u < 2 ^ 32
     → read_time (time_form n d h m s u ++ rest) ≡ Ok (value_read_back (Time n d h m s u), rest)
 read_time-time_form n d h m s u rest days_fit microseconds_fit =
-    let no_time = d == 0 && h == 0 && m == 0 && s == 0 && u == 0 in
+    let all_zero = d == 0 && h == 0 && m == 0 && s == 0 && u == 0 in
     let Reads : List ℕ → Type 0 =
     λ form. read_time (form ++ rest) ≡ Ok (value_read_back (Time n d h m s u), rest) in
     let days = little_number-reads_back 4 d [] days_fit in
     let microseconds = little_number-reads_back 4 u [] microseconds_fit in
     let whole = sign_byte n ∷ (little_bytes 4 d ++ h ∷ m ∷ s ∷ []) in
-    cond_both no_time _ _ Reads (λ zeros.
+    cond_both all_zero _ _ Reads (λ zeros.
     ap (map_read time_value) (read_counted-append 0 [] rest refl)
-    ∙ ap (λ value. Ok (value, rest)) (sym (cond-true no_time _ _ zeros)))
+    ∙ ap (λ value. Ok (value, rest)) (sym (cond-true all_zero _ _ zeros)))
     (λ no_zeros. cond_both (u == 0) _ _ Reads (λ no_microseconds.
     ap (map_read time_value) (read_counted-append 8 whole rest refl)
     ∙ ap (λ value. Ok (value, rest)) (same_time _ n _ h m s 0 d u
-    (sign_byte-test n) days (zero_of u no_microseconds) ∙ sym (cond-false no_time _ _ no_zeros)))
+    (sign_byte-test n) days (zero_of u no_microseconds) ∙ sym (cond-false all_zero _ _ no_zeros)))
     (λ _.
     ap (map_read time_value)
     (read_counted-append 12 (whole ++ little_bytes 4 u) rest refl)
     ∙ ap (λ value. Ok (value, rest)) (same_time _ n _ h m s _ d u
-    (sign_byte-test n) days microseconds ∙ sym (cond-false no_time _ _ no_zeros))))
+    (sign_byte-test n) days microseconds ∙ sym (cond-false all_zero _ _ no_zeros))))
 
 pub reads_back_in_binary : (value : Value) → FieldsInRange value → ReadsBackInBinary value
 reads_back_in_binary NULL fits rest = refl

@@ -15,10 +15,10 @@ day_bytes year month day = little_bytes 2 year ++ month ∷ day ∷ []
 abbrev pub date_form : ℕ → ℕ → ℕ → ℕ → ℕ → ℕ → ℕ → List ℕ
 date_form year month day hour minute second microseconds =
     let no_microseconds = microseconds == 0 in
-    let no_clock = hour == 0 && minute == 0 && second == 0 && no_microseconds in
-    let no_day = year == 0 && month == 0 && day == 0 && no_clock in
-    if no_day then 0 ∷ [] else (
-    if no_clock then 4 ∷ day_bytes year month day else (
+    let midnight = hour == 0 && minute == 0 && second == 0 && no_microseconds in
+    let all_zero = year == 0 && month == 0 && day == 0 && midnight in
+    if all_zero then 0 ∷ [] else (
+    if midnight then 4 ∷ day_bytes year month day else (
     if no_microseconds then 7 ∷ (day_bytes year month day ++ hour ∷ minute ∷ second ∷ []) else
     11 ∷ (day_bytes year month day ++ hour ∷ minute ∷ second ∷ little_bytes 4 microseconds)))
 
@@ -31,10 +31,10 @@ sign_byte negative = if negative then 1 else 0
 abbrev pub time_form : Bool → ℕ → ℕ → ℕ → ℕ → ℕ → List ℕ
 time_form negative days hours minutes seconds microseconds =
     let no_microseconds = microseconds == 0 in
-    let no_time = days == 0 && hours == 0 && minutes == 0 && seconds == 0 && no_microseconds in
+    let all_zero = days == 0 && hours == 0 && minutes == 0 && seconds == 0 && no_microseconds in
     let whole_seconds =
     sign_byte negative ∷ (little_bytes 4 days ++ hours ∷ minutes ∷ seconds ∷ []) in
-    if no_time then 0 ∷ [] else (
+    if all_zero then 0 ∷ [] else (
     if no_microseconds then 8 ∷ whole_seconds else
     12 ∷ (whole_seconds ++ little_bytes 4 microseconds))
 
