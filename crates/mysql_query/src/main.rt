@@ -4,12 +4,17 @@
 use mysql_params::{RunError, run};
 use std::alloc::AllocError;
 use std::env;
+use std::io::ErrorKind;
 use std::process::ExitCode;
 
-/// The arguments without the program's own name; usage where they can't be had.
+/// The arguments without the program's own name; usage where one isn't UTF-8.
 fn words(rt: &HostRuntime) -> Result<Vec<String>, RunError> {
-    let Ok(mut arguments) = env::args(rt) else {
-        return Err(RunError::Usage);
+    let mut arguments = match env::args(rt) {
+        Ok(arguments) => arguments,
+        Err(error) if error.kind() == ErrorKind::OutOfMemory => {
+            return Err(RunError::Memory(AllocError));
+        }
+        Err(_) => return Err(RunError::Usage),
     };
     let _ = arguments.next();
     let mut words = Vec::new(rt.alloc());
