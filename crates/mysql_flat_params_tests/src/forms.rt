@@ -1,11 +1,10 @@
 //! Forms and queries that are bound, and those that are refused.
-use crate::shared::{FORM, QUERY, TEXT, binds, refuses, same};
+use crate::shared::{FORM, QUERY, TEXT, answer_of, binds, refuses, same};
 use mysql_flat_params::laws::form_error_equality;
 use mysql_flat_params::{FormError, Outcome, params_of_form};
 use mysql_params_core::params::Params;
 use std::alloc::{AllocError, Global};
 use std::process::Abort;
-use std::test::Fail;
 
 /// Queries, forms, and the text.
 const TEXTS: &[(&[u8], &[u8], &[u8])] = &[
@@ -29,11 +28,10 @@ const TEXTS: &[(&[u8], &[u8], &[u8])] = &[
 ];
 
 #[test]
-fn bound_texts(rt: HostRuntime) -> Result<(), Fail> {
+fn bound_texts(rt: HostRuntime) {
     for (query, form, text) in TEXTS {
         binds(&rt, rt.alloc(), *query, *form, *text);
     }
-    Ok(())
 }
 
 /// Forms, and why they are refused.
@@ -173,12 +171,11 @@ const FORMS: &[(&[u8], Outcome)] = &[
 ];
 
 #[test]
-fn refused_forms(rt: HostRuntime) -> Result<(), Fail> {
+fn refused_forms(rt: HostRuntime) {
     for (form, wanted) in FORMS {
         // The query has causes of its own, which come later.
         refuses(&rt, rt.alloc(), b":a ?", *form, *wanted);
     }
-    Ok(())
 }
 
 /// Queries, forms, and why binding is refused.
@@ -246,11 +243,10 @@ const CAUSES: &[(&[u8], &[u8], Outcome)] = &[
 ];
 
 #[test]
-fn refused_queries(rt: HostRuntime) -> Result<(), Fail> {
+fn refused_queries(rt: HostRuntime) {
     for (query, form, wanted) in CAUSES {
         refuses(&rt, rt.alloc(), *query, *form, *wanted);
     }
-    Ok(())
 }
 
 #[test]
@@ -321,21 +317,16 @@ const MESSAGES: &[(FormError, &str)] = &[
 ];
 
 /// What is printed of the error.
-fn says(rt: &impl Abort, alloc: Global, error: &FormError, message: &str) -> Result<(), Fail> {
-    let printed = error.to_string(alloc)?;
+fn says(rt: &impl Abort, alloc: Global, error: &FormError, message: &str) {
+    let printed = answer_of(rt, error.to_string(alloc));
     same(rt, printed.as_str(), message);
-    Ok(())
 }
 
 #[test]
-fn messages(rt: HostRuntime) -> Result<(), Fail> {
+fn messages(rt: HostRuntime) {
     for (error, text) in MESSAGES {
-        says(&rt, rt.alloc(), error, *text)?;
+        says(&rt, rt.alloc(), error, *text);
     }
-    says(
-        &rt,
-        rt.alloc(),
-        &FormError::Memory(AllocError),
-        "out of memory",
-    )
+    let memory = FormError::Memory(AllocError);
+    says(&rt, rt.alloc(), &memory, "out of memory");
 }

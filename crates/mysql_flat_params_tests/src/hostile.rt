@@ -1,10 +1,9 @@
 //! Bytes that are no form: each gets an answer or a named refusal.
-use crate::shared::{FORM, QUERY, TEXT, binds, holds_alone, refuses, same_in, wrote};
+use crate::shared::{FORM, QUERY, TEXT, answer_of, binds, holds_alone, refuses, same_in, wrote};
 use mysql_binding::bind_text;
 use mysql_flat_params::{Outcome, bind_into, params_of_form};
 use std::alloc::Global;
 use std::process::Abort;
-use std::test::Fail;
 
 // The refusal of a form of one or two bytes: none of them is a parameter.
 fn refusal_of_two(first: u8) -> Outcome {
@@ -22,7 +21,7 @@ fn refusal_of_two(first: u8) -> Outcome {
 }
 
 #[test]
-fn every_form_of_up_to_two_bytes(rt: HostRuntime) -> Result<(), Fail> {
+fn every_form_of_up_to_two_bytes(rt: HostRuntime) {
     let alloc = rt.alloc();
     binds(&rt, alloc, b"", b"", b"");
     for first in 0..=255u8 {
@@ -31,7 +30,6 @@ fn every_form_of_up_to_two_bytes(rt: HostRuntime) -> Result<(), Fail> {
             refuses(&rt, alloc, b"", &[first, second], refusal_of_two(first));
         }
     }
-    Ok(())
 }
 
 // The answer to a form of three bytes over the empty query: only a nameless parameter of a type
@@ -100,13 +98,12 @@ fn outcome_of_cut(at: usize) -> Outcome {
 }
 
 #[test]
-fn a_form_cut_at_every_byte(rt: HostRuntime) -> Result<(), Fail> {
+fn a_form_cut_at_every_byte(rt: HostRuntime) {
     let alloc = rt.alloc();
     for at in 0..FORM.len() {
         refuses(&rt, alloc, QUERY, &FORM[..at], outcome_of_cut(at));
     }
     binds(&rt, alloc, QUERY, FORM, TEXT);
-    Ok(())
 }
 
 // The query of README's example bound to what the form says, if neither is refused.
@@ -141,9 +138,9 @@ fn writes_the_text_alone(rt: &impl Abort, alloc: Global, form: &[u8]) {
 }
 
 #[test]
-fn a_form_with_every_byte_changed(rt: HostRuntime) -> Result<(), Fail> {
+fn a_form_with_every_byte_changed(rt: HostRuntime) {
     let alloc = rt.alloc();
-    let mut form = Vec::from_slice(alloc, FORM)?;
+    let mut form = answer_of(&rt, Vec::from_slice(alloc, FORM));
     for at in 0..form.len() {
         let good = form[at];
         for byte in 0..=255u8 {
@@ -152,5 +149,4 @@ fn a_form_with_every_byte_changed(rt: HostRuntime) -> Result<(), Fail> {
         }
         form[at] = good;
     }
-    Ok(())
 }

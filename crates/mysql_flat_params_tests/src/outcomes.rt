@@ -2,7 +2,6 @@
 use crate::shared::{same, same_in};
 use mysql_flat_params::laws::{outcome_equality, report_equality};
 use mysql_flat_params::{Outcome, Report};
-use std::test::Fail;
 
 /// Outcomes, their numbers, and their fields: length, place, position, marks, values, byte.
 const OUTCOMES: &[(Outcome, i32, [usize; 6])] = &[
@@ -84,7 +83,7 @@ const OUTCOMES: &[(Outcome, i32, [usize; 6])] = &[
 ];
 
 #[test]
-fn numbers_and_fields(rt: HostRuntime) -> Result<(), Fail> {
+fn numbers_and_fields(rt: HostRuntime) {
     for (outcome, number, [len, place, position, marks, values, byte]) in OUTCOMES {
         let wanted = Report {
             len: *len,
@@ -102,14 +101,12 @@ fn numbers_and_fields(rt: HostRuntime) -> Result<(), Fail> {
             number,
         );
     }
-    Ok(())
 }
 
 #[test]
-fn equal_outcomes(rt: HostRuntime) -> Result<(), Fail> {
+fn equal_outcomes(rt: HostRuntime) {
     let outcome = Outcome::Float { place: 1 };
     assert!(rt; outcome_equality(&outcome, &Outcome::Float { place: 1 }));
     assert!(rt; !outcome_equality(&outcome, &Outcome::Float { place: 2 }));
     assert!(rt; !report_equality(&outcome.report(), &Outcome::Mixed.report()));
-    Ok(())
 }

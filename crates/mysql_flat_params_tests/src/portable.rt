@@ -2,7 +2,6 @@
 use crate::shared::same_in;
 use mysql_flat_params::{Report, report_first_unportable};
 use std::process::Abort;
-use std::test::Fail;
 
 /// Queries that are portable in either mode.
 const PORTABLE: &[&[u8]] = &[
@@ -67,28 +66,25 @@ fn tells(rt: &impl Abort, query: &[u8], mode: bool, number: i32, position: usize
 }
 
 #[test]
-fn portable_queries(rt: HostRuntime) -> Result<(), Fail> {
+fn portable_queries(rt: HostRuntime) {
     for query in PORTABLE {
         tells(&rt, *query, false, 0, 0);
         tells(&rt, *query, true, 0, 0);
     }
-    Ok(())
 }
 
 #[test]
-fn first_constructs(rt: HostRuntime) -> Result<(), Fail> {
+fn first_constructs(rt: HostRuntime) {
     for (query, number, position) in CONSTRUCTS {
         tells(&rt, *query, false, *number, *position);
         tells(&rt, *query, true, *number, *position);
     }
-    Ok(())
 }
 
 #[test]
-fn quotes_after_a_backslash(rt: HostRuntime) -> Result<(), Fail> {
+fn quotes_after_a_backslash(rt: HostRuntime) {
     for (query, (number, position), (without, at)) in AFTER_A_BACKSLASH {
         tells(&rt, *query, false, *number, *position);
         tells(&rt, *query, true, *without, *at);
     }
-    Ok(())
 }

@@ -1,37 +1,33 @@
 //! Rooms that are too short, of the right length, and longer; and the answer to a query's names.
 use crate::shared::{FORM, QUERY, Spelling, TEXT, WITH_BACKSLASHES, finds_by, same, same_in};
 use mysql_flat_params::{Outcome, bind_into, names_into};
-use std::test::Fail;
 
 #[test]
-fn bound_in_its_room(rt: HostRuntime) -> Result<(), Fail> {
+fn bound_in_its_room(rt: HostRuntime) {
     let mut room = [b'#'; 36];
     let outcome = bind_into(rt.alloc(), QUERY, FORM, &mut room);
     same(&rt, outcome, Outcome::Done { len: 36 });
     same(&rt, room.as_slice(), TEXT);
-    Ok(())
 }
 
 #[test]
-fn room_too_short_by_one(rt: HostRuntime) -> Result<(), Fail> {
+fn room_too_short_by_one(rt: HostRuntime) {
     let mut room = [b'#'; 35];
     let outcome = bind_into(rt.alloc(), QUERY, FORM, &mut room);
     same(&rt, outcome, Outcome::Room { len: 36 });
     same(&rt, room, [b'#'; 35]);
-    Ok(())
 }
 
 #[test]
-fn room_too_short_for_names_by_one(rt: HostRuntime) -> Result<(), Fail> {
+fn room_too_short_for_names_by_one(rt: HostRuntime) {
     let mut room = [b'#'; 35];
     let outcome = names_into(rt.alloc(), QUERY, &mut room[..26]);
     same(&rt, outcome, Outcome::Room { len: 27 });
     same(&rt, room, [b'#'; 35]);
-    Ok(())
 }
 
 #[test]
-fn no_room(rt: HostRuntime) -> Result<(), Fail> {
+fn no_room(rt: HostRuntime) {
     let mut room = [0u8; 0];
     let outcome = bind_into(rt.alloc(), b"", b"", &mut room);
     same(&rt, outcome, Outcome::Done { len: 0 });
@@ -39,7 +35,6 @@ fn no_room(rt: HostRuntime) -> Result<(), Fail> {
     same(&rt, outcome, Outcome::Room { len: 1 });
     let outcome = names_into(rt.alloc(), b"", &mut room);
     same(&rt, outcome, Outcome::Room { len: 1 });
-    Ok(())
 }
 
 /// Queries, and the answer to asking for their names.
@@ -51,11 +46,10 @@ const NAMES: &[(&[u8], &[u8])] = &[
 ];
 
 #[test]
-fn names_of_queries(rt: HostRuntime) -> Result<(), Fail> {
+fn names_of_queries(rt: HostRuntime) {
     for (query, answer) in NAMES {
         finds_by(&rt, rt.alloc(), WITH_BACKSLASHES, *query, *answer);
     }
-    Ok(())
 }
 
 /// Every call that answers with names.
@@ -66,12 +60,11 @@ const EITHER_MODE: &[Spelling] = &[
 ];
 
 #[test]
-fn names_of_a_mixed_query(rt: HostRuntime) -> Result<(), Fail> {
+fn names_of_a_mixed_query(rt: HostRuntime) {
     for spelling in EITHER_MODE {
         let mut room = [b'#'; 40];
         let outcome = spelling.names(rt.alloc(), b":a ?", &mut room);
         same_in(&rt, outcome, Outcome::Mixed, spelling);
         same_in(&rt, room, [b'#'; 40], spelling);
     }
-    Ok(())
 }

@@ -29,6 +29,11 @@ pub(crate) fn same_in<T: Copy + Debug + PartialEq, C: Debug>(
     assert_eq!(rt; found, wanted, "of {case:?}");
 }
 
+/// The answer of a call. An error ends the test here, so that callers have none to meet.
+pub(crate) fn answer_of<T, E: Debug + Drop>(rt: &impl Abort, found: Result<T, E>) -> T {
+    found.expect(rt, "an error in place of an answer")
+}
+
 /// The room begins with this text, and all of it after that is as before.
 pub(crate) fn holds_alone<C: Debug>(rt: &impl Abort, room: &[u8], text: &[u8], case: &C) {
     same_in(rt, room.starts_with(text), true, case);

@@ -1,7 +1,6 @@
 //! Forms bound, and names found, in the mode without backslash escapes.
 use crate::shared::{WITH_BACKSLASHES, WITHOUT_BACKSLASHES, binds_by, finds_by, refuses_by};
 use mysql_flat_params::Outcome;
-use std::test::Fail;
 
 /// Queries, forms, and the text.
 const TEXTS: &[(&[u8], &[u8], &[u8])] = &[
@@ -21,11 +20,10 @@ const TEXTS: &[(&[u8], &[u8], &[u8])] = &[
 ];
 
 #[test]
-fn bound_texts(rt: HostRuntime) -> Result<(), Fail> {
+fn bound_texts(rt: HostRuntime) {
     for (query, form, text) in TEXTS {
         binds_by(&rt, rt.alloc(), WITHOUT_BACKSLASHES, *query, *form, *text);
     }
-    Ok(())
 }
 
 /// A name, if a backslash escapes nothing: else it stands in an open string.
@@ -57,7 +55,7 @@ const REFUSALS: &[(&[u8], &[u8], Outcome)] = &[
 ];
 
 #[test]
-fn refusals(rt: HostRuntime) -> Result<(), Fail> {
+fn refusals(rt: HostRuntime) {
     for (query, form, outcome) in REFUSALS {
         refuses_by(
             &rt,
@@ -68,11 +66,10 @@ fn refusals(rt: HostRuntime) -> Result<(), Fail> {
             *outcome,
         );
     }
-    Ok(())
 }
 
 #[test]
-fn a_name_in_an_open_string(rt: HostRuntime) -> Result<(), Fail> {
+fn a_name_in_an_open_string(rt: HostRuntime) {
     let refused = Outcome::NamedForPositional;
     refuses_by(
         &rt,
@@ -82,15 +79,13 @@ fn a_name_in_an_open_string(rt: HostRuntime) -> Result<(), Fail> {
         NULL_FOR_B,
         refused,
     );
-    Ok(())
 }
 
 #[test]
-fn names_of_a_query(rt: HostRuntime) -> Result<(), Fail> {
+fn names_of_a_query(rt: HostRuntime) {
     let alloc = rt.alloc();
     let with = b"\x0dSELECT 'a\\':b";
     finds_by(&rt, alloc, WITH_BACKSLASHES, AFTER_A_BACKSLASH, with);
     let without = b"\x0cSELECT 'a\\'?\x01b";
     finds_by(&rt, alloc, WITHOUT_BACKSLASHES, AFTER_A_BACKSLASH, without);
-    Ok(())
 }

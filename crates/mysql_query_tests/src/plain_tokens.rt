@@ -111,7 +111,7 @@ fn same_in_both_modes(text: &[u8]) -> bool {
     same_tokens(text, false) && same_tokens(text, true)
 }
 
-/// How a token opens, the byte of which its inside is answer_of, and what closes it; then a place.
+/// How a token opens, the byte of which its inside is made, and what closes it; then a place.
 type Kind = (&'static [u8], u8, &'static [u8]);
 
 const KINDS: &[Kind] = &[
