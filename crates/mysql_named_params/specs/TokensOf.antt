@@ -1,5 +1,5 @@
 -- The tokens of a query as a function (`laws::tokens_exist`), which computes where the query is a
--- constant. No contract of a function that reads a query rests on it.
+-- constant. Of the contracts of functions only those of fixed queries rest on it.
 use Rattle.std.specs.Prelude.{ℕ, suc, Bool, true, false, ◌==◌, ◌&&◌, if◌then◌else◌, List, [], ◌∷◌, length, take, drop, Option, Some, None, unwrap_or}
 use Rattle.mysql_sql_text.specs.StringUnits.{is_escape}
 use Rattle.mysql_named_params.specs.Bytes.{asterisk, backquote, colon, dash, hash, newline, question_mark, slash, is_start_byte, is_name_byte, is_string_quote}

@@ -74,7 +74,8 @@ pub fn portable_reading()
         IsReadAs ts us }
 {}
 
-/// No weaker condition serves: a query that every server reads as the grammar does is portable.
+/// No weaker condition serves, but for places directly after an exponent: each token of a query that
+/// every server reads as the grammar does is portable.
 pub fn portable_is_sharp()
     ensures sharp { (mode : Bool) (query : List ℕ) (ts : List Token) → IsTokens mode query ts →
         ((server : Server) (us : List Token) → IsReadOn server mode query us →

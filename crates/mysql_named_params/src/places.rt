@@ -28,7 +28,8 @@ pub struct FoundPlace {
     pub len: usize,
 }
 
-/// The first name or mark of a text. No other function cuts a text into its tokens.
+/// The first name or mark of a text. Beside this function only
+/// [`first_unportable`](crate::portable::first_unportable) cuts a text into its tokens.
 pub fn first_place(text: &[u8], no_backslash_escape: bool) -> Option<FoundPlace>
     ensures place { OnTokens no_backslash_escape text.now (λ ts. IfSome result (IsFirstPlace ts)) }
     ensures none { OnTokens no_backslash_escape text.now (λ ts.
