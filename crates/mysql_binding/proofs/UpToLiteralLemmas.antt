@@ -8,7 +8,7 @@ use Rattle.std.proofs.lemmas.Bool.{eqb-true, not-true, or_cases, or_parts, or_fr
 use Rattle.std.proofs.lemmas.Bool.Decides.{nat_tests}
 use Rattle.mysql_named_params.specs.Bytes.{asterisk, colon, dash, newline, question_mark, slash, is_white_space, begins, plus}
 use Rattle.mysql_named_params.specs.Tokens.{Token, QuotedString, QuotedIdentifier, HashComment, DashComment, BlockComment, Name, Mark, Plain}
-use Rattle.mysql_named_params.specs.Server.{is_printable, is_tag_byte, begins_tag, begins_dashes, begins_exponent_dashes, begins_fraction, begins_own}
+use Rattle.mysql_named_params.specs.Server.{is_graphic, is_tag_byte, begins_tag, begins_dashes, begins_exponent_dashes, begins_fraction, begins_own}
 use Rattle.mysql_named_params.specs.Portable.{may_open_line, differs_at, is_portable}
 use Rattle.mysql_named_params.proofs.PortableLemmas.{second_false, false_if}
 use Rattle.mysql_named_params.proofs.RestLemmas.{SameUpToPlace}
@@ -34,15 +34,15 @@ up_to_place (at_place {y = y} p l) = other_there p (begins_literal-opens_nothing
 
 -- ---- what a literal begins
 
-literal_printable : (b : ℕ) (bs : List ℕ) → begins_literal (b ∷ bs) ≡ true → is_printable b ≡ true
-literal_printable b bs h =
+literal_graphic : (b : ℕ) (bs : List ℕ) → begins_literal (b ∷ bs) ≡ true → is_graphic b ≡ true
+literal_graphic b bs h =
     elim (or_cases _ (b == dash && begins is_ascii_digit bs) h) [
       | inl f ↦ grind (arith, nat_tests)
-      | inr m ↦ ap is_printable (eqb-true b dash ((and_parts (b == dash) _ m).0))
+      | inr m ↦ ap is_graphic (eqb-true b dash ((and_parts (b == dash) _ m).0))
     ]
 
-digit_printable : (b : ℕ) → is_ascii_digit b ≡ true → is_printable b ≡ true
-digit_printable b h = grind (arith, nat_tests)
+digit_graphic : (b : ℕ) → is_ascii_digit b ≡ true → is_graphic b ≡ true
+digit_graphic b h = grind (arith, nat_tests)
 
 -- after the dash of a literal
 digit_after : (b : ℕ) (bs : List ℕ) → (b == dash) ≡ true → begins_literal (b ∷ bs) ≡ true →
@@ -62,9 +62,9 @@ star_move at_end e = e
 star_move (same a) e = e
 star_move (at_place {y = y} p l) e = literal_no_star y l
 
-gap_closed : (b w : ℕ) → ((b == dash) ≡ true → is_printable w ≡ true) →
-    (b == dash && not (is_white_space w || is_printable w)) ≡ false
-gap_closed b w f = false_if (b == dash) _ (λ e. go (is_white_space w) (is_printable w) (f e))
+gap_closed : (b w : ℕ) → ((b == dash) ≡ true → is_graphic w ≡ true) →
+    (b == dash && not (is_white_space w || is_graphic w)) ≡ false
+gap_closed b w f = false_if (b == dash) _ (λ e. go (is_white_space w) (is_graphic w) (f e))
   where
     go : (c d : Bool) → d ≡ true → not (c || d) ≡ false
     go true d e = refl
@@ -73,11 +73,11 @@ gap_closed b w f = false_if (b == dash) _ (λ e. go (is_white_space w) (is_print
 literal_no_line : (y : List ℕ) → begins_literal y ≡ true → may_open_line y ≡ false
 literal_no_line [] h = refl
 literal_no_line (b ∷ []) h = refl
-literal_no_line (b ∷ w ∷ bs) h = gap_closed b w (λ e. digit_printable w (digit_after b (w ∷ bs) e h))
+literal_no_line (b ∷ w ∷ bs) h = gap_closed b w (λ e. digit_graphic w (digit_after b (w ∷ bs) e h))
 
 second_line : (b : ℕ) (y : List ℕ) → begins_literal y ≡ true → may_open_line (b ∷ y) ≡ false
 second_line b [] l = refl
-second_line b (w ∷ bs) l = gap_closed b w (λ e. literal_printable w bs l)
+second_line b (w ∷ bs) l = gap_closed b w (λ e. literal_graphic w bs l)
 
 line_move : {x y : List ℕ} → SameUpToLiteral x y → may_open_line x ≡ false → may_open_line y ≡ false
 line_move at_end e = e
@@ -105,17 +105,17 @@ dashes_at (a ∷ []) l = refl
 dashes_at (a ∷ b ∷ []) l = refl
 dashes_at (a ∷ b ∷ gap ∷ bs) l = false_if (a == dash) _ (λ e. no_dash (digit_after a (b ∷ gap ∷ bs) e l))
   where
-    no_dash : is_ascii_digit b ≡ true → (b == dash && not (is_printable gap)) ≡ false
+    no_dash : is_ascii_digit b ≡ true → (b == dash && not (is_graphic gap)) ≡ false
     no_dash h = false_if (b == dash) _ (λ e. absurd (true≢false (sym h ∙ ap is_ascii_digit (eqb-true b dash e))))
 
 dashes_after_one : (a : ℕ) (y : List ℕ) → begins_literal y ≡ true → begins_dashes (a ∷ y) ≡ false
 dashes_after_one a [] l = refl
 dashes_after_one a (b ∷ []) l = refl
-dashes_after_one a (b ∷ gap ∷ bs) l = false_if (a == dash) _ (λ e. false_if (b == dash) _ (λ f. ap not (digit_printable gap (digit_after b (gap ∷ bs) f l))))
+dashes_after_one a (b ∷ gap ∷ bs) l = false_if (a == dash) _ (λ e. false_if (b == dash) _ (λ f. ap not (digit_graphic gap (digit_after b (gap ∷ bs) f l))))
 
 dashes_after_two : (a b : ℕ) (y : List ℕ) → begins_literal y ≡ true → begins_dashes (a ∷ b ∷ y) ≡ false
 dashes_after_two a b [] l = refl
-dashes_after_two a b (gap ∷ bs) l = false_if (a == dash) _ (λ e. false_if (b == dash) _ (λ f. ap not (literal_printable gap bs l)))
+dashes_after_two a b (gap ∷ bs) l = false_if (a == dash) _ (λ e. false_if (b == dash) _ (λ f. ap not (literal_graphic gap bs l)))
 
 dashes_move : {x y : List ℕ} → SameUpToLiteral x y → begins_dashes x ≡ false → begins_dashes y ≡ false
 dashes_move at_end e = e

@@ -6,7 +6,7 @@ use Rattle.std.specs.Char.{is_ascii_digit}
 use Rattle.std.specs.Str.{byte}
 use Rattle.mysql_named_params.specs.Bytes.{asterisk, colon, dash, double_quote, newline, plus, question_mark, slash, is_white_space, is_start_byte, begins}
 use Rattle.mysql_named_params.specs.Tokens.{Token, text_then, QuotedString, DashComment, BlockComment, Plain}
-use Rattle.mysql_named_params.specs.Server.{is_printable, begins_special, begins_own}
+use Rattle.mysql_named_params.specs.Server.{is_graphic, begins_special, begins_own}
 
 -- the byte stands before the last one
 abbrev pub stands_inside : ℕ → List ℕ → Bool
@@ -18,7 +18,7 @@ stands_inside q (b ∷ c ∷ bs) = b == q || stands_inside q (c ∷ bs)
 abbrev pub may_open_line : List ℕ → Bool
 may_open_line [] = false
 may_open_line (b ∷ []) = false
-may_open_line (b ∷ gap ∷ bs) = b == dash && not (is_white_space gap || is_printable gap)
+may_open_line (b ∷ gap ∷ bs) = b == dash && not (is_white_space gap || is_graphic gap)
 
 -- this plain byte, before this text, begins a construct in which servers differ
 abbrev pub differs_at : ℕ → List ℕ → Bool

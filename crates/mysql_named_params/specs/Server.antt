@@ -14,9 +14,9 @@ use Rattle.std.specs.Str.{byte}
 use Rattle.mysql_named_params.specs.Bytes.{asterisk, backquote, colon, dash, double_quote, exclamation_mark, newline, plus, question_mark, slash, is_white_space, is_name_byte, is_string_quote, is_extension, begins, IsUpTo}
 use Rattle.mysql_named_params.specs.Tokens.{Token, bytes_of, text_of, IsStringTail, IsName, QuotedString, QuotedIdentifier, HashComment, DashComment, BlockComment, Name, Mark, Plain}
 
--- a printable byte of ASCII other than the space
-abbrev pub is_printable : ℕ → Bool
-is_printable b = nat_le 33 b && nat_le b 126
+-- a graphic byte of ASCII: it is printable and not the space
+abbrev pub is_graphic : ℕ → Bool
+is_graphic b = nat_le 33 b && nat_le b 126
 
 -- after `/*`: `!`, `+` or `M!`, which make it a comment, a hint or a text that is executed
 abbrev pub begins_special : List ℕ → Bool
@@ -34,12 +34,12 @@ begins_tag [] = false
 begins_tag (b ∷ bs) =
     b == byte "$" || ((b == question_mark || b == colon) || (is_tag_byte b && begins_tag bs))
 
--- two dashes before a byte that is not printable
+-- two dashes before a byte that is not graphic
 abbrev pub begins_dashes : List ℕ → Bool
 begins_dashes [] = false
 begins_dashes (a ∷ []) = false
 begins_dashes (a ∷ b ∷ []) = false
-begins_dashes (a ∷ b ∷ gap ∷ bs) = a == dash && (b == dash && not (is_printable gap))
+begins_dashes (a ∷ b ∷ gap ∷ bs) = a == dash && (b == dash && not (is_graphic gap))
 
 -- after an exponent's `e`: such dashes, or a sign and such dashes
 abbrev pub begins_exponent_dashes : List ℕ → Bool
@@ -80,7 +80,7 @@ pub record Server : Type 0 where
   -- a plain byte; asked where `begins_own`
   pub quotes : ℕ → List ℕ → Option ℕ
   -- with which bytes `--` opens a comment, beside the white space with which it always does; asked
-  -- of the newline, with which the comment is empty, and of bytes that are not printable
+  -- of the newline, with which the comment is empty, and of bytes that are not graphic
   pub also_opens : ℕ → Bool
   -- whether `"` opens an identifier, in which nothing escapes
   pub ansi_quotes : Bool
@@ -88,7 +88,7 @@ pub record Server : Type 0 where
 -- `--` before this byte opens a comment on the server
 abbrev pub opens_line : Server → ℕ → Bool
 opens_line server b =
-    (is_white_space b && not (b == newline)) || (not (is_printable b) && server.also_opens b)
+    (is_white_space b && not (b == newline)) || (not (is_graphic b) && server.also_opens b)
 
 -- the mode in which a text in these quotes is read: that of strings, or without escapes
 abbrev pub reads_in : Server → Bool → ℕ → Bool
