@@ -75,7 +75,8 @@ fn construct(byte: u8, rest: &[u8]) -> Option<i32> {
 /// Bytes of an identifier, and then `$` or a place.
 fn leads_to_dollar(text: &[u8]) -> bool {
     let is_of_tag = |byte: &u8| byte.is_ascii_alphanumeric() || *byte == b'_' || *byte >= 128;
-    matches!(text.iter().find(|byte| !is_of_tag(byte)), Some(b'$' | b'?' | b':'))
+    let after = text.iter().position(|byte| !is_of_tag(byte)).unwrap_or(text.len());
+    text[after..].starts_with(b"$") || begins_place(&text[after..])
 }
 
 /// Digits, and then a place, or `e` and two dashes that open a comment, perhaps after a sign.
@@ -83,10 +84,9 @@ fn leads_to_dashes(text: &[u8]) -> bool {
     let digits = text.iter().take_while(|byte| byte.is_ascii_digit()).count();
     let opens = |text: &[u8]| matches!(text, [b'-', b'-', gap, ..] if !gap.is_ascii_graphic());
     match &text[digits..] {
-        [b'?' | b':', ..] => true,
         [b'e' | b'E', b'+' | b'-', after @ ..] if opens(after) => true,
         [b'e' | b'E', after @ ..] => opens(after),
-        _ => false,
+        after => begins_place(after),
     }
 }
 

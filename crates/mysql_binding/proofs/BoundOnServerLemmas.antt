@@ -23,19 +23,20 @@ ArePortableBefore-append (x ∷ xs) ys rest b h = (rw (text_then-append xs ys re
 
 -- a text bound to a portable query is portable
 pub replaced_portable : (mode : Bool) (ts : List Token) (literals : List (List ℕ)) (lists : List (List Token)) →
-    ArePortableBefore [] ts → AreLiterals mode literals → AreTokensOf mode literals lists →
-    length literals ≡ place_count ts → ArePortableBefore [] (with_literal_tokens ts lists)
-replaced_portable mode [] literals lists h s a l = tt
-replaced_portable mode (Name name ∷ ts) [] lists h s a l = absurd (omega arith)
-replaced_portable mode (Name name ∷ ts) (literal ∷ literals) [] h s a l = absurd a
-replaced_portable mode (Name name ∷ ts) (literal ∷ literals) (list ∷ lists) h s a l =
-    ArePortableBefore-append list (with_literal_tokens ts lists) [] ((IsLiteral-tokens mode literal list s.0 a.0).cut_settled _) (replaced_portable mode ts literals lists h.1 s.1 a.1 (omega arith))
-replaced_portable mode (Mark ∷ ts) [] lists h s a l = absurd (omega arith)
-replaced_portable mode (Mark ∷ ts) (literal ∷ literals) [] h s a l = absurd a
-replaced_portable mode (Mark ∷ ts) (literal ∷ literals) (list ∷ lists) h s a l =
-    ArePortableBefore-append list (with_literal_tokens ts lists) [] ((IsLiteral-tokens mode literal list s.0 a.0).cut_settled _) (replaced_portable mode ts literals lists h.1 s.1 a.1 (omega arith))
-replaced_portable mode (t ∷ ts) literals lists h s a l =
-    (portable_move t (replaced_up_to_literal mode ts literals lists s a l) h.0, replaced_portable mode ts literals lists h.1 s a l)
+    AreTokensBefore mode [] ts → ArePortableBefore [] ts → AreLiterals mode literals →
+    AreTokensOf mode literals lists → length literals ≡ place_count ts →
+    ArePortableBefore [] (with_literal_tokens ts lists)
+replaced_portable mode [] literals lists k h s a l = tt
+replaced_portable mode (Name name ∷ ts) [] lists k h s a l = absurd (omega arith)
+replaced_portable mode (Name name ∷ ts) (literal ∷ literals) [] k h s a l = absurd a
+replaced_portable mode (Name name ∷ ts) (literal ∷ literals) (list ∷ lists) k h s a l =
+    ArePortableBefore-append list (with_literal_tokens ts lists) [] ((IsLiteral-tokens mode literal list s.0 a.0).cut_settled _) (replaced_portable mode ts literals lists k.1 h.1 s.1 a.1 (omega arith))
+replaced_portable mode (Mark ∷ ts) [] lists k h s a l = absurd (omega arith)
+replaced_portable mode (Mark ∷ ts) (literal ∷ literals) [] k h s a l = absurd a
+replaced_portable mode (Mark ∷ ts) (literal ∷ literals) (list ∷ lists) k h s a l =
+    ArePortableBefore-append list (with_literal_tokens ts lists) [] ((IsLiteral-tokens mode literal list s.0 a.0).cut_settled _) (replaced_portable mode ts literals lists k.1 h.1 s.1 a.1 (omega arith))
+replaced_portable mode (t ∷ ts) literals lists k h s a l =
+    (portable_move t (replaced_up_to_literal mode ts literals lists k.1 s a l) h.0, replaced_portable mode ts literals lists k.1 h.1 s a l)
 
 -- ---- its tokens on the server
 
@@ -95,7 +96,7 @@ replaced_on server mode (read_same {t = Mark} {us = us} r) (literal ∷ literals
     let c = IsLiteral-tokens mode literal list s.0 a.0 in
     settled_on server mode list (with_literal_tokens us lists) (c.cut_tokens _) (c.cut_settled _) (replaced_on server mode r literals lists o.1 h.1 p.1 s.1 a.1 (omega arith))
 replaced_on server mode (read_same {t = t} {ts = ts} {us = us} r) literals lists o h p s a l =
-    let up = replaced_up_to_literal mode ts literals lists s a l in
+    let up = replaced_up_to_literal mode ts literals lists h.1 s a l in
     let there = token_on server mode t (text_of (with_literal_tokens ts lists))
     ((replaced_tokens mode (t ∷ ts) literals lists h s a l).0)
     (portable_move t up p.0)

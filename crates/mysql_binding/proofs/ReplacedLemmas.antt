@@ -1,9 +1,11 @@
 -- Literals in the places of a query: the text, its tokens, and that no place is left. It stands on the
 -- shape of literals alone.
 use Rattle.std.specs.Prelude.{Bool}
-use Rattle.std.proofs.Common.{◌≡◌, ◌++◌, ℕ, List, [], ◌∷◌, length, arith, inl, inr, Some, refl, ap, ◌∙◌, sym, subst}
+use Rattle.std.proofs.Common.{◌≡◌, ◌++◌, ℕ, List, [], ◌∷◌, length, arith, true, Some, refl, ap, ◌∙◌, sym, subst}
 use Rattle.mysql_sql_text.specs.LiteralShape.{IsLiteral}
-use Rattle.mysql_named_params.specs.Tokens.{Token, IsTokens, AreTokensBefore, text_of, bytes_of, Name, Mark}
+use Rattle.mysql_named_params.specs.Bytes.{colon}
+use Rattle.mysql_named_params.specs.Tokens.{Token, IsTokens, IsName, AreTokensBefore, text_of, bytes_of, Name, Mark}
+use Rattle.mysql_named_params.specs.Server.{begins_place}
 use Rattle.mysql_named_params.specs.Places.{place_count}
 use Rattle.mysql_named_params.proofs.RestLemmas.{IsToken-move}
 use Rattle.mysql_named_params.proofs.TokenListLemmas.{one_token_list}
@@ -31,14 +33,18 @@ literal_lists mode (literal ∷ literals) h =
     let more = literal_lists mode literals h.1 in
     (cut.0 ∷ more.0, (record { text = cut.1.cut_text; each = cut.1.cut_tokens [] }, more.1))
 
+name_begins : (name rest : List ℕ) → IsName name → begins_place (colon ∷ (name ++ rest)) ≡ true
+name_begins [] rest h = absurd h
+name_begins (b ∷ bs) rest h = h.0
+
 bound_up_to_literal : (mode : Bool) (ts : List Token) (literals : List (List ℕ)) →
-    AreLiterals mode literals → SameUpToLiteral (text_of ts) (bound ts literals)
-bound_up_to_literal mode [] literals a = at_end
-bound_up_to_literal mode (Name name ∷ ts) [] a = same-append (bytes_of (Name name)) (bound_up_to_literal mode ts [] a)
-bound_up_to_literal mode (Name name ∷ ts) (literal ∷ literals) a = at_place (inl refl) (IsLiteral-begins mode a.0 _)
-bound_up_to_literal mode (Mark ∷ ts) [] a = same-append (bytes_of Mark) (bound_up_to_literal mode ts [] a)
-bound_up_to_literal mode (Mark ∷ ts) (literal ∷ literals) a = at_place (inr refl) (IsLiteral-begins mode a.0 _)
-bound_up_to_literal mode (t ∷ ts) literals a = same-append (bytes_of t) (bound_up_to_literal mode ts literals a)
+    AreTokensBefore mode [] ts → AreLiterals mode literals → SameUpToLiteral (text_of ts) (bound ts literals)
+bound_up_to_literal mode [] literals h a = at_end
+bound_up_to_literal mode (Name name ∷ ts) [] h a = same-append (bytes_of (Name name)) (bound_up_to_literal mode ts [] h.1 a)
+bound_up_to_literal mode (Name name ∷ ts) (literal ∷ literals) h a = at_place (name_begins name (text_of ts) h.0.0) (IsLiteral-begins mode a.0 _)
+bound_up_to_literal mode (Mark ∷ ts) [] h a = same-append (bytes_of Mark) (bound_up_to_literal mode ts [] h.1 a)
+bound_up_to_literal mode (Mark ∷ ts) (literal ∷ literals) h a = at_place refl (IsLiteral-begins mode a.0 _)
+bound_up_to_literal mode (t ∷ ts) literals h a = same-append (bytes_of t) (bound_up_to_literal mode ts literals h.1 a)
 
 list_text : (mode : Bool) (literal : List ℕ) (list ts : List Token) (rest : List ℕ) →
     IsTokens mode literal list → text_of ts ≡ rest → text_of (list ++ ts) ≡ literal ++ rest
@@ -57,9 +63,9 @@ replaced_text mode (Mark ∷ ts) (literal ∷ literals) (list ∷ lists) a l = l
 replaced_text mode (t ∷ ts) literals lists a l = ap (λ u. bytes_of t ++ u) (replaced_text mode ts literals lists a l)
 
 pub replaced_up_to_literal : (mode : Bool) (ts : List Token) (literals : List (List ℕ)) (lists : List (List Token)) →
-    AreLiterals mode literals → AreTokensOf mode literals lists → length literals ≡ place_count ts →
-    SameUpToLiteral (text_of ts) (text_of (with_literal_tokens ts lists))
-replaced_up_to_literal mode ts literals lists s a l = subst (λ u. SameUpToLiteral (text_of ts) u) (sym (replaced_text mode ts literals lists a l)) (bound_up_to_literal mode ts literals s)
+    AreTokensBefore mode [] ts → AreLiterals mode literals → AreTokensOf mode literals lists →
+    length literals ≡ place_count ts → SameUpToLiteral (text_of ts) (text_of (with_literal_tokens ts lists))
+replaced_up_to_literal mode ts literals lists h s a l = subst (λ u. SameUpToLiteral (text_of ts) u) (sym (replaced_text mode ts literals lists a l)) (bound_up_to_literal mode ts literals h s)
 
 -- isolation: the tokens of the bound text
 pub replaced_tokens : (mode : Bool) (ts : List Token) (literals : List (List ℕ)) (lists : List (List Token)) →
@@ -75,7 +81,7 @@ replaced_tokens mode (Mark ∷ ts) (literal ∷ literals) [] h s a l = absurd a
 replaced_tokens mode (Mark ∷ ts) (literal ∷ literals) (list ∷ lists) h s a l =
     AreTokensBefore-append mode list (with_literal_tokens ts lists) [] ((IsLiteral-tokens mode literal list s.0 a.0).cut_tokens _) (replaced_tokens mode ts literals lists h.1 s.1 a.1 (omega arith))
 replaced_tokens mode (t ∷ ts) literals lists h s a l =
-    (IsToken-move mode t _ _ (λ p. p) (up_to_place (replaced_up_to_literal mode ts literals lists s a l)) h.0, replaced_tokens mode ts literals lists h.1 s a l)
+    (IsToken-move mode t _ _ (λ p. p) (up_to_place (replaced_up_to_literal mode ts literals lists h.1 s a l)) h.0, replaced_tokens mode ts literals lists h.1 s a l)
 
 list_places : (mode : Bool) (literal : List ℕ) (list ts : List Token) → IsLiteral mode literal →
     IsTokens mode literal list → place_count ts ≡ 0 → place_count (list ++ ts) ≡ 0

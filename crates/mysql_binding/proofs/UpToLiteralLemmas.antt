@@ -6,9 +6,9 @@ use Rattle.std.specs.Char.{is_ascii_digit}
 use Rattle.std.specs.Str.{byte}
 use Rattle.std.proofs.lemmas.Bool.{eqb-true, not-true, or_cases, or_parts, or_from, and_parts, false_from_ne_true}
 use Rattle.std.proofs.lemmas.Bool.Decides.{nat_tests}
-use Rattle.mysql_named_params.specs.Bytes.{asterisk, colon, dash, newline, question_mark, slash, is_white_space, begins, plus}
+use Rattle.mysql_named_params.specs.Bytes.{asterisk, colon, dash, newline, question_mark, slash, is_white_space, is_start_byte, begins, plus}
 use Rattle.mysql_named_params.specs.Tokens.{Token, QuotedString, QuotedIdentifier, HashComment, DashComment, BlockComment, Name, Mark, Plain}
-use Rattle.mysql_named_params.specs.Server.{is_graphic, is_tag_byte, begins_tag, begins_dashes, begins_exponent_dashes, begins_fraction, begins_own}
+use Rattle.mysql_named_params.specs.Server.{is_graphic, is_tag_byte, begins_place, begins_tag, begins_dashes, begins_exponent_dashes, begins_fraction, begins_own}
 use Rattle.mysql_named_params.specs.Portable.{may_open_line, differs_at, is_portable}
 use Rattle.mysql_named_params.proofs.PortableLemmas.{second_false, false_if}
 use Rattle.mysql_named_params.proofs.RestLemmas.{SameUpToPlace}
@@ -19,7 +19,7 @@ use Rattle.mysql_binding.proofs.LiteralTokenLemmas.{begins_literal, begins_liter
 pub data SameUpToLiteral : List ℕ → List ℕ → Type 0 where
   at_end : SameUpToLiteral [] []
   same : {b : ℕ} {x y : List ℕ} → SameUpToLiteral x y → SameUpToLiteral (b ∷ x) (b ∷ y)
-  at_place : {b : ℕ} {x y : List ℕ} → (b ≡ colon) ⊎ (b ≡ question_mark) → begins_literal y ≡ true →
+  at_place : {b : ℕ} {x y : List ℕ} → begins_place (b ∷ x) ≡ true → begins_literal y ≡ true →
       SameUpToLiteral (b ∷ x) y
 
 pub same-append : (bytes : List ℕ) {x y : List ℕ} → SameUpToLiteral x y →
@@ -27,10 +27,17 @@ pub same-append : (bytes : List ℕ) {x y : List ℕ} → SameUpToLiteral x y �
 same-append [] a = a
 same-append (b ∷ bytes) a = same (same-append bytes a)
 
+place_byte : (b : ℕ) (x : List ℕ) → begins_place (b ∷ x) ≡ true → (b ≡ colon) ⊎ (b ≡ question_mark)
+place_byte b x p =
+    elim (or_cases (b == question_mark) (b == colon && begins is_start_byte x) p) [
+      | inl e ↦ inr (eqb-true b question_mark e)
+      | inr e ↦ inl (eqb-true b colon ((and_parts (b == colon) _ e).0))
+    ]
+
 pub up_to_place : {x y : List ℕ} → SameUpToLiteral x y → SameUpToPlace x y
 up_to_place at_end = end_of_both
 up_to_place (same a) = same_byte (up_to_place a)
-up_to_place (at_place {y = y} p l) = other_there p (begins_literal-opens_nothing y l)
+up_to_place (at_place {b = b} {x = x} {y = y} p l) = other_there (place_byte b x p) (begins_literal-opens_nothing y l)
 
 -- ---- what a literal begins
 
@@ -86,17 +93,25 @@ line_move (same (same a)) e = e
 line_move (same {b = b} (at_place {y = y} p l)) e = second_line b y l
 line_move (at_place {y = y} p l) e = literal_no_line y l
 
-place_tag : (b : ℕ) (x : List ℕ) → (b ≡ colon) ⊎ (b ≡ question_mark) → begins_tag (b ∷ x) ≡ true
-place_tag b x (inl e) = subst (λ c. begins_tag (c ∷ x) ≡ true) (sym e) refl
-place_tag b x (inr e) = subst (λ c. begins_tag (c ∷ x) ≡ true) (sym e) refl
+start_move : {x y : List ℕ} → SameUpToLiteral x y → begins is_start_byte x ≡ false → begins is_start_byte y ≡ false
+start_move at_end e = e
+start_move (same a) e = e
+start_move (at_place {y = y} p l) e = (begins_literal-opens_nothing y l).no_start
+
+place_move : (b : ℕ) {x y : List ℕ} → SameUpToLiteral x y → begins_place (b ∷ x) ≡ false → begins_place (b ∷ y) ≡ false
+place_move b {x = x} {y = y} a e =
+    let p = or_parts (b == question_mark) (b == colon && begins is_start_byte x) e in
+    or_from _ _ p.0 (false_if _ _ (λ t. start_move a (second_false _ _ p.1 t)))
 
 tag_move : {x y : List ℕ} → SameUpToLiteral x y → begins_tag x ≡ false → begins_tag y ≡ false
 tag_move at_end e = e
 tag_move (same {b = b} {x = x} {y = y} a) e =
-    let p = or_parts (b == byte "$") ((b == question_mark || b == colon) || (is_tag_byte b && begins_tag x)) e in
-    let q = or_parts (b == question_mark || b == colon) (is_tag_byte b && begins_tag x) p.1 in
-    or_from _ _ p.0 (or_from _ _ q.0 (false_if _ _ (λ t. tag_move a (second_false _ _ q.1 t))))
-tag_move (at_place {b = b} {x = x} p l) e = absurd (true≢false (sym (place_tag b x p) ∙ e))
+    let p = or_parts (b == byte "$") (begins_place (b ∷ x) || (is_tag_byte b && begins_tag x)) e in
+    let q = or_parts (begins_place (b ∷ x)) (is_tag_byte b && begins_tag x) p.1 in
+    or_from _ _ p.0 (or_from _ _ (place_move b a q.0) (false_if _ _ (λ t. tag_move a (second_false _ _ q.1 t))))
+tag_move (at_place {b = b} {x = x} p l) e =
+    let q = or_parts (begins_place (b ∷ x)) (is_tag_byte b && begins_tag x) ((or_parts (b == byte "$") (begins_place (b ∷ x) || (is_tag_byte b && begins_tag x)) e).1) in
+    absurd (true≢false (sym p ∙ q.0))
 
 -- dashes in place of an exponent, by how many of their three bytes stand before the literal
 dashes_at : (y : List ℕ) → begins_literal y ≡ true → begins_dashes y ≡ false
@@ -154,17 +169,14 @@ exponent_dashes_move (same {b = a} {x = x} {y = y} s) e =
     or_from _ _ (dashes_move (same s) p.0) (false_if _ _ (λ t. dashes_move s (second_false _ _ p.1 t)))
 exponent_dashes_move (at_place {y = y} p l) e = literal_no_exponent_dashes y l
 
-place_fraction : (b : ℕ) (x : List ℕ) → (b ≡ colon) ⊎ (b ≡ question_mark) → begins_fraction (b ∷ x) ≡ true
-place_fraction b x (inl e) = subst (λ c. begins_fraction (c ∷ x) ≡ true) (sym e) refl
-place_fraction b x (inr e) = subst (λ c. begins_fraction (c ∷ x) ≡ true) (sym e) refl
-
 fraction_move : {x y : List ℕ} → SameUpToLiteral x y → begins_fraction x ≡ false → begins_fraction y ≡ false
 fraction_move at_end e = e
 fraction_move (same {b = b} {x = x} {y = y} a) e =
-    let p = or_parts (b == question_mark || b == colon) ((is_ascii_digit b && begins_fraction x) || ((b == byte "e" || b == byte "E") && begins_exponent_dashes x)) e in
+    let p = or_parts (begins_place (b ∷ x)) ((is_ascii_digit b && begins_fraction x) || ((b == byte "e" || b == byte "E") && begins_exponent_dashes x)) e in
     let q = or_parts (is_ascii_digit b && begins_fraction x) ((b == byte "e" || b == byte "E") && begins_exponent_dashes x) p.1 in
-    or_from _ _ p.0 (or_from _ _ (false_if _ _ (λ t. fraction_move a (second_false _ _ q.0 t))) (false_if _ _ (λ t. exponent_dashes_move a (second_false _ _ q.1 t))))
-fraction_move (at_place {b = b} {x = x} p l) e = absurd (true≢false (sym (place_fraction b x p) ∙ e))
+    or_from _ _ (place_move b a p.0) (or_from _ _ (false_if _ _ (λ t. fraction_move a (second_false _ _ q.0 t))) (false_if _ _ (λ t. exponent_dashes_move a (second_false _ _ q.1 t))))
+fraction_move (at_place {b = b} {x = x} p l) e =
+    absurd (true≢false (sym p ∙ (or_parts (begins_place (b ∷ x)) ((is_ascii_digit b && begins_fraction x) || ((b == byte "e" || b == byte "E") && begins_exponent_dashes x)) e).0))
 
 plain_move : (b : ℕ) {x y : List ℕ} → SameUpToLiteral x y → differs_at b x ≡ false → differs_at b y ≡ false
 plain_move b {x = x} {y = y} a p =

@@ -32,8 +32,8 @@ pub fn isolation()
 /// A text that is bound to a portable query is portable, and on every server, whatever stands in the
 /// values, its tokens are the query's, with those of one literal in place of each name and mark.
 pub fn bound_texts_on_servers()
-    ensures portable { (mode : Bool) (ts : List Token) (given : Given) (text : List ℕ) →
-        (b : IsBoundText mode ts given text) → ArePortable ts →
+    ensures portable { (mode : Bool) (query text : List ℕ) (ts : List Token) (given : Given) →
+        IsTokens mode query ts → (b : IsBoundText mode ts given text) → ArePortable ts →
         IsPortable (with_literal_tokens ts b.lists) }
     ensures tokens { (server : Server) (mode : Bool) (query text : List ℕ) (ts us : List Token)
         (given : Given) → IsTokens mode query ts → (b : IsBoundText mode ts given text) →

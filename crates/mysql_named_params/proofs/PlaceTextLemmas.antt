@@ -7,7 +7,8 @@ use Rattle.std.proofs.lemmas.Bool.{and_parts, and_right, or_cases, false_from_ne
 use Rattle.mysql_named_params.specs.Bytes.{colon, dash, plus, question_mark, is_start_byte, begins}
 use Rattle.mysql_named_params.specs.Tokens.{Token, bytes_of, text_of, IsToken, AreTokensBefore, Name, Mark, Plain, QuotedString, QuotedIdentifier, HashComment, DashComment, BlockComment}
 use Rattle.mysql_named_params.specs.Places.{place_count}
-use Rattle.mysql_named_params.specs.Portable.{begins_place, begins_exponent, JoinNoNumberBefore}
+use Rattle.mysql_named_params.specs.Server.{begins_place}
+use Rattle.mysql_named_params.specs.Portable.{begins_exponent, JoinNoNumberBefore}
 use Rattle.mysql_named_params.specs.TokensOf.{name_len, not_plain_at}
 use Rattle.mysql_named_params.proofs.TokenListLemmas.{one_token}
 use Rattle.mysql_named_params.proofs.PlainLemmas.{not_plain_found}

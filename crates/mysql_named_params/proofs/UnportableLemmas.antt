@@ -1,13 +1,13 @@
 -- The walk over a query to its first construct that isn't portable.
 use Rattle.std.specs.Prelude.{Bool, ⊤}
-use Rattle.std.proofs.Common.{◌≡◌, ◌≢◌, ◌↔◌, ◌<◌, ◌≤◌, ◌||◌, get_or, ne_eqb, ℕ, ◌+◌, true, false, cond, List, [], ◌∷◌, ◌++◌, length, drop, Option, Some, None, refl, sym, ap, ◌∙◌, subst, arith, length-append, length-drop}
+use Rattle.std.proofs.Common.{◌≡◌, ◌≢◌, ◌↔◌, ◌<◌, ◌≤◌, ◌||◌, ◌&&◌, ◌==◌, get_or, ne_eqb, ℕ, ◌+◌, true, false, cond, List, [], ◌∷◌, ◌++◌, length, drop, Option, Some, None, refl, sym, ap, ◌∙◌, subst, arith, length-append, length-drop}
 use Rattle.std.specs.Char.{is_ascii_digit}
 use Rattle.std.specs.Str.{byte}
 use Rattle.std.proofs.Math.Bool.{or-false}
-use Rattle.std.proofs.lemmas.Bool.{and_parts, not-true}
+use Rattle.std.proofs.lemmas.Bool.{and_parts, or_parts, not-true}
 use Rattle.std.proofs.lemmas.List.{nil_from_length, take_rest, drop_more}
-use Rattle.mysql_named_params.specs.Bytes.{colon, question_mark}
-use Rattle.mysql_named_params.specs.Server.{begins_fraction}
+use Rattle.mysql_named_params.specs.Bytes.{colon, question_mark, is_start_byte, begins}
+use Rattle.mysql_named_params.specs.Server.{begins_place, begins_fraction}
 use Rattle.mysql_named_params.specs.Tokens.{Token, bytes_of, text_of, text_then, IsToken, OnTokens}
 use Rattle.mysql_named_params.specs.FirstToken.{IsFirstToken}
 use Rattle.mysql_named_params.specs.Portable.{ArePortableBefore, JoinNoNumberBefore, IsPortable}
@@ -153,10 +153,12 @@ none_where_portable mode query found o =
 
 -- ---- a digit on the way to an exponent
 
-pub fraction_goes_on : (text : List ℕ) (i : ℕ) → i < length text → get_or text i 0 ≢ question_mark → get_or text i 0 ≢ colon →
+pub fraction_goes_on : (text : List ℕ) (i : ℕ) → i < length text → begins_place (slice_from i text) ≡ false →
     get_or text i 0 ≢ byte "e" → get_or text i 0 ≢ byte "E" → is_ascii_digit (get_or text i 0) ≡ true →
     begins_fraction (drop i text) ≡ begins_fraction text →
     begins_fraction (drop (i + 1) text) ≡ begins_fraction text
-fraction_goes_on text i lt a b c d digit inv =
-    let step : begins_fraction (drop i text) ≡ (begins_fraction (drop (i + 1) text) || false) = rw (drop_more text i 0 lt, ne_eqb (get_or text i 0) question_mark a, ne_eqb (get_or text i 0) colon b, ne_eqb (get_or text i 0) (byte "e") c, ne_eqb (get_or text i 0) (byte "E") d, digit) refl in
+fraction_goes_on text i lt place c d digit inv =
+    let p = or_parts (get_or text i 0 == question_mark) (get_or text i 0 == colon && begins is_start_byte (drop (i + 1) text))
+    (subst (λ x. begins_place x ≡ false) (take_rest text i ∙ drop_more text i 0 lt) place) in
+    let step : begins_fraction (drop i text) ≡ (begins_fraction (drop (i + 1) text) || false) = rw (drop_more text i 0 lt, p.0, p.1, ne_eqb (get_or text i 0) (byte "e") c, ne_eqb (get_or text i 0) (byte "E") d, digit) refl in
     sym (or-false _) ∙ (sym step ∙ inv)

@@ -4,9 +4,9 @@
 use Rattle.std.specs.Prelude.{ℕ, IsTrue, IsFalse, Bool, true, false, not, ◌==◌, ◌&&◌, ◌||◌, List, [], ◌∷◌, ⊤}
 use Rattle.std.specs.Char.{is_ascii_digit}
 use Rattle.std.specs.Str.{byte}
-use Rattle.mysql_named_params.specs.Bytes.{asterisk, colon, dash, double_quote, newline, plus, question_mark, slash, is_white_space, is_start_byte, begins}
+use Rattle.mysql_named_params.specs.Bytes.{asterisk, dash, double_quote, newline, plus, slash, is_white_space, begins}
 use Rattle.mysql_named_params.specs.Tokens.{Token, text_then, QuotedString, DashComment, BlockComment, Plain}
-use Rattle.mysql_named_params.specs.Server.{is_graphic, begins_special, begins_own}
+use Rattle.mysql_named_params.specs.Server.{is_graphic, begins_special, begins_own, begins_place}
 
 -- the byte stands before the last one
 abbrev pub stands_inside : ℕ → List ℕ → Bool
@@ -42,11 +42,6 @@ ArePortableBefore rest (t ∷ ts) =
 -- each of the tokens of a query is portable
 abbrev pub ArePortable : List Token → Type 0
 ArePortable = ArePortableBefore []
-
--- `?`, or `:` and a start byte
-abbrev pub begins_place : List ℕ → Bool
-begins_place [] = false
-begins_place (b ∷ bs) = b == question_mark || (b == colon && begins is_start_byte bs)
 
 -- `e` or `E`, `+` or `-`, and a place
 abbrev pub begins_exponent : List ℕ → Bool

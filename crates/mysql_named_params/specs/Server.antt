@@ -3,7 +3,8 @@
 -- servers may differ, so every record is a server, also one that no one has built. The points:
 --   `/*!`, `/*+`    MySQL Reference Manual, "Comments" and "Optimizer Hints"
 --   `/*M!`          MariaDB Knowledge Base, "Comment Syntax"
---   `--`            MySQL Reference Manual, "'--' as the Start of a Comment"
+--   `--`            MySQL Reference Manual, "'--' as the Start of a Comment"; at the very end of a
+--                   text, where MySQL and MariaDB read an empty comment, all read two plain bytes
 --   `"`             MySQL Reference Manual, "Server SQL Modes" (ANSI_QUOTES)
 --   `[`             MariaDB Knowledge Base, "SQL_MODE=MSSQL"
 --   `$$`, `$tag$`   MySQL Reference Manual 9, "JavaScript Stored Programs" (dollar-quoted text)
@@ -11,7 +12,7 @@
 use Rattle.std.specs.Prelude.{◌≡◌, ◌≢◌, ℕ, IsTrue, IsFalse, Bool, false, not, ◌==◌, ◌&&◌, ◌||◌, nat_le, if◌then◌else◌, List, [], ◌∷◌, ◌++◌, take, Option, Some, None, ⊤}
 use Rattle.std.specs.Char.{is_ascii_digit}
 use Rattle.std.specs.Str.{byte}
-use Rattle.mysql_named_params.specs.Bytes.{asterisk, backquote, colon, dash, double_quote, exclamation_mark, newline, plus, question_mark, slash, is_white_space, is_name_byte, is_string_quote, is_extension, begins, IsUpTo}
+use Rattle.mysql_named_params.specs.Bytes.{asterisk, backquote, colon, dash, double_quote, exclamation_mark, newline, plus, question_mark, slash, is_white_space, is_name_byte, is_start_byte, is_string_quote, is_extension, begins, IsUpTo}
 use Rattle.mysql_named_params.specs.Tokens.{Token, bytes_of, text_of, IsStringTail, IsName, QuotedString, QuotedIdentifier, HashComment, DashComment, BlockComment, Name, Mark, Plain}
 
 -- a graphic byte of ASCII: it is printable and not the space
@@ -28,11 +29,16 @@ begins_special (b ∷ bs) =
 abbrev pub is_tag_byte : ℕ → Bool
 is_tag_byte b = is_name_byte b || ((nat_le (byte "A") b && nat_le b (byte "Z")) || nat_le 128 b)
 
+-- `?`, or `:` and a start byte
+abbrev pub begins_place : List ℕ → Bool
+begins_place [] = false
+begins_place (b ∷ bs) = b == question_mark || (b == colon && begins is_start_byte bs)
+
 -- after `$`: the rest of `$$` or `$tag$`, or a place, where a value may come to complete one
 abbrev pub begins_tag : List ℕ → Bool
 begins_tag [] = false
 begins_tag (b ∷ bs) =
-    b == byte "$" || ((b == question_mark || b == colon) || (is_tag_byte b && begins_tag bs))
+    b == byte "$" || (begins_place (b ∷ bs) || (is_tag_byte b && begins_tag bs))
 
 -- two dashes before a byte that is not graphic
 abbrev pub begins_dashes : List ℕ → Bool
@@ -51,7 +57,7 @@ begins_exponent_dashes (a ∷ bs) =
 abbrev pub begins_fraction : List ℕ → Bool
 begins_fraction [] = false
 begins_fraction (b ∷ bs) =
-    (b == question_mark || b == colon)
+    begins_place (b ∷ bs)
     || ((is_ascii_digit b && begins_fraction bs)
     || ((b == byte "e" || b == byte "E") && begins_exponent_dashes bs))
 

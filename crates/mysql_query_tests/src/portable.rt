@@ -160,6 +160,12 @@ const NEAR: &[&[u8]] = &[
     b"$",
     b"$a b$",
     b"a $ $",
+    // A colon with which no name begins.
+    b"SET @a$:=1",
+    b"@a$b:= 1",
+    b"$:A",
+    b"@t.1:=2",
+    b"1.5:A",
     b"1.5e-3",
     b"1.e--5",
     b"1.e---5",

@@ -7,8 +7,8 @@ use Rattle.mysql_binding.proofs.laws.bound_texts_on_servers.Goals as goal
 
 pub returns : goal.returns
 returns c = record {
-  portable = λ mode ts given text b p. record {
-    alike = replaced_portable mode ts b.literals b.lists p b.shapes b.tokens_of_literals (joined_text_count [] ts b.literals text b.exact);
+  portable = λ mode query text ts given h b p. record {
+    alike = replaced_portable mode ts b.literals b.lists h.each p b.shapes b.tokens_of_literals (joined_text_count [] ts b.literals text b.exact);
     apart = placeless_join_no_number mode _ b.isolated.each (isolated_places mode text ts b.literals b.lists b.shapes b.tokens_of_literals b.exact);
   };
   tokens = λ server mode query text ts us given h b p u. isolated_on server mode query text ts us b.literals b.lists h p b.shapes b.tokens_of_literals b.exact u;
