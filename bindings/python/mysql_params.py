@@ -402,7 +402,7 @@ def _whole_answer(query: bytes, form: Optional[bytes], mode: bool, guess: int) -
         number, report = _call(query, form, mode, room, len(room))
     if number != _DONE:
         raise _error(number, report, query, form or b"")
-    return ctypes.string_at(room, report.len)
+    return room[: report.len]  # ctypes.string_at would take the length as a C int
 
 
 # Numbers of column types in the protocol, and the flag that says unsigned.

@@ -311,6 +311,13 @@ class Test(unittest.TestCase):
         self.assertEqual(text, b",".join([b"'" + b"\\'" * 300 + b"'"] * 100))
         self.assertEqual(names(",".join([":a"] * 1000)), (b",".join([b"?"] * 1000), ["a"] * 1000))
 
+    def test_answers_beyond_4_gibibytes(self):
+        # As a C int the length would be 5, and a text without its end would come back. The room is shorter than the
+        # length that is told, so all of the room comes back.
+        report = mysql_params._Report(len=(1 << 32) + 5)
+        with mock.patch.object(mysql_params, "_call", return_value=(0, report)):
+            self.assertGreater(len(bind("SELECT ?", [1])), 5)
+
     def test_rooms_without_memory(self):
         create = ctypes.create_string_buffer
 
