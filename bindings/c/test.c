@@ -488,8 +488,10 @@ static void try_without_memory(const test_case *it)
             expect(refused, it, "out of memory where none was refused");
             expect(same_report(&is.report, &none), it, "the report of out of memory isn't 0");
             expect(is_untouched(is.room, 0, is.room_len), it, "the room is written without memory");
-        } else
+        } else {
+            expect(!refused, it, "a refused allocation is hidden");
             expect_outcome(it, &is);
+        }
         free(is.room);
     }
 }
