@@ -1,9 +1,9 @@
 """A search for portable queries that leak: a million short queries of pieces that mean something to some lexer.
 
 A query is bound to four values, each in all of its places: texts, or whole numbers that are not negative (a negative
-one after an operand is subtracted). Where the server answers with other columns, or refuses one of the texts alone, a
-value has left its literal. The same search over queries that are not portable has to find some: else it would see
-nothing.
+one after an operand is subtracted) and bytes that aren't UTF-8 (their hexadecimal literal is an operand as a number is,
+where a text may be an alias). Where the server answers with other columns, or refuses one of the texts alone, a value
+has left its literal. The same search over queries that are not portable has to find some: else it would see nothing.
 """
 
 import random
@@ -54,6 +54,9 @@ _VALUES = [
 
 
 _NUMBERS = [5, 0, 77, 50000, 80000, 99999, 100700, 999999]
+
+# To the server the literal is an unsigned number: `1-0xFF` is out of range, and `1-5` isn't.
+_NOT_UTF8, _HEXADECIMAL, _OUT_OF_RANGE = b"\xff", b"0xFF", 1690
 
 
 class Bound(NamedTuple):
@@ -125,9 +128,12 @@ def _number(value: int, name: bytes) -> bytes:
     return bytes([len(name)]) + name + bytes([3, 128]) + value.to_bytes(4, "little")
 
 
-# The forms of all texts and of all numbers: of the name `a`, and by position.
+# The forms of all texts, and of all numbers and the bytes that aren't UTF-8: of the name `a`, and by position.
 _FORMS = {
-    name: ([_text(value, name) for value in _VALUES], [_number(value, name) for value in _NUMBERS])
+    name: (
+        [_text(value, name) for value in _VALUES],
+        [*(_number(value, name) for value in _NUMBERS), _text(_NOT_UTF8, name)],
+    )
     for name in (b"a", b"")
 }
 
@@ -182,7 +188,7 @@ def _send(connection: Connection, queries: list, found: Found, sql_mode: str) ->
         at += len(bound.texts)
         found.answered += sum(answer > 0 for answer in answers)
         for text, answer in zip(bound.texts[1:], answers[1:]):
-            if answer == answers[0]:
+            if answer == answers[0] or (answer == -_OUT_OF_RANGE and _HEXADECIMAL in text):
                 continue
             if bound.at is None:
                 found.leaks.append((sql_mode, bound.query, bound.texts[0], answers[0], text, answer))
