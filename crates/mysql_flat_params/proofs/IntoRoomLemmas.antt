@@ -1,9 +1,9 @@
 -- What an outcome says, by what the calls below returned.
 use Rattle.std.specs.Prelude.{Option, Some, None, Result, Ok, Err, IsOk, alloc_error, option_map}
 use Rattle.std.specs.List.{Contains}
-use Rattle.std.proofs.Common.{◌≡◌, ◌⊎◌, inl, inr, ℕ, Bool, List, [], ◌∷◌, length, take, refl, sym, ap, ◌∙◌, subst}
+use Rattle.std.proofs.Common.{arith, ◌≡◌, ◌⊎◌, ◌<◌, inl, inr, ℕ, zero, suc, Bool, List, [], ◌∷◌, length, take, refl, sym, ap, ◌∙◌, subst}
 use Rattle.mysql_named_params.specs.Tokens.{OnTokens}
-use Rattle.mysql_named_params.specs.Places.{names, HasName, HasMark}
+use Rattle.mysql_named_params.specs.Places.{names, marks, HasName, HasMark}
 use Rattle.mysql_named_params.specs.Parsed.{Parsed, parsed}
 use Rattle.mysql_named_params.proofs.TokenListLemmas.{one_token_list}
 use Rattle.mysql_params_core.specs.Given.{Given, empty}
@@ -79,7 +79,7 @@ empty_not_refused [] error none (inr why) allocates =
     cc
 empty_not_refused (b ∷ form) error none refused allocates = cc
 
--- a form that is read is empty, or its first parameter stands whole
+-- a form that is read is empty, or its first parameter is read
 first_read : (total place : ℕ) (given : Given) (bytes : List ℕ) (reading : Result Given FormRefusal) (more : Given) →
     IsReadFrom total place given bytes reading → reading ≡ Ok more → (bytes ≡ []) ⊎ IsOk (read_parameter total place given bytes)
 first_read total place given [] _ more (read_to_end _ _ _) h = inl refl
@@ -106,6 +106,24 @@ pub is_names_answer : (mode : Bool) (query text : List ℕ) (p : Parsed) → OnT
 is_names_answer mode query text p o unmixed is =
     let same : unmixed.0 ≡ o.0 = one_token_list mode query unmixed.0 o.0 unmixed.1 o.1 in
     (o.0, o.1, (subst (λ ts. HasName ts × HasMark ts → ⊥) same unmixed.2, is ∙ ap names_answer o.2))
+
+one_or_more : {A : Type 0} (xs : List A) → (xs ≡ [] → ⊥) → 0 < length xs
+one_or_more [] some = absurd (some refl)
+one_or_more (x ∷ xs) some = omega arith
+
+none_at_all : (n : ℕ) → (0 < n → ⊥) → n ≡ 0
+none_at_all zero none = refl
+none_at_all (suc n) none = absurd (none (omega arith))
+
+-- a query that is not refused and has names has no marks
+pub names_alone : (mode : Bool) (query : List ℕ) (p : Parsed) → OnTokens mode query (λ ts. p ≡ parsed ts) →
+    OnTokens mode query (λ ts. HasName ts × HasMark ts → ⊥) → (p.params ≡ [] → ⊥) →
+    OnTokens mode query (λ ts. HasName ts × (marks ts ≡ 0))
+names_alone mode query p o unmixed named =
+    let same : unmixed.0 ≡ o.0 = one_token_list mode query unmixed.0 o.0 unmixed.1 o.1 in
+    let not_both : HasName o.0 × HasMark o.0 → ⊥ = subst (λ ts. HasName ts × HasMark ts → ⊥) same unmixed.2 in
+    let name : HasName o.0 = one_or_more (names o.0) (λ none. named (ap (λ q. q.params) o.2 ∙ none)) in
+    (o.0, o.1, (name, none_at_all (marks o.0) (λ mark. not_both (name, mark))))
 
 module _ (mode : Bool) (query answer old new : List ℕ) where
   pub names_told : (outcome : Outcome) → IsNamesAnswer mode query answer → IsInRoom answer old new outcome → IsNamesOutcome mode query outcome

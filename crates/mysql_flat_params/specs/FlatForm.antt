@@ -108,7 +108,7 @@ read_parameter total place given bytes =
     after_name total place (total - length bytes) given
     (read_name place (total - length bytes) bytes)
 
--- a first parameter stands whole in the form
+-- the first parameter of the form is read
 abbrev pub HasFirstParameter : List ℕ → Type 0
 HasFirstParameter form = IsOk (read_parameter (length form) 0 empty form)
 

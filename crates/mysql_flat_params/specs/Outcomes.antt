@@ -49,10 +49,10 @@ report_of (NotAlone place position) = record no_fields { place = place; position
 report_of (Float place) = record no_fields { place = place }
 
 -- there is no answer, or none is told
-abbrev pub IsRefused : Outcome → Type 0
-IsRefused (Done len) = ⊥
-IsRefused (Room len) = ⊥
-IsRefused outcome = ⊤
+abbrev pub HasNoAnswer : Outcome → Type 0
+HasNoAnswer (Done len) = ⊥
+HasNoAnswer (Room len) = ⊥
+HasNoAnswer outcome = ⊤
 
 -- if the answer is written, this holds of its length
 abbrev pub IfDone : Outcome → (ℕ → Type 0) → Type 0

@@ -41,13 +41,13 @@ struct Spot {
 /// The parameters are read in order, and the first that is refused ends it. Of each the name is
 /// read first (`End`, `LengthLead`) and judged (`Mixed`, `Repeated`); then type and flags
 /// (`End`); a type without a reading is `UnsupportedType`; then the value is read (`End`,
-/// `LengthLead`). `Memory` is returned only where a first parameter stands whole in the form.
+/// `LengthLead`). `Memory` is returned only where the form's first parameter is read.
 /// Nothing is allocated for a length that the form only states.
 pub fn params_of_form(alloc: Global, form: &[u8]) -> Result<Params, FormError>
     ensures params { IfOk result (λ params. IsFormReading form.now (Ok (given params))) }
     ensures refused { IfErr result (IsFormRefusal form.now) }
 
-    // Only a form in which a first parameter stands whole allocates.
+    // Only a form whose first parameter is read allocates.
     ensures memory { IsErrOf result (FormError.Memory alloc_error) →
         HasFirstParameter form.now }
 {

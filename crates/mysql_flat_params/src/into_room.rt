@@ -1,11 +1,11 @@
 //! Answers in a room that the caller lends.
-ghost use Rattle.std.specs.Prelude.{◌≡◌, ◌⊎◌, ◌+◌, ◌≤◌, ◌<◌, ◌++◌, ℕ, Bool, List, [], ◌∷◌, None, Ok, length, take, drop, map, IfSome, alloc_error};
+ghost use Rattle.std.specs.Prelude.{◌≡◌, ◌≢◌, ◌⊎◌, ◌+◌, ◌≤◌, ◌<◌, ◌++◌, ℕ, Bool, List, [], ◌∷◌, None, Ok, length, take, drop, map, IfSome, alloc_error};
 ghost use Rattle.std.specs.Cow.{cow_slice_items};
 ghost use Rattle.std.specs.List.{Contains};
 ghost use Rattle.mysql_wire_part.specs.Lenenc.{lenenc_spelling};
 ghost use Rattle.mysql_sql_text.specs.StringUnits.{with_backslashes};
 ghost use Rattle.mysql_named_params.specs.Tokens.{OnTokens};
-ghost use Rattle.mysql_named_params.specs.Places.{names};
+ghost use Rattle.mysql_named_params.specs.Places.{names, marks, HasName};
 ghost use Rattle.mysql_params_core.specs.Given.{Given};
 ghost use Rattle.mysql_binding.specs.BindErrors.{IsRefusal};
 ghost use Rattle.mysql_binding.specs.FirstCause.{first_cause};
@@ -13,7 +13,7 @@ ghost use Rattle.mysql_flat_params.specs.FlatForm.{HasFirstParameter, IsFormRead
 ghost use Rattle.mysql_flat_params.specs.FormErrors.{IsFormRefusal};
 ghost use Rattle.mysql_flat_params.specs.IntoRoom.{IfMixed, IsBindOutcome, IsBoundForm, IsInRoom, IsMissingName, IsNamesAnswer, IsNamesOutcome};
 ghost use Rattle.mysql_flat_params.specs.NamesAnswer.{lenenc_row, names_answer};
-ghost use Rattle.mysql_flat_params.specs.Outcomes.{IfDone, IfTooLong, IsRefused, UnlessDone};
+ghost use Rattle.mysql_flat_params.specs.Outcomes.{HasNoAnswer, IfDone, IfTooLong, UnlessDone};
 
 use crate::form::params_of_form;
 use crate::form_error::FormError;
@@ -32,10 +32,10 @@ use std::borrow::CowSlice;
 /// `Done` has the length of the text; the rest of the room is unchanged. `Room` has the length that
 /// the room would need. A form is refused before the query; then the first of the causes of
 /// [`bind_text_in`] refuses it. `Missing` tells the first place that has the missing name. The empty
-/// form over a query with names and marks is `Mixed`, without allocating; so is the refusal of a
-/// form whose first parameter doesn't stand whole. Any other outcome may be `OutOfMemory` instead,
-/// which also comes where the text would be longer than `isize::MAX` bytes. After every outcome but
-/// `Done` the room is as before.
+/// form over a query with names and marks is `Mixed` without allocating, and a form that is refused
+/// for its first parameter is refused without allocating too. Any other outcome may be `OutOfMemory`
+/// instead, which also comes where the text would be longer than `isize::MAX` bytes. After every
+/// outcome but `Done` the room is as before.
 pub fn bind_into_in(
     alloc: Global,
     query: &[u8],
@@ -51,7 +51,7 @@ pub fn bind_into_in(
     ensures mixed { form.now ≡ [] →
         IfMixed no_backslash_escape query.now (result ≡ Outcome.Mixed) }
 
-    // A form whose first parameter doesn't stand whole is refused without allocating.
+    // A form that is refused for its first parameter is refused without allocating.
     ensures memory { result ≡ Outcome.OutOfMemory →
         (form.now ≡ []) ⊎ HasFirstParameter form.now }
     ensures rest { IfDone result (λ len.
@@ -80,7 +80,7 @@ pub fn bind_into(alloc: Global, query: &[u8], form: &[u8], room: &mut [u8]) -> O
     ensures mixed { form.now ≡ [] →
         IfMixed with_backslashes query.now (result ≡ Outcome.Mixed) }
 
-    // A form whose first parameter doesn't stand whole is refused without allocating.
+    // A form that is refused for its first parameter is refused without allocating.
     ensures memory { result ≡ Outcome.OutOfMemory →
         (form.now ≡ []) ⊎ HasFirstParameter form.now }
     ensures rest { IfDone result (λ len.
@@ -96,9 +96,9 @@ pub fn bind_into(alloc: Global, query: &[u8], form: &[u8], room: &mut [u8]) -> O
 /// front of the room.
 ///
 /// `Done` has the length of the answer; the rest of the room is unchanged. `Room` has the length
-/// that the room would need. A query with names and marks is `Mixed`, without allocating. Any other
-/// may be `OutOfMemory`. There are no other outcomes. After every outcome but `Done` the room is as
-/// before.
+/// that the room would need. A query with names and marks is `Mixed`. `OutOfMemory` comes only for a
+/// query with names and without marks; no other allocates. There are no other outcomes. After every
+/// outcome but `Done` the room is as before.
 pub fn names_into_in(
     alloc: Global,
     query: &[u8],
@@ -111,6 +111,10 @@ pub fn names_into_in(
 
     // A query with a name and a mark is refused without allocating.
     ensures mixed { IfMixed no_backslash_escape query.now (result ≡ Outcome.Mixed) }
+
+    // Only a query with names and without marks allocates.
+    ensures memory { OnTokens no_backslash_escape query.now (λ ts.
+        result ≡ Outcome.OutOfMemory → HasName ts × (marks ts ≡ 0)) }
     ensures rest { IfDone result (λ len.
         (len ≤ length room.old) × (drop len room.new ≡ drop len room.old)) }
     ensures too_long { IfTooLong result (λ len. length room.old < len) }
@@ -136,6 +140,10 @@ pub fn names_into(alloc: Global, query: &[u8], room: &mut [u8]) -> Outcome
 
     // A query with a name and a mark is refused without allocating.
     ensures mixed { IfMixed with_backslashes query.now (result ≡ Outcome.Mixed) }
+
+    // Only a query with names and without marks allocates.
+    ensures memory { OnTokens with_backslashes query.now (λ ts.
+        result ≡ Outcome.OutOfMemory → HasName ts × (marks ts ≡ 0)) }
     ensures rest { IfDone result (λ len.
         (len ≤ length room.old) × (drop len room.new ≡ drop len room.old)) }
     ensures too_long { IfTooLong result (λ len. length room.old < len) }
@@ -145,11 +153,12 @@ pub fn names_into(alloc: Global, query: &[u8], room: &mut [u8]) -> Outcome
 }
 
 // Writes the parsed query and its names, each as a length-encoded string, to the front of the room,
-// if the room is long enough. None where no room is.
+// if the room is long enough. None where no room is, which takes a name.
 fn answer_in_room(room: &mut [u8], parsed: &ParsedNamedParams<'_>) -> Option<Outcome>
     ensures written { IfSome result (λ outcome.
         IsInRoom (names_answer parsed.now) room.old room.new outcome) }
     ensures unchanged { result ≡ None → room.new ≡ room.old }
+    ensures names { result ≡ None → parsed.now.params ≢ [] }
 {
     let len = row_len(parsed.query(), parsed.params())?;
     if room.len() < len {
@@ -159,10 +168,12 @@ fn answer_in_room(room: &mut [u8], parsed: &ParsedNamedParams<'_>) -> Option<Out
     Some(Outcome::Done { len })
 }
 
-// How long a query and names are, each as a length-encoded string. None where no room is so long.
+// How long a query and names are, each as a length-encoded string. None where no room is so long,
+// which takes a name.
 fn row_len(query: &[u8], names: &[CowSlice<'_, u8>]) -> Option<usize>
-    ensures { IfSome result (λ len.
+    ensures len { IfSome result (λ len.
         len ≡ length (lenenc_row (query.now ∷ map cow_slice_items names.now))) }
+    ensures names { result ≡ None → names.now ≢ [] }
 {
     let mut len = lenenc_str_len(query);
     for name in names {
@@ -211,7 +222,7 @@ fn form_outcome(error: FormError) -> Outcome
     ensures outcome { (mode : Bool) (query form : List ℕ) → IsFormRefusal form error →
         IsBindOutcome mode query form result }
     ensures memory { result ≡ Outcome.OutOfMemory → error ≡ FormError.Memory alloc_error }
-    ensures refused { IsRefused result }
+    ensures no_answer { HasNoAnswer result }
 {
     match error {
         FormError::End { place, position } => Outcome::FormEnd { place, position },
@@ -255,7 +266,7 @@ fn bind_outcome(query: &[u8], error: BindError, no_backslash_escape: bool) -> Ou
         OnTokens no_backslash_escape query.now (λ ts. IsRefusal (first_cause ts given) error) →
         IsBindOutcome no_backslash_escape query.now form result }
     ensures mixed { error ≡ BindError.Mixed → result ≡ Outcome.Mixed }
-    ensures refused { IsRefused result }
+    ensures no_answer { HasNoAnswer result }
 {
     match error {
         BindError::Mixed => Outcome::Mixed,

@@ -9,8 +9,8 @@ use crate::outcome::{NO_FIELDS, Report};
 use mysql_named_params::portable::{Construct, first_unportable};
 
 /// Finds the first construct for which a query isn't portable, as [`first_unportable`] does in a
-/// mode: returns its number, and writes its position to the report. Where the query is portable,
-/// and only there, it returns 0, and the position is 0 too.
+/// mode: returns its number, and writes its position to the report. It returns 0 exactly where the
+/// query is portable; the position is 0 then too.
 ///
 /// The numbers are 1 for [`Construct::ExecutableComment`], and then in the order of the
 /// declaration up to 9. All other fields of the report are 0. Nothing is allocated.

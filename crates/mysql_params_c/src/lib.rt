@@ -18,6 +18,7 @@ ghost use Rattle.mysql_flat_params.specs.IntoRoom.{IfMixed, IsBindOutcome, IsBou
 ghost use Rattle.mysql_flat_params.specs.Outcomes.{IsTold};
 ghost use Rattle.mysql_flat_params.specs.UnportableReport.{unportable_number, unportable_report};
 ghost use Rattle.mysql_named_params.specs.FirstUnportable.{first_unportable};
+ghost use Rattle.mysql_named_params.specs.Places.{marks, HasName};
 ghost use Rattle.mysql_named_params.specs.Portable.{IsPortable};
 ghost use Rattle.mysql_named_params.specs.Tokens.{OnTokens};
 
@@ -30,9 +31,9 @@ use std::alloc::Global;
 /// string, to the front of the room: [`names_into`](mysql_flat_params::names_into).
 ///
 /// Returns 0 (`Done`) with the length of the answer in the report's `len`, 2 (`Room`) with the length
-/// that the room would need, 8 (`Mixed`) for a query with names and marks, or, in place of 0 and 2,
-/// 1 (`OutOfMemory`). All other fields of the report are 0. At each number but 0 the room is as
-/// before.
+/// that the room would need, 8 (`Mixed`) for a query with names and marks, or, for a query with names
+/// and without marks, in place of 0 and 2, 1 (`OutOfMemory`). All other fields of the report are 0. At
+/// each number but 0 the room is as before.
 #[unsafe(no_mangle)]
 pub extern "C" fn mysql_params_names(
     alloc: Global,
@@ -46,6 +47,10 @@ pub extern "C" fn mysql_params_names(
 
     // A query with a name and a mark is refused without allocating.
     ensures mixed { IfMixed with_backslashes query.now (result ≡ pos 8) }
+
+    // Only a query with names and without marks allocates.
+    ensures memory { OnTokens with_backslashes query.now (λ ts.
+        result ≡ pos 1 → HasName ts × (marks ts ≡ 0)) }
     ensures rest { result ≡ pos 0 → (report.new.len ≤ length room.old)
         × (drop report.new.len room.new ≡ drop report.new.len room.old) }
     ensures too_long { result ≡ pos 2 → length room.old < report.new.len }
@@ -62,8 +67,8 @@ pub extern "C" fn mysql_params_names(
 /// Returns the number of any [`Outcome`](mysql_flat_params::Outcome): 0 (`Done`) with the length of
 /// the text in the report's `len`, 2 (`Room`) with the length that the room would need, 3 to 7 for a
 /// form that is refused, 8 to 14 for a query that is refused, or 1 (`OutOfMemory`), but not for the
-/// empty form over a query with names and marks, nor for a form whose first parameter doesn't stand
-/// whole. The report has the fields of the outcome, and 0 in all others. At each number but 0 the
+/// empty form over a query with names and marks, nor for a form that is refused for its first
+/// parameter. The report has the fields of the outcome, and 0 in all others. At each number but 0 the
 /// room is as before.
 #[unsafe(no_mangle)]
 pub extern "C" fn mysql_params_bind(
@@ -81,7 +86,7 @@ pub extern "C" fn mysql_params_bind(
     ensures mixed { form.now ≡ [] →
         IfMixed with_backslashes query.now (result ≡ pos 8) }
 
-    // A form whose first parameter doesn't stand whole is refused without allocating.
+    // A form that is refused for its first parameter is refused without allocating.
     ensures memory { result ≡ pos 1 → (form.now ≡ []) ⊎ HasFirstParameter form.now }
     ensures rest { result ≡ pos 0 → (report.new.len ≤ length room.old)
         × (drop report.new.len room.new ≡ drop report.new.len room.old) }
@@ -110,6 +115,10 @@ pub extern "C" fn mysql_params_names_in(
 
     // A query with a name and a mark is refused without allocating.
     ensures mixed { IfMixed no_backslash_escape query.now (result ≡ pos 8) }
+
+    // Only a query with names and without marks allocates.
+    ensures memory { OnTokens no_backslash_escape query.now (λ ts.
+        result ≡ pos 1 → HasName ts × (marks ts ≡ 0)) }
     ensures rest { result ≡ pos 0 → (report.new.len ≤ length room.old)
         × (drop report.new.len room.new ≡ drop report.new.len room.old) }
     ensures too_long { result ≡ pos 2 → length room.old < report.new.len }
@@ -141,7 +150,7 @@ pub extern "C" fn mysql_params_bind_in(
     ensures mixed { form.now ≡ [] →
         IfMixed no_backslash_escape query.now (result ≡ pos 8) }
 
-    // A form whose first parameter doesn't stand whole is refused without allocating.
+    // A form that is refused for its first parameter is refused without allocating.
     ensures memory { result ≡ pos 1 → (form.now ≡ []) ⊎ HasFirstParameter form.now }
     ensures rest { result ≡ pos 0 → (report.new.len ≤ length room.old)
         × (drop report.new.len room.new ≡ drop report.new.len room.old) }
