@@ -4,7 +4,7 @@ use Rattle.std.specs.Borrow.{Bor}
 use Rattle.std.proofs.Common.{◌≡◌, ℕ, ◌+◌, ◌<◌, ◌≤◌, false, List, ◌++◌, length, map, take, drop, get_or, Some, sym, ap, ◌∙◌, subst, arith, take_all}
 use Rattle.std.proofs.lemmas.List.{get_or-map, length-map, length-take-le}
 use Rattle.mysql_values.specs.declared.value.Value.{Value}
-use Rattle.mysql_values.specs.Literal.{is_float, literal_of}
+use Rattle.mysql_values.specs.Literal.{is_float, literal_of, literal_text}
 use Rattle.mysql_values.specs.ReadBack.{ReadsAs}
 use Rattle.mysql_sql_text.specs.LiteralShape.{IsLiteral}
 use Rattle.mysql_named_params.specs.Tokens.{OnTokens}
@@ -12,7 +12,7 @@ use Rattle.mysql_named_params.specs.Places.{place_count}
 use Rattle.mysql_named_params.specs.FirstPlace.{IsFirstPlace}
 use Rattle.mysql_named_params.specs.declared.places.FoundPlace.{FoundPlace}
 use Rattle.mysql_params_core.specs.Referents.{referents}
-use Rattle.mysql_binding.specs.TextLength.{literal_len, literal_text}
+use Rattle.mysql_binding.specs.TextLength.{literal_len}
 use Rattle.mysql_binding.specs.WrittenText.{IsWrittenText}
 use Rattle.mysql_binding.proofs.TextLengthLemmas.{len_at}
 use Rattle.mysql_binding.proofs.WrittenTextLemmas.{WrittenSoFar, place_left, value_is_no_float, next_fits, written_more, rest_fits, written_all}

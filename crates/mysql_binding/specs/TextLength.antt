@@ -1,9 +1,9 @@
 -- How long the text of a query with literals is: the contracts of private calls, and no part of what
 -- is promised to users.
-use Rattle.std.specs.Prelude.{ℕ, Bool, List, [], length, unwrap_or}
+use Rattle.std.specs.Prelude.{ℕ, Bool, List, length}
 use Rattle.std.specs.List.{sum_by}
 use Rattle.mysql_values.specs.declared.value.Value.{Value}
-use Rattle.mysql_values.specs.Literal.{literal_of}
+use Rattle.mysql_values.specs.Literal.{literal_text}
 use Rattle.mysql_named_params.specs.Tokens.{Token}
 use Rattle.mysql_binding.specs.Pieces.{pieces}
 
@@ -11,10 +11,6 @@ use Rattle.mysql_binding.specs.Pieces.{pieces}
 abbrev pub pieces_len : List Token → ℕ
 pieces_len ts = sum_by length (pieces ts)
 
--- the literal of a value (of a float, which has none: no bytes)
-abbrev pub literal_text : Bool → Value → List ℕ
-literal_text mode value = unwrap_or (literal_of mode value) []
-
--- how many bytes it has
+-- how many bytes the literal of a value has
 abbrev pub literal_len : Bool → Value → ℕ
 literal_len mode value = length (literal_text mode value)

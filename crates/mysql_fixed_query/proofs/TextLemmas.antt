@@ -2,25 +2,25 @@
 use Rattle.std.specs.Prelude.{Bool, Result, Ok, Err, IfOk, unwrap_or}
 use Rattle.std.proofs.Common.{◌≡◌, ℕ, List, [], ◌∷◌, map, Some, refl, sym, ap, ◌∙◌}
 use Rattle.mysql_values.specs.declared.value.Value.{Value}
-use Rattle.mysql_values.specs.Literal.{literal_of}
+use Rattle.mysql_values.specs.Literal.{literal_of, literal_text}
 use Rattle.mysql_named_params.specs.TokensOf.{tokens_of}
 use Rattle.mysql_named_params.specs.Places.{names}
 use Rattle.mysql_params_core.specs.Given.{Given}
 use Rattle.mysql_params_core.specs.Lookup.{lookup}
 use Rattle.mysql_binding.specs.Isolation.{IsBoundText}
 use Rattle.mysql_binding.specs.Pieces.{pieces, joined_text}
-use Rattle.mysql_fixed_query.specs.FixedText.{literal_in, bound_text}
+use Rattle.mysql_fixed_query.specs.FixedText.{bound_text}
 
-map-literal_in : (mode : Bool) (values : List Value) (literals : List (List ℕ)) →
-    map (literal_of mode) values ≡ map Some literals → map (literal_in mode) values ≡ literals
-map-literal_in mode [] [] e = refl
-map-literal_in mode [] (literal ∷ literals) e = cc
-map-literal_in mode (value ∷ values) [] e = cc
-map-literal_in mode (value ∷ values) (literal ∷ literals) e =
+map-literal_text : (mode : Bool) (values : List Value) (literals : List (List ℕ)) →
+    map (literal_of mode) values ≡ map Some literals → map (literal_text mode) values ≡ literals
+map-literal_text mode [] [] e = refl
+map-literal_text mode [] (literal ∷ literals) e = cc
+map-literal_text mode (value ∷ values) [] e = cc
+map-literal_text mode (value ∷ values) (literal ∷ literals) e =
     let here : literal_of mode value ≡ Some literal = cc in
     let later : map (literal_of mode) values ≡ map Some literals = cc in
-    ap (λ x. x ∷ map (literal_in mode) values) (ap (λ o. unwrap_or o []) here)
-    ∙ ap (λ x. literal ∷ x) (map-literal_in mode values literals later)
+    ap (λ x. x ∷ map (literal_text mode) values) (ap (λ o. unwrap_or o []) here)
+    ∙ ap (λ x. literal ∷ x) (map-literal_text mode values literals later)
 
 text_is_computed : (mode : Bool) (query : List ℕ) (g : Given) (values : List Value)
     (text : List ℕ) → lookup g (names (tokens_of mode query)) ≡ Ok values →
@@ -28,9 +28,9 @@ text_is_computed : (mode : Bool) (query : List ℕ) (g : Given) (values : List V
 text_is_computed mode query g values text looked_up bound =
     let twice = sym bound.looked_up ∙ looked_up in
     let same : bound.values ≡ values = cc in
-    let literals : map (literal_in mode) values ≡ bound.literals =
-    ap (map (literal_in mode)) (sym same)
-    ∙ map-literal_in mode bound.values bound.literals bound.written in
+    let literals : map (literal_text mode) values ≡ bound.literals =
+    ap (map (literal_text mode)) (sym same)
+    ∙ map-literal_text mode bound.values bound.literals bound.written in
     sym (ap (λ o. unwrap_or o [])
     (ap (joined_text (pieces (tokens_of mode query))) literals ∙ bound.exact))
 

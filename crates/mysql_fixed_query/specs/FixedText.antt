@@ -6,19 +6,16 @@ use Rattle.std.specs.Cmp.Lexicographic.{slice_cmp}
 use Rattle.std.specs.FinMap.{find}
 use Rattle.mysql_values.specs.declared.value.Value.{Value}
 use Rattle.mysql_values.specs.declared.value.Value.TheVariants.{NULL}
-use Rattle.mysql_values.specs.Literal.{literal_of}
+use Rattle.mysql_values.specs.Literal.{literal_text}
 use Rattle.mysql_named_params.specs.TokensOf.{tokens_of}
 use Rattle.mysql_named_params.specs.Places.{names}
 use Rattle.mysql_binding.specs.Pieces.{pieces, joined_text}
 
--- the literal of a value; a float has none, and none is bound
-abbrev pub literal_in : Bool → Value → List ℕ
-literal_in mode value = unwrap_or (literal_of mode value) []
-
--- the text of a query with these values in its places, in order; there are as many as places
+-- the text of a query with these values in its places, in order; there are as many as places, and
+-- none is a float, which has no literal
 abbrev pub bound_text : Bool → List ℕ → List Value → List ℕ
 bound_text mode query values =
-    unwrap_or (joined_text (pieces (tokens_of mode query)) (map (literal_in mode) values)) []
+    unwrap_or (joined_text (pieces (tokens_of mode query)) (map (literal_text mode) values)) []
 
 -- the value of the first pair with this name; each name of a query that is bound has one
 abbrev pub value_under : List (List ℕ × Value) → List ℕ → Value

@@ -71,7 +71,7 @@ pub fn run<R: Read, W: Write>(
     ensures unwritten { IfErr result (λ e. e ≢ RunError.Write → output.new ≡ output.old) }
 
     // Out of memory is an error of its own, also where binding ran out of it.
-    ensures memory { IfErr result HoldsCause }
+    ensures cause { IfErr result HoldsCause }
 {
     let command = match judge(alloc, words) {
         Ok(command) => command,

@@ -5,12 +5,12 @@ use Rattle.std.proofs.lemmas.Str.{IsUtf8-from_is_utf8, is_utf8-from_IsUtf8}
 use Rattle.std.proofs.lemmas.Bool.{false≢true}
 use Rattle.mysql_value_core.specs.declared.value.Value.{Value}
 use Rattle.mysql_value_core.specs.declared.value.Value.TheVariants.{Bytes}
-use Rattle.mysql_value_core.specs.FromValue.{text_of}
+use Rattle.mysql_value_core.specs.FromValue.{value_text}
 
 -- bytes that are UTF-8 are a text
-pub text_of-IsUtf8 : (value : Value) (bytes : List ℕ) → value ≡ Bytes bytes → IsUtf8 bytes
-    → text_of value ≡ Some bytes
-text_of-IsUtf8 value bytes is utf8 = rw (is, is_utf8-from_IsUtf8 bytes utf8) refl
+pub value_text-IsUtf8 : (value : Value) (bytes : List ℕ) → value ≡ Bytes bytes → IsUtf8 bytes
+    → value_text value ≡ Some bytes
+value_text-IsUtf8 value bytes is utf8 = rw (is, is_utf8-from_IsUtf8 bytes utf8) refl
 
 -- the test fails where the bytes are not UTF-8
 is_utf8-not : (bytes : List ℕ) → (IsUtf8 bytes → false ≡ true) → (t : Bool) → is_utf8 bytes ≡ t
@@ -19,7 +19,7 @@ is_utf8-not bytes not_utf8 true is = absurd (false≢true (not_utf8 (IsUtf8-from
 is_utf8-not bytes not_utf8 false is = refl
 
 -- other bytes are none
-pub text_of-not_IsUtf8 : (value : Value) (bytes : List ℕ) → value ≡ Bytes bytes
-    → (IsUtf8 bytes → false ≡ true) → text_of value ≡ None
-text_of-not_IsUtf8 value bytes is not_utf8 =
+pub value_text-not_IsUtf8 : (value : Value) (bytes : List ℕ) → value ≡ Bytes bytes
+    → (IsUtf8 bytes → false ≡ true) → value_text value ≡ None
+value_text-not_IsUtf8 value bytes is not_utf8 =
     rw (is, is_utf8-not bytes not_utf8 (is_utf8 bytes) refl) refl

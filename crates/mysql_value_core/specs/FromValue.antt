@@ -17,19 +17,19 @@ ConvertsOrHandsBack seen converted value (Ok x) = converted ≡ Some (seen x)
 ConvertsOrHandsBack seen converted value (Err error) = (converted ≡ None) × (error.0 ≡ value)
 
 -- the bytes of a value
-abbrev pub bytes_of : Value → Option (List ℕ)
-bytes_of (Bytes bytes) = Some bytes
-bytes_of _ = None
+abbrev pub value_bytes : Value → Option (List ℕ)
+value_bytes (Bytes bytes) = Some bytes
+value_bytes _ = None
 
 -- the bytes of a value that are UTF-8
-abbrev pub text_of : Value → Option (List ℕ)
-text_of (Bytes bytes) = if is_utf8 bytes then Some bytes else None
-text_of _ = None
+abbrev pub value_text : Value → Option (List ℕ)
+value_text (Bytes bytes) = if is_utf8 bytes then Some bytes else None
+value_text _ = None
 
 -- the bytes of a value, where there are `count`
-abbrev pub array_of : ℕ → Value → Option (List ℕ)
-array_of count (Bytes bytes) = if length bytes == count then Some bytes else None
-array_of count _ = None
+abbrev pub value_array : ℕ → Value → Option (List ℕ)
+value_array count (Bytes bytes) = if length bytes == count then Some bytes else None
+value_array count _ = None
 
 -- bytes, and whether a `Cow` owns them
 abbrev pub CowSeen : Type 0

@@ -1,7 +1,7 @@
 -- The SQL literal of a value (MySQL Reference Manual, "Literal Values"), of the texts that
 -- mysql_sql_text defines. A mode is the flag `no_backslash_escape`: `true` is the mode without
 -- backslash escapes.
-use Rattle.std.specs.Prelude.{ℕ, Bool, true, false, List, codes, Option, Some, None}
+use Rattle.std.specs.Prelude.{ℕ, Bool, true, false, List, [], codes, Option, Some, None, unwrap_or}
 use Rattle.std.specs.Fmt.{decimal, signed_decimal}
 use Rattle.mysql_sql_text.specs.LiteralText.{bytes_literal, date_text, quoted, time_text}
 use Rattle.mysql_value_core.specs.declared.value.Value.{Value}
@@ -19,6 +19,10 @@ literal_of mode (Date year month day hour minute second microseconds) =
     Some (quoted (date_text year month day hour minute second microseconds))
 literal_of mode (Time negative days hours minutes seconds microseconds) =
     Some (quoted (time_text negative days hours minutes seconds microseconds))
+
+-- the bytes of that literal; of a float, which has none, no bytes
+abbrev pub literal_text : Bool → Value → List ℕ
+literal_text mode value = unwrap_or (literal_of mode value) []
 
 -- whether a value is a float, of either width
 abbrev pub is_float : Value → Bool

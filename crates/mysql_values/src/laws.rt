@@ -1,7 +1,7 @@
 //! Laws of the types of this crate and of the one below. A program calls them for what they ensure
 //! alone, where a proof needs it.
 ghost use Rattle.std.specs.Prelude.{◌≡◌, ◌↔◌, IsTrue, Some, string_bytes};
-ghost use Rattle.mysql_value_core.specs.FromValue.{array_of, bytes_of, text_of};
+ghost use Rattle.mysql_value_core.specs.FromValue.{value_array, value_bytes, value_text};
 ghost use Rattle.mysql_value_core.specs.ValueOrder.{value_cmp};
 ghost use Rattle.mysql_values.specs.DurationConversion.{ConvertsBackRounded};
 ghost use Rattle.mysql_values.specs.Intermediate.{committed, AreEqualParsed};
@@ -99,7 +99,7 @@ pub fn duration_converts_back(duration: &Duration)
 
 /// A text converts back from its value.
 pub fn text_converts_back(text: &String)
-    ensures converts_back { ConvertsBack text_of (λ seen. seen)
+    ensures converts_back { ConvertsBack value_text (λ seen. seen)
         (⟦<String as ToValue>⟧.value_of text.now) (string_bytes text.now) }
 {
     // A proof reads here that the text is UTF-8.
@@ -108,12 +108,12 @@ pub fn text_converts_back(text: &String)
 
 /// Bytes convert back from their value.
 pub fn bytes_convert_back(bytes: &Vec<u8>)
-    ensures converts_back { ConvertsBack bytes_of (λ seen. seen)
+    ensures converts_back { ConvertsBack value_bytes (λ seen. seen)
         (⟦<Vec<u8> as ToValue>⟧.value_of bytes.now) bytes.now.items }
 {}
 
 /// An array of bytes converts back from its value.
 pub fn array_converts_back<const N: usize>(bytes: &[u8; N])
-    ensures converts_back { ConvertsBack (array_of N) (λ seen. seen)
+    ensures converts_back { ConvertsBack (value_array N) (λ seen. seen)
         (⟦<[u8; N] as ToValue>⟧.value_of bytes.now) bytes.now }
 {}

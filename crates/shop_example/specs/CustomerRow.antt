@@ -5,7 +5,7 @@ use Rattle.mysql_wire_part.specs.Reading.{ReadRefusal}
 use Rattle.mysql_wire_part.specs.ParseBuf.{read_refusal}
 use Rattle.mysql_values.specs.declared.value.Value.{Value}
 use Rattle.mysql_values.specs.TextCell.{read_cell}
-use Rattle.mysql_values.specs.FromValue.{text_of}
+use Rattle.mysql_values.specs.FromValue.{value_text}
 use Rattle.mysql_values.specs.Intermediate.{committed}
 use Rattle.mysql_values.specs.WholeNumber.{whole_conversion, u32_type}
 use Rattle.shop_example.specs.declared.customer_row.CellError.{CellError}
@@ -31,7 +31,7 @@ number_of value = option_map committed
 abbrev pub IsCustomerRow : (id : ℕ) → (name bytes rest : List ℕ) → Type 0
 IsCustomerRow id name bytes rest = (first second : Value) × (after : List ℕ)
     × (read_cell bytes ≡ Ok (first, after)) × (read_cell after ≡ Ok (second, rest))
-    × (number_of first ≡ Some id) × (text_of second ≡ Some name)
+    × (number_of first ≡ Some id) × (value_text second ≡ Some name)
 
 -- Why a row of a number and a text gave nothing, where `rest` is left: its first cell was refused, or
 -- that gave a number, and the second was refused.
@@ -39,4 +39,4 @@ abbrev pub IsRowRefusal : (bytes rest : List ℕ) → CellError → Type 0
 IsRowRefusal bytes rest error = IsCellRefusal number_of bytes rest error
     ⊎ ((first : Value) × (id : ℕ) × (after : List ℕ)
     × (read_cell bytes ≡ Ok (first, after)) × (number_of first ≡ Some id)
-    × IsCellRefusal text_of after rest error)
+    × IsCellRefusal value_text after rest error)

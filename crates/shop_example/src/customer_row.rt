@@ -3,7 +3,7 @@ ghost use Rattle.std.specs.Prelude.{◌≡◌, [], ◌∷◌, Ok, Some, IfErr, I
 ghost use Rattle.std.specs.Option.{option_map};
 ghost use Rattle.mysql_wire_part.specs.ParseBuf.{left};
 ghost use Rattle.mysql_values.specs.Intermediate.{committed};
-ghost use Rattle.mysql_values.specs.FromValue.{text_of};
+ghost use Rattle.mysql_values.specs.FromValue.{value_text};
 ghost use Rattle.mysql_values.specs.TextCell.{read_cell, read_cells};
 ghost use Rattle.mysql_values.specs.declared.value.Value as value;
 ghost use Rattle.shop_example.specs.CustomerRow.{IsCellRefusal, IsCustomerRow, IsRowRefusal};

@@ -1,11 +1,11 @@
 //! The literals of values.
 ghost use Rattle.std.specs.Prelude.{◌≡◌, ◌+◌, ◌++◌, ◌≤◌, false, Some, IfOk, length, map, take};
-ghost use Rattle.mysql_values.specs.Literal.{is_float, literal_of};
+ghost use Rattle.mysql_values.specs.Literal.{is_float, literal_of, literal_text};
 ghost use Rattle.mysql_sql_text.specs.LiteralShape.{IsLiteral};
 ghost use Rattle.mysql_values.specs.ReadBack.{ReadsAs};
 ghost use Rattle.mysql_params_core.specs.Referents.{referents};
 ghost use Rattle.mysql_binding.specs.FirstCause.{first_float};
-ghost use Rattle.mysql_binding.specs.TextLength.{literal_len, literal_text};
+ghost use Rattle.mysql_binding.specs.TextLength.{literal_len};
 
 use mysql_values::laws::{floats_have_no_literal, literal_shape};
 use mysql_values::value::Value;

@@ -54,8 +54,9 @@ pub trait ToValue {
     // the value of the thing, or why it has none
     ghost value_of: { Self → Meaning };
 
-    /// The value of the thing. It allocates only where the value is `Bytes`; `DurationTooLong` only
-    /// where a duration stands in the thing.
+    /// The value of the thing. It allocates only where the value is `Bytes`. `DurationTooLong` is
+    /// returned only where the type's `value_of` says so: of the types of this library, where a
+    /// duration in the thing is too long.
     fn to_value(&self, alloc: Global) -> Result<Value, ToValueError>
         ensures { IsAnswer (λ value. value) too_long_duration (value_of self.now)
             (MeansBytes (value_of self.now)) result };

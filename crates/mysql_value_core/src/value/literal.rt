@@ -39,7 +39,8 @@ impl Value {
     /// Bytes that are UTF-8 become a string, and others hexadecimal. A date or a time becomes a
     /// string, in which a field out of its usual range stands as it is. `no_backslash_escape` is
     /// for a server in the SQL mode `NO_BACKSLASH_ESCAPES`, where a backslash in a string escapes
-    /// nothing. The error is `Float` for `Float` and `Double`, and for nothing else.
+    /// nothing. `Float` is returned for `Float` and `Double`, without allocating, and for nothing else;
+    /// any other value may be out of memory.
     pub fn as_sql(&self, alloc: Global, no_backslash_escape: bool) -> Result<String, AsSqlError>
         ensures gives { IsAnswer string_bytes literal_refusal
             (ok_or (literal_of no_backslash_escape self.now) float)

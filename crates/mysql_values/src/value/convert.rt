@@ -35,7 +35,9 @@ pub trait IntoValue {
     ghost takes_memory: { Self → Type 0 };
 
     /// The value that it is rolled back to. Of what `get_intermediate` gave, that value converts to
-    /// the same thing. It may be out of memory only where the type's `takes_memory` says so.
+    /// the same thing. It may be out of memory only where the type's `takes_memory` says so, and is
+    /// refused as `DurationTooLong` only where its `undo` is that refusal. The intermediate is consumed
+    /// even then.
     fn into_value(self, alloc: Global) -> Result<Value, ToValueError>
         ensures { IsAnswer (λ value. value) too_long_duration (undo self)
             (takes_memory self) result };
@@ -69,7 +71,8 @@ pub trait FromValue: Sized {
     fn commit_intermediate(ir: Self::Intermediate) -> Self
         ensures { seen result ≡ commit (seen_ir ir) };
 
-    /// The intermediate of a value, which can still be handed back.
+    /// The intermediate of a value, which can still be handed back; or, where the value doesn't
+    /// convert, the refusal with exactly that value. Nothing is allocated.
     fn get_intermediate(v: Value) -> Result<Self::Intermediate, FromValueError>
         ensures converts { ConvertsOrHandsBack seen_ir (conversion v) v result }
         ensures rolls_back { IfOk result (λ ir.

@@ -20,8 +20,8 @@ returns-in-Err-clause-write g c = search rules
 pub returns-in-Err-clause-unwritten : goal.returns-in-Err-clause-unwritten
 returns-in-Err-clause-unwritten g c = search rules
 
-pub returns-in-Err-clause-memory : goal.returns-in-Err-clause-memory
-returns-in-Err-clause-memory g c = search rules
+pub returns-in-Err-clause-cause : goal.returns-in-Err-clause-cause
+returns-in-Err-clause-cause g c = search rules
 
 pub returns-in-Err-Read-clause-ok : goal.returns-in-Err-Read-clause-ok
 returns-in-Err-Read-clause-ok g c = search rules
@@ -41,8 +41,8 @@ returns-in-Err-Read-clause-write g c = search rules
 pub returns-in-Err-Read-clause-unwritten : goal.returns-in-Err-Read-clause-unwritten
 returns-in-Err-Read-clause-unwritten g c = search rules
 
-pub returns-in-Err-Read-clause-memory : goal.returns-in-Err-Read-clause-memory
-returns-in-Err-Read-clause-memory g c = search rules
+pub returns-in-Err-Read-clause-cause : goal.returns-in-Err-Read-clause-cause
+returns-in-Err-Read-clause-cause g c = search rules
 
 pub returns-in-Err-Memory-clause-ok : goal.returns-in-Err-Memory-clause-ok
 returns-in-Err-Memory-clause-ok g c = search rules
@@ -62,8 +62,8 @@ returns-in-Err-Memory-clause-write g c = search rules
 pub returns-in-Err-Memory-clause-unwritten : goal.returns-in-Err-Memory-clause-unwritten
 returns-in-Err-Memory-clause-unwritten g c = search rules
 
-pub returns-in-Err-Memory-clause-memory : goal.returns-in-Err-Memory-clause-memory
-returns-in-Err-Memory-clause-memory g c = search rules
+pub returns-in-Err-Memory-clause-cause : goal.returns-in-Err-Memory-clause-cause
+returns-in-Err-Memory-clause-cause g c = search rules
 
 pub returns-in-Ok-command_output-clause-ok : goal.returns-in-Ok-command_output-clause-ok
 returns-in-Ok-command_output-clause-ok g c = search rules
@@ -84,8 +84,8 @@ pub returns-in-Ok-command_output-clause-unwritten :
     goal.returns-in-Ok-command_output-clause-unwritten
 returns-in-Ok-command_output-clause-unwritten g c = search rules
 
-pub returns-in-Ok-command_output-clause-memory : goal.returns-in-Ok-command_output-clause-memory
-returns-in-Ok-command_output-clause-memory g c = search rules
+pub returns-in-Ok-command_output-clause-cause : goal.returns-in-Ok-command_output-clause-cause
+returns-in-Ok-command_output-clause-cause g c = search rules
 
 pub returns-clause-ok : goal.returns-clause-ok
 returns-clause-ok g c = search rules
@@ -105,5 +105,5 @@ returns-clause-write g c = search rules
 pub returns-clause-unwritten : goal.returns-clause-unwritten
 returns-clause-unwritten g c = search rules
 
-pub returns-clause-memory : goal.returns-clause-memory
-returns-clause-memory g c = search rules
+pub returns-clause-cause : goal.returns-clause-cause
+returns-clause-cause g c = search rules

@@ -1,7 +1,7 @@
 //! Values that become texts and bytes of the standard library. Nothing is allocated.
 ghost use Rattle.std.specs.Prelude.{string_bytes};
 ghost use Rattle.std.specs.Option.{option_map};
-ghost use Rattle.mysql_value_core.specs.FromValue.{ConvertsOrHandsBack, array_of, bytes_of, cow_bytes, cow_text, owned_cow, text_of};
+ghost use Rattle.mysql_value_core.specs.FromValue.{ConvertsOrHandsBack, value_array, value_bytes, cow_bytes, cow_text, owned_cow, value_text};
 
 use crate::bytes::Bytes;
 use crate::value::Value;
@@ -11,7 +11,7 @@ use std::borrow::{CowSlice, CowStr};
 impl TryFrom<Value> for Vec<u8> {
     type Error = FromValueError;
 
-    ghost try_from_gives = { λ v r. ConvertsOrHandsBack (λ bytes. bytes.items) (bytes_of v) v r };
+    ghost try_from_gives = { λ v r. ConvertsOrHandsBack (λ bytes. bytes.items) (value_bytes v) v r };
 
     fn try_from(value: Value) -> Result<Vec<u8>, FromValueError> {
         match value {
@@ -25,7 +25,7 @@ impl TryFrom<Value> for CowSlice<'static, u8> {
     type Error = FromValueError;
 
     ghost try_from_gives = { λ v r.
-        ConvertsOrHandsBack cow_bytes (option_map owned_cow (bytes_of v)) v r };
+        ConvertsOrHandsBack cow_bytes (option_map owned_cow (value_bytes v)) v r };
 
     fn try_from(value: Value) -> Result<CowSlice<'static, u8>, FromValueError> {
         match value {
@@ -38,7 +38,7 @@ impl TryFrom<Value> for CowSlice<'static, u8> {
 impl<const N: usize> TryFrom<Value> for [u8; N] {
     type Error = FromValueError;
 
-    ghost try_from_gives = { λ v r. ConvertsOrHandsBack (λ array. array) (array_of N v) v r };
+    ghost try_from_gives = { λ v r. ConvertsOrHandsBack (λ array. array) (value_array N v) v r };
 
     fn try_from(value: Value) -> Result<[u8; N], FromValueError> {
         match value {
@@ -54,7 +54,7 @@ impl<const N: usize> TryFrom<Value> for [u8; N] {
 impl TryFrom<Value> for String {
     type Error = FromValueError;
 
-    ghost try_from_gives = { λ v r. ConvertsOrHandsBack string_bytes (text_of v) v r };
+    ghost try_from_gives = { λ v r. ConvertsOrHandsBack string_bytes (value_text v) v r };
 
     fn try_from(value: Value) -> Result<String, FromValueError> {
         match value {
@@ -75,7 +75,7 @@ impl TryFrom<Value> for CowStr<'static> {
     type Error = FromValueError;
 
     ghost try_from_gives = { λ v r.
-        ConvertsOrHandsBack cow_text (option_map owned_cow (text_of v)) v r };
+        ConvertsOrHandsBack cow_text (option_map owned_cow (value_text v)) v r };
 
     fn try_from(value: Value) -> Result<CowStr<'static>, FromValueError> {
         Ok(CowStr::Owned(String::try_from(value)?))

@@ -1,7 +1,7 @@
 //! Conversions to bytes.
 ghost use Rattle.std.specs.Prelude.{◌≡◌, ℕ, List, ⊤, false};
 ghost use Rattle.std.specs.Option.{option_map};
-ghost use Rattle.mysql_value_core.specs.FromValue.{CowSeen, array_of, bytes_of, cow_bytes, owned_cow};
+ghost use Rattle.mysql_value_core.specs.FromValue.{CowSeen, value_array, value_bytes, cow_bytes, owned_cow};
 ghost use Rattle.mysql_value_core.specs.ValueTable.{value_of_byte_array, value_of_byte_cow, value_of_byte_vec};
 
 use crate::bytes::Bytes;
@@ -31,7 +31,7 @@ impl FromValue for Vec<u8> {
 
     ghost seen_ir = { λ bytes. bytes.items };
 
-    ghost conversion = { bytes_of };
+    ghost conversion = { value_bytes };
 
     ghost commit = { λ bytes. bytes };
 
@@ -66,7 +66,7 @@ impl<const N: usize> FromValue for [u8; N] {
 
     ghost seen_ir = { λ bytes. bytes };
 
-    ghost conversion = { array_of N };
+    ghost conversion = { value_array N };
 
     ghost commit = { λ bytes. bytes };
 
@@ -106,7 +106,7 @@ impl FromValue for CowSlice<'static, u8> {
 
     ghost seen_ir = { cow_bytes };
 
-    ghost conversion = { λ v. option_map owned_cow (bytes_of v) };
+    ghost conversion = { λ v. option_map owned_cow (value_bytes v) };
 
     ghost commit = { λ bytes. bytes };
 

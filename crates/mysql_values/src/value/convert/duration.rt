@@ -91,7 +91,7 @@ impl FromValue for Duration {
     }
 
     fn get_intermediate(v: Value) -> Result<ParseIrOpt<Duration>, FromValueError>
-        ensures converts { ConvertsAndRollsBack (seen_intermediate as_nanos)
+        ensures converts_and_rolls_back { ConvertsAndRollsBack (seen_intermediate as_nanos)
             duration_conversion value_of_duration v result }
         ensures time_texts { ConvertsTimeTexts v result }
     {

@@ -59,7 +59,9 @@ impl<T> ParseIrOpt<T> {
 impl<T: ToValue + Drop> ParseIrOpt<T> {
     ghost use Rattle.mysql_values.specs.Intermediate.{rollback_value, RollbackTakesMemory};
 
-    /// The value that is kept, or else that of the thing, which allocates where it is `Bytes`.
+    /// The value that is kept, or else that of the thing, which allocates where it is `Bytes`, and is
+    /// refused as `DurationTooLong` where a duration is too long. The intermediate is consumed even
+    /// then.
     pub fn rollback(self, alloc: Global) -> Result<Value, ToValueError>
         ensures { IsAnswer (λ value. value) too_long_duration (rollback_value T.value_of self)
             (RollbackTakesMemory T.value_of self) result }

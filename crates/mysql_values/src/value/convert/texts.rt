@@ -1,7 +1,7 @@
 //! Conversions to texts.
 ghost use Rattle.std.specs.Prelude.{◌≡◌, ℕ, List, false, string_bytes};
 ghost use Rattle.std.specs.Option.{option_map};
-ghost use Rattle.mysql_value_core.specs.FromValue.{CowSeen, cow_text, owned_cow, text_of};
+ghost use Rattle.mysql_value_core.specs.FromValue.{CowSeen, cow_text, owned_cow, value_text};
 ghost use Rattle.mysql_value_core.specs.ValueTable.{value_of_str_cow, value_of_string};
 
 use crate::bytes::Bytes;
@@ -31,7 +31,7 @@ impl FromValue for String {
 
     ghost seen_ir = { string_bytes };
 
-    ghost conversion = { text_of };
+    ghost conversion = { value_text };
 
     ghost commit = { λ text. text };
 
@@ -71,7 +71,7 @@ impl FromValue for CowStr<'static> {
 
     ghost seen_ir = { cow_text };
 
-    ghost conversion = { λ v. option_map owned_cow (text_of v) };
+    ghost conversion = { λ v. option_map owned_cow (value_text v) };
 
     ghost commit = { λ text. text };
 

@@ -67,7 +67,7 @@ impl FromValue for bool {
     }
 
     fn get_intermediate(v: Value) -> Result<ParseIrOpt<bool>, FromValueError>
-        ensures converts { ConvertsAndRollsBack (λ ir. ir) truth_conversion value_of_bool v result }
+        ensures converts_and_rolls_back { ConvertsAndRollsBack (λ ir. ir) truth_conversion value_of_bool v result }
     {
         ParseIrOpt::<bool>::try_from(v)
     }

@@ -57,7 +57,7 @@ fn number_intermediate<T: WholeNumber>(
         ≡ option_map ParseIrOpt.Ready
         (number_in_type T.is_signed T.width T.of_number (signed_number negative magnitude)) }
     requires of_64_bits { is_int_or_uint (signed_number negative magnitude) ≡ true }
-    ensures converts { ConvertsAndRollsBack (λ ir. ir)
+    ensures converts_and_rolls_back { ConvertsAndRollsBack (λ ir. ir)
         (whole_conversion T.is_signed T.width T.of_number) T.value_of v result }
 {
     match T::from_parts(negative, magnitude) {
@@ -68,7 +68,7 @@ fn number_intermediate<T: WholeNumber>(
 
 // The intermediate of bytes.
 fn bytes_intermediate<T: WholeNumber>(bytes: Bytes) -> Result<ParseIrOpt<T>, FromValueError>
-    ensures converts { ConvertsAndRollsBack (λ ir. ir)
+    ensures converts_and_rolls_back { ConvertsAndRollsBack (λ ir. ir)
         (whole_conversion T.is_signed T.width T.of_number) T.value_of (Value.Bytes bytes) result }
 {
     match decimal_parts(bytes.as_slice()) {
@@ -82,7 +82,7 @@ fn bytes_intermediate<T: WholeNumber>(bytes: Bytes) -> Result<ParseIrOpt<T>, Fro
 
 // The intermediate of a value.
 fn read_whole<T: WholeNumber>(v: Value) -> Result<ParseIrOpt<T>, FromValueError>
-    ensures converts { ConvertsAndRollsBack (λ ir. ir)
+    ensures converts_and_rolls_back { ConvertsAndRollsBack (λ ir. ir)
         (whole_conversion T.is_signed T.width T.of_number) T.value_of v result }
 {
     match v {
@@ -130,7 +130,7 @@ impl<T: WholeNumber + Drop + From<ParseIrOpt<T>>> FromValue for T {
     }
 
     fn get_intermediate(v: Value) -> Result<ParseIrOpt<T>, FromValueError>
-        ensures converts { ConvertsAndRollsBack (λ ir. ir)
+        ensures converts_and_rolls_back { ConvertsAndRollsBack (λ ir. ir)
             (whole_conversion T.is_signed T.width T.of_number) T.value_of v result }
     {
         read_whole(v)

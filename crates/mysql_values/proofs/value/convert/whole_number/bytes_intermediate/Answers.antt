@@ -5,7 +5,7 @@ use Rattle.mysql_values.proofs.value.convert.whole_number.bytes_intermediate.Goa
 
 pub returns-in-None : goal.returns-in-None
 returns-in-None g c = record {
-  converts = record {
+  converts_and_rolls_back = record {
     converts = (
       whole_conversion-bytes_refused g.T.WholeNumber.is_signed g.T.WholeNumber.width g.T.WholeNumber.width_at_most_128
           g.T.WholeNumber.of_number c.args.bytes (decimal_number c.as_slice.result.now)
