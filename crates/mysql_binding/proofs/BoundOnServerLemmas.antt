@@ -6,7 +6,7 @@ use Rattle.mysql_named_params.specs.Bytes.{dash, newline}
 use Rattle.mysql_named_params.specs.Tokens.{Token, IsTokens, text_of, text_then, AreTokensBefore, DashComment, Name, Mark, Plain}
 use Rattle.mysql_named_params.specs.Places.{place_count}
 use Rattle.mysql_named_params.specs.Server.{Server, opens_line, IsTokenOn, AreTokensOn, IsReadOn}
-use Rattle.mysql_named_params.specs.Portable.{ArePortableBefore, IsReadAs, read_all, read_same, read_empty_comment}
+use Rattle.mysql_named_params.specs.Portable.{AreReadAlikeBefore, IsReadAs, read_all, read_same, read_empty_comment}
 use Rattle.mysql_named_params.proofs.PortableLemmas.{NoEmptyComment, token_on, empty_line, read_text, portable_read}
 use Rattle.mysql_named_params.proofs.TokenRowLemmas.{text_then-append}
 use Rattle.mysql_binding.specs.Pieces.{pieces, joined_text}
@@ -16,25 +16,25 @@ use Rattle.mysql_binding.proofs.PieceLemmas.{joined_text_count, joined_text_is}
 use Rattle.mysql_binding.proofs.ReplacedLemmas.{IsLiteral-tokens, replaced_text, replaced_tokens, replaced_up_to_literal}
 use Rattle.mysql_binding.proofs.UpToLiteralLemmas.{SameUpToLiteral, portable_move, empty_move}
 
-ArePortableBefore-append : (xs ys : List Token) (rest : List ℕ) → AreSettledBefore (text_then rest ys) xs →
-    ArePortableBefore rest ys → ArePortableBefore rest (xs ++ ys)
-ArePortableBefore-append [] ys rest b h = h
-ArePortableBefore-append (x ∷ xs) ys rest b h = (rw (text_then-append xs ys rest) b.0, ArePortableBefore-append xs ys rest b.2 h)
+AreReadAlikeBefore-append : (xs ys : List Token) (rest : List ℕ) → AreSettledBefore (text_then rest ys) xs →
+    AreReadAlikeBefore rest ys → AreReadAlikeBefore rest (xs ++ ys)
+AreReadAlikeBefore-append [] ys rest b h = h
+AreReadAlikeBefore-append (x ∷ xs) ys rest b h = (rw (text_then-append xs ys rest) b.0, AreReadAlikeBefore-append xs ys rest b.2 h)
 
 -- a text bound to a portable query is portable
 pub replaced_portable : (mode : Bool) (ts : List Token) (literals : List (List ℕ)) (lists : List (List Token)) →
-    AreTokensBefore mode [] ts → ArePortableBefore [] ts → AreLiterals mode literals →
+    AreTokensBefore mode [] ts → AreReadAlikeBefore [] ts → AreLiterals mode literals →
     AreTokensOf mode literals lists → length literals ≡ place_count ts →
-    ArePortableBefore [] (with_literal_tokens ts lists)
+    AreReadAlikeBefore [] (with_literal_tokens ts lists)
 replaced_portable mode [] literals lists k h s a l = tt
 replaced_portable mode (Name name ∷ ts) [] lists k h s a l = absurd (omega arith)
 replaced_portable mode (Name name ∷ ts) (literal ∷ literals) [] k h s a l = absurd a
 replaced_portable mode (Name name ∷ ts) (literal ∷ literals) (list ∷ lists) k h s a l =
-    ArePortableBefore-append list (with_literal_tokens ts lists) [] ((IsLiteral-tokens mode literal list s.0 a.0).cut_settled _) (replaced_portable mode ts literals lists k.1 h.1 s.1 a.1 (omega arith))
+    AreReadAlikeBefore-append list (with_literal_tokens ts lists) [] ((IsLiteral-tokens mode literal list s.0 a.0).cut_settled _) (replaced_portable mode ts literals lists k.1 h.1 s.1 a.1 (omega arith))
 replaced_portable mode (Mark ∷ ts) [] lists k h s a l = absurd (omega arith)
 replaced_portable mode (Mark ∷ ts) (literal ∷ literals) [] k h s a l = absurd a
 replaced_portable mode (Mark ∷ ts) (literal ∷ literals) (list ∷ lists) k h s a l =
-    ArePortableBefore-append list (with_literal_tokens ts lists) [] ((IsLiteral-tokens mode literal list s.0 a.0).cut_settled _) (replaced_portable mode ts literals lists k.1 h.1 s.1 a.1 (omega arith))
+    AreReadAlikeBefore-append list (with_literal_tokens ts lists) [] ((IsLiteral-tokens mode literal list s.0 a.0).cut_settled _) (replaced_portable mode ts literals lists k.1 h.1 s.1 a.1 (omega arith))
 replaced_portable mode (t ∷ ts) literals lists k h s a l =
     (portable_move t (replaced_up_to_literal mode ts literals lists k.1 s a l) h.0, replaced_portable mode ts literals lists k.1 h.1 s a l)
 
@@ -81,7 +81,7 @@ read_replaced (read_empty_comment r) lists = read_empty_comment (read_replaced r
 -- the tokens of the text on the server
 replaced_on : (server : Server) (mode : Bool) {ts us : List Token} → IsReadAs ts us →
     (literals : List (List ℕ)) (lists : List (List Token)) → AreTokensOn server mode us →
-    AreTokensBefore mode [] ts → ArePortableBefore [] ts → AreLiterals mode literals →
+    AreTokensBefore mode [] ts → AreReadAlikeBefore [] ts → AreLiterals mode literals →
     AreTokensOf mode literals lists → length literals ≡ place_count ts →
     AreTokensOn server mode (with_literal_tokens us lists)
 replaced_on server mode read_all literals lists o h p s a l = tt
@@ -108,7 +108,7 @@ replaced_on server mode (read_empty_comment {ts = ts} {us = us} r) literals list
 -- isolation on a server
 pub isolated_on : (server : Server) (mode : Bool) (query text : List ℕ) (ts us : List Token)
     (literals : List (List ℕ)) (lists : List (List Token)) → IsTokens mode query ts →
-    ArePortableBefore [] ts → AreLiterals mode literals → AreTokensOf mode literals lists →
+    AreReadAlikeBefore [] ts → AreLiterals mode literals → AreTokensOf mode literals lists →
     joined_text (pieces ts) literals ≡ Some text → IsReadOn server mode query us →
     IsReadOn server mode text (with_literal_tokens us lists)
 isolated_on server mode query text ts us literals lists h p s a e u =

@@ -9,7 +9,7 @@ use Rattle.std.proofs.lemmas.Bool.Decides.{nat_tests}
 use Rattle.mysql_named_params.specs.Bytes.{asterisk, colon, dash, newline, question_mark, slash, is_white_space, is_start_byte, begins, plus}
 use Rattle.mysql_named_params.specs.Tokens.{Token, QuotedString, QuotedIdentifier, HashComment, DashComment, BlockComment, Name, Mark, Plain}
 use Rattle.mysql_named_params.specs.Server.{is_graphic, is_tag_byte, begins_place, begins_tag, begins_dashes, begins_exponent_dashes, begins_fraction, begins_own}
-use Rattle.mysql_named_params.specs.Portable.{may_open_line, differs_at, is_portable}
+use Rattle.mysql_named_params.specs.Portable.{may_open_line, differs_at, is_read_alike}
 use Rattle.mysql_named_params.proofs.PortableLemmas.{second_false, false_if}
 use Rattle.mysql_named_params.proofs.RestLemmas.{SameUpToPlace}
 use Rattle.mysql_named_params.proofs.RestLemmas.{at_end as end_of_both, same as same_byte, at_place as other_there}
@@ -189,7 +189,7 @@ plain_move b {x = x} {y = y} a p =
     (or_from _ _ p3.0
     (or_from _ _ (false_if _ _ (λ t. tag_move a (second_false _ _ p4.0 t))) (false_if _ _ (λ t. fraction_move a (second_false _ _ p4.1 t))))))
 
-pub portable_move : (t : Token) {x y : List ℕ} → SameUpToLiteral x y → is_portable t x ≡ true → is_portable t y ≡ true
+pub portable_move : (t : Token) {x y : List ℕ} → SameUpToLiteral x y → is_read_alike t x ≡ true → is_read_alike t y ≡ true
 portable_move (QuotedString quote tail) a p = p
 portable_move (QuotedIdentifier tail) a p = p
 portable_move (HashComment tail) a p = p

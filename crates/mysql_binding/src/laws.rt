@@ -3,7 +3,7 @@ ghost use Rattle.std.specs.Prelude.{◌≡◌, ◌↔◌, ℕ, Bool, List, [], N
 ghost use Rattle.mysql_values.specs.Content.{content_of};
 ghost use Rattle.mysql_named_params.specs.Tokens.{Token, IsTokens, text_of};
 ghost use Rattle.mysql_named_params.specs.Places.{place_count, positions, with_marks};
-ghost use Rattle.mysql_named_params.specs.Portable.{ArePortable, IsPortable};
+ghost use Rattle.mysql_named_params.specs.Portable.{AreReadAlike, IsPortable};
 ghost use Rattle.mysql_named_params.specs.Server.{Server, IsReadOn};
 ghost use Rattle.mysql_params_core.specs.Given.{Given, empty, positional};
 ghost use Rattle.mysql_binding.specs.BindErrors.{AreEqualBindErrors};
@@ -33,11 +33,11 @@ pub fn isolation()
 /// values, its tokens are the query's, with those of one literal in place of each name and mark.
 pub fn bound_texts_on_servers()
     ensures portable { (mode : Bool) (query text : List ℕ) (ts : List Token) (given : Given) →
-        IsTokens mode query ts → (b : IsBoundText mode ts given text) → ArePortable ts →
+        IsTokens mode query ts → (b : IsBoundText mode ts given text) → AreReadAlike ts →
         IsPortable (with_literal_tokens ts b.lists) }
     ensures tokens { (server : Server) (mode : Bool) (query text : List ℕ) (ts us : List Token)
         (given : Given) → IsTokens mode query ts → (b : IsBoundText mode ts given text) →
-        ArePortable ts → IsReadOn server mode query us →
+        AreReadAlike ts → IsReadOn server mode query us →
         IsReadOn server mode text (with_literal_tokens us b.lists) }
     ensures literals { (server : Server) (mode : Bool) (ts : List Token) (given : Given)
         (text : List ℕ) → (b : IsBoundText mode ts given text) →

@@ -7,7 +7,7 @@ use Rattle.std.proofs.lemmas.Bool.{cases_Bool, or_cases, eqb-true}
 use Rattle.mysql_named_params.specs.Bytes.{asterisk, dash, double_quote, single_quote, slash, is_string_quote, is_extension, begins, IsUpTo}
 use Rattle.mysql_named_params.specs.Tokens.{Token, bytes_of, IsToken, QuotedString, QuotedIdentifier, HashComment, DashComment, BlockComment, Name, Mark, Plain}
 use Rattle.mysql_named_params.specs.Server.{begins_special, begins_tag, begins_fraction}
-use Rattle.mysql_named_params.specs.Portable.{stands_inside, may_open_line, begins_exponent, is_portable, joins_number}
+use Rattle.mysql_named_params.specs.Portable.{stands_inside, may_open_line, begins_exponent, is_read_alike, joins_number}
 use Rattle.mysql_named_params.specs.FirstUnportable.{special_construct, construct_at}
 use Rattle.mysql_named_params.specs.FrontConstruct.{block_construct, front_construct}
 use Rattle.mysql_named_params.specs.declared.portable.Construct.{Construct}
@@ -20,7 +20,7 @@ use Rattle.mysql_named_params.proofs.SharpLemmas.{special_more}
 
 -- the token, before this text, is portable and joins no number
 abbrev pub passes : Token → List ℕ → Bool
-passes t rest = is_portable t rest && not (joins_number t rest)
+passes t rest = is_read_alike t rest && not (joins_number t rest)
 
 -- the construct with which the token begins, before this text; none where it passes
 abbrev pub unportable_at : Token → List ℕ → Option Construct

@@ -14,7 +14,7 @@ use Rattle.mysql_named_params.proofs.PlainLemmas.{plain_none}
 use Rattle.mysql_named_params.proofs.RestLemmas.{cond_none, some_none, dash_none}
 use Rattle.mysql_named_params.proofs.TokenListLemmas.{one_token}
 use Rattle.mysql_named_params.specs.Server.{Server, opens_line, is_graphic, begins_special, begins_own, reads_in, usual_block, usual_quotes, IsTokenOn, AreTokensOn, IsReadOn}
-use Rattle.mysql_named_params.specs.Portable.{stands_inside, may_open_line, differs_at, is_portable, ArePortableBefore, IsReadAs, read_all, read_same, read_empty_comment}
+use Rattle.mysql_named_params.specs.Portable.{stands_inside, may_open_line, differs_at, is_read_alike, AreReadAlikeBefore, IsReadAs, read_all, read_same, read_empty_comment}
 use Rattle.mysql_named_params.proofs.ServerTokenLemmas.{not_plain_on, plain_on, dash_comment_on, block_comment_on, own_on, one_list_on}
 
 -- ---- tests
@@ -166,7 +166,7 @@ plain_alike server mode b rest p n =
 
 -- a portable token is a token on the server
 pub token_on : (server : Server) (mode : Bool) (t : Token) (rest : List ℕ) → IsToken mode t rest →
-    is_portable t rest ≡ true → (t ≡ Plain dash → NoEmptyComment server rest) →
+    is_read_alike t rest ≡ true → (t ≡ Plain dash → NoEmptyComment server rest) →
     IsTokenOn server mode t rest
 token_on server mode (QuotedString quote tail) rest h p n = usual_quotes h.0 (string_on server mode quote tail rest h.1 p)
 token_on server mode (QuotedIdentifier tail) rest h p n = h
@@ -273,7 +273,7 @@ reading_empty server mode ts o r = record {
 }
 
 reading_within : (server : Server) (mode : Bool) (n : ℕ) (ts : List Token) → length ts ≤ n →
-    AreTokensBefore mode [] ts → ArePortableBefore [] ts → ReadingOn server mode ts
+    AreTokensBefore mode [] ts → AreReadAlikeBefore [] ts → ReadingOn server mode ts
 reading_within server mode n [] le h p = record { tokens = []; alike = read_all; holds = tt }
 reading_within server mode zero (t ∷ ts) le h p = absurd (omega arith)
 reading_within server mode (suc n) (t ∷ ts) le h p =
@@ -284,7 +284,7 @@ reading_within server mode (suc n) (t ∷ ts) le h p =
         | empty_here more d e ↦
             let line = dash_line mode ts more h.1 e in
             let h' : AreTokensBefore mode [] (Plain dash ∷ Plain newline ∷ line.0) = subst (AreTokensBefore mode []) line.1 h.1 in
-            let p' : ArePortableBefore [] (Plain dash ∷ Plain newline ∷ line.0) = subst (ArePortableBefore []) line.1 p.1 in
+            let p' : AreReadAlikeBefore [] (Plain dash ∷ Plain newline ∷ line.0) = subst (AreReadAlikeBefore []) line.1 p.1 in
             let shorter : length line.0 ≤ n = omega (arith, ap length line.1) in
             let whole : Plain dash ∷ Plain dash ∷ Plain newline ∷ line.0 ≡ t ∷ ts = sym (ap (λ x. x ∷ ts) d ∙ ap (λ x. Plain dash ∷ x) line.1) in
             subst (ReadingOn server mode) whole (reading_empty server mode line.0 o (reading_within server mode n line.0 shorter h'.1.1 p'.1.1))
@@ -292,12 +292,12 @@ reading_within server mode (suc n) (t ∷ ts) le h p =
     ]
 
 pub reading_on : (server : Server) (mode : Bool) (ts : List Token) → AreTokensBefore mode [] ts →
-    ArePortableBefore [] ts → ReadingOn server mode ts
+    AreReadAlikeBefore [] ts → ReadingOn server mode ts
 reading_on server mode ts h p = reading_within server mode (length ts) ts (omega arith) h p
 
 -- a portable query, on a server
 pub portable_read : (server : Server) (mode : Bool) (query : List ℕ) (ts us : List Token) →
-    IsTokens mode query ts → ArePortableBefore [] ts → IsReadOn server mode query us → IsReadAs ts us
+    IsTokens mode query ts → AreReadAlikeBefore [] ts → IsReadOn server mode query us → IsReadAs ts us
 portable_read server mode query ts us h p u =
     let r = reading_on server mode ts h.each p in
     let same : r.tokens ≡ us = one_list_on server mode query r.tokens us (record { text = read_text r.alike ∙ h.text; each = r.holds }) u in

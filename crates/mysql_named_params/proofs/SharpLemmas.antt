@@ -1,4 +1,4 @@
--- No weaker condition than `ArePortable` serves: what every server reads alike is portable.
+-- No weaker condition than `AreReadAlike` serves: what every server reads alike is portable.
 use Rattle.std.specs.Prelude.{Bool}
 use Rattle.std.proofs.Common.{◌≡◌, ◌⊎◌, ℕ, true, false, cond, not, ◌==◌, ◌&&◌, ◌||◌, List, [], ◌∷◌, ◌++◌, take, Option, Some, None, refl, sym, ap, ◌∙◌, subst, inl, inr, true≢false, ne_eqb}
 use Rattle.std.specs.Str.{byte}
@@ -7,7 +7,7 @@ use Rattle.mysql_sql_text.specs.StringUnits.{AreUnits, no_units, byte_unit, esca
 use Rattle.mysql_named_params.specs.Bytes.{asterisk, dash, double_quote, exclamation_mark, newline, slash, is_white_space, is_string_quote, begins}
 use Rattle.mysql_named_params.specs.Tokens.{Token, text_of, IsToken, IsTokens, AreTokensBefore, IsStringTail, closed_string, open_string, open_in_escape, QuotedString, QuotedIdentifier, HashComment, DashComment, BlockComment, Name, Mark, Plain}
 use Rattle.mysql_named_params.specs.Server.{Server, is_graphic, begins_special, begins_own, comment, comment_of, block_on, reads_in, IsBlockTail, usual_block, own_block, IsQuotedTail, usual_quotes, own_quotes, IsTokenOn, AreTokensOn, IsReadOn}
-use Rattle.mysql_named_params.specs.Portable.{stands_inside, may_open_line, differs_at, is_portable, ArePortableBefore, IsReadAs, read_all, read_same, read_empty_comment}
+use Rattle.mysql_named_params.specs.Portable.{stands_inside, may_open_line, differs_at, is_read_alike, AreReadAlikeBefore, IsReadAs, read_all, read_same, read_empty_comment}
 use Rattle.mysql_named_params.proofs.ServerTokenLemmas.{not_plain_on, dash_comment_on, block_comment_on, comment_by, own_is, own_at}
 use Rattle.mysql_named_params.proofs.GrammarLemmas.{not_plain_found_on, tokens_on}
 use Rattle.mysql_named_params.proofs.PortableLemmas.{false_if, read_text}
@@ -150,7 +150,7 @@ plain_alike mode b rest n =
 
 -- a token of the grammar that is one of the contrary server is portable
 token_portable : (mode : Bool) (t : Token) (rest : List ℕ) → IsToken mode t rest → IsTokenOn contrary mode t rest →
-    is_portable t rest ≡ true
+    is_read_alike t rest ≡ true
 token_portable mode (QuotedString quote tail) rest h o = quoted_alike mode quote tail rest h.0 o
 token_portable mode (QuotedIdentifier tail) rest h o = refl
 token_portable mode (HashComment tail) rest h o = refl
@@ -160,12 +160,12 @@ token_portable mode (Name name) rest h o = refl
 token_portable mode Mark rest h o = refl
 token_portable mode (Plain b) rest h o = ap not (plain_alike mode b rest (plain_none_on contrary mode b rest o))
 
-second_dash : (text : List ℕ) → is_portable (Plain dash) (newline ∷ text) ≡ true
+second_dash : (text : List ℕ) → is_read_alike (Plain dash) (newline ∷ text) ≡ true
 second_dash [] = refl
 second_dash (b ∷ text) = refl
 
 all_portable : (mode : Bool) {ts us : List Token} → IsReadAs ts us → AreTokensBefore mode [] ts →
-    AreTokensOn contrary mode us → ArePortableBefore [] ts
+    AreTokensOn contrary mode us → AreReadAlikeBefore [] ts
 all_portable mode read_all h o = tt
 all_portable mode (read_same {t = t} {ts = ts} r) h o =
     (token_portable mode t (text_of ts) h.0 (subst (IsTokenOn contrary mode t) (read_text r) o.0), all_portable mode r h.1 o.1)
@@ -174,7 +174,7 @@ all_portable mode (read_empty_comment {ts = ts} r) h o =
 
 pub sharp : (mode : Bool) (query : List ℕ) (ts : List Token) → IsTokens mode query ts →
     ((server : Server) (us : List Token) → IsReadOn server mode query us → IsReadAs ts us) →
-    ArePortableBefore [] ts
+    AreReadAlikeBefore [] ts
 sharp mode query ts h alike =
     let u = tokens_on contrary mode query in
     all_portable mode (alike contrary u.0 u.1) h.each u.1.each

@@ -10,7 +10,7 @@ use Rattle.mysql_named_params.specs.Bytes.{colon, question_mark, is_start_byte, 
 use Rattle.mysql_named_params.specs.Server.{begins_place, begins_fraction}
 use Rattle.mysql_named_params.specs.Tokens.{Token, bytes_of, text_of, text_then, IsToken, OnTokens}
 use Rattle.mysql_named_params.specs.FirstToken.{IsFirstToken}
-use Rattle.mysql_named_params.specs.Portable.{ArePortableBefore, JoinNoNumberBefore, IsPortable}
+use Rattle.mysql_named_params.specs.Portable.{AreReadAlikeBefore, JoinNoNumberBefore, IsPortable}
 use Rattle.mysql_named_params.specs.FrontConstruct.{front_construct}
 use Rattle.mysql_named_params.specs.FirstUnportable.{construct_at, first_unportable_from, first_unportable}
 use Rattle.mysql_named_params.specs.declared.portable.Construct.{Construct}
@@ -128,14 +128,14 @@ all_from (t ∷ ts) n h =
     let s = first_step (passes t (text_of ts)) _ (first_unportable_from (n + length (bytes_of t)) ts) h in
     (s.0, all_from ts (n + length (bytes_of t)) s.1)
 
-pass_parts : (ts : List Token) → AllPass [] ts → ArePortableBefore [] ts × JoinNoNumberBefore [] ts
+pass_parts : (ts : List Token) → AllPass [] ts → AreReadAlikeBefore [] ts × JoinNoNumberBefore [] ts
 pass_parts [] h = (tt, tt)
 pass_parts (t ∷ ts) h =
     let p = and_parts _ _ h.0 in
     let more = pass_parts ts h.1 in
     ((p.0, more.0), (not-true _ p.1, more.1))
 
-pass_from : (ts : List Token) → ArePortableBefore [] ts → JoinNoNumberBefore [] ts → AllPass [] ts
+pass_from : (ts : List Token) → AreReadAlikeBefore [] ts → JoinNoNumberBefore [] ts → AllPass [] ts
 pass_from [] a j = tt
 pass_from (t ∷ ts) a j = (rw (a.0, j.0) refl, pass_from ts a.1 j.1)
 

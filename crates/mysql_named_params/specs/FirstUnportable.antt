@@ -4,7 +4,7 @@ use Rattle.std.specs.Str.{byte}
 use Rattle.mysql_named_params.specs.Bytes.{dash, exclamation_mark, plus, slash, begins}
 use Rattle.mysql_named_params.specs.Tokens.{Token, bytes_of, text_of, QuotedString, BlockComment, Plain}
 use Rattle.mysql_named_params.specs.Server.{begins_fraction}
-use Rattle.mysql_named_params.specs.Portable.{is_portable, joins_number}
+use Rattle.mysql_named_params.specs.Portable.{is_read_alike, joins_number}
 use Rattle.mysql_named_params.specs.declared.portable.Construct.{Construct}
 use Rattle.mysql_named_params.specs.declared.portable.Construct.TheVariants as construct
 use Rattle.mysql_named_params.specs.declared.portable.Unportable.{Unportable}
@@ -38,7 +38,7 @@ construct_at t rest = construct.PlaceAfterExponent
 abbrev pub first_unportable_from : ℕ → List Token → Option Unportable
 first_unportable_from at [] = None
 first_unportable_from at (t ∷ ts) =
-    if is_portable t (text_of ts) && not (joins_number t (text_of ts))
+    if is_read_alike t (text_of ts) && not (joins_number t (text_of ts))
     then first_unportable_from (at + length (bytes_of t)) ts
     else Some (record { construct = construct_at t (text_of ts); at = at })
 

@@ -27,21 +27,21 @@ differs_at b rest =
     || ((b == dash && may_open_line rest) || begins_own b rest)
 
 -- every server ends this token before this text where the grammar does
-abbrev pub is_portable : Token → List ℕ → Bool
-is_portable (QuotedString quote tail) rest = not (quote == double_quote && stands_inside quote tail)
-is_portable (BlockComment tail) rest = not (begins_special tail)
-is_portable (Plain b) rest = not (differs_at b rest)
-is_portable t rest = true
+abbrev pub is_read_alike : Token → List ℕ → Bool
+is_read_alike (QuotedString quote tail) rest = not (quote == double_quote && stands_inside quote tail)
+is_read_alike (BlockComment tail) rest = not (begins_special tail)
+is_read_alike (Plain b) rest = not (differs_at b rest)
+is_read_alike t rest = true
 
--- each of the tokens is portable, and then a rest
-abbrev pub ArePortableBefore : List ℕ → List Token → Type 0
-ArePortableBefore rest [] = ⊤
-ArePortableBefore rest (t ∷ ts) =
-    IsTrue (is_portable t (text_then rest ts)) × ArePortableBefore rest ts
+-- so it is of each of the tokens, before a rest
+abbrev pub AreReadAlikeBefore : List ℕ → List Token → Type 0
+AreReadAlikeBefore rest [] = ⊤
+AreReadAlikeBefore rest (t ∷ ts) =
+    IsTrue (is_read_alike t (text_then rest ts)) × AreReadAlikeBefore rest ts
 
--- each of the tokens of a query is portable
-abbrev pub ArePortable : List Token → Type 0
-ArePortable = ArePortableBefore []
+-- so it is of each of the tokens of a query
+abbrev pub AreReadAlike : List Token → Type 0
+AreReadAlike = AreReadAlikeBefore []
 
 -- `e` or `E`, `+` or `-`, and a place
 abbrev pub begins_exponent : List ℕ → Bool
@@ -66,10 +66,10 @@ JoinNoNumberBefore rest (t ∷ ts) =
 abbrev pub JoinNoNumber : List Token → Type 0
 JoinNoNumber = JoinNoNumberBefore []
 
--- the query of these tokens is portable, and no place of it joins a number
+-- the query of these tokens is portable
 pub record IsPortable (ts : List Token) : Type 0 where
   -- every server reads it as the grammar does
-  pub alike : ArePortable ts
+  pub alike : AreReadAlike ts
   -- no value's digits join a number of the query
   pub apart : JoinNoNumber ts
 

@@ -25,7 +25,7 @@ begins_special [] = false
 begins_special (b ∷ bs) =
     is_extension b || (b == byte "M" && begins (λ c. c == exclamation_mark) bs)
 
--- a byte of an identifier
+-- a byte of an identifier other than `$`
 abbrev pub is_tag_byte : ℕ → Bool
 is_tag_byte b = is_name_byte b || ((nat_le (byte "A") b && nat_le b (byte "Z")) || nat_le 128 b)
 
@@ -63,8 +63,8 @@ begins_fraction (b ∷ bs) =
 
 -- Some server may read a text of its own from this byte on, which opens nothing in the grammar:
 -- `[` an identifier, `$$` and `$tag$` a string; and of a number with `.e--` MySQL's lexer takes the
--- first dash for the exponent's sign, so that the second opens no comment. After a sign a lexer may
--- take one byte more in the same way: `.e+--`, `.e---`.
+-- first dash for the exponent's sign, so that the second opens no comment. No server is known that
+-- takes one byte more after a sign, in `.e+--` or `.e---`; they are held apart to be safe.
 abbrev pub begins_own : ℕ → List ℕ → Bool
 begins_own b bs =
     b == byte "[" || ((b == byte "$" && begins_tag bs) || (b == byte "." && begins_fraction bs))

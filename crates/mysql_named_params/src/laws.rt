@@ -6,7 +6,7 @@ ghost use Rattle.mysql_named_params.specs.TokensOf.{tokens_of};
 ghost use Rattle.mysql_named_params.specs.Locality.{LooksAlike};
 ghost use Rattle.mysql_named_params.specs.Parsed.{parsed};
 ghost use Rattle.mysql_named_params.specs.Places.{names, marks, positions, HavePlacesAt, AscendFrom, with_marks, with_names};
-ghost use Rattle.mysql_named_params.specs.Portable.{ArePortable, IsReadAs};
+ghost use Rattle.mysql_named_params.specs.Portable.{AreReadAlike, IsReadAs};
 ghost use Rattle.mysql_named_params.specs.Server.{Server, IsReadOn, grammar};
 
 use crate::named_params::{MixedParamsError, NamedParamsError, ParsedNamedParams};
@@ -67,31 +67,33 @@ pub fn grammar_is_a_server()
         IsReadOn grammar mode query ts → IsTokens mode query ts }
 {}
 
-/// On every server the tokens of a portable query are the grammar's, but for `--` before a newline.
+/// On every server the tokens of a query of which each passes its test, as those of a portable query
+/// do, are the grammar's, but for `--` before a newline.
 pub fn portable_reading()
     ensures alike { (server : Server) (mode : Bool) (query : List ℕ) (ts us : List Token) →
-        IsTokens mode query ts → ArePortable ts → IsReadOn server mode query us →
+        IsTokens mode query ts → AreReadAlike ts → IsReadOn server mode query us →
         IsReadAs ts us }
 {}
 
-/// No weaker condition serves, but for places directly after an exponent: each token of a query that
-/// every server reads as the grammar does is portable.
+/// No weaker condition serves: each token of a query that every server reads as the grammar does passes
+/// its test. (A portable query has no place directly after an exponent either, which is more.)
 pub fn portable_is_sharp()
     ensures sharp { (mode : Bool) (query : List ℕ) (ts : List Token) → IsTokens mode query ts →
         ((server : Server) (us : List Token) → IsReadOn server mode query us →
-        IsReadAs ts us) → ArePortable ts }
+        IsReadAs ts us) → AreReadAlike ts }
 {}
 
-/// On every server a portable query has the same names and marks at the same positions.
+/// On every server such a query, as each portable one is, has the same names and marks at the same
+/// positions.
 pub fn same_places()
     ensures names { (server : Server) (mode : Bool) (query : List ℕ) (ts us : List Token) →
-        IsTokens mode query ts → ArePortable ts → IsReadOn server mode query us →
+        IsTokens mode query ts → AreReadAlike ts → IsReadOn server mode query us →
         names us ≡ names ts }
     ensures marks { (server : Server) (mode : Bool) (query : List ℕ) (ts us : List Token) →
-        IsTokens mode query ts → ArePortable ts → IsReadOn server mode query us →
+        IsTokens mode query ts → AreReadAlike ts → IsReadOn server mode query us →
         marks us ≡ marks ts }
     ensures positions { (server : Server) (mode : Bool) (query : List ℕ) (ts us : List Token) →
-        IsTokens mode query ts → ArePortable ts → IsReadOn server mode query us →
+        IsTokens mode query ts → AreReadAlike ts → IsReadOn server mode query us →
         positions us ≡ positions ts }
 {}
 
