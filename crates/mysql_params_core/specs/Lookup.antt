@@ -22,7 +22,8 @@ values_at entries (name ∷ names) =
     option_and_then (λ value. option_map (λ rest. value ∷ rest) (values_at entries names))
     (get entries name)
 
--- the values for the names of a query, or the refusal; of a query without names the list is empty
+-- the values for the names of a query, or the refusal; a query without names has an empty list of
+-- names
 abbrev pub lookup : Given → List (List ℕ) → Result (List Value) LookupRefusal
 lookup empty [] = Ok []
 lookup empty (name ∷ names) = Err (missing name)
@@ -32,7 +33,7 @@ lookup (named entries) [] = Err (confused NamedParamsForPositionalQuery)
 lookup (named entries) (name ∷ names) =
     ok_or (values_at entries (name ∷ names)) (missing (missing_name entries (name ∷ names)))
 
--- the same parameters by position, or the first name that is missing
+-- named parameters by position, or the first name that is missing; others as they are
 abbrev pub positional_of : Given → List (List ℕ) → Result Given (List ℕ)
 positional_of empty names = Ok empty
 positional_of (positional values) names = Ok (positional values)
@@ -53,7 +54,8 @@ PositionTakesMemory (positional values) names = ⊥
 PositionTakesMemory (named entries) [] = ⊥
 PositionTakesMemory (named entries) (name ∷ names) = ⊤
 
--- a lookup of borrowed values allocates where a lookup does, and for positional values, if any
+-- a lookup of borrowed values allocates where a lookup does, and for a list without names of
+-- positional values, if there are any
 abbrev pub PlaceValuesTakeMemory : Given → List (List ℕ) → Type 0
 PlaceValuesTakeMemory (positional (value ∷ values)) [] = ⊤
 PlaceValuesTakeMemory params names = LookupTakesMemory params names

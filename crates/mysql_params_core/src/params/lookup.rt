@@ -65,8 +65,8 @@ impl Params {
     }
 
     /// The same parameters by position: of named ones the values for the names, in their order, or
-    /// the first name that has no value. Others are returned unchanged. The parameters are consumed
-    /// even if the call refuses.
+    /// the first name that has no value. Others are returned unchanged. `Memory` is returned only for
+    /// named parameters and a list with names. The parameters are consumed even if the call refuses.
     pub fn into_positional(
         self,
         alloc: Global,

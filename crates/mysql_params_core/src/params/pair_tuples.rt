@@ -23,7 +23,8 @@ pub trait ToPairs {
     /// The named parameters that the pairs make, taken in order, as
     /// [`Params::from_pairs`](crate::params::Params::from_pairs) makes them: a pair with the name
     /// of an earlier pair is refused as `Redefined` with that name, and its thing isn't asked for
-    /// its value; a thing that has no value is refused as `Value`. The first refusal ends it.
+    /// its value; a thing that has no value is refused as `Value`. The first refusal ends it. `Memory`
+    /// may come in place of any other result.
     fn to_named(&self, alloc: Global) -> Result<Params, ToParamsError>
         ensures made { IsAnswer given maker_refusal (pairs_made (pairs self.now)) ⊤ result }
         ensures value { IfErr result (λ error.
