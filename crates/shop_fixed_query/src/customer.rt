@@ -17,6 +17,7 @@ pub fn customer_by_id(alloc: Global, id: u32, name: &str) -> Result<Vec<u8>, All
 #[cfg(test)]
 mod tests {
     use super::*;
+    use mysql_params::first_unportable;
     use std::test::Fail;
 
     #[test]
@@ -26,6 +27,12 @@ mod tests {
             text.as_slice(),
             b"SELECT * FROM customer WHERE id = 42 AND name = 'x\\' OR \\'1\\'=\\'1'".as_slice()
         );
+        Ok(())
+    }
+
+    #[test]
+    fn portable(rt: HostRuntime) -> Result<(), Fail> {
+        assert_eq!(rt; first_unportable(CUSTOMER, false), None);
         Ok(())
     }
 }
