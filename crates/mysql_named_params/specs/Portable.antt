@@ -33,13 +33,13 @@ is_read_alike (BlockComment tail) rest = not (begins_special tail)
 is_read_alike (Plain b) rest = not (differs_at b rest)
 is_read_alike t rest = true
 
--- so it is of each of the tokens, before a rest
+-- that holds of each of the tokens, before a rest
 abbrev pub AreReadAlikeBefore : List ℕ → List Token → Type 0
 AreReadAlikeBefore rest [] = ⊤
 AreReadAlikeBefore rest (t ∷ ts) =
     IsTrue (is_read_alike t (text_then rest ts)) × AreReadAlikeBefore rest ts
 
--- so it is of each of the tokens of a query
+-- that holds of each of the tokens of a query
 abbrev pub AreReadAlike : List Token → Type 0
 AreReadAlike = AreReadAlikeBefore []
 
