@@ -4,6 +4,7 @@ import os
 import shutil
 import subprocess
 
+import mysql_params
 import strings
 from harness import Tests, same
 from literals import CHARSETS
@@ -45,6 +46,7 @@ def run(tests: Tests, path: str, program: str, folder: str) -> None:
     tests.run("pipe: with pipefail a refusal is a failure and nothing is run", _failure, connection, shell)
     tests.run("pipe: without pipefail a refusal is the status 0", _without_pipefail, shell)
     tests.run("pipe: without the character set LC_ALL=C stores other letters", _without_charset, connection, shell)
+    tests.run("pipe: the client drops a line, and a value leaves its literal", _dropped_line, shell)
     connection.close()
 
 
@@ -162,3 +164,14 @@ def _without_charset(connection: Connection, shell) -> None:
     same((ran.returncode, ran.stderr), (0, b""), "é")
     rows = connection.query(b"SELECT HEX(name) FROM shop.t").rows()
     same(rows, [["Ã©".encode().hex().upper().encode()]], "é")
+
+
+def _dropped_line(shell) -> None:
+    """The limit that README names: the client drops the line `--don't`, on which a string begins to every server."""
+    query = "SELECT 1; --don't\nSELECT ' :name '"
+    same(mysql_params.first_unportable(query), None, query)
+    ran = shell(_PIPE, query, ", 7 -- ", "C.UTF-8")
+    same((ran.returncode, ran.stderr), (0, b""), query)
+    same(ran.stdout.splitlines()[-1], b" \t7", ran.stdout)
+    # With white space after the dashes the grammar finds the comment too, and the text in quotes.
+    same(mysql_params.names("SELECT 1; -- don't\nSELECT ' :name '")[1], [], query)
