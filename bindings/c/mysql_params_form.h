@@ -24,7 +24,8 @@ typedef struct mysql_params_form {
     size_t needed;
 } mysql_params_form;
 
-/* A date with its time of day. Fields stand in the literal as they are, also a month 0 or 255. */
+/* A date with its time of day. Fields stand in the literal as they are, also a month 0 or 255; a time of day that is all
+ * 0 is left out. */
 typedef struct mysql_params_date {
     uint16_t year;        /* year */
     uint8_t month;        /* month, from 1 */
@@ -88,8 +89,8 @@ typedef struct mysql_params_string {
 bool mysql_params_next_string(const uint8_t **answer, size_t *len, mysql_params_string *string);
 
 /* Writes what a number and its report say into `line`: one line of printable ASCII, ended by a zero byte, cut to
- * `line_len` bytes with that byte. `source` is what the report's `position` counts in, `source_len` bytes: the form for
- * MYSQL_PARAMS_FORM_REPEATED, the query for all others. Returns the length of the whole line without the zero byte. */
+ * `line_len` bytes with that byte. `source`, of `source_len` bytes, is where the name stands that is told: the form for
+ * MYSQL_PARAMS_FORM_REPEATED, the query for MYSQL_PARAMS_MISSING. For all others it isn't read. Returns the length of the whole line without the zero byte. */
 size_t mysql_params_message(int32_t number, const mysql_params_report *report,
                             const uint8_t *source, size_t source_len,
                             char *line, size_t line_len);

@@ -453,17 +453,21 @@ def _value_form(value: Value) -> bytes:
     if value is None:
         return bytes([_NULL, 0])
     if isinstance(value, int):
-        return _int_form(int(value))
+        return _int_form(int.__index__(value))
     if isinstance(value, float):
         return struct.pack("<BBd", _DOUBLE, 0, value)
     if isinstance(value, str):
-        return bytes([_VAR_STRING, 0]) + _string_form(value.encode())
+        return bytes([_VAR_STRING, 0]) + _string_form(_bytes_of(value))
     if isinstance(value, (bytes, bytearray, memoryview)):
-        return bytes([_VAR_STRING, 0]) + _string_form(bytes(value))
-    if isinstance(value, datetime.date):
-        return _date_form(value)
-    if isinstance(value, datetime.timedelta):
-        return _time_form(value)
+        return bytes([_VAR_STRING, 0]) + _string_form(_copy(value))
+    try:
+        if isinstance(value, datetime.date):
+            return _date_form(value)
+        if isinstance(value, datetime.timedelta):
+            return _time_form(value)
+    except struct.error:
+        # A subclass has fields that no date and no span has.
+        pass
     raise TypeError(f"a value of type {type(value).__name__} has no literal")
 
 
@@ -471,9 +475,10 @@ def _name_form(name: Union[str, bytes]) -> bytes:
     """Return a name as a length-encoded string."""
     if not isinstance(name, (str, bytes)):
         raise TypeError(f"a name is str or bytes, and not {type(name).__name__}")
-    if not name:
+    own = _bytes_of(name)
+    if not own:
         raise ValueError("a name is empty")
-    return _string_form(name.encode() if isinstance(name, str) else name)
+    return _string_form(own)
 
 
 def _form(params: Params) -> bytes:
@@ -487,15 +492,15 @@ def _form(params: Params) -> bytes:
     raise TypeError(f"parameters are None, a sequence or a mapping, and not {type(params).__name__}")
 
 
-def _bytes_of(query: Union[str, bytes]) -> bytes:
-    """Return the bytes of a query: those of its UTF-8 where it is a str."""
-    return query.encode() if isinstance(query, str) else _copy(query)
+def _bytes_of(text: Union[str, bytes]) -> bytes:
+    """Return the bytes of a text: those of its UTF-8 where it is a str."""
+    return str.encode(text) if isinstance(text, str) else _copy(text)
 
 
 def _copy(source: bytes) -> bytes:
-    """Return the bytes of something like bytes."""
+    """Return the bytes of something like bytes, as they stand in memory: a subclass may say otherwise of itself."""
     if isinstance(source, (bytes, bytearray, memoryview)):
-        return bytes(source)
+        return memoryview(source).tobytes()
     raise TypeError(f"bytes are wanted, and not {type(source).__name__}")
 
 
@@ -552,9 +557,10 @@ def bind(query: Union[str, bytes], params: Params = None, no_backslash_escape: b
     a value can leave its literal. The flag is True or False: anything else, also the sql_mode itself, is a TypeError.
 
     Of the parameters: raise TypeError for what has no literal, OverflowError for a whole number of more than 64 bits,
-    ValueError for an empty name, RepeatedNameError for a name given as str and as bytes. Then, of the query, the first
-    that holds: MixedError; MissingError, NamedForPositionalError or PositionalForNamedError; MarkCountError;
-    NotAloneError; FloatError. In place of any of them, and of a text, OutOfMemoryError.
+    ValueError for an empty name, UnicodeEncodeError for a str with a lone surrogate (also for a query that is one),
+    RepeatedNameError for a name given as str and as bytes. Then, of the query, the first that holds: MixedError;
+    MissingError, NamedForPositionalError or PositionalForNamedError; MarkCountError; NotAloneError; FloatError. In place
+    of any of them, and of a text, OutOfMemoryError.
     """
     return bind_form(query, _form(params), no_backslash_escape)
 

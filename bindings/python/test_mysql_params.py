@@ -352,6 +352,60 @@ class Test(unittest.TestCase):
         midnight = datetime.datetime(2019, 11, 27)
         self.assertEqual(bind("?, ?", (midnight, midnight.date())), b"'2019-11-27', '2019-11-27'")
 
+    def test_values_that_lie_of_themselves(self):
+        class Bytes(bytes):
+            def __len__(self):
+                return self.told
+
+            def __bool__(self):
+                return True
+
+            def __bytes__(self):
+                return self
+
+        class Text(str):
+            def encode(self):
+                return lying(b"x", 0)
+
+        class Number(int):
+            def __int__(self):
+                return 7
+
+            __index__ = __int__
+
+        def lying(source, told):
+            found = Bytes(source)
+            found.told = told
+            return found
+
+        for told in (0, 1, 1 << 12, 1 << 33):
+            with self.subTest(told=told):
+                query = lying(b"SELECT :a", told)
+                self.assertEqual(names(query), (b"SELECT ?", ["a"]))
+                self.assertEqual(bind(query, {lying(b"a", told): lying(b"'", told)}), b"SELECT '\\''")
+                self.assertIsNone(first_unportable(query))
+                self.assertEqual(bind_form("SELECT ?", lying(b"\0\x06\0", told)), b"SELECT NULL")
+        # The value's bytes would be a parameter `b` of the form.
+        with self.assertRaises(mysql_params.MissingError):
+            bind("SELECT :a, :b", {"a": lying(b"\x01b\x08\x00\x07" + bytes(7), 0)})
+        with self.assertRaises(ValueError):
+            bind("SELECT :a", {lying(b"", 1): 1})
+        self.assertEqual(bind(Text("SELECT :a, :b"), {Text("a"): Text("y"), "b": Number(5)}), b"SELECT 'y', 5")
+
+    def test_dates_and_spans_with_fields_of_no_date(self):
+        class Undated(datetime.datetime):
+            year = float("nan")
+
+        class Early(datetime.date):
+            year = -1
+
+        class Span(datetime.timedelta):
+            days = -1
+
+        for value in (Undated(2019, 11, 27), Early(2019, 11, 27), Span(hours=1)):
+            with self.subTest(type=type(value).__name__), self.assertRaises(TypeError):
+                bind("?", [value])
+
     def test_spans_of_time(self):
         for span, wanted in (
             (datetime.timedelta(days=-1), b"'-024:00:00'"),

@@ -10,9 +10,11 @@ fn archive() -> Result<(PathBuf, String), String> {
         "it isn't set. It is the path of libmysql_params_c.a, which `bindings/build FOLDER` makes",
     )?;
     let path = PathBuf::from(path);
+    // Cargo runs this in the crate's folder.
+    let hint = if path.is_relative() { ". Give the whole path" } else { "" };
     let whole = path
         .canonicalize()
-        .map_err(|error| format!("{}: {error}", path.display()))?;
+        .map_err(|error| format!("{}: {error}{hint}", path.display()))?;
     let folder = whole.parent().ok_or("it is no file")?;
     let name = whole.file_name().and_then(|name| name.to_str());
     let name = name.and_then(|name| name.strip_prefix("lib")?.strip_suffix(".a"));
