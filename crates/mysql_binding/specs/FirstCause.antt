@@ -14,7 +14,7 @@ use Rattle.mysql_binding.specs.StandsAlone.{first_not_alone}
 pub data Cause : Type 0 where
   -- the query has a name and a mark
   mixed_query : Cause
-  -- the parameters don't give the values for its names
+  -- the lookup refuses the parameters: a name has no value, or they are of the other kind
   refused_params : LookupRefusal → Cause
   -- it has no name, and this many marks for another number of values
   mark_count : (marks values : ℕ) → Cause

@@ -81,7 +81,7 @@ pub fn bind_text_in(
 }
 
 /// The query with the literal of a value in the place of each name and mark, in the mode in which a
-/// backslash escapes: [`bind_text_in`] with `false`, which says what refuses it.
+/// backslash escapes: [`bind_text_in`] with `false`. See there for what refuses it.
 // A query has one token list (`mysql_named_params::laws::one_token_list`), so the clauses speak of
 // the same `ts`.
 pub fn bind_text(alloc: Global, query: &[u8], params: Params) -> Result<Vec<u8>, BindError>

@@ -56,13 +56,13 @@ abbrev pub joins_number : Token → List ℕ → Bool
 joins_number (Plain b) rest = (is_ascii_digit b || b == byte ".") && begins_exponent rest
 joins_number t rest = false
 
--- no place stands directly after an exponent, where a rest follows the tokens
+-- no place stands directly after an exponent's sign, where a rest follows the tokens
 abbrev pub JoinNoNumberBefore : List ℕ → List Token → Type 0
 JoinNoNumberBefore rest [] = ⊤
 JoinNoNumberBefore rest (t ∷ ts) =
     IsFalse (joins_number t (text_then rest ts)) × JoinNoNumberBefore rest ts
 
--- no place of a query stands directly after an exponent
+-- no place of a query stands directly after an exponent's sign
 abbrev pub JoinNoNumber : List Token → Type 0
 JoinNoNumber = JoinNoNumberBefore []
 

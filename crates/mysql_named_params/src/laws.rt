@@ -76,7 +76,7 @@ pub fn portable_reading()
 {}
 
 /// No weaker condition serves: each token of a query that every server reads as the grammar does passes
-/// its test. (A portable query has no place directly after an exponent either, which is more.)
+/// its test. (A portable query has no place directly after an exponent's sign either: that is more.)
 pub fn portable_is_sharp()
     ensures sharp { (mode : Bool) (query : List ℕ) (ts : List Token) → IsTokens mode query ts →
         ((server : Server) (us : List Token) → IsReadOn server mode query us →
