@@ -90,7 +90,8 @@ bool mysql_params_next_string(const uint8_t **answer, size_t *len, mysql_params_
 
 /* Writes what a number and its report say into `line`: one line of printable ASCII, ended by a zero byte, cut to
  * `line_len` bytes with that byte. `source`, of `source_len` bytes, is where the name stands that is told: the form for
- * MYSQL_PARAMS_FORM_REPEATED, the query for MYSQL_PARAMS_MISSING. For all others it isn't read. Returns the length of the whole line without the zero byte. */
+ * MYSQL_PARAMS_FORM_REPEATED, the query for MYSQL_PARAMS_MISSING. For all others it isn't read. Returns the length of the
+ * whole line without the zero byte. */
 size_t mysql_params_message(int32_t number, const mysql_params_report *report,
                             const uint8_t *source, size_t source_len,
                             char *line, size_t line_len);
