@@ -1,6 +1,7 @@
 """Runs all tests: check.py SOCKET MYSQL_QUERY FOLDER, for `run`, which starts the server and builds what is needed.
 
-FOLDER is a temporary one of the caller's, with the folder `rows` where the reader of rows can be built.
+FOLDER is a temporary one of the caller's, with the folder `rows` where the reader of rows can be built, and the folder
+`second` of a second server, which has a binary log and ignores the client's character set.
 """
 
 import os
@@ -9,7 +10,9 @@ import sys
 sys.path.insert(0, os.path.join(os.path.dirname(os.path.abspath(__file__)), "..", "..", "bindings", "python"))
 
 import beside
+import client
 import leaks
+import limits
 import literals
 import program
 import rows
@@ -29,7 +32,9 @@ def main(path: str, mysql_query: str, folder: str) -> int:
     beside.run(tests, path)
     program.run(tests, path, mysql_query, folder)
     rows.run(tests, path, folder)
+    client.run(tests, path)
     leaks.run(tests, path)
+    limits.run(tests, path, folder)
     search.run(tests, path)
     print(f"{tests.passed} passed, {tests.failed} failed")
     return 1 if tests.failed else 0

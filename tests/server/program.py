@@ -13,7 +13,7 @@ from protocol import Connection
 # The line of README, in a folder that has query.sql. The client's account and socket stand in ~/.my.cnf.
 _PIPE = """
 set -o pipefail
-mysql_query bind id=i:42 name=s:"$NAME" < query.sql | mysql --default-character-set=utf8mb4 shop
+mysql_query bind id=i:42 name=s:"$NAME" < query.sql | mysql --comments --default-character-set=utf8mb4 shop
 """
 
 _NAMES = [
@@ -46,7 +46,7 @@ def run(tests: Tests, path: str, program: str, folder: str) -> None:
     tests.run("pipe: with pipefail a refusal is a failure and nothing is run", _failure, connection, shell)
     tests.run("pipe: without pipefail a refusal is the status 0", _without_pipefail, shell)
     tests.run("pipe: without the character set LC_ALL=C stores other letters", _without_charset, connection, shell)
-    tests.run("pipe: the client drops a line, and a value leaves its literal", _dropped_line, shell)
+    tests.run("pipe: a comment in which the client finds another end is a refusal, and no value is run", _closed, shell)
     connection.close()
 
 
@@ -94,7 +94,7 @@ def _shell(path: str, program: str, folder: str):
     place = os.path.join(folder, "shell")
     os.makedirs(os.path.join(place, "bin"))
     os.symlink(os.path.abspath(program), os.path.join(place, "bin", "mysql_query"))
-    os.symlink(shutil.which("mysql") or shutil.which("mariadb"), os.path.join(place, "bin", "mysql"))
+    os.symlink(shutil.which("mariadb"), os.path.join(place, "bin", "mysql"))
     with open(os.path.join(place, ".my.cnf"), "w", encoding="utf-8") as file:
         file.write(f"[client]\nuser=root\nsocket={path}\n")
     path_of_programs = f"{place}/bin:{os.environ['PATH']}"
@@ -166,12 +166,13 @@ def _without_charset(connection: Connection, shell) -> None:
     same(rows, [["Ã©".encode().hex().upper().encode()]], "é")
 
 
-def _dropped_line(shell) -> None:
-    """The limit that README names: the client drops the line `--don't`, on which a string begins to every server."""
-    query = "SELECT 1; --don't\nSELECT ' :name '"
+def _closed(shell) -> None:
+    """The limit that README names: the client ends the statement within the value, and stops at the refusal."""
+    query = "SELECT 1 /*//*/, :name"
     same(mysql_params.first_unportable(query), None, query)
-    ran = shell(_PIPE, query, ", 7 -- ", "C.UTF-8")
-    same((ran.returncode, ran.stderr), (0, b""), query)
-    same(ran.stdout.splitlines()[-1], b" \t7", ran.stdout)
-    # With white space after the dashes the grammar finds the comment too, and the text in quotes.
-    same(mysql_params.names("SELECT 1; -- don't\nSELECT ' :name '")[1], [], query)
+    name = "*/ ; SELECT CURRENT_USER(); -- "
+    ran = shell(_PIPE, query, name, "C.UTF-8")
+    same((ran.returncode, ran.stdout, b"1064" in ran.stderr), (1, b"", True), query)
+    for pipe in (_PIPE.replace(" --comments", ""), _PIPE.replace("--comments", "--comments --force")):
+        ran = shell(pipe, query, name, "C.UTF-8")
+        same(b"root@localhost" in ran.stdout, True, pipe)

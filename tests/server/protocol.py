@@ -9,7 +9,11 @@ from typing import NamedTuple, Optional
 
 # Capabilities: long password, long flag, protocol 4.1, transactions, secure connection, plugin of authentication.
 _CAPABILITIES = 0x1 | 0x4 | 0x200 | 0x2000 | 0x8000 | 0x80000
-_COM_QUERY, _COM_PREPARE, _COM_EXECUTE, _COM_CLOSE, _COM_SET_OPTION = 3, 22, 23, 25, 27
+_COM_QUERY, _COM_CHANGE_USER, _COM_PREPARE, _COM_EXECUTE, _COM_CLOSE, _COM_SET_OPTION, _COM_RESET = (
+    3, 17, 22, 23, 25, 27, 31,
+)  # fmt: skip
+_PLUGIN = b"mysql_native_password\0"
+_UTF8MB4 = 45
 _MULTI_STATEMENTS_ON, _MULTI_STATEMENTS_OFF = 0, 1
 _MORE_RESULTS = 8
 
@@ -76,15 +80,16 @@ def _is_end(packet: bytes) -> bool:
 
 
 class Connection:
-    """A connection as `root`, without a password."""
+    """A connection as `root`, without a password. Without a character set it is as the server makes it."""
 
-    def __init__(self, path: str, charset: str = "utf8mb4", sql_mode: str = "") -> None:
+    def __init__(self, path: str, charset: Optional[str] = "utf8mb4", sql_mode: str = "") -> None:
         self._socket = socket.socket(socket.AF_UNIX)
         self._socket.settimeout(120)
         self._socket.connect(path)
         self._buffer, self._at = b"", 0
         self._log_in()
-        self.set(charset, sql_mode)
+        if charset:
+            self.set(charset, sql_mode)
 
     def close(self) -> None:
         """Close the connection."""
@@ -127,6 +132,16 @@ class Connection:
         self._set_option(_MULTI_STATEMENTS_OFF)
         return found
 
+    def reset(self) -> None:
+        """Have the server make the connection as new, as pools do."""
+        self._send(bytes([_COM_RESET]))
+        self._checked()
+
+    def change_user(self) -> None:
+        """Log in again, as the same user."""
+        self._send(bytes([_COM_CHANGE_USER]) + b"root\0\0\0" + struct.pack("<H", _UTF8MB4) + _PLUGIN)
+        self._logged_in(2)
+
     def binary(self, text: bytes) -> Result:
         """Prepare a statement without parameters, execute it, and return its result, with rows in binary form."""
         number, _ = self._prepare(text)
@@ -157,11 +172,14 @@ class Connection:
 
     def _log_in(self) -> None:
         self._packet()
-        plugin = b"mysql_native_password\0"
-        answer = struct.pack("<IIB23x", _CAPABILITIES, 1 << 24, 45) + b"root\0" + b"\0" + plugin
+        answer = struct.pack("<IIB23x", _CAPABILITIES, 1 << 24, _UTF8MB4) + b"root\0" + b"\0" + _PLUGIN
         self._send(answer, 1)
+        self._logged_in(3)
+
+    def _logged_in(self, number: int) -> None:
+        """Answer the server where it names a plugin once more, by a packet of this number: there is no password."""
         if self._checked()[0] == 0xFE:
-            self._send(b"", 3)
+            self._send(b"", number)
             self._checked()
 
     def _send(self, payload: bytes, number: int = 0) -> None:
