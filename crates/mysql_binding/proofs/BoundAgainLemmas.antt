@@ -5,14 +5,15 @@ use Rattle.std.proofs.Common.{◌≡◌, Bool, ℕ, ◌+◌, List, [], ◌∷◌
 use Rattle.std.proofs.lemmas.List.{nil_from_length}
 use Rattle.mysql_values.specs.declared.value.Value.{Value}
 use Rattle.mysql_values.specs.Content.{content_of}
-use Rattle.mysql_named_params.specs.Tokens.{Token, IsTokens, bytes_of, Name, Mark}
+use Rattle.mysql_named_params.specs.Tokens.{Token, IsTokens, OnTokens, bytes_of, Name, Mark}
 use Rattle.mysql_named_params.specs.Places.{names, marks, with_marks, place_count}
 use Rattle.mysql_named_params.proofs.TokenRowLemmas.{place_count-sum}
-use Rattle.mysql_named_params.proofs.ReparsedLemmas.{names-with_marks}
+use Rattle.mysql_named_params.proofs.ReparsedLemmas.{IsTokens-with_marks, names-with_marks}
 use Rattle.mysql_named_params.proofs.TokenListLemmas.{one_token_list}
 use Rattle.mysql_params_core.specs.Given.{Given, empty, positional}
 use Rattle.mysql_params_core.specs.Lookup.{lookup}
 use Rattle.mysql_binding.specs.FirstCause.{cause_after_lookup, first_cause, later_cause, mixed_cause}
+use Rattle.mysql_binding.specs.BoundAgain.{IsSameBoundAgain, IsSameByPosition}
 use Rattle.mysql_binding.specs.Isolation.{IsBoundText}
 use Rattle.mysql_binding.specs.Pieces.{pieces, pieces_from, joined_text}
 use Rattle.mysql_binding.specs.Contents.{contents, AreReadInPlace}
@@ -129,6 +130,22 @@ by_position_is_the_same mode query text ts given is bound =
       in_place = subst (λ ps. AreReadInPlace mode ps bound.literals bound.said) (sym same) bound.in_place;
       read_back = ap (λ ps. contents mode ps text) same ∙ bound.read_back;
     }
+
+-- ---- as the calls that bind promise it
+
+pub same_bound_again : (mode : Bool) (query text : List ℕ) (given : Given) →
+    OnTokens mode query (λ ts. IsBoundText mode ts given text) → IsSameBoundAgain mode text
+same_bound_again mode query text given o =
+    let us = with_literal_tokens o.0 o.2.lists in
+    let is : IsTokens mode text us = o.2.isolated in
+    (us, is, (no_place_is_left mode o.0 us given text o.2 is, bound_again_is_the_same mode o.0 us given text o.2 is))
+
+pub same_by_position : (mode : Bool) (query text : List ℕ) (given : Given) →
+    OnTokens mode query (λ ts. IsBoundText mode ts given text) →
+    OnTokens mode query (λ ts. IsSameByPosition mode ts given text)
+same_by_position mode query text given o =
+    let by_position = by_position_is_the_same mode query text o.0 given o.1 o.2 in
+    (o.0, o.1, (o.2.values, o.2.looked_up, (with_marks o.0, IsTokens-with_marks mode query o.0 o.1, by_position)))
 
 -- ---- equal texts
 

@@ -9,3 +9,4 @@ pub mod ValueLiterals
 pub mod WrittenText
 pub mod BindErrors
 pub mod Isolation
+pub mod BoundAgain

@@ -8,6 +8,7 @@ ghost use Rattle.mysql_params_core.specs.Given.{given};
 ghost use Rattle.mysql_params_core.specs.Lookup.{lookup};
 ghost use Rattle.mysql_params_core.specs.Referents.{referents};
 ghost use Rattle.mysql_binding.specs.BindErrors.{IsRefusal, cause_of};
+ghost use Rattle.mysql_binding.specs.BoundAgain.{IsSameBoundAgain, IsSameByPosition};
 ghost use Rattle.mysql_binding.specs.FirstCause.{mark_count_differs, first_cause, later_cause, mixed_cause, refused_params};
 ghost use Rattle.mysql_binding.specs.Isolation.{IsBoundText};
 ghost use Rattle.mysql_binding.specs.Survey.{IsSurvey};
@@ -55,6 +56,9 @@ pub fn bind_text_in(
         IsBoundText no_backslash_escape ts (given params) text.items)) }
     ensures refused { OnTokens no_backslash_escape query.now (λ ts. IfErr result
         (IsRefusal (first_cause ts (given params)))) }
+    ensures bound_again { IfOk result (λ text. IsSameBoundAgain no_backslash_escape text.items) }
+    ensures by_position { OnTokens no_backslash_escape query.now (λ ts. IfOk result (λ text.
+        IsSameByPosition no_backslash_escape ts (given params) text.items)) }
 
     // A query with a name and a mark is refused without allocating.
     ensures mixed { OnTokens no_backslash_escape query.now (λ ts.
@@ -89,6 +93,9 @@ pub fn bind_text(alloc: Global, query: &[u8], params: Params) -> Result<Vec<u8>,
         IsBoundText with_backslashes ts (given params) text.items)) }
     ensures refused { OnTokens with_backslashes query.now (λ ts. IfErr result
         (IsRefusal (first_cause ts (given params)))) }
+    ensures bound_again { IfOk result (λ text. IsSameBoundAgain with_backslashes text.items) }
+    ensures by_position { OnTokens with_backslashes query.now (λ ts. IfOk result (λ text.
+        IsSameByPosition with_backslashes ts (given params) text.items)) }
 
     // A query with a name and a mark is refused without allocating.
     ensures mixed { OnTokens with_backslashes query.now (λ ts.

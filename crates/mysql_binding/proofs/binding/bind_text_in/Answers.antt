@@ -1,6 +1,7 @@
 use Rattle.std.proofs.Common.{arith}
 use Rattle.mysql_params_core.specs.Given.{given}
 use Rattle.mysql_params_core.specs.Referents.{referents}
+use Rattle.mysql_binding.proofs.BoundAgainLemmas.{same_bound_again, same_by_position}
 use Rattle.mysql_binding.proofs.BoundTextLemmas.{refused_later, looked_up, value_for_each, bound_on}
 use Rattle.mysql_binding.proofs.binding.bind_text_in.Goals.{else-survey-gt0-via-then-survey-gt0+else-survey-gt0-2, else-survey-gt0-via-else-survey-gt0}
 use Rattle.mysql_binding.proofs.binding.bind_text_in.Goals as goal
@@ -29,6 +30,20 @@ returns-in-Ok-clause-bound c =
     (λ both. elim c.else-survey-gt0.branch [ else-survey-gt0-via-then-survey-gt0+else-survey-gt0-2 w ↦ omega (arith, both.1, w.if-survey-gt0-2.false) | else-survey-gt0-via-else-survey-gt0 w ↦ omega (arith, both.0, w.if-survey-gt0.false) ])
     c.in_ok-values.ensures.values (rw c.as_slice.ensures.value at c.in_default.ensures) in
     bound_on _ _ (given c.args.params) (referents c.in_ok-values.values.items) _ known (rw c.as_slice-2.ensures.value at c.in-Ok.ensures)
+
+pub returns-in-Ok-clause-bound_again : goal.returns-in-Ok-clause-bound_again
+returns-in-Ok-clause-bound_again c =
+    let known = looked_up _ _ (given c.args.params) c.place_survey-survey.result (referents c.in_ok-values.values.items) c.place_survey-survey.ensures
+    (λ both. elim c.else-survey-gt0.branch [ else-survey-gt0-via-then-survey-gt0+else-survey-gt0-2 w ↦ omega (arith, both.1, w.if-survey-gt0-2.false) | else-survey-gt0-via-else-survey-gt0 w ↦ omega (arith, both.0, w.if-survey-gt0.false) ])
+    c.in_ok-values.ensures.values (rw c.as_slice.ensures.value at c.in_default.ensures) in
+    same_bound_again _ _ _ (given c.args.params) (bound_on _ _ (given c.args.params) (referents c.in_ok-values.values.items) _ known (rw c.as_slice-2.ensures.value at c.in-Ok.ensures))
+
+pub returns-in-Ok-clause-by_position : goal.returns-in-Ok-clause-by_position
+returns-in-Ok-clause-by_position c =
+    let known = looked_up _ _ (given c.args.params) c.place_survey-survey.result (referents c.in_ok-values.values.items) c.place_survey-survey.ensures
+    (λ both. elim c.else-survey-gt0.branch [ else-survey-gt0-via-then-survey-gt0+else-survey-gt0-2 w ↦ omega (arith, both.1, w.if-survey-gt0-2.false) | else-survey-gt0-via-else-survey-gt0 w ↦ omega (arith, both.0, w.if-survey-gt0.false) ])
+    c.in_ok-values.ensures.values (rw c.as_slice.ensures.value at c.in_default.ensures) in
+    same_by_position _ _ _ (given c.args.params) (bound_on _ _ (given c.args.params) (referents c.in_ok-values.values.items) _ known (rw c.as_slice-2.ensures.value at c.in-Ok.ensures))
 
 pub returns-in-Ok-clause-mixed : goal.returns-in-Ok-clause-mixed
 returns-in-Ok-clause-mixed c =

@@ -1,0 +1,20 @@
+-- A text that is bound again: by itself, since no place is left in it, and from the query with marks
+-- for its names.
+use Rattle.std.specs.Prelude.{◌≡◌, ℕ, Bool, List, Ok}
+use Rattle.mysql_values.specs.declared.value.Value.{Value}
+use Rattle.mysql_named_params.specs.Tokens.{Token, OnTokens, text_of}
+use Rattle.mysql_named_params.specs.Places.{names, place_count, with_marks}
+use Rattle.mysql_params_core.specs.Given.{Given, empty, positional}
+use Rattle.mysql_params_core.specs.Lookup.{lookup}
+use Rattle.mysql_binding.specs.Isolation.{IsBoundText}
+
+-- the text has no place: bound with no parameters, it is not refused and stays as it is
+abbrev pub IsSameBoundAgain : Bool → List ℕ → Type 0
+IsSameBoundAgain mode text = OnTokens mode text (λ us.
+    (place_count us ≡ 0) × IsBoundText mode us empty text)
+
+-- the query with a mark in place of each name, bound by position to the values that the names are
+-- given, is not refused and gives this text; without names it is the query as it is
+abbrev pub IsSameByPosition : Bool → List Token → Given → List ℕ → Type 0
+IsSameByPosition mode ts given text = (values : List Value) × (lookup given (names ts) ≡ Ok values)
+    × OnTokens mode (text_of (with_marks ts)) (λ us. IsBoundText mode us (positional values) text)
