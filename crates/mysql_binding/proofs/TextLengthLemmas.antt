@@ -57,10 +57,10 @@ pub literal_len-literal_of : (mode : Bool) (v : Value) (text : List ℕ) → lit
 literal_len-literal_of mode v text e = ap (λ o. length (unwrap_or o [])) e
 
 -- the length that is told of a literal
-pub unwrap_or-option_map-length : (o : Option (List ℕ)) →
+pub length_or_zero : (o : Option (List ℕ)) →
     unwrap_or (option_map length o) 0 ≡ length (unwrap_or o [])
-unwrap_or-option_map-length None = refl
-unwrap_or-option_map-length (Some text) = refl
+length_or_zero None = refl
+length_or_zero (Some text) = refl
 
 -- the lengths that are left, from one value on
 pub lens_left : (mode : Bool) (values : List Value) (i : ℕ) (v : Value) → i < length values →

@@ -40,6 +40,7 @@ pub(super) fn literal_lens(
 }
 
 // How long the literal of a value is, 0 for a float.
+#[tactic(auto, using(crate::proofs::TextLengthLemmas::length_or_zero))]
 fn literal_len(value: &Value, no_backslash_escape: bool) -> u128
     ensures { result ≡ literal_len no_backslash_escape value.now }
 {
