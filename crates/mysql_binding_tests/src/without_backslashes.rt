@@ -11,7 +11,7 @@ const TEXTS: &[(&[u8], Given<'_>, &[u8])] = &[
     // The string ends at the quote after the backslash.
     (
         b"SELECT 'a\\', :b",
-        Given::Named(&[(b"b", Plain::Text(b"it's\\"))]),
+        TEXT_FOR_B,
         b"SELECT 'a\\', 'it''s\\'",
     ),
     (b"?", Given::Positional(&[Plain::Text(b"''")]), b"''''''"),
@@ -62,6 +62,7 @@ fn hostile_values(rt: HostRuntime) {
 }
 
 const NULL_FOR_B: Given<'_> = Given::Named(&[(b"b", Plain::Null)]);
+const TEXT_FOR_B: Given<'_> = Given::Named(&[(b"b", Plain::Text(b"it's\\"))]);
 
 #[test]
 fn a_name_after_a_string_with_a_backslash(rt: HostRuntime) {
@@ -87,7 +88,7 @@ fn a_name_in_an_open_string(rt: HostRuntime) {
             rt.alloc(),
             WITH_BACKSLASHES,
             *query,
-            NULL_FOR_B,
+            TEXT_FOR_B,
             Refused::NamedGiven,
         );
     }
