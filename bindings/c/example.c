@@ -10,6 +10,10 @@ int main(void)
     const char *query = "SELECT * FROM t WHERE id = :id AND name = :name";
     const uint8_t *query_bytes = (const uint8_t *)query;
 
+    if (!mysql_params_processor_suffices()) {
+        fprintf(stderr, "the processor lacks a feature of x86-64-v2\n");
+        return 1;
+    }
     mysql_params_report report = {0};
     int32_t construct = mysql_params_first_unportable(query_bytes, strlen(query), false, &report);
     if (construct != MYSQL_PARAMS_PORTABLE) {
@@ -36,7 +40,9 @@ int main(void)
         fprintf(stderr, "%s\n", line);
         return 1;
     }
-    fwrite(text, 1, report.len, stdout);
-    putchar('\n');
+    if (fwrite(text, 1, report.len, stdout) != report.len || putchar('\n') == EOF || fflush(stdout) != 0) {
+        fprintf(stderr, "the text can't be written\n");
+        return 1;
+    }
     return 0;
 }

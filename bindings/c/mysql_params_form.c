@@ -1,9 +1,13 @@
-/* The flat form written, answers taken apart, refusals and constructs told: see mysql_params_form.h. */
+/* The flat form written, answers taken apart, refusals and constructs told, the processor asked: see
+ * mysql_params_form.h. It is C and C++. */
 #include "mysql_params_form.h"
 
 #include <stdarg.h>
 #include <stdio.h>
 #include <string.h>
+#if defined(__x86_64__) && defined(__GNUC__)
+#include <cpuid.h>
+#endif
 
 /* Numbers of column types in the protocol. */
 enum {
@@ -206,13 +210,11 @@ static void append_text(line *to, const char *format, ...)
         append_byte(to, *byte);
 }
 
-/* Appends the name that a report tells: a byte that is not printable ASCII, `"` and `\` as `\x` and two digits. */
-static void append_name(line *to, const mysql_params_report *report, const uint8_t *source, size_t source_len)
+/* Appends bytes as messages show them: one that is not printable ASCII, `"` and `\` as `\x` and two digits. */
+static void append_shown(line *to, const uint8_t *bytes, size_t len)
 {
-    if (report->position > source_len || report->len > source_len - report->position)
-        return;
-    for (size_t i = 0; i < report->len; i++) {
-        uint8_t byte = source[report->position + i];
+    for (size_t i = 0; i < len; i++) {
+        uint8_t byte = bytes[i];
         if (byte < 32 || byte > 126 || byte == '"' || byte == '\\')
             append_text(to, "\\x%02x", (unsigned)byte);
         else
@@ -220,14 +222,29 @@ static void append_name(line *to, const mysql_params_report *report, const uint8
     }
 }
 
-/* Messages of the numbers that have no field, and else null. */
-static const char *const FIXED_MESSAGES[] = {
-    [MYSQL_PARAMS_OUT_OF_MEMORY] = "out of memory",
-    [MYSQL_PARAMS_MIXED] = "Named and positional params in one query",
-    [MYSQL_PARAMS_NAMED_FOR_POSITIONAL] = "Named params given where positional params are expected",
-    [MYSQL_PARAMS_POSITIONAL_FOR_NAMED] = "Positional params given where named params are expected",
-    [MYSQL_PARAMS_FLOAT] = NULL,
-};
+/* Appends the name that a report tells, if it stands in the source. */
+static void append_name(line *to, const mysql_params_report *report, const uint8_t *source, size_t source_len)
+{
+    if (report->position <= source_len && report->len <= source_len - report->position)
+        append_shown(to, source + report->position, report->len);
+}
+
+/* Returns the message of a number that has no field, or null for any other. */
+static const char *fixed_message(int32_t number)
+{
+    switch (number) {
+    case MYSQL_PARAMS_OUT_OF_MEMORY:
+        return "out of memory";
+    case MYSQL_PARAMS_MIXED:
+        return "Named and positional params in one query";
+    case MYSQL_PARAMS_NAMED_FOR_POSITIONAL:
+        return "Named params given where positional params are expected";
+    case MYSQL_PARAMS_POSITIONAL_FOR_NAMED:
+        return "Positional params given where named params are expected";
+    default:
+        return NULL;
+    }
+}
 
 /* Returns what is wrong with a parameter of the form, or null where the number says something else. */
 static const char *fault_of_form(int32_t number)
@@ -285,14 +302,15 @@ static void append_message(line *to, int32_t number, const mysql_params_report *
                            const uint8_t *source, size_t source_len)
 {
     const char *fault = fault_of_form(number);
+    const char *fixed = fixed_message(number);
     if (fault != NULL) {
         append_text(to, "Parameter %zu at byte %zu of the form: %s", report->place, report->position, fault);
         if (number == MYSQL_PARAMS_FORM_LENGTH_LEAD || number == MYSQL_PARAMS_FORM_TYPE)
             append_text(to, " %zu", report->byte);
     } else if (number == MYSQL_PARAMS_MISSING || number == MYSQL_PARAMS_FORM_REPEATED) {
         append_of_name(to, number, report, source, source_len);
-    } else if (number >= 0 && number <= MYSQL_PARAMS_FLOAT && FIXED_MESSAGES[number] != NULL) {
-        append_text(to, "%s", FIXED_MESSAGES[number]);
+    } else if (fixed != NULL) {
+        append_text(to, "%s", fixed);
     } else {
         append_of_numbers(to, number, report);
     }
@@ -309,23 +327,41 @@ size_t mysql_params_message(int32_t number, const mysql_params_report *report,
     return to.len;
 }
 
-/* Messages of the constructs, and else null. */
-static const char *const CONSTRUCT_MESSAGES[] = {
-    [MYSQL_PARAMS_EXECUTABLE_COMMENT] = "`/*!` is executed or skipped: write its text without it, or leave it out",
-    [MYSQL_PARAMS_HINT] = "`/*+` is a hint or a comment: leave it out, or write a space before the `+`",
-    [MYSQL_PARAMS_MARIADB_COMMENT] = "`/*M!` is executed or a comment: leave it out, or write a space before the `M`",
-    [MYSQL_PARAMS_DASHES] = "`--` is a comment or two signs here: write a space between them, or after them",
-    [MYSQL_PARAMS_ESCAPED_QUOTE] = "`\\\"` may end an identifier here: write `\"\"`, or the text in `'`",
-    [MYSQL_PARAMS_BRACKET] = "`[` may open an identifier: write the name in backquotes",
-    [MYSQL_PARAMS_DOLLAR_QUOTE] = "`$$` and `$tag$` may open a string: write it in `'`, or a name in backquotes",
-    [MYSQL_PARAMS_DASHES_AFTER_EXPONENT] =
-        "`--` after `.e` may open no comment: write the exponent's digits, or a space first",
-    [MYSQL_PARAMS_PLACE_AFTER_EXPONENT] = "a value's digits would join this number: write a space before the place",
-};
-
 const char *mysql_params_construct_message(int32_t construct)
 {
-    if (construct < 0 || construct > MYSQL_PARAMS_PLACE_AFTER_EXPONENT)
+    switch (construct) {
+    case MYSQL_PARAMS_EXECUTABLE_COMMENT:
+        return "`/*!` is executed or skipped: write its text without it, or leave it out";
+    case MYSQL_PARAMS_HINT:
+        return "`/*+` is a hint or a comment: leave it out, or write a space before the `+`";
+    case MYSQL_PARAMS_MARIADB_COMMENT:
+        return "`/*M!` is executed or a comment: leave it out, or write a space before the `M`";
+    case MYSQL_PARAMS_DASHES:
+        return "`--` is a comment or two signs here: write a space between them, or after them";
+    case MYSQL_PARAMS_ESCAPED_QUOTE:
+        return "`\\\"` may end an identifier here: write `\"\"`, or the text in `'`";
+    case MYSQL_PARAMS_BRACKET:
+        return "`[` may open an identifier: write the name in backquotes";
+    case MYSQL_PARAMS_DOLLAR_QUOTE:
+        return "`$$` and `$tag$` may open a string: write it in `'`, or a name in backquotes";
+    case MYSQL_PARAMS_DASHES_AFTER_EXPONENT:
+        return "`--` after `.e` may open no comment: write the exponent's digits, or a space first";
+    case MYSQL_PARAMS_PLACE_AFTER_EXPONENT:
+        return "a value's digits would join this number: write a space before the place";
+    default:
         return NULL;
-    return CONSTRUCT_MESSAGES[construct];
+    }
+}
+
+bool mysql_params_processor_suffices(void)
+{
+#if defined(__x86_64__) && defined(__GNUC__)
+    unsigned eax, ebx, ecx, edx;
+    const unsigned wanted = bit_SSE3 | bit_SSSE3 | bit_CMPXCHG16B | bit_SSE4_1 | bit_SSE4_2 | bit_POPCNT;
+    if (__get_cpuid(1, &eax, &ebx, &ecx, &edx) == 0 || (ecx & wanted) != wanted)
+        return false;
+    return __get_cpuid(0x80000001, &eax, &ebx, &ecx, &edx) != 0 && (ecx & bit_LAHF_LM) != 0;
+#else
+    return true;
+#endif
 }

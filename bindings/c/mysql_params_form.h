@@ -1,6 +1,6 @@
-/* mysql_params_form.h: parameters written as the flat form that mysql_params_bind reads, answers taken apart, and
- * refusals and constructs told in a line. Plain C, without memory of its own: compile mysql_params_form.c with your
- * program. It is tested, not proved. */
+/* mysql_params_form.h: parameters written as the flat form that mysql_params_bind reads, answers taken apart, refusals
+ * and constructs told in a line, and the processor asked. Plain C and C++, without memory of its own: compile
+ * mysql_params_form.c with your program. It is tested, not proved. */
 #ifndef MYSQL_PARAMS_FORM_H
 #define MYSQL_PARAMS_FORM_H
 
@@ -52,7 +52,10 @@ mysql_params_form mysql_params_form_in(uint8_t *room, size_t room_len);
 
 /* The functions below append one parameter. `name` is the name without a colon, ended by a zero byte; null or "" gives
  * the parameter by position. Each returns true where this and all earlier parameters stand in the room. Else it has
- * written nothing, and later calls write nothing either: they go on counting `needed`. */
+ * written nothing, and later calls write nothing either: they go on counting `needed`.
+ *
+ * Neither the name nor the bytes nor the text may overlap the room: other bytes would be appended without a word. To
+ * append what was read into the room, as from a socket, give the form another room. */
 
 /* Appends NULL. */
 bool mysql_params_append_null(mysql_params_form *form, const char *name);
@@ -75,7 +78,9 @@ bool mysql_params_append_date(mysql_params_form *form, const char *name, mysql_p
 /* Appends a span of time. */
 bool mysql_params_append_time(mysql_params_form *form, const char *name, mysql_params_time time);
 
-/* Appends a floating-point number. Binding refuses it as MYSQL_PARAMS_FLOAT where the query has a place for it. */
+/* Appends a floating-point number. Binding refuses it as MYSQL_PARAMS_FLOAT where the query has a place for it. For a
+ * decimal append its text, and write CAST(:p AS DECIMAL(20,2)) in the query: a text in arithmetic is computed as a
+ * double. */
 bool mysql_params_append_double(mysql_params_form *form, const char *name, double number);
 
 /* Bytes within an answer of mysql_params_names. */
@@ -99,6 +104,11 @@ size_t mysql_params_message(int32_t number, const mysql_params_report *report,
 /* Returns what a number of enum mysql_params_construct says, with what to write instead: one line of printable ASCII,
  * ended by a zero byte. Null for MYSQL_PARAMS_PORTABLE, and for what is no number of that enum. */
 const char *mysql_params_construct_message(int32_t construct);
+
+/* Returns whether the processor has what the archive is compiled for, x86-64-v2. Where it is false, a call of the
+ * archive may end the process with SIGILL: ask it once, before the first. Where the compiler has no way to ask, it is
+ * true. */
+bool mysql_params_processor_suffices(void);
 
 #ifdef __cplusplus
 }

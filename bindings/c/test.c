@@ -476,6 +476,12 @@ static void other_messages(void)
     }
 }
 
+static void the_processor(void)
+{
+    test_case it = {0};
+    expect(mysql_params_processor_suffices(), &it, "it runs the archive, and doesn't suffice");
+}
+
 /* Each allocation of a call is refused once: then the answer is out of memory, and the room is as before. */
 static void try_without_memory(const test_case *it)
 {
@@ -542,6 +548,7 @@ int main(int count, char **words)
     all &= passed("broken_answers", broken_answers);
     all &= passed("cut_messages", cut_messages);
     all &= passed("other_messages", other_messages);
+    all &= passed("the_processor", the_processor);
     all &= passed("out_of_memory", out_of_memory);
     return all ? 0 : 1;
 }
