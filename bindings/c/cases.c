@@ -172,7 +172,7 @@ static int32_t number_of(const char *name)
     return index_of(name, NUMBERS, 0, MYSQL_PARAMS_FLOAT);
 }
 
-/* Reads one FIELD=VALUE of a refusal or a construct. */
+/* Reads one FIELD=VALUE of a refusal or a construct. What Rust and Python tell alone is read over. */
 static void read_field(test_case *it, char *field)
 {
     char *value = strchr(field, '=');
@@ -193,7 +193,7 @@ static void read_field(test_case *it, char *field)
         it->report.values = number;
     else if (strcmp(field, "byte") == 0)
         it->report.byte = number;
-    else
+    else if (strcmp(field, "word") != 0 && strcmp(field, "of") != 0)
         stop("this field is not known");
 }
 
@@ -235,7 +235,10 @@ static void read_line(test_case *it, const char *word, char *text)
         append_string(&it->answer, whole.at, whole.len);
     } else if (strcmp(word, "message") == 0)
         append_text(&it->message, text);
-    else if (strcmp(word, "refused") == 0)
+    else if (strcmp(word, "message_in_c") == 0) {
+        clear_bytes(&it->message);
+        append_text(&it->message, text);
+    } else if (strcmp(word, "refused") == 0)
         read_named(it, text, number_of);
     else if (strcmp(word, "unportable") == 0)
         read_named(it, text, construct_of);

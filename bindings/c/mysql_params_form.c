@@ -229,6 +229,55 @@ static void append_name(line *to, const mysql_params_report *report, const uint8
         append_shown(to, source + report->position, report->len);
 }
 
+/* Returns whether a byte is one of those that names are of. */
+static bool is_of_names(uint8_t byte)
+{
+    return (byte >= 'a' && byte <= 'z') || (byte >= '0' && byte <= '9') || byte == '_';
+}
+
+/* Returns whether a byte is a letter that no name has: a capital, or of a letter outside ASCII. */
+static bool is_other_letter(uint8_t byte)
+{
+    return (byte >= 'A' && byte <= 'Z') || byte >= 128;
+}
+
+/* Appends what names are of, if a letter that none has stands directly after the name that begins at a byte. */
+static void append_alphabet(line *to, const uint8_t *query, size_t query_len, size_t begin)
+{
+    size_t name_end = begin;
+    while (name_end < query_len && is_of_names(query[name_end]))
+        name_end++;
+    size_t word_end = name_end;
+    while (word_end < query_len && (is_of_names(query[word_end]) || is_other_letter(query[word_end])))
+        word_end++;
+    if (word_end == name_end)
+        return;
+    append_text(to, ": names are of a to z, 0 to 9 and _, so `:");
+    append_shown(to, query + begin, word_end - begin);
+    append_text(to, name_end == begin ? "` is none" : "` ends after `");
+    append_shown(to, query + begin, name_end - begin);
+    if (name_end > begin)
+        append_byte(to, '`');
+}
+
+/* Appends what names are of, where that may be why the query is refused. */
+static void append_hint(line *to, int32_t number, const mysql_params_report *report,
+                        const uint8_t *query, size_t query_len)
+{
+    size_t at = report->position;
+    if (number == MYSQL_PARAMS_MISSING) {
+        append_alphabet(to, query, query_len, at);
+    } else if (number == MYSQL_PARAMS_NOT_ALONE && at < query_len && query[at] == ':') {
+        append_alphabet(to, query, query_len, at + 1);
+    } else if (number == MYSQL_PARAMS_NAMED_FOR_POSITIONAL) {
+        for (at = 1; at < query_len; at++)
+            if (query[at - 1] == ':' && is_other_letter(query[at])) {
+                append_alphabet(to, query, query_len, at);
+                return;
+            }
+    }
+}
+
 /* Returns the message of a number that has no field, or null for any other. */
 static const char *fixed_message(int32_t number)
 {
@@ -322,6 +371,7 @@ size_t mysql_params_message(int32_t number, const mysql_params_report *report,
 {
     line to = {line_room, line_len, 0};
     append_message(&to, number, report, source, source_len);
+    append_hint(&to, number, report, source, source_len);
     if (line_len > 0)
         line_room[to.len < line_len ? to.len : line_len - 1] = '\0';
     return to.len;

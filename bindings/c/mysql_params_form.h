@@ -94,9 +94,11 @@ typedef struct mysql_params_string {
 bool mysql_params_next_string(const uint8_t **answer, size_t *len, mysql_params_string *string);
 
 /* Writes what a number and its report say into `line`: one line of printable ASCII, ended by a zero byte, cut to
- * `line_len` bytes with that byte. `source`, of `source_len` bytes, is where the name stands that is told: the form for
- * MYSQL_PARAMS_FORM_REPEATED, the query for MYSQL_PARAMS_MISSING. For all others it isn't read. Returns the length of the
- * whole line without the zero byte. */
+ * `line_len` bytes with that byte. `source`, of `source_len` bytes, is the form for MYSQL_PARAMS_FORM_REPEATED, else
+ * the query; without any (null and 0) a name is left out. For MYSQL_PARAMS_MISSING, _NOT_ALONE and
+ * _NAMED_FOR_POSITIONAL the line also says what names are of, where a letter that none has stands directly after a name
+ * or in place of one: of `:userId` that it ends after `user`. Returns the length of the whole line without the zero
+ * byte. */
 size_t mysql_params_message(int32_t number, const mysql_params_report *report,
                             const uint8_t *source, size_t source_len,
                             char *line, size_t line_len);

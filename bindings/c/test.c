@@ -476,6 +476,30 @@ static void other_messages(void)
     }
 }
 
+/* What is said of a letter beside a name reads no byte outside the query, wherever the report points. */
+static void words_of_cut_queries(void)
+{
+    static const size_t positions[] = {0, 1, 2, 3, 4, SIZE_MAX - 1, SIZE_MAX};
+    static const int32_t numbers[] = {MYSQL_PARAMS_MISSING, MYSQL_PARAMS_NOT_ALONE, MYSQL_PARAMS_NAMED_FOR_POSITIONAL};
+    for (size_t len = 0; len <= 3; len++) {
+        uint8_t *query = exact_copy((bytes){(uint8_t *)":aB", len});
+        for (size_t i = 0; i < 7 * 3; i++) {
+            char line[128];
+            int32_t number = numbers[i % 3];
+            test_case it = {0};
+            it.line = (int)(100 * len + i);
+            mysql_params_report report = {0};
+            report.position = positions[i / 3];
+            mysql_params_message(number, &report, query, len, line, sizeof line);
+            bool of_place = number == MYSQL_PARAMS_NOT_ALONE && report.position == 0;
+            bool of_name = number == MYSQL_PARAMS_MISSING && (report.position == 1 || report.position == 2);
+            bool wanted = len == 3 && (of_place || of_name);
+            expect((strstr(line, "names are of") != NULL) == wanted, &it, line);
+        }
+        free(query);
+    }
+}
+
 static void the_processor(void)
 {
     test_case it = {0};
@@ -548,6 +572,7 @@ int main(int count, char **words)
     all &= passed("broken_answers", broken_answers);
     all &= passed("cut_messages", cut_messages);
     all &= passed("other_messages", other_messages);
+    all &= passed("words_of_cut_queries", words_of_cut_queries);
     all &= passed("the_processor", the_processor);
     all &= passed("out_of_memory", out_of_memory);
     return all ? 0 : 1;

@@ -2,8 +2,10 @@
 
 import ctypes
 import datetime
+import decimal
 import doctest
 import enum
+import gc
 import os
 import pathlib
 import pickle
@@ -14,7 +16,7 @@ import unittest
 from unittest import mock
 
 import mysql_params
-from mysql_params import Construct, bind, bind_form, first_unportable, names
+from mysql_params import Construct, _archive, bind, bind_form, first_unportable, names
 
 CASES = pathlib.Path(__file__).resolve().parent.parent / "cases"
 
@@ -108,6 +110,8 @@ class Case:
             self.names.append(rest)
         elif word == "message":
             self.message = rest
+        elif word == "message_in_c":
+            pass
         elif word == "refused":
             self.refusal, *fields = rest.split(" ")
             self.fields = dict(field.split("=") for field in fields)
@@ -179,6 +183,10 @@ class Test(unittest.TestCase):
             self.assertEqual(error.args, arguments)
             for field, argument in zip(FIELDS.get(case.refusal, ()), arguments):
                 self.assertEqual(getattr(error, field), argument)
+            word = case.fields.get("word")
+            self.assertEqual(getattr(error, "word", None), None if word is None else text_of(word))
+            if case.refusal == "FLOAT":
+                self.assertEqual(error.name, case.fields.get("of"))
             if case.message is not None:
                 self.assertEqual(str(error), case.message)
 
@@ -220,7 +228,7 @@ class Test(unittest.TestCase):
                 self.expect_construct(case, first_unportable(case.query, case.no_backslash_escape))
                 if not case.no_backslash_escape:
                     self.expect_construct(case, first_unportable(case.query))
-                number, report = mysql_params._first_unportable(case.query, case.no_backslash_escape)
+                number, report = _archive.first_unportable(case.query, case.no_backslash_escape)
                 self.assertEqual(number, 0 if case.portable else 1 + CONSTRUCTS.index(case.construct))
                 fields = {name: getattr(report, name) for name, _ in report._fields_}
                 wanted = dict.fromkeys(fields, 0)
@@ -236,10 +244,10 @@ class Test(unittest.TestCase):
         self.assertEqual(first_unportable(bytearray(b"'a\\' ["), no_backslash_escape=True), (Construct.BRACKET, 5))
         copy = pickle.loads(pickle.dumps(found))
         self.assertIs(copy.construct, Construct.BRACKET)
-        report = mysql_params._Report()
+        report = _archive.Report()
         for number in (-1, 10):
             with self.subTest(number=number), self.assertRaises(RuntimeError):
-                mysql_params._unportable(number, report)
+                _archive.unportable(number, report)
         for query in (None, 5):
             with self.subTest(query=query), self.assertRaises(TypeError):
                 first_unportable(query)
@@ -252,9 +260,9 @@ class Test(unittest.TestCase):
     def test_answers_that_end_within_a_string(self):
         for broken in (b"\x02a", b"\xfb", b"\xffa", b"\xfc\x01", b"\xfc\x01\x00", b"\xfe" + b"\xff" * 8 + b"a"):
             with self.subTest(answer=broken), self.assertRaises(RuntimeError):
-                mysql_params._next_string(broken, 0)
-        self.assertEqual(mysql_params._next_string(b"\x01ab", 0), (b"a", 2))
-        self.assertEqual(mysql_params._next_string(b"?\xfc\x01\x00ab", 1), (b"a", 5))
+                _archive.next_string(broken, 0)
+        self.assertEqual(_archive.next_string(b"\x01ab", 0), (b"a", 2))
+        self.assertEqual(_archive.next_string(b"?\xfc\x01\x00ab", 1), (b"a", 5))
 
     def test_each_value_of_one_byte(self):
         for byte in range(256):
@@ -269,10 +277,10 @@ class Test(unittest.TestCase):
 
     def lend(self, query, form, room_len):
         """Call with a room of a length, within memory that is checked on both sides."""
-        memory = ctypes.create_string_buffer(bytes([UNTOUCHED]) * (room_len + 8), room_len + 8)
-        number, report = mysql_params._call(query, form, False, memory, room_len)
+        memory = bytearray([UNTOUCHED]) * (room_len + 8)
+        number, report = _archive.call(query, form, False, memory, room_len)
         fields = {name: getattr(report, name) for name, _ in report._fields_ if getattr(report, name) != 0}
-        return number, fields, memory.raw
+        return number, fields, bytes(memory)
 
     def test_rooms_that_are_lent(self):
         calls = [(case.query, case.form, case.text) for case in cases("forms.txt") if case.refusal is None]
@@ -311,25 +319,24 @@ class Test(unittest.TestCase):
         self.assertEqual(text, b",".join([b"'" + b"\\'" * 300 + b"'"] * 100))
         self.assertEqual(names(",".join([":a"] * 1000)), (b",".join([b"?"] * 1000), ["a"] * 1000))
 
-    def test_answers_beyond_4_gibibytes(self):
-        # As a C int the length would be 5, and a text without its end would come back. The room is shorter than the
-        # length that is told, so all of the room comes back.
-        report = mysql_params._Report(len=(1 << 32) + 5)
-        with mock.patch.object(mysql_params, "_call", return_value=(0, report)):
-            self.assertGreater(len(bind("SELECT ?", [1])), 5)
+    def test_answers_longer_than_the_room(self):
+        # No archive of ours says so. The second would be 5 as a C int.
+        for length in (75, (1 << 32) + 5, (1 << 64) - 1):
+            report = _archive.Report(len=length)
+            with self.subTest(length=length), mock.patch.object(_archive, "call", return_value=(0, report)):
+                with self.assertRaisesRegex(RuntimeError, f"wrote {length} bytes, and had room for 74$"):
+                    names("SELECT 123")
 
     def test_rooms_without_memory(self):
-        create = ctypes.create_string_buffer
-
         def up_to(longest):
-            """Let no room be made that is longer."""
+            """Let no room be made that is longer, but for its one byte more."""
 
             def made(length):
-                if length > longest:
+                if length > longest + 1:
                     raise MemoryError
-                return create(length)
+                return bytearray(length)
 
-            return mock.patch.object(ctypes, "create_string_buffer", made)
+            return mock.patch.object(_archive, "bytearray", made, create=True)
 
         # The first room is longer than the answer, for which there is memory.
         with up_to(8):
@@ -341,6 +348,18 @@ class Test(unittest.TestCase):
                     with self.assertRaises(mysql_params.OutOfMemoryError) as raised:
                         call()
                     self.assertEqual((str(raised.exception), raised.exception.args), ("out of memory", ()))
+        with self.assertRaises(mysql_params.OutOfMemoryError):
+            _archive.new_room(sys.maxsize)
+
+    def test_rooms_leave_no_type_behind(self):
+        # An array type of ctypes is kept until the garbage collector runs.
+        gc.disable()
+        self.addCleanup(gc.enable)
+        before = len(ctypes.Array.__subclasses__())
+        for length in range(1000, 1100):
+            bind("?", ["x" * length])
+            names(" " * length)
+        self.assertEqual(len(ctypes.Array.__subclasses__()), before)
 
     def test_values_of_own_types(self):
         class Color(enum.IntEnum):
@@ -391,6 +410,94 @@ class Test(unittest.TestCase):
         with self.assertRaises(ValueError):
             bind("SELECT :a", {lying(b"", 1): 1})
         self.assertEqual(bind(Text("SELECT :a, :b"), {Text("a"): Text("y"), "b": Number(5)}), b"SELECT 'y', 5")
+
+    def test_buffers_that_lie(self):
+        # From Python 3.12 on a subclass can say what its buffer is.
+        class Bytes(bytes):
+            def __buffer__(self, flags):
+                return memoryview(b"lie")
+
+        class Array(bytearray):
+            def __buffer__(self, flags):
+                return memoryview(b"lie")
+
+        for kind in (Bytes, Array):
+            with self.subTest(kind=kind.__name__):
+                self.assertEqual(bind("?", [kind(b"x'")]), b"'x\\''")
+                self.assertEqual(bind(kind(b"SELECT :a"), {"a": 1}), b"SELECT 1")
+                self.assertEqual(names(kind(b":a")), (b"?", ["a"]))
+                self.assertEqual(bind_form("?", kind(b"\0\x06\0")), b"NULL")
+                self.assertIsNone(first_unportable(kind(b"?")))
+        self.assertEqual(bind(":a", {Bytes(b"a"): 1}), b"1")
+
+    def test_classes_that_lie(self):
+        for told in (int, float, str, bytes, bytearray, datetime.date, datetime.datetime, datetime.timedelta):
+            class Liar:
+                __class__ = told
+
+            with self.subTest(told=told.__name__):
+                with self.assertRaisesRegex(TypeError, "^the value of `:a` is of type Liar, which has no literal$"):
+                    bind(":a", {"a": Liar()})
+                for call in (names, first_unportable, bind, lambda liar: bind_form("?", liar)):
+                    with self.assertRaises(TypeError):
+                        call(Liar())
+
+    def test_messages_of_values(self):
+        aware = datetime.datetime(2019, 11, 27, tzinfo=datetime.timezone.utc)
+        a_list = "a list, which has no literal: write a place for each of its values"
+        wide = "a whole number of more than 64 bits: give str(..) of it, and write CAST({} AS DECIMAL(65,0))"
+        price = "a Decimal, which has no literal: give str(..) of it, and write CAST({} AS DECIMAL(20,2))"
+        double = ": a text in arithmetic is a double"
+        for value, kind, message in (
+            ([1, 2], TypeError, a_list),
+            (1j, TypeError, "of type complex, which has no literal"),
+            (1 << 64, OverflowError, wide + double),
+            (-(1 << 63) - 1, OverflowError, wide + double),
+            (decimal.Decimal("0.01"), TypeError, price + double),
+            (aware, TypeError, "a datetime with a time zone: convert it to a naive one"),
+        ):
+            for params, place in (({"a": None, "ids": value}, ":ids"), ([None, value], "?")):
+                with self.subTest(value=value, place=place), self.assertRaises(kind) as raised:
+                    bind("SELECT 1", params)
+                which = "the value of `:ids` is " if place == ":ids" else "the value for place 1 is "
+                self.assertEqual(str(raised.exception), which + message.format(place))
+        for params, message in (
+            ({"a": "\ud800"}, "surrogates not allowed, in the value of `:a`"),
+            (["", "\ud800"], "surrogates not allowed, in the value for place 1"),
+        ):
+            with self.assertRaises(UnicodeEncodeError) as raised:
+                bind("SELECT 1", params)
+            self.assertEqual(raised.exception.reason, message)
+        for params, kind, message in (
+            ({"a": 1, "": 1}, ValueError, "Parameter 1 has an empty name"),
+            ({7: 1}, TypeError, "a name is str or bytes, and 7 is of type int"),
+            ({"\n\u00e4": 1j}, TypeError, "the value of `:\\x0a\\xc3\\xa4` is of type complex, which has no literal"),
+        ):
+            with self.assertRaises(kind) as raised:
+                bind("SELECT 1", params)
+            self.assertEqual(str(raised.exception), message)
+
+    def test_what_errors_tell_beside_their_fields(self):
+        with self.assertRaises(mysql_params.FloatError) as raised:
+            bind(":a, :b", {"a": 1, "b": 1.5})
+        self.assertEqual((raised.exception.place, raised.exception.name), (1, "b"))
+        with self.assertRaises(mysql_params.FloatError) as raised:
+            bind("?", [1.5])
+        self.assertIsNone(raised.exception.name)
+        with self.assertRaises(mysql_params.FloatError) as raised:
+            bind("'a\\', :a, '", {"a": 1.5}, no_backslash_escape=True)
+        self.assertEqual(raised.exception.name, "a")
+        for query, params, word in (
+            (":userId", {"userId": 1}, b"userId"),
+            (":userId", {"user": 1}, b"userId"),
+            (":UserId", {"UserId": 1}, b"UserId"),
+            (":user-:Id", {"userId": 1}, None),
+            ("x:user", {"user": 1}, None),
+            ("?", {"user": 1}, None),
+        ):
+            with self.subTest(query=query, params=params), self.assertRaises(mysql_params.Error) as raised:
+                bind(query, params)
+            self.assertEqual(raised.exception.word, word)
 
     def test_dates_and_spans_with_fields_of_no_date(self):
         class Undated(datetime.datetime):
@@ -458,24 +565,38 @@ class Test(unittest.TestCase):
                 self.assertEqual(str(raised.exception), f"no_backslash_escape is True or False, and not {mode!r}")
 
     def test_paths_of_the_library(self):
-        library = pathlib.Path(mysql_params._LIBRARY._name).resolve()
+        library = pathlib.Path(_archive.LIBRARY._name).resolve()
         beside = pathlib.Path(mysql_params.__file__).resolve().parent / "libmysql_params_c.so"
         self.addCleanup(os.chdir, os.getcwd())
         os.chdir(library.parent)
         for given, wanted in ((str(library), library), (library.name, library), ("", beside)):
             with self.subTest(given=given), mock.patch.dict(os.environ, MYSQL_PARAMS_LIBRARY=given):
                 with mock.patch.object(ctypes, "CDLL") as load:
-                    mysql_params._library()
+                    _archive.load()
                 load.assert_called_once_with(str(wanted))
 
     def test_libraries_that_cannot_be_used(self):
         wanted = "Set MYSQL_PARAMS_LIBRARY to the path of libmysql_params_c.so"
         with mock.patch.dict(os.environ, MYSQL_PARAMS_LIBRARY=os.path.join(os.curdir, "no such file.so")):
             with self.assertRaisesRegex(ImportError, wanted):
-                mysql_params._library()
+                _archive.load()
+        # A path that isn't UTF-8, which the loader's message holds.
+        with mock.patch.dict(os.environ, MYSQL_PARAMS_LIBRARY=os.fsdecode(b"/no\xff.so")):
+            with self.assertRaisesRegex(ImportError, wanted):
+                _archive.load()
         # One without the functions, as an older library lacks some.
         with mock.patch.object(ctypes, "CDLL", return_value=object()), self.assertRaisesRegex(ImportError, wanted):
-            mysql_params._library()
+            _archive.load()
+
+    def test_processors_that_do_not_suffice(self):
+        with mock.patch.object(ctypes, "CDLL") as load:
+            load.return_value.mysql_params_processor_suffices.return_value = False
+            with self.assertRaisesRegex(ImportError, "^the processor lacks a feature of x86-64-v2 "):
+                _archive.load()
+
+    def test_version(self):
+        cargo = (CASES.parent / "rust" / "Cargo.toml").read_text()
+        self.assertIn(f'version = "{mysql_params.__version__}"', cargo)
 
     def test_nothing_given(self):
         for nothing in (None, [], (), {}):
@@ -483,16 +604,18 @@ class Test(unittest.TestCase):
         self.assertEqual(bind("SELECT 1"), b"SELECT 1")
 
     def test_numbers_that_come_by_fault_alone(self):
-        report = mysql_params._Report()
-        error = mysql_params._error(1, report, b"", b"")
+        report = _archive.Report()
+        error = _archive.error(1, report, b"", b"")
         self.assertIsInstance(error, mysql_params.OutOfMemoryError)
         self.assertIsInstance(error, MemoryError)
         self.assertEqual((str(error), error.args), ("out of memory", ()))
         for number in (-1, 0, 2, 15):
-            self.assertIs(type(mysql_params._error(number, report, b"", b"")), RuntimeError)
+            self.assertIs(type(_archive.error(number, report, b"", b"")), RuntimeError)
 
     def test_errors_are_pickled(self):
-        for error in (mysql_params.MissingError(1, 5, b"b"), mysql_params.MixedError()):
+        word, place = mysql_params.MissingError(1, 5, b"b"), mysql_params.FloatError(1)
+        word.word, place.name = b"bA", "b"
+        for error in (mysql_params.MissingError(1, 5, b"b"), mysql_params.MixedError(), word, place):
             copy = pickle.loads(pickle.dumps(error))
             self.assertEqual((type(copy), copy.args, str(copy)), (type(error), error.args, str(error)))
 

@@ -1,33 +1,43 @@
 //! Links the archive that the environment variable MYSQL_PARAMS_ARCHIVE names.
-use std::path::PathBuf;
+use std::path::{Path, PathBuf};
 use std::process::exit;
 
 const VARIABLE: &str = "MYSQL_PARAMS_ARCHIVE";
 
 /// Folder and name of the archive, or what is wrong with the variable.
-fn archive() -> Result<(PathBuf, String), String> {
+fn archive() -> Result<(String, String), String> {
     let path = std::env::var_os(VARIABLE).ok_or(
         "it isn't set. It is the path of libmysql_params_c.a, which `bindings/build FOLDER` makes",
     )?;
     let path = PathBuf::from(path);
     // Cargo runs this in the crate's folder.
-    let hint = if path.is_relative() { ". Give the whole path" } else { "" };
+    let hint = if path.is_relative() {
+        ". Give the whole path"
+    } else {
+        ""
+    };
     let whole = path
         .canonicalize()
         .map_err(|error| format!("{}: {error}{hint}", path.display()))?;
-    let folder = whole.parent().ok_or("it is no file")?;
-    let name = whole.file_name().and_then(|name| name.to_str());
-    let name = name.and_then(|name| name.strip_prefix("lib")?.strip_suffix(".a"));
+    // Cargo reads lines of UTF-8.
+    let whole = whole.to_str().filter(|whole| !whole.contains(['\n', '\r']));
+    let whole = whole.ok_or(format!("{path:?}: its whole path isn't UTF-8 in one line"))?;
+    let folder = Path::new(whole).parent().and_then(Path::to_str);
+    let folder = folder.ok_or("it is no file")?;
+    let file = whole.rsplit('/').next().unwrap_or("");
+    let name = file
+        .strip_prefix("lib")
+        .and_then(|name| name.strip_suffix(".a"));
     let name = name.ok_or(format!("{}: it isn't named libNAME.a", path.display()))?;
-    println!("cargo:rerun-if-changed={}", whole.display());
-    Ok((folder.to_path_buf(), name.to_string()))
+    println!("cargo:rerun-if-changed={whole}");
+    Ok((folder.to_string(), name.to_string()))
 }
 
 fn main() {
     println!("cargo:rerun-if-env-changed={VARIABLE}");
     match archive() {
         Ok((folder, name)) => {
-            println!("cargo:rustc-link-search=native={}", folder.display());
+            println!("cargo:rustc-link-search=native={folder}");
             println!("cargo:rustc-link-lib=static={name}");
         }
         Err(fault) => {

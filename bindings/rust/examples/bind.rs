@@ -2,12 +2,12 @@
 //! that servers read in different ways is refused.
 use mysql_params::{Params, Value, bind, first_unportable};
 use std::io::Write;
+use std::process::ExitCode;
 
-fn main() -> Result<(), Box<dyn std::error::Error>> {
+fn run() -> Result<(), Box<dyn std::error::Error>> {
     let query = b"SELECT * FROM t WHERE id = :id AND name = :name";
     if let Some(found) = first_unportable(query)? {
-        let (position, message) = (found.position, found.construct);
-        return Err(format!("not portable at byte {position}: {message}").into());
+        return Err(found.into());
     }
 
     let name = "x' OR '1'='1";
@@ -16,4 +16,14 @@ fn main() -> Result<(), Box<dyn std::error::Error>> {
     text.push(b'\n');
     std::io::stdout().write_all(&text)?;
     Ok(())
+}
+
+fn main() -> ExitCode {
+    match run() {
+        Ok(()) => ExitCode::SUCCESS,
+        Err(error) => {
+            eprintln!("{error}");
+            ExitCode::FAILURE
+        }
+    }
 }

@@ -1,5 +1,6 @@
 //! The calls of the archive for either mode, and their answers.
-use crate::{Construct, Error, Unportable};
+use crate::{Construct, Error, Unportable, names_in, words};
+use std::arch::is_x86_feature_detected;
 
 /// What a call says beside its number: `mysql_params_report` of mysql_params.h.
 #[repr(C)]
@@ -48,6 +49,14 @@ pub(crate) const DONE: i32 = 0;
 /// The room is too short for the answer.
 pub(crate) const ROOM: i32 = 2;
 
+/// Whether the processor has what the archive is compiled for. Those of x86-64-v2 that aren't asked for came earlier.
+pub(crate) fn processor_suffices() -> bool {
+    is_x86_feature_detected!("sse4.2")
+        && is_x86_feature_detected!("ssse3")
+        && is_x86_feature_detected!("popcnt")
+        && is_x86_feature_detected!("cmpxchg16b")
+}
+
 /// A query has no construct that servers read in different ways.
 const PORTABLE: i32 = 0;
 
@@ -92,6 +101,13 @@ impl Call<'_> {
             },
         };
         (number, report)
+    }
+
+    /// The query.
+    fn query(&self) -> &[u8] {
+        match self {
+            Call::Names { query } | Call::Bind { query, .. } => query,
+        }
     }
 
     /// The bytes of the query or the form that a report tells.
@@ -151,12 +167,19 @@ impl Call<'_> {
                 place,
                 position,
                 name: self.name(number, report)?,
+                word: copy_of_any(words::word_at(self.query(), position))?,
             },
-            10 => Error::NamedForPositional,
+            10 => Error::NamedForPositional {
+                word: copy_of_any(words::word_without_name(self.query()))?,
+            },
             11 => Error::PositionalForNamed,
             12 => Error::MarkCount { marks, values },
-            13 => Error::NotAlone { place, position },
-            14 => Error::Float { place },
+            13 => Error::NotAlone {
+                place,
+                position,
+                word: copy_of_any(words::word_of_place(self.query(), position))?,
+            },
+            14 => Error::Float { place, name: None },
             _ => return Err(Error::UnknownAnswer { number }),
         })
     }
@@ -167,6 +190,9 @@ impl Call<'_> {
         no_backslash_escape: bool,
         guess: usize,
     ) -> Result<Vec<u8>, Error> {
+        if !processor_suffices() {
+            return Err(Error::Processor);
+        }
         // The answer may be far shorter than the guess: where that finds no memory, the archive tells the length.
         let mut room = room_of(guess).unwrap_or_default();
         let (mut number, mut report) = self.answer(no_backslash_escape, &mut room);
@@ -175,11 +201,24 @@ impl Call<'_> {
             (number, report) = self.answer(no_backslash_escape, &mut room);
         }
         if number != DONE {
-            return Err(self.error(number, &report));
+            let mut error = self.error(number, &report);
+            if let Error::Float { place, name } = &mut error {
+                let names = names_in(self.query(), no_backslash_escape)?.names;
+                *name = names.into_iter().nth(*place);
+            }
+            return Err(error);
         }
-        room.truncate(report.len);
-        Ok(room)
+        written(room, &report)
     }
+}
+
+/// The answer that stands in a room; or `Err` where the report says that it is longer than the room.
+pub(crate) fn written(mut room: Vec<u8>, report: &Report) -> Result<Vec<u8>, Error> {
+    if report.len > room.len() {
+        return Err(Error::UnknownAnswer { number: DONE });
+    }
+    room.truncate(report.len);
+    Ok(room)
 }
 
 /// The number and the report of the first construct of a query, in a mode.
@@ -226,4 +265,9 @@ pub(crate) fn copy_of(bytes: &[u8]) -> Result<Vec<u8>, Error> {
         .map_err(|_| Error::OutOfMemory)?;
     copy.extend_from_slice(bytes);
     Ok(copy)
+}
+
+/// A copy of bytes, if there are any, or out of memory.
+fn copy_of_any(bytes: Option<&[u8]>) -> Result<Option<Vec<u8>>, Error> {
+    bytes.map(copy_of).transpose()
 }

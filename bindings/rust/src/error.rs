@@ -1,11 +1,18 @@
 //! Refusals, and their messages.
+use crate::words;
 use std::fmt;
 
 /// Why a query is refused. Numbers of places, parameters and bytes begin at 0.
+///
+/// A `word` is one of the query, without its colon, in which a letter that no name has stands directly after a name or
+/// in place of it: names are of `a` to `z`, `0` to `9` and `_`, so `:userId` ends after `user`, and `:A` is none.
 #[derive(Clone, Debug, PartialEq, Eq)]
 pub enum Error {
     /// There was no memory. It may come in place of any other result.
     OutOfMemory,
+    /// The processor lacks a feature of x86-64-v2 (SSSE3, SSE4.2, POPCNT and others), for which the archive is
+    /// compiled. Told before each call, which could end the process.
+    Processor,
     /// A parameter has an empty name. Told before the call; [`bind_form`](crate::bind_form) takes such a one as given by
     /// position.
     EmptyName {
@@ -63,9 +70,14 @@ pub enum Error {
         position: usize,
         /// The name.
         name: Vec<u8>,
+        /// The word that begins with the name there, if it is longer.
+        word: Option<Vec<u8>>,
     },
     /// The parameters have names, and the query has none.
-    NamedForPositional,
+    NamedForPositional {
+        /// The first word that begins with a letter that no name has, if there is one.
+        word: Option<Vec<u8>>,
+    },
     /// The parameters have no names, and the query has some.
     PositionalForNamed,
     /// The marks of the query are not as many as the values.
@@ -81,11 +93,16 @@ pub enum Error {
         place: usize,
         /// Byte of the query at which the place begins.
         position: usize,
+        /// The word that begins with the name of the place, if it has one and the word is longer.
+        word: Option<Vec<u8>>,
     },
-    /// The value for a place is a floating-point number, which has no literal.
+    /// The value for a place is a floating-point number, which has no literal. For a decimal give its text, and write
+    /// `CAST(:p AS DECIMAL(20,2))` in the query: a text in arithmetic is computed as a double.
     Float {
         /// Number of the place.
         place: usize,
+        /// The name that stands in that place; none for a `?`.
+        name: Option<String>,
     },
     /// The archive answered what this crate doesn't know: it is not the archive that this crate was written for.
     UnknownAnswer {
@@ -110,7 +127,46 @@ impl fmt::Display for Shown<'_> {
     }
 }
 
+/// What names are of, where a word of the query shows that it matters.
+struct Alphabet<'a>(&'a Option<Vec<u8>>);
+
+impl fmt::Display for Alphabet<'_> {
+    fn fmt(&self, f: &mut fmt::Formatter<'_>) -> fmt::Result {
+        let Some(word) = self.0 else {
+            return Ok(());
+        };
+        let shown = Shown(word);
+        write!(f, ": names are of a to z, 0 to 9 and _, so `:{shown}` ")?;
+        match words::name_of(word) {
+            b"" => write!(f, "is none"),
+            name => write!(f, "ends after `{}`", Shown(name)),
+        }
+    }
+}
+
 impl Error {
+    /// The number of the refusal in mysql_params.h; none for the two that are told before the call. That of
+    /// [`Error::UnknownAnswer`] is what the archive returned.
+    pub fn number(&self) -> Option<i32> {
+        Some(match self {
+            Error::Processor | Error::EmptyName { .. } => return None,
+            Error::OutOfMemory => 1,
+            Error::FormEnd { .. } => 3,
+            Error::FormLengthLead { .. } => 4,
+            Error::FormType { .. } => 5,
+            Error::FormMixed { .. } => 6,
+            Error::RepeatedName { .. } => 7,
+            Error::Mixed => 8,
+            Error::Missing { .. } => 9,
+            Error::NamedForPositional { .. } => 10,
+            Error::PositionalForNamed => 11,
+            Error::MarkCount { .. } => 12,
+            Error::NotAlone { .. } => 13,
+            Error::Float { .. } => 14,
+            Error::UnknownAnswer { number } => *number,
+        })
+    }
+
     /// The number and the start of the parameter of the form that is at fault.
     fn form_parameter(&self) -> Option<(usize, usize)> {
         match self {
@@ -144,6 +200,7 @@ impl fmt::Display for Error {
         }
         match self {
             Error::OutOfMemory => write!(f, "out of memory"),
+            Error::Processor => write!(f, "the processor lacks a feature of x86-64-v2"),
             Error::EmptyName { parameter } => write!(f, "Parameter {parameter} has an empty name"),
             Error::FormEnd { .. } => write!(f, "Unexpected end of buffer"),
             Error::FormLengthLead { byte, .. } => write!(f, "Bad length lead {byte}"),
@@ -155,11 +212,16 @@ impl fmt::Display for Error {
                 write!(f, "Redefinition of named parameter `{}'", Shown(name))
             }
             Error::Mixed => write!(f, "Named and positional params in one query"),
-            Error::Missing { name, .. } => {
-                write!(f, "Missing named parameter `{}` for statement", Shown(name))
+            Error::Missing { name, word, .. } => {
+                let (name, more) = (Shown(name), Alphabet(word));
+                write!(f, "Missing named parameter `{name}` for statement{more}")
             }
-            Error::NamedForPositional => {
-                write!(f, "Named params given where positional params are expected")
+            Error::NamedForPositional { word } => {
+                let more = Alphabet(word);
+                write!(
+                    f,
+                    "Named params given where positional params are expected{more}"
+                )
             }
             Error::PositionalForNamed => {
                 write!(f, "Positional params given where named params are expected")
@@ -167,10 +229,22 @@ impl fmt::Display for Error {
             Error::MarkCount { marks, values } => {
                 write!(f, "Query has {marks} marks and {values} values")
             }
-            Error::NotAlone { place, position } => {
-                write!(f, "Place {place} at byte {position} does not stand alone")
+            Error::NotAlone {
+                place,
+                position,
+                word,
+            } => {
+                let more = Alphabet(word);
+                write!(
+                    f,
+                    "Place {place} at byte {position} does not stand alone{more}"
+                )
             }
-            Error::Float { place } => write!(f, "Float at place {place}"),
+            Error::Float { place, name: None } => write!(f, "Float at place {place}"),
+            Error::Float {
+                place,
+                name: Some(name),
+            } => write!(f, "Float at place {place}: the value of `:{name}`"),
             Error::UnknownAnswer { number } => write!(f, "Unknown answer {number} of the archive"),
         }
     }

@@ -16,6 +16,12 @@
 //! assert_eq!(text, br"SELECT * FROM t WHERE id = 42 AND name = 'x\' OR \'1\'=\'1'");
 //! # Ok::<(), mysql_params::Error>(())
 //! ```
+//!
+//! A name in a query is a colon, one of `a` to `z` and `_`, and all of `a` to `z`, `0` to `9` and `_` that follow. So
+//! `:userId` is the name `user` followed by `Id`, and `:A` is none.
+//!
+//! Threads may call at once, and all types are `Send` and `Sync`. The archive is for x86-64 Linux and processors with
+//! x86-64-v2; on others each call is [`Error::Processor`].
 #![deny(unsafe_op_in_unsafe_fn, missing_docs)]
 
 mod archive;
@@ -25,12 +31,19 @@ mod portable;
 #[cfg(test)]
 mod tests;
 mod value;
+mod words;
 
 pub use error::Error;
 pub use portable::{Construct, Unportable};
 pub use value::{Date, Params, Time, Value};
 
 use archive::{Call, copy_of};
+
+const _: () = {
+    const fn is_send_and_sync<T: Send + Sync>() {}
+    is_send_and_sync::<(Construct, Date, Error, Names, Params<'_>)>();
+    is_send_and_sync::<(Time, Unportable, Value<'_>)>();
+};
 
 /// The names of a query.
 #[derive(Clone, Debug, PartialEq, Eq)]
@@ -48,7 +61,7 @@ const SPARE_ROOM: usize = 64;
 ///
 /// # Errors
 ///
-/// [`Error::Mixed`] for a query with names and marks; [`Error::OutOfMemory`].
+/// [`Error::Mixed`] for a query with names and marks; [`Error::OutOfMemory`]; [`Error::Processor`].
 pub fn names(query: &[u8]) -> Result<Names, Error> {
     names_in(query, false)
 }
@@ -95,7 +108,7 @@ pub fn names_in(query: &[u8], no_backslash_escape: bool) -> Result<Names, Error>
 ///
 /// # Errors
 ///
-/// [`Error::UnknownAnswer`], from an archive that this crate wasn't written for.
+/// [`Error::Processor`]; [`Error::UnknownAnswer`], from an archive that this crate wasn't written for.
 pub fn first_unportable(query: &[u8]) -> Result<Option<Unportable>, Error> {
     first_unportable_in(query, false)
 }
@@ -110,6 +123,9 @@ pub fn first_unportable_in(
     query: &[u8],
     no_backslash_escape: bool,
 ) -> Result<Option<Unportable>, Error> {
+    if !archive::processor_suffices() {
+        return Err(Error::Processor);
+    }
     let (number, report) = archive::first_unportable(query, no_backslash_escape);
     archive::unportable(number, &report)
 }
@@ -124,7 +140,8 @@ pub fn first_unportable_in(
 ///
 /// The first that holds: [`Error::EmptyName`]; [`Error::RepeatedName`]; then, of the query, [`Error::Mixed`];
 /// [`Error::Missing`], [`Error::NamedForPositional`] or [`Error::PositionalForNamed`]; [`Error::MarkCount`];
-/// [`Error::NotAlone`]; [`Error::Float`]. In place of any of them, and of a text, [`Error::OutOfMemory`].
+/// [`Error::NotAlone`]; [`Error::Float`]. In place of any of them, and of a text, [`Error::OutOfMemory`], or for a
+/// processor that doesn't suffice [`Error::Processor`].
 pub fn bind(query: &[u8], params: &Params<'_>) -> Result<Vec<u8>, Error> {
     bind_in(query, params, false)
 }
@@ -141,6 +158,41 @@ pub fn bind_in(
     no_backslash_escape: bool,
 ) -> Result<Vec<u8>, Error> {
     bind_form_in(query, &form::form_of(params)?, no_backslash_escape)
+}
+
+/// As [`bind`], of a query that is a `str`: then the text is UTF-8 too, since a literal is, whatever its value holds.
+/// Bytes that aren't UTF-8 have a hexadecimal one.
+///
+/// ```
+/// use mysql_params::{Params, Value, bind_str};
+///
+/// let text = bind_str("SELECT 'é', ?, ?", &Params::Positional(&["ß".into(), Value::Bytes(&[0xFF])]))?;
+/// assert_eq!(text, "SELECT 'é', 'ß', 0xFF");
+/// # Ok::<(), mysql_params::Error>(())
+/// ```
+///
+/// # Errors
+///
+/// Those of [`bind`]; [`Error::UnknownAnswer`], from an archive that this crate wasn't written for, also for a text
+/// that isn't UTF-8.
+pub fn bind_str(query: &str, params: &Params<'_>) -> Result<String, Error> {
+    bind_str_in(query, params, false)
+}
+
+/// As [`bind_str`], for a connection in either mode, as [`bind_in`].
+///
+/// # Errors
+///
+/// Those of [`bind_str`].
+pub fn bind_str_in(
+    query: &str,
+    params: &Params<'_>,
+    no_backslash_escape: bool,
+) -> Result<String, Error> {
+    let text = bind_in(query.as_bytes(), params, no_backslash_escape)?;
+    String::from_utf8(text).map_err(|_| Error::UnknownAnswer {
+        number: archive::DONE,
+    })
 }
 
 /// As [`bind`], of parameters that stand in their flat form already, as mysql_params.h describes it: of each its name

@@ -25,7 +25,8 @@ pub enum Construct {
     PlaceAfterExponent,
 }
 
-/// A construct of a query, and where it begins.
+/// A construct of a query, and where it begins. It is an [`Error`](std::error::Error), for callers who refuse such a
+/// query by `return Err(found.into())`.
 #[derive(Clone, Copy, Debug, PartialEq, Eq, Hash)]
 pub struct Unportable {
     /// Which it is.
@@ -35,7 +36,31 @@ pub struct Unportable {
     pub position: usize,
 }
 
+impl fmt::Display for Unportable {
+    fn fmt(&self, f: &mut fmt::Formatter<'_>) -> fmt::Result {
+        let (position, construct) = (self.position, self.construct);
+        write!(f, "not portable at byte {position}: {construct}")
+    }
+}
+
+impl std::error::Error for Unportable {}
+
 impl Construct {
+    /// The number of the construct in mysql_params.h.
+    pub fn number(self) -> i32 {
+        match self {
+            Construct::ExecutableComment => 1,
+            Construct::Hint => 2,
+            Construct::MariaDbComment => 3,
+            Construct::Dashes => 4,
+            Construct::EscapedQuote => 5,
+            Construct::Bracket => 6,
+            Construct::DollarQuote => 7,
+            Construct::DashesAfterExponent => 8,
+            Construct::PlaceAfterExponent => 9,
+        }
+    }
+
     /// The construct of a number of mysql_params.h.
     pub(crate) fn of_number(number: i32) -> Option<Construct> {
         Some(match number {

@@ -1,5 +1,5 @@
 //! Tests of what the public calls don't show: the room lent, whole reports, and numbers that come by fault alone.
-use crate::archive::{Call, DONE, ROOM, Report, first_unportable, unportable};
+use crate::archive::{Call, DONE, ROOM, Report, first_unportable, unportable, written};
 use crate::{Construct, Error, Params, Unportable, Value, bind, names};
 
 /// What a byte of the room holds before a call.
@@ -151,6 +151,13 @@ fn numbers_that_come_by_fault_alone() {
     let none = Report::default();
     assert_eq!(call.error(1, &none), Error::OutOfMemory);
     assert_eq!(call.error(1, &none).to_string(), "out of memory");
+    assert_eq!(call.error(1, &none).number(), Some(1));
+    assert_eq!(call.error(15, &none).number(), Some(15));
+    assert_eq!(Error::Processor.number(), None);
+    assert_eq!(
+        Error::Processor.to_string(),
+        "the processor lacks a feature of x86-64-v2"
+    );
     for number in [-1, 0, 2, 15, i32::MAX, i32::MIN] {
         assert_eq!(call.error(number, &none), Error::UnknownAnswer { number });
     }
@@ -171,6 +178,38 @@ fn numbers_that_come_by_fault_alone() {
     let report = Report { byte: 256, ..none };
     assert_eq!(call.error(4, &report), Error::UnknownAnswer { number: 4 });
     assert_eq!(call.error(5, &report), Error::UnknownAnswer { number: 5 });
+}
+
+#[test]
+fn answers_longer_than_the_room() {
+    let report = |len| Report {
+        len,
+        ..Report::default()
+    };
+    for len in [0, 1, 3] {
+        assert_eq!(written(vec![7; 3], &report(len)), Ok(vec![7; len]));
+    }
+    for len in [4, usize::MAX] {
+        let unknown = Err(Error::UnknownAnswer { number: DONE });
+        assert_eq!(written(vec![7; 3], &report(len)), unknown);
+    }
+}
+
+#[test]
+fn words_at_the_ends_of_queries() {
+    use crate::words::{word_at, word_of_place, word_without_name};
+    assert_eq!(word_at(b":aB", 1), Some(&b"aB"[..]));
+    assert_eq!(word_at(b":aB", 2), Some(&b"B"[..]));
+    for begin in [0, 3, 4, usize::MAX] {
+        assert_eq!(word_at(b":aB", begin), None);
+        assert_eq!(word_of_place(b":ab", begin), None);
+    }
+    assert_eq!(word_of_place(b":aB", 0), Some(&b"aB"[..]));
+    assert_eq!(word_of_place(b"?aB", 0), None);
+    assert_eq!(word_of_place(b":", 0), None);
+    assert_eq!(word_without_name(b"::aB :1 :"), None);
+    assert_eq!(word_without_name(b":a :\xE9 :B"), Some(&b"\xE9"[..]));
+    assert_eq!(word_without_name(b""), None);
 }
 
 #[test]
@@ -210,6 +249,10 @@ fn numbers_of_constructs() {
         found(Construct::DashesAfterExponent)
     );
     assert_eq!(unportable(9, &report), found(Construct::PlaceAfterExponent));
+    for number in 1..10 {
+        let construct = Construct::of_number(number).expect("a construct");
+        assert_eq!(construct.number(), number);
+    }
     for number in [-1, 10, i32::MAX, i32::MIN] {
         assert_eq!(
             unportable(number, &report),

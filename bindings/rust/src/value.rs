@@ -11,7 +11,8 @@ pub enum Value<'a> {
     Int(i64),
     /// An unsigned whole number.
     UInt(u64),
-    /// A number of single precision. It has no literal: binding refuses it as [`Error::Float`](crate::Error::Float).
+    /// A number of single precision. It has no literal: binding refuses it as [`Error::Float`](crate::Error::Float),
+    /// which says what to write for a decimal.
     Float(f32),
     /// A number of double precision. It has no literal: binding refuses it as [`Error::Float`](crate::Error::Float).
     Double(f64),

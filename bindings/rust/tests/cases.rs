@@ -1,7 +1,7 @@
 //! The cases of bindings/cases, which say what they are in README.md there, and every value of one byte.
 use mysql_params::{
     Construct, Date, Error, Names, Params, Time, Unportable, Value, bind, bind_form, bind_form_in,
-    bind_in, first_unportable, first_unportable_in, names, names_in,
+    bind_in, bind_str, bind_str_in, first_unportable, first_unportable_in, names, names_in,
 };
 use std::collections::HashMap;
 use std::path::Path;
@@ -133,6 +133,7 @@ fn read_line(case: &mut Case, line: &str) {
         "portable" => case.portable = true,
         "unportable" => case.unportable = Some(named(text)),
         "message" => case.message = Some(text.to_string()),
+        "message_in_c" => {}
         _ => panic!("{}: {word} is no word of a case", case.at),
     }
 }
@@ -159,6 +160,22 @@ fn cases(file: &str) -> Vec<Case> {
     cases
 }
 
+/// Names of the refusals in cases, in the order of their numbers from 3 on.
+const NUMBERS: [&str; 12] = [
+    "FORM_END",
+    "FORM_LENGTH_LEAD",
+    "FORM_TYPE",
+    "FORM_MIXED",
+    "FORM_REPEATED",
+    "MIXED",
+    "MISSING",
+    "NAMED_FOR_POSITIONAL",
+    "POSITIONAL_FOR_NAMED",
+    "MARK_COUNT",
+    "NOT_ALONE",
+    "FLOAT",
+];
+
 /// The error that a case wants.
 fn wanted_error(case: &Case) -> Error {
     let (name, fields) = case.refusal.as_ref().expect("a text or a refusal");
@@ -169,6 +186,7 @@ fn wanted_error(case: &Case) -> Error {
         number(fields.get("byte").map_or("0", String::as_str)),
     );
     let told = bytes(fields.get("name").map_or("", String::as_str));
+    let word = fields.get("word").map(|word| bytes(word));
     match name.as_str() {
         "FORM_END" => Error::FormEnd {
             parameter,
@@ -198,15 +216,23 @@ fn wanted_error(case: &Case) -> Error {
             place,
             position,
             name: told,
+            word,
         },
-        "NAMED_FOR_POSITIONAL" => Error::NamedForPositional,
+        "NAMED_FOR_POSITIONAL" => Error::NamedForPositional { word },
         "POSITIONAL_FOR_NAMED" => Error::PositionalForNamed,
         "MARK_COUNT" => Error::MarkCount {
             marks: field("marks"),
             values: field("values"),
         },
-        "NOT_ALONE" => Error::NotAlone { place, position },
-        "FLOAT" => Error::Float { place },
+        "NOT_ALONE" => Error::NotAlone {
+            place,
+            position,
+            word,
+        },
+        "FLOAT" => Error::Float {
+            place,
+            name: fields.get("of").cloned(),
+        },
         _ => panic!("{}: {name} is no refusal", case.at),
     }
 }
@@ -218,6 +244,10 @@ fn expect(case: &Case, result: Result<Vec<u8>, Error>) {
         None => {
             let error = result.expect_err(&case.at);
             assert_eq!(error, wanted_error(case), "{}", case.at);
+            let name = &case.refusal.as_ref().expect("a refusal").0;
+            let number = NUMBERS.iter().position(|known| known == name);
+            let number = number.expect("a known name") as i32 + 3;
+            assert_eq!(error.number(), Some(number), "{}", case.at);
             if let Some(message) = &case.message {
                 assert_eq!(&error.to_string(), message, "{}", case.at);
             }
@@ -314,8 +344,10 @@ fn portable_queries() {
             assert_eq!(first_unportable(&case.query), Ok(wanted), "{}", case.at);
         }
         if let Some(message) = &case.message {
-            let told = wanted.expect("a construct").construct.to_string();
-            assert_eq!(&told, message, "{}", case.at);
+            let found = wanted.expect("a construct");
+            assert_eq!(&found.construct.to_string(), message, "{}", case.at);
+            let told = format!("not portable at byte {}: {message}", found.position);
+            assert_eq!(found.to_string(), told, "{}", case.at);
         }
     }
 }
@@ -435,12 +467,110 @@ fn values_of_own_types() {
     assert_eq!(Value::from(1.5f64), Value::Double(1.5));
 }
 
+/// Random numbers of one seed.
+struct Random(u64);
+
+impl Random {
+    fn below(&mut self, end: usize) -> usize {
+        self.0 ^= self.0 << 13;
+        self.0 ^= self.0 >> 7;
+        self.0 ^= self.0 << 17;
+        (self.0 >> 11) as usize % end
+    }
+
+    /// Bytes of a random value: often UTF-8, and with what literals escape.
+    fn value(&mut self) -> Vec<u8> {
+        const PIECES: [&[u8]; 12] = [
+            b"'",
+            b"\\",
+            b"\0\n\r\x1A\"",
+            "\u{e9}".as_bytes(),
+            "\u{20ac}".as_bytes(),
+            "\u{1f600}".as_bytes(),
+            b"\xE2\x82",
+            b"\xBF",
+            b"\xED\xA0\x80",
+            b"? :a",
+            b"x",
+            b"\xFF",
+        ];
+        let valid = self.below(2) == 0;
+        let mut value = Vec::new();
+        for _ in 0..self.below(6) {
+            let piece = PIECES[self.below(PIECES.len())];
+            if !valid || std::str::from_utf8(piece).is_ok() {
+                value.extend_from_slice(piece);
+            }
+        }
+        value
+    }
+}
+
+#[test]
+fn texts_of_utf8_queries() {
+    const PIECES: [&str; 6] = [
+        "SELECT 'é\u{20ac}' , ",
+        "\u{1f600} = ",
+        " , ",
+        "`ß` + ",
+        "/* ü */ ",
+        "'é",
+    ];
+    let mut random = Random(42);
+    let (mut strings, mut hexadecimals) = (0, 0);
+    for round in 0..20_000 {
+        let owned: Vec<Vec<u8>> = (0..random.below(4)).map(|_| random.value()).collect();
+        let values: Vec<Value<'_>> = owned.iter().map(Value::from).collect();
+        let mut query = String::new();
+        for _ in &values {
+            query += PIECES[random.below(5)];
+            query += "? ";
+        }
+        query += PIECES[random.below(6)];
+        let (params, mode) = (Params::Positional(&values), round % 2 == 1);
+        let text = bind_str_in(&query, &params, mode);
+        let same = bind_in(query.as_bytes(), &params, mode);
+        assert_eq!(text.clone().map(String::into_bytes), same, "{query}");
+        assert!(text.is_ok(), "{query}: {text:?}");
+        if !mode {
+            assert_eq!(bind_str(&query, &params), text, "{query}");
+        }
+        for value in owned {
+            *(if value.is_ascii() || std::str::from_utf8(&value).is_ok() {
+                &mut strings
+            } else {
+                &mut hexadecimals
+            }) += 1;
+        }
+    }
+    assert!(strings > 1000 && hexadecimals > 1000);
+    assert_eq!(
+        bind_str("?", &Params::Empty),
+        bind(b"?", &Params::Empty).map(|_| String::new())
+    );
+}
+
+#[test]
+fn constructs_as_errors() {
+    fn refuse(query: &[u8]) -> Result<(), Box<dyn std::error::Error + Send + Sync>> {
+        match first_unportable(query)? {
+            Some(found) => Err(found.into()),
+            None => Ok(()),
+        }
+    }
+    let told = refuse(b"a, [b]").expect_err("a bracket").to_string();
+    let wanted = "not portable at byte 3: `[` may open an identifier: write the name in backquotes";
+    assert_eq!(told, wanted);
+    assert!(refuse(b"a").is_ok());
+}
+
 #[test]
 fn errors_of_use() {
     let pairs = [("a", Value::Null), ("", Value::Null)];
     let error = bind(b":a ?", &Params::Named(&pairs)).expect_err("an empty name");
     assert_eq!(error, Error::EmptyName { parameter: 1 });
     assert_eq!(error.to_string(), "Parameter 1 has an empty name");
+    assert_eq!(error.number(), None);
     // Lists without entries give nothing.
     assert_eq!(
         bind(b"SELECT 1", &Params::Named(&[])),

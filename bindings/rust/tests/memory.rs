@@ -84,6 +84,15 @@ fn texts_without_memory() {
     survives(|| bind(b"?, ?", &Params::Positional(&values)));
     survives(|| bind(b":a, :b", &Params::Named(&pairs)));
     survives(|| bind(b":a, :missing", &Params::Named(&pairs)));
+    survives(|| bind(b":a, :missingWord", &Params::Named(&pairs)));
+    survives(|| bind(b":a, :bWord", &Params::Named(&pairs)));
+    survives(|| bind(b":A", &Params::Named(&pairs)));
+    survives(|| {
+        bind(
+            b":b, :a",
+            &Params::Named(&[("a", 1.5.into()), ("b", 1.into())]),
+        )
+    });
     survives(|| bind(b":a", &Params::Named(&repeated)));
     let long = [("a", Value::Bytes(&[b'\''; 300]))];
     let query = vec![":a"; 100].join(",");

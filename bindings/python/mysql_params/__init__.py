@@ -1,0 +1,157 @@
+"""Values bound into SQL queries for MySQL, over the library made of the archive libmysql_params_c.a.
+
+    >>> first_unportable("SELECT * FROM t WHERE id = :id AND name = :name") is None
+    True
+    >>> bind("SELECT * FROM t WHERE id = :id AND name = :name", {"id": 42, "name": "x' OR '1'='1"})
+    b"SELECT * FROM t WHERE id = 42 AND name = 'x\\\\' OR \\\\'1\\\\'=\\\\'1'"
+
+What a call gives and when it refuses is stated in the repository's docs/RULES.md and proved of the archive for every
+input; this module, which hands values in and answers out, is tested. Before you send a bound text read "Limits that
+matter for security" in the repository's README.md.
+
+A name in a query is a colon, one of `a` to `z` and `_`, and all of `a` to `z`, `0` to `9` and `_` that follow. So
+`:userId` is the name `user` followed by `Id`, and `:A` is none.
+
+The library is the file that the environment variable MYSQL_PARAMS_LIBRARY names, by its path, else libmysql_params_c.so
+in the folder of this package; `bindings/build FOLDER` makes it. Where there is none, or the processor lacks a feature
+of x86-64-v2, the import is an ImportError.
+"""
+
+from __future__ import annotations
+
+import datetime
+from collections.abc import Mapping, Sequence
+from typing import NamedTuple, Optional, Union
+
+from . import _archive, _form
+from .errors import (
+    Error,
+    FloatError,
+    FormEndError,
+    FormError,
+    FormLengthLeadError,
+    FormMixedError,
+    FormTypeError,
+    MarkCountError,
+    MissingError,
+    MixedError,
+    NamedForPositionalError,
+    NotAloneError,
+    OutOfMemoryError,
+    PositionalForNamedError,
+    RepeatedNameError,
+)
+from .portable import Construct, Unportable
+
+__version__ = "0.1.0"
+
+__all__ = [
+    "Construct",
+    "Error",
+    "FloatError",
+    "FormEndError",
+    "FormError",
+    "FormLengthLeadError",
+    "FormMixedError",
+    "FormTypeError",
+    "MarkCountError",
+    "MissingError",
+    "MixedError",
+    "NamedForPositionalError",
+    "Names",
+    "NotAloneError",
+    "OutOfMemoryError",
+    "Params",
+    "PositionalForNamedError",
+    "RepeatedNameError",
+    "Unportable",
+    "Value",
+    "__version__",
+    "bind",
+    "bind_form",
+    "first_unportable",
+    "names",
+]
+
+Value = Union[
+    None, bool, int, float, bytes, bytearray, memoryview, str, datetime.date, datetime.datetime, datetime.timedelta
+]
+"""What a value may be. A float has no literal, and is refused where the query has a place for it."""
+
+Params = Union[
+    None,
+    Sequence[object],
+    Mapping[str, object],
+    Mapping[bytes, object],
+    Mapping[Union[str, bytes], object],
+]
+"""Nothing, values by position, or values by name. An empty sequence or mapping is as nothing.
+
+A value is a Value; anything else is a TypeError of the call. The annotation says less, since to mypy
+``{"id": 42, "name": "x"}`` is a ``dict[str, object]``. Annotate your own by Value: ``params: dict[str, Value] = {}``.
+"""
+
+
+class Names(NamedTuple):
+    """The names of a query."""
+
+    query: bytes
+    """The query with ``?`` in the place of each name."""
+    names: list[str]
+    """The names without their colons, in order, with repeats."""
+
+
+def names(query: Union[str, bytes], no_backslash_escape: bool = False) -> Names:
+    """Return the names of a query, and the query with ``?`` in their places.
+
+    A query without names comes back as it is. Raise MixedError for one with names and marks, OutOfMemoryError. The flag
+    is that of bind.
+    """
+    return Names(*_archive.names_of(_form.bytes_of(query), no_backslash_escape))
+
+
+def first_unportable(query: Union[str, bytes], no_backslash_escape: bool = False) -> Optional[Unportable]:
+    """Return the first construct of a query that servers read in different ways, and where it begins.
+
+    A place after an exponent, where a value's digits would join a number, is one too. None says that the query is
+    portable. Ask it of each query, once, before you bind to it. What stands within strings, quoted identifiers and
+    comments is none, but a quote after a backslash in a string in double quotes. A str is taken as its UTF-8, and
+    positions count its bytes. The flag is that of bind.
+
+    >>> found = first_unportable("SELECT /*! :a */ 1")
+    >>> found.construct.name, found.position
+    ('EXECUTABLE_COMMENT', 7)
+    """
+    return _archive.unportable(*_archive.first_unportable(_form.bytes_of(query), no_backslash_escape))
+
+
+def bind(query: Union[str, bytes], params: Params = None, no_backslash_escape: bool = False) -> bytes:
+    """Return the query with the SQL literals of the values in its places: the text to send.
+
+    Ask first_unportable of the query before. A str is taken as its UTF-8. A bool is 1 or 0. A datetime at midnight has
+    the literal of its date.
+
+    The text is for a connection with backslash escapes, that is without NO_BACKSLASH_ESCAPES in its sql_mode; with the
+    flag it is for one that has it. Ask on the connection that the text goes to: SELECT @@sql_mode. Where the two differ
+    a value can leave its literal. The flag is True or False: anything else, also the sql_mode itself, is a TypeError.
+
+    For a decimal give its str, and write ``CAST(:p AS DECIMAL(20,2))`` in the query: a text in arithmetic is computed
+    as a double. For IN write a place for each value.
+
+    Of the parameters: raise TypeError for what has no literal, OverflowError for a whole number of more than 64 bits,
+    ValueError for an empty name, UnicodeEncodeError for a str with a lone surrogate (also for a query that is one),
+    RepeatedNameError for a name given as str and as bytes. Then, of the query, the first that holds: MixedError;
+    MissingError, NamedForPositionalError or PositionalForNamedError; MarkCountError; NotAloneError; FloatError. In place
+    of any of them, and of a text, OutOfMemoryError.
+    """
+    return bind_form(query, _form.form_of(params), no_backslash_escape)
+
+
+def bind_form(query: Union[str, bytes], form: bytes, no_backslash_escape: bool = False) -> bytes:
+    """Bind parameters that stand in their flat form already, as mysql_params.h describes it.
+
+    Raise a FormError for the first parameter that can't be taken; then as bind.
+    """
+    query, form = _form.bytes_of(query), _form.copy(form)
+    # A literal of bytes has at most twice their number, and quotes.
+    return _archive.whole_answer(query, form, no_backslash_escape, len(query) + 2 * len(form) + 64)

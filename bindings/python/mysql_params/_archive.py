@@ -1,0 +1,179 @@
+"""The calls of the library, and their answers."""
+
+from __future__ import annotations
+
+import ctypes
+import os
+import pathlib
+from typing import Optional, Union
+
+from .errors import _ERRORS, FloatError, OutOfMemoryError, RepeatedNameError
+from .portable import Construct, Unportable
+
+DONE, ROOM, PORTABLE = 0, 2, 0
+
+
+class Report(ctypes.Structure):
+    """What a call says beside its number: mysql_params_report of mysql_params.h."""
+
+    _fields_ = [(name, ctypes.c_size_t) for name in ("len", "place", "position", "marks", "values", "byte")]
+
+    len: int
+    place: int
+    position: int
+    marks: int
+    values: int
+    byte: int
+
+
+def load() -> ctypes.CDLL:
+    """Load the library, with the types of its functions for either mode. Raise ImportError if it can't be used."""
+    beside = pathlib.Path(__file__).resolve().parent / "libmysql_params_c.so"
+    # The loader takes a name without a folder for one on its own search path, so it is handed a whole path.
+    path = os.path.abspath(os.environ.get("MYSQL_PARAMS_LIBRARY") or beside)
+    string = (ctypes.c_char_p, ctypes.c_size_t)
+    answer = (ctypes.c_void_p, ctypes.c_size_t, ctypes.POINTER(Report))
+    try:
+        library = ctypes.CDLL(path)
+        library.mysql_params_names_in.argtypes = (*string, ctypes.c_bool, *answer)
+        library.mysql_params_names_in.restype = ctypes.c_int32
+        library.mysql_params_bind_in.argtypes = (*string, *string, ctypes.c_bool, *answer)
+        library.mysql_params_bind_in.restype = ctypes.c_int32
+        library.mysql_params_first_unportable.argtypes = (*string, ctypes.c_bool, ctypes.POINTER(Report))
+        library.mysql_params_first_unportable.restype = ctypes.c_int32
+        library.mysql_params_processor_suffices.argtypes = ()
+        library.mysql_params_processor_suffices.restype = ctypes.c_bool
+        suffices = library.mysql_params_processor_suffices()
+    except (OSError, AttributeError, UnicodeError) as fault:
+        # No library, or an older one, which lacks a function; or a message of the loader with a path that isn't UTF-8.
+        told = f"{path!r} can't be loaded" if isinstance(fault, UnicodeError) else fault
+        raise ImportError(
+            f"{told}. Set MYSQL_PARAMS_LIBRARY to the path of libmysql_params_c.so, which `bindings/build FOLDER` makes"
+        ) from fault
+    if not suffices:
+        raise ImportError(
+            "the processor lacks a feature of x86-64-v2 (SSSE3, SSE4.2, POPCNT and others), for which the library is"
+            " compiled"
+        )
+    return library
+
+
+LIBRARY = load()
+
+
+def flag(mode: bool) -> bool:
+    """Return the mode of a call. ctypes would take the truth of any object, and so the wrong mode without a word."""
+    if mode is True or mode is False:
+        return mode
+    raise TypeError(f"no_backslash_escape is True or False, and not {mode!r}")
+
+
+def call(query: bytes, form: Optional[bytes], mode: bool, room: bytearray, room_len: int) -> tuple[int, Report]:
+    """Bind the form, or take the names where it is None, into the room. Return the number and the report.
+
+    The mode is True without backslash escapes. The room is longer than `room_len`, so that it has a first byte.
+
+    A pointer is never null: that of a bytes object isn't, also of an empty one.
+    """
+    report = Report()
+    first = ctypes.c_char.from_buffer(room)
+    answer = (ctypes.addressof(first), room_len, ctypes.byref(report))
+    if form is None:
+        number = LIBRARY.mysql_params_names_in(query, len(query), flag(mode), *answer)
+    else:
+        number = LIBRARY.mysql_params_bind_in(query, len(query), form, len(form), flag(mode), *answer)
+    return int(number), report
+
+
+def new_room(length: int) -> bytearray:
+    """Return a room for an answer of a length, and one byte more.
+
+    A ctypes array would be of a new type for each length, which is kept until the garbage collector runs.
+    """
+    try:
+        return bytearray(length + 1)
+    except (MemoryError, OverflowError):
+        raise OutOfMemoryError() from None
+
+
+def whole_answer(query: bytes, form: Optional[bytes], mode: bool, guess: int) -> bytes:
+    """Return the whole answer: asked for in a room of a guessed length, and again in one of the length needed."""
+    try:
+        room = new_room(guess)
+    except OutOfMemoryError:
+        guess, room = 0, new_room(0)  # The answer may be far shorter than the guess, and then there is room for it.
+    number, report = call(query, form, mode, room, guess)
+    if number == ROOM:
+        guess, room = report.len, new_room(report.len)
+        number, report = call(query, form, mode, room, guess)
+    if number != DONE:
+        found = error(number, report, query, form or b"")
+        if isinstance(found, FloatError):
+            names = names_of(query, mode)[1]
+            found.name = names[found.place] if names else None
+        raise found
+    if report.len > guess:
+        raise RuntimeError(f"the archive says that it wrote {report.len} bytes, and had room for {guess}")
+    return bytes(memoryview(room)[: report.len])
+
+
+# The fields of a report that errors have by other names.
+_FIELDS_OF_REPORT = {"parameter": "place", "column_type": "byte"}
+
+
+def _field(report: Report, source: bytes, field: str) -> Union[int, bytes]:
+    """Return the value of a field of an error; a name stands in the source."""
+    if field == "name":
+        return source[report.position : report.position + report.len]
+    return int(getattr(report, _FIELDS_OF_REPORT.get(field, field)))
+
+
+def error(number: int, report: Report, query: bytes, form: bytes) -> Exception:
+    """Return what to raise for a number other than done."""
+    kind = _ERRORS.get(number)
+    if kind is None:
+        return RuntimeError(f"Unknown answer {number} of the archive")
+    source = form if number == RepeatedNameError.number else query
+    made = kind(*[_field(report, source, field) for field in kind._fields])
+    made._look_at(query)
+    return made
+
+
+def first_unportable(query: bytes, mode: bool) -> tuple[int, Report]:
+    """Return the number and the report of the first construct of a query. The mode is as for call."""
+    report = Report()
+    number = LIBRARY.mysql_params_first_unportable(query, len(query), flag(mode), ctypes.byref(report))
+    return int(number), report
+
+
+def unportable(number: int, report: Report) -> Optional[Unportable]:
+    """Return what such a number with its report says."""
+    if number == PORTABLE:
+        return None
+    try:
+        construct = Construct(number)
+    except ValueError:
+        raise RuntimeError(f"Unknown answer {number} of the archive") from None
+    return Unportable(construct, report.position)
+
+
+def next_string(answer: bytes, begin: int) -> tuple[bytes, int]:
+    """Return the length-encoded string that begins at a byte of an answer, and the byte after it."""
+    lead = answer[begin]
+    count = {0xFC: 2, 0xFD: 3, 0xFE: 8}.get(lead, 0)
+    first = begin + 1 + count
+    end = first + (int.from_bytes(answer[begin + 1 : first], "little") if count else lead)
+    if lead in (0xFB, 0xFF) or end > len(answer):
+        raise RuntimeError("the answer of the archive is no row of strings")
+    return answer[first:end], end
+
+
+def names_of(query: bytes, mode: bool) -> tuple[bytes, list[str]]:
+    """Return the query with ``?`` in the places of its names, and the names."""
+    answer = whole_answer(query, None, mode, len(query) + 64)
+    renamed, at = next_string(answer, 0)
+    found = []
+    while at < len(answer):
+        name, at = next_string(answer, at)
+        found.append(name.decode("ascii"))
+    return renamed, found

@@ -1,0 +1,157 @@
+"""The flat form: parameters as the library reads them."""
+
+from __future__ import annotations
+
+import datetime
+import decimal
+import struct
+from collections.abc import Mapping, Sequence
+from typing import Union
+
+from .errors import _show
+
+# Numbers of column types in the protocol, and the flag that says unsigned.
+_DOUBLE, _NULL, _LONGLONG, _TIME, _DATETIME, _VAR_STRING = 5, 6, 8, 11, 12, 253
+_UNSIGNED = 128
+
+_BOUND = (int, float, str, bytes, bytearray, memoryview, datetime.date, datetime.timedelta)
+"""The types of values that are bound, beside None."""
+
+
+def _place(which: Union[bytes, int]) -> str:
+    """Return what messages call the value for a place, which is told by its name or by its number from 0."""
+    return f"the value for place {which}" if isinstance(which, int) else f"the value of `:{_show(which)}`"
+
+
+def _cast(which: Union[bytes, int], digits: str) -> str:
+    """Return what to do with a decimal number."""
+    place = "?" if isinstance(which, int) else f":{_show(which)}"
+    return f"give str(..) of it, and write CAST({place} AS DECIMAL({digits})): a text in arithmetic is a double"
+
+
+def bytes_of(text: object) -> bytes:
+    """Return the bytes of a text: those of its UTF-8 where it is a str."""
+    return str.encode(text) if isinstance(text, str) else copy(text)
+
+
+def copy(source: object) -> bytes:
+    """Return the bytes of something like bytes, as they stand in memory: a subclass may say otherwise of itself."""
+    if isinstance(source, bytes):
+        return bytes.__getitem__(source, slice(None))
+    if isinstance(source, bytearray):
+        return bytes(bytearray.__getitem__(source, slice(None)))
+    if isinstance(source, memoryview):
+        return memoryview.tobytes(source)
+    raise TypeError(f"bytes are wanted, and not {type(source).__name__}")
+
+
+def _string_form(string: bytes) -> bytes:
+    """Return a length-encoded string."""
+    length = len(string)
+    if length < 251:
+        return bytes([length]) + string
+    count, lead = (2, 0xFC) if length < 1 << 16 else (3, 0xFD) if length < 1 << 24 else (8, 0xFE)
+    return bytes([lead]) + length.to_bytes(count, "little") + string
+
+
+def _int_form(number: int, which: Union[bytes, int]) -> bytes:
+    """Return type, flags and value of a whole number of up to 64 bits."""
+    if -(1 << 63) <= number < 1 << 63:
+        return struct.pack("<BBq", _LONGLONG, 0, number)
+    if 0 <= number < 1 << 64:
+        return struct.pack("<BBQ", _LONGLONG, _UNSIGNED, number)
+    raise OverflowError(f"{_place(which)} is a whole number of more than 64 bits: {_cast(which, '65,0')}")
+
+
+def _date_form(date: datetime.date, which: Union[bytes, int]) -> bytes:
+    """Return type, flags and value of a date, or of a naive date with its time of day."""
+    clock = (0, 0, 0, 0)
+    if isinstance(date, datetime.datetime):
+        if date.tzinfo is not None:
+            raise TypeError(f"{_place(which)} is a datetime with a time zone: convert it to a naive one")
+        clock = (date.hour, date.minute, date.second, date.microsecond)
+    return struct.pack("<BBBHBBBBBI", _DATETIME, 0, 11, date.year, date.month, date.day, *clock)
+
+
+def _time_form(time: datetime.timedelta) -> bytes:
+    """Return type, flags and value of a span of time: sign and magnitude, and not Python's negative days."""
+    negative = time < datetime.timedelta(0)
+    size = -time if negative else time
+    minutes, seconds = divmod(size.seconds, 60)
+    hours, minutes = divmod(minutes, 60)
+    fields = (negative, size.days, hours, minutes, seconds, size.microseconds)
+    return struct.pack("<BBBBIBBBI", _TIME, 0, 12, *fields)
+
+
+def _text_form(text: str, which: Union[bytes, int]) -> bytes:
+    """Return type, flags and value of a text."""
+    try:
+        return bytes([_VAR_STRING, 0]) + _string_form(str.encode(text))
+    except UnicodeEncodeError as fault:
+        raise UnicodeEncodeError(
+            fault.encoding, fault.object, fault.start, fault.end, f"{fault.reason}, in {_place(which)}"
+        ) from None
+
+
+def _known_form(value: object, which: Union[bytes, int]) -> Union[bytes, None]:
+    """Return type, flags and value; or None of what has no literal."""
+    if value is None:
+        return bytes([_NULL, 0])
+    if not issubclass(type(value), _BOUND):
+        return None  # Its `__class__` may say otherwise.
+    if isinstance(value, int):
+        return _int_form(int.__index__(value), which)
+    if isinstance(value, float):
+        return struct.pack("<BBd", _DOUBLE, 0, float.__float__(value))
+    if isinstance(value, str):
+        return _text_form(value, which)
+    if isinstance(value, (bytes, bytearray, memoryview)):
+        return bytes([_VAR_STRING, 0]) + _string_form(copy(value))
+    if isinstance(value, datetime.date):
+        return _date_form(value, which)
+    if isinstance(value, datetime.timedelta):
+        return _time_form(value)
+    return None
+
+
+def _value_form(value: object, which: Union[bytes, int]) -> bytes:
+    """Return type, flags and value."""
+    try:
+        form = _known_form(value, which)
+    except (struct.error, AttributeError):
+        form = None  # A subclass has fields that no date and no span has.
+    if form is not None:
+        return form
+    kind = type(value).__name__
+    if isinstance(value, decimal.Decimal):
+        raise TypeError(f"{_place(which)} is a {kind}, which has no literal: {_cast(which, '20,2')}")
+    if isinstance(value, (list, tuple, set, frozenset)):
+        raise TypeError(f"{_place(which)} is a {kind}, which has no literal: write a place for each of its values")
+    raise TypeError(f"{_place(which)} is of type {kind}, which has no literal")
+
+
+def _name(name: object, number: int) -> bytes:
+    """Return the bytes of a name, of the parameter of a number."""
+    if not isinstance(name, (str, bytes)):
+        raise TypeError(f"a name is str or bytes, and {name!r} is of type {type(name).__name__}")
+    own = bytes_of(name)
+    if not own:
+        raise ValueError(f"Parameter {number} has an empty name")
+    return own
+
+
+def _named(number: int, name: object, value: object) -> bytes:
+    """Return the flat form of a parameter with a name."""
+    own = _name(name, number)
+    return _string_form(own) + _value_form(value, own)
+
+
+def form_of(params: object) -> bytes:
+    """Return the flat form of parameters."""
+    if params is None:
+        return b""
+    if isinstance(params, Mapping):
+        return b"".join(_named(number, *pair) for number, pair in enumerate(params.items()))
+    if isinstance(params, Sequence) and not isinstance(params, (str, bytes, bytearray, memoryview)):
+        return b"".join(_string_form(b"") + _value_form(value, at) for at, value in enumerate(params))
+    raise TypeError(f"parameters are None, a sequence or a mapping, and not {type(params).__name__}")

@@ -1,0 +1,232 @@
+"""Refusals, and their messages."""
+
+from __future__ import annotations
+
+import re
+from typing import Optional, Union
+
+
+def _show(name: bytes) -> str:
+    """Return a name as messages show it: other than printable ASCII, ``"`` and ``\\`` as ``\\x`` and two digits."""
+    return "".join(chr(byte) if 32 <= byte <= 126 and byte not in b'"\\' else f"\\x{byte:02x}" for byte in name)
+
+
+_ALPHABET = "names are of a to z, 0 to 9 and _"
+
+_WORD = re.compile(rb"[a-z0-9_]*[A-Z\x80-\xff][A-Za-z0-9_\x80-\xff]*")
+_WORD_WITHOUT_NAME = re.compile(rb":([A-Z\x80-\xff][A-Za-z0-9_\x80-\xff]*)")
+
+
+class Error(Exception):
+    """A refusal. `number` is that of mysql_params.h. Numbers of places, parameters and bytes begin at 0."""
+
+    number: int = -1
+    _fields: tuple[str, ...] = ()
+    _text: str = ""
+
+    def __init__(self, *values: Union[int, bytes]) -> None:
+        """Take the values of the fields, in order."""
+        super().__init__(*values)
+        if len(values) != len(self._fields):
+            raise TypeError(f"{type(self).__name__} has the fields {self._fields}")
+        for field, value in zip(self._fields, values):
+            setattr(self, field, value)
+
+    def __str__(self) -> str:
+        fields = {field: getattr(self, field) for field in self._fields}
+        shown = {field: _show(value) if isinstance(value, bytes) else value for field, value in fields.items()}
+        return self._text.format(**shown) + self._more()
+
+    def _more(self) -> str:
+        """Return what the message says after what the archive's documentation says."""
+        return ""
+
+    def _look_at(self, query: bytes) -> None:
+        """Take from the query what the message tells beside the fields."""
+
+
+class _WordError(Error):
+    """A refusal that a letter which no name has may be the cause of."""
+
+    word: Optional[bytes] = None
+    """The word of the query that is told, without its colon, where a letter that no name has stands directly after the
+    name or in place of it, as in ``:userId``. Else None."""
+
+    def _more(self) -> str:
+        if self.word is None:
+            return ""
+        name = self.word[: len(self.word) - len(self.word.lstrip(b"abcdefghijklmnopqrstuvwxyz0123456789_"))]
+        where = f"ends after `{_show(name)}`" if name else "is none"
+        return f": {_ALPHABET}, so `:{_show(self.word)}` {where}"
+
+    def _take(self, found: Optional[re.Match[bytes]]) -> None:
+        """Take the word that was found, which is the last group."""
+        if found is not None:
+            self.word = found[found.re.groups]
+
+
+class OutOfMemoryError(Error, MemoryError):
+    """There was no memory for the call or for the room of its answer. It may come in place of any other result.
+
+    Where Python itself has none for an object, as the form of the parameters, it raises a MemoryError, of which this is
+    one.
+    """
+
+    number = 1
+    _text = "out of memory"
+
+
+class FormError(Error):
+    """A parameter of a flat form can't be taken: `parameter` is its number, `position` its first byte in the form."""
+
+    parameter: int
+    position: int
+    _fields: tuple[str, ...] = ("parameter", "position")
+
+
+class FormEndError(FormError):
+    """The form ends within a parameter."""
+
+    number = 3
+    _text = "Parameter {parameter} at byte {position} of the form: Unexpected end of buffer"
+
+
+class FormLengthLeadError(FormError):
+    """A length in the form begins with `byte`, which is 251 or 255."""
+
+    number = 4
+    byte: int
+    _fields: tuple[str, ...] = ("parameter", "position", "byte")
+    _text = "Parameter {parameter} at byte {position} of the form: Bad length lead {byte}"
+
+
+class FormTypeError(FormError):
+    """A parameter of the form has a column type without a binary form, whose number is `column_type`."""
+
+    number = 5
+    column_type: int
+    _fields: tuple[str, ...] = ("parameter", "position", "column_type")
+    _text = "Parameter {parameter} at byte {position} of the form: Unsupported column type {column_type}"
+
+
+class FormMixedError(FormError):
+    """The form has parameters with a name and without one; told is the first that differs from the first one."""
+
+    number = 6
+    _text = "Parameter {parameter} at byte {position} of the form: Named and positional params in one form"
+
+
+class RepeatedNameError(FormError):
+    """The name `name` is given twice: `parameter` is the later one, `position` its name's first byte in the form."""
+
+    number = 7
+    name: bytes
+    _fields: tuple[str, ...] = ("parameter", "position", "name")
+    _text = "Redefinition of named parameter `{name}'"
+
+
+class MixedError(Error):
+    """The query has names and marks."""
+
+    number = 8
+    _text = "Named and positional params in one query"
+
+
+class MissingError(_WordError):
+    """The name `name` of the query has no value.
+
+    `place` is the number of its first place, `position` the byte of the query at which it begins there, after its
+    colon.
+    """
+
+    number = 9
+    place: int
+    position: int
+    name: bytes
+    _fields: tuple[str, ...] = ("place", "position", "name")
+    _text = "Missing named parameter `{name}` for statement"
+
+    def _look_at(self, query: bytes) -> None:
+        """Take the word that begins with the name."""
+        self._take(_WORD.match(query, self.position))
+
+
+class NamedForPositionalError(_WordError):
+    """The parameters have names, and the query has none."""
+
+    number = 10
+    _text = "Named params given where positional params are expected"
+
+    def _look_at(self, query: bytes) -> None:
+        """Take the first word after a colon that begins no name."""
+        self._take(_WORD_WITHOUT_NAME.search(query))
+
+
+class PositionalForNamedError(Error):
+    """The parameters have no names, and the query has some."""
+
+    number = 11
+    _text = "Positional params given where named params are expected"
+
+
+class MarkCountError(Error):
+    """The query has `marks` marks, and `values` values are given."""
+
+    number = 12
+    marks: int
+    values: int
+    _fields: tuple[str, ...] = ("marks", "values")
+    _text = "Query has {marks} marks and {values} values"
+
+
+class NotAloneError(_WordError):
+    """The place `place`, at the byte `position` of the query, could run into a neighbour, as in ``1?`` or ``x:a``."""
+
+    number = 13
+    place: int
+    position: int
+    _fields: tuple[str, ...] = ("place", "position")
+    _text = "Place {place} at byte {position} does not stand alone"
+
+    def _look_at(self, query: bytes) -> None:
+        """Take the word that begins with the place's name, if it has one."""
+        if query[self.position : self.position + 1] == b":":
+            self._take(_WORD.match(query, self.position + 1))
+
+
+class FloatError(Error):
+    """The value for the place `place` is a floating-point number, which has no literal.
+
+    For a decimal give its text, and write ``CAST(:p AS DECIMAL(20,2))`` in the query: a text in arithmetic is computed
+    as a double.
+    """
+
+    number = 14
+    place: int
+    _fields: tuple[str, ...] = ("place",)
+    _text = "Float at place {place}"
+    name: Optional[str] = None
+    """The name that stands in that place. None for a ``?``."""
+
+    def _more(self) -> str:
+        return "" if self.name is None else f": the value of `:{self.name}`"
+
+
+_ERRORS: dict[int, type[Error]] = {
+    error.number: error
+    for error in (
+        OutOfMemoryError,
+        FormEndError,
+        FormLengthLeadError,
+        FormTypeError,
+        FormMixedError,
+        RepeatedNameError,
+        MixedError,
+        MissingError,
+        NamedForPositionalError,
+        PositionalForNamedError,
+        MarkCountError,
+        NotAloneError,
+        FloatError,
+    )
+}

@@ -1,0 +1,84 @@
+"""Callers as they are written every day, for `mypy --strict`, and some that it has to refuse. This isn't run."""
+
+from __future__ import annotations
+
+import datetime
+from collections import OrderedDict
+from typing import Any, Optional, Union
+
+import mysql_params
+from mysql_params import Params, Value, bind, bind_form, first_unportable, names
+
+QUERY = "SELECT * FROM t WHERE id = :id AND name = :name"
+
+
+def by_name(ident: int, name: str, born: Optional[datetime.date], anything: Any) -> bytes:
+    """Give mappings of all kinds."""
+    bind(QUERY, {"id": ident, "name": name})
+    mixed = {"id": ident, "name": name}
+    bind(QUERY, mixed)
+    numbers: dict[str, int] = {"id": ident}
+    bind(QUERY, numbers)
+    texts: dict[str, str] = {"name": name}
+    bind(QUERY, texts)
+    all_kinds: dict[str, Any] = {"id": ident, "name": name, "born": born}
+    bind(QUERY, all_kinds)
+    own: dict[str, Value] = {"id": ident, "born": born, "name": name}
+    bind(QUERY, own)
+    of_bytes: dict[bytes, int] = {b"id": ident}
+    bind(QUERY, of_bytes)
+    of_both: dict[Union[str, bytes], Value] = {"id": ident, b"name": name}
+    bind(QUERY, of_both)
+    bind(QUERY, OrderedDict(id=ident))
+    bind(QUERY, anything)
+    return bind(QUERY, dict(id=ident), no_backslash_escape=True)
+
+
+def by_position(ident: int, name: str, given: Params) -> bytes:
+    """Give sequences of all kinds."""
+    bind("?, ?", [ident, name])
+    mixed = [ident, name]
+    bind("?, ?", mixed)
+    numbers: list[int] = [ident]
+    bind("?", numbers)
+    bind("?, ?", (ident, name))
+    bind("?", range(1))
+    bind(b"?", given)
+    return bind_form("?", b"\x00\x06\x00")
+
+
+def answers() -> None:
+    """Take what comes back."""
+    version: str = mysql_params.__version__
+    found: list[str] = names(QUERY).names
+    query: bytes = names(b"SELECT :a", True).query
+    unportable = first_unportable(QUERY)
+    if unportable is not None:
+        message: str = unportable.construct.message
+        position: int = unportable.position
+        print(version, found, query, message, position)
+    try:
+        bind(QUERY)
+    except mysql_params.MissingError as error:
+        name: bytes = error.name
+        word: Optional[bytes] = error.word
+        print(name, word, error.place + error.position + error.number)
+    except mysql_params.FloatError as error:
+        of: Optional[str] = error.name
+        print(of)
+
+
+def refused(ident: int) -> None:
+    """Write what isn't right: were it no error of types, mypy would say that the comment beside it isn't used."""
+    bind(5)  # type: ignore[arg-type]
+    bind(None)  # type: ignore[arg-type]
+    bind("?", ident)  # type: ignore[arg-type]
+    bind("?", {ident})  # type: ignore[arg-type]
+    bind(":a", {ident: ident})  # type: ignore[arg-type]
+    bind("?", [ident], "ANSI_QUOTES")  # type: ignore[arg-type]
+    bind_form("?", "x")  # type: ignore[arg-type]
+    names(5)  # type: ignore[arg-type]
+    text: str = bind("?", [ident])  # type: ignore[assignment]
+    position: int = first_unportable("?").position  # type: ignore[union-attr]
+    own: dict[str, Value] = {"id": 1j}  # type: ignore[dict-item]
+    print(text, position, own)

@@ -1,0 +1,42 @@
+//! Words of a query that look like names, for messages: a name and letters that no name has.
+
+/// Whether a byte is one of those that names are of.
+fn is_of_names(byte: &u8) -> bool {
+    matches!(byte, b'a'..=b'z' | b'0'..=b'9' | b'_')
+}
+
+/// Whether a byte is a capital, or of a letter outside ASCII.
+fn is_other_letter(byte: &u8) -> bool {
+    matches!(byte, b'A'..=b'Z' | 128..)
+}
+
+/// The bytes at the front that fulfil the test.
+fn front(bytes: &[u8], test: impl Fn(&u8) -> bool) -> &[u8] {
+    let end = bytes.iter().position(|byte| !test(byte));
+    &bytes[..end.unwrap_or(bytes.len())]
+}
+
+/// The name that a word begins with, or nothing.
+pub(crate) fn name_of(word: &[u8]) -> &[u8] {
+    front(word, is_of_names)
+}
+
+/// The word that begins at a byte of a query, if it isn't a name alone.
+pub(crate) fn word_at(query: &[u8], begin: usize) -> Option<&[u8]> {
+    let rest = query.get(begin..)?;
+    let word = front(rest, |byte| is_of_names(byte) || is_other_letter(byte));
+    (word.len() > name_of(word).len()).then_some(word)
+}
+
+/// The word that begins with the name of the place at a byte of a query, if it isn't a name alone.
+pub(crate) fn word_of_place(query: &[u8], position: usize) -> Option<&[u8]> {
+    let colon = query.get(position) == Some(&b':');
+    word_at(query, position.checked_add(1)?).filter(|_| colon)
+}
+
+/// The first word after a colon that begins with a letter that no name has.
+pub(crate) fn word_without_name(query: &[u8]) -> Option<&[u8]> {
+    let mut pairs = query.windows(2);
+    let found = pairs.position(|pair| pair[0] == b':' && is_other_letter(&pair[1]));
+    word_at(query, found? + 1)
+}
