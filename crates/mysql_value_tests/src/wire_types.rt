@@ -1,5 +1,5 @@
 //! Errors, flags of columns, and the codec traits at a type of the user's own.
-ghost use Rattle.std.specs.Prelude.{ℕ, List, ⊤};
+ghost use Rattle.std.specs.Prelude.{ℕ, List, None, ⊤};
 ghost use Rattle.mysql_wire_part.specs.Lenenc.{lenenc_spelling, read_lenenc};
 
 use crate::shared::{answer_of, same, same_in};
@@ -73,6 +73,8 @@ impl MySerialize for Name {
 
 impl<'de> MyDeserialize<'de> for Name {
     const SIZE: Option<usize> = None;
+
+    ghost SIZE = { None };
 
     type Ctx = ();
 

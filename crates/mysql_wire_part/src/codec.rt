@@ -1,5 +1,5 @@
 //! The traits of what is written to a buffer and of what is read from one.
-ghost use Rattle.std.specs.Prelude.{◌≡◌, ℕ, List, ◌++◌, OnOk, OnErr};
+ghost use Rattle.std.specs.Prelude.{◌≡◌, ℕ, List, Option, ◌++◌, OnOk, OnErr};
 ghost use Rattle.mysql_wire_part.specs.Reading.{Reading};
 ghost use Rattle.mysql_wire_part.specs.Answer.{IsAnswer};
 ghost use Rattle.mysql_wire_part.specs.ParseBuf.{left, read_refusal};
@@ -23,6 +23,9 @@ pub trait MySerialize {
 pub trait MyDeserialize<'de>: Sized {
     /// The number of bytes that a value takes, where all values take the same.
     const SIZE: Option<usize>;
+
+    // the same number, for contracts
+    ghost SIZE: { Option ℕ };
 
     /// What has to be known to read a value.
     type Ctx;

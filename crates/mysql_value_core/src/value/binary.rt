@@ -1,5 +1,5 @@
 //! Values in binary form: of rows and of a statement's parameters.
-ghost use Rattle.std.specs.Prelude.{◌≡◌, ◌≤◌, ◌++◌, length, IsOk, OnOk, OnErr};
+ghost use Rattle.std.specs.Prelude.{◌≡◌, ◌≤◌, ◌++◌, length, None, IsOk, OnOk, OnErr};
 ghost use Rattle.mysql_wire_part.specs.Reading.{read_number, map_read};
 ghost use Rattle.mysql_wire_part.specs.Answer.{IsAnswer};
 ghost use Rattle.mysql_wire_part.specs.ParseBuf.{left, read_refusal};
@@ -158,6 +158,8 @@ fn append_time(buf: &mut Vec<u8>, time: TimeFields) -> Result<(), AllocError>
 
 impl<'de> MyDeserialize<'de> for ValueDeserializer<BinValue> {
     const SIZE: Option<usize> = None;
+
+    ghost SIZE = { None };
 
     type Ctx = (ColumnType, ColumnFlags);
 

@@ -1,5 +1,5 @@
 //! Values of rows in text form.
-ghost use Rattle.std.specs.Prelude.{◌≡◌, OnErr};
+ghost use Rattle.std.specs.Prelude.{◌≡◌, None, OnErr};
 ghost use Rattle.mysql_wire_part.specs.Answer.{IsAnswer};
 ghost use Rattle.mysql_wire_part.specs.ParseBuf.{left, read_refusal};
 ghost use Rattle.mysql_value_core.specs.TextCell.{read_cell, read_cells, ReadsBytes, ReadsACell};
@@ -20,6 +20,8 @@ pub struct TextValue;
 
 impl<'de> MyDeserialize<'de> for ValueDeserializer<TextValue> {
     const SIZE: Option<usize> = None;
+
+    ghost SIZE = { None };
 
     type Ctx = ();
 
