@@ -6,7 +6,8 @@
 //! [`first_unportable`] finds what servers read in different ways or with which a value would join a
 //! number, before a query is bound.
 //! Where the query is a constant, [`fixed_query`] binds it, refused for nothing but memory.
-//! [`run`] is the program, with its commands `names` and `bind`, for any reader and writer.
+//! [`run`] is the program, with its commands `names` and `bind`, for any reader and writer, and
+//! [`words_of`] has its words.
 #![tactic(auto)]
 
 pub mod fixed_query;
@@ -16,4 +17,4 @@ pub mod params;
 
 pub use mysql_binding::{BindError, bind_text, bind_text_in};
 pub use mysql_named_params::portable::{Construct, Unportable, first_unportable};
-pub use mysql_program::{RunError, run};
+pub use mysql_program::{RunError, run, words_of};

@@ -1,13 +1,16 @@
 //! The program, with its commands `names` and `bind`, over any reader and writer.
 //!
-//! [`run`] judges the words, reads the whole input, and writes the whole output or refuses.
+//! [`words_of`] has the words, and [`run`] judges them, reads the whole input, and writes the whole
+//! output or refuses.
 #![tactic(auto)]
 
+mod arguments;
 pub mod laws;
 mod program;
 mod readers_and_writers;
 mod run_error;
 mod words;
 
+pub use arguments::words_of;
 pub use program::run;
 pub use run_error::RunError;

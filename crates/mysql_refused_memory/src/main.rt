@@ -2,6 +2,7 @@
 #![tactic(auto)]
 
 mod archive_cases;
+mod argument_cases;
 mod binding_cases;
 mod conversion_cases;
 mod copy_cases;
@@ -68,6 +69,9 @@ fn query_case(alloc: Global, name: &str) -> Option<Case> {
         return Some(case);
     }
     if let Some(case) = program_cases::case(alloc, name) {
+        return Some(case);
+    }
+    if let Some(case) = argument_cases::case(alloc, name) {
         return Some(case);
     }
     archive_cases::case(alloc, name)
