@@ -7,7 +7,30 @@ use mysql_named_params::tokens::{TokenKind, first_token};
 use std::alloc::{AllocError, Global};
 use std::process::Abort;
 
-// The first two are the bodies that the crate had before its jumps; the others read the rules.
+// Down to `plain_first_place` these are the bodies that the crate had before its jumps. They have no
+// contract here: so their sums saturate, their slices begin at the end at the latest, an empty text
+// has a token of one byte, and the walk is a loop that ends. The table of plain bytes is a test here.
+
+fn plain_is_white_space(byte: u8) -> bool {
+    byte.is_ascii_whitespace()
+}
+
+fn plain_is_start_byte(byte: u8) -> bool {
+    byte.is_ascii_lowercase() || byte == b'_'
+}
+
+fn plain_is_name_byte(byte: u8) -> bool {
+    plain_is_start_byte(byte) || byte.is_ascii_digit()
+}
+
+fn plain_is_escape(byte: u8, no_backslash_escape: bool) -> bool {
+    !no_backslash_escape && byte == b'\\'
+}
+
+/// What follows so many bytes.
+fn after(text: &[u8], count: usize) -> &[u8] {
+    &text[count.min(text.len())..]
+}
 
 /// How many bytes there are up to and with the first place of the word, or to the end.
 fn plain_len_up_to(text: &[u8], word: &[u8]) -> usize {
@@ -28,7 +51,7 @@ fn plain_string_len(text: &[u8], quote: u8, no_backslash_escape: bool) -> usize 
         } else if *byte == quote {
             return i.saturating_add(1);
         } else {
-            escaped = !no_backslash_escape && *byte == b'\\';
+            escaped = plain_is_escape(*byte, no_backslash_escape);
         }
     }
     text.len()
@@ -37,18 +60,46 @@ fn plain_string_len(text: &[u8], quote: u8, no_backslash_escape: bool) -> usize 
 /// How many name bytes the text begins with.
 fn plain_name_len(text: &[u8]) -> usize {
     for (i, byte) in text.iter().enumerate() {
-        if !matches!(*byte, b'a'..=b'z' | b'_' | b'0'..=b'9') {
+        if !plain_is_name_byte(*byte) {
             return i;
         }
     }
     text.len()
 }
 
+/// Whether a `-` and then this text open a comment.
+fn plain_opens_dash_comment(text: &[u8]) -> bool {
+    match text {
+        [b'-', gap, ..] => plain_is_white_space(*gap) && *gap != b'\n',
+        _ => false,
+    }
+}
+
+/// Whether a `/` and then this text open a comment.
+fn plain_opens_block_comment(text: &[u8]) -> bool {
+    match text {
+        [b'*', b'!' | b'+', ..] => false,
+        [b'*', ..] => true,
+        _ => false,
+    }
+}
+
+/// Whether a `:` and then this text open a name.
+fn plain_opens_name(text: &[u8]) -> bool {
+    match text {
+        [first, ..] => plain_is_start_byte(*first),
+        [] => false,
+    }
+}
+
 /// The kind of the token at the front of the text, and its length.
 fn plain_first_token(text: &[u8], no_backslash_escape: bool) -> (TokenKind, usize) {
     let (kind, opening, tail) = match text {
         [b'?', ..] => (TokenKind::Mark, 1usize, 0),
-        [b':', b'a'..=b'z' | b'_', rest @ ..] => (TokenKind::Name, 2, plain_name_len(rest)),
+        [b':', rest @ ..] if plain_opens_name(rest) => {
+            (TokenKind::Name, 2, plain_name_len(after(rest, 1)))
+        }
+        [b':', ..] => (TokenKind::Other, 1, 0),
         [quote @ (b'\'' | b'"'), rest @ ..] => (
             TokenKind::Other,
             1,
@@ -56,34 +107,55 @@ fn plain_first_token(text: &[u8], no_backslash_escape: bool) -> (TokenKind, usiz
         ),
         [b'`', rest @ ..] => (TokenKind::Other, 1, plain_len_up_to(rest, b"`")),
         [b'#', rest @ ..] => (TokenKind::Other, 1, plain_len_up_to(rest, b"\n")),
-        [b'-', b'-', b' ' | b'\t' | b'\x0c' | b'\r', rest @ ..] => {
-            (TokenKind::Other, 3, plain_len_up_to(rest, b"\n"))
+        [b'-', rest @ ..] if plain_opens_dash_comment(rest) => {
+            (TokenKind::Other, 3, plain_len_up_to(after(rest, 2), b"\n"))
         }
-        [b'/', b'*', b'!' | b'+', ..] => (TokenKind::Other, 1, 0),
-        [b'/', b'*', rest @ ..] => (TokenKind::Other, 2, plain_len_up_to(rest, b"*/")),
+        [b'-', ..] => (TokenKind::Other, 1, 0),
+        [b'/', rest @ ..] if plain_opens_block_comment(rest) => {
+            (TokenKind::Other, 2, plain_len_up_to(after(rest, 1), b"*/"))
+        }
+        [b'/', ..] => (TokenKind::Other, 1, 0),
         _ => (TokenKind::Other, 1, 0),
     };
     (kind, opening.saturating_add(tail))
 }
 
-/// The first name or mark of a text, token by token.
+/// The index of the first byte from this one on with which another token than a plain one may begin,
+/// or the end.
+fn plain_run_end(text: &[u8], from: usize) -> usize {
+    for at in from..text.len() {
+        if matches!(
+            text[at],
+            b'\'' | b'"' | b'`' | b'#' | b'-' | b'/' | b':' | b'?'
+        ) {
+            return at;
+        }
+    }
+    text.len()
+}
+
+/// The first name or mark of a text.
 fn plain_first_place(text: &[u8], no_backslash_escape: bool) -> Option<FoundPlace> {
-    let mut before = 0usize;
+    let mut at = 0usize;
     for _ in 0..text.len() {
-        let rest = text.get(before..)?;
-        if rest.is_empty() {
+        at = plain_run_end(text, at);
+        if at >= text.len() {
             return None;
         }
-        let (kind, len) = plain_first_token(rest, no_backslash_escape);
-        let place = match kind {
-            TokenKind::Name => Some(PlaceKind::Name),
-            TokenKind::Mark => Some(PlaceKind::Mark),
-            TokenKind::Other => None,
+        let (kind, len) = plain_first_token(&text[at..], no_backslash_escape);
+        let kind = match kind {
+            TokenKind::Name => PlaceKind::Name,
+            TokenKind::Mark => PlaceKind::Mark,
+            TokenKind::Other => {
+                at = at.saturating_add(len);
+                continue;
+            }
         };
-        if let Some(kind) = place {
-            return Some(FoundPlace { before, kind, len });
-        }
-        before = before.saturating_add(len);
+        return Some(FoundPlace {
+            before: at,
+            kind,
+            len,
+        });
     }
     None
 }
