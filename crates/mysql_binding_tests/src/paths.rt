@@ -58,6 +58,7 @@ pub use mysql_params::params::ToPairs;
 pub use mysql_params::params::ToParams;
 pub use mysql_params::params::ToParamsError;
 pub use mysql_params::run;
+pub use mysql_params::words_of;
 pub use mysql_values::bytes::Bytes;
 pub use mysql_values::laws::array_converts_back;
 pub use mysql_values::laws::as_sql_error_equality;

@@ -39,7 +39,10 @@ const CASES: &[Case] = &[
     (&[], &[]),
     (&[b"mysql_query"], &[]),
     (&[b"mysql_query", b"names"], &["names"]),
-    (&[b"mysql_query", b"bind", b"", b"a=s:\xc3\xa4"], &["bind", "", "a=s:ä"]),
+    (
+        &[b"mysql_query", b"bind", b"", b"a=s:\xc3\xa4"],
+        &["bind", "", "a=s:ä"],
+    ),
     // The name is not looked at: the program may stand in any folder.
     (&[b"/\xff/mysql_query", b"names"], &["names"]),
 ];
