@@ -1,25 +1,13 @@
 -- What the cells of a row are read as.
-use Rattle.std.specs.Prelude.{◌≡◌, ◌⊎◌, ℕ, List, Ok, Err, Option, Some, None}
+use Rattle.std.specs.Prelude.{◌≡◌, ◌⊎◌, ℕ, List, Ok, Option, Some}
 use Rattle.std.specs.Option.{option_map}
-use Rattle.mysql_wire_part.specs.Reading.{ReadRefusal}
-use Rattle.mysql_wire_part.specs.ParseBuf.{read_refusal}
 use Rattle.mysql_values.specs.declared.value.Value.{Value}
 use Rattle.mysql_values.specs.TextCell.{read_cell}
 use Rattle.mysql_values.specs.FromValue.{value_text}
 use Rattle.mysql_values.specs.Intermediate.{committed}
 use Rattle.mysql_values.specs.WholeNumber.{whole_conversion, u32_type}
-use Rattle.shop_example.specs.declared.customer_row.CellError.{CellError}
-use Rattle.shop_example.specs.declared.customer_row.CellError.TheVariants as cell
-
--- Why a cell of these bytes gave nothing, where `rest` is left: it can't be read, and nothing was
--- taken; or it converts to nothing, and was taken.
-abbrev pub IsCellRefusal : {X : Type 0} → (Value → Option X) → (bytes rest : List ℕ) → CellError
-    → Type 0
-IsCellRefusal conversion bytes rest (cell.Wire error) =
-    ((refusal : ReadRefusal) → read_refusal error ≡ Some refusal → read_cell bytes ≡ Err refusal)
-    × (rest ≡ bytes)
-IsCellRefusal conversion bytes rest (cell.Value error) =
-    (read_cell bytes ≡ Ok (error.0, rest)) × (conversion error.0 ≡ None)
+use Rattle.shop_example.specs.Cell.{IsCellRefusal}
+use Rattle.shop_example.specs.declared.cell.CellError.{CellError}
 
 -- the number that a value converts to, as a `u32`
 abbrev pub number_of : Value → Option ℕ

@@ -1,4 +1,7 @@
+pub mod ArticleList
 pub mod BalanceQuery
-pub mod CustomerQuery
+pub mod Cell
 pub mod CustomerRow
-pub mod Level
+pub mod Day
+pub mod OrderQuery
+pub mod State

@@ -1,23 +1,27 @@
--- What a customer gives to a query, and why the query is refused.
-use Rattle.std.specs.Prelude.{◌≡◌, ℕ, List, [], ◌∷◌, None}
-use Rattle.mysql_values.specs.declared.value.Value.TheVariants.{Bytes, UInt}
-use Rattle.mysql_params.specs.Given.{Given, positional}
+-- What a search for orders gives to a query, and why the search is refused.
+use Rattle.std.specs.Prelude.{ℕ, List, [], ◌∷◌, codes, IfOk, ⊤}
+use Rattle.mysql_values.specs.Answer.{IsExpectedRefusal}
 use Rattle.mysql_values.specs.StringUnits.{with_backslashes}
-use Rattle.mysql_params.specs.Tokens.{OnTokens}
+use Rattle.mysql_values.specs.ValueOf.{bytes_value, uint_value}
+use Rattle.mysql_params.specs.BindErrors.{IsRefusal}
 use Rattle.mysql_params.specs.Errors.{maker_refusal}
 use Rattle.mysql_params.specs.FirstCause.{first_cause}
-use Rattle.mysql_params.specs.BindErrors.{IsRefusal}
-use Rattle.shop_example.specs.declared.customer_query.QueryError.{QueryError}
-use Rattle.shop_example.specs.declared.customer_query.QueryError.TheVariants.{Value, Params, Bind}
+use Rattle.mysql_params.specs.Made.{Made, pairs_made}
+use Rattle.mysql_params.specs.Tokens.{OnTokens}
+use Rattle.shop_example.specs.Day.{day_value}
+use Rattle.shop_example.specs.declared.day.Day.{Day}
+use Rattle.shop_example.specs.declared.order_query.QueryError.{QueryError}
+use Rattle.shop_example.specs.declared.order_query.QueryError.TheVariants.{Params, Bind}
 
--- the number and the name, by position
-abbrev pub customer_given : ℕ → List ℕ → Given
-customer_given id name = positional (UInt id ∷ Bytes name ∷ [])
+-- what the number of a customer, a day and a text make, by name
+abbrev pub search_made : ℕ → Day → List ℕ → Made
+search_made customer from text = pairs_made ((codes "customer", uint_value customer)
+    ∷ (codes "from", day_value from) ∷ (codes "text", bytes_value text) ∷ [])
 
--- The parameters were refused for memory alone; or the error is the first cause that refuses the
--- query, or out of memory.
-abbrev pub IsQueryRefusal : List ℕ → Given → QueryError → Type 0
-IsQueryRefusal query given (Value error) = ⊥
-IsQueryRefusal query given (Params error) = maker_refusal error ≡ None
-IsQueryRefusal query given (Bind error) =
-    OnTokens with_backslashes query (λ ts. IsRefusal (first_cause ts given) error)
+-- The error is the refusal of the parameters, or out of memory; or, where they were made, the first
+-- cause that refuses the query with them, or out of memory.
+abbrev pub IsQueryRefusal : List ℕ → Made → QueryError → Type 0
+IsQueryRefusal query made (Params error) = IsExpectedRefusal made ⊤ (maker_refusal error)
+IsQueryRefusal query made (Bind error) =
+    IfOk made (λ values. OnTokens with_backslashes query (λ ts.
+    IsRefusal (first_cause ts values) error))

@@ -1,15 +1,16 @@
-//! Queries for a customer.
-ghost use Rattle.std.specs.Prelude.{◌≡◌, None, IfErr, IfOk};
+//! Queries for orders that come from elsewhere.
+ghost use Rattle.std.specs.Prelude.{◌≡◌, Ok, IfErr, IfOk, ⊤};
+ghost use Rattle.mysql_values.specs.Answer.{IsExpectedRefusal};
 ghost use Rattle.mysql_values.specs.StringUnits.{with_backslashes};
 ghost use Rattle.mysql_params.specs.Errors.{maker_refusal};
-ghost use Rattle.mysql_params.specs.Given.{given};
+ghost use Rattle.mysql_params.specs.Given.{Given, given};
 ghost use Rattle.mysql_params.specs.Isolation.{IsBoundText};
 ghost use Rattle.mysql_params.specs.Tokens.{OnTokens};
-ghost use Rattle.shop_example.specs.CustomerQuery.{IsQueryRefusal, customer_given};
+ghost use Rattle.shop_example.specs.OrderQuery.{IsQueryRefusal, search_made};
 
-use mysql_params::params::{Params, ToParams, ToParamsError};
+use crate::day::Day;
+use mysql_params::params::{Params, ToPairs, ToParamsError};
 use mysql_params::{BindError, bind_text};
-use mysql_values::value::convert::{ToValue, ToValueError};
 use std::alloc::Global;
 use thiserror::Error;
 
@@ -17,85 +18,83 @@ use thiserror::Error;
 #[derive(Debug, PartialEq, Drop, Error)]
 pub enum QueryError {
     #[error(transparent)]
-    Value(#[from] ToValueError),
+    Params(ToParamsError),
     #[error(transparent)]
-    Params(#[from] ToParamsError),
-    #[error(transparent)]
-    Bind(#[from] BindError),
+    Bind(BindError),
 }
 
-/// The query for a customer, by name.
-pub fn customer(alloc: Global, id: u64, name: &str) -> Result<Vec<u8>, QueryError> {
-    let pairs = [("id", id.to_value(alloc)?), ("name", name.to_value(alloc)?)];
-    let params = Params::from_pairs(alloc, &pairs)?;
-    Ok(bind_text(alloc, b"SELECT :id, ':id', :name", params)?)
-}
-
-/// A query of the caller's with a customer's number and name in the place of its two marks, in
-/// this order.
-pub fn bind_customer(
+/// A query of the caller's with its names `customer`, `from` and `text` bound.
+pub fn search_orders(
     alloc: Global,
     query: &[u8],
-    id: u64,
-    name: &str,
+    customer: u64,
+    from: Day,
+    text: &str,
 ) -> Result<Vec<u8>, QueryError>
-    ensures bound { IfOk result (λ text. OnTokens with_backslashes query.now (λ ts.
-        IsBoundText with_backslashes ts (customer_given id name.now) text.items)) }
-    ensures refused { IfErr result (IsQueryRefusal query.now (customer_given id name.now)) }
+    ensures bound { IfOk result (λ sql. (values : Given)
+        × (search_made customer from text.now ≡ Ok values)
+        × OnTokens with_backslashes query.now (λ ts.
+        IsBoundText with_backslashes ts values sql.items)) }
+    ensures refused { IfErr result (IsQueryRefusal query.now (search_made customer from text.now)) }
 {
-    let params = match customer_params(alloc, id, name) {
+    let params = match search_params(alloc, customer, from, text) {
         Ok(params) => params,
         Err(error) => return Err(QueryError::Params(error)),
     };
     match bind_text(alloc, query, params) {
-        Ok(text) => Ok(text),
+        Ok(sql) => Ok(sql),
         Err(error) => Err(QueryError::Bind(error)),
     }
 }
 
-// The number and the name, by position. Nothing but memory is refused.
-fn customer_params(alloc: Global, id: u64, name: &str) -> Result<Params, ToParamsError>
-    ensures given { IfOk result (λ params. given params ≡ customer_given id name.now) }
-    ensures memory { IfErr result (λ error. maker_refusal error ≡ None) }
+// The parameters of a search.
+fn search_params(
+    alloc: Global,
+    customer: u64,
+    from: Day,
+    text: &str,
+) -> Result<Params, ToParamsError>
+    ensures given { IfOk result (λ params. search_made customer from text.now ≡ Ok (given params)) }
+    ensures refused { IfErr result (λ error.
+        IsExpectedRefusal (search_made customer from text.now) ⊤ (maker_refusal error)) }
 {
-    (id, name).to_params(alloc)
+    (("customer", customer), ("from", from), ("text", text)).to_named(alloc)
 }
 
 #[cfg(test)]
 mod tests {
     use super::*;
+    use mysql_params::params::ParamsError;
     use std::test::Fail;
 
-    const HOSTILE: &str = "x' OR '1'='1";
+    const SEARCH: &[u8] =
+        b"SELECT id FROM orders WHERE customer = :customer AND day >= :from AND note = :text";
+
+    const NEW_YEAR: Day = Day {
+        year: 2026,
+        month: 1,
+        day: 1,
+    };
 
     #[test]
     fn by_name(rt: HostRuntime) -> Result<(), Fail> {
-        let text = customer(rt.alloc(), 42, HOSTILE)?;
+        let text = search_orders(rt.alloc(), SEARCH, 42, NEW_YEAR, "A'1")?;
         assert_eq!(rt;
             text.as_slice(),
-            b"SELECT 42, ':id', 'x\\' OR \\'1\\'=\\'1'".as_slice()
+            b"SELECT id FROM orders WHERE customer = 42 AND day >= '2026-01-01' AND note = 'A\\'1'".as_slice()
         );
         Ok(())
     }
 
     #[test]
-    fn by_position(rt: HostRuntime) -> Result<(), Fail> {
-        let text = bind_customer(rt.alloc(), b"SELECT ?, ?", 42, HOSTILE)?;
-        assert_eq!(rt;
-            text.as_slice(),
-            b"SELECT 42, 'x\\' OR \\'1\\'=\\'1'".as_slice()
+    fn a_name_of_no_value(rt: HostRuntime) -> Result<(), Fail> {
+        let refusal = search_orders(rt.alloc(), b"SELECT :costumer", 42, NEW_YEAR, "").err();
+        assert!(rt;
+            matches!(
+                &refusal,
+                Some(QueryError::Bind(BindError::Params(ParamsError::Missing(_))))
+            )
         );
-        Ok(())
-    }
-
-    #[test]
-    fn one_mark_for_two_values(rt: HostRuntime) -> Result<(), Fail> {
-        let refusal = bind_customer(rt.alloc(), b"SELECT ?", 42, HOSTILE).err();
-        let expected = BindError::MarkCount {
-            marks: 1,
-            values: 2,
-        };
-        assert_eq!(rt; refusal, Some(QueryError::Bind(expected)));
         Ok(())
     }
 }

@@ -1,97 +1,135 @@
-//! The levels of customers: a type of the caller's own that values convert to.
-ghost use Rattle.std.specs.Prelude.{◌≡◌, Ok};
+//! The states of orders: a type of the caller's own that values convert to, over `u8`.
+ghost use Rattle.std.specs.Prelude.{◌≡◌};
 ghost use Rattle.mysql_values.specs.FromValue.{ConvertsOrHandsBack};
-ghost use Rattle.mysql_values.specs.declared.value.Value as value;
-ghost use Rattle.shop_example.specs.Level.{level_conversion, level_of};
-ghost use Rattle.shop_example.specs.declared.level.Level as level;
+ghost use Rattle.mysql_values.specs.ValueOf.{uint_value};
+ghost use Rattle.shop_example.specs.State.{IsByteReading, state_number, state_conversion, state_of};
+ghost use Rattle.shop_example.specs.declared.state.State as state;
 
 use mysql_values::value::Value;
-use mysql_values::value::convert::{FromValue, FromValueError, IntoValue, ToValueError};
+use mysql_values::value::convert::{
+    FromValue, FromValueError, IntoValue, ParseIrOpt, ToValueError,
+};
 use std::alloc::Global;
 
-/// The level of a customer.
+/// The state of an order.
 #[derive(Debug, Clone, Copy, PartialEq, Eq)]
-pub enum Level {
-    Low,
-    High,
+pub enum State {
+    Open,
+    Paid,
+    Sent,
 }
 
-/// A level, and the value that it was made of: the value can be handed back.
-#[derive(Drop)]
-pub struct LevelIr {
-    level: Level,
-    value: Value,
-}
-
-// The level that a text names.
-fn read_level(text: &[u8]) -> Option<Level>
-    ensures { result ≡ level_of text.now }
+// The number that a value converts to, as a `u8`, and the value.
+fn byte(value: Value) -> Result<(u8, Value), FromValueError>
+    ensures { IsByteReading value result }
 {
-    if text == b"low".as_slice() {
-        Some(Level::Low)
-    } else if text == b"high".as_slice() {
-        Some(Level::High)
-    } else {
-        None
+    let is_int = matches!(&value, Value::Int(_));
+    match u8::get_intermediate(value) {
+        Ok(ParseIrOpt::Parsed(number, value)) => Ok((number, value)),
+        Ok(ParseIrOpt::Ready(number)) if is_int => Ok((number, Value::Int(i64::from(number)))),
+        Ok(ParseIrOpt::Ready(number)) => Ok((number, Value::UInt(u64::from(number)))),
+        Err(error) => Err(error),
     }
 }
 
-impl TryFrom<Value> for LevelIr {
+// The state of a number.
+fn read_state(number: u8) -> Option<State>
+    ensures { result ≡ state_of number }
+{
+    match number {
+        0 => Some(State::Open),
+        1 => Some(State::Paid),
+        2 => Some(State::Sent),
+        _ => None,
+    }
+}
+
+impl State {
+    /// The number of the state.
+    pub fn number(self) -> u8
+        ensures { result ≡ state_number self }
+    {
+        match self {
+            State::Open => 0,
+            State::Paid => 1,
+            State::Sent => 2,
+        }
+    }
+}
+
+impl TryFrom<Value> for State {
     type Error = FromValueError;
 
     ghost try_from_gives = { λ value result.
-        ConvertsOrHandsBack (λ ir. (ir.level, ir.value)) (level_conversion value) value result };
+        ConvertsOrHandsBack (λ state. state) (state_conversion value) value result };
 
-    fn try_from(value: Value) -> Result<LevelIr, FromValueError> {
-        let level = match &value {
-            Value::Bytes(text) => read_level(text.as_slice()),
-            _ => None,
-        };
-        match level {
-            Some(level) => Ok(LevelIr { level, value }),
+    fn try_from(value: Value) -> Result<State, FromValueError> {
+        let (number, value) = byte(value)?;
+        match read_state(number) {
+            Some(state) => Ok(state),
             None => Err(FromValueError(value)),
         }
     }
 }
 
-impl From<LevelIr> for Level {
-    ghost from_gives = { λ ir level. level ≡ ir.level };
-
-    fn from(ir: LevelIr) -> Level {
-        ir.level
-    }
-}
-
-impl IntoValue for LevelIr {
-    ghost undo = { λ ir. Ok ir.value };
+impl IntoValue for State {
+    ghost undo = { λ state. uint_value (state_number state) };
 
     ghost takes_memory = { λ _. ⊥ };
 
     fn into_value(self, _alloc: Global) -> Result<Value, ToValueError> {
-        Ok(self.value)
+        Ok(Value::UInt(u64::from(self.number())))
     }
 }
 
-impl FromValue for Level {
-    type Intermediate = LevelIr;
+impl FromValue for State {
+    type Intermediate = State;
 
-    ghost Seen = { level.Level };
+    ghost Seen = { state.State };
 
-    ghost seen = { λ level. level };
+    ghost seen = { λ state. state };
 
-    ghost SeenIr = { level.Level × value.Value };
+    ghost SeenIr = { state.State };
 
-    ghost seen_ir = { λ ir. (ir.level, ir.value) };
+    ghost seen_ir = { λ state. state };
 
-    ghost conversion = { level_conversion };
+    ghost conversion = { state_conversion };
 
-    ghost commit = { λ ir. ir.0 };
+    ghost commit = { λ state. state };
 
-    fn commit_intermediate(ir: LevelIr) -> Level {
-        ir.level
+    fn commit_intermediate(ir: State) -> State {
+        ir
     }
 
-    fn get_intermediate(v: Value) -> Result<LevelIr, FromValueError> {
-        LevelIr::try_from(v)
+    fn get_intermediate(v: Value) -> Result<State, FromValueError> {
+        State::try_from(v)
+    }
+}
+
+#[cfg(test)]
+mod tests {
+    use super::*;
+    use mysql_values::bytes::Bytes;
+    use mysql_values::value::convert::from_value_opt;
+    use std::test::Fail;
+
+    #[test]
+    fn by_number(rt: HostRuntime) -> Result<(), Fail> {
+        assert_eq!(rt; from_value_opt::<State>(Value::Int(0)), Ok(State::Open));
+        assert_eq!(rt; from_value_opt::<State>(Value::UInt(1)), Ok(State::Paid));
+        let text = Vec::from_slice(rt.alloc(), b"2")?;
+        let text = Value::Bytes(Bytes::from(text));
+        assert_eq!(rt; from_value_opt::<State>(text), Ok(State::Sent));
+        Ok(())
+    }
+
+    #[test]
+    fn handed_back(rt: HostRuntime) -> Result<(), Fail> {
+        for value in [Value::Int(3), Value::UInt(3), Value::Int(-1), Value::NULL] {
+            let copy = value.clone()?;
+            assert_eq!(rt; from_value_opt::<State>(value), Err(FromValueError(copy)));
+        }
+        assert_eq!(rt; State::Sent.into_value(rt.alloc())?, Value::UInt(2));
+        Ok(())
     }
 }
