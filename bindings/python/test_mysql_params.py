@@ -9,7 +9,6 @@ import gc
 import os
 import pathlib
 import pickle
-import re
 import sys
 import threading
 import unittest
@@ -17,137 +16,10 @@ from unittest import mock
 
 import mysql_params
 from mysql_params import Construct, _archive, bind, bind_form, first_unportable, names
-
-CASES = pathlib.Path(__file__).resolve().parent.parent / "cases"
+from shared_cases import CASES, CONSTRUCTS, FIELDS, NUMBERS, cases, text_of
 
 UNTOUCHED = 0xA5
 """What a byte of the room holds before a call."""
-
-ERRORS = {
-    "FORM_END": mysql_params.FormEndError,
-    "FORM_LENGTH_LEAD": mysql_params.FormLengthLeadError,
-    "FORM_TYPE": mysql_params.FormTypeError,
-    "FORM_MIXED": mysql_params.FormMixedError,
-    "FORM_REPEATED": mysql_params.RepeatedNameError,
-    "MIXED": mysql_params.MixedError,
-    "MISSING": mysql_params.MissingError,
-    "NAMED_FOR_POSITIONAL": mysql_params.NamedForPositionalError,
-    "POSITIONAL_FOR_NAMED": mysql_params.PositionalForNamedError,
-    "MARK_COUNT": mysql_params.MarkCountError,
-    "NOT_ALONE": mysql_params.NotAloneError,
-    "FLOAT": mysql_params.FloatError,
-}
-
-FIELDS = {
-    "FORM_END": ("parameter", "position"),
-    "FORM_LENGTH_LEAD": ("parameter", "position", "byte"),
-    "FORM_TYPE": ("parameter", "position", "column_type"),
-    "FORM_MIXED": ("parameter", "position"),
-    "FORM_REPEATED": ("parameter", "position", "name"),
-    "MISSING": ("place", "position", "name"),
-    "MARK_COUNT": ("marks", "values"),
-    "NOT_ALONE": ("place", "position"),
-    "FLOAT": ("place",),
-}
-
-NUMBERS = {"FORM_END": 3, "FORM_LENGTH_LEAD": 4, "FORM_TYPE": 5, "FORM_MIXED": 6, "FORM_REPEATED": 7, "MIXED": 8}
-NUMBERS.update({"MISSING": 9, "NAMED_FOR_POSITIONAL": 10, "POSITIONAL_FOR_NAMED": 11, "MARK_COUNT": 12})
-NUMBERS.update({"NOT_ALONE": 13, "FLOAT": 14})
-
-CONSTRUCTS = ["EXECUTABLE_COMMENT", "HINT", "MARIADB_COMMENT", "DASHES", "ESCAPED_QUOTE", "BRACKET", "DOLLAR_QUOTE"]
-CONSTRUCTS += ["DASHES_AFTER_EXPONENT", "PLACE_AFTER_EXPONENT"]
-"""Names of the constructs in cases, in the order of their numbers from 1 on."""
-
-FIELDS_OF_CASES = {"parameter": "place", "column_type": "byte"}
-"""What cases call the fields that errors have by other names."""
-
-
-def text_of(text):
-    """Return the bytes of a text: pairs of hexadecimal digits within { }, or as they stand."""
-    return re.sub(rb"\{([0-9A-F]+)\}", lambda found: bytes.fromhex(found[1].decode()), text.encode())
-
-
-def value_of(text):
-    """Return the value of a parameter as Python has it."""
-    kind, _, rest = text.partition(":")
-    if kind == "s":
-        return text_of(rest)
-    if kind in ("i", "u"):
-        return int(rest)
-    if kind == "date":
-        fields = [int(field) for field in rest.split()]
-        return datetime.datetime(*fields) if any(fields[3:]) else datetime.date(*fields[:3])
-    if kind == "time":
-        sign, *fields = rest.split()
-        days, hours, minutes, seconds, microseconds = map(int, fields)
-        time = datetime.timedelta(days, seconds, microseconds, hours=hours, minutes=minutes)
-        return -time if sign == "-" else time
-    return {"null": None, "float": 0.0, "double": 0.0}[kind]
-
-
-class Case:
-    """A case, and the lines that it stands in."""
-
-    def __init__(self, lines):
-        self.lines, self.query, self.params, self.form = lines, b"", [], b""
-        self.text, self.renamed, self.names, self.refusal, self.message = None, None, [], None, None
-        self.no_backslash_escape, self.portable, self.construct = False, False, None
-        for line in lines:
-            word, _, rest = line.partition(" ")
-            self.read(word, rest)
-
-    def read(self, word, rest):
-        if word in ("query", "text", "renamed"):
-            setattr(self, word, text_of(rest))
-        elif word == "param":
-            name, _, value = rest.partition("=")
-            self.params.append((name, value_of(value)))
-        elif word == "form":
-            self.form += bytes.fromhex(rest)
-        elif word == "no_backslash_escape":
-            self.no_backslash_escape = True
-        elif word == "name":
-            self.names.append(rest)
-        elif word == "message":
-            self.message = rest
-        elif word == "message_in_c":
-            pass
-        elif word == "refused":
-            self.refusal, *fields = rest.split(" ")
-            self.fields = dict(field.split("=") for field in fields)
-        elif word == "portable":
-            self.portable = True
-        elif word == "unportable":
-            self.construct, *fields = rest.split(" ")
-            self.fields = dict(field.split("=") for field in fields)
-        else:
-            raise ValueError(f"{word} is no word of a case")
-
-    def given(self):
-        """Return the parameters as a list or a dict; a name that stands twice is given as str and as bytes."""
-        if not self.params or not self.params[0][0]:
-            return [value for _, value in self.params] or None
-        given = {}
-        for name, value in self.params:
-            given[name.encode() if name in given else name] = value
-        return given
-
-    def error(self):
-        """Return the type and the arguments of the error that is wanted."""
-        arguments = []
-        for field in FIELDS.get(self.refusal, ()):
-            told = self.fields.get(FIELDS_OF_CASES.get(field, field), "0")
-            arguments.append(text_of(told) if field == "name" else int(told))
-        return ERRORS[self.refusal], tuple(arguments)
-
-
-def cases(file):
-    """Return the cases of a file."""
-    parts = (CASES / file).read_text().split("\n\n")
-    lines = [[line for line in part.splitlines() if not line.startswith("#")] for part in parts]
-    found = [Case(part) for part in lines if part]
-    assert found, f"{file} has no case"
-    return found
 
 
 def literal_without_backslashes(byte):
