@@ -201,7 +201,7 @@ class Test(unittest.TestCase):
 
     def test_rooms_without_memory(self):
         def up_to(longest):
-            """Let no room be made that is longer, but for its one byte more."""
+            """Let no room be made that is longer, except for its one byte more."""
 
             def made(length):
                 if length > longest + 1:
