@@ -1,4 +1,4 @@
-use Rattle.std.proofs.Common.{ap, sym, ◌∙◌, Some}
+use Rattle.std.proofs.Common.{ap, sym, ◌∙◌, rules, Some}
 use Rattle.std.proofs.lemmas.List.{length-map}
 use Rattle.mysql_params_core.specs.Referents.{referents}
 use Rattle.mysql_binding.specs.FirstCause.{mark_count, mark_count_differs}
@@ -13,11 +13,12 @@ returns-then-mark_count_differs c ts is =
     ∙ later_is_count _ ts (referents values) is
     (ap (mark_count_differs c.args.survey.names c.args.survey.marks) same ∙ (sym c.mark_count_differs.ensures ∙ c.if-mark_count_differs.true))
 
+-- It is searched for, so that a wrong body is refused at the goal, and another right one is proved.
 pub returns-in-Some : goal.returns-in-Some
 returns-in-Some c ts is =
     let values = c.args.values.now in
-    later_is_alone _ ts (referents values) is _ _
-    (ap (mark_count_differs c.args.survey.names c.args.survey.marks) (length-map values (λ r. r.now)) ∙ (sym c.mark_count_differs.ensures ∙ c.if-mark_count_differs.false)) c.in-Some.is
+    let counted = ap (mark_count_differs c.args.survey.names c.args.survey.marks) (length-map values (λ r. r.now)) ∙ (sym c.mark_count_differs.ensures ∙ c.if-mark_count_differs.false) in
+    search (later_is_alone _ ts (referents values) is _ _ counted c.in-Some.is, rules)
 
 pub returns-in-Some-first_float : goal.returns-in-Some-first_float
 returns-in-Some-first_float c ts is =
