@@ -32,7 +32,7 @@ def main(path: str, mysql_query: str, folder: str) -> int:
     beside.run(tests, path)
     program.run(tests, path, mysql_query, folder)
     rows.run(tests, path, folder)
-    client.run(tests, path)
+    client.run(tests, path, folder)
     leaks.run(tests, path)
     limits.run(tests, path, folder)
     search.run(tests, path)

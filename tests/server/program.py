@@ -6,14 +6,15 @@ import subprocess
 
 import mysql_params
 import strings
+from client import OPTIONS
 from harness import Tests, same
 from literals import CHARSETS
 from protocol import Connection
 
 # The line of README, in a folder that has query.sql. The client's account and socket stand in ~/.my.cnf.
-_PIPE = """
+_PIPE = f"""
 set -o pipefail
-mysql_query bind id=i:42 name=s:"$NAME" < query.sql | mysql --comments --default-character-set=utf8mb4 shop
+mysql_query bind id=i:42 name=s:"$NAME" < query.sql | mysql {" ".join(OPTIONS)} shop
 """
 
 _NAMES = [
@@ -173,6 +174,6 @@ def _closed(shell) -> None:
     name = "*/ ; SELECT CURRENT_USER(); -- "
     ran = shell(_PIPE, query, name, "C.UTF-8")
     same((ran.returncode, ran.stdout, b"1064" in ran.stderr), (1, b"", True), query)
-    for pipe in (_PIPE.replace(" --comments", ""), _PIPE.replace("--comments", "--comments --force")):
+    for pipe in (_PIPE.replace(" --comments", ""), _PIPE.replace("--skip-force", "--force")):
         ran = shell(pipe, query, name, "C.UTF-8")
         same(b"root@localhost" in ran.stdout, True, pipe)
