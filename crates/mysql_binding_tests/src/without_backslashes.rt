@@ -9,11 +9,7 @@ use crate::shared::{
 /// Queries, what is given to them, and the text.
 const TEXTS: &[(&[u8], Given<'_>, &[u8])] = &[
     // The string ends at the quote after the backslash.
-    (
-        b"SELECT 'a\\', :b",
-        TEXT_FOR_B,
-        b"SELECT 'a\\', 'it''s\\'",
-    ),
+    (b"SELECT 'a\\', :b", TEXT_FOR_B, b"SELECT 'a\\', 'it''s\\'"),
     (b"?", Given::Positional(&[Plain::Text(b"''")]), b"''''''"),
     (
         b"SELECT ?, ?",
@@ -62,6 +58,7 @@ fn hostile_values(rt: HostRuntime) {
 }
 
 const NULL_FOR_B: Given<'_> = Given::Named(&[(b"b", Plain::Null)]);
+
 const TEXT_FOR_B: Given<'_> = Given::Named(&[(b"b", Plain::Text(b"it's\\"))]);
 
 #[test]
