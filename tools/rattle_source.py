@@ -11,6 +11,7 @@ KIND = re.compile(
     r"(?P<pub>pub(?:\([^)]*\))? )?(?:(?:const|unsafe) (?=fn|unsafe)|extern \"C\" )*"
     r"(?P<kind>fn|struct|enum|trait|impl|mod|use|const|static|type|ghost)\b ?(?P<name>\w+)?"
 )
+CLAUSE = re.compile(r"(?P<word>requires|ensures) (?:(?P<name>\w+) )?\{")
 
 
 @dataclass
@@ -40,6 +41,32 @@ class Item:
         return "\n".join([*self.lines[: self.opening], last]).rstrip()
 
     @property
+    def contract_at(self):
+        """The line of the head with which its contract begins, or the comments before it."""
+        lines = [line.strip() for line in self.head.splitlines()]
+        return next((i for i, line in enumerate(lines) if i and (CLAUSE.match(line) or is_comment(line))), len(lines))
+
+    @property
+    def signature(self):
+        """The head without its contract, on one line."""
+        return on_one_line(" ".join(self.head.splitlines()[: self.contract_at])).rstrip(";,")
+
+    @property
+    def clauses(self):
+        """Each clause of the contract: its name (its first word if it has none), what it says, and the comment before it."""
+        found, comment = [], []
+        for line in map(str.strip, self.head.splitlines()[self.contract_at :]):
+            match = CLAUSE.match(line)
+            if is_comment(line):
+                comment.append(line.removeprefix("//").strip())
+            elif match:
+                found.append([match["name"] or match["word"], line[match.end() :], " ".join(comment)])
+                comment = []
+            elif found:
+                found[-1][1] += " " + line
+        return [(name, on_one_line(says).rstrip(";").removesuffix("}").strip(), why) for name, says, why in found]
+
+    @property
     def members(self):
         """The items between the braces."""
         if self.opening is None:
@@ -66,6 +93,10 @@ def opens(line, first):
     # The second form ends a type that goes over several lines.
     after_head = line.startswith(INDENT + "for ") or line == INDENT + ") {"
     return not line.startswith(" ") or (first.startswith("impl") and after_head)
+
+
+def on_one_line(text):
+    return " ".join(text.split()).replace("( ", "(").replace(", )", ")").replace(", }", " }")
 
 
 def is_comment(line):
@@ -112,14 +143,6 @@ def items(source):
     return found
 
 
-def all_items(source):
-    """The items at the margin and the members of impls, traits and modules."""
-    for item in items(source):
-        yield item
-        if item.kind in ("impl", "trait", "mod"):
-            yield from all_items("\n".join(dedented(item.lines[(item.opening or 0) + 1 : -1])))
-
-
 def without_generics(head):
     """The head of an impl without what stands between `impl` and its trait or type."""
     rest = head.removeprefix("impl")
@@ -132,14 +155,3 @@ def without_generics(head):
         if depth == 0:
             return "impl" + rest[i + 1 :]
     return head
-
-
-def contracts(source, call):
-    """The signature and contract of each function of this name, or the text of each such impl."""
-    for item in all_items(source):
-        if call.startswith("impl"):
-            head = " ".join(without_generics(item.head).split()) if item.kind == "impl" else ""
-            if head == call or head.startswith(call + " "):
-                yield item.text
-        elif item.kind == "fn" and item.name == call:
-            yield item.head

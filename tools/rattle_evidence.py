@@ -1,0 +1,206 @@
+"""What shows that a call keeps its promises: the must-fail edits that turn it and the tests that call it, both found by name.
+
+An edit turns the function that its `old:` stands in, or the type. It is shown at the nearest functions that the page lists:
+a private function's edits at those that call it, directly or through other private functions of its crate.
+"""
+import re
+from dataclasses import dataclass
+
+from rattle_crates import PATHS, ROOT, bare, functions, parts, source_at, sources_of
+from rattle_source import INDENT
+
+WORD = re.compile(r"\b[A-Za-z]\w*\b")
+# Methods of other types too: a test names the type beside one of these.
+SHARED_NAMES = {"as_slice", "clone", "commit", "fmt", "from", "is_empty", "len", "query", "rollback", "run"}
+
+
+@dataclass(frozen=True)
+class Edit:
+    """A wrong body of the crate, which the gate tries, or `tools/must-fail-apart` does."""
+
+    crate: str
+    name: str
+    is_apart: bool
+
+    def __str__(self):
+        return f"`{self.crate}/{self.name}`" + ("*" if self.is_apart else "")
+
+
+def all_edits():
+    """Each edit, with its path."""
+    for path in sorted(ROOT.glob("crates/*/must-fail*/*.edit")):
+        yield Edit(path.parent.parent.name, path.stem, path.parent.name == "must-fail-apart"), path
+
+
+def changes(path):
+    """Each file that an edit changes, with the text that it replaces."""
+    file = None
+    for line in path.read_text().splitlines():
+        word, _, text = line.partition(": ")
+        if word == "file":
+            file = path.parent.parent / text
+        elif word == "old":
+            yield file, text
+
+
+def functions_with(source, text):
+    """The functions and constants of a file that have this text, which begins with the blanks of its line in the file."""
+    for holder, item in functions(source.items, kinds=("fn", "const", "static")):
+        margin = INDENT if holder else ""
+        # A constant of an `impl` is told by its type.
+        if not (holder and item.kind == "const") and text in "\n".join(margin + line for line in item.lines):
+            yield holder, item
+
+
+def types_with(source, text):
+    """The names of the types whose item, attributes or impl has the text."""
+    for item in source.items:
+        if item.kind == "use" or text.strip() not in "\n".join([*item.attributes, item.text]):
+            continue
+        if item.kind == "impl":
+            yield bare(parts(item.head)[1])
+        elif item.kind in ("struct", "enum", "trait"):
+            yield item.name
+        else:
+            yield from re.findall(r"\bimpl (\w+)", item.text)
+
+
+def key_of(source, holder, item):
+    """What tells a function from every other one."""
+    return source.path, holder.head if holder else "", item.name
+
+
+class Edits:
+    """The edits by the calls and the types that they turn.
+
+    `calls` are the keys of the calls that the page lists, `trait_calls` those of the members of listed traits by the names of
+    trait and member, `types` the names of listed types. `of_call` has for a call what its edits change (nothing for its own
+    body) and the edits, `of_type` has the edits of a type, and `elsewhere` those that turn neither.
+    """
+
+    def __init__(self, calls, trait_calls, types):
+        self.calls, self.trait_calls, self.types = calls, trait_calls, types
+        self.of_call, self.of_type, self.elsewhere, self.bodies = {}, {}, [], {}
+        for edit, path in all_edits():
+            turned = [self.turn(edit, source_at(edit.crate, file), text) for file, text in changes(path)]
+            if not any(turned):
+                self.elsewhere.append(edit)
+
+    def turn(self, edit, source, text):
+        """Notes what the edit turns by replacing this text; whether that is anything."""
+        turned = list(functions_with(source, text))
+        if turned:
+            return any([self.note_function(edit, source, *one) for one in turned])
+        types = [name for name in types_with(source, text) if name in self.types]
+        for name in types:
+            self.note_type(name, edit)
+        return bool(types)
+
+    def note_function(self, edit, source, holder, item):
+        """Notes an edit of a function at the nearest calls or types of the page; whether there is any."""
+        calls, types = self.nearest(source, holder, item)
+        for key in calls:
+            if key == key_of(source, holder, item):
+                label = ""
+            elif holder and self.trait_calls.get((bare(parts(holder.head)[0]), item.name)) == key:
+                label = f"for `{parts(holder.head)[1]}`: "
+            else:
+                label = f"in `{item.name}`: "
+            self.of_call.setdefault(key, {}).setdefault(label, {})[edit] = True
+        for name in types:
+            self.note_type(name, edit)
+        return bool(calls or types)
+
+    def note_type(self, name, edit):
+        self.of_type.setdefault(name, {})[edit] = True
+
+    def nearest(self, source, holder, item):
+        """The calls and the types that a function belongs to: itself, or those that use it within its crate."""
+        calls, types = {}, {}
+        seen, waiting = set(), [(source, holder, item)]
+        while waiting:
+            one = waiting.pop(0)
+            call, name = self.listed(*one)
+            if call:
+                calls[call] = True
+            elif name:
+                types[name] = True
+            else:
+                waiting += [user for user in self.users(one) if key_of(*user) not in seen]
+                seen.update(key_of(*user) for user in waiting)
+        return list(calls), list(types)
+
+    def listed(self, source, holder, item):
+        """The call of the page that a function is or implements, and else the type for which it implements a trait of std."""
+        key = key_of(source, holder, item)
+        if key in self.calls:
+            return key, None
+        trait, subject = parts(holder.head) if holder and holder.kind == "impl" else ("", "")
+        call = self.trait_calls.get((bare(trait), item.name))
+        names = [bare(subject), *re.findall(r"\w+", trait)[1:]] if trait else []
+        return call, next((name for name in names if name in self.types), None)
+
+    def users(self, one):
+        """The functions of its crate whose bodies name this one."""
+        crate, name = one[0].crate, one[2].name
+        if crate not in self.bodies:
+            self.bodies[crate] = [
+                ((source, holder, item), set(WORD.findall(item.text.removeprefix(item.head))))
+                for source in sources_of(crate)
+                for holder, item in functions(source.items)
+            ]
+        return [user for user, words in self.bodies[crate] if name in words and key_of(*user) != key_of(*one)]
+
+
+@dataclass
+class Test:
+    """A test, with the words that it and the functions of its crate that it uses have, each with how many calls lead to it."""
+
+    crate: str
+    path: str
+    depths: dict
+    # The names of its crate's own functions.
+    own: set
+
+    def depth(self, name, crate):
+        """How many calls lead from the test to the function of this name of this crate; none if it isn't called."""
+        return self.depths.get(name) if name not in self.own or crate == self.crate else None
+
+
+def tests_of(crate):
+    """The tests of a crate, without the one that only hands on the public paths."""
+    bodies, own, found = {}, set(), []
+    for source in sources_of(crate):
+        module = "::".join(source.path.relative_to(ROOT / "crates" / crate / "src").with_suffix("").parts)
+        for holder, item in functions(source.items):
+            bodies.setdefault(item.name, set()).update(WORD.findall(item.text.removeprefix(item.head)))
+            if holder is None:
+                own.add(item.name)
+            if "#[test]" in item.attributes and source.path != PATHS:
+                found.append((f"{crate}::{module}::{item.name}", item.name))
+    for path, name in found:
+        depths, layer, depth = {}, {name}, 0
+        while layer:
+            new = set().union(*(bodies[one] for one in layer)) - set(depths)
+            depths.update(dict.fromkeys(new, depth))
+            layer, depth = new & set(bodies), depth + 1
+        yield Test(crate, path, depths, own)
+
+
+class Tests:
+    """The tests of some crates, by the names that they reach."""
+
+    def __init__(self, crates):
+        self.tests = [test for crate in crates for test in tests_of(crate)]
+
+    def of(self, name, crate, owner):
+        """The paths of the tests that call a function, the most direct first. A method of a name that other types have too is
+        called only if its type is named."""
+        found = []
+        for test in self.tests:
+            depths = [test.depth(name, crate)]
+            if owner and name in SHARED_NAMES:
+                depths.append(test.depth(owner, crate))
+            if None not in depths:
+                found.append((max(depths), test.path))
+        return [path for _, path in sorted(found, key=lambda one: one[0])]
