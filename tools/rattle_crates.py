@@ -106,7 +106,7 @@ def resolved(source, words):
             return place, item
     for item in place.items:
         for path in uses(item) if item.kind == "use" else []:
-            if path[-1] == words[-1]:
+            if path[-1] == words[-1] and path != words[-1:]:
                 return resolved(place, path)
     return None
 

@@ -6,7 +6,7 @@ a private function's edits at those that call it, directly or through other priv
 import re
 from dataclasses import dataclass
 
-from rattle_crates import PATHS, ROOT, bare, functions, parts, source_at, sources_of
+from rattle_crates import PATHS, ROOT, bare, functions, libraries, module, parts, resolved, source_at, sources_of, uses
 from rattle_source import INDENT
 
 WORD = re.compile(r"\b[A-Za-z]\w*\b")
@@ -70,6 +70,26 @@ def key_of(source, holder, item):
     return source.path, holder.head if holder else "", item.name
 
 
+def imported(source):
+    """The file and the name of each item that a file imports, by itself or with its module."""
+    for path in (path for item in source.items if item.kind == "use" for path in uses(item)):
+        whole, named = module(source, path), resolved(source, path)
+        if whole:
+            yield from ((whole, item.name) for item in whole.items)
+        elif named:
+            yield named[0], named[1].name
+
+
+def importers():
+    """The files that import an item of another crate, by the item's file and name."""
+    found = {}
+    for source in (source for crate in libraries() for source in sources_of(crate)):
+        for place, name in imported(source):
+            if place.crate != source.crate:
+                found.setdefault((place.path, name), []).append(source)
+    return found
+
+
 class Edits:
     """The edits by the calls and the types that they turn.
 
@@ -80,7 +100,8 @@ class Edits:
 
     def __init__(self, calls, trait_calls, types):
         self.calls, self.trait_calls, self.types = calls, trait_calls, types
-        self.of_call, self.of_type, self.elsewhere, self.bodies = {}, {}, [], {}
+        self.of_call, self.of_type, self.elsewhere = {}, {}, []
+        self.bodies, self.importers = {}, importers()
         for edit, path in all_edits():
             turned = [self.turn(edit, source_at(edit.crate, file), text) for file, text in changes(path)]
             if not any(turned):
@@ -98,7 +119,7 @@ class Edits:
 
     def note_function(self, edit, source, holder, item):
         """Notes an edit of a function at the nearest calls or types of the page; whether there is any."""
-        calls, types = self.nearest(source, holder, item)
+        calls, types = self.nearest([(source, holder, item)])
         for key in calls:
             if key == key_of(source, holder, item):
                 label = ""
@@ -114,10 +135,13 @@ class Edits:
     def note_type(self, name, edit):
         self.of_type.setdefault(name, {})[edit] = True
 
-    def nearest(self, source, holder, item):
-        """The calls and the types that a function belongs to: itself, or those that use it within its crate."""
-        calls, types = {}, {}
-        seen, waiting = set(), [(source, holder, item)]
+    def above(self, source, holder, item):
+        """The calls that stand on a call, by themselves or by functions that are no calls."""
+        return self.nearest(self.users((source, holder, item)))[0]
+
+    def nearest(self, waiting):
+        """The calls and the types that functions belong to: themselves, or those that use them."""
+        calls, types, seen = {}, {}, set()
         while waiting:
             one = waiting.pop(0)
             call, name = self.listed(*one)
@@ -127,7 +151,7 @@ class Edits:
                 types[name] = True
             else:
                 waiting += [user for user in self.users(one) if key_of(*user) not in seen]
-                seen.update(key_of(*user) for user in waiting)
+            seen.update(key_of(*user) for user in [one, *waiting])
         return list(calls), list(types)
 
     def listed(self, source, holder, item):
@@ -141,15 +165,20 @@ class Edits:
         return call, next((name for name in names if name in self.types), None)
 
     def users(self, one):
-        """The functions of its crate whose bodies name this one."""
-        crate, name = one[0].crate, one[2].name
-        if crate not in self.bodies:
-            self.bodies[crate] = [
+        """The functions whose bodies name this one: of its crate, and of the files that import it."""
+        source, _, item = one
+        files = [*sources_of(source.crate), *self.importers.get((source.path, item.name), [])]
+        users = [user for file in files for user, words in self.named_in(file) if item.name in words]
+        return [user for user in users if key_of(*user) != key_of(*one)]
+
+    def named_in(self, source):
+        """Each function of a file, with the words of its body."""
+        if source.path not in self.bodies:
+            self.bodies[source.path] = [
                 ((source, holder, item), set(WORD.findall(item.text.removeprefix(item.head))))
-                for source in sources_of(crate)
                 for holder, item in functions(source.items)
             ]
-        return [user for user, words in self.bodies[crate] if name in words and key_of(*user) != key_of(*one)]
+        return self.bodies[source.path]
 
 
 @dataclass
@@ -171,13 +200,13 @@ def tests_of(crate):
     """The tests of a crate, without the one that only hands on the public paths."""
     bodies, own, found = {}, set(), []
     for source in sources_of(crate):
-        module = "::".join(source.path.relative_to(ROOT / "crates" / crate / "src").with_suffix("").parts)
+        path = "::".join(source.path.relative_to(ROOT / "crates" / crate / "src").with_suffix("").parts)
         for holder, item in functions(source.items):
             bodies.setdefault(item.name, set()).update(WORD.findall(item.text.removeprefix(item.head)))
             if holder is None:
                 own.add(item.name)
             if "#[test]" in item.attributes and source.path != PATHS:
-                found.append((f"{crate}::{module}::{item.name}", item.name))
+                found.append((f"{crate}::{path}::{item.name}", item.name))
     for path, name in found:
         depths, layer, depth = {}, {name}, 0
         while layer:
