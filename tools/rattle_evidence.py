@@ -9,9 +9,8 @@ from dataclasses import dataclass
 from rattle_crates import PATHS, ROOT, bare, functions, libraries, module, parts, resolved, source_at, sources_of, uses
 from rattle_source import INDENT
 
-WORD = re.compile(r"\b[A-Za-z]\w*\b")
-# Methods of other types too: a test names the type beside one of these.
-SHARED_NAMES = {"as_slice", "clone", "commit", "fmt", "from", "is_empty", "len", "query", "rollback", "run"}
+# The names in a body: what is called, what stands after `::` or a dot, what is handed on as it is, types and constants.
+NAME = re.compile(r"(?<=::)\w+|(?<=\.)\w+|\b\w+(?=\(|::)|(?<=\()\w+(?=[,)])|(?<=, )\w+(?=[,)])|\b[A-Z]\w*")
 
 
 @dataclass(frozen=True)
@@ -33,13 +32,13 @@ def all_edits():
 
 
 def changes(path):
-    """Each file that an edit changes, with the text that it replaces."""
+    """Each file that an edit changes, if it is there, with the text that it replaces."""
     file = None
     for line in path.read_text().splitlines():
         word, _, text = line.partition(": ")
         if word == "file":
             file = path.parent.parent / text
-        elif word == "old":
+        elif word == "old" and file.is_file():
             yield file, text
 
 
@@ -175,7 +174,7 @@ class Edits:
         """Each function of a file, with the words of its body."""
         if source.path not in self.bodies:
             self.bodies[source.path] = [
-                ((source, holder, item), set(WORD.findall(item.text.removeprefix(item.head))))
+                ((source, holder, item), set(NAME.findall(item.text.removeprefix(item.head))))
                 for holder, item in functions(source.items)
             ]
         return self.bodies[source.path]
@@ -202,7 +201,7 @@ def tests_of(crate):
     for source in sources_of(crate):
         path = "::".join(source.path.relative_to(ROOT / "crates" / crate / "src").with_suffix("").parts)
         for holder, item in functions(source.items):
-            bodies.setdefault(item.name, set()).update(WORD.findall(item.text.removeprefix(item.head)))
+            bodies.setdefault(item.name, set()).update(NAME.findall(item.text.removeprefix(item.head)))
             if holder is None:
                 own.add(item.name)
             if "#[test]" in item.attributes and source.path != PATHS:
@@ -222,14 +221,11 @@ class Tests:
     def __init__(self, crates):
         self.tests = [test for crate in crates for test in tests_of(crate)]
 
-    def of(self, name, crate, owner):
-        """The paths of the tests that call a function, the most direct first. A method of a name that other types have too is
-        called only if its type is named."""
+    def of(self, crate, names):
+        """The paths of the tests that name all of these, a function of a crate and maybe its type, the most direct first."""
         found = []
         for test in self.tests:
-            depths = [test.depth(name, crate)]
-            if owner and name in SHARED_NAMES:
-                depths.append(test.depth(owner, crate))
+            depths = [test.depth(name, crate) for name in names]
             if None not in depths:
                 found.append((max(depths), test.path))
         return [path for _, path in sorted(found, key=lambda one: one[0])]
