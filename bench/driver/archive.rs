@@ -7,28 +7,12 @@ unsafe extern "C" {
     fn mysql_params_names(
         query: *const u8,
         query_len: usize,
-        room: *mut u8,
-        room_len: usize,
-        report: *mut Report,
-    ) -> i32;
-    fn mysql_params_bind(
-        query: *const u8,
-        query_len: usize,
-        form: *const u8,
-        form_len: usize,
-        room: *mut u8,
-        room_len: usize,
-        report: *mut Report,
-    ) -> i32;
-    fn mysql_params_names_in(
-        query: *const u8,
-        query_len: usize,
         no_backslash_escape: bool,
         room: *mut u8,
         room_len: usize,
         report: *mut Report,
     ) -> i32;
-    fn mysql_params_bind_in(
+    fn mysql_params_bind(
         query: *const u8,
         query_len: usize,
         form: *const u8,
@@ -67,35 +51,45 @@ fn number_and_report(call: impl FnOnce(*mut Report) -> i32) -> (i32, Report) {
 // SAFETY, of each call below: pointers and lengths are those of slices, and the report is the archive's to write.
 
 pub fn names(query: &[u8], room: &mut [u8]) -> (i32, Report) {
-    let (query_at, room_at) = (query.as_ptr(), room.as_mut_ptr());
-    number_and_report(|report| unsafe {
-        mysql_params_names(query_at, query.len(), room_at, room.len(), report)
-    })
+    names_in(query, false, room)
 }
 
 pub fn bind(query: &[u8], form: &[u8], room: &mut [u8]) -> (i32, Report) {
-    let (query_at, form_at, room_at) = (query.as_ptr(), form.as_ptr(), room.as_mut_ptr());
-    number_and_report(|report| unsafe {
-        let query_len = query.len();
-        mysql_params_bind(query_at, query_len, form_at, form.len(), room_at, room.len(), report)
-    })
+    bind_in(query, form, false, room)
 }
 
 /// `names` in the mode without backslash escapes.
 pub fn names_without_backslashes(query: &[u8], room: &mut [u8]) -> (i32, Report) {
-    let (query_at, room_at) = (query.as_ptr(), room.as_mut_ptr());
-    number_and_report(|report| unsafe {
-        mysql_params_names_in(query_at, query.len(), true, room_at, room.len(), report)
-    })
+    names_in(query, true, room)
 }
 
 /// `bind` in the mode without backslash escapes.
 pub fn bind_without_backslashes(query: &[u8], form: &[u8], room: &mut [u8]) -> (i32, Report) {
+    bind_in(query, form, true, room)
+}
+
+#[inline(always)]
+fn names_in(query: &[u8], no_backslash_escape: bool, room: &mut [u8]) -> (i32, Report) {
+    let (query_at, room_at) = (query.as_ptr(), room.as_mut_ptr());
+    number_and_report(|report| unsafe {
+        mysql_params_names(query_at, query.len(), no_backslash_escape, room_at, room.len(), report)
+    })
+}
+
+#[inline(always)]
+fn bind_in(query: &[u8], form: &[u8], no_backslash_escape: bool, room: &mut [u8]) -> (i32, Report) {
     let (query_at, form_at, room_at) = (query.as_ptr(), form.as_ptr(), room.as_mut_ptr());
     let (query_len, form_len, room_len) = (query.len(), form.len(), room.len());
     number_and_report(|report| unsafe {
-        mysql_params_bind_in(
-            query_at, query_len, form_at, form_len, true, room_at, room_len, report,
+        mysql_params_bind(
+            query_at,
+            query_len,
+            form_at,
+            form_len,
+            no_backslash_escape,
+            room_at,
+            room_len,
+            report,
         )
     })
 }

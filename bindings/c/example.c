@@ -31,7 +31,8 @@ int main(void)
     }
 
     uint8_t text[256] = {0};
-    int32_t number = mysql_params_bind(query_bytes, strlen(query), form.room, form.len, text, sizeof text, &report);
+    int32_t number = mysql_params_bind(query_bytes, strlen(query), form.room, form.len, false, text, sizeof text,
+                                       &report);
     if (number != MYSQL_PARAMS_DONE) {
         char line[256];
         const uint8_t *source = number == MYSQL_PARAMS_FORM_REPEATED ? form.room : query_bytes;

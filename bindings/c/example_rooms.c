@@ -37,7 +37,7 @@ static int32_t bind_params(const uint8_t *query, size_t query_len, const mysql_p
         *text = NULL;
         if (room == NULL)
             return MYSQL_PARAMS_OUT_OF_MEMORY;
-        int32_t number = mysql_params_bind(query, query_len, form->room, form->len, room, room_len, report);
+        int32_t number = mysql_params_bind(query, query_len, form->room, form->len, false, room, room_len, report);
         if (number == MYSQL_PARAMS_DONE) {
             *text = room;
             return number;

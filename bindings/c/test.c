@@ -103,9 +103,6 @@ typedef struct outcome {
 /* Whether the call to try is that of names, and not that of binding. */
 static bool of_names;
 
-/* Whether the call to try is that for either mode, also where backslashes escape. */
-static bool in_a_mode;
-
 /* How many allocations of a call succeed: all of them. */
 enum { ALL = -1 };
 
@@ -122,14 +119,10 @@ static outcome call(const test_case *it, size_t room_len, long allocations)
     allocation_refused = false;
     allocations_left = allocations;
     bool mode = it->no_backslash_escape;
-    if (of_names && (mode || in_a_mode))
-        is.number = mysql_params_names_in(query, it->query.len, mode, is.room, room_len, &is.report);
-    else if (of_names)
-        is.number = mysql_params_names(query, it->query.len, is.room, room_len, &is.report);
-    else if (mode || in_a_mode)
-        is.number = mysql_params_bind_in(query, it->query.len, form, it->form.len, mode, is.room, room_len, &is.report);
+    if (of_names)
+        is.number = mysql_params_names(query, it->query.len, mode, is.room, room_len, &is.report);
     else
-        is.number = mysql_params_bind(query, it->query.len, form, it->form.len, is.room, room_len, &is.report);
+        is.number = mysql_params_bind(query, it->query.len, form, it->form.len, mode, is.room, room_len, &is.report);
     allocations_left = ALL;
     expect(blocks == before, it, "memory isn't given back");
     free(query);
@@ -186,33 +179,24 @@ static void try_rooms(const test_case *it)
     }
 }
 
-/* A case by the call without a mode, where that is its mode, and by the call for either. */
-static void try_case(const test_case *it)
-{
-    try_rooms(it);
-    in_a_mode = true;
-    try_rooms(it);
-    in_a_mode = false;
-}
-
 static const char *folder;
 
 static void table_of_binding(void)
 {
     of_names = false;
-    each_case(folder, "bind.txt", try_case);
+    each_case(folder, "bind.txt", try_rooms);
 }
 
 static void flat_forms(void)
 {
     of_names = false;
-    each_case(folder, "forms.txt", try_case);
+    each_case(folder, "forms.txt", try_rooms);
 }
 
 static void names_of_queries(void)
 {
     of_names = true;
-    each_case(folder, "names.txt", try_case);
+    each_case(folder, "names.txt", try_rooms);
 }
 
 /* A query in its mode: the first construct, its position and its message. No allocation is asked for. */
@@ -408,7 +392,7 @@ static void forms_without_memory(void)
     mysql_params_form form = mysql_params_form_in(NULL, 0);
     expect(form.room != NULL && form.room_len == 0, &it, "the form has a null pointer, or room");
     expect(form.len == 0 && form.needed == 0, &it, "the form isn't empty");
-    int32_t number = mysql_params_bind(query, 8, form.room, form.len, room, sizeof room, &report);
+    int32_t number = mysql_params_bind(query, 8, form.room, form.len, false, room, sizeof room, &report);
     expect(number == MYSQL_PARAMS_DONE && report.len == 8, &it, "a text is wanted");
     expect(memcmp(room, query, 8) == 0, &it, "another text is wanted");
     expect(!mysql_params_append_null(&form, NULL), &it, "NULL is appended without a room");

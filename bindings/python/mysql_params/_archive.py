@@ -27,7 +27,7 @@ class Report(ctypes.Structure):
 
 
 def load() -> ctypes.CDLL:
-    """Load the library, with the types of its functions for either mode. Raise ImportError if it can't be used."""
+    """Load the library, with the types of its functions. Raise ImportError if it can't be used."""
     beside = pathlib.Path(__file__).resolve().parent / "libmysql_params_c.so"
     # The loader takes a name without a folder for one on its own search path, so it is handed a whole path.
     path = os.path.abspath(os.environ.get("MYSQL_PARAMS_LIBRARY") or beside)
@@ -35,10 +35,12 @@ def load() -> ctypes.CDLL:
     answer = (ctypes.c_void_p, ctypes.c_size_t, ctypes.POINTER(Report))
     try:
         library = ctypes.CDLL(path)
-        library.mysql_params_names_in.argtypes = (*string, ctypes.c_bool, *answer)
-        library.mysql_params_names_in.restype = ctypes.c_int32
-        library.mysql_params_bind_in.argtypes = (*string, *string, ctypes.c_bool, *answer)
-        library.mysql_params_bind_in.restype = ctypes.c_int32
+        if hasattr(library, "mysql_params_names_in"):
+            raise AttributeError(f"{path!r} is an older library, whose functions take other arguments")
+        library.mysql_params_names.argtypes = (*string, ctypes.c_bool, *answer)
+        library.mysql_params_names.restype = ctypes.c_int32
+        library.mysql_params_bind.argtypes = (*string, *string, ctypes.c_bool, *answer)
+        library.mysql_params_bind.restype = ctypes.c_int32
         library.mysql_params_first_unportable.argtypes = (*string, ctypes.c_bool, ctypes.POINTER(Report))
         library.mysql_params_first_unportable.restype = ctypes.c_int32
         library.mysql_params_processor_suffices.argtypes = ()
@@ -79,9 +81,9 @@ def call(query: bytes, form: Optional[bytes], mode: bool, room: bytearray, room_
     first = ctypes.c_char.from_buffer(room)
     answer = (ctypes.addressof(first), room_len, ctypes.byref(report))
     if form is None:
-        number = LIBRARY.mysql_params_names_in(query, len(query), flag(mode), *answer)
+        number = LIBRARY.mysql_params_names(query, len(query), flag(mode), *answer)
     else:
-        number = LIBRARY.mysql_params_bind_in(query, len(query), form, len(form), flag(mode), *answer)
+        number = LIBRARY.mysql_params_bind(query, len(query), form, len(form), flag(mode), *answer)
     return int(number), report
 
 

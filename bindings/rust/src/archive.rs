@@ -1,4 +1,4 @@
-//! The calls of the archive for either mode, and their answers.
+//! The calls of the archive, and their answers.
 use crate::{Construct, Error, Unportable, names_in, words};
 use std::arch::is_x86_feature_detected;
 
@@ -16,7 +16,7 @@ pub(crate) struct Report {
 
 // SAFETY: types and order of the parameters are those of mysql_params.h.
 unsafe extern "C" {
-    fn mysql_params_names_in(
+    fn mysql_params_names(
         query: *const u8,
         query_len: usize,
         no_backslash_escape: bool,
@@ -25,7 +25,7 @@ unsafe extern "C" {
         report: *mut Report,
     ) -> i32;
 
-    fn mysql_params_bind_in(
+    fn mysql_params_bind(
         query: *const u8,
         query_len: usize,
         form: *const u8,
@@ -77,7 +77,7 @@ impl Call<'_> {
             // SAFETY: each pointer is that of a slice with its length, and so not null, and all bytes have a value. The
             // room and the report are borrowed for writing alone, and so overlap nothing. The call keeps no pointer.
             Call::Names { query } => unsafe {
-                mysql_params_names_in(
+                mysql_params_names(
                     query.as_ptr(),
                     query.len(),
                     no_backslash_escape,
@@ -88,7 +88,7 @@ impl Call<'_> {
             },
             // SAFETY: the same holds of the query, the form, the room and the report.
             Call::Bind { query, form } => unsafe {
-                mysql_params_bind_in(
+                mysql_params_bind(
                     query.as_ptr(),
                     query.len(),
                     form.as_ptr(),

@@ -3,7 +3,6 @@ ghost use Rattle.std.specs.Prelude.{◌≡◌, ◌≢◌, ◌⊎◌, ◌+◌, �
 ghost use Rattle.std.specs.Cow.{cow_slice_items};
 ghost use Rattle.std.specs.List.{Contains};
 ghost use Rattle.mysql_wire_part.specs.Lenenc.{lenenc_spelling};
-ghost use Rattle.mysql_sql_text.specs.StringUnits.{with_backslashes};
 ghost use Rattle.mysql_named_params.specs.Tokens.{OnTokens};
 ghost use Rattle.mysql_named_params.specs.Places.{names, marks, HasName};
 ghost use Rattle.mysql_params_core.specs.Given.{Given};
@@ -36,7 +35,7 @@ use std::borrow::CowSlice;
 /// for its first parameter is refused without allocating too. Any other outcome may be `OutOfMemory`
 /// instead, which also comes where the text would be longer than `isize::MAX` bytes. After every
 /// outcome but `Done` the room is as before.
-pub fn bind_into_in(
+pub fn bind_into(
     alloc: Global,
     query: &[u8],
     form: &[u8],
@@ -69,28 +68,6 @@ pub fn bind_into_in(
     }
 }
 
-/// Binds into a query what a form says, in the mode in which a backslash escapes, and writes the
-/// text to the front of the room: [`bind_into_in`] with `false`.
-pub fn bind_into(alloc: Global, query: &[u8], form: &[u8], room: &mut [u8]) -> Outcome
-    ensures outcome { IsBindOutcome with_backslashes query.now form.now result }
-    ensures written { IfDone result (λ len.
-        IsBoundForm with_backslashes query.now form.now (take len room.new)) }
-
-    // The empty form over a query with a name and a mark is refused without allocating.
-    ensures mixed { form.now ≡ [] →
-        IfMixed with_backslashes query.now (result ≡ Outcome.Mixed) }
-
-    // A form that is refused for its first parameter is refused without allocating.
-    ensures memory { result ≡ Outcome.OutOfMemory →
-        (form.now ≡ []) ⊎ HasFirstParameter form.now }
-    ensures rest { IfDone result (λ len.
-        (len ≤ length room.old) × (drop len room.new ≡ drop len room.old)) }
-    ensures too_long { IfTooLong result (λ len. length room.old < len) }
-    ensures unchanged { UnlessDone result (room.new ≡ room.old) }
-{
-    bind_into_in(alloc, query, form, false, room)
-}
-
 /// Writes the query with `?` in the place of each name, as [`ParsedNamedParams::parse_in`] gives it
 /// in a mode, and then each name in order, with repeats, each as a length-encoded string, to the
 /// front of the room.
@@ -99,7 +76,7 @@ pub fn bind_into(alloc: Global, query: &[u8], form: &[u8], room: &mut [u8]) -> O
 /// that the room would need. A query with names and marks is `Mixed`. `OutOfMemory` comes only for a
 /// query with names and without marks; no other allocates. There are no other outcomes. After every
 /// outcome but `Done` the room is as before.
-pub fn names_into_in(
+pub fn names_into(
     alloc: Global,
     query: &[u8],
     no_backslash_escape: bool,
@@ -129,27 +106,6 @@ pub fn names_into_in(
         Some(outcome) => outcome,
         None => Outcome::OutOfMemory,
     }
-}
-
-/// Writes the query with `?` in the place of each name, read in the mode in which a backslash
-/// escapes, and then each name, to the front of the room: [`names_into_in`] with `false`.
-pub fn names_into(alloc: Global, query: &[u8], room: &mut [u8]) -> Outcome
-    ensures outcome { IsNamesOutcome with_backslashes query.now result }
-    ensures written { IfDone result (λ len.
-        IsNamesAnswer with_backslashes query.now (take len room.new)) }
-
-    // A query with a name and a mark is refused without allocating.
-    ensures mixed { IfMixed with_backslashes query.now (result ≡ Outcome.Mixed) }
-
-    // Only a query with names and without marks allocates.
-    ensures memory { OnTokens with_backslashes query.now (λ ts.
-        result ≡ Outcome.OutOfMemory → HasName ts × (marks ts ≡ 0)) }
-    ensures rest { IfDone result (λ len.
-        (len ≤ length room.old) × (drop len room.new ≡ drop len room.old)) }
-    ensures too_long { IfTooLong result (λ len. length room.old < len) }
-    ensures unchanged { UnlessDone result (room.new ≡ room.old) }
-{
-    names_into_in(alloc, query, false, room)
 }
 
 // Writes the parsed query and its names, each as a length-encoded string, to the front of the room,

@@ -1,10 +1,9 @@
 //! Binding for callers in other languages: parameters come in as bytes in one flat form, and the
 //! answer goes into a room that the caller lends.
 //!
-//! [`params_of_form`] reads the form. [`bind_into_in`] and [`names_into_in`] write their answer into
-//! the room, or leave it as it was and say by an [`Outcome`] why; [`bind_into`] and [`names_into`] are
-//! the same for the mode in which a backslash escapes. [`report_first_unportable`] tells the first
-//! construct for which a query isn't portable.
+//! [`params_of_form`] reads the form. [`bind_into`] and [`names_into`] write their answer into the
+//! room, or leave it as it was and say by an [`Outcome`] why. [`report_first_unportable`] reports the
+//! first construct for which a query isn't portable.
 #![tactic(auto)]
 
 mod column_number;
@@ -18,6 +17,6 @@ mod unportable;
 
 pub use form::params_of_form;
 pub use form_error::FormError;
-pub use into_room::{bind_into, bind_into_in, names_into, names_into_in};
+pub use into_room::{bind_into, names_into};
 pub use outcome::{Outcome, Report};
 pub use unportable::report_first_unportable;

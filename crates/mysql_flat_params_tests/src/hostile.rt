@@ -54,7 +54,7 @@ fn answers_all_thirds(rt: &impl Abort, alloc: Global, first: u8, second: u8, wan
     let mut room = [b'#'; 8];
     let mut all = true;
     for third in 0..=255u8 {
-        let outcome = bind_into(alloc, b"", &[first, second, third], &mut room);
+        let outcome = bind_into(alloc, b"", &[first, second, third], false, &mut room);
         all = all && outcome == wanted;
     }
     let case = (first, second, "and a third byte");
@@ -126,7 +126,7 @@ fn is_done(outcome: Outcome) -> bool {
 // all of the room but the text.
 fn writes_the_text_alone(rt: &impl Abort, alloc: Global, form: &[u8]) {
     let mut room = [b'#'; 400];
-    let outcome = bind_into(alloc, QUERY, form, &mut room);
+    let outcome = bind_into(alloc, QUERY, form, false, &mut room);
     same_in(rt, outcome != Outcome::OutOfMemory, true, &form);
     match bound_text(alloc, form) {
         Some(text) => wrote(rt, outcome, &room, &text, &form),

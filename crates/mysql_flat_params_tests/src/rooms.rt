@@ -1,11 +1,13 @@
 //! Rooms that are too short, of the right length, and longer; and the answer to a query's names.
-use crate::shared::{FORM, QUERY, Spelling, TEXT, WITH_BACKSLASHES, finds_by, same, same_in};
+use crate::shared::{
+    FORM, QUERY, TEXT, WITH_BACKSLASHES, WITHOUT_BACKSLASHES, finds_in, same, same_in,
+};
 use mysql_flat_params::{Outcome, bind_into, names_into};
 
 #[test]
 fn bound_in_its_room(rt: HostRuntime) {
     let mut room = [b'#'; 36];
-    let outcome = bind_into(rt.alloc(), QUERY, FORM, &mut room);
+    let outcome = bind_into(rt.alloc(), QUERY, FORM, WITH_BACKSLASHES, &mut room);
     same(&rt, outcome, Outcome::Done { len: 36 });
     same(&rt, room.as_slice(), TEXT);
 }
@@ -13,7 +15,7 @@ fn bound_in_its_room(rt: HostRuntime) {
 #[test]
 fn room_too_short_by_one(rt: HostRuntime) {
     let mut room = [b'#'; 35];
-    let outcome = bind_into(rt.alloc(), QUERY, FORM, &mut room);
+    let outcome = bind_into(rt.alloc(), QUERY, FORM, WITH_BACKSLASHES, &mut room);
     same(&rt, outcome, Outcome::Room { len: 36 });
     same(&rt, room, [b'#'; 35]);
 }
@@ -21,7 +23,7 @@ fn room_too_short_by_one(rt: HostRuntime) {
 #[test]
 fn room_too_short_for_names_by_one(rt: HostRuntime) {
     let mut room = [b'#'; 35];
-    let outcome = names_into(rt.alloc(), QUERY, &mut room[..26]);
+    let outcome = names_into(rt.alloc(), QUERY, WITH_BACKSLASHES, &mut room[..26]);
     same(&rt, outcome, Outcome::Room { len: 27 });
     same(&rt, room, [b'#'; 35]);
 }
@@ -29,11 +31,11 @@ fn room_too_short_for_names_by_one(rt: HostRuntime) {
 #[test]
 fn no_room(rt: HostRuntime) {
     let mut room = [0u8; 0];
-    let outcome = bind_into(rt.alloc(), b"", b"", &mut room);
+    let outcome = bind_into(rt.alloc(), b"", b"", WITH_BACKSLASHES, &mut room);
     same(&rt, outcome, Outcome::Done { len: 0 });
-    let outcome = bind_into(rt.alloc(), b" ", b"", &mut room);
+    let outcome = bind_into(rt.alloc(), b" ", b"", WITH_BACKSLASHES, &mut room);
     same(&rt, outcome, Outcome::Room { len: 1 });
-    let outcome = names_into(rt.alloc(), b"", &mut room);
+    let outcome = names_into(rt.alloc(), b"", WITH_BACKSLASHES, &mut room);
     same(&rt, outcome, Outcome::Room { len: 1 });
 }
 
@@ -48,23 +50,16 @@ const NAMES: &[(&[u8], &[u8])] = &[
 #[test]
 fn names_of_queries(rt: HostRuntime) {
     for (query, answer) in NAMES {
-        finds_by(&rt, rt.alloc(), WITH_BACKSLASHES, *query, *answer);
+        finds_in(&rt, rt.alloc(), WITH_BACKSLASHES, *query, *answer);
     }
 }
 
-/// Every call that answers with names.
-const EITHER_MODE: &[Spelling] = &[
-    Spelling::Into,
-    Spelling::IntoIn(false),
-    Spelling::IntoIn(true),
-];
-
 #[test]
 fn names_of_a_mixed_query(rt: HostRuntime) {
-    for spelling in EITHER_MODE {
+    for mode in [WITH_BACKSLASHES, WITHOUT_BACKSLASHES] {
         let mut room = [b'#'; 40];
-        let outcome = spelling.names(rt.alloc(), b":a ?", &mut room);
-        same_in(&rt, outcome, Outcome::Mixed, spelling);
-        same_in(&rt, room, [b'#'; 40], spelling);
+        let outcome = names_into(rt.alloc(), b":a ?", mode, &mut room);
+        same_in(&rt, outcome, Outcome::Mixed, &mode);
+        same_in(&rt, room, [b'#'; 40], &mode);
     }
 }

@@ -1,5 +1,5 @@
 //! Forms, and what binding over them answers in a room.
-use mysql_flat_params::{Outcome, bind_into, bind_into_in, names_into, names_into_in};
+use mysql_flat_params::{Outcome, bind_into, names_into};
 use std::alloc::Global;
 use std::fmt::Debug;
 use std::process::Abort;
@@ -53,96 +53,57 @@ pub(crate) fn wrote<C: Debug>(
     holds_alone(rt, room, text, case);
 }
 
-/// A call that answers in a room.
-#[derive(Clone, Copy, Debug)]
-pub(crate) enum Spelling {
-    /// `bind_into`, `names_into`.
-    Into,
-    /// `bind_into_in`, `names_into_in` with this flag.
-    IntoIn(bool),
-}
+/// The flag of the mode in which a backslash escapes.
+pub(crate) const WITH_BACKSLASHES: bool = false;
 
-/// The calls in the mode in which a backslash escapes.
-pub(crate) const WITH_BACKSLASHES: &[Spelling] = &[Spelling::Into, Spelling::IntoIn(false)];
+/// The flag of the mode without backslash escapes.
+pub(crate) const WITHOUT_BACKSLASHES: bool = true;
 
-/// The call in the mode without backslash escapes.
-pub(crate) const WITHOUT_BACKSLASHES: &[Spelling] = &[Spelling::IntoIn(true)];
-
-impl Spelling {
-    /// What becomes of the query and the form.
-    fn bound(self, alloc: Global, query: &[u8], form: &[u8], room: &mut [u8]) -> Outcome {
-        match self {
-            Spelling::Into => bind_into(alloc, query, form, room),
-            Spelling::IntoIn(mode) => bind_into_in(alloc, query, form, mode, room),
-        }
-    }
-
-    /// What becomes of the query that is asked for its names.
-    pub(crate) fn names(self, alloc: Global, query: &[u8], room: &mut [u8]) -> Outcome {
-        match self {
-            Spelling::Into => names_into(alloc, query, room),
-            Spelling::IntoIn(mode) => names_into_in(alloc, query, mode, room),
-        }
-    }
-}
-
-/// By each of the calls, the query bound to the form is the text, in a room of 64 bytes, of which
-/// the rest is unchanged.
-pub(crate) fn binds_by(
+/// In the mode, the query bound to the form is the text, in a room of 64 bytes, of which the rest is
+/// unchanged.
+pub(crate) fn binds_in(
     rt: &impl Abort,
     alloc: Global,
-    spellings: &[Spelling],
+    mode: bool,
     query: &[u8],
     form: &[u8],
     text: &[u8],
 ) {
-    for spelling in spellings {
-        let mut room = [b'#'; 64];
-        let outcome = spelling.bound(alloc, query, form, &mut room);
-        wrote(rt, outcome, &room, text, &(query, form, spelling));
-    }
+    let mut room = [b'#'; 64];
+    let outcome = bind_into(alloc, query, form, mode, &mut room);
+    wrote(rt, outcome, &room, text, &(query, form, mode));
 }
 
 /// The same in the mode in which a backslash escapes.
 pub(crate) fn binds(rt: &impl Abort, alloc: Global, query: &[u8], form: &[u8], text: &[u8]) {
-    binds_by(rt, alloc, WITH_BACKSLASHES, query, form, text);
+    binds_in(rt, alloc, WITH_BACKSLASHES, query, form, text);
 }
 
-/// By each of the calls, this becomes of the query and the form, and the room is as before.
-pub(crate) fn refuses_by(
+/// In the mode, this becomes of the query and the form, and the room is as before.
+pub(crate) fn refuses_in(
     rt: &impl Abort,
     alloc: Global,
-    spellings: &[Spelling],
+    mode: bool,
     query: &[u8],
     form: &[u8],
     wanted: Outcome,
 ) {
-    for spelling in spellings {
-        let mut room = [b'#'; 64];
-        let outcome = spelling.bound(alloc, query, form, &mut room);
-        let case = (query, form, spelling);
-        same_in(rt, outcome, wanted, &case);
-        same_in(rt, room, [b'#'; 64], &case);
-    }
+    let mut room = [b'#'; 64];
+    let outcome = bind_into(alloc, query, form, mode, &mut room);
+    let case = (query, form, mode);
+    same_in(rt, outcome, wanted, &case);
+    same_in(rt, room, [b'#'; 64], &case);
 }
 
 /// The same in the mode in which a backslash escapes.
 pub(crate) fn refuses(rt: &impl Abort, alloc: Global, query: &[u8], form: &[u8], wanted: Outcome) {
-    refuses_by(rt, alloc, WITH_BACKSLASHES, query, form, wanted);
+    refuses_in(rt, alloc, WITH_BACKSLASHES, query, form, wanted);
 }
 
-/// By each of the calls, the query is answered so where its names are asked for, in a room of 40
-/// bytes, of which the rest is unchanged.
-pub(crate) fn finds_by(
-    rt: &impl Abort,
-    alloc: Global,
-    spellings: &[Spelling],
-    query: &[u8],
-    answer: &[u8],
-) {
-    for spelling in spellings {
-        let mut room = [b'#'; 40];
-        let outcome = spelling.names(alloc, query, &mut room);
-        wrote(rt, outcome, &room, answer, &(query, spelling));
-    }
+/// In the mode, the query is answered so if its names are asked for, in a room of 40 bytes, of which
+/// the rest is unchanged.
+pub(crate) fn finds_in(rt: &impl Abort, alloc: Global, mode: bool, query: &[u8], answer: &[u8]) {
+    let mut room = [b'#'; 40];
+    let outcome = names_into(alloc, query, mode, &mut room);
+    wrote(rt, outcome, &room, answer, &(query, mode));
 }

@@ -1,5 +1,5 @@
 //! Forms bound, and names found, in the mode without backslash escapes.
-use crate::shared::{WITH_BACKSLASHES, WITHOUT_BACKSLASHES, binds_by, finds_by, refuses_by};
+use crate::shared::{WITH_BACKSLASHES, WITHOUT_BACKSLASHES, binds_in, finds_in, refuses_in};
 use mysql_flat_params::Outcome;
 
 /// Queries, forms, and the text.
@@ -22,7 +22,7 @@ const TEXTS: &[(&[u8], &[u8], &[u8])] = &[
 #[test]
 fn bound_texts(rt: HostRuntime) {
     for (query, form, text) in TEXTS {
-        binds_by(&rt, rt.alloc(), WITHOUT_BACKSLASHES, *query, *form, *text);
+        binds_in(&rt, rt.alloc(), WITHOUT_BACKSLASHES, *query, *form, *text);
     }
 }
 
@@ -57,7 +57,7 @@ const REFUSALS: &[(&[u8], &[u8], Outcome)] = &[
 #[test]
 fn refusals(rt: HostRuntime) {
     for (query, form, outcome) in REFUSALS {
-        refuses_by(
+        refuses_in(
             &rt,
             rt.alloc(),
             WITHOUT_BACKSLASHES,
@@ -71,7 +71,7 @@ fn refusals(rt: HostRuntime) {
 #[test]
 fn a_name_in_an_open_string(rt: HostRuntime) {
     let refused = Outcome::NamedForPositional;
-    refuses_by(
+    refuses_in(
         &rt,
         rt.alloc(),
         WITH_BACKSLASHES,
@@ -85,7 +85,7 @@ fn a_name_in_an_open_string(rt: HostRuntime) {
 fn names_of_a_query(rt: HostRuntime) {
     let alloc = rt.alloc();
     let with = b"\x0dSELECT 'a\\':b";
-    finds_by(&rt, alloc, WITH_BACKSLASHES, AFTER_A_BACKSLASH, with);
+    finds_in(&rt, alloc, WITH_BACKSLASHES, AFTER_A_BACKSLASH, with);
     let without = b"\x0cSELECT 'a\\'?\x01b";
-    finds_by(&rt, alloc, WITHOUT_BACKSLASHES, AFTER_A_BACKSLASH, without);
+    finds_in(&rt, alloc, WITHOUT_BACKSLASHES, AFTER_A_BACKSLASH, without);
 }

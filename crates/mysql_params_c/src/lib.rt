@@ -12,7 +12,6 @@
 #![tactic(auto)]
 
 ghost use Rattle.std.specs.Prelude.{◌≡◌, ◌≢◌, ◌⊎◌, ◌↔◌, ◌≤◌, ◌<◌, [], length, take, drop, pos};
-ghost use Rattle.mysql_sql_text.specs.StringUnits.{with_backslashes};
 ghost use Rattle.mysql_flat_params.specs.FlatForm.{HasFirstParameter};
 ghost use Rattle.mysql_flat_params.specs.IntoRoom.{IfMixed, IsBindOutcome, IsBoundForm, IsNamesAnswer, IsNamesOutcome};
 ghost use Rattle.mysql_flat_params.specs.Outcomes.{IsTold};
@@ -22,9 +21,7 @@ ghost use Rattle.mysql_named_params.specs.Places.{marks, HasName};
 ghost use Rattle.mysql_named_params.specs.Portable.{IsPortable};
 ghost use Rattle.mysql_named_params.specs.Tokens.{OnTokens};
 
-use mysql_flat_params::{
-    Report, bind_into, bind_into_in, names_into, names_into_in, report_first_unportable,
-};
+use mysql_flat_params::{Report, bind_into, names_into, report_first_unportable};
 use std::alloc::Global;
 
 /// Writes the query with `?` in place of each name, and then each name, each as a length-encoded
@@ -33,76 +30,10 @@ use std::alloc::Global;
 /// Returns 0 (`Done`) with the length of the answer in the report's `len`, 2 (`Room`) with the length
 /// that the room would need, 8 (`Mixed`) for a query with names and marks, or, for a query with names
 /// and without marks, in place of 0 and 2, 1 (`OutOfMemory`). All other fields of the report are 0. At
-/// each number but 0 the room is as before.
-#[unsafe(no_mangle)]
-pub extern "C" fn mysql_params_names(
-    alloc: Global,
-    query: &[u8],
-    room: &mut [u8],
-    report: &mut Report,
-) -> i32
-    ensures outcome { IsTold result report.new (IsNamesOutcome with_backslashes query.now) }
-    ensures written { result ≡ pos 0 →
-        IsNamesAnswer with_backslashes query.now (take report.new.len room.new) }
-
-    // A query with a name and a mark is refused without allocating.
-    ensures mixed { IfMixed with_backslashes query.now (result ≡ pos 8) }
-
-    // Only a query with names and without marks allocates.
-    ensures memory { OnTokens with_backslashes query.now (λ ts.
-        result ≡ pos 1 → HasName ts × (marks ts ≡ 0)) }
-    ensures rest { result ≡ pos 0 → (report.new.len ≤ length room.old)
-        × (drop report.new.len room.new ≡ drop report.new.len room.old) }
-    ensures too_long { result ≡ pos 2 → length room.old < report.new.len }
-    ensures unchanged { result ≢ pos 0 → room.new ≡ room.old }
-{
-    let outcome = names_into(alloc, query, room);
-    *report = outcome.report();
-    outcome.number()
-}
-
-/// Binds into the query what the form says, and writes the text to the front of the room:
-/// [`bind_into`](mysql_flat_params::bind_into).
-///
-/// Returns the number of any [`Outcome`](mysql_flat_params::Outcome): 0 (`Done`) with the length of
-/// the text in the report's `len`, 2 (`Room`) with the length that the room would need, 3 to 7 for a
-/// form that is refused, 8 to 14 for a query that is refused, or 1 (`OutOfMemory`), but not for the
-/// empty form over a query with names and marks, nor for a form that is refused for its first
-/// parameter. The report has the fields of the outcome, and 0 in all others. At each number but 0 the
-/// room is as before.
-#[unsafe(no_mangle)]
-pub extern "C" fn mysql_params_bind(
-    alloc: Global,
-    query: &[u8],
-    form: &[u8],
-    room: &mut [u8],
-    report: &mut Report,
-) -> i32
-    ensures outcome { IsTold result report.new (IsBindOutcome with_backslashes query.now form.now) }
-    ensures written { result ≡ pos 0 →
-        IsBoundForm with_backslashes query.now form.now (take report.new.len room.new) }
-
-    // The empty form over a query with a name and a mark is refused without allocating.
-    ensures mixed { form.now ≡ [] →
-        IfMixed with_backslashes query.now (result ≡ pos 8) }
-
-    // A form that is refused for its first parameter is refused without allocating.
-    ensures memory { result ≡ pos 1 → (form.now ≡ []) ⊎ HasFirstParameter form.now }
-    ensures rest { result ≡ pos 0 → (report.new.len ≤ length room.old)
-        × (drop report.new.len room.new ≡ drop report.new.len room.old) }
-    ensures too_long { result ≡ pos 2 → length room.old < report.new.len }
-    ensures unchanged { result ≢ pos 0 → room.new ≡ room.old }
-{
-    let outcome = bind_into(alloc, query, form, room);
-    *report = outcome.report();
-    outcome.number()
-}
-
-/// [`mysql_params_names`] for a connection in either mode:
-/// [`names_into_in`](mysql_flat_params::names_into_in). The flag is true where its `sql_mode` has
+/// each number but 0 the room is as before. The flag is true if the connection's `sql_mode` has
 /// `NO_BACKSLASH_ESCAPES`.
 #[unsafe(no_mangle)]
-pub extern "C" fn mysql_params_names_in(
+pub extern "C" fn mysql_params_names(
     alloc: Global,
     query: &[u8],
     no_backslash_escape: bool,
@@ -124,16 +55,22 @@ pub extern "C" fn mysql_params_names_in(
     ensures too_long { result ≡ pos 2 → length room.old < report.new.len }
     ensures unchanged { result ≢ pos 0 → room.new ≡ room.old }
 {
-    let outcome = names_into_in(alloc, query, no_backslash_escape, room);
+    let outcome = names_into(alloc, query, no_backslash_escape, room);
     *report = outcome.report();
     outcome.number()
 }
 
-/// [`mysql_params_bind`] for a connection in either mode:
-/// [`bind_into_in`](mysql_flat_params::bind_into_in). The flag is true where its `sql_mode` has
-/// `NO_BACKSLASH_ESCAPES`.
+/// Binds into the query what the form says, and writes the text to the front of the room:
+/// [`bind_into`](mysql_flat_params::bind_into).
+///
+/// Returns the number of any [`Outcome`](mysql_flat_params::Outcome): 0 (`Done`) with the length of
+/// the text in the report's `len`, 2 (`Room`) with the length that the room would need, 3 to 7 for a
+/// form that is refused, 8 to 14 for a query that is refused, or 1 (`OutOfMemory`), but not for the
+/// empty form over a query with names and marks, nor for a form that is refused for its first
+/// parameter. The report has the fields of the outcome, and 0 in all others. At each number but 0 the
+/// room is as before. The flag is true if the connection's `sql_mode` has `NO_BACKSLASH_ESCAPES`.
 #[unsafe(no_mangle)]
-pub extern "C" fn mysql_params_bind_in(
+pub extern "C" fn mysql_params_bind(
     alloc: Global,
     query: &[u8],
     form: &[u8],
@@ -157,7 +94,7 @@ pub extern "C" fn mysql_params_bind_in(
     ensures too_long { result ≡ pos 2 → length room.old < report.new.len }
     ensures unchanged { result ≢ pos 0 → room.new ≡ room.old }
 {
-    let outcome = bind_into_in(alloc, query, form, no_backslash_escape, room);
+    let outcome = bind_into(alloc, query, form, no_backslash_escape, room);
     *report = outcome.report();
     outcome.number()
 }

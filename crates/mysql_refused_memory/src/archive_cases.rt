@@ -72,21 +72,21 @@ fn refused(
 
 fn names_written(alloc: Global, query: &[u8], text: &[u8]) -> Outcome {
     let mut room = *ROOM;
-    let told = names_into(alloc, query, &mut room);
+    let told = names_into(alloc, query, false, &mut room);
     written(told, &room, text)
 }
 
 // A query without names is written without a vector of its own.
 fn nameless_written(alloc: Global) -> Outcome {
     let mut room = *ROOM;
-    let told = names_into(alloc, b"?", &mut room);
+    let told = names_into(alloc, b"?", false, &mut room);
     let holds = told.number() == 0 && is_written(&room, b"\x01?");
     Outcome::AnswerWithoutMemory.if_holds(holds)
 }
 
 fn names_refused(alloc: Global) -> Outcome {
     let mut room = *ROOM;
-    let told = names_into(alloc, b":a ?", &mut room);
+    let told = names_into(alloc, b":a ?", false, &mut room);
     let holds = told == mysql_flat_params::Outcome::Mixed && is_untouched(&room);
     Outcome::AnswerWithoutMemory.if_holds(holds)
 }
@@ -94,7 +94,7 @@ fn names_refused(alloc: Global) -> Outcome {
 fn names_too_long(alloc: Global) -> Outcome {
     let mut room = *ROOM;
     let query = b":a :b /* a comment that is longer */";
-    let told = names_into(alloc, query, &mut room);
+    let told = names_into(alloc, query, false, &mut room);
     refused(told, &room, mysql_flat_params::Outcome::Room { len: 39 })
 }
 
@@ -118,7 +118,7 @@ fn bound(alloc: Global, what: &str) -> Option<Case> {
 
 fn binds(alloc: Global, query: &[u8], form: &[u8], text: &[u8]) -> Outcome {
     let mut room = *ROOM;
-    let told = bind_into(alloc, query, form, &mut room);
+    let told = bind_into(alloc, query, form, false, &mut room);
     written(told, &room, text)
 }
 
@@ -129,7 +129,7 @@ fn refuses(
     refusal: mysql_flat_params::Outcome,
 ) -> Outcome {
     let mut room = *ROOM;
-    let told = bind_into(alloc, query, form, &mut room);
+    let told = bind_into(alloc, query, form, false, &mut room);
     refused(told, &room, refusal)
 }
 

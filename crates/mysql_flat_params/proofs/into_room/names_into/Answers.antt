@@ -1,6 +1,6 @@
 use Rattle.std.proofs.Common.{refl}
 use Rattle.mysql_flat_params.proofs.IntoRoomLemmas.{unmixed, is_names_answer, names_alone, names_told, names_written}
-use Rattle.mysql_flat_params.proofs.into_room.names_into_in.Goals as goal
+use Rattle.mysql_flat_params.proofs.into_room.names_into.Goals as goal
 
 pub returns-in-Some-clause-outcome : goal.returns-in-Some-clause-outcome
 returns-in-Some-clause-outcome c =

@@ -1,7 +1,7 @@
 use Rattle.std.specs.Prelude.{Err}
 use Rattle.std.proofs.Common.{ap, inr}
 use Rattle.mysql_flat_params.proofs.IntoRoomLemmas.{empty_not_refused, first_stands}
-use Rattle.mysql_flat_params.proofs.into_room.bind_into_in.Goals as goal
+use Rattle.mysql_flat_params.proofs.into_room.bind_into.Goals as goal
 
 pub returns-in-Err-clause-outcome : goal.returns-in-Err-clause-outcome
 returns-in-Err-clause-outcome c =
