@@ -255,7 +255,7 @@ static void try_long_names(size_t len)
     append_string(&it.answer, "a", 1);
     it.report.len = it.answer.len;
     append_bytes(&it.form, "", 0);
-    try_case(&it);
+    try_rooms(&it);
     const uint8_t *answer = it.answer.at;
     size_t left = it.answer.len;
     mysql_params_string string = {NULL, 0};
@@ -313,7 +313,7 @@ static void each_value_of_one_byte(void)
         append_bytes(&it.form, form.room, form.len);
         append_literal(&it.answer, byte);
         it.report.len = it.answer.len;
-        try_case(&it);
+        try_rooms(&it);
         clear_bytes(&it.query);
         clear_bytes(&it.form);
         clear_bytes(&it.answer);
@@ -340,7 +340,7 @@ static void try_length(size_t len)
     form = mysql_params_form_in(malloc(needed), needed);
     expect(mysql_params_append_bytes(&form, (const char *)name.at, string.at, len), &it, "the form doesn't fit");
     it.form = (bytes){form.room, form.len};
-    try_case(&it);
+    try_rooms(&it);
     clear_bytes(&name);
     clear_bytes(&string);
     clear_bytes(&it.query);

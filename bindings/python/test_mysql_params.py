@@ -37,6 +37,14 @@ def literal(byte):
     return b"'\\" + escapes[byte] + b"'" if byte in escapes else b"'" + bytes([byte]) + b"'"
 
 
+def library_of(suffices: bool, *more: str) -> mock.Mock:
+    """Return a library with the functions of the archive and more, on a processor that suffices or doesn't."""
+    names = ("names", "bind", "first_unportable", "processor_suffices")
+    library = mock.Mock(spec=[*(f"mysql_params_{name}" for name in names), *more])
+    library.mysql_params_processor_suffices.return_value = suffices
+    return library
+
+
 class Test(unittest.TestCase):
     """All tests."""
 
@@ -443,7 +451,7 @@ class Test(unittest.TestCase):
         os.chdir(library.parent)
         for given, wanted in ((str(library), library), (library.name, library), ("", beside)):
             with self.subTest(given=given), mock.patch.dict(os.environ, MYSQL_PARAMS_LIBRARY=given):
-                with mock.patch.object(ctypes, "CDLL") as load:
+                with mock.patch.object(ctypes, "CDLL", return_value=library_of(True)) as load:
                     _archive.load()
                 load.assert_called_once_with(str(wanted))
 
@@ -456,13 +464,13 @@ class Test(unittest.TestCase):
         with mock.patch.dict(os.environ, MYSQL_PARAMS_LIBRARY=os.fsdecode(b"/no\xff.so")):
             with self.assertRaisesRegex(ImportError, wanted):
                 _archive.load()
-        # One without the functions, as an older library lacks some.
-        with mock.patch.object(ctypes, "CDLL", return_value=object()), self.assertRaisesRegex(ImportError, wanted):
-            _archive.load()
+        # One without the functions, as an older library lacks some; and one whose functions take other arguments.
+        for library in (object(), library_of(True, "mysql_params_names_in")):
+            with mock.patch.object(ctypes, "CDLL", return_value=library), self.assertRaisesRegex(ImportError, wanted):
+                _archive.load()
 
     def test_processors_that_do_not_suffice(self):
-        with mock.patch.object(ctypes, "CDLL") as load:
-            load.return_value.mysql_params_processor_suffices.return_value = False
+        with mock.patch.object(ctypes, "CDLL", return_value=library_of(False)):
             with self.assertRaisesRegex(ImportError, "^the processor lacks a feature of x86-64-v2 "):
                 _archive.load()
 
