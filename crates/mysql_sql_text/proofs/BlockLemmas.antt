@@ -71,8 +71,8 @@ length-escaped-cut mode d i =
 -- the same, its escapes counted
 pub length-escaped-block : (mode : Bool) (d : List ℕ) (i : ℕ) → i + 16 ≤ length d
     → length (escaped mode (drop i d)) ≡ 16 + count_by (is_escaped mode) (chunk i 16 d) + length (escaped mode (drop (i + 16) d))
-length-escaped-block mode d i room =
-    omega (arith, length-escaped-cut mode d i, length-escaped mode (chunk i 16 d), length-chunk i 16 d room)
+length-escaped-block mode d i buffer =
+    omega (arith, length-escaped-cut mode d i, length-escaped mode (chunk i 16 d), length-chunk i 16 d buffer)
 
 -- an empty mask has no bit of the first byte, and none of the others
 no_bits : (first : Bool) (others : ℕ) → cond first 1 0 + 2 * others ≡ 0 → (first ≡ false) × (others ≡ 0)

@@ -20,11 +20,11 @@ same_text-true (a ∷ s) (b ∷ t) h =
     ap₂ (λ x xs. x ∷ xs) (eqb-true a b parts.0) (same_text-true s t parts.1)
 
 -- what a table says of a byte: 46 is its mark for one that stands for itself
-abbrev pub told : List ℕ → ℕ → List ℕ
-told table b = cond (eqb (get_or table b 0) 46) (b ∷ []) (backslash ∷ get_or table b 0 ∷ [])
+abbrev pub escape_by_table : List ℕ → ℕ → List ℕ
+escape_by_table table b = cond (eqb (get_or table b 0) 46) (b ∷ []) (backslash ∷ get_or table b 0 ∷ [])
 
 -- a table that was held against the definition at each of the 256 bytes
-pub escaped_byte-told : (table : List ℕ) → agree_below (λ k. same_text (escaped_byte false k) (told table k)) (λ _. true) 256 ≡ true
-    → (b : ℕ) → b < 256 → escaped_byte false b ≡ told table b
-escaped_byte-told table all b h =
-    same_text-true _ _ (agree_below_at (λ k. same_text (escaped_byte false k) (told table k)) (λ _. true) 256 b all h)
+pub escaped_byte-by_table : (table : List ℕ) → agree_below (λ k. same_text (escaped_byte false k) (escape_by_table table k)) (λ _. true) 256 ≡ true
+    → (b : ℕ) → b < 256 → escaped_byte false b ≡ escape_by_table table b
+escaped_byte-by_table table all b h =
+    same_text-true _ _ (agree_below_at (λ k. same_text (escaped_byte false k) (escape_by_table table k)) (λ _. true) 256 b all h)

@@ -9,7 +9,7 @@ use Rattle.std.proofs.lemmas.Bool.Decides.{nat_tests}
 use Rattle.std.proofs.lemmas.Option.{same_Some}
 use Rattle.mysql_sql_text.specs.Digits.{value_of_digits}
 use Rattle.mysql_sql_text.specs.TimeText.{total_microseconds, IsField, AreHours, IsFraction, no_fraction, some_fraction, sign, IsTimeText}
-use Rattle.mysql_sql_text.specs.ReadTimeText.{at_most, scaled, fraction_of, sum_of_fields, time_after_hours, time_of_two_digits, time_of_three_digits, unsigned_time, time_of_text}
+use Rattle.mysql_sql_text.specs.ReadTimeText.{at_most, fraction_microseconds, fraction_of, sum_of_fields, time_after_hours, time_of_two_digits, time_of_three_digits, unsigned_time, time_of_text}
 use Rattle.mysql_sql_text.proofs.ValueOfDigitsLemmas.{value_of_digits-found, value_of_digits-below}
 use Rattle.mysql_sql_text.proofs.ByteNames.{colon, minus, point}
 
@@ -120,9 +120,9 @@ map_found : {X Y : Type 0} (f : X → Y) (o : Option X) (y : Y) → option_map f
 map_found f None y e = absurd cc
 map_found f (Some x) y e = (x, refl, same_Some _ _ e)
 
-scaled_found : (b : ℕ) (digits : List ℕ) (us : ℕ) → b ≡ point → scaled digits ≡ Some us
+fraction_microseconds_found : (b : ℕ) (digits : List ℕ) (us : ℕ) → b ≡ point → fraction_microseconds digits ≡ Some us
     → IsFraction (b ∷ digits) us
-scaled_found b digits us is e =
+fraction_microseconds_found b digits us is e =
     elim (cases_Bool (nat_le (length digits) 6)) [
       | inl h ↦
           let v : option_map (λ n. n * 10 ^ (6 - length digits)) (value_of_digits digits) ≡ Some us = rw h at e in
@@ -135,7 +135,7 @@ fraction_found : (text : List ℕ) (us : ℕ) → fraction_of text ≡ Some us �
 fraction_found [] us e = no_fraction refl (sym (same_Some _ _ e))
 fraction_found (c ∷ ds) us e =
     elim (cases_Bool (eqb c point)) [
-      | inl h ↦ scaled_found c ds us (eqb-true c point h) (rw h at e)
+      | inl h ↦ fraction_microseconds_found c ds us (eqb-true c point h) (rw h at e)
       | inr h ↦ let v : None ≡ Some us = rw h at e in absurd cc
     ]
 

@@ -95,8 +95,8 @@ short-refused digits short large = is_none (value_of_digits digits) refl large
     is_none (Some n) e large = absurd (omega (arith, value_of_digits-below digits n 6 e short))
 
 -- digits after a point, filled up to six, write a number below a million
-pub scaled_below : (n width : ℕ) → n < 10 ^ width → width ≤ 6 → n * 10 ^ (6 - width) < 1000000
-scaled_below n width small short =
+pub fraction_microseconds_below : (n width : ℕ) → n < 10 ^ width → width ≤ 6 → n * 10 ^ (6 - width) < 1000000
+fraction_microseconds_below n width small short =
     let more : n * 10 ^ (6 - width) < 10 ^ width * 10 ^ (6 - width) =
     mul-lt-mul_of_pos_right small (one-le-pow (6 - width) 10 (omega arith)) in
     let sum : 10 ^ width * 10 ^ (6 - width) ≡ 10 ^ (width + (6 - width)) = sym (pow-add 10 width (6 - width)) in

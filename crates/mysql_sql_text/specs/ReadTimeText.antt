@@ -1,4 +1,4 @@
--- The same as a function: what a time text says. The meaning is `IsTimeText` of TimeText, and
+-- What a time text says, as a function. The meaning is the relation `IsTimeText` of TimeText, and
 -- `laws::time_texts_are_read` says that this reads exactly the time texts, each as what it says.
 use Rattle.std.specs.Prelude.{ℕ, ◌-◌, ◌*◌, ◌^◌, Bool, true, false, ◌==◌, nat_le, if◌then◌else◌, List, [], ◌∷◌, length, Option, None, Some}
 use Rattle.std.specs.Option.{option_map, option_or}
@@ -12,8 +12,8 @@ at_most greatest None = None
 at_most greatest (Some number) = if nat_le number greatest then Some number else None
 
 -- the microseconds of up to six digits after the point
-abbrev pub scaled : List ℕ → Option ℕ
-scaled digits =
+abbrev pub fraction_microseconds : List ℕ → Option ℕ
+fraction_microseconds digits =
     if nat_le (length digits) 6
     then option_map (λ number. number * 10 ^ (6 - length digits)) (value_of_digits digits)
     else None
@@ -21,7 +21,7 @@ scaled digits =
 -- the microseconds of what stands after the seconds: nothing, or a point and digits
 abbrev pub fraction_of : List ℕ → Option ℕ
 fraction_of [] = Some 0
-fraction_of (point ∷ digits) = if point == byte "." then scaled digits else None
+fraction_of (point ∷ digits) = if point == byte "." then fraction_microseconds digits else None
 
 -- the microseconds of the fields, where all four are there
 abbrev pub sum_of_fields : Option ℕ → Option ℕ → Option ℕ → Option ℕ → Option ℕ

@@ -72,21 +72,20 @@ fn two_digits_len(number: u8) -> usize
     decimal_len(number as u64).max(2)
 }
 
-/// Fills the slice with the literal of a date. The slice has exactly the bytes that `date_len`
-/// tells.
-pub fn fill_date(room: &mut [u8], date: DateFields)
-    requires { length room.old ≡ length (date_literal date) }
-    ensures { room.new ≡ date_literal date }
+/// Fills the slice with the literal of a date. The slice is exactly `date_len` long.
+pub fn fill_date(buffer: &mut [u8], date: DateFields)
+    requires { length buffer.old ≡ length (date_literal date) }
+    ensures { buffer.new ≡ date_literal date }
 {
     if is_midnight(date) {
-        fill_day(room, date);
+        fill_day(buffer, date);
     } else {
-        let at = append_byte(room, 0, b'\'');
-        let at = append_day(room, at, date);
-        let at = append_byte(room, at, b' ');
-        let at = append_padded(room, at, 2, date.hour as u64);
-        let at = append_after_hours(room, at, date.minute, date.second, date.microseconds);
-        append_byte(room, at, b'\'');
+        let at = append_byte(buffer, 0, b'\'');
+        let at = append_day(buffer, at, date);
+        let at = append_byte(buffer, at, b' ');
+        let at = append_padded(buffer, at, 2, date.hour as u64);
+        let at = append_after_hours(buffer, at, date.minute, date.second, date.microseconds);
+        append_byte(buffer, at, b'\'');
     }
 }
 
@@ -98,64 +97,63 @@ fn is_midnight(date: DateFields) -> bool
 }
 
 // Fills the slice with the day of a date between quotes.
-fn fill_day(room: &mut [u8], date: DateFields)
-    requires { length room.old ≡ length (quoted (day_text date.year date.month date.day)) }
-    ensures { room.new ≡ quoted (day_text date.year date.month date.day) }
+fn fill_day(buffer: &mut [u8], date: DateFields)
+    requires { length buffer.old ≡ length (quoted (day_text date.year date.month date.day)) }
+    ensures { buffer.new ≡ quoted (day_text date.year date.month date.day) }
 {
-    let at = append_byte(room, 0, b'\'');
-    let at = append_day(room, at, date);
-    append_byte(room, at, b'\'');
+    let at = append_byte(buffer, 0, b'\'');
+    let at = append_day(buffer, at, date);
+    append_byte(buffer, at, b'\'');
 }
 
 // Appends `YYYY-MM-DD`.
-fn append_day(room: &mut [u8], at: usize, date: DateFields) -> usize
-    requires { at + length (day_text date.year date.month date.day) ≤ length room.old }
-    ensures place { result ≡ at + length (day_text date.year date.month date.day) }
-    ensures front { take result room.new
-        ≡ take at room.old ++ day_text date.year date.month date.day }
+fn append_day(buffer: &mut [u8], at: usize, date: DateFields) -> usize
+    requires { at + length (day_text date.year date.month date.day) ≤ length buffer.old }
+    ensures next { result ≡ at + length (day_text date.year date.month date.day) }
+    ensures front { take result buffer.new
+        ≡ take at buffer.old ++ day_text date.year date.month date.day }
 {
-    let at = append_padded(room, at, 4, date.year as u64);
-    let at = append_byte(room, at, b'-');
-    let at = append_padded(room, at, 2, date.month as u64);
-    let at = append_byte(room, at, b'-');
-    append_padded(room, at, 2, date.day as u64)
+    let at = append_padded(buffer, at, 4, date.year as u64);
+    let at = append_byte(buffer, at, b'-');
+    let at = append_padded(buffer, at, 2, date.month as u64);
+    let at = append_byte(buffer, at, b'-');
+    append_padded(buffer, at, 2, date.day as u64)
 }
 
-/// Fills the slice with the literal of a time. The slice has exactly the bytes that `time_len`
-/// tells.
-pub fn fill_time(room: &mut [u8], time: TimeFields)
-    requires { length room.old ≡ length (time_literal time) }
-    ensures { room.new ≡ time_literal time }
+/// Fills the slice with the literal of a time. The slice is exactly `time_len` long.
+pub fn fill_time(buffer: &mut [u8], time: TimeFields)
+    requires { length buffer.old ≡ length (time_literal time) }
+    ensures { buffer.new ≡ time_literal time }
 {
-    let mut at = append_byte(room, 0, b'\'');
+    let mut at = append_byte(buffer, 0, b'\'');
     if time.negative {
-        at = append_byte(room, at, b'-');
+        at = append_byte(buffer, at, b'-');
     }
-    let at = append_padded(room, at, 3, time.days as u64 * 24 + time.hours as u64);
-    let at = append_after_hours(room, at, time.minutes, time.seconds, time.microseconds);
-    append_byte(room, at, b'\'');
+    let at = append_padded(buffer, at, 3, time.days as u64 * 24 + time.hours as u64);
+    let at = append_after_hours(buffer, at, time.minutes, time.seconds, time.microseconds);
+    append_byte(buffer, at, b'\'');
 }
 
 // Appends `:MM:SS` and the fraction.
 fn append_after_hours(
-    room: &mut [u8],
+    buffer: &mut [u8],
     at: usize,
     minutes: u8,
     seconds: u8,
     microseconds: u32,
 ) -> usize
-    requires { at + length (after_hours minutes seconds microseconds) ≤ length room.old }
-    ensures place { result ≡ at + length (after_hours minutes seconds microseconds) }
-    ensures front { take result room.new
-        ≡ take at room.old ++ after_hours minutes seconds microseconds }
+    requires { at + length (after_hours minutes seconds microseconds) ≤ length buffer.old }
+    ensures next { result ≡ at + length (after_hours minutes seconds microseconds) }
+    ensures front { take result buffer.new
+        ≡ take at buffer.old ++ after_hours minutes seconds microseconds }
 {
-    let at = append_byte(room, at, b':');
-    let at = append_padded(room, at, 2, minutes as u64);
-    let at = append_byte(room, at, b':');
-    let at = append_padded(room, at, 2, seconds as u64);
+    let at = append_byte(buffer, at, b':');
+    let at = append_padded(buffer, at, 2, minutes as u64);
+    let at = append_byte(buffer, at, b':');
+    let at = append_padded(buffer, at, 2, seconds as u64);
     if microseconds == 0 {
         return at;
     }
-    let at = append_byte(room, at, b'.');
-    append_padded(room, at, 6, microseconds as u64)
+    let at = append_byte(buffer, at, b'.');
+    append_padded(buffer, at, 6, microseconds as u64)
 }

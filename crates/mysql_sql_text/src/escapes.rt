@@ -1,8 +1,8 @@
-//! Bytes between single quotes: how long they are with their escapes, and both into a slice.
+//! Bytes between single quotes, with their escapes: their length, and how they fill a slice.
 //!
-//! Most bytes stand for themselves. So 16 bytes are looked at at once: their escapes are counted
-//! together, and a block without escapes is copied whole. A block with escapes goes byte by byte,
-//! and so do the last few bytes.
+//! Most bytes stand for themselves. So the bytes go in blocks of 16: the escapes of a block are
+//! counted together, and a block without escapes is copied whole. A block with escapes goes byte by
+//! byte, and so do the bytes after the last block.
 ghost use Rattle.std.specs.Prelude.{◌≡◌, [], ◌∷◌, ◌++◌, ◌+◌, ◌*◌, ◌≤◌, length, take, map, MatchOption};
 ghost use Rattle.std.specs.Simd.Lanes.{chunk, mask_l};
 ghost use Rattle.mysql_sql_text.specs.LiteralText.{escaped, escaped_byte, is_escaped};
@@ -10,7 +10,7 @@ ghost use Rattle.mysql_sql_text.specs.LiteralText.{escaped, escaped_byte, is_esc
 use crate::numbers::append_byte;
 use std::simd::prelude::*;
 
-// How many bytes are looked at at once.
+// The number of bytes in a block.
 const LANES: usize = 16;
 
 // ASCII's character "substitute".
@@ -28,7 +28,7 @@ static AFTER_BACKSLASH: [u8; 256] = *b"\
     ................................\
     ................................";
 
-/// How long the escaped bytes are.
+// How long the escaped bytes are.
 pub(crate) fn escaped_len(bytes: &[u8], no_backslash_escape: bool) -> u128
     ensures exact { result ≡ length (escaped no_backslash_escape bytes.now) }
     ensures few { result ≤ 2 * length bytes.now }
@@ -67,63 +67,64 @@ fn escaped_byte_len(byte: u8, no_backslash_escape: bool) -> u128
     }
 }
 
-/// Appends bytes, escaped.
+// Appends bytes, escaped.
 pub(crate) fn append_escaped(
-    room: &mut [u8],
+    buffer: &mut [u8],
     start: usize,
     bytes: &[u8],
     no_backslash_escape: bool,
 ) -> usize
-    requires { start + length (escaped no_backslash_escape bytes.now) ≤ length room.old }
-    ensures place { result ≡ start + length (escaped no_backslash_escape bytes.now) }
-    ensures front { take result room.new
-        ≡ take start room.old ++ escaped no_backslash_escape bytes.now }
+    requires { start + length (escaped no_backslash_escape bytes.now) ≤ length buffer.old }
+    ensures next { result ≡ start + length (escaped no_backslash_escape bytes.now) }
+    ensures front { take result buffer.new
+        ≡ take start buffer.old ++ escaped no_backslash_escape bytes.now }
 {
     let mut at = start;
     let mut from = 0;
     while bytes.len() - from >= LANES {
-        at = append_block(room, at, bytes, from, no_backslash_escape);
+        at = append_block(buffer, at, bytes, from, no_backslash_escape);
         from += LANES;
     }
-    append_escaped_bytes(room, at, &bytes[from..], no_backslash_escape)
+    append_escaped_bytes(buffer, at, &bytes[from..], no_backslash_escape)
 }
 
-// Appends the next 16 bytes, escaped.
+// Appends the next 16 bytes, escaped. Inline, since it is the body of a loop over blocks.
 #[inline(always)]
 fn append_block(
-    room: &mut [u8],
+    buffer: &mut [u8],
     at: usize,
     bytes: &[u8],
     from: usize,
     no_backslash_escape: bool,
 ) -> usize
     requires block { from + LANES ≤ length bytes.now }
-    requires room { at + length (escaped no_backslash_escape (chunk from LANES bytes.now))
-        ≤ length room.old }
-    ensures place { result
+    requires fits { at + length (escaped no_backslash_escape (chunk from LANES bytes.now))
+        ≤ length buffer.old }
+    ensures next { result
         ≡ at + length (escaped no_backslash_escape (chunk from LANES bytes.now)) }
-    ensures front { take result room.new
-        ≡ take at room.old ++ escaped no_backslash_escape (chunk from LANES bytes.now) }
+    ensures front { take result buffer.new
+        ≡ take at buffer.old ++ escaped no_backslash_escape (chunk from LANES bytes.now) }
 {
     let block = u8x16::from_slice(&bytes[from..]);
     if escaped_lanes(block, no_backslash_escape) == 0 {
-        return append_lanes(room, at, block);
+        return append_lanes(buffer, at, block);
     }
-    append_escaped_bytes(room, at, &bytes[from..from + LANES], no_backslash_escape)
+    append_escaped_bytes(buffer, at, &bytes[from..from + LANES], no_backslash_escape)
 }
 
-// Appends 16 bytes as they are.
+// Appends 16 bytes as they are. Inline, as the loop over blocks that it is a part of.
 #[inline(always)]
-fn append_lanes(room: &mut [u8], at: usize, block: u8x16) -> usize
-    requires { at + LANES ≤ length room.old }
-    ensures place { result ≡ at + length block }
-    ensures front { take result room.new ≡ take at room.old ++ block }
+fn append_lanes(buffer: &mut [u8], at: usize, block: u8x16) -> usize
+    requires { at + LANES ≤ length buffer.old }
+    ensures next { result ≡ at + length block }
+    ensures front { take result buffer.new ≡ take at buffer.old ++ block }
 {
-    block.copy_to_slice(&mut room[at..]);
+    block.copy_to_slice(&mut buffer[at..]);
     at + LANES
 }
 
-// One bit for each byte, the first byte's lowest: whether it is escaped.
+// One bit for each byte, the first byte's lowest: whether it is escaped. Inline, so that the block
+// and the bytes that it is compared with stay in vector registers over the loop.
 #[inline(always)]
 fn escaped_lanes(block: u8x16, no_backslash_escape: bool) -> u64
     ensures { result ≡ mask_l (map (is_escaped no_backslash_escape) block) }
@@ -144,36 +145,36 @@ fn escaped_lanes(block: u8x16, no_backslash_escape: bool) -> u64
 
 // Appends bytes, escaped, byte by byte.
 fn append_escaped_bytes(
-    room: &mut [u8],
+    buffer: &mut [u8],
     start: usize,
     bytes: &[u8],
     no_backslash_escape: bool,
 ) -> usize
-    requires { start + length (escaped no_backslash_escape bytes.now) ≤ length room.old }
-    ensures place { result ≡ start + length (escaped no_backslash_escape bytes.now) }
-    ensures front { take result room.new
-        ≡ take start room.old ++ escaped no_backslash_escape bytes.now }
+    requires { start + length (escaped no_backslash_escape bytes.now) ≤ length buffer.old }
+    ensures next { result ≡ start + length (escaped no_backslash_escape bytes.now) }
+    ensures front { take result buffer.new
+        ≡ take start buffer.old ++ escaped no_backslash_escape bytes.now }
 {
     let mut at = start;
     for byte in bytes {
-        at = append_escaped_byte(room, at, *byte, no_backslash_escape);
+        at = append_escaped_byte(buffer, at, *byte, no_backslash_escape);
     }
     at
 }
 
 // Appends a byte, escaped.
-fn append_escaped_byte(room: &mut [u8], at: usize, byte: u8, no_backslash_escape: bool) -> usize
-    requires { at + length (escaped_byte no_backslash_escape byte) ≤ length room.old }
-    ensures place { result ≡ at + length (escaped_byte no_backslash_escape byte) }
-    ensures front { take result room.new
-        ≡ take at room.old ++ escaped_byte no_backslash_escape byte }
+fn append_escaped_byte(buffer: &mut [u8], at: usize, byte: u8, no_backslash_escape: bool) -> usize
+    requires { at + length (escaped_byte no_backslash_escape byte) ≤ length buffer.old }
+    ensures next { result ≡ at + length (escaped_byte no_backslash_escape byte) }
+    ensures front { take result buffer.new
+        ≡ take at buffer.old ++ escaped_byte no_backslash_escape byte }
 {
     match escape(byte, no_backslash_escape) {
         Some((first, second)) => {
-            let at = append_byte(room, at, first);
-            append_byte(room, at, second)
+            let at = append_byte(buffer, at, first);
+            append_byte(buffer, at, second)
         }
-        None => append_byte(room, at, byte),
+        None => append_byte(buffer, at, byte),
     }
 }
 

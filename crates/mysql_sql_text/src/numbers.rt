@@ -1,7 +1,7 @@
 //! Decimal digits into a slice.
 //!
-//! `fill_..` writes the whole slice. `append_..` writes from a place on, keeps what stands before
-//! it, and returns the place after what it wrote.
+//! `fill_..` writes the whole slice. `append_..` writes from an index on, keeps what stands before
+//! it, and returns the index after the last byte that it wrote.
 ghost use Rattle.std.specs.Prelude.{◌≡◌, [], ◌∷◌, ◌++◌, ◌+◌, ◌<◌, ◌≤◌, length, take};
 ghost use Rattle.std.specs.Fmt.{decimal, signed_decimal};
 ghost use Rattle.mysql_sql_text.specs.LiteralText.{padded};
@@ -27,60 +27,60 @@ pub fn decimal_len(mut number: u64) -> usize
     len
 }
 
-/// Fills the slice with a signed number. The slice has exactly the bytes that `signed_len` tells.
-pub fn fill_signed(room: &mut [u8], number: i64)
-    requires { length room.old ≡ length (signed_decimal number) }
-    ensures { room.new ≡ signed_decimal number }
+/// Fills the slice with a signed number. The slice is exactly `signed_len` long.
+pub fn fill_signed(buffer: &mut [u8], number: i64)
+    requires { length buffer.old ≡ length (signed_decimal number) }
+    ensures { buffer.new ≡ signed_decimal number }
 {
     if number < 0 {
-        let at = append_byte(room, 0, b'-');
-        append_decimal(room, at, number.unsigned_abs());
+        let at = append_byte(buffer, 0, b'-');
+        append_decimal(buffer, at, number.unsigned_abs());
     } else {
-        fill_padded(room, number.unsigned_abs());
+        fill_padded(buffer, number.unsigned_abs());
     }
 }
 
 // Appends a number.
-fn append_decimal(room: &mut [u8], at: usize, number: u64) -> usize
-    requires { at + length (decimal number) ≤ length room.old }
-    ensures place { result ≡ at + length (decimal number) }
-    ensures front { take result room.new ≡ take at room.old ++ decimal number }
+fn append_decimal(buffer: &mut [u8], at: usize, number: u64) -> usize
+    requires { at + length (decimal number) ≤ length buffer.old }
+    ensures next { result ≡ at + length (decimal number) }
+    ensures front { take result buffer.new ≡ take at buffer.old ++ decimal number }
 {
     let end = at + decimal_len(number);
-    fill_padded(&mut room[at..end], number);
+    fill_padded(&mut buffer[at..end], number);
     end
 }
 
-/// Fills the slice with a number, after zeros. The slice has room for all digits.
-pub fn fill_padded(room: &mut [u8], mut number: u64)
-    requires { length (decimal number) ≤ length room.old }
-    ensures { room.new ≡ padded (length room.old) number }
+/// Fills the slice with a number, after zeros. The slice is at least as long as the digits.
+pub fn fill_padded(buffer: &mut [u8], mut number: u64)
+    requires { length (decimal number) ≤ length buffer.old }
+    ensures { buffer.new ≡ padded (length buffer.old) number }
 {
-    let mut at = room.len();
+    let mut at = buffer.len();
     while at > 0 {
         at -= 1;
-        room[at] = b'0' + (number % 10) as u8;
+        buffer[at] = b'0' + (number % 10) as u8;
         number /= 10;
     }
 }
 
 // Appends a number, after as many zeros as the width asks for.
-pub(crate) fn append_padded(room: &mut [u8], at: usize, width: usize, number: u64) -> usize
-    requires { at + length (padded width number) ≤ length room.old }
-    ensures place { result ≡ at + length (padded width number) }
-    ensures front { take result room.new ≡ take at room.old ++ padded width number }
+pub(crate) fn append_padded(buffer: &mut [u8], at: usize, width: usize, number: u64) -> usize
+    requires { at + length (padded width number) ≤ length buffer.old }
+    ensures next { result ≡ at + length (padded width number) }
+    ensures front { take result buffer.new ≡ take at buffer.old ++ padded width number }
 {
     let end = at + decimal_len(number).max(width);
-    fill_padded(&mut room[at..end], number);
+    fill_padded(&mut buffer[at..end], number);
     end
 }
 
 // Appends one byte.
-pub(crate) fn append_byte(room: &mut [u8], at: usize, byte: u8) -> usize
-    requires { at < length room.old }
-    ensures place { result ≡ at + 1 }
-    ensures front { take result room.new ≡ take at room.old ++ byte ∷ [] }
+pub(crate) fn append_byte(buffer: &mut [u8], at: usize, byte: u8) -> usize
+    requires { at < length buffer.old }
+    ensures next { result ≡ at + 1 }
+    ensures front { take result buffer.new ≡ take at buffer.old ++ byte ∷ [] }
 {
-    room[at] = byte;
+    buffer[at] = byte;
     at + 1
 }

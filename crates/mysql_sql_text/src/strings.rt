@@ -6,7 +6,7 @@ use crate::escapes::{append_escaped, escaped_len};
 use crate::numbers::append_byte;
 
 /// How long the literal of bytes is.
-pub fn literal_len(bytes: &[u8], no_backslash_escape: bool) -> u128
+pub fn bytes_literal_len(bytes: &[u8], no_backslash_escape: bool) -> u128
     ensures { result ≡ length (bytes_literal no_backslash_escape bytes.now) }
 {
     match str::from_utf8(bytes) {
@@ -16,61 +16,61 @@ pub fn literal_len(bytes: &[u8], no_backslash_escape: bool) -> u128
 }
 
 /// Fills the slice with the literal of bytes: a string if they are UTF-8, else hexadecimal. The
-/// slice has exactly the bytes that `literal_len` tells.
-pub fn fill_literal(room: &mut [u8], bytes: &[u8], no_backslash_escape: bool)
-    requires { length room.old ≡ length (bytes_literal no_backslash_escape bytes.now) }
-    ensures { room.new ≡ bytes_literal no_backslash_escape bytes.now }
+/// slice is exactly `bytes_literal_len` long.
+pub fn fill_bytes_literal(buffer: &mut [u8], bytes: &[u8], no_backslash_escape: bool)
+    requires { length buffer.old ≡ length (bytes_literal no_backslash_escape bytes.now) }
+    ensures { buffer.new ≡ bytes_literal no_backslash_escape bytes.now }
 {
-    // A string is shorter than hexadecimal, but where each of its bytes is escaped. So the length
-    // mostly tells what the bytes are, which were judged for it, and they aren't judged again.
-    if (room.len() as u128) < 2 + 2 * bytes.len() as u128 {
-        return fill_string(room, bytes, no_backslash_escape);
+    // Unless every byte is escaped, a string is shorter than hexadecimal. So a buffer shorter than
+    // hexadecimal means UTF-8, as the length has found already, and the check is skipped.
+    if (buffer.len() as u128) < 2 + 2 * bytes.len() as u128 {
+        return fill_string(buffer, bytes, no_backslash_escape);
     }
     match str::from_utf8(bytes) {
-        Ok(_) => fill_string(room, bytes, no_backslash_escape),
-        Err(_) => fill_hexadecimal(room, bytes),
+        Ok(_) => fill_string(buffer, bytes, no_backslash_escape),
+        Err(_) => fill_hexadecimal(buffer, bytes),
     }
 }
 
 // Fills the slice with bytes between quotes, escaped.
-fn fill_string(room: &mut [u8], bytes: &[u8], no_backslash_escape: bool)
-    requires { length room.old ≡ length (quoted (escaped no_backslash_escape bytes.now)) }
-    ensures { room.new ≡ quoted (escaped no_backslash_escape bytes.now) }
+fn fill_string(buffer: &mut [u8], bytes: &[u8], no_backslash_escape: bool)
+    requires { length buffer.old ≡ length (quoted (escaped no_backslash_escape bytes.now)) }
+    ensures { buffer.new ≡ quoted (escaped no_backslash_escape bytes.now) }
 {
-    let at = append_byte(room, 0, b'\'');
-    let at = append_escaped(room, at, bytes, no_backslash_escape);
-    append_byte(room, at, b'\'');
+    let at = append_byte(buffer, 0, b'\'');
+    let at = append_escaped(buffer, at, bytes, no_backslash_escape);
+    append_byte(buffer, at, b'\'');
 }
 
 // Fills the slice with `0x` and two hexadecimal digits for each byte.
-fn fill_hexadecimal(room: &mut [u8], bytes: &[u8])
-    requires { length room.old ≡ 2 + 2 * length bytes.now }
-    ensures { room.new ≡ codes "0x" ++ hexadecimal bytes.now }
+fn fill_hexadecimal(buffer: &mut [u8], bytes: &[u8])
+    requires { length buffer.old ≡ 2 + 2 * length bytes.now }
+    ensures { buffer.new ≡ codes "0x" ++ hexadecimal bytes.now }
 {
-    let at = append_byte(room, 0, b'0');
-    let at = append_byte(room, at, b'x');
-    append_pairs(room, at, bytes);
+    let at = append_byte(buffer, 0, b'0');
+    let at = append_byte(buffer, at, b'x');
+    append_pairs(buffer, at, bytes);
 }
 
 // Appends two hexadecimal digits for each byte.
-fn append_pairs(room: &mut [u8], at: usize, bytes: &[u8]) -> usize
-    requires { at + 2 * length bytes.now ≤ length room.old }
-    ensures place { result ≡ at + 2 * length bytes.now }
-    ensures front { take result room.new ≡ take at room.old ++ hexadecimal bytes.now }
+fn append_pairs(buffer: &mut [u8], at: usize, bytes: &[u8]) -> usize
+    requires { at + 2 * length bytes.now ≤ length buffer.old }
+    ensures next { result ≡ at + 2 * length bytes.now }
+    ensures front { take result buffer.new ≡ take at buffer.old ++ hexadecimal bytes.now }
 {
     let end = at + 2 * bytes.len();
-    fill_pairs(&mut room[at..end], bytes);
+    fill_pairs(&mut buffer[at..end], bytes);
     end
 }
 
 // Fills the slice with two hexadecimal digits for each byte.
-fn fill_pairs(room: &mut [u8], bytes: &[u8])
-    requires { length room.old ≡ 2 * length bytes.now }
-    ensures { room.new ≡ hexadecimal bytes.now }
+fn fill_pairs(buffer: &mut [u8], bytes: &[u8])
+    requires { length buffer.old ≡ 2 * length bytes.now }
+    ensures { buffer.new ≡ hexadecimal bytes.now }
 {
     for (i, byte) in bytes.iter().enumerate() {
-        room[2 * i] = hexadecimal_digit(*byte / 16);
-        room[2 * i + 1] = hexadecimal_digit(*byte % 16);
+        buffer[2 * i] = hexadecimal_digit(*byte / 16);
+        buffer[2 * i + 1] = hexadecimal_digit(*byte % 16);
     }
 }
 

@@ -2,7 +2,7 @@
 ghost use Rattle.std.specs.Prelude.{◌≡◌, ◌<◌, ◌≤◌, ◌^◌, ℕ, Bool, [], ◌∷◌, length, Some, IfNone, IfSome};
 ghost use Rattle.mysql_sql_text.specs.Digits.{value_of_digits};
 ghost use Rattle.mysql_sql_text.specs.TimeText.{IsTimeText};
-ghost use Rattle.mysql_sql_text.specs.ReadTimeText.{at_most, fraction_of, scaled, time_after_hours, time_of_text, time_of_three_digits, time_of_two_digits, unsigned_time};
+ghost use Rattle.mysql_sql_text.specs.ReadTimeText.{at_most, fraction_of, fraction_microseconds, time_after_hours, time_of_text, time_of_three_digits, time_of_two_digits, unsigned_time};
 
 use crate::digits::value_of_digits;
 
@@ -105,14 +105,14 @@ fn read_fraction(text: &[u8]) -> Option<u64>
 {
     match text {
         [] => Some(0),
-        [b'.', digits @ ..] => scaled_number(digits),
+        [b'.', digits @ ..] => fraction_microseconds(digits),
         _ => None,
     }
 }
 
 // The microseconds of the digits after the point.
-fn scaled_number(digits: &[u8]) -> Option<u64>
-    ensures exact { result ≡ scaled digits.now }
+fn fraction_microseconds(digits: &[u8]) -> Option<u64>
+    ensures exact { result ≡ fraction_microseconds digits.now }
     ensures few { IfSome result (λ number. number < 1000000) }
 {
     if digits.len() > 6 {
@@ -128,8 +128,6 @@ fn short_number(digits: &[u8]) -> Option<u32>
     ensures exact { result ≡ value_of_digits digits.now }
     ensures few { IfSome result (λ number. number < 10 ^ length digits.now) }
 {
-    match value_of_digits(digits) {
-        Some(number) => Some(number as u32),
-        None => None,
-    }
+    let number = value_of_digits(digits)?;
+    Some(number as u32)
 }

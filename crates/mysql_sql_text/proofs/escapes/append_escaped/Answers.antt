@@ -4,12 +4,12 @@ use Rattle.mysql_sql_text.specs.LiteralText.{escaped}
 use Rattle.mysql_sql_text.proofs.BlockLemmas.{escaped-block, length-escaped-cut}
 use Rattle.mysql_sql_text.proofs.escapes.append_escaped.Goals as goal
 
-pub append_block-at-requires-clause-room : goal.append_block-at-requires-clause-room
-append_block-at-requires-clause-room c =
+pub append_block-at-requires-clause-fits : goal.append_block-at-requires-clause-fits
+append_block-at-requires-clause-fits c =
     omega (
       arith,
       length-escaped-cut c.args.no_backslash_escape c.args.bytes.now c.loop-from.from,
-      c.loop-from.invariant.place,
+      c.loop-from.invariant.next,
     )
 
 pub loop-from-preserved : goal.loop-from-preserved
@@ -20,9 +20,9 @@ loop-from-preserved c =
     let rest = escaped mode (drop (from + 16) bytes) in
     record {
       within = omega arith;
-      place = omega (arith, length-escaped-cut mode bytes from, c.loop-from.invariant.place, c.append_block-at.ensures.place);
+      next = omega (arith, length-escaped-cut mode bytes from, c.loop-from.invariant.next, c.append_block-at.ensures.next);
       front =
-          let before = take c.loop-from.at c.loop-from.room in
+          let before = take c.loop-from.at c.loop-from.buffer in
           ap (λ t. t ++ rest) c.append_block-at.ensures.front
           ∙ append_assoc before (escaped mode (chunk from 16 bytes)) rest
           ∙ ap (λ t. before ++ t) (sym (escaped-block mode bytes from)) ∙ c.loop-from.invariant.front;

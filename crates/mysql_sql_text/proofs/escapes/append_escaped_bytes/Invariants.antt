@@ -4,6 +4,6 @@ use Rattle.mysql_sql_text.proofs.escapes.append_escaped_bytes.Given as goal
 
 abbrev pub invariant-loop-byte : goal.invariant-loop-byte
 invariant-loop-byte l = record {
-  place : l.at ≡ l.start + length (escaped l.no_backslash_escape (take l.byte-index l.bytes));
-  front : take l.at l.room ≡ take l.start l.fn.room ++ escaped l.no_backslash_escape (take l.byte-index l.bytes);
+  next : l.at ≡ l.start + length (escaped l.no_backslash_escape (take l.byte-index l.bytes));
+  front : take l.at l.buffer ≡ take l.start l.fn.buffer ++ escaped l.no_backslash_escape (take l.byte-index l.bytes);
 }

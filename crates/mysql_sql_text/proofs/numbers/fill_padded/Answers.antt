@@ -6,4 +6,4 @@ pub returns : goal.returns
 returns c =
     let start : c.loop-at.at ≡ 0 = omega arith in
     let all = rw start at c.loop-at.invariant.written in
-    all ∙ last_digits-padded (length c.args.room.now) c.args.number (omega arith) c.requires
+    all ∙ last_digits-padded (length c.args.buffer.now) c.args.number (omega arith) c.requires

@@ -2,7 +2,7 @@ use Rattle.std.proofs.Common.{◌≡◌, ap, ◌∙◌, length, arith, ◌+◌}
 use Rattle.mysql_sql_text.specs.LiteralText.{escaped, bytes_literal}
 use Rattle.mysql_sql_text.proofs.StringLemmas.{length-hexadecimal}
 use Rattle.mysql_sql_text.proofs.StringLemmas.{bytes_literal-utf8, bytes_literal-other, length-quoted}
-use Rattle.mysql_sql_text.proofs.strings.literal_len.Goals as goal
+use Rattle.mysql_sql_text.proofs.strings.bytes_literal_len.Goals as goal
 
 pub returns-in-Ok : goal.returns-in-Ok
 returns-in-Ok c =

@@ -1,14 +1,14 @@
 use Rattle.std.proofs.Common.{ap, sym, ◌∙◌, length, arith}
 use Rattle.mysql_sql_text.proofs.StringLemmas.{length-hexadecimal}
 use Rattle.mysql_sql_text.proofs.StringLemmas.{bytes_literal-short, bytes_literal-utf8, bytes_literal-other}
-use Rattle.mysql_sql_text.proofs.strings.fill_literal.Goals as goal
+use Rattle.mysql_sql_text.proofs.strings.fill_bytes_literal.Goals as goal
 
 pub fill_string-requires : goal.fill_string-requires
 fill_string-requires c =
     c.requires ∙ ap length (bytes_literal-short c.args.no_backslash_escape c.args.bytes.now (omega (arith, c.requires)))
 
-pub returns-then-room-bytes : goal.returns-then-room-bytes
-returns-then-room-bytes c =
+pub returns-then-buffer-bytes : goal.returns-then-buffer-bytes
+returns-then-buffer-bytes c =
     c.fill_string.ensures ∙ sym (bytes_literal-short c.args.no_backslash_escape c.args.bytes.now (omega (arith, c.requires)))
 
 pub fill_string-requires-in-Ok : goal.fill_string-requires-in-Ok
