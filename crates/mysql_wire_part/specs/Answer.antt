@@ -1,15 +1,15 @@
--- What a call returns that may run out of memory: one word for all crates.
+-- What a call returns that may be out of memory: one definition for all crates.
 use Rattle.std.specs.Prelude.{◌≡◌, Option, None, Some, Result, Ok, Err}
 
--- the refusal is the one that is expected; where there is none the call ran out of memory, which it
--- may only where it allocates
+-- the refusal is the expected one; if there is no refusal the call is out of memory, which it may be
+-- only if it allocates
 abbrev pub IsExpectedRefusal : {Seen Refusal : Type 0} → Result Seen Refusal → Type 0
     → Option Refusal → Type 0
 IsExpectedRefusal expected takes_memory (Some refusal) = expected ≡ Err refusal
 IsExpectedRefusal expected takes_memory None = takes_memory
 
 -- The result is what is expected: what contracts see of its value, or the refusal that its error
--- is. Or it is out of memory, only where the call allocates: the one error that is no refusal.
+-- is. Or it is out of memory, only if the call allocates: the one error that is no refusal.
 abbrev pub IsAnswer : {A Seen E Refusal : Type 0} → (A → Seen) → (E → Option Refusal)
     → Result Seen Refusal → Type 0 → Result A E → Type 0
 IsAnswer seen refusal_of expected takes_memory (Ok value) = expected ≡ Ok (seen value)

@@ -15,7 +15,7 @@ abbrev pub Eats : {X : Type 0} → Reading X → List ℕ → List ℕ → Optio
 Eats read old new (Some x) = read ≡ Ok (x, new)
 Eats read old new None = (read ≡ Err unexpected_eof) × (new ≡ old)
 
--- why the call read nothing, where it is not out of memory
+-- why the call read nothing, unless it is out of memory
 abbrev pub read_refusal : WireError → Option ReadRefusal
 -- too few bytes are left
 read_refusal UnexpectedEof = Some unexpected_eof

@@ -4,7 +4,7 @@ use Rattle.std.specs.Prelude.{ℕ, nat_le, List, length, take, drop, Result, Ok,
 use Rattle.byteorder.specs.Endian.{little_number}
 use Rattle.mysql_wire_part.specs.declared.column.ColumnType.{ColumnType}
 
--- why nothing can be read; running out of memory is no such reason
+-- why nothing can be read; out of memory is no such reason
 pub data ReadRefusal : Type 0 where
   -- too few bytes
   unexpected_eof : ReadRefusal
@@ -27,12 +27,12 @@ abbrev pub read_number : ℕ → List ℕ → Reading ℕ
 read_number n bytes =
     if nat_le n (length bytes) then Ok (little_number n bytes, drop n bytes) else Err unexpected_eof
 
--- what is made of the thing that is read
+-- a reading, with `make` applied to what is read
 abbrev pub map_read : {X Y : Type 0} → (X → Y) → Reading X → Reading Y
 map_read make (Ok read) = Ok (make read.0, read.1)
 map_read make (Err refusal) = Err refusal
 
--- what is read next, which may depend on the thing read before it
+-- what is read next, which may depend on what is read before it
 abbrev pub and_then_read : {X Y : Type 0} → Reading X → (X → List ℕ → Reading Y) → Reading Y
 and_then_read (Ok read) next = next read.0 read.1
 and_then_read (Err refusal) next = Err refusal

@@ -21,7 +21,7 @@ pub trait MySerialize {
 
 /// What can be read from the front of a buffer.
 pub trait MyDeserialize<'de>: Sized {
-    /// The number of bytes that a value takes, where all values take the same.
+    /// The number of bytes that a value takes, if all values take the same number.
     const SIZE: Option<usize>;
 
     // the same number, for contracts
@@ -38,7 +38,7 @@ pub trait MyDeserialize<'de>: Sized {
     // what stands at the front of the bytes, and what follows it, or why nothing can be read
     ghost reads: { Self.Ctx → List ℕ → Reading Seen };
 
-    // where a reading allocates, so that it may run out
+    // whether a reading allocates, and so may be out of memory
     ghost takes_memory: { Self.Ctx → List ℕ → Type 0 };
 
     /// Takes a value off the front of the buffer. On each error the buffer is unchanged.

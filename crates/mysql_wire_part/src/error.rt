@@ -12,10 +12,10 @@ pub enum WireError {
     /// Fewer bytes are left than are to be read.
     #[error("Unexpected end of buffer")]
     UnexpectedEof,
-    /// This byte stands where a length is to be read, and begins none: 251 (FB) or 255 (FF).
+    /// A length is to be read, and this byte begins none: 251 (FB) or 255 (FF).
     #[error("Bad length lead {0}")]
     BadLengthLead(u8),
-    /// Values of this column type have no reading.
+    /// Values of this column type are not read.
     #[error("Unsupported column type")]
     UnsupportedColumn(ColumnType),
     /// Memory for what was read was refused.

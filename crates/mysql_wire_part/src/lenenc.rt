@@ -16,8 +16,8 @@ const LEAST_OF_THREE: u64 = 0x1_0000;
 
 const LEAST_OF_EIGHT: u64 = 0x100_0000;
 
-// The leads of these lengths. The least byte that is no length by itself is FB; it and FF begin
-// none.
+// The leads of these lengths. FB is the least byte that is no length by itself; neither it nor FF
+// begins a length.
 const LEAST_LEAD: u8 = 0xFB;
 
 const LEAD_OF_TWO: u8 = 0xFC;
@@ -57,7 +57,7 @@ pub fn put_lenenc_str(buf: &mut Vec<u8>, bytes: &[u8]) -> Result<(), AllocError>
 /// Fills the slice with the bytes as a length-encoded string. The slice has to have exactly
 /// [`lenenc_str_len`] bytes. Nothing is allocated, and nothing refuses.
 pub fn fill_lenenc_str(slice: &mut [u8], bytes: &[u8])
-    requires room { length slice.old ≡ length (lenenc_spelling bytes.now) }
+    requires exact { length slice.old ≡ length (lenenc_spelling bytes.now) }
     ensures filled { slice.new ≡ lenenc_spelling bytes.now }
 {
     let (head, count) = length_head(bytes.len() as u64);

@@ -11,7 +11,7 @@ use crate::lenenc::length_at;
 use byteorder::{ByteOrder, LittleEndian};
 
 /// The bytes that are left of a buffer. Each call that eats takes what it returns off the front.
-/// It returns `None` where too few bytes are left; after that, and after an error, the buffer is as
+/// It returns `None` if too few bytes are left; after that, and after an error, the buffer is as
 /// before. Numbers and strings stand as in "Protocol::FixedLengthInteger" and
 /// "Protocol::LengthEncodedString" of the MySQL client/server protocol.
 #[derive(Clone, Copy, Debug, PartialEq, Eq)]
@@ -110,8 +110,8 @@ impl<'a> ParseBuf<'a> {
         Some(ParseBuf(front))
     }
 
-    /// The next length-encoded string, as a slice of the input. `UnexpectedEof` where the length or
-    /// the string is cut, `BadLengthLead` where FB or FF stands for a length.
+    /// The next length-encoded string, as a slice of the input. `UnexpectedEof` if the length or the
+    /// string is cut, `BadLengthLead` if FB or FF stands for a length.
     pub fn eat_lenenc_str(&mut self) -> Result<&'a [u8], WireError>
         // It allocates nothing, so it is never out of memory.
         ensures read { IsAnswer (λ text. (text.now, left self.new)) read_refusal
