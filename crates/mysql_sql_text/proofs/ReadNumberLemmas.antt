@@ -38,7 +38,7 @@ digit_not_n b h = grind (arith, nat_tests)
 digit_not_minus : (b : ℕ) → is_ascii_digit b ≡ true → eqb minus b ≡ false
 digit_not_minus b h = grind (arith, nat_tests)
 
--- no `0x` where the second byte is another
+-- no `0x` if the second byte is another
 not_hexadecimal : (a b : ℕ) (text : List ℕ) → eqb letter_x b ≡ false → read_hexadecimal (a ∷ b ∷ text) ≡ None
 not_hexadecimal a b text h =
     let digits_of : Option (List ℕ) → Option (Content × List ℕ) = option_and_then (λ digits. if_any (read_pairs digits)) in

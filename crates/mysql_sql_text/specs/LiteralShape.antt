@@ -1,5 +1,5 @@
 -- The shape of every literal (MySQL Reference Manual, "String Literals", "Hexadecimal Literals",
--- "Numeric Literals", "NULL Values"): what is to be known of literals where they stand in a query.
+-- "Numeric Literals", "NULL Values"): what is to be known of the literals in a query.
 use Rattle.std.specs.Prelude.{ℕ, Bool, true, false, IsTrue, List, [], ◌∷◌, ◌++◌, codes}
 use Rattle.std.specs.Char.{is_ascii_digit}
 use Rattle.std.specs.List.{list_all}

@@ -23,7 +23,7 @@ abbrev pub fraction_of : List ℕ → Option ℕ
 fraction_of [] = Some 0
 fraction_of (point ∷ digits) = if point == byte "." then fraction_microseconds digits else None
 
--- the microseconds of the fields, where all four are there
+-- the microseconds of the fields, if all four are there
 abbrev pub sum_of_fields : Option ℕ → Option ℕ → Option ℕ → Option ℕ → Option ℕ
 sum_of_fields (Some hours) (Some minutes) (Some seconds) (Some part) =
     Some (total_microseconds 0 hours minutes seconds part)

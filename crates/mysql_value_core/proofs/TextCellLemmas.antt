@@ -29,7 +29,7 @@ reads : (read : Reading Value) → ReadsBytes read → IsOk read
 reads (Ok read) bytes = refl
 reads (Err refusal) bytes = absurd bytes
 
--- where a cell is wanted and the first is read, a cell is read
+-- if a cell is wanted and the first is read, a cell is read
 reads_a_cell : (count : ℕ) (bytes : List ℕ) → 0 < count → IsOk (read_cell bytes)
     → ReadsACell count bytes
 reads_a_cell zero bytes some read = absurd (omega arith)
@@ -46,7 +46,7 @@ module _ (count counter : ℕ) (bytes rest : List ℕ) (before : List Value)
       let next : count - counter ≡ suc (count - (counter + 1)) = omega arith in
       read_on ∙ ap (λ n. row_after before (read_cells n rest)) next
 
-  -- where this cell is read, it stands after those so far
+  -- if this cell is read, it stands after those so far
   pub next_cell : (cell : Value) (next : List ℕ) → read_cell rest ≡ Ok (cell, next)
       → read_cells count bytes
       ≡ row_after (before ++ cell ∷ []) (read_cells (count - (counter + 1)) next)
@@ -61,7 +61,7 @@ module _ (count counter : ℕ) (bytes rest : List ℕ) (before : List Value)
       one_more
       ∙ ap (λ r. row_after before (and_then_read r (row_from_cell (count - (counter + 1))))) read
 
-  -- where this cell is read, so is the first
+  -- if this cell is read, so is the first
   pub first_cell : IsOk (read_cell rest) → ReadsACell count bytes
   first_cell read = elim first [
     | inl here ↦

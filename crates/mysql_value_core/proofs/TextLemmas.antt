@@ -12,7 +12,7 @@ pub value_text-IsUtf8 : (value : Value) (bytes : List ℕ) → value ≡ Bytes b
     → value_text value ≡ Some bytes
 value_text-IsUtf8 value bytes is utf8 = rw (is, is_utf8-from_IsUtf8 bytes utf8) refl
 
--- the test fails where the bytes are not UTF-8
+-- the test fails if the bytes are not UTF-8
 is_utf8-not : (bytes : List ℕ) → (IsUtf8 bytes → false ≡ true) → (t : Bool) → is_utf8 bytes ≡ t
     → t ≡ false
 is_utf8-not bytes not_utf8 true is = absurd (false≢true (not_utf8 (IsUtf8-from_is_utf8 bytes is)))

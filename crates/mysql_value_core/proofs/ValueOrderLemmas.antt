@@ -21,7 +21,7 @@ value_cmp-total = subst IsTotalOrder (λ i v w. cmp-is-value_cmp v w i) total-la
 eq-decides : (v w : Value) → IsTrue (eq-value.it v w) ↔ (v ≡ w)
 eq-decides v w = search rules
 
--- it holds where the order doesn't tell two values apart
+-- it holds if the order doesn't tell two values apart
 eq-by-value_cmp : (v w : Value) → eq-value.it v w ≡ is_eq (value_cmp v w)
 eq-by-value_cmp v w = matches_eq-law v w ∙ ap is_eq (cmp-is-value_cmp v w)
 

@@ -1,4 +1,4 @@
--- What `Value::as_sql` returns where a value has no literal.
+-- What `Value::as_sql` returns if a value has no literal.
 use Rattle.std.specs.Prelude.{Option, Some, None}
 use Rattle.mysql_value_core.specs.declared.value.literal.AsSqlError.{AsSqlError}
 use Rattle.mysql_value_core.specs.declared.value.literal.AsSqlError.TheVariants.{Float, Memory}
@@ -8,7 +8,7 @@ pub data LiteralRefusal : Type 0 where
   -- it is a float
   float : LiteralRefusal
 
--- why a value has no literal, where the error is not out of memory
+-- why a value has no literal; none if the error is out of memory
 abbrev pub literal_refusal : AsSqlError → Option LiteralRefusal
 literal_refusal Float = Some float
 literal_refusal (Memory error) = None

@@ -1,4 +1,4 @@
--- What is read back of a value that was written in binary form.
+-- The value that is read back after a value was written in binary form.
 use Rattle.std.specs.Prelude.{◌≡◌, ℕ, Bool, true, false, ◌==◌, ◌&&◌, List, ◌++◌, Ok, if◌then◌else◌}
 use Rattle.mysql_wire_part.specs.declared.column.ColumnType.{ColumnType}
 use Rattle.mysql_wire_part.specs.declared.column.ColumnType.TheVariants.{MYSQL_TYPE_NULL, MYSQL_TYPE_BLOB, MYSQL_TYPE_LONGLONG, MYSQL_TYPE_FLOAT, MYSQL_TYPE_DOUBLE, MYSQL_TYPE_DATETIME, MYSQL_TYPE_TIME}
@@ -23,8 +23,8 @@ abbrev pub own_column_is_unsigned : Value → Bool
 own_column_is_unsigned (UInt number) = true
 own_column_is_unsigned value = false
 
--- the value itself; but `UInt` comes back as `Int` where that has the number, and a negative time
--- of zero comes back as not negative
+-- the value itself, except that `UInt` comes back as `Int` if that has the number, and a negative
+-- time of zero as not negative
 abbrev pub value_read_back : Value → Value
 value_read_back (UInt number) = unsigned_integer number
 value_read_back (Time negative days hours minutes seconds microseconds) =

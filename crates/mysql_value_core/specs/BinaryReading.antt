@@ -9,7 +9,7 @@ use Rattle.mysql_wire_part.specs.declared.column.ColumnType.TheVariants.{MYSQL_T
 use Rattle.mysql_value_core.specs.declared.value.Value.{Value}
 use Rattle.mysql_value_core.specs.declared.value.Value.TheVariants.{NULL, Bytes, Int, UInt, Float, Double, Date, Time}
 
--- a whole number without a sign: `Int` where it has the number, else `UInt`
+-- a whole number without a sign: `Int` if that has the number, else `UInt`
 abbrev pub unsigned_integer : ℕ → Value
 unsigned_integer number = if nat_lt number (2 ^ 63) then Int (pos number) else UInt number
 
@@ -18,8 +18,8 @@ abbrev pub integer_value : ℕ → Bool → ℕ → Value
 integer_value width true number = unsigned_integer number
 integer_value width false number = Int (twos_complement width number)
 
--- The date of these bytes. It has its day from 4 bytes on, its clock from 7 on, and its
--- microseconds only of exactly 11. What it does not have is 0.
+-- The date of these bytes. It has its day from 4 bytes on, its clock from 7 bytes on, and its
+-- microseconds if there are exactly 11. What it does not have is 0.
 abbrev pub date_value : List ℕ → Value
 date_value (y0 ∷ y1 ∷ month ∷ day ∷ hour ∷ minute ∷ second ∷ u0 ∷ u1 ∷ u2 ∷ u3 ∷ []) =
     Date (little_number 2 (y0 ∷ y1 ∷ [])) month day hour minute second
@@ -30,8 +30,8 @@ date_value (y0 ∷ y1 ∷ month ∷ day ∷ more) =
     Date (little_number 2 (y0 ∷ y1 ∷ [])) month day 0 0 0 0
 date_value fields = Date 0 0 0 0 0 0 0
 
--- The time of these bytes. It has all but its microseconds from 8 bytes on, and these only of
--- exactly 12. What it does not have is 0. It is negative only for the sign 1.
+-- The time of these bytes. It has all fields except its microseconds from 8 bytes on, and these if
+-- there are exactly 12. What it does not have is 0. It is negative only if the sign is 1.
 abbrev pub time_value : List ℕ → Value
 time_value (sign ∷ d0 ∷ d1 ∷ d2 ∷ d3 ∷ hours ∷ minutes ∷ seconds ∷ u0 ∷ u1 ∷ u2 ∷ u3 ∷ []) =
     Time (sign == 1) (little_number 4 (d0 ∷ d1 ∷ d2 ∷ d3 ∷ [])) hours minutes seconds

@@ -26,7 +26,7 @@ abbrev pub value_text : Value → Option (List ℕ)
 value_text (Bytes bytes) = if is_utf8 bytes then Some bytes else None
 value_text _ = None
 
--- the bytes of a value, where there are `count`
+-- the bytes of a value, if there are `count`
 abbrev pub value_array : ℕ → Value → Option (List ℕ)
 value_array count (Bytes bytes) = if length bytes == count then Some bytes else None
 value_array count _ = None

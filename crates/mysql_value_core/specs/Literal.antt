@@ -20,7 +20,7 @@ literal_of mode (Date year month day hour minute second microseconds) =
 literal_of mode (Time negative days hours minutes seconds microseconds) =
     Some (quoted (time_text negative days hours minutes seconds microseconds))
 
--- the bytes of that literal; of a float, which has none, no bytes
+-- the bytes of that literal; no bytes for a float, which has none
 abbrev pub literal_text : Bool → Value → List ℕ
 literal_text mode value = unwrap_or (literal_of mode value) []
 

@@ -10,9 +10,9 @@ abbrev pub QuotesTime : ℕ → List ℕ → Type 0
 QuotesTime microseconds literal =
     (text : List ℕ) × (quoted text ≡ literal) × IsTimeText text false microseconds
 
--- A time that is not negative, of up to 899 hours in all, of minutes and seconds up to 59 and of
--- less than a million microseconds has a time text of its microseconds for its literal. Of other
--- values this says nothing.
+-- If a time is not negative, has up to 899 hours in all, minutes and seconds up to 59 and less than
+-- a million microseconds, its literal is a time text of its microseconds between quotes. This says
+-- nothing of other values.
 abbrev pub WritesTimeText : Value → List ℕ → Type 0
 WritesTimeText (Time false days hours minutes seconds microseconds) literal =
     days * 24 + hours ≤ 899 → minutes ≤ 59 → seconds ≤ 59 → microseconds < 1000000

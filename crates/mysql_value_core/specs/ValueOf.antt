@@ -8,7 +8,7 @@ use Rattle.mysql_value_core.specs.declared.value.Value.TheVariants.{NULL, Bytes,
 use Rattle.mysql_value_core.specs.declared.value.convert.ToValueError.{ToValueError}
 use Rattle.mysql_value_core.specs.declared.value.convert.ToValueError.TheVariants.{DurationTooLong, Memory}
 
--- the value of a thing, or the duration that is too long for one
+-- the value of an argument, or the duration that is too long for one
 abbrev pub Meaning : Type 0
 Meaning = Result Value Duration
 
@@ -17,7 +17,7 @@ abbrev pub MeansBytes : Meaning → Type 0
 MeansBytes (Ok value) = IsBytes value
 MeansBytes (Err duration) = ⊥
 
--- the duration that is too long for a value; none where the error is out of memory
+-- the duration that is too long for a value; none if the error is out of memory
 abbrev pub too_long_duration : ToValueError → Option Duration
 too_long_duration (DurationTooLong duration) = Some duration
 too_long_duration (Memory error) = None
@@ -50,7 +50,7 @@ abbrev pub wide_uint_value : ℕ → Meaning
 wide_uint_value number =
     if nat_lt number (2 ^ 64) then Ok (UInt number) else Ok (Bytes (decimal number))
 
--- the value of a truth value
+-- the value of a Boolean
 abbrev pub bool_value : Bool → Meaning
 bool_value true = Ok (Int (pos 1))
 bool_value false = Ok (Int (pos 0))
@@ -59,7 +59,7 @@ bool_value false = Ok (Int (pos 0))
 abbrev pub bytes_value : List ℕ → Meaning
 bytes_value bytes = Ok (Bytes bytes)
 
--- the value of an optional thing, by that of the thing: NULL stands for none
+-- the value of an option, by that of what it holds: NULL stands for none
 abbrev pub option_value : {T : Type 0} → (T → Meaning) → Option T → Meaning
 option_value value_of None = Ok NULL
-option_value value_of (Some thing) = value_of thing
+option_value value_of (Some argument) = value_of argument

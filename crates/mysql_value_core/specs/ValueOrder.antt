@@ -7,16 +7,16 @@ use Rattle.std.specs.Cmp.Lexicographic.{slice_cmp}
 use Rattle.mysql_value_core.specs.declared.value.Value.{Value}
 use Rattle.mysql_value_core.specs.declared.value.Value.TheVariants.{NULL, Bytes, Int, UInt, Float, Double, Date, Time}
 
--- the place of a value's variant in the sequence
-abbrev pub variant_place : Value → ℕ
-variant_place NULL = 0
-variant_place (Bytes bytes) = 1
-variant_place (Int number) = 2
-variant_place (UInt number) = 3
-variant_place (Float bits) = 4
-variant_place (Double bits) = 5
-variant_place (Date year month day hour minute second microseconds) = 6
-variant_place (Time negative days hours minutes seconds microseconds) = 7
+-- the index of a value's variant in the sequence
+abbrev pub variant_index : Value → ℕ
+variant_index NULL = 0
+variant_index (Bytes bytes) = 1
+variant_index (Int number) = 2
+variant_index (UInt number) = 3
+variant_index (Float bits) = 4
+variant_index (Double bits) = 5
+variant_index (Date year month day hour minute second microseconds) = 6
+variant_index (Time negative days hours minutes seconds microseconds) = 7
 
 -- how two values compare
 abbrev pub value_cmp : Value → Value → Ordering
@@ -36,4 +36,4 @@ value_cmp (Time negative days hours minutes seconds microseconds)
     ordering_then (bool_cmp negative negative') (ordering_then (nat_cmp days days')
     (ordering_then (nat_cmp hours hours') (ordering_then (nat_cmp minutes minutes')
     (ordering_then (nat_cmp seconds seconds') (nat_cmp microseconds microseconds')))))
-value_cmp value value' = nat_cmp (variant_place value) (variant_place value')
+value_cmp value value' = nat_cmp (variant_index value) (variant_index value')

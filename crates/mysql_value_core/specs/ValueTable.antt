@@ -1,5 +1,5 @@
 -- Which value each type of Rust has. The `to_value` of the type cites its row. A row takes what
--- contracts see of a thing: of bytes and of texts the list of their bytes.
+-- contracts see of the argument: bytes and texts are seen as the list of their bytes.
 use Rattle.std.specs.Prelude.{ℕ, ℤ, Bool, List, Option, Ok}
 use Rattle.std.specs.declared.time.Duration.{Duration}
 use Rattle.mysql_value_core.specs.declared.value.Value.{Value}
@@ -58,7 +58,7 @@ value_of_u128 = wide_uint_value
 abbrev pub value_of_bool : Bool → Meaning
 value_of_bool = bool_value
 
--- `Duration`: a `Time`, or none where it is too long
+-- `Duration`: a `Time`, or none if it is too long
 abbrev pub value_of_duration : Duration → Meaning
 value_of_duration = duration_value
 
@@ -90,11 +90,11 @@ value_of_string = bytes_value
 abbrev pub value_of_str_cow : List ℕ → Meaning
 value_of_str_cow = bytes_value
 
--- `&T`: that of the thing
+-- `&T`: that of the `T`
 abbrev pub value_of_reference : {T : Type 0} → (T → Meaning) → T → Meaning
-value_of_reference value_of thing = value_of thing
+value_of_reference value_of argument = value_of argument
 
--- `Option<T>`: that of the thing, or `NULL` for none
+-- `Option<T>`: that of the `T`, or `NULL` for none
 abbrev pub value_of_option : {T : Type 0} → (T → Meaning) → Option T → Meaning
 value_of_option = option_value
 

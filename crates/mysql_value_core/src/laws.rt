@@ -1,5 +1,5 @@
-//! Laws of the types of this crate. A program calls them for what they ensure alone, where a proof
-//! needs it.
+//! Laws of the types of this crate. A program calls one only for what it ensures, if a proof needs
+//! it.
 ghost use Rattle.std.specs.Prelude.{◌≡◌, ◌↔◌, IsTrue, None, Some};
 ghost use Rattle.std.specs.Cmp.{IsTotalOrder};
 ghost use Rattle.std.specs.Cmp.Lexicographic.{slice_cmp};
@@ -24,7 +24,7 @@ use mysql_wire_part::MyDeserialize;
 use std::alloc::Global;
 use std::cmp::Ordering;
 
-/// Bytes are equal where the lists are.
+/// Bytes are equal if and only if the lists are.
 pub fn bytes_equality(a: &Bytes, b: &Bytes) -> bool
     ensures same { IsTrue result ↔ (a.now ≡ b.now) }
     ensures member { result ≡ ⟦<Bytes as PartialEq>⟧.eq a.now b.now }
@@ -32,7 +32,7 @@ pub fn bytes_equality(a: &Bytes, b: &Bytes) -> bool
     a == b
 }
 
-/// Bytes are ordered as lists are: by the first byte that differs, a beginning before the whole.
+/// Bytes are ordered as lists are: by the first byte that differs, a prefix before the whole.
 pub fn bytes_order(a: &Bytes, b: &Bytes) -> Ordering
     ensures order { result ≡ slice_cmp nat_cmp a.now b.now }
     ensures member { result ≡ ⟦<Bytes as Ord>⟧.cmp a.now b.now }
@@ -40,7 +40,7 @@ pub fn bytes_order(a: &Bytes, b: &Bytes) -> Ordering
     a.cmp(b)
 }
 
-/// Values are equal where variant and fields are.
+/// Values are equal if and only if variant and fields are.
 pub fn value_equality(a: &Value, b: &Value) -> bool
     ensures same { IsTrue result ↔ (a.now ≡ b.now) }
     ensures member { result ≡ ⟦<Value as PartialEq>⟧.eq a.now b.now }
@@ -64,7 +64,7 @@ pub fn value_partial_order(a: &Value, b: &Value) -> Option<Ordering>
     a.partial_cmp(b)
 }
 
-/// Refused conversions are equal where the values are that they hold.
+/// Refused conversions are equal if and only if the values that they hold are.
 pub fn from_value_error_equality(a: &FromValueError, b: &FromValueError) -> bool
     ensures same { IsTrue result ↔ (a.now ≡ b.now) }
     ensures member { result ≡ ⟦<FromValueError as PartialEq>⟧.eq a.now b.now }
@@ -72,7 +72,7 @@ pub fn from_value_error_equality(a: &FromValueError, b: &FromValueError) -> bool
     a == b
 }
 
-/// Errors of `ToValue` are equal where variant and fields are.
+/// Errors of `ToValue` are equal if and only if variant and fields are.
 pub fn to_value_error_equality(a: &ToValueError, b: &ToValueError) -> bool
     ensures same { IsTrue result ↔ (a.now ≡ b.now) }
     ensures member { result ≡ ⟦<ToValueError as PartialEq>⟧.eq a.now b.now }
@@ -80,7 +80,7 @@ pub fn to_value_error_equality(a: &ToValueError, b: &ToValueError) -> bool
     a == b
 }
 
-/// The order of values is total and transitive, and `Equal` exactly where they are equal.
+/// The order of values is total and transitive, and `Equal` if and only if they are equal.
 pub fn value_order_is_total()
     ensures total { IsTotalOrder value_cmp }
     ensures equal { (a b : value.Value) → (value_cmp a b ≡ Equal) ↔ (a ≡ b) }

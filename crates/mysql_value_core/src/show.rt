@@ -52,7 +52,7 @@ impl fmt::Debug for Value {
     }
 }
 
-// Minutes and seconds, and microseconds where they are not 0.
+// Minutes and seconds, and microseconds unless they are 0.
 fn show_after_hours<W: fmt::Write>(
     f: &mut fmt::Formatter<W>,
     minutes: u8,

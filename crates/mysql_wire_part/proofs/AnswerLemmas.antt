@@ -3,8 +3,8 @@ use Rattle.std.proofs.Common.{◌≡◌}
 use Rattle.std.specs.Prelude.{Option, None, Some, Result, Err}
 use Rattle.mysql_wire_part.specs.Answer.{IsExpectedRefusal}
 
--- A refusal that is expected of one call is expected of another too, where each refusal of the one
--- is that of the other, and the other allocates where the one does.
+-- A refusal that is expected of one call is expected of another too, if each refusal of the one is
+-- that of the other, and the other allocates whenever the one does.
 pub refusal_expected_too : {Seen Seen' Refusal : Type 0} (expected : Result Seen Refusal)
     (expected' : Result Seen' Refusal) (Takes Takes' : Type 0) (refusal : Option Refusal)
     → ((why : Refusal) → expected ≡ Err why → expected' ≡ Err why) → (Takes → Takes')

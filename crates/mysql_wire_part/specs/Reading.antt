@@ -8,7 +8,7 @@ use Rattle.mysql_wire_part.specs.declared.column.ColumnType.{ColumnType}
 pub data ReadRefusal : Type 0 where
   -- too few bytes
   unexpected_eof : ReadRefusal
-  -- a byte that begins no length stands where a length is expected
+  -- a length is expected, and this byte begins none
   bad_length_lead : ℕ → ReadRefusal
   -- values of this column type are not read
   unsupported_column : ColumnType → ReadRefusal

@@ -30,7 +30,7 @@ pub fn floats_have_no_literal()
     ensures content { (value : value.Value) → is_none (content_of value) ≡ is_float value }
 {}
 
-/// Refusals of `as_sql` are equal where the variants are.
+/// Refusals of `as_sql` are equal if and only if the variants are.
 pub fn as_sql_error_equality(a: &AsSqlError, b: &AsSqlError) -> bool
     ensures same { IsTrue result ↔ (a.now ≡ b.now) }
     ensures member { result ≡ ⟦<AsSqlError as PartialEq>⟧.eq a.now b.now }

@@ -184,14 +184,15 @@ impl<'de> MyDeserialize<'de> for ValueDeserializer<BinValue> {
     {
         let mut rest = *buf;
         let unsigned = ctx.1.contains(ColumnFlags::UNSIGNED_FLAG);
-        let value = eat_value(alloc, ctx.0, unsigned, &mut rest)?;
+        let value = eat_binary(alloc, ctx.0, unsigned, &mut rest)?;
         *buf = rest;
         Ok(ValueDeserializer(value, PhantomData))
     }
 }
 
-// The value at the front of the buffer. An error may leave the buffer at any place.
-fn eat_value(
+// The value at the front of the buffer, read by the type of its column. After an error any bytes of
+// it may have been taken off.
+fn eat_binary(
     alloc: Global,
     column: ColumnType,
     unsigned: bool,

@@ -30,7 +30,7 @@ impl FromValueError {
     }
 }
 
-/// Why a thing has no value.
+/// Why an argument has no value.
 #[derive(Debug, PartialEq, Drop, Error)]
 pub enum ToValueError {
     /// The duration, rounded to microseconds, has more days than a `Time` holds.
@@ -49,14 +49,14 @@ impl From<AllocError> for ToValueError {
     }
 }
 
-/// What has a value.
+/// An argument of a query: what has a value.
 pub trait ToValue {
-    // the value of the thing, or why it has none
+    // the value of the argument, or why it has none
     ghost value_of: { Self → Meaning };
 
-    /// The value of the thing. It allocates only where the value is `Bytes`. `DurationTooLong` is
-    /// returned only where the type's `value_of` says so: of the types of this library, where a
-    /// duration in the thing is too long.
+    /// The value of the argument. It allocates only if the value is `Bytes`. `DurationTooLong` is
+    /// returned only if the type's `value_of` says so; a type of this library says so only of a
+    /// duration that is too long.
     fn to_value(&self, alloc: Global) -> Result<Value, ToValueError>
         ensures { IsAnswer (λ value. value) too_long_duration (value_of self.now)
             (MeansBytes (value_of self.now)) result };

@@ -20,7 +20,7 @@ pub enum AsSqlError {
     /// The value is a float, of either width.
     #[error("Float has no SQL text")]
     Float,
-    /// There was no memory for the text, or it is longer than any text can be.
+    /// Out of memory for the text, or it is longer than any text can be.
     #[error("out of memory")]
     Memory(AllocError),
 }
@@ -38,9 +38,9 @@ impl Value {
     ///
     /// Bytes that are UTF-8 become a string, and others hexadecimal. A date or a time becomes a
     /// string, in which a field out of its usual range stands as it is. `no_backslash_escape` is
-    /// for a server in the SQL mode `NO_BACKSLASH_ESCAPES`, where a backslash in a string escapes
-    /// nothing. `Float` is returned for `Float` and `Double`, without allocating, and for nothing else;
-    /// any other value may be out of memory.
+    /// for a server in the SQL mode `NO_BACKSLASH_ESCAPES`, in which a backslash in a string
+    /// escapes nothing. `Float` is returned for `Float` and `Double`, without allocating, and for
+    /// nothing else; any other value may be out of memory.
     pub fn as_sql(&self, alloc: Global, no_backslash_escape: bool) -> Result<String, AsSqlError>
         ensures gives { IsAnswer string_bytes literal_refusal
             (ok_or (literal_of no_backslash_escape self.now) float)
@@ -63,7 +63,7 @@ impl Value {
         Ok(unsafe { String::from_utf8_unchecked(text) })
     }
 
-    /// How many bytes the SQL literal of the value has: how long the text of `as_sql` is.
+    /// How many bytes the SQL literal of the value has, the text of `as_sql`.
     ///
     /// `None` exactly for `Float` and `Double`, which have no literal. It allocates nothing. The
     /// length may be above `isize::MAX`, and then no slice is that long.
@@ -73,7 +73,7 @@ impl Value {
     {
         match self {
             Value::NULL => Some(4),
-            Value::Bytes(bytes) => Some(strings::literal_len(
+            Value::Bytes(bytes) => Some(strings::bytes_literal_len(
                 bytes.as_slice(),
                 no_backslash_escape,
             )),
@@ -106,9 +106,9 @@ impl Value {
 
     /// Writes the SQL literal of the value, the text of `as_sql`, over the whole of `room`.
     ///
-    /// It can be called where the value has a literal, and so is no float, and where `room` has
-    /// exactly the bytes that `sql_len` tells in the same mode. It allocates nothing and refuses
-    /// nothing. Where `as_sql` says what its text reads as, the same holds of the bytes in `room`.
+    /// The value has a literal, so it is no float, and `room` is exactly as long as `sql_len` says
+    /// in the same mode. Nothing is allocated, and nothing is refused. What `as_sql` promises of its
+    /// text holds of the bytes in `room` too.
     pub fn put_sql(&self, no_backslash_escape: bool, room: &mut [u8])
         requires { option_map length (literal_of no_backslash_escape self.now)
             ≡ Some (length room.old) }
@@ -121,24 +121,24 @@ impl Value {
     }
 
     // Fills the slice with the literal.
-    fn fill_literal(&self, no_backslash_escape: bool, room: &mut [u8])
+    fn fill_literal(&self, no_backslash_escape: bool, buffer: &mut [u8])
         requires { option_map length (literal_of no_backslash_escape self.now)
-            ≡ Some (length room.old) }
-        ensures { literal_of no_backslash_escape self.now ≡ Some room.new }
+            ≡ Some (length buffer.old) }
+        ensures { literal_of no_backslash_escape self.now ≡ Some buffer.new }
     {
         match self {
-            Value::NULL => room.copy_from_slice(b"NULL"),
-            Value::Bytes(bytes) => strings::fill_literal(
-                room,
+            Value::NULL => buffer.copy_from_slice(b"NULL"),
+            Value::Bytes(bytes) => strings::fill_bytes_literal(
+                buffer,
                 bytes.as_slice(),
                 no_backslash_escape,
             ),
-            Value::Int(number) => numbers::fill_signed(room, *number),
-            Value::UInt(number) => numbers::fill_padded(room, *number),
+            Value::Int(number) => numbers::fill_signed(buffer, *number),
+            Value::UInt(number) => numbers::fill_padded(buffer, *number),
             Value::Float(_) | Value::Double(_) => unreachable!(),
             &Value::Date(year, month, day, hour, minute, second, microseconds) => {
                 dates::fill_date(
-                    room,
+                    buffer,
                     DateFields {
                         year,
                         month,
@@ -152,7 +152,7 @@ impl Value {
             }
             &Value::Time(negative, days, hours, minutes, seconds, microseconds) => {
                 dates::fill_time(
-                    room,
+                    buffer,
                     TimeFields {
                         negative,
                         days,

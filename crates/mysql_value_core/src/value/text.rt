@@ -39,14 +39,14 @@ impl<'de> MyDeserialize<'de> for ValueDeserializer<TextValue> {
     }
 }
 
-/// Reads `count` cells. It asks for the room of a cell only once the cell is there. On each error
-/// the buffer is unchanged; it is the error of the first cell that has one, or it is out of memory.
+/// Reads `count` cells. It allocates for a cell only once the cell is there. On each error the
+/// buffer is unchanged; it is the error of the first cell that has one, or it is out of memory.
 pub fn read_text_cells(
     alloc: Global,
     buf: &mut ParseBuf<'_>,
     count: usize,
 ) -> Result<Vec<Value>, WireError>
-    // It may be out of memory once the first cell is there, also where a later one is refused.
+    // It may be out of memory once the first cell is there, even if a later one is refused.
     ensures read { IsAnswer (λ cells. (cells.items, left buf.new)) read_refusal
         (read_cells count (left buf.old)) (ReadsACell count (left buf.old)) result }
     ensures unchanged { OnErr result (left buf.new ≡ left buf.old) }

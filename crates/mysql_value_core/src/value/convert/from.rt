@@ -86,10 +86,10 @@ impl From<usize> for Value {
 }
 
 impl From<bool> for Value {
-    ghost from_gives = { λ truth value. Ok value ≡ value_of_bool truth };
+    ghost from_gives = { λ boolean value. Ok value ≡ value_of_bool boolean };
 
-    fn from(truth: bool) -> Value {
-        Value::Int(i64::from(truth))
+    fn from(boolean: bool) -> Value {
+        Value::Int(i64::from(boolean))
     }
 }
 

@@ -1,4 +1,4 @@
-//! The values of references, of optional things, and of values.
+//! The values of references, of options, and of values.
 ghost use Rattle.mysql_value_core.specs.ValueTable.{value_of_option, value_of_reference, value_of_value};
 
 use crate::value::Value;
@@ -19,7 +19,7 @@ impl<T: ToValue> ToValue for Option<T> {
     fn to_value(&self, alloc: Global) -> Result<Value, ToValueError> {
         match self {
             None => Ok(Value::NULL),
-            Some(thing) => thing.to_value(alloc),
+            Some(argument) => argument.to_value(alloc),
         }
     }
 }

@@ -11,7 +11,8 @@ use std::borrow::{CowSlice, CowStr};
 impl TryFrom<Value> for Vec<u8> {
     type Error = FromValueError;
 
-    ghost try_from_gives = { λ v r. ConvertsOrHandsBack (λ bytes. bytes.items) (value_bytes v) v r };
+    ghost try_from_gives = { λ v r.
+        ConvertsOrHandsBack (λ bytes. bytes.items) (value_bytes v) v r };
 
     fn try_from(value: Value) -> Result<Vec<u8>, FromValueError> {
         match value {
