@@ -84,7 +84,7 @@ pub use mysql_values::laws::text_converts_back;
 pub use mysql_values::laws::time_texts_are_read;
 pub use mysql_values::laws::times_read_back;
 pub use mysql_values::laws::to_value_error_equality;
-pub use mysql_values::laws::truth_converts_back;
+pub use mysql_values::laws::boolean_converts_back;
 pub use mysql_values::laws::value_equality;
 pub use mysql_values::laws::value_ir_equality;
 pub use mysql_values::laws::value_ir_order;

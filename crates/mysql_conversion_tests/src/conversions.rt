@@ -1,4 +1,4 @@
-//! Conversions to truth values, texts, bytes and optional things, and their way back.
+//! Conversions to Booleans, texts, bytes and optional things, and their way back.
 use crate::shared::{
     answer_of, bytes, comes_back, commits, converts, converts_by_std_traits, gives, gives_back,
     hands_back, has_value, keeps_both, refused, refused_by_std_trait, refused_bytes,
@@ -15,27 +15,27 @@ use std::fmt::{Debug, Display};
 use std::process::Abort;
 use std::time::Duration;
 
-// The value converts to the truth value, whose own value is 0 or 1.
-fn reads_truth(rt: &impl Abort, alloc: Global, value: Value, truth: bool) {
+// The value converts to the Boolean, whose own value is 0 or 1.
+fn reads_boolean(rt: &impl Abort, alloc: Global, value: Value, boolean: bool) {
     let kept = answer_of(rt, value.clone());
     let read: bool = answer_of(rt, from_value_opt(value));
-    same_in(rt, read, truth, &kept);
-    has_value(rt, alloc, &read, &Value::Int(i64::from(truth)), &kept);
+    same_in(rt, read, boolean, &kept);
+    has_value(rt, alloc, &read, &Value::Int(i64::from(boolean)), &kept);
 }
 
-fn bytes_read_truth(rt: &impl Abort, alloc: Global, text: &[u8], truth: bool) {
-    reads_truth(rt, alloc, bytes(rt, alloc, text), truth);
+fn bytes_read_boolean(rt: &impl Abort, alloc: Global, text: &[u8], boolean: bool) {
+    reads_boolean(rt, alloc, bytes(rt, alloc, text), boolean);
 }
 
 #[test]
-fn truth_values(rt: HostRuntime) {
+fn booleans(rt: HostRuntime) {
     let alloc = rt.alloc();
-    reads_truth(&rt, alloc, Value::UInt(0), false);
-    reads_truth(&rt, alloc, Value::Int(0), false);
-    reads_truth(&rt, alloc, Value::Int(-1), true);
-    reads_truth(&rt, alloc, Value::UInt(2), true);
-    bytes_read_truth(&rt, alloc, b"0", false);
-    bytes_read_truth(&rt, alloc, b"1", true);
+    reads_boolean(&rt, alloc, Value::UInt(0), false);
+    reads_boolean(&rt, alloc, Value::Int(0), false);
+    reads_boolean(&rt, alloc, Value::Int(-1), true);
+    reads_boolean(&rt, alloc, Value::UInt(2), true);
+    bytes_read_boolean(&rt, alloc, b"0", false);
+    bytes_read_boolean(&rt, alloc, b"1", true);
     refused_bytes::<bool>(&rt, alloc, b"2");
     refused_bytes::<bool>(&rt, alloc, b"");
     refused_bytes::<bool>(&rt, alloc, b"01");

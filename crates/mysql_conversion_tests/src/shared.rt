@@ -141,7 +141,7 @@ pub(crate) fn commits<T: Debug + PartialEq + Drop>(
     same(rt, &ir.commit(), wanted);
 }
 
-// The value of a whole number or a truth value that the intermediate is rolled back to.
+// The value of a whole number or a Boolean that the intermediate is rolled back to.
 pub(crate) fn rolls_back<T: ToValue + Drop>(
     rt: &impl Abort,
     alloc: Global,

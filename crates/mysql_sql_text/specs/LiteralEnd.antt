@@ -3,8 +3,8 @@
 -- (MySQL Reference Manual, "Numeric Literals", "Schema Object Names"), as in `5.5` and `5_a`. The
 -- reader of ReadLiteral stops there, and the tests below name none of these, so whoever joins texts
 -- by hand has to see that none of them follows a literal. This module says nothing of what stands
--- before a literal. There the same bytes, a letter, a digit and a quote join it too, as `'a'` before
--- `'b'`.
+-- before a literal. There the same bytes, a letter, a digit and a quote join it too, as `'a'`
+-- before `'b'`.
 use Rattle.std.specs.Prelude.{◌≡◌, ℕ, nat_le, Bool, ◌==◌, ◌&&◌, ◌||◌, List, [], ◌∷◌, ◌++◌, Some, IsFalse, ⊤}
 use Rattle.std.specs.Char.{is_ascii_digit}
 use Rattle.std.specs.Str.{byte}

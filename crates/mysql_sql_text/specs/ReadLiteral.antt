@@ -1,10 +1,10 @@
 -- How a literal is read: by the forms that are written, and some near them: zeros in front (`007`),
 -- hexadecimal digits in either case (`0xaB`), escapes that are never written (`'\q'`) (MySQL
--- Reference Manual, "NULL Values", "Hexadecimal Literals", "Numeric Literals", "String Literals" and
--- its table "Special Character Escape Sequences"). This is not the manual's whole grammar: it reads
--- only the `5` of `5.5`, it doesn't read `null`, `x'41'` and `".."`, and it takes hexadecimal digits
--- only in pairs. It shares nothing with the definition of what is written, and no code uses it. A
--- mode is the flag `no_backslash_escape`: `true` is the mode without backslash escapes.
+-- Reference Manual, "NULL Values", "Hexadecimal Literals", "Numeric Literals", "String Literals"
+-- and its table "Special Character Escape Sequences"). This is not the manual's whole grammar: it
+-- reads only the `5` of `5.5`, it doesn't read `null`, `x'41'` and `".."`, and it takes hexadecimal
+-- digits only in pairs. It shares nothing with the definition of what is written, and no code uses
+-- it. A mode is the flag `no_backslash_escape`: `true` is the mode without backslash escapes.
 use Rattle.std.specs.Prelude.{ℕ, ◌+◌, ◌-◌, ◌*◌, nat_le, Bool, true, false, ◌==◌, ◌&&◌, ◌||◌, List, [], ◌∷◌, ◌++◌, codes, Option, Some, None, option_map, option_and_then, ℤ, pos, neg_ℤ, if◌then◌else◌}
 use Rattle.std.specs.Char.{is_ascii_digit}
 use Rattle.std.specs.Option.{option_or}

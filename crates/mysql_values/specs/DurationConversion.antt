@@ -1,4 +1,4 @@
--- Conversions to a duration, of which contracts see the nanoseconds.
+-- Conversions to a duration. Contracts see its nanoseconds.
 use Rattle.std.specs.Prelude.{◌≡◌, ◌≤◌, ℕ, ◌*◌, ◌/◌, ◌^◌, Bool, true, false, List, Result, Ok, Err, Option, None, Some, ⊤}
 use Rattle.std.specs.Option.{option_map, option_and_then}
 use Rattle.std.specs.Duration.{as_nanos}
@@ -14,7 +14,7 @@ use Rattle.mysql_values.specs.Intermediate.{committed}
 use Rattle.mysql_values.specs.declared.value.convert.intermediate.ParseIrOpt.{ParseIrOpt}
 use Rattle.mysql_values.specs.declared.value.convert.intermediate.ParseIrOpt.TheVariants.{Ready, Parsed}
 
--- what is seen of an intermediate, by what is seen of the thing
+-- what is seen of an intermediate, by what is seen of the `T`
 abbrev pub seen_intermediate : {T Seen : Type 0} → (T → Seen) → ParseIrOpt T → ParseIrOpt Seen
 seen_intermediate seen (Ready x) = Ready (seen x)
 seen_intermediate seen (Parsed x value) = Parsed (seen x) value
@@ -37,16 +37,16 @@ duration_conversion (Bytes bytes) =
     option_map (λ nanoseconds. Parsed nanoseconds (Bytes bytes)) (nanoseconds_of_text bytes)
 duration_conversion _ = None
 
--- The value of a duration converts back to the duration rounded to microseconds. Where there is no
--- value, the days of the rounded duration are no number of 32 bits.
+-- The value of a duration converts back to the duration rounded to microseconds. If there is no
+-- value, 32 bits don't hold the days of the rounded duration.
 abbrev pub ConvertsBackRounded : Duration → Meaning → Type 0
 ConvertsBackRounded duration (Ok value) =
     option_map committed (duration_conversion value) ≡ Some (rounded_microseconds duration * 1000)
 ConvertsBackRounded duration (Err too_long) =
     2 ^ 32 ≤ rounded_microseconds duration / 1000000 / 86400
 
--- Bytes convert exactly where they are a time text without `-`, to a duration of its microseconds.
--- Of other values this says nothing.
+-- Bytes convert if and only if they are a time text without `-`, to a duration of its microseconds.
+-- This says nothing of other values.
 abbrev pub ConvertsTimeTexts : Value → Result (ParseIrOpt Duration) FromValueError → Type 0
 ConvertsTimeTexts (Bytes text) (Ok ir) =
     (microseconds : ℕ) × IsTimeText text false microseconds

@@ -27,6 +27,6 @@ pub mod Decimal
 pub mod Intermediate
 pub mod Rollback
 pub mod WholeNumber
-pub mod Truth
+pub mod Boolean
 pub mod OptionConversion
 pub mod DurationConversion

@@ -1,4 +1,4 @@
--- Conversions to an optional thing: NULL is none, and other values convert as the thing does.
+-- Conversions to an `Option<T>`: NULL is none, and other values convert as to a `T`.
 use Rattle.std.specs.Prelude.{Bool, IsTrue, ⊤, Result, Ok, Option, None, Some}
 use Rattle.std.specs.Option.{option_map}
 use Rattle.mysql_value_core.specs.declared.value.Value.{Value}
@@ -9,12 +9,12 @@ use Rattle.mysql_value_core.specs.ValueOf.{Meaning}
 use Rattle.mysql_values.specs.declared.value.convert.option.OptionIr2.{OptionIr2}
 use Rattle.mysql_values.specs.declared.value.convert.option.OptionIr2.TheVariants as option_ir
 
--- what is seen of the intermediate, by what is seen of the thing's own
+-- what is seen of the intermediate, by what is seen of that of the `T`
 abbrev pub seen_option : {T Ir Seen : Type 0} → (Ir → Seen) → OptionIr2 T Ir → Option Seen
 seen_option seen option_ir.None = None
 seen_option seen (option_ir.Some ir) = Some (seen ir)
 
--- the conversion, by that of the thing
+-- the conversion, by that to a `T`
 abbrev pub option_conversion : {Ir : Type 0} → (Value → Option Ir) → Value → Option (Option Ir)
 option_conversion conversion NULL = Some None
 option_conversion conversion value = option_map Some (conversion value)
@@ -25,17 +25,17 @@ abbrev pub ConvertsToOption : {T Ir Seen : Type 0} → (Ir → Seen) → (Value 
 ConvertsToOption seen conversion value result =
     ConvertsOrHandsBack (seen_option seen) (option_conversion conversion value) value result
 
--- the value that it is rolled back to, by that of the thing's own intermediate
+-- the value that it is rolled back to, by that of the intermediate of the `T`
 abbrev pub option_undo : {T Ir : Type 0} → (Ir → Meaning) → OptionIr2 T Ir → Meaning
 option_undo undo option_ir.None = Ok NULL
 option_undo undo (option_ir.Some ir) = undo ir
 
--- rolling it back allocates where that of the thing's own intermediate does
+-- rolling it back allocates if rolling back the intermediate of the `T` does
 abbrev pub OptionTakesMemory : {T Ir : Type 0} → (Ir → Type 0) → OptionIr2 T Ir → Type 0
 OptionTakesMemory takes_memory option_ir.None = ⊥
 OptionTakesMemory takes_memory (option_ir.Some ir) = takes_memory ir
 
--- both are none, or both hold an intermediate of the thing, and these are equal
+-- both are none, or both hold an intermediate of the `T`, and these are equal
 abbrev pub AreEqualOptions : {T Ir : Type 0} → (Ir → Ir → Bool) → OptionIr2 T Ir → OptionIr2 T Ir
     → Type 0
 AreEqualOptions eq option_ir.None option_ir.None = ⊤

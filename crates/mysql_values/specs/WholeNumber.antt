@@ -8,7 +8,7 @@ use Rattle.mysql_values.specs.declared.value.convert.intermediate.ParseIrOpt.{Pa
 use Rattle.mysql_values.specs.declared.value.convert.intermediate.ParseIrOpt.TheVariants.{Ready, Parsed}
 use Rattle.mysql_values.specs.Decimal.{decimal_number}
 
--- What tells a whole-number type from others. Contracts see its numbers as those of `T`.
+-- What distinguishes a whole-number type. Contracts see its numbers as those of `T`.
 pub record WholeType (T : Type 0) : Type 0 where
   -- whether it has negative numbers
   pub is_signed : Bool
@@ -81,7 +81,7 @@ holds true width (negsuc n) = nat_lt n (2 ^ (width - 1))
 holds false width (pos n) = nat_lt n (2 ^ width)
 holds false width (negsuc n) = false
 
--- the number as one of the type, where the type holds it
+-- the number as one of the type, if the type holds it
 abbrev pub number_in_type : {T : Type 0} → Bool → ℕ → (ℤ → T) → ℤ → Option T
 number_in_type is_signed width of_number number =
     if holds is_signed width number then Some (of_number number) else None

@@ -1,5 +1,5 @@
-//! Laws of the types of this crate and of the one below. A program calls them for what they ensure
-//! alone, where a proof needs it.
+//! Laws of the types of this crate and of the one below. A program calls one only for what it
+//! ensures, if a proof needs it.
 ghost use Rattle.std.specs.Prelude.{◌≡◌, ◌↔◌, IsTrue, Some, string_bytes};
 ghost use Rattle.mysql_value_core.specs.FromValue.{value_array, value_bytes, value_text};
 ghost use Rattle.mysql_value_core.specs.ValueOrder.{value_cmp};
@@ -7,7 +7,7 @@ ghost use Rattle.mysql_values.specs.DurationConversion.{ConvertsBackRounded};
 ghost use Rattle.mysql_values.specs.Intermediate.{committed, AreEqualParsed};
 ghost use Rattle.mysql_values.specs.OptionConversion.{AreEqualOptions};
 ghost use Rattle.mysql_values.specs.Rollback.{ConvertsBack};
-ghost use Rattle.mysql_values.specs.Truth.{truth_conversion};
+ghost use Rattle.mysql_values.specs.Boolean.{boolean_conversion};
 ghost use Rattle.mysql_values.specs.WholeNumber.{whole_conversion};
 
 use crate::value::convert::{
@@ -25,7 +25,7 @@ pub use mysql_value_core::laws::{
 use std::cmp::Ordering;
 use std::time::Duration;
 
-/// Intermediates of values are equal where the values are.
+/// Intermediates of values are equal if and only if the values are.
 pub fn value_ir_equality(a: &ValueIr, b: &ValueIr) -> bool
     ensures same { IsTrue result ↔ (a.now ≡ b.now) }
     ensures member { result ≡ ⟦<ValueIr as PartialEq>⟧.eq a.now b.now }
@@ -41,7 +41,7 @@ pub fn value_ir_order(a: &ValueIr, b: &ValueIr) -> Option<Ordering>
     a.partial_cmp(b)
 }
 
-/// Converted things with their values are equal where thing and value are.
+/// Intermediates that hold a `T` and its value are equal if and only if both are.
 pub fn parse_ir_equality<T: PartialEq>(a: &ParseIr<T>, b: &ParseIr<T>) -> bool
     ensures same { IsTrue result ↔ (IsTrue (T.eq a.now.0 b.now.0) × (a.now.1 ≡ b.now.1)) }
     ensures member { result ≡ ⟦<ParseIr<T> as PartialEq>⟧.eq a.now b.now }
@@ -49,8 +49,8 @@ pub fn parse_ir_equality<T: PartialEq>(a: &ParseIr<T>, b: &ParseIr<T>) -> bool
     a == b
 }
 
-/// Converted things, with their values where they are kept, are equal where variant, thing and
-/// value are.
+/// Intermediates that hold a `T`, and its value if it is kept, are equal if and only if variant,
+/// `T` and value are.
 pub fn parse_ir_opt_equality<T: PartialEq>(a: &ParseIrOpt<T>, b: &ParseIrOpt<T>) -> bool
     ensures same { IsTrue result ↔ AreEqualParsed T.eq a.now b.now }
     ensures member { result ≡ ⟦<ParseIrOpt<T> as PartialEq>⟧.eq a.now b.now }
@@ -58,7 +58,8 @@ pub fn parse_ir_opt_equality<T: PartialEq>(a: &ParseIrOpt<T>, b: &ParseIrOpt<T>)
     a == b
 }
 
-/// Intermediates of optional things are equal where both are none, or those of the things are.
+/// Intermediates of options are equal if and only if both are none, or both hold an intermediate
+/// and these are equal.
 pub fn option_ir_equality<T: FromValue>(a: &OptionIr2<T>, b: &OptionIr2<T>) -> bool
 where
     T::Intermediate: PartialEq,
@@ -79,13 +80,13 @@ pub fn whole_number_converts_back<T: WholeNumber + Drop>(number: &T)
     let _same = T::from_parts(negative, magnitude);
 }
 
-/// A truth value converts back from its value.
-pub fn truth_converts_back(truth: &bool)
-    ensures converts_back { ConvertsBack truth_conversion committed
-        (⟦<bool as ToValue>⟧.value_of truth.now) truth.now }
+/// A Boolean converts back from its value.
+pub fn boolean_converts_back(boolean: &bool)
+    ensures converts_back { ConvertsBack boolean_conversion committed
+        (⟦<bool as ToValue>⟧.value_of boolean.now) boolean.now }
 {
     // A proof reads here that it is `true` or `false`.
-    let _truth = *truth;
+    let _boolean = *boolean;
 }
 
 /// A duration converts back from its value, rounded half up to microseconds.

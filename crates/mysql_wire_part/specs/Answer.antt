@@ -1,8 +1,8 @@
 -- What a call returns that may be out of memory: one definition for all crates.
 use Rattle.std.specs.Prelude.{◌≡◌, Option, None, Some, Result, Ok, Err}
 
--- the refusal is the expected one; if there is no refusal the call is out of memory, which it may be
--- only if it allocates
+-- the refusal is the expected one; if there is no refusal the call is out of memory, which it may
+-- be only if it allocates
 abbrev pub IsExpectedRefusal : {Seen Refusal : Type 0} → Result Seen Refusal → Type 0
     → Option Refusal → Type 0
 IsExpectedRefusal expected takes_memory (Some refusal) = expected ≡ Err refusal

@@ -110,8 +110,8 @@ impl<'a> ParseBuf<'a> {
         Some(ParseBuf(front))
     }
 
-    /// The next length-encoded string, as a slice of the input. `UnexpectedEof` if the length or the
-    /// string is cut, `BadLengthLead` if FB or FF stands for a length.
+    /// The next length-encoded string, as a slice of the input. `UnexpectedEof` if the length or
+    /// the string is cut, `BadLengthLead` if FB or FF stands for a length.
     pub fn eat_lenenc_str(&mut self) -> Result<&'a [u8], WireError>
         // It allocates nothing, so it is never out of memory.
         ensures read { IsAnswer (λ text. (text.now, left self.new)) read_refusal

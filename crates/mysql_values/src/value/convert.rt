@@ -10,6 +10,7 @@ ghost use Rattle.mysql_values.specs.Rollback.{RollsBack, NullFromNull};
 use crate::value::Value;
 use std::alloc::Global;
 
+mod boolean;
 mod byte_strings;
 mod decimal;
 mod duration;
@@ -17,7 +18,6 @@ mod intermediate;
 mod option;
 mod signed;
 mod texts;
-mod truth;
 mod unsigned;
 mod whole_number;
 
@@ -31,13 +31,13 @@ pub trait IntoValue {
     // the value that it is handed back as
     ghost undo: { Self → Meaning };
 
-    // where handing it back allocates
+    // whether handing it back allocates
     ghost takes_memory: { Self → Type 0 };
 
-    /// The value that it is rolled back to. Of what `get_intermediate` gave, that value converts to
-    /// the same thing. It may be out of memory only where the type's `takes_memory` says so, and is
-    /// refused as `DurationTooLong` only where its `undo` is that refusal. The intermediate is consumed
-    /// even then.
+    /// The value that the intermediate is rolled back to. If `get_intermediate` gave the
+    /// intermediate, that value converts to the same again. It may be out of memory only if the
+    /// type's `takes_memory` says so, and is refused as `DurationTooLong` only if its `undo` is
+    /// that refusal. The intermediate is consumed even then.
     fn into_value(self, alloc: Global) -> Result<Value, ToValueError>
         ensures { IsAnswer (λ value. value) too_long_duration (undo self)
             (takes_memory self) result };
@@ -46,9 +46,9 @@ pub trait IntoValue {
 /// What values convert to.
 ///
 /// A type names its conversion and what becomes of the intermediate, in terms of what contracts
-/// see of both: for a `Vec` the list of its items, for most types the thing itself.
+/// see of both: for a `Vec` the list of its items, for most types `Self`.
 pub trait FromValue: Sized {
-    /// What a value is converted to before it is known whether the thing or the value is wanted.
+    /// What a value is converted to before it is known whether `Self` or the value is wanted.
     type Intermediate: TryFrom<Value, Error = FromValueError> + Into<Self> + IntoValue;
 
     // what contracts see of the type
@@ -64,14 +64,14 @@ pub trait FromValue: Sized {
     // the intermediate of a value that converts
     ghost conversion: { value.Value → Option SeenIr };
 
-    // the thing of an intermediate
+    // what becomes of an intermediate
     ghost commit: { SeenIr → Seen };
 
-    /// The converted thing.
+    /// What becomes of the intermediate.
     fn commit_intermediate(ir: Self::Intermediate) -> Self
         ensures { seen result ≡ commit (seen_ir ir) };
 
-    /// The intermediate of a value, which can still be handed back; or, where the value doesn't
+    /// The intermediate of a value, which can still be handed back; or, if the value doesn't
     /// convert, the refusal with exactly that value. Nothing is allocated.
     fn get_intermediate(v: Value) -> Result<Self::Intermediate, FromValueError>
         ensures converts { ConvertsOrHandsBack seen_ir (conversion v) v result }
@@ -79,8 +79,8 @@ pub trait FromValue: Sized {
             RollsBack conversion commit (Self.Intermediate.undo ir) (seen_ir ir)) }
         ensures null { IfOk result (λ ir. NullFromNull (Self.Intermediate.undo ir) v) };
 
-    /// The thing that a value converts to. It can be called only where the value is proved to
-    /// convert; `from_value_opt` is the test.
+    /// What a value converts to. It can be called only if the value is proved to convert;
+    /// `from_value_opt` is the test.
     fn from_value(v: Value) -> Self
         requires { IsSome (conversion v) }
         ensures { option_map commit (conversion v) ≡ Some (seen result) }
@@ -91,7 +91,7 @@ pub trait FromValue: Sized {
         }
     }
 
-    /// The thing that a value converts to, or the value handed back.
+    /// What a value converts to, or the value handed back.
     fn from_value_opt(v: Value) -> Result<Self, FromValueError>
         ensures { ConvertsOrHandsBack seen (option_map commit (conversion v)) v result }
     {
@@ -100,7 +100,7 @@ pub trait FromValue: Sized {
     }
 }
 
-/// The thing that a value converts to. It can be called only where the value is proved to convert;
+/// What a value converts to. It can be called only if the value is proved to convert;
 /// `from_value_opt` is the test.
 pub fn from_value<T: FromValue>(v: Value) -> T
     requires { IsSome (T.conversion v) }
@@ -109,7 +109,7 @@ pub fn from_value<T: FromValue>(v: Value) -> T
     T::from_value(v)
 }
 
-/// The thing that a value converts to, or the value handed back.
+/// What a value converts to, or the value handed back.
 pub fn from_value_opt<T: FromValue>(v: Value) -> Result<T, FromValueError>
     ensures { ConvertsOrHandsBack T.seen (option_map T.commit (T.conversion v)) v result }
 {

@@ -1,18 +1,18 @@
-//! Conversions to truth values.
+//! Conversions to Booleans.
 ghost use Rattle.std.specs.Prelude.{◌≡◌, Bool};
 ghost use Rattle.mysql_value_core.specs.FromValue.{ConvertsOrHandsBack};
 ghost use Rattle.mysql_value_core.specs.ValueTable.{value_of_bool};
 ghost use Rattle.mysql_values.specs.Intermediate.{committed};
 ghost use Rattle.mysql_values.specs.Rollback.{ConvertsAndRollsBack};
-ghost use Rattle.mysql_values.specs.Truth.{truth_conversion, truth_of_text};
+ghost use Rattle.mysql_values.specs.Boolean.{boolean_conversion, boolean_of_text};
 ghost use Rattle.mysql_values.specs.declared.value.convert.intermediate.ParseIrOpt as parsed_ir;
 
 use crate::value::Value;
 use crate::value::convert::{FromValue, FromValueError, ParseIrOpt};
 
-// The truth value of a text.
-fn read_truth(text: &[u8]) -> Option<bool>
-    ensures { result ≡ truth_of_text text.now }
+// The Boolean of a text.
+fn boolean_of_text(text: &[u8]) -> Option<bool>
+    ensures { result ≡ boolean_of_text text.now }
 {
     match text {
         b"0" => Some(false),
@@ -24,14 +24,14 @@ fn read_truth(text: &[u8]) -> Option<bool>
 impl TryFrom<Value> for ParseIrOpt<bool> {
     type Error = FromValueError;
 
-    ghost try_from_gives = { λ v r. ConvertsOrHandsBack (λ ir. ir) (truth_conversion v) v r };
+    ghost try_from_gives = { λ v r. ConvertsOrHandsBack (λ ir. ir) (boolean_conversion v) v r };
 
     fn try_from(value: Value) -> Result<ParseIrOpt<bool>, FromValueError> {
         match value {
             Value::Int(number) => Ok(ParseIrOpt::Ready(number != 0)),
             Value::UInt(number) => Ok(ParseIrOpt::Ready(number != 0)),
-            Value::Bytes(bytes) => match read_truth(bytes.as_slice()) {
-                Some(truth) => Ok(ParseIrOpt::Parsed(truth, Value::Bytes(bytes))),
+            Value::Bytes(bytes) => match boolean_of_text(bytes.as_slice()) {
+                Some(boolean) => Ok(ParseIrOpt::Parsed(boolean, Value::Bytes(bytes))),
                 None => Err(FromValueError(Value::Bytes(bytes))),
             },
             other => Err(FromValueError(other)),
@@ -40,7 +40,7 @@ impl TryFrom<Value> for ParseIrOpt<bool> {
 }
 
 impl From<ParseIrOpt<bool>> for bool {
-    ghost from_gives = { λ ir truth. truth ≡ committed ir };
+    ghost from_gives = { λ ir boolean. boolean ≡ committed ir };
 
     fn from(ir: ParseIrOpt<bool>) -> bool {
         ir.commit()
@@ -52,13 +52,13 @@ impl FromValue for bool {
 
     ghost Seen = { Bool };
 
-    ghost seen = { λ truth. truth };
+    ghost seen = { λ boolean. boolean };
 
     ghost SeenIr = { parsed_ir.ParseIrOpt Bool };
 
     ghost seen_ir = { λ ir. ir };
 
-    ghost conversion = { truth_conversion };
+    ghost conversion = { boolean_conversion };
 
     ghost commit = { committed };
 
@@ -67,7 +67,8 @@ impl FromValue for bool {
     }
 
     fn get_intermediate(v: Value) -> Result<ParseIrOpt<bool>, FromValueError>
-        ensures converts_and_rolls_back { ConvertsAndRollsBack (λ ir. ir) truth_conversion value_of_bool v result }
+        ensures converts_and_rolls_back { ConvertsAndRollsBack (λ ir. ir)
+            boolean_conversion value_of_bool v result }
     {
         ParseIrOpt::<bool>::try_from(v)
     }

@@ -1,4 +1,5 @@
-//! What values are converted to before it is known whether the thing or the value is wanted.
+//! Intermediates: what a value is converted to before it is known whether the result or the value
+//! is wanted.
 ghost use Rattle.std.specs.Prelude.{◌≡◌, IfOk, Ok, OnErr, Some};
 ghost use Rattle.mysql_wire_part.specs.Answer.{IsAnswer};
 ghost use Rattle.mysql_value_core.specs.Value.{IsBytes};
@@ -9,12 +10,12 @@ use crate::value::Value;
 use crate::value::convert::{FromValue, FromValueError, IntoValue, ToValue, ToValueError};
 use std::alloc::{AllocError, Global};
 
-/// A converted thing and the value that it was made of.
+/// A `T` and the value that was converted to it.
 #[derive(Debug, PartialEq, Drop)]
 pub struct ParseIr<T>(pub T, pub Value);
 
 impl<T> ParseIr<T> {
-    /// The thing.
+    /// The `T`.
     pub fn commit(self) -> T
         ensures { result ≡ self.0 }
     {
@@ -33,19 +34,19 @@ impl<T> ParseIr<T> {
     }
 }
 
-/// A converted thing, with the value that it was made of where it is kept.
+/// A `T`, with the value that was converted to it if that is kept.
 #[derive(Debug, PartialEq, Drop)]
 pub enum ParseIrOpt<T> {
-    /// The thing alone: its own value stands for the one that it was made of.
+    /// The `T` alone: its own value stands for the one that was converted.
     Ready(T),
-    /// The thing and the value that it was made of.
+    /// The `T` and the value that was converted to it.
     Parsed(T, Value),
 }
 
 impl<T> ParseIrOpt<T> {
     ghost use Rattle.mysql_values.specs.Intermediate.{committed};
 
-    /// The thing.
+    /// The `T`.
     pub fn commit(self) -> T
         ensures { result ≡ committed self }
     {
@@ -59,9 +60,9 @@ impl<T> ParseIrOpt<T> {
 impl<T: ToValue + Drop> ParseIrOpt<T> {
     ghost use Rattle.mysql_values.specs.Intermediate.{rollback_value, RollbackTakesMemory};
 
-    /// The value that is kept, or else that of the thing, which allocates where it is `Bytes`, and is
-    /// refused as `DurationTooLong` where a duration is too long. The intermediate is consumed even
-    /// then.
+    /// The value that is kept, or else that of the `T`. Making the latter allocates if it is
+    /// `Bytes`, and is refused as `DurationTooLong` if a duration is too long. The intermediate is
+    /// consumed even then.
     pub fn rollback(self, alloc: Global) -> Result<Value, ToValueError>
         ensures { IsAnswer (λ value. value) too_long_duration (rollback_value T.value_of self)
             (RollbackTakesMemory T.value_of self) result }

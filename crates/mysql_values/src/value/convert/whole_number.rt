@@ -29,7 +29,7 @@ pub trait WholeNumber: ToValue + Sized {
     // a number that the type holds, as one of the type
     ghost of_number: { ℤ → Self };
 
-    /// The number of this magnitude, negative or not, where the type holds it; also 0 with a `-`.
+    /// The number of this magnitude, negative or not, if the type holds it; also 0 with a `-`.
     fn from_parts(negative: bool, magnitude: u128) -> Option<Self>
         ensures number { result
             ≡ number_in_type is_signed width of_number (signed_number negative magnitude) }
@@ -81,7 +81,7 @@ fn bytes_intermediate<T: WholeNumber>(bytes: Bytes) -> Result<ParseIrOpt<T>, Fro
 }
 
 // The intermediate of a value.
-fn read_whole<T: WholeNumber>(v: Value) -> Result<ParseIrOpt<T>, FromValueError>
+fn whole_number_intermediate<T: WholeNumber>(v: Value) -> Result<ParseIrOpt<T>, FromValueError>
     ensures converts_and_rolls_back { ConvertsAndRollsBack (λ ir. ir)
         (whole_conversion T.is_signed T.width T.of_number) T.value_of v result }
 {
@@ -106,7 +106,7 @@ impl<T: WholeNumber> TryFrom<Value> for ParseIrOpt<T> {
         (whole_conversion T.is_signed T.width T.of_number value) value result };
 
     fn try_from(value: Value) -> Result<ParseIrOpt<T>, FromValueError> {
-        read_whole(value)
+        whole_number_intermediate(value)
     }
 }
 
@@ -133,6 +133,6 @@ impl<T: WholeNumber + Drop + From<ParseIrOpt<T>>> FromValue for T {
         ensures converts_and_rolls_back { ConvertsAndRollsBack (λ ir. ir)
             (whole_conversion T.is_signed T.width T.of_number) T.value_of v result }
     {
-        read_whole(v)
+        whole_number_intermediate(v)
     }
 }
