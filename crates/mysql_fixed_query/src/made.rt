@@ -3,7 +3,7 @@ ghost use Rattle.std.specs.Prelude.{◌≡◌, ◌≢◌, None, Ok, IfErr, IfOk,
 ghost use Rattle.mysql_wire_part.specs.Answer.{IsAnswer};
 ghost use Rattle.mysql_value_core.specs.declared.value.convert.ToValueError.TheVariants as to_value;
 ghost use Rattle.mysql_named_params.specs.TokensOf.{tokens_of};
-ghost use Rattle.mysql_params_core.specs.Errors.{maker_refusal};
+ghost use Rattle.mysql_params_core.specs.Errors.{to_params_refusal};
 ghost use Rattle.mysql_params_core.specs.Given.{Given, given};
 ghost use Rattle.mysql_binding.specs.FirstCause.{first_cause};
 ghost use Rattle.mysql_binding.specs.Isolation.{IsBoundText};
@@ -21,11 +21,11 @@ pub(crate) fn bind_made(
     made: Result<Params, ToParamsError>,
     no_backslash_escape: bool,
 ) -> Result<Vec<u8>, AllocError>
-    requires no_cause { (expected : Given) × IsAnswer given maker_refusal (Ok expected) ⊤ made
+    requires no_cause { (expected : Given) × IsAnswer given to_params_refusal (Ok expected) ⊤ made
         × (first_cause (tokens_of no_backslash_escape query.now) expected ≡ None) }
     requires value { IfErr made (λ error.
         error ≢ ToParamsError.Value (to_value.Memory alloc_error)) }
-    ensures bound { (expected : Given) → IsAnswer given maker_refusal (Ok expected) ⊤ made →
+    ensures bound { (expected : Given) → IsAnswer given to_params_refusal (Ok expected) ⊤ made →
         IfOk result (λ text. IsBoundText no_backslash_escape
         (tokens_of no_backslash_escape query.now) expected text.items) }
 {

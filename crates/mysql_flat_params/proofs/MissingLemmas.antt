@@ -9,7 +9,7 @@ use Rattle.mysql_value_core.specs.declared.value.Value.{Value}
 use Rattle.mysql_named_params.specs.Tokens.{Token}
 use Rattle.mysql_named_params.specs.Places.{names, has_both}
 use Rattle.mysql_params_core.specs.Given.{ValueMap, Given, empty, named, positional}
-use Rattle.mysql_params_core.specs.Names.{is_beginning, last_name, first_missing, missing_name}
+use Rattle.mysql_params_core.specs.Names.{is_prefix, last_name, first_missing, missing_name}
 use Rattle.mysql_params_core.specs.Lookup.{LookupRefusal, missing, lookup, values_at}
 use Rattle.mysql_binding.specs.StandsAlone.{first_not_alone}
 use Rattle.mysql_binding.specs.FirstCause.{Cause, mixed_query, refused_params, mark_count, not_alone, float_value, count_cause, not_alone_cause, float_cause, first_float, later_cause, cause_after_lookup, first_cause, mark_count_differs}
@@ -58,7 +58,7 @@ first_missing_in entries (name ∷ names) none =
 missing_in : (entries : ValueMap) (name : List ℕ) (names : List (List ℕ)) → values_at entries (name ∷ names) ≡ None →
     Contains (name ∷ names) (missing_name entries (name ∷ names))
 missing_in entries name names none =
-    contains_if (is_beginning (contains_key entries) (name ∷ names)) (name ∷ names) _ _
+    contains_if (is_prefix (contains_key entries) (name ∷ names)) (name ∷ names) _ _
     (contains_last name names) (first_missing_in entries (name ∷ names) none)
 
 same_missing : (a b : List ℕ) → ◌≡◌ {A = Result (List Value) LookupRefusal} (Err (missing a)) (Err (missing b)) → a ≡ b

@@ -13,8 +13,8 @@ pub use mysql_named_params::laws::{
     tokens_exist, unportable_equality,
 };
 pub use mysql_params_core::laws::{
-    beginnings_are_found, into_positional_error_equality, lookups_agree,
-    missing_named_parameter_error_equality, params_confusion_error_equality, params_equality,
-    params_error_equality, to_params_error_equality,
+    into_positional_error_equality, lookups_agree, missing_named_parameter_error_equality,
+    params_confusion_error_equality, params_equality, params_error_equality, prefixes_are_found,
+    to_params_error_equality,
 };
 pub use mysql_program::laws::run_error_equality;

@@ -1,4 +1,4 @@
--- Lookups of names that are slices, which give the values where they stand.
+-- Lookups of names that are slices, which give borrowed values.
 use Rattle.std.proofs.Common.{◌≡◌, ◌⊎◌, inl, inr, subst, ◌<◌, ◌+◌, ◌-◌, ◌&&◌, ℕ, suc, Bool, true, false, List, [], ◌∷◌, ◌++◌, map, length, take, drop, get_or, refl, sym, ap, ◌∙◌, arith, add-one}
 use Rattle.std.specs.Prelude.{Option, Some, None, is_some, slice_index_or, ok_or, Err, ⊤}
 use Rattle.std.specs.Borrow.{Bor}
@@ -15,7 +15,7 @@ use Rattle.mysql_params_core.specs.Referents.{referents}
 use Rattle.mysql_params_core.proofs.MissingLemmas.{list_any-map, no_values, missing_name-then, missing_name-else}
 use Rattle.mysql_params_core.proofs.WalkLemmas.{values_at-from}
 
--- the referents up to a place, and the one at that place
+-- the referents up to a index, and the one at that index
 pub take-referents : {X : Type 0} (rs : List (Bor X)) (i : ℕ) (d : Bor X) → i < length rs →
     take (i + 1) (referents rs) ≡ take i (referents rs) ++ (get_or rs i d).now ∷ []
 take-referents rs i d h =
@@ -80,7 +80,7 @@ module _ (m : ValueMap) (ns : List (Bor (List ℕ))) (i : ℕ) (d : Bor (List �
       ∙ ap (λ n. Err (missing n)) (sym is_name) in
       subst (λ r. IsExpectedRefusal (lookup (named m) (referents ns)) ⊤ r) (sym e) refused
 
--- where all names have a value
+-- if all names have a value
 pub found_all : (m : ValueMap) (ns : List (Bor (List ℕ))) (vs : List (Bor Value)) (i : ℕ) → length ns ≡ i → 0 < length ns →
     AreFound m (take i (referents ns)) vs →
     lookup (named m) (referents ns) ≡ ok_or (Some (referents vs)) (missing (missing_name m (referents ns)))

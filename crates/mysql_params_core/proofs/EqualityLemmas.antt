@@ -1,4 +1,4 @@
--- Parameters are equal exactly where what they give is.
+-- Parameters are equal if and only if what they give is.
 use Rattle.std.proofs.Common.{◌≡◌, ℕ, Bool, true, List, refl, sym, ap, subst, ◌∙◌, rules}
 use Rattle.std.specs.Prelude.{Option, Some, None, nat_eq}
 use Rattle.std.specs.Bool.{Decides}

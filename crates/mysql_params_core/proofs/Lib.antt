@@ -1,7 +1,7 @@
 pub mod MapLemmas
 pub mod EqualityLemmas
 pub mod InsertLemmas
-pub mod BeginningLemmas
+pub mod PrefixLemmas
 pub mod MissingLemmas
 pub mod WalkLemmas
 pub mod TakenLemmas

@@ -1,4 +1,4 @@
--- One more thing of a list, in a walk over it.
+-- One more argument of a list, in a walk over it.
 use Rattle.std.proofs.Common.{◌≡◌, ◌<◌, ◌+◌, ℕ, List, [], ◌∷◌, ◌++◌, map, length, take, drop, get_or, refl, sym, ap, ◌∙◌, subst, arith}
 use Rattle.std.specs.Prelude.{Result, Ok, Err, fold, IsErrAnd, ⊤}
 use Rattle.std.proofs.lemmas.List.{take_more, get_or-map, length-map, take-append-drop}
@@ -10,9 +10,9 @@ use Rattle.mysql_value_core.specs.ValueOf.{Meaning, MeansBytes, too_long_duratio
 use Rattle.mysql_value_core.specs.declared.value.Value.{Value}
 use Rattle.mysql_value_core.specs.declared.value.convert.ToValueError.{ToValueError}
 use Rattle.mysql_value_core.specs.declared.value.convert.ToValueError.TheVariants.{DurationTooLong, Memory}
-use Rattle.mysql_params_core.specs.Errors.{maker_refusal}
+use Rattle.mysql_params_core.specs.Errors.{to_params_refusal}
 use Rattle.mysql_params_core.specs.Given.{ValueMap, given}
-use Rattle.mysql_params_core.specs.Made.{MakerRefusal, Made, values_made, by_position, list_made, with_new}
+use Rattle.mysql_params_core.specs.Made.{ToParamsRefusal, Made, values_made, by_position, list_made, with_new}
 use Rattle.mysql_params_core.specs.declared.params.Params.{Params}
 use Rattle.mysql_params_core.specs.declared.params.errors.ToParamsError.{ToParamsError}
 
@@ -21,27 +21,27 @@ list_made-nonempty [] h = absurd (omega arith)
 list_made-nonempty (m ∷ ms) h = refl
 
 -- a `?` hands on the error as it is
-pub error_is_handed_on : {A Seen : Type 0} (seen : A → Seen) (m : Result Seen MakerRefusal) (r : Result A ToParamsError)
-    (e : ToParamsError) → IsErrAnd r (λ t. t ≡ e) → IsExpectedRefusal m ⊤ (maker_refusal e)
-    → IsAnswer seen maker_refusal m ⊤ r
+pub error_is_handed_on : {A Seen : Type 0} (seen : A → Seen) (m : Result Seen ToParamsRefusal) (r : Result A ToParamsError)
+    (e : ToParamsError) → IsErrAnd r (λ t. t ≡ e) → IsExpectedRefusal m ⊤ (to_params_refusal e)
+    → IsAnswer seen to_params_refusal m ⊤ r
 error_is_handed_on seen m (Ok a) e same refused = absurd same
 error_is_handed_on seen m (Err t) e same refused =
-    subst (λ t. IsExpectedRefusal m ⊤ (maker_refusal t)) (sym same) refused
+    subst (λ t. IsExpectedRefusal m ⊤ (to_params_refusal t)) (sym same) refused
 
 -- a walk by g, which keeps a refusal
-module _ {S A : Type 0} (g : Result S MakerRefusal → A → Result S MakerRefusal)
-    (stays : (e : MakerRefusal) (a : A) → g (Err e) a ≡ Err e) (start : Result S MakerRefusal) where
-  fold-refused : (e : MakerRefusal) (rs : List A) → fold g (Err e) rs ≡ Err e
+module _ {S A : Type 0} (g : Result S ToParamsRefusal → A → Result S ToParamsRefusal)
+    (stays : (e : ToParamsRefusal) (a : A) → g (Err e) a ≡ Err e) (start : Result S ToParamsRefusal) where
+  fold-refused : (e : ToParamsRefusal) (rs : List A) → fold g (Err e) rs ≡ Err e
   fold-refused e [] = refl
   fold-refused e (r ∷ rs) = ap (λ s. fold g s rs) (stays e r) ∙ fold-refused e rs
 
   -- the rest of a walk keeps the refusal that it starts with
-  pub refusal_stays : (e : ToParamsError) (rs : List A) → IsExpectedRefusal start ⊤ (maker_refusal e)
-      → IsExpectedRefusal (fold g start rs) ⊤ (maker_refusal e)
-  refusal_stays e rs = refusal_expected_too start (fold g start rs) ⊤ ⊤ (maker_refusal e)
+  pub refusal_stays : (e : ToParamsError) (rs : List A) → IsExpectedRefusal start ⊤ (to_params_refusal e)
+      → IsExpectedRefusal (fold g start rs) ⊤ (to_params_refusal e)
+  refusal_stays e rs = refusal_expected_too start (fold g start rs) ⊤ ⊤ (to_params_refusal e)
       (λ why refused. ap (λ s. fold g s rs) refused ∙ fold-refused why rs) (λ _. tt)
 
-  -- x is the thing at i of the list xs, and f what is known of a thing
+  -- x is the argument at i of the list xs, and f what is known of an argument
   module _ {X : Type 0} (f : X → A) (xs : List X) (i : ℕ) (x : X) (h : i < length xs) (is : x ≡ get_or xs i x) where
     within_map : i < length (map f xs)
     within_map = omega (arith, length-map xs f)
@@ -50,14 +50,14 @@ module _ {S A : Type 0} (g : Result S MakerRefusal → A → Result S MakerRefus
     take-map-next = take_more (map f xs) i (f x) within_map
         ∙ ap (λ r. take i (map f xs) ++ r ∷ []) (get_or-map f xs i x (f x) h ∙ ap f (sym is))
 
-    -- one more thing is one more step
-    pub fold-take-next : (old : Result S MakerRefusal) → fold g start (take i (map f xs)) ≡ old
+    -- one more argument is one more step
+    pub fold-take-next : (old : Result S ToParamsRefusal) → fold g start (take i (map f xs)) ≡ old
         → fold g start (take (i + 1) (map f xs)) ≡ g old (f x)
     fold-take-next old before = ap (fold g start) take-map-next
         ∙ fold-append g start (take i (map f xs)) (f x ∷ []) ∙ ap (λ r. g r (f x)) before
 
-    -- a thing that is refused is the refusal of the whole
-    fold-refused_at : (old : Result S MakerRefusal) (e : MakerRefusal) → fold g start (take i (map f xs)) ≡ old
+    -- an argument that is refused is the refusal of the whole
+    fold-refused_at : (old : Result S ToParamsRefusal) (e : ToParamsRefusal) → fold g start (take i (map f xs)) ≡ old
         → g old (f x) ≡ Err e → fold g start (map f xs) ≡ Err e
     fold-refused_at old e before refused =
         ap (fold g start) (sym (take-append-drop (i + 1) (map f xs)))
@@ -65,18 +65,18 @@ module _ {S A : Type 0} (g : Result S MakerRefusal → A → Result S MakerRefus
         ∙ ap (λ r. fold g r (drop (i + 1) (map f xs))) (fold-take-next old before ∙ refused)
         ∙ fold-refused e (drop (i + 1) (map f xs))
 
-    -- a `?` in the walk hands on the error of that thing
-    pub refusal_is_handed_on : (by : Result S MakerRefusal → Made) → ((e : MakerRefusal) → by (Err e) ≡ Err e)
-        → (old : Result S MakerRefusal) (e : ToParamsError) → fold g start (take i (map f xs)) ≡ old
-        → IsExpectedRefusal (g old (f x)) ⊤ (maker_refusal e)
+    -- a `?` in the walk hands on the error of that argument
+    pub refusal_is_handed_on : (by : Result S ToParamsRefusal → Made) → ((e : ToParamsRefusal) → by (Err e) ≡ Err e)
+        → (old : Result S ToParamsRefusal) (e : ToParamsError) → fold g start (take i (map f xs)) ≡ old
+        → IsExpectedRefusal (g old (f x)) ⊤ (to_params_refusal e)
         → (r : Result Params ToParamsError) → IsErrAnd r (λ t. t ≡ e)
-        → IsAnswer given maker_refusal (by (fold g start (map f xs))) ⊤ r
+        → IsAnswer given to_params_refusal (by (fold g start (map f xs))) ⊤ r
     refusal_is_handed_on by ends old e before answer r same =
         error_is_handed_on given (by (fold g start (map f xs))) r e same
-        (refusal_expected_too (g old (f x)) (by (fold g start (map f xs))) ⊤ ⊤ (maker_refusal e)
+        (refusal_expected_too (g old (f x)) (by (fold g start (map f xs))) ⊤ ⊤ (to_params_refusal e)
         (λ why refused. ap by (fold-refused_at old why before refused) ∙ ends why) (λ _. tt) answer)
 
--- the map with the value of a thing that has this value
+-- the map with the value of an argument that has this value
 pub with_new-value : (m : ValueMap) (name : List ℕ) (meaning : Meaning) (answer : Result Value ToValueError) (v : Value)
     → answer ≡ Ok v → IsAnswer (λ value. value) too_long_duration meaning (MeansBytes meaning) answer
     → with_new m name meaning ≡ Ok (finite.insert m name v)

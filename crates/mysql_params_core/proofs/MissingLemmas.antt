@@ -1,4 +1,4 @@
--- Which name is missing, by the place of the first that is not in the map.
+-- Which name is missing, by the index of the first that is not in the map.
 use Rattle.std.proofs.Common.{◌≡◌, ◌<◌, ◌-◌, ◌+◌, ◌||◌, ℕ, zero, suc, Bool, true, false, not, cond, List, [], ◌∷◌, map, length, take, drop, get_or, refl, sym, ap, ◌∙◌, arith, add-one}
 use Rattle.std.specs.Prelude.{Option, Some, None, unwrap_or, find, slice_index_or, is_some}
 use Rattle.std.specs.Option.{option_map, option_and_then, ok_or}
@@ -8,7 +8,7 @@ use Rattle.std.specs.List.{list_all, list_any}
 use Rattle.std.specs.FinMap.{contains_key, get}
 use Rattle.std.proofs.lemmas.List.{length-map, drop-map, take_all, length-drop}
 use Rattle.mysql_value_core.specs.declared.value.Value.{Value}
-use Rattle.mysql_params_core.specs.Names.{names_of, is_beginning, missing_name, first_missing, last_name}
+use Rattle.mysql_params_core.specs.Names.{names_of, is_prefix, missing_name, first_missing, last_name}
 use Rattle.mysql_params_core.specs.FirstAbsent.{IsFirstAbsent}
 use Rattle.mysql_params_core.specs.Given.{ValueMap, named}
 use Rattle.mysql_params_core.specs.Lookup.{values_at, lookup, missing}
@@ -19,15 +19,15 @@ module _ {X : Type 0} (p : X → Bool) where
   list_any-map f [] = refl
   list_any-map f (y ∷ ys) = ap (λ b. p (f y) || b) (list_any-map f ys)
 
-  -- whether the elements that pass are a beginning, where the first that fails stands at i
-  pub is_beginning-at : (xs : List X) (i : ℕ) (d : X) → i < length xs → list_all p (take i xs) ≡ true
-      → p (get_or xs i d) ≡ false → is_beginning p xs ≡ not (list_any p (drop (suc i) xs))
-  is_beginning-at [] i d h all fails = absurd (omega arith)
-  is_beginning-at (x ∷ xs) zero d h all fails =
-      ap (λ b. cond b (is_beginning p xs) (not (list_any p xs))) fails
-  is_beginning-at (x ∷ xs) (suc i) d h all fails =
-      ap (λ b. cond b (is_beginning p xs) (not (list_any p xs))) (first_so (p x) (list_all p (take i xs)) all)
-      ∙ is_beginning-at xs i d (omega arith) (second_so (p x) (list_all p (take i xs)) all) fails
+  -- whether the elements that pass are a prefix, if the first that fails stands at i
+  pub is_prefix-at : (xs : List X) (i : ℕ) (d : X) → i < length xs → list_all p (take i xs) ≡ true
+      → p (get_or xs i d) ≡ false → is_prefix p xs ≡ not (list_any p (drop (suc i) xs))
+  is_prefix-at [] i d h all fails = absurd (omega arith)
+  is_prefix-at (x ∷ xs) zero d h all fails =
+      ap (λ b. cond b (is_prefix p xs) (not (list_any p xs))) fails
+  is_prefix-at (x ∷ xs) (suc i) d h all fails =
+      ap (λ b. cond b (is_prefix p xs) (not (list_any p xs))) (first_so (p x) (list_all p (take i xs)) all)
+      ∙ is_prefix-at xs i d (omega arith) (second_so (p x) (list_all p (take i xs)) all) fails
 
   -- the first element that fails
   pub find-at : (xs : List X) (i : ℕ) (d : X) → i < length xs → list_all p (take i xs) ≡ true
@@ -65,14 +65,14 @@ module _ (m : ValueMap) (ns : List (List ℕ)) (i : ℕ) (at : IsFirstAbsent m n
   -- a later name is in the map
   pub missing_name-then : list_any (contains_key m) (drop (suc i) ns) ≡ true → missing_name m ns ≡ slice_index_or ns i []
   missing_name-then later =
-      ap (λ b. cond b (last_name ns) (first_missing m ns)) (is_beginning-at (contains_key m) ns i [] at.0 at.1 at.2 ∙ ap not later)
+      ap (λ b. cond b (last_name ns) (first_missing m ns)) (is_prefix-at (contains_key m) ns i [] at.0 at.1 at.2 ∙ ap not later)
       ∙ first_missing-at
 
   -- no later name is in the map
   pub missing_name-else : list_any (contains_key m) (drop (suc i) ns) ≡ false → missing_name m ns ≡ last_name ns
   missing_name-else later =
       ap (λ b. cond b (last_name ns) (first_missing m ns))
-      (is_beginning-at (contains_key m) ns i [] at.0 at.1 at.2 ∙ ap not later)
+      (is_prefix-at (contains_key m) ns i [] at.0 at.1 at.2 ∙ ap not later)
 
 -- the same for names as vectors, as the code reads them
 module _ (m : ValueMap) (ns : List (Vec ℕ)) (i : ℕ) (at : IsFirstAbsent m (names_of ns) (Some i)) where
@@ -87,15 +87,15 @@ module _ (m : ValueMap) (ns : List (Vec ℕ)) (i : ℕ) (at : IsFirstAbsent m (n
   pub in_list : i < length ns
   in_list = omega (arith, length-map ns (λ n. n.items), at.0)
 
-  pub reported_place-then : (b : Bool)
+  pub reported_index-then : (b : Bool)
       → b ≡ list_any (λ n. contains_key m n.items) (take (length ns - (i + 1)) (drop (i + 1) ns)) → b ≡ true
       → slice_index_or (names_of ns) i [] ≡ missing_name m (names_of ns)
-  reported_place-then b e met = sym (missing_name-then m (names_of ns) i at (sym later_names ∙ sym e ∙ met))
+  reported_index-then b e met = sym (missing_name-then m (names_of ns) i at (sym later_names ∙ sym e ∙ met))
 
-  pub reported_place-else : (b : Bool)
+  pub reported_index-else : (b : Bool)
       → b ≡ list_any (λ n. contains_key m n.items) (take (length ns - (i + 1)) (drop (i + 1) ns)) → b ≡ false
       → slice_index_or (names_of ns) (length ns - 1) [] ≡ missing_name m (names_of ns)
-  reported_place-else b e unmet =
+  reported_index-else b e unmet =
       ap (λ k. slice_index_or (names_of ns) (k - 1) []) (sym (length-map ns (λ n. n.items)))
       ∙ sym (missing_name-else m (names_of ns) i at (sym later_names ∙ sym e ∙ unmet))
 

@@ -3,13 +3,13 @@ use Rattle.std.specs.Prelude.{◌≡◌, ℕ, List, Option, None, Some, ⊤}
 use Rattle.mysql_value_core.specs.declared.value.convert.ToValueError.{ToValueError}
 use Rattle.mysql_value_core.specs.declared.value.convert.ToValueError.TheVariants as to_value
 use Rattle.mysql_params_core.specs.Lookup.{LookupRefusal, missing, confused}
-use Rattle.mysql_params_core.specs.Made.{MakerRefusal, redefined, too_long}
+use Rattle.mysql_params_core.specs.Made.{ToParamsRefusal, redefined, too_long}
 use Rattle.mysql_params_core.specs.declared.params.errors.ParamsError.{ParamsError}
 use Rattle.mysql_params_core.specs.declared.params.errors.ParamsError.TheVariants.{Missing, Confusion, Memory}
 use Rattle.mysql_params_core.specs.declared.params.errors.IntoPositionalError.{IntoPositionalError}
 use Rattle.mysql_params_core.specs.declared.params.errors.IntoPositionalError.TheVariants as positional
 use Rattle.mysql_params_core.specs.declared.params.errors.ToParamsError.{ToParamsError}
-use Rattle.mysql_params_core.specs.declared.params.errors.ToParamsError.TheVariants as maker
+use Rattle.mysql_params_core.specs.declared.params.errors.ToParamsError.TheVariants as to_params
 
 -- the refusal of a lookup that the error stands for; none for out of memory
 abbrev pub lookup_refusal : ParamsError → Option LookupRefusal
@@ -22,18 +22,18 @@ abbrev pub absent_name : IntoPositionalError → Option (List ℕ)
 absent_name (positional.Missing error) = Some error.0.items
 absent_name (positional.Memory error) = None
 
--- the refusal of a thing without a value that the error stands for; none for out of memory
-abbrev pub value_refusal : ToValueError → Option MakerRefusal
+-- the refusal of an argument without a value that the error stands for; none for out of memory
+abbrev pub value_refusal : ToValueError → Option ToParamsRefusal
 value_refusal (to_value.DurationTooLong duration) = Some (too_long duration)
 value_refusal (to_value.Memory error) = None
 
--- The refusal of a maker that the error stands for; none for out of memory. Nor is there one for a
--- `Value` that holds out of memory: a maker never returns that, as a clause of its own says, but
--- `Memory`.
-abbrev pub maker_refusal : ToParamsError → Option MakerRefusal
-maker_refusal (maker.Redefined name) = Some (redefined name.items)
-maker_refusal (maker.Value error) = value_refusal error
-maker_refusal (maker.Memory error) = None
+-- The refusal of `to_params` that the error stands for; none for out of memory. Nor is there one for
+-- a `Value` that holds out of memory: `to_params` returns `Memory` instead, as a clause of its own
+-- says.
+abbrev pub to_params_refusal : ToParamsError → Option ToParamsRefusal
+to_params_refusal (to_params.Redefined name) = Some (redefined name.items)
+to_params_refusal (to_params.Value error) = value_refusal error
+to_params_refusal (to_params.Memory error) = None
 
 -- a name is missing
 abbrev pub IsMissing : ParamsError → Type 0
@@ -54,8 +54,8 @@ AreEqualPositionalErrors (positional.Memory a) (positional.Memory b) = ⊤
 AreEqualPositionalErrors _ _ = ⊥
 
 -- the same variant, and the same name or error of the value
-abbrev pub AreEqualMakerErrors : ToParamsError → ToParamsError → Type 0
-AreEqualMakerErrors (maker.Redefined a) (maker.Redefined b) = a.items ≡ b.items
-AreEqualMakerErrors (maker.Value a) (maker.Value b) = a ≡ b
-AreEqualMakerErrors (maker.Memory a) (maker.Memory b) = ⊤
-AreEqualMakerErrors _ _ = ⊥
+abbrev pub AreEqualToParamsErrors : ToParamsError → ToParamsError → Type 0
+AreEqualToParamsErrors (to_params.Redefined a) (to_params.Redefined b) = a.items ≡ b.items
+AreEqualToParamsErrors (to_params.Value a) (to_params.Value b) = a ≡ b
+AreEqualToParamsErrors (to_params.Memory a) (to_params.Memory b) = ⊤
+AreEqualToParamsErrors _ _ = ⊥

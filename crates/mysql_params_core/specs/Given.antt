@@ -1,5 +1,5 @@
--- What contracts see of parameters. They don't see where the values lie in memory, nor in which order
--- a hash map holds its entries.
+-- What contracts see of parameters. They don't see where the values lie in memory, nor in which
+-- order a hash map holds its entries.
 use Rattle.std.specs.Prelude.{ℕ, List, map}
 use Rattle.std.specs.Global.{Vec}
 use Rattle.std.specs.Ordering.{nat_cmp}

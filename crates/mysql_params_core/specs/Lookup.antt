@@ -54,8 +54,8 @@ PositionTakesMemory (positional values) names = ⊥
 PositionTakesMemory (named entries) [] = ⊥
 PositionTakesMemory (named entries) (name ∷ names) = ⊤
 
--- a lookup of borrowed values allocates where a lookup does, and for a list without names of
--- positional values, if there are any
+-- a lookup of borrowed values allocates whenever a lookup does, and also for positional values, if
+-- there are any, and a list without names
 abbrev pub PlaceValuesTakeMemory : Given → List (List ℕ) → Type 0
 PlaceValuesTakeMemory (positional (value ∷ values)) [] = ⊤
 PlaceValuesTakeMemory params names = LookupTakesMemory params names

@@ -1,4 +1,4 @@
--- The parameters that things make.
+-- The parameters that arguments make.
 use Rattle.std.specs.Prelude.{ℕ, List, [], ◌∷◌, ◌++◌, Result, Ok, Err, fold, if◌then◌else◌}
 use Rattle.std.specs.FinMap as finite
 use Rattle.std.specs.declared.time.Duration.{Duration}
@@ -6,56 +6,56 @@ use Rattle.mysql_value_core.specs.declared.value.Value.{Value}
 use Rattle.mysql_value_core.specs.ValueOf.{Meaning}
 use Rattle.mysql_params_core.specs.Given.{ValueMap, Given, empty, named, positional}
 
--- why things make no parameters
-pub data MakerRefusal : Type 0 where
+-- why arguments make no parameters
+pub data ToParamsRefusal : Type 0 where
   -- this is the name of an earlier pair
-  redefined : List ℕ → MakerRefusal
+  redefined : List ℕ → ToParamsRefusal
   -- the duration is too long for a value
-  too_long : Duration → MakerRefusal
+  too_long : Duration → ToParamsRefusal
 
--- what things make, or the refusal
+-- what arguments make, or the refusal
 abbrev pub Made : Type 0
-Made = Result Given MakerRefusal
+Made = Result Given ToParamsRefusal
 
--- the values so far and then the value of one more thing; a refusal stays
-abbrev pub with_value : Result (List Value) MakerRefusal → Meaning
-    → Result (List Value) MakerRefusal
+-- the values so far and then the value of one more argument; a refusal stays
+abbrev pub with_value : Result (List Value) ToParamsRefusal → Meaning
+    → Result (List Value) ToParamsRefusal
 with_value (Ok values) (Ok value) = Ok (values ++ value ∷ [])
 with_value (Ok values) (Err duration) = Err (too_long duration)
 with_value (Err refusal) meaning = Err refusal
 
--- the values of all things in order, or the refusal of the first that has none
-abbrev pub values_made : List Meaning → Result (List Value) MakerRefusal
+-- the values of all arguments in order, or the refusal of the first that has none
+abbrev pub values_made : List Meaning → Result (List Value) ToParamsRefusal
 values_made meanings = fold with_value (Ok []) meanings
 
 -- the values as parameters by position
-abbrev pub by_position : Result (List Value) MakerRefusal → Made
+abbrev pub by_position : Result (List Value) ToParamsRefusal → Made
 by_position (Ok values) = Ok (positional values)
 by_position (Err refusal) = Err refusal
 
--- what a list of things makes; an empty list makes no parameters
+-- what a list of arguments makes; an empty list makes no parameters
 abbrev pub list_made : List Meaning → Made
 list_made [] = Ok empty
 list_made (meaning ∷ meanings) = by_position (values_made (meaning ∷ meanings))
 
--- the map with the value of a new name, or the refusal of the thing
-abbrev pub with_new : ValueMap → List ℕ → Meaning → Result ValueMap MakerRefusal
+-- the map with the value of a new name, or the refusal of the argument
+abbrev pub with_new : ValueMap → List ℕ → Meaning → Result ValueMap ToParamsRefusal
 with_new entries name (Ok value) = Ok (finite.insert entries name value)
 with_new entries name (Err duration) = Err (too_long duration)
 
 -- the map with one more pair, whose name may not be in it yet; a refusal stays
-abbrev pub with_pair : Result ValueMap MakerRefusal → List ℕ × Meaning
-    → Result ValueMap MakerRefusal
+abbrev pub with_pair : Result ValueMap ToParamsRefusal → List ℕ × Meaning
+    → Result ValueMap ToParamsRefusal
 with_pair (Ok entries) pair =
     if finite.contains_key entries pair.0 then Err (redefined pair.0)
     else with_new entries pair.0 pair.1
 with_pair (Err refusal) pair = Err refusal
 
 -- the map as named parameters
-abbrev pub by_name : Result ValueMap MakerRefusal → Made
+abbrev pub by_name : Result ValueMap ToParamsRefusal → Made
 by_name (Ok entries) = Ok (named entries)
 by_name (Err refusal) = Err refusal
 
--- what pairs of a name and a thing make, taken in order
+-- what pairs of a name and an argument make, taken in order
 abbrev pub pairs_made : List (List ℕ × Meaning) → Made
 pairs_made pairs = by_name (fold with_pair (Ok finite.empty) pairs)

@@ -15,10 +15,10 @@ abbrev pub listed_names : Option (Bor (List (Vec ℕ))) → List (List ℕ)
 listed_names None = []
 listed_names (Some names) = names_of names.now
 
--- whether the places that pass the test are exactly a beginning of the list, possibly none or all
-abbrev pub is_beginning : {X : Type 0} → (X → Bool) → List X → Bool
-is_beginning test [] = true
-is_beginning test (x ∷ xs) = if test x then is_beginning test xs else not (list_any test xs)
+-- whether the elements that pass the test are exactly a prefix of the list, possibly none or all
+abbrev pub is_prefix : {X : Type 0} → (X → Bool) → List X → Bool
+is_prefix test [] = true
+is_prefix test (x ∷ xs) = if test x then is_prefix test xs else not (list_any test xs)
 
 -- the last name of a list (of the empty list: no bytes)
 abbrev pub last_name : List (List ℕ) → List ℕ
@@ -28,20 +28,20 @@ last_name names = slice_index_or names (length names - 1) []
 abbrev pub first_missing : ValueMap → List (List ℕ) → List ℕ
 first_missing entries names = unwrap_or (find (λ name. not (contains_key entries name)) names) []
 
--- The name that is reported if not all are in the map. If the places of the names in the map are
--- exactly a beginning of the list, it is the last name of the list; otherwise it is the first name
--- that is not in the map.
+-- The name that is reported if not all are in the map. If the names that are in the map are exactly
+-- a prefix of the list, it is the last name of the list; otherwise it is the first name that is not
+-- in the map.
 abbrev pub missing_name : ValueMap → List (List ℕ) → List ℕ
 missing_name entries names =
-    if is_beginning (contains_key entries) names then last_name names
+    if is_prefix (contains_key entries) names then last_name names
     else first_missing entries names
 
--- the places that pass the test are those below the count
+-- the indices of the elements that pass the test are those below the count
 abbrev pub AreBelow : {X : Type 0} → (X → Bool) → List X → ℕ → Type 0
 AreBelow test xs count = (i : ℕ) (x : _) → slice_get xs i ≡ Some x → (IsTrue (test x) ↔ (i < count))
 
--- `is_beginning` says what it should: the places of the names in the map are those below some count
-abbrev pub BeginningsAreFound : Type 0
-BeginningsAreFound = (entries : ValueMap) (names : List (List ℕ)) →
-    IsTrue (is_beginning (contains_key entries) names)
+-- `is_prefix` says what it should: the indices of the names in the map are those below some count
+abbrev pub PrefixesAreFound : Type 0
+PrefixesAreFound = (entries : ValueMap) (names : List (List ℕ)) →
+    IsTrue (is_prefix (contains_key entries) names)
     ↔ ((count : ℕ) × AreBelow (contains_key entries) names count)

@@ -27,8 +27,8 @@ pub use to_params::ToParams;
 
 /// The parameters of a query: none, values by name, or values by position.
 ///
-/// Two are equal where the variants are, and the list or the map; in a map the order of the entries
-/// doesn't count.
+/// Two are equal if and only if the variants are, and the list or the map. In a map the order of
+/// the entries doesn't count.
 #[derive(PartialEq, Drop)]
 pub enum Params {
     /// Nothing.
@@ -40,7 +40,8 @@ pub enum Params {
 }
 
 impl Params {
-    /// A copy of the parameters, on the allocator that they hold. A copy of `Empty` takes no memory.
+    /// A copy of the parameters, on the allocator that they hold. A copy of `Empty` allocates
+    /// nothing.
     pub fn clone(&self) -> Result<Params, AllocError>
         ensures equal { IfOk result (λ copy. given copy ≡ given self.now) }
         ensures memory { OnErr result (given self.now ≢ empty) }

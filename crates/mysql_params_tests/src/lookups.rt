@@ -13,10 +13,10 @@ use mysql_values::value::Value;
 use std::alloc::{AllocError, Global};
 use std::process::Abort;
 
-/// The names that are given, those of the query, the numbers of these names, and where one is missing
-/// which `into_values` and which `into_positional` reports.
+/// The names that are given, those of the query, and the numbers of these names; or, if one is
+/// missing, which `into_values` and which `into_positional` reports.
 pub(crate) const LOOKUPS: &[(&[u8], &[u8], &[u64], Option<(u8, u8)>)] = &[
-    // The names that are there are exactly a beginning: the last of the list is reported.
+    // The names that are there are exactly a prefix: the last of the list is reported.
     (b"a", b"abc", &[], Some((b'c', b'b'))),
     (b"", b"ab", &[], Some((b'b', b'a'))),
     (b"ab", b"abc", &[], Some((b'c', b'c'))),

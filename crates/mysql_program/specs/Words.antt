@@ -8,7 +8,7 @@ use Rattle.mysql_values.specs.declared.value.Value.TheVariants.{NULL, Bytes, Int
 use Rattle.mysql_values.specs.Intermediate.{committed}
 use Rattle.mysql_values.specs.WholeNumber.{whole_conversion}
 use Rattle.mysql_params_core.specs.Given.{Given, empty, positional}
-use Rattle.mysql_params_core.specs.Made.{MakerRefusal, redefined, too_long, pairs_made}
+use Rattle.mysql_params_core.specs.Made.{ToParamsRefusal, redefined, too_long, pairs_made}
 
 -- why words are refused
 pub data WordsRefusal : Type 0 where
@@ -84,16 +84,16 @@ abbrev pub is_nameless : List ℕ × Value → Bool
 is_nameless (name, value) = length name == 0
 
 -- why named pairs are refused; no value is a duration that is too long
-abbrev pub words_refusal_of : MakerRefusal → WordsRefusal
+abbrev pub words_refusal_of : ToParamsRefusal → WordsRefusal
 words_refusal_of (redefined name) = redefined_name name
 words_refusal_of (too_long duration) = usage
 
 -- what pairs with names give, taken in order
-abbrev pub given_by_name : List (List ℕ × Value) → Result Given MakerRefusal
+abbrev pub given_by_name : List (List ℕ × Value) → Result Given ToParamsRefusal
 given_by_name pairs = pairs_made (map (λ pair. (pair.0, Ok pair.1)) pairs)
 
 -- what a maker of parameters returns, as a command or a refusal of the words
-abbrev pub command_made : Result Given MakerRefusal → Result Command WordsRefusal
+abbrev pub command_made : Result Given ToParamsRefusal → Result Command WordsRefusal
 command_made (Ok params) = Ok (bound_query params)
 command_made (Err refusal) = Err (words_refusal_of refusal)
 

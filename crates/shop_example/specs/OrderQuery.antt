@@ -4,7 +4,7 @@ use Rattle.mysql_values.specs.Answer.{IsExpectedRefusal}
 use Rattle.mysql_values.specs.StringUnits.{with_backslashes}
 use Rattle.mysql_values.specs.ValueOf.{bytes_value, uint_value}
 use Rattle.mysql_params.specs.BindErrors.{IsRefusal}
-use Rattle.mysql_params.specs.Errors.{maker_refusal}
+use Rattle.mysql_params.specs.Errors.{to_params_refusal}
 use Rattle.mysql_params.specs.FirstCause.{first_cause}
 use Rattle.mysql_params.specs.Made.{Made, pairs_made}
 use Rattle.mysql_params.specs.Tokens.{OnTokens}
@@ -21,7 +21,7 @@ search_made customer from text = pairs_made ((codes "customer", uint_value custo
 -- The error is the refusal of the parameters, or out of memory; or, where they were made, the first
 -- cause that refuses the query with them, or out of memory.
 abbrev pub IsQueryRefusal : List ℕ → Made → QueryError → Type 0
-IsQueryRefusal query made (Params error) = IsExpectedRefusal made ⊤ (maker_refusal error)
+IsQueryRefusal query made (Params error) = IsExpectedRefusal made ⊤ (to_params_refusal error)
 IsQueryRefusal query made (Bind error) =
     IfOk made (λ values. OnTokens with_backslashes query (λ ts.
     IsRefusal (first_cause ts values) error))

@@ -2,7 +2,7 @@
 ghost use Rattle.std.specs.Prelude.{◌≡◌, Ok, IfErr, IfOk, ⊤};
 ghost use Rattle.mysql_values.specs.Answer.{IsExpectedRefusal};
 ghost use Rattle.mysql_values.specs.StringUnits.{with_backslashes};
-ghost use Rattle.mysql_params.specs.Errors.{maker_refusal};
+ghost use Rattle.mysql_params.specs.Errors.{to_params_refusal};
 ghost use Rattle.mysql_params.specs.Given.{Given, given};
 ghost use Rattle.mysql_params.specs.Isolation.{IsBoundText};
 ghost use Rattle.mysql_params.specs.Tokens.{OnTokens};
@@ -56,7 +56,7 @@ fn search_params(
 ) -> Result<Params, ToParamsError>
     ensures given { IfOk result (λ params. search_made customer from text.now ≡ Ok (given params)) }
     ensures refused { IfErr result (λ error.
-        IsExpectedRefusal (search_made customer from text.now) ⊤ (maker_refusal error)) }
+        IsExpectedRefusal (search_made customer from text.now) ⊤ (to_params_refusal error)) }
 {
     (("customer", customer), ("from", from), ("text", text)).to_named(alloc)
 }

@@ -1,4 +1,4 @@
-//! The values of the names of a query where they stand, without a copy.
+//! The values of the names of a query, borrowed and not copied.
 ghost use Rattle.std.specs.Prelude.{◌≡◌, ◌⊎◌, ◌<◌, IfOk, IsErrOf, OnErr, None, Some, alloc_error, length, ⊤};
 ghost use Rattle.std.specs.List.{list_any};
 ghost use Rattle.std.specs.FinMap.{contains_key};
@@ -20,9 +20,9 @@ use std::collections::HashMap;
 /// the parameters: no value is copied, and of the names only one that is missing. An empty list
 /// means a query without names.
 ///
-/// `Missing` and `Confusion` are as with [`Params::into_values`]. `Memory` is returned only for a
-/// list with names, of `Named` or `Empty`, and for an empty list, of `Positional` with values. The
-/// crates above bind by this; no user needs it.
+/// `Missing` and `Confusion` are as with [`Params::into_values`]. `Memory` is returned only for
+/// `Named` or `Empty` and a list with names, and for `Positional` with values and an empty list.
+/// The crates above bind by this; no user needs it.
 pub fn place_values<'p>(
     alloc: Global,
     params: &'p Params,
@@ -96,7 +96,7 @@ fn named_place_values<'p>(
     Ok(values)
 }
 
-// The name that is reported as missing, where `first` is the place of the first that is not in the
+// The name that is reported as missing. `first` is the index of the first name that is not in the
 // map.
 fn reported_name<'n>(
     entries: &HashMap<Vec<u8>, Value>,

@@ -23,7 +23,7 @@ impl MissingNamedParameterError {
     }
 }
 
-/// Parameters of one kind were given where the query wants the other.
+/// Parameters of one kind were given, and the query wants the other.
 #[derive(Debug, Clone, Copy, PartialEq, Eq, Hash, Error)]
 pub enum ParamsConfusionError {
     /// The query has no names, and the parameters are named.
@@ -90,13 +90,13 @@ pub enum IntoPositionalError {
     Memory(AllocError),
 }
 
-/// Why things make no parameters.
+/// Why arguments make no parameters.
 #[derive(Debug, PartialEq, Drop, Error)]
 pub enum ToParamsError {
     /// The name of a pair is that of an earlier one.
     #[error("Redefinition of named parameter `{}'", Shown(.0.as_slice()))]
     Redefined(Vec<u8>),
-    /// A thing has no value. The error is never out of memory: that is `Memory`.
+    /// An argument has no value. The error is never out of memory: that is `Memory`.
     #[error(transparent)]
     Value(ToValueError),
     /// Out of memory.

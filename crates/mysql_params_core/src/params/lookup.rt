@@ -18,16 +18,16 @@ use std::alloc::{AllocError, Global};
 use std::collections::HashMap;
 
 impl Params {
-    /// The values for the names of a query, in their order, with a repeated name's value at each
-    /// of its places. Names in the map that are not listed are ignored. `None` and an empty list
-    /// mean a query without names: it takes positional parameters as they are.
+    /// The values for the names of a query, in their order, with a repeated name's value each time
+    /// that the name stands there. Names in the map that are not listed are ignored. `None` and an
+    /// empty list mean a query without names: it takes positional parameters as they are.
     ///
-    /// `Missing` holds a name that has no value. Of `Empty` it is the first of the list. Of `Named`
-    /// it is the last of the list, if the places of the names in the map are exactly a beginning of
-    /// the list (which may have no place at all); otherwise it is the first that isn't in the map.
-    /// `Confusion` is for positional parameters and a list with names, and for named parameters (of
-    /// an empty map too) and a query without names. `Memory` is returned only for a list with names,
-    /// of `Named` or `Empty`. The parameters are consumed even if the call refuses.
+    /// `Missing` holds a name that has no value. For `Empty` it is the first of the list. For
+    /// `Named` it is the last of the list if the listed names that are in the map are exactly a
+    /// prefix of the list, which may be empty; otherwise it is the first that isn't in the map.
+    /// `Confusion` is for positional parameters and a list with names, and for named parameters
+    /// (also of an empty map) and a query without names. `Memory` is returned only for `Named` or
+    /// `Empty` and a list with names. The parameters are consumed even if the call refuses.
     pub fn into_values(
         self,
         alloc: Global,
@@ -64,9 +64,10 @@ impl Params {
         }
     }
 
-    /// The same parameters by position: of named ones the values for the names, in their order, or
-    /// the first name that has no value. Others are returned unchanged. `Memory` is returned only for
-    /// named parameters and a list with names. The parameters are consumed even if the call refuses.
+    /// The same parameters by position: named ones give the values for the names, in their order,
+    /// or the first name that has no value. Others are returned unchanged. `Memory` is returned only
+    /// for named parameters and a list with names. The parameters are consumed even if the call
+    /// refuses.
     pub fn into_positional(
         self,
         alloc: Global,
@@ -97,8 +98,8 @@ fn named_values(
     match first_absent(&entries, names) {
         None => take_values(alloc, entries, names).map_err(ParamsError::Memory),
         Some(first) => {
-            let place = reported_place(&entries, names, first);
-            match missing_error(alloc, names[place].as_slice()) {
+            let index = reported_index(&entries, names, first);
+            match missing_error(alloc, names[index].as_slice()) {
                 Ok(error) => Err(ParamsError::Missing(error)),
                 Err(error) => Err(ParamsError::Memory(error)),
             }
@@ -129,7 +130,7 @@ fn named_positional(
     }
 }
 
-// The place of the first name that is not in the map.
+// The index of the first name that is not in the map.
 fn first_absent(entries: &HashMap<Vec<u8>, Value>, names: &[Vec<u8>]) -> Option<usize>
     ensures { IsFirstAbsent (value_map entries.now.entries) (names_of names.now) result }
 {
@@ -141,9 +142,9 @@ fn first_absent(entries: &HashMap<Vec<u8>, Value>, names: &[Vec<u8>]) -> Option<
     None
 }
 
-// The place of the name that is reported as missing, where `first` is that of the first that is
-// not in the map.
-fn reported_place(entries: &HashMap<Vec<u8>, Value>, names: &[Vec<u8>], first: usize) -> usize
+// The index of the name that is reported as missing. `first` is that of the first name that is not
+// in the map.
+fn reported_index(entries: &HashMap<Vec<u8>, Value>, names: &[Vec<u8>], first: usize) -> usize
     requires { IsFirstAbsent (value_map entries.now.entries) (names_of names.now) (Some first) }
     ensures within { result < length names.now }
     ensures reported { slice_index_or (names_of names.now) result []
@@ -164,9 +165,10 @@ fn has_any(entries: &HashMap<Vec<u8>, Value>, names: &[Vec<u8>]) -> bool
     names.iter().any(|name| has_name(entries, name.as_slice()))
 }
 
-// The values of the names, all of which are in the map. At its name's first place a value is moved
-// out of the map, together with the key; at each later place it is copied. `places` holds the keys
-// that were moved out and where their values stand, so that no name is copied and no list searched.
+// The values of the names, all of which are in the map. The first time that a name stands in the
+// list its value is moved out of the map, together with the key; each later time it is copied.
+// `indices` holds the keys that were moved out, each with the index of its value, so that no name
+// is copied and no list searched.
 fn take_values(
     alloc: Global,
     entries: HashMap<Vec<u8>, Value>,
@@ -178,17 +180,17 @@ fn take_values(
     ensures memory { OnErr result (0 < length names.now) }
 {
     let mut left = entries;
-    let mut places: HashMap<Vec<u8>, usize> = HashMap::new(alloc);
+    let mut indices: HashMap<Vec<u8>, usize> = HashMap::new(alloc);
     let mut values = Vec::new(alloc);
     for name in names {
         if let Some((key, value)) = left.remove_entry(name) {
-            match places.insert(key, values.len()) {
+            match indices.insert(key, values.len()) {
                 Ok(_) => {}
                 Err(_) => return Err(AllocError),
             }
             values.push(value)?;
-        } else if let Some(place) = places.get(name) {
-            let value = values[*place].clone()?;
+        } else if let Some(index) = indices.get(name) {
+            let value = values[*index].clone()?;
             values.push(value)?;
         } else {
             unreachable!();

@@ -1,9 +1,9 @@
-//! Tuples of pairs of a name and a thing make named parameters.
+//! Tuples of pairs of a name and an argument make named parameters.
 ghost use Rattle.std.specs.Prelude.{◌≢◌, ◌∷◌, ℕ, List, [], Ok, IfErr, alloc_error, fold, ⊤};
 ghost use Rattle.mysql_wire_part.specs.Answer.{IsAnswer};
 ghost use Rattle.mysql_value_core.specs.declared.value.convert.ToValueError.TheVariants as to_value;
 ghost use Rattle.mysql_value_core.specs.ValueOf.{Meaning};
-ghost use Rattle.mysql_params_core.specs.Errors.{maker_refusal};
+ghost use Rattle.mysql_params_core.specs.Errors.{to_params_refusal};
 ghost use Rattle.mysql_params_core.specs.Given.{given, value_map};
 ghost use Rattle.mysql_params_core.specs.Made.{pairs_made, with_pair};
 
@@ -15,18 +15,18 @@ use mysql_values::value::convert::ToValue;
 use std::alloc::Global;
 use std::collections::HashMap;
 
-/// Pairs of a name and a thing, as tuples of them: `(("id", 7), ("name", "x"))`.
+/// Pairs of a name and an argument, as tuples of them: `(("id", 7), ("name", "x"))`.
 pub trait ToPairs {
-    // the names, and the values of the things
+    // the names, and the values of the arguments
     ghost pairs: { Self → List (List ℕ × Meaning) };
 
     /// The named parameters that the pairs make, taken in order, as
     /// [`Params::from_pairs`](crate::params::Params::from_pairs) makes them: a pair with the name
-    /// of an earlier pair is refused as `Redefined` with that name, and its thing isn't asked for
-    /// its value; a thing that has no value is refused as `Value`. The first refusal ends it. `Memory`
-    /// may come in place of any other result.
+    /// of an earlier pair is refused as `Redefined` with that name, and its argument isn't asked
+    /// for its value. An argument that has no value is refused as `Value`. The first refusal ends
+    /// it. `Memory` may come in place of any other result.
     fn to_named(&self, alloc: Global) -> Result<Params, ToParamsError>
-        ensures made { IsAnswer given maker_refusal (pairs_made (pairs self.now)) ⊤ result }
+        ensures made { IsAnswer given to_params_refusal (pairs_made (pairs self.now)) ⊤ result }
         ensures value { IfErr result (λ error.
             error ≢ ToParamsError.Value (to_value.Memory alloc_error)) };
 }
@@ -35,7 +35,7 @@ impl<A: ToValue> ToPairs for ((&str, A),) {
     ghost pairs = { λ pairs. (pairs.0.0.now, A.value_of pairs.0.1) ∷ [] };
 
     fn to_named(&self, alloc: Global) -> Result<Params, ToParamsError> {
-        params_by_name(alloc, &row!(&self.0))
+        pair_row_params(alloc, &row!(&self.0))
     }
 }
 
@@ -44,7 +44,7 @@ impl<A: ToValue, B: ToValue> ToPairs for ((&str, A), (&str, B)) {
         (pairs.1.0.now, B.value_of pairs.1.1) ∷ [] };
 
     fn to_named(&self, alloc: Global) -> Result<Params, ToParamsError> {
-        params_by_name(alloc, &row!(&self.0, &self.1))
+        pair_row_params(alloc, &row!(&self.0, &self.1))
     }
 }
 
@@ -54,7 +54,7 @@ impl<A: ToValue, B: ToValue, C: ToValue> ToPairs for ((&str, A), (&str, B), (&st
         (pairs.2.0.now, C.value_of pairs.2.1) ∷ [] };
 
     fn to_named(&self, alloc: Global) -> Result<Params, ToParamsError> {
-        params_by_name(alloc, &row!(&self.0, &self.1, &self.2))
+        pair_row_params(alloc, &row!(&self.0, &self.1, &self.2))
     }
 }
 
@@ -66,7 +66,7 @@ impl<A: ToValue, B: ToValue, C: ToValue, D: ToValue> ToPairs
         (pairs.3.0.now, D.value_of pairs.3.1) ∷ [] };
 
     fn to_named(&self, alloc: Global) -> Result<Params, ToParamsError> {
-        params_by_name(alloc, &row!(&self.0, &self.1, &self.2, &self.3))
+        pair_row_params(alloc, &row!(&self.0, &self.1, &self.2, &self.3))
     }
 }
 
@@ -79,7 +79,7 @@ impl<A: ToValue, B: ToValue, C: ToValue, D: ToValue, E: ToValue> ToPairs
         (pairs.4.0.now, E.value_of pairs.4.1) ∷ [] };
 
     fn to_named(&self, alloc: Global) -> Result<Params, ToParamsError> {
-        params_by_name(alloc, &row!(&self.0, &self.1, &self.2, &self.3, &self.4))
+        pair_row_params(alloc, &row!(&self.0, &self.1, &self.2, &self.3, &self.4))
     }
 }
 
@@ -100,7 +100,7 @@ impl<A: ToValue, B: ToValue, C: ToValue, D: ToValue, E: ToValue, F: ToValue> ToP
         (pairs.5.0.now, F.value_of pairs.5.1) ∷ [] };
 
     fn to_named(&self, alloc: Global) -> Result<Params, ToParamsError> {
-        params_by_name(
+        pair_row_params(
             alloc,
             &row!(&self.0, &self.1, &self.2, &self.3, &self.4, &self.5),
         )
@@ -126,7 +126,7 @@ impl<A: ToValue, B: ToValue, C: ToValue, D: ToValue, E: ToValue, F: ToValue, G: 
         (pairs.6.0.now, G.value_of pairs.6.1) ∷ [] };
 
     fn to_named(&self, alloc: Global) -> Result<Params, ToParamsError> {
-        params_by_name(
+        pair_row_params(
             alloc,
             &row!(
                 &self.0, &self.1, &self.2, &self.3, &self.4, &self.5, &self.6
@@ -165,7 +165,7 @@ impl<
         (pairs.7.0.now, H.value_of pairs.7.1) ∷ [] };
 
     fn to_named(&self, alloc: Global) -> Result<Params, ToParamsError> {
-        params_by_name(
+        pair_row_params(
             alloc,
             &row!(
                 &self.0, &self.1, &self.2, &self.3, &self.4, &self.5, &self.6, &self.7
@@ -207,7 +207,7 @@ impl<
         (pairs.8.0.now, I.value_of pairs.8.1) ∷ [] };
 
     fn to_named(&self, alloc: Global) -> Result<Params, ToParamsError> {
-        params_by_name(
+        pair_row_params(
             alloc,
             &row!(
                 &self.0, &self.1, &self.2, &self.3, &self.4, &self.5, &self.6, &self.7, &self.8
@@ -252,7 +252,7 @@ impl<
         (pairs.9.0.now, J.value_of pairs.9.1) ∷ [] };
 
     fn to_named(&self, alloc: Global) -> Result<Params, ToParamsError> {
-        params_by_name(
+        pair_row_params(
             alloc,
             &row!(
                 &self.0, &self.1, &self.2, &self.3, &self.4, &self.5, &self.6, &self.7, &self.8,
@@ -301,7 +301,7 @@ impl<
         (pairs.10.0.now, K.value_of pairs.10.1) ∷ [] };
 
     fn to_named(&self, alloc: Global) -> Result<Params, ToParamsError> {
-        params_by_name(
+        pair_row_params(
             alloc,
             &row!(
                 &self.0, &self.1, &self.2, &self.3, &self.4, &self.5, &self.6, &self.7, &self.8,
@@ -353,7 +353,7 @@ impl<
         (pairs.11.0.now, L.value_of pairs.11.1) ∷ [] };
 
     fn to_named(&self, alloc: Global) -> Result<Params, ToParamsError> {
-        params_by_name(
+        pair_row_params(
             alloc,
             &row!(
                 &self.0, &self.1, &self.2, &self.3, &self.4, &self.5, &self.6, &self.7, &self.8,
@@ -364,8 +364,8 @@ impl<
 }
 
 // The named parameters that the pairs of a row make.
-fn params_by_name<R: InsertPairs>(alloc: Global, row: &R) -> Result<Params, ToParamsError>
-    ensures made { IsAnswer given maker_refusal (pairs_made (R.inserted row.now)) ⊤ result }
+fn pair_row_params<R: InsertPairs>(alloc: Global, row: &R) -> Result<Params, ToParamsError>
+    ensures made { IsAnswer given to_params_refusal (pairs_made (R.inserted row.now)) ⊤ result }
     ensures value { IfErr result (λ error.
         error ≢ ToParamsError.Value (to_value.Memory alloc_error)) }
 {
@@ -376,7 +376,7 @@ fn params_by_name<R: InsertPairs>(alloc: Global, row: &R) -> Result<Params, ToPa
 
 // A row of references to pairs, whose values go into a map.
 trait InsertPairs {
-    // the names, and the values of the things
+    // the names, and the values of the arguments
     ghost inserted: { Self → List (List ℕ × Meaning) };
 
     // Inserts the values in order, up to the first refusal.
@@ -385,7 +385,7 @@ trait InsertPairs {
         alloc: Global,
         entries: &mut HashMap<Vec<u8>, Value>,
     ) -> Result<(), ToParamsError>
-        ensures made { IsAnswer (λ _. value_map entries.new.entries) maker_refusal
+        ensures made { IsAnswer (λ _. value_map entries.new.entries) to_params_refusal
             (fold with_pair (Ok (value_map entries.old.entries)) (inserted self.now)) ⊤ result }
         ensures value { IfErr result (λ error.
             error ≢ ToParamsError.Value (to_value.Memory alloc_error)) };
@@ -436,7 +436,7 @@ fn insert_two<A: ToValue, B: ToValue>(
     first: &(&str, A),
     second: &(&str, B),
 ) -> Result<(), ToParamsError>
-    ensures made { IsAnswer (λ _. value_map entries.new.entries) maker_refusal
+    ensures made { IsAnswer (λ _. value_map entries.new.entries) to_params_refusal
         (fold with_pair (Ok (value_map entries.old.entries))
         ((first.now.0.now, A.value_of first.now.1) ∷
         (second.now.0.now, B.value_of second.now.1) ∷ [])) ⊤ result }

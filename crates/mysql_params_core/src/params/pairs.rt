@@ -1,9 +1,9 @@
-//! Pairs of a name and a thing make named parameters.
+//! Pairs of a name and an argument make named parameters.
 ghost use Rattle.std.specs.Prelude.{◌≡◌, ◌≢◌, ◌⊎◌, ℕ, List, None, Some, Ok, map, IfErr, alloc_error, string_bytes, ⊤};
 ghost use Rattle.mysql_wire_part.specs.Answer.{IsAnswer};
 ghost use Rattle.mysql_value_core.specs.declared.value.convert.ToValueError.TheVariants as to_value;
 ghost use Rattle.mysql_value_core.specs.ValueOf.{Meaning, MeansBytes, too_long_duration};
-ghost use Rattle.mysql_params_core.specs.Errors.{maker_refusal};
+ghost use Rattle.mysql_params_core.specs.Errors.{to_params_refusal};
 ghost use Rattle.mysql_params_core.specs.Given.{given, value_map};
 ghost use Rattle.mysql_params_core.specs.Made.{pairs_made, redefined, with_new, with_pair};
 
@@ -58,14 +58,14 @@ impl ToName for String {
 
 impl Params {
     /// Named parameters of pairs, taken in order. A pair with the name of an earlier pair is refused
-    /// as `Redefined` with that name, and its thing isn't asked for its value; a thing that has no
-    /// value is refused as `Value`. The first refusal ends it. No pairs make an empty map. `Memory`
-    /// may come in place of any other result.
+    /// as `Redefined` with that name, and its argument isn't asked for its value. An argument that
+    /// has no value is refused as `Value`. The first refusal ends it. No pairs make an empty map.
+    /// `Memory` may come in place of any other result.
     pub fn from_pairs<N: ToName, V: ToValue>(
         alloc: Global,
         pairs: &[(N, V)],
     ) -> Result<Params, ToParamsError>
-        ensures made { IsAnswer given maker_refusal
+        ensures made { IsAnswer given to_params_refusal
             (pairs_made (map (λ pair. (N.name pair.0, V.value_of pair.1)) pairs.now)) ⊤ result }
         ensures value { IfErr result (λ error.
             error ≢ ToParamsError.Value (to_value.Memory alloc_error)) }
@@ -77,12 +77,12 @@ impl Params {
         Ok(Params::Named(entries))
     }
 
-    /// The same of things of several types, by what each names as its value.
+    /// The same for arguments of several types, by what each names as its value.
     pub fn from_objects(
         alloc: Global,
         pairs: &[(&[u8], &dyn ToValue)],
     ) -> Result<Params, ToParamsError>
-        ensures made { IsAnswer given maker_refusal
+        ensures made { IsAnswer given to_params_refusal
             (pairs_made (map (λ pair. (pair.0.now, value_of pair.1.now)) pairs.now)) ⊤ result }
         ensures value { IfErr result (λ error.
             error ≢ ToParamsError.Value (to_value.Memory alloc_error)) }
@@ -95,22 +95,23 @@ impl Params {
     }
 }
 
-// Inserts the value of a thing under its name, which may not be in the map yet.
+// Inserts the value of an argument under its name, which may not be in the map yet.
 pub(crate) fn insert_pair<V: ToValue>(
     alloc: Global,
     entries: &mut HashMap<Vec<u8>, Value>,
     name: &[u8],
-    thing: &V,
+    argument: &V,
 ) -> Result<(), ToParamsError>
-    ensures made { IsAnswer (λ _. value_map entries.new.entries) maker_refusal
-        (with_pair (Ok (value_map entries.old.entries)) (name.now, V.value_of thing.now)) ⊤ result }
+    ensures made { IsAnswer (λ _. value_map entries.new.entries) to_params_refusal
+        (with_pair (Ok (value_map entries.old.entries))
+        (name.now, V.value_of argument.now)) ⊤ result }
     ensures value { IfErr result (λ error.
         error ≢ ToParamsError.Value (to_value.Memory alloc_error)) }
 {
     if has_name(entries, name) {
         return Err(redefined_error(alloc, name));
     }
-    insert_new(alloc, entries, name, thing.to_value(alloc))
+    insert_new(alloc, entries, name, argument.to_value(alloc))
 }
 
 // The same for an object, through its interface alone.
@@ -120,7 +121,7 @@ fn insert_object_pair(
     name: &[u8],
     object: &dyn ToValue,
 ) -> Result<(), ToParamsError>
-    ensures made { IsAnswer (λ _. value_map entries.new.entries) maker_refusal
+    ensures made { IsAnswer (λ _. value_map entries.new.entries) to_params_refusal
         (with_pair (Ok (value_map entries.old.entries)) (name.now, value_of object.now)) ⊤ result }
     ensures value { IfErr result (λ error.
         error ≢ ToParamsError.Value (to_value.Memory alloc_error)) }
@@ -133,8 +134,8 @@ fn insert_object_pair(
 
 // The refusal of a name that is already in the map, or out of memory.
 fn redefined_error(alloc: Global, name: &[u8]) -> ToParamsError
-    ensures refused { (maker_refusal result ≡ None)
-        ⊎ (maker_refusal result ≡ Some (redefined name.now)) }
+    ensures refused { (to_params_refusal result ≡ None)
+        ⊎ (to_params_refusal result ≡ Some (redefined name.now)) }
     ensures value { result ≢ ToParamsError.Value (to_value.Memory alloc_error) }
 {
     match Vec::from_slice(alloc, name) {
@@ -143,7 +144,8 @@ fn redefined_error(alloc: Global, name: &[u8]) -> ToParamsError
     }
 }
 
-// Inserts under a new name what a thing returned as its value. A caller says what the thing means.
+// Inserts under a new name what an argument returned as its value. A caller says which value the
+// argument has.
 fn insert_new(
     alloc: Global,
     entries: &mut HashMap<Vec<u8>, Value>,
@@ -152,7 +154,7 @@ fn insert_new(
 ) -> Result<(), ToParamsError>
     ensures made { (meaning : Meaning) →
         IsAnswer (λ value. value) too_long_duration meaning (MeansBytes meaning) answer →
-        IsAnswer (λ _. value_map entries.new.entries) maker_refusal
+        IsAnswer (λ _. value_map entries.new.entries) to_params_refusal
         (with_new (value_map entries.old.entries) name.now meaning) ⊤ result }
     ensures value { IfErr result (λ error.
         error ≢ ToParamsError.Value (to_value.Memory alloc_error)) }

@@ -2,7 +2,7 @@
 ghost use Rattle.std.specs.Prelude.{◌≡◌, ◌≢◌, [], map, Ok, IfErr, IsErrOf, alloc_error, ⊤};
 ghost use Rattle.mysql_wire_part.specs.Answer.{IsAnswer};
 ghost use Rattle.mysql_value_core.specs.declared.value.convert.ToValueError.TheVariants as to_value;
-ghost use Rattle.mysql_params_core.specs.Errors.{maker_refusal};
+ghost use Rattle.mysql_params_core.specs.Errors.{to_params_refusal};
 ghost use Rattle.mysql_params_core.specs.Given.{given, empty};
 ghost use Rattle.mysql_params_core.specs.Made.{Made, list_made, with_value};
 ghost use Rattle.mysql_value_core.specs.ValueOf.{Meaning, MeansBytes, too_long_duration};
@@ -17,13 +17,13 @@ pub trait ToParams {
     // the parameters that it makes, or why it makes none
     ghost made: { Self → Made };
 
-    // where making them allocates
+    // whether making them allocates
     ghost takes_memory: { Self → Type 0 };
 
-    /// The parameters that the thing makes, or the refusal of the first item that has no value.
-    /// `Memory` is returned only where the type says that it allocates; `Value` never holds it.
+    /// The parameters that `self` makes, or the refusal of the first item that has no value.
+    /// `Memory` is returned only if the type says that it allocates; `Value` never holds it.
     fn to_params(&self, alloc: Global) -> Result<Params, ToParamsError>
-        ensures made { IsAnswer given maker_refusal (made self.now) ⊤ result }
+        ensures made { IsAnswer given to_params_refusal (made self.now) ⊤ result }
         ensures memory { IsErrOf result (ToParamsError.Memory alloc_error) → takes_memory self.now }
         ensures value { IfErr result (λ error.
             error ≢ ToParamsError.Value (to_value.Memory alloc_error)) };
@@ -61,9 +61,9 @@ impl<T: ToParams> ToParams for &T {
 }
 
 impl<T: ToValue> ToParams for Vec<T> {
-    ghost made = { λ things. list_made (map T.value_of things.items) };
+    ghost made = { λ arguments. list_made (map T.value_of arguments.items) };
 
-    ghost takes_memory = { λ things. things.items ≢ [] };
+    ghost takes_memory = { λ arguments. arguments.items ≢ [] };
 
     fn to_params(&self, alloc: Global) -> Result<Params, ToParamsError> {
         list_params(alloc, self.as_slice())
@@ -71,38 +71,39 @@ impl<T: ToValue> ToParams for Vec<T> {
 }
 
 impl ToParams for &[&dyn ToValue] {
-    // What each object names as its value. A function's clause writes `value_of thing.now`, as that
+    // What each object names as its value. A function's clause writes `value_of object.now`, as that
     // of `object_params` does; an implementation has to write it out.
-    ghost made = { λ things.
-        list_made (map (λ thing. (ToValue-dyn thing.now).value_of thing.now.1) things.now) };
+    ghost made = { λ objects.
+        list_made (map (λ object. (ToValue-dyn object.now).value_of object.now.1) objects.now) };
 
-    ghost takes_memory = { λ things. things.now ≢ [] };
+    ghost takes_memory = { λ objects. objects.now ≢ [] };
 
     fn to_params(&self, alloc: Global) -> Result<Params, ToParamsError> {
         object_params(alloc, *self)
     }
 }
 
-// What a list of things makes.
-fn list_params<T: ToValue>(alloc: Global, things: &[T]) -> Result<Params, ToParamsError>
-    ensures made { IsAnswer given maker_refusal (list_made (map T.value_of things.now)) ⊤ result }
-    ensures memory { IsErrOf result (ToParamsError.Memory alloc_error) → things.now ≢ [] }
+// What a list of arguments makes.
+fn list_params<T: ToValue>(alloc: Global, arguments: &[T]) -> Result<Params, ToParamsError>
+    ensures made { IsAnswer given to_params_refusal
+        (list_made (map T.value_of arguments.now)) ⊤ result }
+    ensures memory { IsErrOf result (ToParamsError.Memory alloc_error) → arguments.now ≢ [] }
     ensures value { IfErr result (λ error.
         error ≢ ToParamsError.Value (to_value.Memory alloc_error)) }
 {
-    if things.is_empty() {
+    if arguments.is_empty() {
         return Ok(Params::Empty);
     }
     let mut values = Vec::new(alloc);
-    for thing in things {
-        append_value(alloc, &mut values, thing)?;
+    for argument in arguments {
+        append_value(alloc, &mut values, argument)?;
     }
     Ok(Params::Positional(values))
 }
 
 // The same for objects, through the interface of each alone.
 fn object_params(alloc: Global, objects: &[&dyn ToValue]) -> Result<Params, ToParamsError>
-    ensures made { IsAnswer given maker_refusal
+    ensures made { IsAnswer given to_params_refusal
         (list_made (map (λ object. value_of object.now) objects.now)) ⊤ result }
     ensures memory { IsErrOf result (ToParamsError.Memory alloc_error) → objects.now ≢ [] }
     ensures value { IfErr result (λ error.
@@ -118,18 +119,18 @@ fn object_params(alloc: Global, objects: &[&dyn ToValue]) -> Result<Params, ToPa
     Ok(Params::Positional(values))
 }
 
-// Appends the value of a thing.
+// Appends the value of an argument.
 pub(crate) fn append_value<T: ToValue>(
     alloc: Global,
     values: &mut Vec<Value>,
-    thing: &T,
+    argument: &T,
 ) -> Result<(), ToParamsError>
-    ensures made { IsAnswer (λ _. values.new.items) maker_refusal
-        (with_value (Ok values.old.items) (T.value_of thing.now)) ⊤ result }
+    ensures made { IsAnswer (λ _. values.new.items) to_params_refusal
+        (with_value (Ok values.old.items) (T.value_of argument.now)) ⊤ result }
     ensures value { IfErr result (λ error.
         error ≢ ToParamsError.Value (to_value.Memory alloc_error)) }
 {
-    append_answer(values, thing.to_value(alloc))
+    append_answer(values, argument.to_value(alloc))
 }
 
 // The same for an object, through its interface alone.
@@ -138,7 +139,7 @@ fn append_object_value(
     values: &mut Vec<Value>,
     object: &dyn ToValue,
 ) -> Result<(), ToParamsError>
-    ensures made { IsAnswer (λ _. values.new.items) maker_refusal
+    ensures made { IsAnswer (λ _. values.new.items) to_params_refusal
         (with_value (Ok values.old.items) (value_of object.now)) ⊤ result }
     ensures value { IfErr result (λ error.
         error ≢ ToParamsError.Value (to_value.Memory alloc_error)) }
@@ -146,14 +147,14 @@ fn append_object_value(
     append_answer(values, object.to_value(alloc))
 }
 
-// Appends what a thing returned as its value. A caller says what the thing means.
+// Appends what an argument returned as its value. A caller says which value the argument has.
 fn append_answer(
     values: &mut Vec<Value>,
     answer: Result<Value, ToValueError>,
 ) -> Result<(), ToParamsError>
     ensures made { (meaning : Meaning) →
         IsAnswer (λ value. value) too_long_duration meaning (MeansBytes meaning) answer →
-        IsAnswer (λ _. values.new.items) maker_refusal
+        IsAnswer (λ _. values.new.items) to_params_refusal
         (with_value (Ok values.old.items) meaning) ⊤ result }
     ensures value { IfErr result (λ error.
         error ≢ ToParamsError.Value (to_value.Memory alloc_error)) }

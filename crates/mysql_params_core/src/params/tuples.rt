@@ -1,9 +1,9 @@
-//! Tuples of things that have values make positional parameters.
+//! Tuples of arguments that have values make positional parameters.
 ghost use Rattle.std.specs.Prelude.{◌≢◌, ◌∷◌, List, [], fold, Ok, IfErr, alloc_error, ⊤};
 ghost use Rattle.mysql_wire_part.specs.Answer.{IsAnswer};
 ghost use Rattle.mysql_value_core.specs.declared.value.convert.ToValueError.TheVariants as to_value;
 ghost use Rattle.mysql_value_core.specs.ValueOf.{Meaning};
-ghost use Rattle.mysql_params_core.specs.Errors.{maker_refusal};
+ghost use Rattle.mysql_params_core.specs.Errors.{to_params_refusal};
 ghost use Rattle.mysql_params_core.specs.Given.{given};
 ghost use Rattle.mysql_params_core.specs.Made.{by_position, list_made, values_made, with_value};
 
@@ -15,69 +15,69 @@ use mysql_values::value::convert::ToValue;
 use std::alloc::Global;
 
 impl<A: ToValue> ToParams for (A,) {
-    ghost made = { λ things. list_made (A.value_of things.0 ∷ []) };
+    ghost made = { λ arguments. list_made (A.value_of arguments.0 ∷ []) };
 
     ghost takes_memory = { λ _. ⊤ };
 
     fn to_params(&self, alloc: Global) -> Result<Params, ToParamsError> {
-        params_by_position(alloc, &row!(&self.0))
+        row_params(alloc, &row!(&self.0))
     }
 }
 
 impl<A: ToValue, B: ToValue> ToParams for (A, B) {
-    ghost made = { λ things. list_made (A.value_of things.0 ∷ B.value_of things.1 ∷ []) };
+    ghost made = { λ arguments. list_made (A.value_of arguments.0 ∷ B.value_of arguments.1 ∷ []) };
 
     ghost takes_memory = { λ _. ⊤ };
 
     fn to_params(&self, alloc: Global) -> Result<Params, ToParamsError> {
-        params_by_position(alloc, &row!(&self.0, &self.1))
+        row_params(alloc, &row!(&self.0, &self.1))
     }
 }
 
 impl<A: ToValue, B: ToValue, C: ToValue> ToParams for (A, B, C) {
-    ghost made = { λ things. list_made (A.value_of things.0 ∷ B.value_of things.1 ∷
-        C.value_of things.2 ∷ []) };
+    ghost made = { λ arguments. list_made (A.value_of arguments.0 ∷ B.value_of arguments.1 ∷
+        C.value_of arguments.2 ∷ []) };
 
     ghost takes_memory = { λ _. ⊤ };
 
     fn to_params(&self, alloc: Global) -> Result<Params, ToParamsError> {
-        params_by_position(alloc, &row!(&self.0, &self.1, &self.2))
+        row_params(alloc, &row!(&self.0, &self.1, &self.2))
     }
 }
 
 impl<A: ToValue, B: ToValue, C: ToValue, D: ToValue> ToParams for (A, B, C, D) {
-    ghost made = { λ things. list_made (A.value_of things.0 ∷ B.value_of things.1 ∷
-        C.value_of things.2 ∷ D.value_of things.3 ∷ []) };
+    ghost made = { λ arguments. list_made (A.value_of arguments.0 ∷ B.value_of arguments.1 ∷
+        C.value_of arguments.2 ∷ D.value_of arguments.3 ∷ []) };
 
     ghost takes_memory = { λ _. ⊤ };
 
     fn to_params(&self, alloc: Global) -> Result<Params, ToParamsError> {
-        params_by_position(alloc, &row!(&self.0, &self.1, &self.2, &self.3))
+        row_params(alloc, &row!(&self.0, &self.1, &self.2, &self.3))
     }
 }
 
 impl<A: ToValue, B: ToValue, C: ToValue, D: ToValue, E: ToValue> ToParams for (A, B, C, D, E) {
-    ghost made = { λ things. list_made (A.value_of things.0 ∷ B.value_of things.1 ∷
-        C.value_of things.2 ∷ D.value_of things.3 ∷
-        E.value_of things.4 ∷ []) };
+    ghost made = { λ arguments. list_made (A.value_of arguments.0 ∷ B.value_of arguments.1 ∷
+        C.value_of arguments.2 ∷ D.value_of arguments.3 ∷
+        E.value_of arguments.4 ∷ []) };
 
     ghost takes_memory = { λ _. ⊤ };
 
     fn to_params(&self, alloc: Global) -> Result<Params, ToParamsError> {
-        params_by_position(alloc, &row!(&self.0, &self.1, &self.2, &self.3, &self.4))
+        row_params(alloc, &row!(&self.0, &self.1, &self.2, &self.3, &self.4))
     }
 }
 
 impl<A: ToValue, B: ToValue, C: ToValue, D: ToValue, E: ToValue, F: ToValue> ToParams
     for (A, B, C, D, E, F) {
-    ghost made = { λ things. list_made (A.value_of things.0 ∷ B.value_of things.1 ∷
-        C.value_of things.2 ∷ D.value_of things.3 ∷
-        E.value_of things.4 ∷ F.value_of things.5 ∷ []) };
+    ghost made = { λ arguments. list_made (A.value_of arguments.0 ∷ B.value_of arguments.1 ∷
+        C.value_of arguments.2 ∷ D.value_of arguments.3 ∷
+        E.value_of arguments.4 ∷ F.value_of arguments.5 ∷ []) };
 
     ghost takes_memory = { λ _. ⊤ };
 
     fn to_params(&self, alloc: Global) -> Result<Params, ToParamsError> {
-        params_by_position(
+        row_params(
             alloc,
             &row!(&self.0, &self.1, &self.2, &self.3, &self.4, &self.5),
         )
@@ -86,15 +86,15 @@ impl<A: ToValue, B: ToValue, C: ToValue, D: ToValue, E: ToValue, F: ToValue> ToP
 
 impl<A: ToValue, B: ToValue, C: ToValue, D: ToValue, E: ToValue, F: ToValue, G: ToValue> ToParams
     for (A, B, C, D, E, F, G) {
-    ghost made = { λ things. list_made (A.value_of things.0 ∷ B.value_of things.1 ∷
-        C.value_of things.2 ∷ D.value_of things.3 ∷
-        E.value_of things.4 ∷ F.value_of things.5 ∷
-        G.value_of things.6 ∷ []) };
+    ghost made = { λ arguments. list_made (A.value_of arguments.0 ∷ B.value_of arguments.1 ∷
+        C.value_of arguments.2 ∷ D.value_of arguments.3 ∷
+        E.value_of arguments.4 ∷ F.value_of arguments.5 ∷
+        G.value_of arguments.6 ∷ []) };
 
     ghost takes_memory = { λ _. ⊤ };
 
     fn to_params(&self, alloc: Global) -> Result<Params, ToParamsError> {
-        params_by_position(
+        row_params(
             alloc,
             &row!(
                 &self.0, &self.1, &self.2, &self.3, &self.4, &self.5, &self.6
@@ -113,15 +113,15 @@ impl<
     G: ToValue,
     H: ToValue,
 > ToParams for (A, B, C, D, E, F, G, H) {
-    ghost made = { λ things. list_made (A.value_of things.0 ∷ B.value_of things.1 ∷
-        C.value_of things.2 ∷ D.value_of things.3 ∷
-        E.value_of things.4 ∷ F.value_of things.5 ∷
-        G.value_of things.6 ∷ H.value_of things.7 ∷ []) };
+    ghost made = { λ arguments. list_made (A.value_of arguments.0 ∷ B.value_of arguments.1 ∷
+        C.value_of arguments.2 ∷ D.value_of arguments.3 ∷
+        E.value_of arguments.4 ∷ F.value_of arguments.5 ∷
+        G.value_of arguments.6 ∷ H.value_of arguments.7 ∷ []) };
 
     ghost takes_memory = { λ _. ⊤ };
 
     fn to_params(&self, alloc: Global) -> Result<Params, ToParamsError> {
-        params_by_position(
+        row_params(
             alloc,
             &row!(
                 &self.0, &self.1, &self.2, &self.3, &self.4, &self.5, &self.6, &self.7
@@ -141,16 +141,16 @@ impl<
     H: ToValue,
     I: ToValue,
 > ToParams for (A, B, C, D, E, F, G, H, I) {
-    ghost made = { λ things. list_made (A.value_of things.0 ∷ B.value_of things.1 ∷
-        C.value_of things.2 ∷ D.value_of things.3 ∷
-        E.value_of things.4 ∷ F.value_of things.5 ∷
-        G.value_of things.6 ∷ H.value_of things.7 ∷
-        I.value_of things.8 ∷ []) };
+    ghost made = { λ arguments. list_made (A.value_of arguments.0 ∷ B.value_of arguments.1 ∷
+        C.value_of arguments.2 ∷ D.value_of arguments.3 ∷
+        E.value_of arguments.4 ∷ F.value_of arguments.5 ∷
+        G.value_of arguments.6 ∷ H.value_of arguments.7 ∷
+        I.value_of arguments.8 ∷ []) };
 
     ghost takes_memory = { λ _. ⊤ };
 
     fn to_params(&self, alloc: Global) -> Result<Params, ToParamsError> {
-        params_by_position(
+        row_params(
             alloc,
             &row!(
                 &self.0, &self.1, &self.2, &self.3, &self.4, &self.5, &self.6, &self.7, &self.8
@@ -171,16 +171,16 @@ impl<
     I: ToValue,
     J: ToValue,
 > ToParams for (A, B, C, D, E, F, G, H, I, J) {
-    ghost made = { λ things. list_made (A.value_of things.0 ∷ B.value_of things.1 ∷
-        C.value_of things.2 ∷ D.value_of things.3 ∷
-        E.value_of things.4 ∷ F.value_of things.5 ∷
-        G.value_of things.6 ∷ H.value_of things.7 ∷
-        I.value_of things.8 ∷ J.value_of things.9 ∷ []) };
+    ghost made = { λ arguments. list_made (A.value_of arguments.0 ∷ B.value_of arguments.1 ∷
+        C.value_of arguments.2 ∷ D.value_of arguments.3 ∷
+        E.value_of arguments.4 ∷ F.value_of arguments.5 ∷
+        G.value_of arguments.6 ∷ H.value_of arguments.7 ∷
+        I.value_of arguments.8 ∷ J.value_of arguments.9 ∷ []) };
 
     ghost takes_memory = { λ _. ⊤ };
 
     fn to_params(&self, alloc: Global) -> Result<Params, ToParamsError> {
-        params_by_position(
+        row_params(
             alloc,
             &row!(
                 &self.0, &self.1, &self.2, &self.3, &self.4, &self.5, &self.6, &self.7, &self.8,
@@ -203,17 +203,17 @@ impl<
     J: ToValue,
     K: ToValue,
 > ToParams for (A, B, C, D, E, F, G, H, I, J, K) {
-    ghost made = { λ things. list_made (A.value_of things.0 ∷ B.value_of things.1 ∷
-        C.value_of things.2 ∷ D.value_of things.3 ∷
-        E.value_of things.4 ∷ F.value_of things.5 ∷
-        G.value_of things.6 ∷ H.value_of things.7 ∷
-        I.value_of things.8 ∷ J.value_of things.9 ∷
-        K.value_of things.10 ∷ []) };
+    ghost made = { λ arguments. list_made (A.value_of arguments.0 ∷ B.value_of arguments.1 ∷
+        C.value_of arguments.2 ∷ D.value_of arguments.3 ∷
+        E.value_of arguments.4 ∷ F.value_of arguments.5 ∷
+        G.value_of arguments.6 ∷ H.value_of arguments.7 ∷
+        I.value_of arguments.8 ∷ J.value_of arguments.9 ∷
+        K.value_of arguments.10 ∷ []) };
 
     ghost takes_memory = { λ _. ⊤ };
 
     fn to_params(&self, alloc: Global) -> Result<Params, ToParamsError> {
-        params_by_position(
+        row_params(
             alloc,
             &row!(
                 &self.0, &self.1, &self.2, &self.3, &self.4, &self.5, &self.6, &self.7, &self.8,
@@ -237,17 +237,17 @@ impl<
     K: ToValue,
     L: ToValue,
 > ToParams for (A, B, C, D, E, F, G, H, I, J, K, L) {
-    ghost made = { λ things. list_made (A.value_of things.0 ∷ B.value_of things.1 ∷
-        C.value_of things.2 ∷ D.value_of things.3 ∷
-        E.value_of things.4 ∷ F.value_of things.5 ∷
-        G.value_of things.6 ∷ H.value_of things.7 ∷
-        I.value_of things.8 ∷ J.value_of things.9 ∷
-        K.value_of things.10 ∷ L.value_of things.11 ∷ []) };
+    ghost made = { λ arguments. list_made (A.value_of arguments.0 ∷ B.value_of arguments.1 ∷
+        C.value_of arguments.2 ∷ D.value_of arguments.3 ∷
+        E.value_of arguments.4 ∷ F.value_of arguments.5 ∷
+        G.value_of arguments.6 ∷ H.value_of arguments.7 ∷
+        I.value_of arguments.8 ∷ J.value_of arguments.9 ∷
+        K.value_of arguments.10 ∷ L.value_of arguments.11 ∷ []) };
 
     ghost takes_memory = { λ _. ⊤ };
 
     fn to_params(&self, alloc: Global) -> Result<Params, ToParamsError> {
-        params_by_position(
+        row_params(
             alloc,
             &row!(
                 &self.0, &self.1, &self.2, &self.3, &self.4, &self.5, &self.6, &self.7, &self.8,
@@ -257,9 +257,9 @@ impl<
     }
 }
 
-// The positional parameters that the things of a row make.
-fn params_by_position<R: AppendValues>(alloc: Global, row: &R) -> Result<Params, ToParamsError>
-    ensures made { IsAnswer given maker_refusal
+// The positional parameters that the arguments of a row make.
+fn row_params<R: AppendValues>(alloc: Global, row: &R) -> Result<Params, ToParamsError>
+    ensures made { IsAnswer given to_params_refusal
         (by_position (values_made (R.appended row.now))) ⊤ result }
     ensures value { IfErr result (λ error.
         error ≢ ToParamsError.Value (to_value.Memory alloc_error)) }
@@ -269,14 +269,14 @@ fn params_by_position<R: AppendValues>(alloc: Global, row: &R) -> Result<Params,
     Ok(Params::Positional(values))
 }
 
-// A row of references to things, whose values go to the end of a list.
+// A row of references to arguments, whose values go to the end of a list.
 trait AppendValues {
-    // the values of the things
+    // the values of the arguments
     ghost appended: { Self → List Meaning };
 
     // Appends the values in order, up to the first refusal.
     fn append(&self, alloc: Global, values: &mut Vec<Value>) -> Result<(), ToParamsError>
-        ensures made { IsAnswer (λ _. values.new.items) maker_refusal
+        ensures made { IsAnswer (λ _. values.new.items) to_params_refusal
             (fold with_value (Ok values.old.items) (appended self.now)) ⊤ result }
         ensures value { IfErr result (λ error.
             error ≢ ToParamsError.Value (to_value.Memory alloc_error)) };
@@ -308,14 +308,14 @@ impl<A: ToValue, B: ToValue, R: AppendValues> AppendValues for (&A, &B, R) {
     }
 }
 
-// Appends the values of two things, one after the other.
+// Appends the values of two arguments, one after the other.
 fn append_two<A: ToValue, B: ToValue>(
     alloc: Global,
     values: &mut Vec<Value>,
     first: &A,
     second: &B,
 ) -> Result<(), ToParamsError>
-    ensures made { IsAnswer (λ _. values.new.items) maker_refusal
+    ensures made { IsAnswer (λ _. values.new.items) to_params_refusal
         (fold with_value (Ok values.old.items)
         (A.value_of first.now ∷ B.value_of second.now ∷ [])) ⊤ result }
     ensures value { IfErr result (λ error.

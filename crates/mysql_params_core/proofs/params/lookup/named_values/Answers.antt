@@ -16,5 +16,5 @@ returns-in-Ok c =
     ∙ ap (λ vs. ok_or vs (missing (missing_name m ns))) (no_values m ns c.in-Some.first c.in-Some.ensures)
     ∙ ap (λ n. Err (missing n))
     (sym (c.in-Ok.ensures ∙ c.as_slice.ensures.value
-    ∙ sym (name_at c.args.names.now c.reported_place-place.result c.index-names-place.result c.reported_place-place.ensures.within c.index-names-place.is)
-    ∙ c.reported_place-place.ensures.reported))
+    ∙ sym (name_at c.args.names.now c.reported_index-index.result c.index-names-index.result c.reported_index-index.ensures.within c.index-names-index.is)
+    ∙ c.reported_index-index.ensures.reported))

@@ -7,4 +7,4 @@ pub returns-clause-made : goal.returns-clause-made
 returns-clause-made g c =
     let is_new : contains_key (value_map c.args.entries.now.entries) c.args.name.now ≡ false =
     sym c.has_name.ensures ∙ c.if-has_name.false in
-    rw is_new (c.insert_new.ensures.made (g.V.ToValue.value_of c.args.thing.now) c.to_value.ensures)
+    rw is_new (c.insert_new.ensures.made (g.V.ToValue.value_of c.args.argument.now) c.to_value.ensures)

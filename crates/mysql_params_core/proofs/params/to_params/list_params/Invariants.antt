@@ -3,6 +3,6 @@ use Rattle.std.specs.Prelude.{Ok}
 use Rattle.mysql_params_core.specs.Made.{values_made}
 use Rattle.mysql_params_core.proofs.params.to_params.list_params.Given as goal
 
-abbrev pub invariant-loop-thing : goal.invariant-loop-thing
-invariant-loop-thing g l =
-    values_made (take l.thing-index (map (g.T.ToValue.value_of) l.things)) ≡ Ok l.values.items
+abbrev pub invariant-loop-argument : goal.invariant-loop-argument
+invariant-loop-argument g l =
+    values_made (take l.argument-index (map (g.T.ToValue.value_of) l.arguments)) ≡ Ok l.values.items
