@@ -15,7 +15,7 @@ use Rattle.mysql_params_core.specs.Referents.{referents}
 use Rattle.mysql_params_core.proofs.MissingLemmas.{list_any-map, no_values, missing_name-then, missing_name-else}
 use Rattle.mysql_params_core.proofs.WalkLemmas.{values_at-from}
 
--- the referents up to a index, and the one at that index
+-- the referents up to an index, and the one at that index
 pub take-referents : {X : Type 0} (rs : List (Bor X)) (i : ℕ) (d : Bor X) → i < length rs →
     take (i + 1) (referents rs) ≡ take i (referents rs) ++ (get_or rs i d).now ∷ []
 take-referents rs i d h =
@@ -40,12 +40,6 @@ found_in m (n ∷ ns) (v ∷ vs) e =
     let later : map (get m) ns ≡ map (λ x. Some x) vs = cc in
     ap (λ o. is_some o && list_all (contains_key m) ns) here ∙ found_in m ns vs later
 
--- a lookup of a list with names, as one equation
-pub lookup-referents : (m : ValueMap) (ns : List (Bor (List ℕ))) → 0 < length ns →
-    lookup (named m) (referents ns) ≡ ok_or (values_at m (referents ns)) (missing (missing_name m (referents ns)))
-lookup-referents m [] h = absurd (omega arith)
-lookup-referents m (n ∷ ns) h = refl
-
 module _ (m : ValueMap) (ns : List (Bor (List ℕ))) (i : ℕ) (d : Bor (List ℕ)) (below : i < length ns) (vs : List (Bor Value)) (found : AreFound m (take i (referents ns)) vs) where
   -- one value more
   pub found_more : (v : Bor Value) (vs' : List (Bor Value)) → get m (get_or ns i d).now ≡ Some v.now →
@@ -66,20 +60,6 @@ module _ (m : ValueMap) (ns : List (Bor (List ℕ))) (i : ℕ) (d : Bor (List �
     ap (contains_key m) (get_or-map (λ x. x.now) ns i d [] below) ∙ ap is_some none,
   )
 
-  -- the refusal that reports it
-  pub refused_as_missing : get m (get_or ns i d).now ≡ None → (name : List ℕ) → name ≡ missing_name m (referents ns) →
-      (refusal : Option LookupRefusal) → (refusal ≡ None) ⊎ (refusal ≡ Some (missing name)) →
-      IsExpectedRefusal (lookup (named m) (referents ns)) ⊤ refusal
-  refused_as_missing none name is_name refusal (inl e) = subst (λ r. IsExpectedRefusal (lookup (named m) (referents ns)) ⊤ r) (sym e) tt
-  refused_as_missing none name is_name refusal (inr e) =
-      let absent = first_absent none in
-      let some : 0 < length ns = omega (arith, below) in
-      let refused : lookup (named m) (referents ns) ≡ Err (missing name) =
-      lookup-referents m ns some
-      ∙ ap (λ o. ok_or o (missing (missing_name m (referents ns)))) (no_values m (referents ns) i absent)
-      ∙ ap (λ n. Err (missing n)) (sym is_name) in
-      subst (λ r. IsExpectedRefusal (lookup (named m) (referents ns)) ⊤ r) (sym e) refused
-
 -- if all names have a value
 pub found_all : (m : ValueMap) (ns : List (Bor (List ℕ))) (vs : List (Bor Value)) (i : ℕ) → length ns ≡ i → 0 < length ns →
     AreFound m (take i (referents ns)) vs →
@@ -89,30 +69,3 @@ found_all m (n ∷ ns) vs i e some found =
     ap (λ o. ok_or o (missing (missing_name m (referents (n ∷ ns)))))
     (values_at-from m (referents (n ∷ ns)) (referents vs)
     (ap (map (get m)) (sym (take_all i (referents (n ∷ ns)) (omega (arith, length-map (n ∷ ns) (λ x. x.now), e)))) ∙ found))
-
--- ---- which name is reported
-
-module _ (m : ValueMap) (ns : List (Bor (List ℕ))) (i : ℕ) (at : IsFirstAbsent m (referents ns) (Some i)) where
-  later_names : (b : Bool) → b ≡ list_any (λ n. contains_key m n.now) (take (length ns - (i + 1)) (drop (i + 1) ns)) →
-      list_any (contains_key m) (drop (suc i) (referents ns)) ≡ b
-  later_names b e =
-      ap (list_any (contains_key m)) (drop-map (λ n. n.now) (suc i) ns)
-      ∙ list_any-map (contains_key m) (λ n. n.now) (drop (suc i) ns)
-      ∙ ap (λ k. list_any (λ n. contains_key m n.now) (drop k ns)) (sym (add-one i))
-      ∙ ap (list_any (λ n. contains_key m n.now)) (sym (take_all _ (drop (i + 1) ns) (omega (arith, length-drop (i + 1) ns))))
-      ∙ sym e
-
-  pub in_list : i < length ns
-  in_list = omega (arith, length-map ns (λ n. n.now), at.0)
-
-  pub reported_first : (b : Bool) (d : Bor (List ℕ)) → b ≡ list_any (λ n. contains_key m n.now) (take (length ns - (i + 1)) (drop (i + 1) ns)) → b ≡ true →
-      (slice_index_or ns i d).now ≡ missing_name m (referents ns)
-  reported_first b d e met =
-      sym (missing_name-then m (referents ns) i at (later_names b e ∙ met) ∙ get_or-map (λ n. n.now) ns i d [] in_list)
-
-  pub reported_last : (b : Bool) (d : Bor (List ℕ)) → b ≡ list_any (λ n. contains_key m n.now) (take (length ns - (i + 1)) (drop (i + 1) ns)) → b ≡ false →
-      (slice_index_or ns (length ns - 1) d).now ≡ missing_name m (referents ns)
-  reported_last b d e unmet =
-      sym (missing_name-else m (referents ns) i at (later_names b e ∙ unmet)
-      ∙ ap (λ k. slice_index_or (referents ns) (k - 1) []) (length-map ns (λ n. n.now))
-      ∙ get_or-map (λ n. n.now) ns (length ns - 1) d [] (omega (arith, in_list)))

@@ -1,17 +1,18 @@
 -- Which name is missing, by the index of the first that is not in the map.
-use Rattle.std.proofs.Common.{◌≡◌, ◌<◌, ◌-◌, ◌+◌, ◌||◌, ℕ, zero, suc, Bool, true, false, not, cond, List, [], ◌∷◌, map, length, take, drop, get_or, refl, sym, ap, ◌∙◌, arith, add-one}
-use Rattle.std.specs.Prelude.{Option, Some, None, unwrap_or, find, slice_index_or, is_some}
+use Rattle.std.proofs.Common.{◌≡◌, ◌⊎◌, inl, inr, subst, ◌<◌, ◌-◌, ◌+◌, ◌||◌, ℕ, zero, suc, Bool, true, false, not, cond, List, [], ◌∷◌, map, length, take, drop, get_or, refl, sym, ap, ◌∙◌, arith, add-one}
+use Rattle.std.specs.Prelude.{Option, Some, None, unwrap_or, find, slice_index_or, is_some, Err, ⊤}
 use Rattle.std.specs.Option.{option_map, option_and_then, ok_or}
 use Rattle.std.specs.Cmp.{first_so, second_so}
 use Rattle.std.specs.Global.{Vec}
 use Rattle.std.specs.List.{list_all, list_any}
 use Rattle.std.specs.FinMap.{contains_key, get}
-use Rattle.std.proofs.lemmas.List.{length-map, drop-map, take_all, length-drop}
+use Rattle.std.proofs.lemmas.List.{get_or-map, length-map, drop-map, take_all, length-drop}
+use Rattle.mysql_wire_part.specs.Answer.{IsExpectedRefusal}
 use Rattle.mysql_value_core.specs.declared.value.Value.{Value}
 use Rattle.mysql_params_core.specs.Names.{names_of, is_prefix, missing_name, first_missing, last_name}
 use Rattle.mysql_params_core.specs.FirstAbsent.{IsFirstAbsent}
 use Rattle.mysql_params_core.specs.Given.{ValueMap, named}
-use Rattle.mysql_params_core.specs.Lookup.{values_at, lookup, missing}
+use Rattle.mysql_params_core.specs.Lookup.{LookupRefusal, values_at, lookup, missing}
 use Rattle.mysql_params_core.proofs.WalkLemmas.{name_at}
 
 module _ {X : Type 0} (p : X → Bool) where
@@ -74,33 +75,59 @@ module _ (m : ValueMap) (ns : List (List ℕ)) (i : ℕ) (at : IsFirstAbsent m n
       ap (λ b. cond b (last_name ns) (first_missing m ns))
       (is_prefix-at (contains_key m) ns i [] at.0 at.1 at.2 ∙ ap not later)
 
--- the same for names as vectors, as the code reads them
-module _ (m : ValueMap) (ns : List (Vec ℕ)) (i : ℕ) (at : IsFirstAbsent m (names_of ns) (Some i)) where
-  later_names : list_any (λ n. contains_key m n.items) (take (length ns - (i + 1)) (drop (i + 1) ns))
-      ≡ list_any (contains_key m) (drop (suc i) (names_of ns))
-  later_names =
-      ap (list_any (λ n. contains_key m n.items)) (take_all _ (drop (i + 1) ns) (omega (arith, length-drop (i + 1) ns)))
-      ∙ ap (λ k. list_any (λ n. contains_key m n.items) (drop k ns)) (add-one i)
-      ∙ sym (list_any-map (contains_key m) (λ n. n.items) (drop (suc i) ns))
-      ∙ ap (list_any (contains_key m)) (sym (drop-map (λ n. n.items) (suc i) ns))
+-- the same for names of any type, as the code reads them
+module _ {T : Type 0} (f : T → List ℕ) (m : ValueMap) (ns : List T) (i : ℕ) (at : IsFirstAbsent m (map f ns) (Some i)) where
+  later_names : (b : Bool) → b ≡ list_any (λ n. contains_key m (f n)) (take (length ns - (i + 1)) (drop (i + 1) ns))
+      → list_any (contains_key m) (drop (suc i) (map f ns)) ≡ b
+  later_names b e =
+      ap (list_any (contains_key m)) (drop-map f (suc i) ns)
+      ∙ list_any-map (contains_key m) f (drop (suc i) ns)
+      ∙ ap (λ k. list_any (λ n. contains_key m (f n)) (drop k ns)) (sym (add-one i))
+      ∙ ap (list_any (λ n. contains_key m (f n))) (sym (take_all _ (drop (i + 1) ns) (omega (arith, length-drop (i + 1) ns))))
+      ∙ sym e
 
   pub in_list : i < length ns
-  in_list = omega (arith, length-map ns (λ n. n.items), at.0)
+  in_list = omega (arith, length-map ns f, at.0)
 
-  pub reported_index-then : (b : Bool)
-      → b ≡ list_any (λ n. contains_key m n.items) (take (length ns - (i + 1)) (drop (i + 1) ns)) → b ≡ true
-      → slice_index_or (names_of ns) i [] ≡ missing_name m (names_of ns)
-  reported_index-then b e met = sym (missing_name-then m (names_of ns) i at (sym later_names ∙ sym e ∙ met))
+  pub reported_first : (b : Bool) (d : T)
+      → b ≡ list_any (λ n. contains_key m (f n)) (take (length ns - (i + 1)) (drop (i + 1) ns)) → b ≡ true
+      → f (slice_index_or ns i d) ≡ missing_name m (map f ns)
+  reported_first b d e met =
+      sym (missing_name-then m (map f ns) i at (later_names b e ∙ met) ∙ get_or-map f ns i d [] in_list)
 
-  pub reported_index-else : (b : Bool)
-      → b ≡ list_any (λ n. contains_key m n.items) (take (length ns - (i + 1)) (drop (i + 1) ns)) → b ≡ false
-      → slice_index_or (names_of ns) (length ns - 1) [] ≡ missing_name m (names_of ns)
-  reported_index-else b e unmet =
-      ap (λ k. slice_index_or (names_of ns) (k - 1) []) (sym (length-map ns (λ n. n.items)))
-      ∙ sym (missing_name-else m (names_of ns) i at (sym later_names ∙ sym e ∙ unmet))
+  pub reported_last : (b : Bool) (d : T)
+      → b ≡ list_any (λ n. contains_key m (f n)) (take (length ns - (i + 1)) (drop (i + 1) ns)) → b ≡ false
+      → f (slice_index_or ns (length ns - 1) d) ≡ missing_name m (map f ns)
+  reported_last b d e unmet =
+      sym (missing_name-else m (map f ns) i at (later_names b e ∙ unmet)
+      ∙ ap (λ k. slice_index_or (map f ns) (k - 1) []) (length-map ns f)
+      ∙ get_or-map f ns (length ns - 1) d [] (omega (arith, in_list)))
 
-  pub first_is_first_missing : (n : Vec ℕ) → n ≡ get_or ns i n → n.items ≡ first_missing m (names_of ns)
-  first_is_first_missing n is = sym (name_at ns i n in_list is) ∙ sym (first_missing-at m (names_of ns) i at)
+-- the first name that is not in the map, as bytes
+pub first_is_first_missing : (m : ValueMap) (ns : List (Vec ℕ)) (i : ℕ) → IsFirstAbsent m (names_of ns) (Some i)
+    → (n : Vec ℕ) → n ≡ get_or ns i n → n.items ≡ first_missing m (names_of ns)
+first_is_first_missing m ns i at n is =
+    sym (name_at ns i n (in_list (λ x. x.items) m ns i at) is) ∙ sym (first_missing-at m (names_of ns) i at)
+
+-- a lookup of a list with names, as one equation
+pub lookup-listed : (m : ValueMap) (ns : List (List ℕ)) → 0 < length ns
+    → lookup (named m) ns ≡ ok_or (values_at m ns) (missing (missing_name m ns))
+lookup-listed m [] h = absurd (omega arith)
+lookup-listed m (n ∷ ns) h = refl
+
+-- the refusal that reports a name that is missing
+pub refused_as_missing : (m : ValueMap) (ns : List (List ℕ)) (i : ℕ) → IsFirstAbsent m ns (Some i)
+    → (name : List ℕ) → name ≡ missing_name m ns
+    → (refusal : Option LookupRefusal) → (refusal ≡ None) ⊎ (refusal ≡ Some (missing name))
+    → IsExpectedRefusal (lookup (named m) ns) ⊤ refusal
+refused_as_missing m ns i at name is_name refusal (inl e) =
+    subst (λ r. IsExpectedRefusal (lookup (named m) ns) ⊤ r) (sym e) tt
+refused_as_missing m ns i at name is_name refusal (inr e) =
+    let refused : lookup (named m) ns ≡ Err (missing name) =
+    lookup-listed m ns (omega (arith, at.0))
+    ∙ ap (λ o. ok_or o (missing (missing_name m ns))) (no_values m ns i at)
+    ∙ ap (λ n. Err (missing n)) (sym is_name) in
+    subst (λ r. IsExpectedRefusal (lookup (named m) ns) ⊤ r) (sym e) refused
 
 -- a lookup of a list with names, as one equation
 pub lookup-named : (m : ValueMap) (ns : List (Vec ℕ)) → 0 < length ns

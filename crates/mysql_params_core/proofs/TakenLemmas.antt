@@ -61,11 +61,11 @@ module _ (had left : List (Vec ℕ × Value)) (indices : List (Vec ℕ × ℕ)) 
       pub index_below : p < length vs
       index_below = stands_at.1
 
-      -- a value at a index is the one that the map had
+      -- a value at an index is the one that the map had
       pub was_placed : (d : Value) → lookup (key_eq n) had ≡ Some (get_or vs p d)
       was_placed d = sym stands_at.2 ∙ slice_get-get_or vs p d index_below
 
-    -- a name that is neither in the map nor has a index was never in it
+    -- a name that is neither in the map nor has an index was never in it
     pub was_nowhere : lookup (key_eq n) left ≡ None → lookup (key_eq n) indices ≡ None → lookup (key_eq n) had ≡ None
     was_nowhere gone no_index = by_index (lookup (key_eq n) indices) no_index (taken n)
       where

@@ -12,7 +12,7 @@ use Rattle.mysql_params_core.specs.Names.{names_of}
 use Rattle.mysql_params_core.specs.Given.{ValueMap}
 use Rattle.mysql_params_core.specs.Lookup.{values_at}
 
--- the names up to a index, and the name at that index
+-- the names up to an index, and the name at that index
 pub take_names : (ns : List (Vec ℕ)) (i : ℕ) (n : Vec ℕ) → i < length ns → n ≡ get_or ns i n
     → take (i + 1) (names_of ns) ≡ take i (names_of ns) ++ n.items ∷ []
 take_names ns i n h e =
@@ -51,7 +51,7 @@ values_at-from m (n ∷ ns) (v ∷ vs) e =
     ap (option_and_then (λ value. option_map (λ rest. value ∷ rest) (values_at m ns))) here
     ∙ ap (option_map (λ rest. v ∷ rest)) (values_at-from m ns vs later)
 
--- the name at a index, as bytes
+-- the name at an index, as bytes
 pub name_at : (ns : List (Vec ℕ)) (i : ℕ) (n : Vec ℕ) → i < length ns → n ≡ get_or ns i n
     → get_or (names_of ns) i [] ≡ n.items
 name_at ns i n h e = get_or-map (λ x. x.items) ns i n [] h ∙ ap (λ x. x.items) (sym e)

@@ -1,17 +1,13 @@
 //! The values of the names of a query, borrowed and not copied.
-ghost use Rattle.std.specs.Prelude.{◌≡◌, ◌⊎◌, ◌<◌, IfOk, IsErrOf, OnErr, None, Some, alloc_error, length, ⊤};
-ghost use Rattle.std.specs.List.{list_any};
-ghost use Rattle.std.specs.FinMap.{contains_key};
+ghost use Rattle.std.specs.Prelude.{◌≡◌, ◌<◌, IfOk, IsErrOf, OnErr, alloc_error, length, ⊤};
 ghost use Rattle.mysql_wire_part.specs.Answer.{IsAnswer};
 ghost use Rattle.mysql_params_core.specs.Errors.{lookup_refusal};
-ghost use Rattle.mysql_params_core.specs.FirstAbsent.{IsFirstAbsent};
 ghost use Rattle.mysql_params_core.specs.Given.{given, value_map, named};
-ghost use Rattle.mysql_params_core.specs.Lookup.{lookup, missing, PlaceValuesTakeMemory};
-ghost use Rattle.mysql_params_core.specs.Names.{missing_name};
+ghost use Rattle.mysql_params_core.specs.Lookup.{lookup, PlaceValuesTakeMemory};
 ghost use Rattle.mysql_params_core.specs.Referents.{referents};
 
-use crate::params::entries::has_name;
-use crate::params::{MissingNamedParameterError, Params, ParamsConfusionError, ParamsError};
+use crate::params::lookup::{missing_params_error, reported_name};
+use crate::params::{Params, ParamsConfusionError, ParamsError};
 use mysql_values::value::Value;
 use std::alloc::{AllocError, Global};
 use std::collections::HashMap;
@@ -36,7 +32,7 @@ pub fn place_values<'p>(
     match params {
         Params::Empty => match names.first() {
             None => Ok(Vec::new(alloc)),
-            Some(name) => Err(missing_error(alloc, name)),
+            Some(name) => Err(missing_params_error(alloc, name)),
         },
         Params::Positional(values) => {
             if names.is_empty() {
@@ -90,43 +86,8 @@ fn named_place_values<'p>(
                 Ok(()) => {}
                 Err(_) => return Err(ParamsError::Memory(AllocError)),
             },
-            None => return Err(missing_error(alloc, reported_name(entries, names, i))),
+            None => return Err(missing_params_error(alloc, reported_name(entries, names, i))),
         }
     }
     Ok(values)
-}
-
-// The name that is reported as missing. `first` is the index of the first name that is not in the
-// map.
-fn reported_name<'n>(
-    entries: &HashMap<Vec<u8>, Value>,
-    names: &[&'n [u8]],
-    first: usize,
-) -> &'n [u8]
-    requires { IsFirstAbsent (value_map entries.now.entries) (referents names.now) (Some first) }
-    ensures { result.now ≡ missing_name (value_map entries.now.entries) (referents names.now) }
-{
-    if has_any(entries, &names[first + 1..]) {
-        names[first]
-    } else {
-        names[names.len() - 1]
-    }
-}
-
-// Whether any of the names is in the map.
-fn has_any(entries: &HashMap<Vec<u8>, Value>, names: &[&[u8]]) -> bool
-    ensures { result ≡ list_any (λ name. contains_key (value_map entries.now.entries) name.now)
-        names.now }
-{
-    names.iter().any(|name| has_name(entries, *name))
-}
-
-// The error of a name that is missing, or out of memory.
-fn missing_error(alloc: Global, name: &[u8]) -> ParamsError
-    ensures { (lookup_refusal result ≡ None) ⊎ (lookup_refusal result ≡ Some (missing name.now)) }
-{
-    match Vec::from_slice(alloc, name) {
-        Ok(name) => ParamsError::Missing(MissingNamedParameterError(name)),
-        Err(error) => ParamsError::Memory(error),
-    }
 }

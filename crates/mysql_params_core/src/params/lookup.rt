@@ -1,17 +1,18 @@
 //! The values of the names of a query.
-ghost use Rattle.std.specs.Prelude.{◌≡◌, ◌<◌, ◌+◌, [], true, length, slice_index_or, Some, IfOk, OnErr, IsErrOf, alloc_error, ⊤};
+ghost use Rattle.std.specs.Prelude.{◌≡◌, ◌⊎◌, ◌<◌, true, length, map, None, Some, IfOk, OnErr, IsErrOf, alloc_error, ⊤};
 ghost use Rattle.std.specs.List.{list_all, list_any};
 ghost use Rattle.std.specs.FinMap.{contains_key};
 ghost use Rattle.mysql_wire_part.specs.Answer.{IsAnswer};
 ghost use Rattle.mysql_params_core.specs.Errors.{lookup_refusal, absent_name};
 ghost use Rattle.mysql_params_core.specs.FirstAbsent.{IsFirstAbsent};
 ghost use Rattle.mysql_params_core.specs.Given.{given, value_map, named};
-ghost use Rattle.mysql_params_core.specs.Lookup.{lookup, positional_of, values_at, LookupTakesMemory, PositionTakesMemory};
+ghost use Rattle.mysql_params_core.specs.Lookup.{lookup, missing, positional_of, values_at, LookupTakesMemory, PositionTakesMemory};
 ghost use Rattle.mysql_params_core.specs.Names.{names_of, listed_names, missing_name};
 
 use crate::params::entries::has_name;
 use crate::params::{
     IntoPositionalError, MissingNamedParameterError, Params, ParamsConfusionError, ParamsError,
+    ToName,
 };
 use mysql_values::value::Value;
 use std::alloc::{AllocError, Global};
@@ -42,10 +43,7 @@ impl Params {
         match self {
             Params::Empty => match names.first() {
                 None => Ok(Vec::new(alloc)),
-                Some(name) => {
-                    let error = missing_error(alloc, name.as_slice()).map_err(ParamsError::Memory)?;
-                    Err(ParamsError::Missing(error))
-                }
+                Some(name) => Err(missing_params_error(alloc, name.as_slice())),
             },
             Params::Positional(values) => {
                 if names.is_empty() {
@@ -97,13 +95,7 @@ fn named_values(
 {
     match first_absent(&entries, names) {
         None => take_values(alloc, entries, names).map_err(ParamsError::Memory),
-        Some(first) => {
-            let index = reported_index(&entries, names, first);
-            match missing_error(alloc, names[index].as_slice()) {
-                Ok(error) => Err(ParamsError::Missing(error)),
-                Err(error) => Err(ParamsError::Memory(error)),
-            }
-        }
+        Some(first) => Err(missing_params_error(alloc, reported_name(&entries, names, first))),
     }
 }
 
@@ -142,27 +134,29 @@ fn first_absent(entries: &HashMap<Vec<u8>, Value>, names: &[Vec<u8>]) -> Option<
     None
 }
 
-// The index of the name that is reported as missing. `first` is that of the first name that is not
-// in the map.
-fn reported_index(entries: &HashMap<Vec<u8>, Value>, names: &[Vec<u8>], first: usize) -> usize
-    requires { IsFirstAbsent (value_map entries.now.entries) (names_of names.now) (Some first) }
-    ensures within { result < length names.now }
-    ensures reported { slice_index_or (names_of names.now) result []
-        ≡ missing_name (value_map entries.now.entries) (names_of names.now) }
+// The name that is reported as missing. `first` is the index of the first name that is not in the
+// map.
+pub(crate) fn reported_name<'n, N: ToName>(
+    entries: &HashMap<Vec<u8>, Value>,
+    names: &'n [N],
+    first: usize,
+) -> &'n [u8]
+    requires { IsFirstAbsent (value_map entries.now.entries) (map N.name names.now) (Some first) }
+    ensures { result.now ≡ missing_name (value_map entries.now.entries) (map N.name names.now) }
 {
     if has_any(entries, &names[first + 1..]) {
-        first
+        names[first].name_bytes()
     } else {
-        names.len() - 1
+        names[names.len() - 1].name_bytes()
     }
 }
 
 // Whether any of the names is in the map.
-fn has_any(entries: &HashMap<Vec<u8>, Value>, names: &[Vec<u8>]) -> bool
-    ensures { result ≡ list_any (λ name. contains_key (value_map entries.now.entries) name.items)
-        names.now }
+fn has_any<N: ToName>(entries: &HashMap<Vec<u8>, Value>, names: &[N]) -> bool
+    ensures { result
+        ≡ list_any (λ name. contains_key (value_map entries.now.entries) (N.name name)) names.now }
 {
-    names.iter().any(|name| has_name(entries, name.as_slice()))
+    names.iter().any(|name| has_name(entries, name.name_bytes()))
 }
 
 // The values of the names, all of which are in the map. The first time that a name stands in the
@@ -197,6 +191,16 @@ fn take_values(
         }
     }
     Ok(values)
+}
+
+// The error of a lookup for a name that is missing, or out of memory.
+pub(crate) fn missing_params_error(alloc: Global, name: &[u8]) -> ParamsError
+    ensures { (lookup_refusal result ≡ None) ⊎ (lookup_refusal result ≡ Some (missing name.now)) }
+{
+    match missing_error(alloc, name) {
+        Ok(error) => ParamsError::Missing(error),
+        Err(error) => ParamsError::Memory(error),
+    }
 }
 
 // The error of a name that is missing.
