@@ -36,10 +36,7 @@ pub fn place_values<'p>(
         },
         Params::Positional(values) => {
             if names.is_empty() {
-                match borrowed_values(alloc, values.as_slice()) {
-                    Ok(values) => Ok(values),
-                    Err(error) => Err(ParamsError::Memory(error)),
-                }
+                borrowed_values(alloc, values.as_slice()).map_err(ParamsError::Memory)
             } else {
                 Err(ParamsError::Confusion(ParamsConfusionError::PositionalParamsForNamedQuery))
             }
@@ -76,10 +73,7 @@ fn named_place_values<'p>(
     ensures { IsAnswer (λ values. referents values.items) lookup_refusal
         (lookup (named (value_map entries.now.entries)) (referents names.now)) ⊤ result }
 {
-    let mut values = match Vec::with_capacity(alloc, names.len()) {
-        Ok(values) => values,
-        Err(error) => return Err(ParamsError::Memory(error)),
-    };
+    let mut values = Vec::with_capacity(alloc, names.len()).map_err(ParamsError::Memory)?;
     for (i, name) in names.iter().enumerate() {
         match entries.get(*name) {
             Some(value) => match values.push(value) {

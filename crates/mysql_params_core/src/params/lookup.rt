@@ -111,10 +111,11 @@ fn named_positional(
         0 < length names.now }
 {
     match first_absent(&entries, names) {
-        None => match take_values(alloc, entries, names) {
-            Ok(values) => Ok(Params::Positional(values)),
-            Err(error) => Err(IntoPositionalError::Memory(error)),
-        },
+        None => {
+            let values =
+                take_values(alloc, entries, names).map_err(IntoPositionalError::Memory)?;
+            Ok(Params::Positional(values))
+        }
         Some(first) => match missing_error(alloc, names[first].as_slice()) {
             Ok(error) => Err(IntoPositionalError::Missing(error)),
             Err(error) => Err(IntoPositionalError::Memory(error)),
