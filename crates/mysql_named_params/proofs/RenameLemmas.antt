@@ -1,6 +1,6 @@
 -- What renaming has done so far.
 use Rattle.std.specs.Prelude.{Bool}
-use Rattle.std.proofs.Common.{◌≡◌, ◌≢◌, ◌⊎◌, inl, inr, ℕ, ◌+◌, ◌≤◌, List, [], ◌∷◌, ◌++◌, length, take, drop, map, All, Some, refl, sym, ap, ◌∙◌, subst, arith, append_assoc, append-nil, drop-drop, take_at, drop_at}
+use Rattle.std.proofs.Common.{◌≡◌, ◌≢◌, ◌⊎◌, inl, inr, ℕ, ◌+◌, ◌≤◌, List, [], ◌∷◌, ◌++◌, length, take, drop, map, All, Some, refl, sym, ap, ◌∙◌, subst, arith, append_assoc, append-nil, take_at, drop_at}
 use Rattle.std.specs.Cow.{cow_slice_items, IsBorrowedSlice}
 use Rattle.std.specs.declared.borrow.CowSlice.{CowSlice}
 use Rattle.std.proofs.lemmas.List.{nil_from_length, take_rest, map-append}
@@ -88,25 +88,24 @@ name_found mode text ts found none p = elim (kind_cases found.kind) [
 
 module _ {Z : Type 0} (mode : Bool) (query rest text : List ℕ) (params : List (CowSlice ℕ Z)) (r : RenamedSoFar mode query rest text params) where
   -- a name: the text before it, a mark, and the bytes after the colon
-  pub renamed_more : (text' run place from_place after : List ℕ) (params' : List (CowSlice ℕ Z)) (name : CowSlice ℕ Z) (found : FoundPlace) →
+  pub renamed_more : (text' run place after : List ℕ) (params' : List (CowSlice ℕ Z)) (name : CowSlice ℕ Z) (found : FoundPlace) →
       OnTokens mode rest (λ us. IsFirstPlace us found) → run ≡ take found.before rest →
-      from_place ≡ drop found.before rest → place ≡ take found.len from_place →
-      after ≡ drop found.len from_place → text' ≡ (text ++ run) ++ question_mark ∷ [] →
+      place ≡ take found.len (drop found.before rest) →
+      after ≡ drop (found.before + found.len) rest → text' ≡ (text ++ run) ++ question_mark ∷ [] →
       params' ≡ params ++ name ∷ [] → cow_slice_items name ≡ slice_from 1 place →
       IsBorrowedSlice name → RenamedSoFar mode query after text' params'
-  renamed_more text' run place from_place after params' name found o run_is from_is place_is after_is text_more params_more name_is name_borrowed =
+  renamed_more text' run place after params' name found o run_is place_is after_is text_more params_more name_is name_borrowed =
       let p = parted mode rest r.left found r.rest_tokens o in
       let is = name_found mode rest r.left found r.no_marks p in
-      let after_rest : drop (found.before + found.len) rest ≡ after = sym (drop-drop found.len found.before rest) ∙ sym (after_is ∙ ap (drop found.len) from_is) in
       let names_left : names r.left ≡ drop 1 (bytes_of p.place) ∷ names p.back = ap names p.tokens_are ∙ names_at_name p.front p.place p.back p.no_place is in
-      let bytes_are : place ≡ bytes_of p.place = place_is ∙ (ap (take found.len) from_is ∙ sym p.place_bytes) in
+      let bytes_are : place ≡ bytes_of p.place = place_is ∙ sym p.place_bytes in
       let item : cow_slice_items name ≡ drop 1 (bytes_of p.place) = name_is ∙ (take_rest place 1 ∙ ap (drop 1) bytes_are) in
       let text_left : text_of (with_marks r.left) ≡ run ++ question_mark ∷ text_of (with_marks p.back) = ap (λ x. text_of (with_marks x)) p.tokens_are ∙ (text-with_marks_at p.front p.place p.back p.no_place is ∙ ap (λ x. x ++ question_mark ∷ text_of (with_marks p.back)) (p.front_text ∙ sym run_is)) in
       record {
         all = r.all;
         tokens = r.tokens;
         left = p.back;
-        rest_tokens = subst (λ x. IsTokens mode x p.back) after_rest p.rest_tokens;
+        rest_tokens = subst (λ x. IsTokens mode x p.back) (sym after_is) p.rest_tokens;
         no_marks = sym (marks_at_name p.front p.place p.back p.no_place is) ∙ (ap marks (sym p.tokens_are) ∙ r.no_marks);
         some = r.some;
         text_is = ap (λ x. x ++ text_of (with_marks p.back)) text_more ∙ (append_assoc (text ++ run) (question_mark ∷ []) _ ∙ (append_assoc text run _ ∙ (ap (λ x. text ++ x) (sym text_left) ∙ r.text_is)));

@@ -235,9 +235,8 @@ fn renamed_query<'a>(
     let (before, mut rest) = query.split_at(survey.start);
     renamed.extend_from_slice(before)?;
     while let Some(found) = first_place(rest, no_backslash_escape) {
-        let (run, from_place) = rest.split_at(found.before);
-        let (place, after) = from_place.split_at(found.len);
-        renamed.extend_from_slice(run)?;
+        let (before_place, place, after) = found.cut(rest);
+        renamed.extend_from_slice(before_place)?;
         renamed.push(b'?')?;
         params.push(CowSlice::Borrowed(&place[1..]))?;
         rest = after;

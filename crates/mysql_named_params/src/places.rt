@@ -1,6 +1,6 @@
 //! The first name or mark of a text, and how many a query has. `mysql_binding` and
 //! `mysql_flat_params` go from place to place by the first; no user needs it.
-ghost use Rattle.std.specs.Prelude.{◌≡◌, ◌+◌, ◌≤◌, ◌<◌, None, length, IfSome};
+ghost use Rattle.std.specs.Prelude.{◌≡◌, ◌+◌, ◌≤◌, ◌<◌, None, length, take, drop, IfSome};
 ghost use Rattle.mysql_named_params.specs.Tokens.{OnTokens};
 ghost use Rattle.mysql_named_params.specs.Places.{names, marks, place_count};
 ghost use Rattle.mysql_named_params.specs.FirstPlace.{IsFirstPlace};
@@ -26,6 +26,20 @@ pub struct FoundPlace {
     pub kind: PlaceKind,
     /// How many bytes it has; those of a name include the colon.
     pub len: usize,
+}
+
+impl FoundPlace {
+    /// The text cut at the place: the bytes before it, its own, and those after it.
+    pub fn cut<'a>(&self, text: &'a [u8]) -> (&'a [u8], &'a [u8], &'a [u8])
+        requires in_range { self.now.before + self.now.len ≤ length text.now }
+        ensures before { result.0.now ≡ take self.now.before text.now }
+        ensures place { result.1.now ≡ take self.now.len (drop self.now.before text.now) }
+        ensures after { result.2.now ≡ drop (self.now.before + self.now.len) text.now }
+    {
+        let (before, from_place) = text.split_at(self.before);
+        let (place, after) = from_place.split_at(self.len);
+        (before, place, after)
+    }
 }
 
 /// The first name or mark of a text. Beside this function only

@@ -9,8 +9,8 @@ loop-found-init c =
 
 pub loop-found-preserved : goal.loop-found-preserved
 loop-found-preserved c =
-    renamed_more _ _ _ _ _ c.loop-found.invariant _ _ _ _ _ _ _ _ c.in-Some.ensures.place c.split_at-in-Some.ensures.front
-    c.split_at-in-Some.ensures.back c.split_at-in-Some-2.ensures.front c.split_at-in-Some-2.ensures.back
+    renamed_more _ _ _ _ _ c.loop-found.invariant _ _ _ _ _ _ _ c.in-Some.ensures.place
+    c.cut.ensures.before c.cut.ensures.place c.cut.ensures.after
     (cc (c.in_ok-push.ensures.items, c.in_ok-extend_from_slice-2.ensures.items)) c.in_ok-push-2.ensures.items refl tt
 
 pub returns : goal.returns
