@@ -6,7 +6,8 @@ use Rattle.mysql_named_params.specs.Bytes.{backquote, hash, dash, slash, colon, 
 use Rattle.mysql_named_params.specs.Tokens.{Token, OnTokens, text_of, Name, Mark}
 use Rattle.mysql_named_params.specs.Places.{place_count}
 use Rattle.mysql_named_params.specs.FirstToken.{kind_of, IsFirstToken}
-use Rattle.mysql_named_params.specs.FirstPlace.{is_always_plain, AreAlwaysPlain, place_kind, IsFirstPlace}
+use Rattle.mysql_named_params.specs.FirstPlace.{place_kind, IsFirstPlace}
+use Rattle.mysql_named_params.specs.PlainBytes.{is_always_plain, AreAlwaysPlain}
 use Rattle.mysql_named_params.specs.declared.places.PlaceKind.{PlaceKind}
 use Rattle.mysql_named_params.specs.declared.places.PlaceKind.TheVariants as found_kind
 use Rattle.mysql_named_params.specs.declared.tokens.TokenKind.{TokenKind}

@@ -35,11 +35,11 @@ cond_none_if false p q p' q' f g e = g e
 pub opens_at_white : (server : Server) (b : ℕ) → is_white_space b ≡ true → b ≢ newline → opens_line server b ≡ true
 opens_at_white server b h ne = rw (h, ne_eqb b newline ne) refl
 
-no_white_sign : (b : ℕ) → is_graphic b ≡ true → is_white_space b ≡ false
-no_white_sign b h = grind (arith, nat_tests)
+graphic_no_white_space : (b : ℕ) → is_graphic b ≡ true → is_white_space b ≡ false
+graphic_no_white_space b h = grind (arith, nat_tests)
 
-opens_at_no_sign : (server : Server) (b : ℕ) → is_graphic b ≡ true → opens_line server b ≡ false
-opens_at_no_sign server b h = rw (h, no_white_sign b h) refl
+graphic_opens_no_line : (server : Server) (b : ℕ) → is_graphic b ≡ true → opens_line server b ≡ false
+graphic_opens_no_line server b h = rw (h, graphic_no_white_space b h) refl
 
 -- ---- strings
 
@@ -134,7 +134,7 @@ dash_on server (b ∷ gap ∷ bs) p n e = rw (opens (cases_Bool (b == dash)) (da
     no_gap true s we se d e p =
         let g : gap ≡ newline = eqb-true gap newline (not-false (gap == newline) e) in
         ap (opens_line server) g ∙ n bs (ap (λ x. x ∷ newline ∷ bs) (sym d) ∙ ap (λ x. b ∷ x ∷ bs) (sym g))
-    no_gap false true we se d e p = opens_at_no_sign server gap se
+    no_gap false true we se d e p = graphic_opens_no_line server gap se
     no_gap false false we se d e p = absurd (true≢false p)
 
     opens : ((b == dash) ≡ true) ⊎ ((b == dash) ≡ false) → opens_dash_comment (b ∷ gap ∷ bs) ≡ false →

@@ -155,11 +155,11 @@ string_ends mode q escaped text i n le ge inv =
     let e : string_len mode q escaped (drop i text) ≡ 0 = rw (drop_all i text le) refl in
     omega arith
 
--- std's test
-pub starts_is : (word text : List ℕ) → starts_with nat_eq text word ≡ begins_with word text
-starts_is [] text = refl
-starts_is (w ∷ ws) [] = refl
-starts_is (w ∷ ws) (b ∷ bs) = ap (λ x. (w == b) && x) (starts_is ws bs)
+-- std's `starts_with` is the definition here
+pub starts_with-begins_with : (word text : List ℕ) → starts_with nat_eq text word ≡ begins_with word text
+starts_with-begins_with [] text = refl
+starts_with-begins_with (w ∷ ws) [] = refl
+starts_with-begins_with (w ∷ ws) (b ∷ bs) = ap (λ x. (w == b) && x) (starts_with-begins_with ws bs)
 
 -- &text[i..]
 abbrev pub slice_from : ℕ → List ℕ → List ℕ
@@ -169,7 +169,7 @@ pub word_stops : (word text : List ℕ) (i n : ℕ) → 0 < length word →
     starts_with nat_eq (slice_from i text) word ≡ true → length word ≤ length (slice_from i text) →
     i + len_up_to word (drop i text) ≡ n → i + length word ≡ n
 word_stops word text i n some here le inv =
-    let e : len_up_to word (drop i text) ≡ length word = stops (drop i text) (sym (starts_is word (drop i text)) ∙ (rw take_rest at here)) (rw take_rest at le) in
+    let e : len_up_to word (drop i text) ≡ length word = stops (drop i text) (sym (starts_with-begins_with word (drop i text)) ∙ (rw take_rest at here)) (rw take_rest at le) in
     omega arith
   where
     stops : (xs : List ℕ) → begins_with word xs ≡ true → length word ≤ length xs →
@@ -181,7 +181,7 @@ pub word_goes_on : (word text : List ℕ) (i n : ℕ) → i < length text →
     starts_with nat_eq (slice_from i text) word ≡ false → i + len_up_to word (drop i text) ≡ n →
     i + 1 + len_up_to word (drop (i + 1) text) ≡ n
 word_goes_on word text i n lt other inv =
-    let h : begins_with word (get_or text i 0 ∷ drop (i + 1) text) ≡ false = ap (begins_with word) (sym (drop_more text i 0 lt)) ∙ (sym (starts_is word (drop i text)) ∙ (rw take_rest at other)) in
+    let h : begins_with word (get_or text i 0 ∷ drop (i + 1) text) ≡ false = ap (begins_with word) (sym (drop_more text i 0 lt)) ∙ (sym (starts_with-begins_with word (drop i text)) ∙ (rw take_rest at other)) in
     let e : len_up_to word (drop i text) ≡ suc (len_up_to word (drop (i + 1) text)) = rw (drop_more text i 0 lt, h) refl in
     omega arith
 

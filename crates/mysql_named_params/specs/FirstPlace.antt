@@ -1,22 +1,10 @@
 -- The first name or mark of a text, as `first_place` finds it; lent to the crates above.
-use Rattle.std.specs.Prelude.{◌≡◌, ◌<◌, ◌≤◌, ℕ, Bool, true, not, ◌||◌, ◌==◌, List, ◌∷◌, ◌++◌, length, slice_index, Option, Some, None}
-use Rattle.mysql_named_params.specs.Bytes.{backquote, hash, dash, slash, colon, question_mark, is_string_quote}
+use Rattle.std.specs.Prelude.{◌≡◌, ℕ, List, ◌∷◌, ◌++◌, length, Option, Some, None}
 use Rattle.mysql_named_params.specs.Tokens.{Token, bytes_of, text_of, Name, Mark}
 use Rattle.mysql_named_params.specs.Places.{place_count}
 use Rattle.mysql_named_params.specs.declared.places.FoundPlace.{FoundPlace}
 use Rattle.mysql_named_params.specs.declared.places.PlaceKind.{PlaceKind}
 use Rattle.mysql_named_params.specs.declared.places.PlaceKind.TheVariants as kind
-
--- a byte with which no token but a plain one begins
-abbrev pub is_always_plain : ℕ → Bool
-is_always_plain b =
-    not (is_string_quote b || b == backquote || b == hash || b == dash || b == slash || b == colon
-    || b == question_mark)
-
--- each byte from the first index up to the second is such a byte
-abbrev pub AreAlwaysPlain : List ℕ → ℕ → ℕ → Type 0
-AreAlwaysPlain text from end =
-    (k : ℕ) → from ≤ k → k < end → is_always_plain (slice_index text k) ≡ true
 
 -- the kind of a place; none of a token that is no place
 abbrev pub place_kind : Token → Option PlaceKind

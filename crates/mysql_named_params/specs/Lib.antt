@@ -6,6 +6,7 @@ pub mod FirstToken
 pub mod TokensOf
 pub mod NextByte
 pub mod FirstPlace
+pub mod PlainBytes
 pub mod Parsed
 pub mod SameParsed
 pub mod NamedParamsErrors

@@ -1,7 +1,7 @@
 //! Runs of bytes with which no token but a plain one begins: the first bytes are passed by a table,
 //! since most runs are short, and longer ones 16 bytes at once.
 ghost use Rattle.std.specs.Prelude.{◌≡◌, ◌+◌, ◌≤◌, length, IsTrue};
-ghost use Rattle.mysql_named_params.specs.FirstPlace.{is_always_plain, AreAlwaysPlain};
+ghost use Rattle.mysql_named_params.specs.PlainBytes.{is_always_plain, AreAlwaysPlain};
 
 use std::simd::prelude::*;
 

@@ -2,7 +2,7 @@ use Rattle.std.proofs.Common.{◌≤◌, refl, arith}
 use Rattle.std.proofs.lemmas.Bool.{eqb-true}
 use Rattle.std.proofs.lemmas.Simd.{zip2_splat, length-chunk}
 use lib.Lanes.{chunk}
-use Rattle.mysql_named_params.specs.FirstPlace.{is_always_plain}
+use Rattle.mysql_named_params.specs.PlainBytes.{is_always_plain}
 use Rattle.mysql_named_params.proofs.LaneLemmas.{joined, all_pass}
 use Rattle.mysql_named_params.proofs.plain_bytes.are_always_plain.Goals as goal
 

@@ -1,5 +1,5 @@
 use Rattle.std.proofs.Common.{◌-◌, ◌≤◌, length}
-use Rattle.mysql_named_params.specs.FirstPlace.{AreAlwaysPlain}
+use Rattle.mysql_named_params.specs.PlainBytes.{AreAlwaysPlain}
 use Rattle.mysql_named_params.proofs.plain_bytes.far_plain_end.Given as goal
 
 abbrev pub invariant-by_lanes : goal.invariant-by_lanes

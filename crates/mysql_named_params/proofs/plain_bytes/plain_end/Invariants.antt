@@ -1,4 +1,4 @@
-use Rattle.mysql_named_params.specs.FirstPlace.{AreAlwaysPlain}
+use Rattle.mysql_named_params.specs.PlainBytes.{AreAlwaysPlain}
 use Rattle.mysql_named_params.proofs.plain_bytes.plain_end.Given as goal
 
 abbrev pub invariant-loop-at : goal.invariant-loop-at
