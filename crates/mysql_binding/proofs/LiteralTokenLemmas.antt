@@ -11,7 +11,7 @@ use Rattle.mysql_sql_text.specs.StringUnits.{AreUnits}
 use Rattle.mysql_sql_text.specs.ReadLiteral.{is_hexadecimal_digit}
 use Rattle.mysql_sql_text.specs.LiteralEnd.{is_letter}
 use Rattle.mysql_sql_text.specs.LiteralShape.{AreDigits, AreHexadecimalPairs, IsClosedString, closed_string, AreClosedStrings, one_string, more_strings, IsQuoted, IsLiteral, null_literal, natural_literal, negative_literal, hexadecimal_literal, quoted_literal}
-use Rattle.mysql_named_params.specs.Bytes.{asterisk, backquote, colon, dash, double_quote, hash, question_mark, single_quote, slash, begins}
+use Rattle.mysql_named_params.specs.Bytes.{asterisk, backquote, colon, dash, double_quote, hash, question_mark, single_quote, slash, begins, bracket, dollar, point}
 use Rattle.mysql_named_params.specs.Tokens.{Token, IsToken, text_of, text_then, AreTokensBefore, QuotedString, Plain}
 use Rattle.mysql_named_params.specs.Tokens.{closed_string as closed_tail}
 use Rattle.mysql_named_params.specs.FirstToken.{opens_dash_comment}
@@ -73,7 +73,7 @@ is_alphanumeric-plain mode b h rest =
 
 alphanumeric_portable : (b : ℕ) → is_alphanumeric b ≡ true → (rest : List ℕ) →
     is_read_alike (Plain b) rest ≡ true
-alphanumeric_portable b h rest = rw (other is_alphanumeric b slash h refl, other is_alphanumeric b dash h refl, other is_alphanumeric b (byte "[") h refl, other is_alphanumeric b (byte "$") h refl, other is_alphanumeric b (byte ".") h refl) refl
+alphanumeric_portable b h rest = rw (other is_alphanumeric b slash h refl, other is_alphanumeric b dash h refl, other is_alphanumeric b bracket h refl, other is_alphanumeric b dollar h refl, other is_alphanumeric b point h refl) refl
 
 alphanumeric_single : (b : ℕ) → is_alphanumeric b ≡ true → (rest : List ℕ) → no_double (Plain b) rest ≡ true
 alphanumeric_single b h rest = rw (other is_alphanumeric b dash h refl) refl

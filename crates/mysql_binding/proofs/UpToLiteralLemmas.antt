@@ -6,7 +6,7 @@ use Rattle.std.specs.Char.{is_ascii_digit}
 use Rattle.std.specs.Str.{byte}
 use Rattle.std.proofs.lemmas.Bool.{eqb-true, not-true, or_cases, or_parts, or_from, and_parts, false_from_ne_true}
 use Rattle.std.proofs.lemmas.Bool.Decides.{nat_tests}
-use Rattle.mysql_named_params.specs.Bytes.{asterisk, colon, dash, newline, question_mark, slash, is_white_space, is_start_byte, begins, plus}
+use Rattle.mysql_named_params.specs.Bytes.{asterisk, colon, dash, newline, question_mark, slash, is_white_space, is_start_byte, begins, plus, bracket, dollar, point}
 use Rattle.mysql_named_params.specs.Tokens.{Token, QuotedString, QuotedIdentifier, HashComment, DashComment, BlockComment, Name, Mark, Plain}
 use Rattle.mysql_named_params.specs.Server.{is_graphic, is_tag_byte, begins_place, begins_tag, begins_dashes, begins_exponent_dashes, begins_fraction, begins_own}
 use Rattle.mysql_named_params.specs.Portable.{may_open_line, differs_at, is_read_alike}
@@ -106,11 +106,11 @@ place_move b {x = x} {y = y} a e =
 tag_move : {x y : List ℕ} → SameUpToLiteral x y → begins_tag x ≡ false → begins_tag y ≡ false
 tag_move at_end e = e
 tag_move (same {b = b} {x = x} {y = y} a) e =
-    let p = or_parts (b == byte "$") (begins_place (b ∷ x) || (is_tag_byte b && begins_tag x)) e in
+    let p = or_parts (b == dollar) (begins_place (b ∷ x) || (is_tag_byte b && begins_tag x)) e in
     let q = or_parts (begins_place (b ∷ x)) (is_tag_byte b && begins_tag x) p.1 in
     or_from _ _ p.0 (or_from _ _ (place_move b a q.0) (false_if _ _ (λ t. tag_move a (second_false _ _ q.1 t))))
 tag_move (at_place {b = b} {x = x} p l) e =
-    let q = or_parts (begins_place (b ∷ x)) (is_tag_byte b && begins_tag x) ((or_parts (b == byte "$") (begins_place (b ∷ x) || (is_tag_byte b && begins_tag x)) e).1) in
+    let q = or_parts (begins_place (b ∷ x)) (is_tag_byte b && begins_tag x) ((or_parts (b == dollar) (begins_place (b ∷ x) || (is_tag_byte b && begins_tag x)) e).1) in
     absurd (true≢false (sym p ∙ q.0))
 
 -- dashes in place of an exponent, by how many of their three bytes stand before the literal
@@ -182,8 +182,8 @@ plain_move : (b : ℕ) {x y : List ℕ} → SameUpToLiteral x y → differs_at b
 plain_move b {x = x} {y = y} a p =
     let p1 = or_parts (b == slash && begins (λ c. c == asterisk) x) ((b == dash && may_open_line x) || begins_own b x) p in
     let p2 = or_parts (b == dash && may_open_line x) (begins_own b x) p1.1 in
-    let p3 = or_parts (b == byte "[") ((b == byte "$" && begins_tag x) || (b == byte "." && begins_fraction x)) p2.1 in
-    let p4 = or_parts (b == byte "$" && begins_tag x) (b == byte "." && begins_fraction x) p3.1 in
+    let p3 = or_parts (b == bracket) ((b == dollar && begins_tag x) || (b == point && begins_fraction x)) p2.1 in
+    let p4 = or_parts (b == dollar && begins_tag x) (b == point && begins_fraction x) p3.1 in
     or_from _ _ (false_if _ _ (λ t. star_move a (second_false _ _ p1.0 t)))
     (or_from _ _ (false_if _ _ (λ t. line_move a (second_false _ _ p2.0 t)))
     (or_from _ _ p3.0

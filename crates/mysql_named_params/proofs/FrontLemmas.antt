@@ -2,9 +2,8 @@
 use Rattle.std.specs.Prelude.{Bool}
 use Rattle.std.proofs.Common.{◌≡◌, ◌⊎◌, ℕ, suc, ◌-◌, true, false, cond, not, ◌==◌, ◌&&◌, ◌||◌, List, [], ◌∷◌, ◌++◌, length, take, Option, Some, None, refl, sym, ap, ◌∙◌, subst, inl, inr, arith, true≢false, take_at}
 use Rattle.std.specs.Char.{is_ascii_digit}
-use Rattle.std.specs.Str.{byte}
 use Rattle.std.proofs.lemmas.Bool.{cases_Bool, or_cases, eqb-true}
-use Rattle.mysql_named_params.specs.Bytes.{asterisk, dash, double_quote, single_quote, slash, is_string_quote, is_extension, begins, IsUpTo}
+use Rattle.mysql_named_params.specs.Bytes.{asterisk, dash, double_quote, single_quote, slash, is_string_quote, is_extension, begins, IsUpTo, bracket, dollar, point}
 use Rattle.mysql_named_params.specs.Tokens.{Token, bytes_of, IsToken, QuotedString, QuotedIdentifier, HashComment, DashComment, BlockComment, Name, Mark, Plain}
 use Rattle.mysql_named_params.specs.Server.{begins_special, begins_tag, begins_fraction}
 use Rattle.mysql_named_params.specs.Portable.{stands_inside, may_open_line, begins_exponent, is_read_alike, joins_number}
@@ -119,10 +118,10 @@ abbrev byte_construct : ℕ → List ℕ → Option Construct
 byte_construct b bs =
     cond (b == slash) (block_construct bs)
     (cond (b == dash && may_open_line bs) (Some construct.Dashes)
-    (cond (b == byte "[") (Some construct.Bracket)
-    (cond (b == byte "$" && begins_tag bs) (Some construct.DollarQuote)
-    (cond (b == byte "." && begins_fraction bs) (Some construct.DashesAfterExponent)
-    (cond ((is_ascii_digit b || b == byte ".") && begins_exponent bs) (Some construct.PlaceAfterExponent) None)))))
+    (cond (b == bracket) (Some construct.Bracket)
+    (cond (b == dollar && begins_tag bs) (Some construct.DollarQuote)
+    (cond (b == point && begins_fraction bs) (Some construct.DashesAfterExponent)
+    (cond ((is_ascii_digit b || b == point) && begins_exponent bs) (Some construct.PlaceAfterExponent) None)))))
 
 byte_front : (b : ℕ) (rest : List ℕ) → (b ≡ slash → block_comment rest ≡ None) →
     byte_construct b rest ≡ unportable_at (Plain b) rest
@@ -137,28 +136,28 @@ byte_front b rest n = at_slash (cases_Bool (b == slash))
     last true = refl
     last false = refl
 
-    at_point : (b == slash) ≡ false → (b == dash) ≡ false → (b == byte "[") ≡ false → (b == byte "$") ≡ false →
-        ((b == byte ".") ≡ true) ⊎ ((b == byte ".") ≡ false) →
+    at_point : (b == slash) ≡ false → (b == dash) ≡ false → (b == bracket) ≡ false → (b == dollar) ≡ false →
+        ((b == point) ≡ true) ⊎ ((b == point) ≡ false) →
         byte_construct b rest ≡ unportable_at (Plain b) rest
-    at_point f1 f2 f3 f4 (inl e) = at_byte (byte ".") e (point_ways (begins_fraction rest) (begins_exponent rest) construct.DashesAfterExponent construct.PlaceAfterExponent)
+    at_point f1 f2 f3 f4 (inl e) = at_byte point e (point_ways (begins_fraction rest) (begins_exponent rest) construct.DashesAfterExponent construct.PlaceAfterExponent)
     at_point f1 f2 f3 f4 (inr f5) = rw (f1, f2, f3, f4, f5) (last ((is_ascii_digit b || false) && begins_exponent rest))
 
-    at_dollar : (b == slash) ≡ false → (b == dash) ≡ false → (b == byte "[") ≡ false →
-        ((b == byte "$") ≡ true) ⊎ ((b == byte "$") ≡ false) →
+    at_dollar : (b == slash) ≡ false → (b == dash) ≡ false → (b == bracket) ≡ false →
+        ((b == dollar) ≡ true) ⊎ ((b == dollar) ≡ false) →
         byte_construct b rest ≡ unportable_at (Plain b) rest
-    at_dollar f1 f2 f3 (inl e) = at_byte (byte "$") e (one_way (begins_tag rest) construct.DollarQuote)
-    at_dollar f1 f2 f3 (inr f4) = at_point f1 f2 f3 f4 (cases_Bool (b == byte "."))
+    at_dollar f1 f2 f3 (inl e) = at_byte dollar e (one_way (begins_tag rest) construct.DollarQuote)
+    at_dollar f1 f2 f3 (inr f4) = at_point f1 f2 f3 f4 (cases_Bool (b == point))
 
     at_bracket : (b == slash) ≡ false → (b == dash) ≡ false →
-        ((b == byte "[") ≡ true) ⊎ ((b == byte "[") ≡ false) →
+        ((b == bracket) ≡ true) ⊎ ((b == bracket) ≡ false) →
         byte_construct b rest ≡ unportable_at (Plain b) rest
-    at_bracket f1 f2 (inl e) = at_byte (byte "[") e refl
-    at_bracket f1 f2 (inr f3) = at_dollar f1 f2 f3 (cases_Bool (b == byte "$"))
+    at_bracket f1 f2 (inl e) = at_byte bracket e refl
+    at_bracket f1 f2 (inr f3) = at_dollar f1 f2 f3 (cases_Bool (b == dollar))
 
     at_dash : (b == slash) ≡ false → ((b == dash) ≡ true) ⊎ ((b == dash) ≡ false) →
         byte_construct b rest ≡ unportable_at (Plain b) rest
     at_dash f1 (inl e) = at_byte dash e (one_way (may_open_line rest) construct.Dashes)
-    at_dash f1 (inr f2) = at_bracket f1 f2 (cases_Bool (b == byte "["))
+    at_dash f1 (inr f2) = at_bracket f1 f2 (cases_Bool (b == bracket))
 
     at_slash : ((b == slash) ≡ true) ⊎ ((b == slash) ≡ false) →
         byte_construct b rest ≡ unportable_at (Plain b) rest

@@ -4,7 +4,7 @@ use Rattle.std.proofs.Common.{◌≡◌, ◌≢◌, ℕ, true, false, ◌==◌, 
 use Rattle.std.specs.Char.{is_ascii_digit}
 use Rattle.std.specs.Str.{byte}
 use Rattle.std.proofs.lemmas.Bool.{and_parts, and_right, or_cases, false_from_ne_true, eqb-true}
-use Rattle.mysql_named_params.specs.Bytes.{colon, dash, plus, question_mark, is_start_byte, begins}
+use Rattle.mysql_named_params.specs.Bytes.{colon, dash, plus, question_mark, is_start_byte, begins, point}
 use Rattle.mysql_named_params.specs.Tokens.{Token, bytes_of, text_of, IsToken, AreTokensBefore, Name, Mark, Plain, QuotedString, QuotedIdentifier, HashComment, DashComment, BlockComment}
 use Rattle.mysql_named_params.specs.Places.{place_count}
 use Rattle.mysql_named_params.specs.Server.{begins_place}
@@ -93,7 +93,7 @@ placeless_join_no_number mode [] h none = tt
 placeless_join_no_number mode (Name name ∷ ts) h none = absurd (omega arith)
 placeless_join_no_number mode (Mark ∷ ts) h none = absurd (omega arith)
 placeless_join_no_number mode (Plain b ∷ ts) h none =
-    (and_right (is_ascii_digit b || b == byte ".") _ (no_exponent mode ts h.1 none), placeless_join_no_number mode ts h.1 none)
+    (and_right (is_ascii_digit b || b == point) _ (no_exponent mode ts h.1 none), placeless_join_no_number mode ts h.1 none)
 placeless_join_no_number mode (QuotedString quote tail ∷ ts) h none = (refl, placeless_join_no_number mode ts h.1 none)
 placeless_join_no_number mode (QuotedIdentifier tail ∷ ts) h none = (refl, placeless_join_no_number mode ts h.1 none)
 placeless_join_no_number mode (HashComment tail ∷ ts) h none = (refl, placeless_join_no_number mode ts h.1 none)

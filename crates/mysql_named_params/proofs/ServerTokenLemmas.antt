@@ -1,10 +1,9 @@
 -- The token with which a text begins on a server, computed; no query has two token lists there.
 use Rattle.std.specs.Prelude.{Bool}
 use Rattle.std.proofs.Common.{◌≡◌, ◌⊎◌, ℕ, suc, true, false, cond, ◌==◌, ◌&&◌, ◌||◌, List, [], ◌∷◌, ◌++◌, length, take, Option, Some, None, refl, sym, ap, ◌∙◌, subst, inl, inr, arith, eq-eqb, ne_eqb}
-use Rattle.std.specs.Str.{byte}
 use Rattle.std.proofs.lemmas.List.{append_cancel_left}
 use Rattle.std.proofs.lemmas.Bool.{cases_Bool, and_parts, eqb-true, eqb-false}
-use Rattle.mysql_named_params.specs.Bytes.{asterisk, backquote, colon, dash, hash, newline, question_mark, slash, is_string_quote, IsUpTo}
+use Rattle.mysql_named_params.specs.Bytes.{asterisk, backquote, colon, dash, hash, newline, question_mark, slash, is_string_quote, IsUpTo, bracket, dollar, point}
 use Rattle.mysql_named_params.specs.Tokens.{Token, bytes_of, text_of, QuotedString, QuotedIdentifier, HashComment, DashComment, BlockComment, Name, Mark, Plain}
 use Rattle.mysql_named_params.specs.TokensOf.{len_up_to, string_len, name_at}
 use Rattle.mysql_named_params.proofs.TokenEnds.{take_front, up_to_is, string_len_is, name_len_is}
@@ -75,20 +74,20 @@ line_tail_is gap tail rest h = go (cases_Bool (gap == newline)) (up_to_is (newli
         rw e (take_front tail rest _ (omega arith))
 
 -- a byte that may begin a text of a server's own is none that begins a token of the grammar
-pub own_is : (b : ℕ) (bs : List ℕ) → begins_own b bs ≡ true → (b ≡ byte "[") ⊎ ((b ≡ byte "$") ⊎ (b ≡ byte "."))
-own_is b bs h = go (b == byte "[") (b == byte "$" && begins_tag bs) refl refl h
+pub own_is : (b : ℕ) (bs : List ℕ) → begins_own b bs ≡ true → (b ≡ bracket) ⊎ ((b ≡ dollar) ⊎ (b ≡ point))
+own_is b bs h = go (b == bracket) (b == dollar && begins_tag bs) refl refl h
   where
-    go : (c d : Bool) → (b == byte "[") ≡ c → (b == byte "$" && begins_tag bs) ≡ d →
-        (c || (d || (b == byte "." && begins_fraction bs))) ≡ true → (b ≡ byte "[") ⊎ ((b ≡ byte "$") ⊎ (b ≡ byte "."))
-    go true d e f h = inl (eqb-true b (byte "[") e)
-    go false true e f h = inr (inl (eqb-true b (byte "$") ((and_parts (b == byte "$") _ f).0)))
-    go false false e f h = inr (inr (eqb-true b (byte ".") ((and_parts (b == byte ".") _ h).0)))
+    go : (c d : Bool) → (b == bracket) ≡ c → (b == dollar && begins_tag bs) ≡ d →
+        (c || (d || (b == point && begins_fraction bs))) ≡ true → (b ≡ bracket) ⊎ ((b ≡ dollar) ⊎ (b ≡ point))
+    go true d e f h = inl (eqb-true b bracket e)
+    go false true e f h = inr (inl (eqb-true b dollar ((and_parts (b == dollar) _ f).0)))
+    go false false e f h = inr (inr (eqb-true b point ((and_parts (b == point) _ h).0)))
 
 pub own_at : (server : Server) (mode : Bool) (b : ℕ) (bs : List ℕ) → begins_own b bs ≡ true →
     not_plain_on server mode (b ∷ bs) ≡ own_text b bs (server.quotes b bs)
 own_at server mode b bs h = step (own_is b bs h) ∙ rw h refl
   where
-    step : (b ≡ byte "[") ⊎ ((b ≡ byte "$") ⊎ (b ≡ byte ".")) → not_plain_on server mode (b ∷ bs) ≡ own_on server b bs
+    step : (b ≡ bracket) ⊎ ((b ≡ dollar) ⊎ (b ≡ point)) → not_plain_on server mode (b ∷ bs) ≡ own_on server b bs
     step (inl e) = subst (λ x. not_plain_on server mode (x ∷ bs) ≡ own_on server x bs) (sym e) refl
     step (inr (inl e)) = subst (λ x. not_plain_on server mode (x ∷ bs) ≡ own_on server x bs) (sym e) refl
     step (inr (inr e)) = subst (λ x. not_plain_on server mode (x ∷ bs) ≡ own_on server x bs) (sym e) refl

@@ -1,10 +1,9 @@
 -- No weaker condition than `AreReadAlike` serves: what every server reads alike is portable.
 use Rattle.std.specs.Prelude.{Bool}
 use Rattle.std.proofs.Common.{◌≡◌, ◌⊎◌, ℕ, true, false, cond, not, ◌==◌, ◌&&◌, ◌||◌, List, [], ◌∷◌, ◌++◌, take, Option, Some, None, refl, sym, ap, ◌∙◌, subst, inl, inr, true≢false, ne_eqb}
-use Rattle.std.specs.Str.{byte}
 use Rattle.std.proofs.lemmas.Bool.{cases_Bool, or_from, or_right, false_from_ne_true, eqb-true}
 use Rattle.mysql_sql_text.specs.StringUnits.{AreUnits, no_units, byte_unit, escape_unit}
-use Rattle.mysql_named_params.specs.Bytes.{asterisk, dash, double_quote, exclamation_mark, newline, slash, is_white_space, is_string_quote, begins}
+use Rattle.mysql_named_params.specs.Bytes.{asterisk, dash, double_quote, exclamation_mark, newline, slash, is_white_space, is_string_quote, begins, bracket, dollar, point}
 use Rattle.mysql_named_params.specs.Tokens.{Token, text_of, IsToken, IsTokens, AreTokensBefore, IsStringTail, closed_string, open_string, open_in_escape, QuotedString, QuotedIdentifier, HashComment, DashComment, BlockComment, Name, Mark, Plain}
 use Rattle.mysql_named_params.specs.Server.{Server, is_graphic, begins_special, begins_own, comment, comment_of, block_on, reads_in, IsBlockTail, usual_block, own_block, IsQuotedTail, usual_quotes, own_quotes, IsTokenOn, AreTokensOn, IsReadOn}
 use Rattle.mysql_named_params.specs.Portable.{stands_inside, may_open_line, differs_at, is_read_alike, AreReadAlikeBefore, IsReadAs, read_all, read_same, read_empty_comment}
@@ -51,7 +50,7 @@ string_alike mode q tail rest h = go (q == double_quote) h
 pub no_own_quote : (q : ℕ) (bs : List ℕ) → is_string_quote q ≡ true → begins_own q bs ≡ true → ⊥
 no_own_quote q bs h o = go (own_is q bs o)
   where
-    go : (q ≡ byte "[") ⊎ ((q ≡ byte "$") ⊎ (q ≡ byte ".")) → ⊥
+    go : (q ≡ bracket) ⊎ ((q ≡ dollar) ⊎ (q ≡ point)) → ⊥
     go (inl e) = true≢false (sym h ∙ ap is_string_quote e)
     go (inr (inl e)) = true≢false (sym h ∙ ap is_string_quote e)
     go (inr (inr e)) = true≢false (sym h ∙ ap is_string_quote e)

@@ -1,4 +1,5 @@
 -- The bytes and classes of bytes that the grammar of queries names, and the first place of a word.
+-- Signs and white space have names here; letters and digits are written `byte "e"`.
 use Rattle.std.specs.Prelude.{◌≡◌, ◌≢◌, ℕ, Bool, false, ◌==◌, ◌&&◌, ◌||◌, nat_le, List, [], ◌∷◌, ◌++◌}
 use Rattle.std.specs.Char.{is_ascii_digit}
 use Rattle.std.specs.Str.{byte}
@@ -35,6 +36,10 @@ double_quote = 34
 abbrev pub hash : ℕ
 hash = 35
 
+-- b'$'
+abbrev pub dollar : ℕ
+dollar = 36
+
 -- b'\''
 abbrev pub single_quote : ℕ
 single_quote = 39
@@ -51,6 +56,10 @@ plus = 43
 abbrev pub dash : ℕ
 dash = 45
 
+-- b'.'
+abbrev pub point : ℕ
+point = 46
+
 -- b'/'
 abbrev pub slash : ℕ
 slash = 47
@@ -62,6 +71,10 @@ colon = 58
 -- b'?'
 abbrev pub question_mark : ℕ
 question_mark = 63
+
+-- b'['
+abbrev pub bracket : ℕ
+bracket = 91
 
 -- b'_'
 abbrev pub underscore : ℕ
@@ -104,11 +117,11 @@ begins test (b ∷ bs) = test b
 abbrev pub Lacks : List ℕ → List ℕ → Type 0
 Lacks word bytes = (front back : List ℕ) → front ++ (word ++ back) ≢ bytes
 
--- where the word stands in the bytes, nothing stands after it
+-- the word stands only at the very end of the bytes, if at all
 abbrev pub HoldsOnlyAtEnd : List ℕ → List ℕ → Type 0
 HoldsOnlyAtEnd word bytes = (front back : List ℕ) → front ++ (word ++ back) ≡ bytes → back ≡ []
 
--- the bytes go up to and with the first place of the word, or to the end of a text without it
+-- the bytes go up to and with the first place of the word, or to the end if it has none
 pub data IsUpTo (word bytes rest : List ℕ) : Type 0 where
   up_to_word : (body : List ℕ) →
       body ++ word ≡ bytes → HoldsOnlyAtEnd word bytes → IsUpTo word bytes rest

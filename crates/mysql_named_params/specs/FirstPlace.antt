@@ -6,7 +6,7 @@ use Rattle.mysql_named_params.specs.declared.places.FoundPlace.{FoundPlace}
 use Rattle.mysql_named_params.specs.declared.places.PlaceKind.{PlaceKind}
 use Rattle.mysql_named_params.specs.declared.places.PlaceKind.TheVariants as kind
 
--- the kind of a place; none of a token that is no place
+-- the kind of a place; none for a token that is no place
 abbrev pub place_kind : Token → Option PlaceKind
 place_kind (Name name) = Some kind.Name
 place_kind Mark = Some kind.Mark
@@ -26,7 +26,7 @@ pub record IsFirstPlace (ts : List Token) (found : FoundPlace) : Type 0 where
   pub kind_is : place_kind place ≡ Some found.kind
   pub len_is : length (bytes_of place) ≡ found.len
 
--- no place stands before this index, at which one of the tokens begins, or the end
+-- no place stands before this index, which is the end or the index of a token
 pub record BeginPlacesFrom (ts : List Token) (start : ℕ) : Type 0 where
   -- the tokens before it, and those from it on
   pub front : List Token

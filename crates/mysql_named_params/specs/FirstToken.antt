@@ -6,7 +6,7 @@ use Rattle.mysql_named_params.specs.Tokens.{Token, bytes_of, IsToken, Name, Mark
 use Rattle.mysql_named_params.specs.declared.tokens.TokenKind.{TokenKind}
 use Rattle.mysql_named_params.specs.declared.tokens.TokenKind.TheVariants as kind
 
--- what a query's readers want to know of a token: a name, a mark, or neither
+-- the kind of a token: a name, a mark, or neither
 abbrev pub kind_of : Token → TokenKind
 kind_of (Name name) = kind.Name
 kind_of Mark = kind.Mark
@@ -23,7 +23,7 @@ abbrev pub opens_block_comment : List ℕ → Bool
 opens_block_comment [] = false
 opens_block_comment (b ∷ bs) = b == asterisk && not (begins is_extension bs)
 
--- name bytes, before a rest that begins with none
+-- name bytes, and the rest begins with no name byte
 pub record IsNameFront (front rest : List ℕ) : Type 0 where
   pub each : IsTrue (list_all is_name_byte front)
   pub ends : IsFalse (begins is_name_byte rest)

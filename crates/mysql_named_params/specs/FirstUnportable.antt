@@ -1,7 +1,6 @@
--- The first construct for which a query isn't portable: its kind, and where it stands.
+-- The first construct for which a query isn't portable: its kind and its position.
 use Rattle.std.specs.Prelude.{◌+◌, ◌==◌, ◌&&◌, not, ℕ, List, [], ◌∷◌, if◌then◌else◌, length, drop, Option, Some, None}
-use Rattle.std.specs.Str.{byte}
-use Rattle.mysql_named_params.specs.Bytes.{dash, exclamation_mark, plus, slash, begins}
+use Rattle.mysql_named_params.specs.Bytes.{dash, exclamation_mark, plus, slash, begins, bracket, dollar, point}
 use Rattle.mysql_named_params.specs.Tokens.{Token, bytes_of, text_of, QuotedString, BlockComment, Plain}
 use Rattle.mysql_named_params.specs.Server.{begins_fraction}
 use Rattle.mysql_named_params.specs.Portable.{is_read_alike, joins_number}
@@ -9,32 +8,32 @@ use Rattle.mysql_named_params.specs.declared.portable.Construct.{Construct}
 use Rattle.mysql_named_params.specs.declared.portable.Construct.TheVariants as construct
 use Rattle.mysql_named_params.specs.declared.portable.Unportable.{Unportable}
 
--- which construct `/*` and a special text is
+-- the construct that `/*` and a special text are
 abbrev pub special_construct : List ℕ → Construct
 special_construct text =
     if begins (λ b. b == exclamation_mark) text then construct.ExecutableComment
     else if begins (λ b. b == plus) text then construct.Hint
     else construct.MariaDbComment
 
--- which construct begins with this plain byte, before this text
+-- the construct that begins with this plain byte, before this text
 abbrev pub plain_construct : ℕ → List ℕ → Construct
 plain_construct b rest =
     if b == slash then special_construct (drop 1 rest)
     else if b == dash then construct.Dashes
-    else if b == byte "[" then construct.Bracket
-    else if b == byte "$" then construct.DollarQuote
-    else if b == byte "." && begins_fraction rest then construct.DashesAfterExponent
+    else if b == bracket then construct.Bracket
+    else if b == dollar then construct.DollarQuote
+    else if b == point && begins_fraction rest then construct.DashesAfterExponent
     else construct.PlaceAfterExponent
 
--- which construct it is, where this token before this text isn't portable or joins a number, as no
--- token but one of the first three can
+-- the construct that begins with this token before this text, which is not portable or joins a
+-- number; only strings, block comments and plain bytes can be
 abbrev pub construct_at : Token → List ℕ → Construct
 construct_at (QuotedString quote tail) rest = construct.EscapedQuote
 construct_at (BlockComment tail) rest = special_construct tail
 construct_at (Plain b) rest = plain_construct b rest
 construct_at t rest = construct.PlaceAfterExponent
 
--- kind and position of the first construct, where the tokens begin at this position
+-- kind and position of the first construct, if the tokens begin at this position
 abbrev pub first_unportable_from : ℕ → List Token → Option Unportable
 first_unportable_from at [] = None
 first_unportable_from at (t ∷ ts) =

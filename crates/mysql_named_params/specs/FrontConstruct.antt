@@ -2,8 +2,7 @@
 -- functions of `portable.rt`; no public contract cites it.
 use Rattle.std.specs.Prelude.{◌-◌, ◌==◌, ◌&&◌, ◌||◌, ℕ, List, [], ◌∷◌, if◌then◌else◌, take, Option, Some, None}
 use Rattle.std.specs.Char.{is_ascii_digit}
-use Rattle.std.specs.Str.{byte}
-use Rattle.mysql_named_params.specs.Bytes.{asterisk, dash, double_quote, slash}
+use Rattle.mysql_named_params.specs.Bytes.{asterisk, dash, double_quote, slash, bracket, dollar, point}
 use Rattle.mysql_named_params.specs.Server.{begins_special, begins_tag, begins_fraction}
 use Rattle.mysql_named_params.specs.Portable.{stands_inside, may_open_line, begins_exponent}
 use Rattle.mysql_named_params.specs.FirstUnportable.{special_construct}
@@ -24,9 +23,9 @@ front_construct (b ∷ bs) len =
     then Some construct.EscapedQuote
     else if b == slash then block_construct bs
     else if b == dash && may_open_line bs then Some construct.Dashes
-    else if b == byte "[" then Some construct.Bracket
-    else if b == byte "$" && begins_tag bs then Some construct.DollarQuote
-    else if b == byte "." && begins_fraction bs then Some construct.DashesAfterExponent
-    else if (is_ascii_digit b || b == byte ".") && begins_exponent bs
+    else if b == bracket then Some construct.Bracket
+    else if b == dollar && begins_tag bs then Some construct.DollarQuote
+    else if b == point && begins_fraction bs then Some construct.DashesAfterExponent
+    else if (is_ascii_digit b || b == point) && begins_exponent bs
     then Some construct.PlaceAfterExponent
     else None

@@ -9,20 +9,20 @@ names [] = []
 names (Name name ∷ ts) = name ∷ names ts
 names (t ∷ ts) = names ts
 
--- how many marks there are
+-- the number of marks
 abbrev pub marks : List Token → ℕ
 marks [] = 0
 marks (Mark ∷ ts) = marks ts + 1
 marks (t ∷ ts) = marks ts
 
--- how many names and marks there are
+-- the number of names and marks
 abbrev pub place_count : List Token → ℕ
 place_count [] = 0
 place_count (Name name ∷ ts) = place_count ts + 1
 place_count (Mark ∷ ts) = place_count ts + 1
 place_count (t ∷ ts) = place_count ts
 
--- the index of the first byte of each name and mark, where the tokens begin at this index
+-- the index of the first byte of each name and mark, if the tokens begin at this index
 abbrev pub positions_from : ℕ → List Token → List ℕ
 positions_from at [] = []
 positions_from at (Name name ∷ ts) = at ∷ positions_from (at + length (bytes_of (Name name))) ts
@@ -49,7 +49,7 @@ abbrev pub HavePlacesAt : List Token → List ℕ → Type 0
 HavePlacesAt ts [] = ⊤
 HavePlacesAt ts (at ∷ ats) = HasPlaceAt ts at × HavePlacesAt ts ats
 
--- each of the numbers is at least this one, and above those before it
+-- each of the numbers is at least this one, and greater than those before it
 abbrev pub AscendFrom : ℕ → List ℕ → Type 0
 AscendFrom least [] = ⊤
 AscendFrom least (n ∷ ns) = (least ≤ n) × AscendFrom (n + 1) ns

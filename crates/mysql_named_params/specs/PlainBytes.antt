@@ -1,9 +1,9 @@
--- The bytes with which no token but a plain one begins. For private functions of `plain_bytes.rt`; no
+-- The bytes with which only plain tokens begin. For private functions of `plain_bytes.rt`; no
 -- public contract cites them.
 use Rattle.std.specs.Prelude.{◌≡◌, ◌<◌, ◌≤◌, ℕ, Bool, true, not, ◌||◌, ◌==◌, List, slice_index}
 use Rattle.mysql_named_params.specs.Bytes.{backquote, hash, dash, slash, colon, question_mark, is_string_quote}
 
--- a byte with which no token but a plain one begins
+-- a byte with which only a plain token begins
 abbrev pub is_always_plain : ℕ → Bool
 is_always_plain b =
     not (is_string_quote b || b == backquote || b == hash || b == dash || b == slash || b == colon

@@ -1,10 +1,10 @@
 -- Portable queries: those that every server of Server.antt reads as the grammar does (by the laws
 -- `portable_reading` and `portable_is_sharp`). Besides, as a condition of its own, no place stands
--- directly after a number's exponent, where a value's digits would join the number.
+-- directly after the sign of a number's exponent, since a value's digits would join the number.
 use Rattle.std.specs.Prelude.{ℕ, IsTrue, IsFalse, Bool, true, false, not, ◌==◌, ◌&&◌, ◌||◌, List, [], ◌∷◌, ⊤}
 use Rattle.std.specs.Char.{is_ascii_digit}
 use Rattle.std.specs.Str.{byte}
-use Rattle.mysql_named_params.specs.Bytes.{asterisk, dash, double_quote, newline, plus, slash, is_white_space, begins}
+use Rattle.mysql_named_params.specs.Bytes.{asterisk, dash, double_quote, newline, plus, slash, is_white_space, begins, point}
 use Rattle.mysql_named_params.specs.Tokens.{Token, text_then, QuotedString, DashComment, BlockComment, Plain}
 use Rattle.mysql_named_params.specs.Server.{is_graphic, begins_special, begins_own, begins_place}
 
@@ -20,43 +20,44 @@ may_open_line [] = false
 may_open_line (b ∷ []) = false
 may_open_line (b ∷ gap ∷ bs) = b == dash && not (is_white_space gap || is_graphic gap)
 
--- this plain byte, before this text, begins a construct in which servers differ
+-- this plain byte, before this text, begins a construct that servers read in different ways
 abbrev pub differs_at : ℕ → List ℕ → Bool
 differs_at b rest =
     (b == slash && begins (λ c. c == asterisk) rest)
     || ((b == dash && may_open_line rest) || begins_own b rest)
 
--- every server ends this token before this text where the grammar does
+-- every server ends this token, before this text, at the index at which the grammar ends it
 abbrev pub is_read_alike : Token → List ℕ → Bool
-is_read_alike (QuotedString quote tail) rest = not (quote == double_quote && stands_inside quote tail)
+is_read_alike (QuotedString quote tail) rest =
+    not (quote == double_quote && stands_inside quote tail)
 is_read_alike (BlockComment tail) rest = not (begins_special tail)
 is_read_alike (Plain b) rest = not (differs_at b rest)
 is_read_alike t rest = true
 
--- that holds of each of the tokens, before a rest
+-- each of the tokens passes `is_read_alike`, before a rest
 abbrev pub AreReadAlikeBefore : List ℕ → List Token → Type 0
 AreReadAlikeBefore rest [] = ⊤
 AreReadAlikeBefore rest (t ∷ ts) =
     IsTrue (is_read_alike t (text_then rest ts)) × AreReadAlikeBefore rest ts
 
--- that holds of each of the tokens of a query
+-- each of the tokens of a query passes `is_read_alike`
 abbrev pub AreReadAlike : List Token → Type 0
 AreReadAlike = AreReadAlikeBefore []
 
--- `e` or `E`, `+` or `-`, and a place
+-- the text begins with `e` or `E`, then `+` or `-`, and then a place
 abbrev pub begins_exponent : List ℕ → Bool
 begins_exponent [] = false
 begins_exponent (e ∷ []) = false
 begins_exponent (e ∷ sign ∷ bs) =
     (e == byte "e" || e == byte "E") && ((sign == plus || sign == dash) && begins_place bs)
 
--- A digit or a point before such a text: `1e+?`, `1.5E-:a`. It is more than is needed: that of
--- `x1e+?` and of `t.e+?` belongs to no number.
+-- A digit or a point before such a text: `1e+?`, `1.5E-:a`. It is more than is needed: the digit of
+-- `x1e+?` and the point of `t.e+?` belong to no number.
 abbrev pub joins_number : Token → List ℕ → Bool
-joins_number (Plain b) rest = (is_ascii_digit b || b == byte ".") && begins_exponent rest
+joins_number (Plain b) rest = (is_ascii_digit b || b == point) && begins_exponent rest
 joins_number t rest = false
 
--- no place stands directly after an exponent's sign, where a rest follows the tokens
+-- no place stands directly after an exponent's sign, if a rest follows the tokens
 abbrev pub JoinNoNumberBefore : List ℕ → List Token → Type 0
 JoinNoNumberBefore rest [] = ⊤
 JoinNoNumberBefore rest (t ∷ ts) =

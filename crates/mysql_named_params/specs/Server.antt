@@ -1,10 +1,11 @@
 -- A server, by the points in which servers read queries otherwise than the grammar of Tokens.antt,
--- and the tokens of a query on it. A server is data without laws: each point is asked only where
--- servers may differ, so every record is a server, also one that no one has built. The points:
+-- and the tokens of a query on it. A server is data without laws: each point is asked only if
+-- servers may differ there, so every record is a server, even one that no one has built. The
+-- points:
 --   `/*!`, `/*+`    MySQL Reference Manual, "Comments" and "Optimizer Hints"
 --   `/*M!`          MariaDB Knowledge Base, "Comment Syntax"
 --   `--`            MySQL Reference Manual, "'--' as the Start of a Comment"; at the very end of a
---                   text, where MySQL and MariaDB read an empty comment, all read two plain bytes
+--                   text all read two plain bytes, although MySQL and MariaDB read an empty comment
 --   `"`             MySQL Reference Manual, "Server SQL Modes" (ANSI_QUOTES)
 --   `[`             MariaDB Knowledge Base, "SQL_MODE=MSSQL"
 --   `$$`, `$tag$`   MySQL Reference Manual 9, "JavaScript Stored Programs" (dollar-quoted text)
@@ -12,7 +13,7 @@
 use Rattle.std.specs.Prelude.{◌≡◌, ◌≢◌, ℕ, IsTrue, IsFalse, Bool, false, not, ◌==◌, ◌&&◌, ◌||◌, nat_le, if◌then◌else◌, List, [], ◌∷◌, ◌++◌, take, Option, Some, None, ⊤}
 use Rattle.std.specs.Char.{is_ascii_digit}
 use Rattle.std.specs.Str.{byte}
-use Rattle.mysql_named_params.specs.Bytes.{asterisk, backquote, colon, dash, double_quote, exclamation_mark, newline, plus, question_mark, slash, is_white_space, is_name_byte, is_start_byte, is_string_quote, is_extension, begins, IsUpTo}
+use Rattle.mysql_named_params.specs.Bytes.{asterisk, backquote, colon, dash, double_quote, exclamation_mark, newline, plus, question_mark, slash, is_white_space, is_name_byte, is_start_byte, is_string_quote, is_extension, begins, IsUpTo, bracket, dollar, point}
 use Rattle.mysql_named_params.specs.Tokens.{Token, bytes_of, text_of, IsStringTail, IsName, QuotedString, QuotedIdentifier, HashComment, DashComment, BlockComment, Name, Mark, Plain}
 
 -- a graphic byte of ASCII: it is printable and not the space
@@ -34,11 +35,11 @@ abbrev pub begins_place : List ℕ → Bool
 begins_place [] = false
 begins_place (b ∷ bs) = b == question_mark || (b == colon && begins is_start_byte bs)
 
--- after `$`: the rest of `$$` or `$tag$`, or a place, where a value may come to complete one
+-- after `$`: the rest of `$$` or `$tag$`, or a place, whose value may complete one
 abbrev pub begins_tag : List ℕ → Bool
 begins_tag [] = false
 begins_tag (b ∷ bs) =
-    b == byte "$" || (begins_place (b ∷ bs) || (is_tag_byte b && begins_tag bs))
+    b == dollar || (begins_place (b ∷ bs) || (is_tag_byte b && begins_tag bs))
 
 -- two dashes before a byte that is not graphic
 abbrev pub begins_dashes : List ℕ → Bool
@@ -53,7 +54,7 @@ begins_exponent_dashes [] = false
 begins_exponent_dashes (a ∷ bs) =
     begins_dashes (a ∷ bs) || ((a == plus || a == dash) && begins_dashes bs)
 
--- after `.`: digits, `e` and such dashes, or a place, where a value's digits may come to stand
+-- after `.`: digits, `e` and such dashes, or digits and a place, whose value may have digits
 abbrev pub begins_fraction : List ℕ → Bool
 begins_fraction [] = false
 begins_fraction (b ∷ bs) =
@@ -67,7 +68,7 @@ begins_fraction (b ∷ bs) =
 -- takes one byte more after a sign, in `.e+--` or `.e---`; they are held apart to be safe.
 abbrev pub begins_own : ℕ → List ℕ → Bool
 begins_own b bs =
-    b == byte "[" || ((b == byte "$" && begins_tag bs) || (b == byte "." && begins_fraction bs))
+    b == bracket || ((b == dollar && begins_tag bs) || (b == point && begins_fraction bs))
 
 -- what a server makes of `/*` and the text after it
 pub data Block : Type 0 where
@@ -80,13 +81,14 @@ pub data Block : Type 0 where
 
 -- a server
 pub record Server : Type 0 where
-  -- what it makes of `/*` and the text after it; asked where that begins `!`, `+` or `M!`
+  -- what it makes of `/*` and the text after it; asked if that begins with `!`, `+` or `M!`
   pub special : List ℕ → Block
-  -- how many bytes of the text after this byte belong to it, a closing quote among them; none: it is
-  -- a plain byte; asked where `begins_own`
+  -- the number of bytes after this byte that belong to it, a closing quote among them; none: it is
+  -- a plain byte; asked if `begins_own`
   pub quotes : ℕ → List ℕ → Option ℕ
-  -- with which bytes `--` opens a comment, beside the white space with which it always does; asked
-  -- of the newline, with which the comment is empty, and of bytes that are not graphic
+  -- the bytes before which `--` opens a comment, beside the white space before which it always
+  -- does; asked for the newline, with which the comment is empty, and for bytes that are not
+  -- graphic
   pub also_opens : ℕ → Bool
   -- whether `"` opens an identifier, in which nothing escapes
   pub ansi_quotes : Bool

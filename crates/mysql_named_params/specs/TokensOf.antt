@@ -1,5 +1,5 @@
--- The tokens of a query as a function (`laws::tokens_exist`), which computes where the query is a
--- constant. Of the contracts of functions only those of fixed queries rest on it.
+-- The tokens of a query as a function (`laws::tokens_exist`), which computes for a constant query.
+-- Only the contracts of fixed queries rest on it.
 use Rattle.std.specs.Prelude.{ℕ, suc, Bool, true, false, ◌==◌, ◌&&◌, if◌then◌else◌, List, [], ◌∷◌, length, take, drop, Option, Some, None, unwrap_or}
 use Rattle.mysql_sql_text.specs.StringUnits.{is_escape}
 use Rattle.mysql_named_params.specs.Bytes.{asterisk, backquote, colon, dash, hash, newline, question_mark, slash, is_start_byte, is_name_byte, is_string_quote}
@@ -12,20 +12,20 @@ begins_with [] text = true
 begins_with (w ∷ ws) [] = false
 begins_with (w ∷ ws) (b ∷ bs) = (w == b) && begins_with ws bs
 
--- how many bytes there are up to and with the first place of the word, or else to the end
+-- the length up to and with the first place of the word, or else to the end
 abbrev pub len_up_to : List ℕ → List ℕ → ℕ
 len_up_to word [] = 0
 len_up_to word (b ∷ bs) =
     if begins_with word (b ∷ bs) then length word else suc (len_up_to word bs)
 
--- how many bytes of a string are left; the flag says that the byte before escapes
+-- the length of what is left of a string; the flag says that the byte before escapes
 abbrev pub string_len : Bool → ℕ → Bool → List ℕ → ℕ
 string_len mode quote escaped [] = 0
 string_len mode quote true (b ∷ bs) = suc (string_len mode quote false bs)
 string_len mode quote false (b ∷ bs) =
     if b == quote then 1 else suc (string_len mode quote (is_escape mode b) bs)
 
--- how many name bytes the text begins with
+-- the number of name bytes at the front of the text
 abbrev pub name_len : List ℕ → ℕ
 name_len [] = 0
 name_len (b ∷ bs) = if is_name_byte b then suc (name_len bs) else 0

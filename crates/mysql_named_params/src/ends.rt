@@ -1,5 +1,6 @@
 //! Where strings, quoted identifiers and comments end. The first bytes are looked at one by one,
-//! since most ends are near; a far end is found by a jump.
+//! since most ends are near; a far end is found by a jump. The jumps stand in functions of their
+//! own that are never inlined, so that the loops over near bytes stay short.
 ghost use Rattle.std.specs.Prelude.{◌≡◌, ◌<◌, ◌≤◌, [], ◌∷◌, length, take, drop, IsTrue};
 ghost use Rattle.mysql_sql_text.specs.StringUnits.{is_escape};
 ghost use Rattle.mysql_named_params.specs.Bytes.{asterisk, slash, is_string_quote, IsUpTo};
@@ -8,19 +9,21 @@ ghost use Rattle.mysql_named_params.specs.NextByte.{IsNextStop};
 
 use memchr::{memchr, memchr2, memmem};
 
-// So many bytes are looked at one by one before a jump, whose start costs more than a near end.
+// The number of bytes that are looked at one by one before a jump, which costs more than a near
+// end.
 const NEAR: usize = 32;
 
-// After an escape so many: where one stands the next is often near.
+// The number after an escape: the next one is often near.
 const NEXT_TO_ESCAPES: usize = 48;
 
+// Whether the byte escapes the one after it in a string.
 fn is_escape(byte: u8, no_backslash_escape: bool) -> bool
     ensures { result ≡ is_escape no_backslash_escape byte }
 {
     !no_backslash_escape && byte == b'\\'
 }
 
-/// How many bytes of a string there are after its opening quote.
+/// The length of a string after its opening quote.
 pub(crate) fn string_len(text: &[u8], quote: u8, no_backslash_escape: bool) -> usize
     requires { IsTrue (is_string_quote quote) }
     ensures in_range { result ≤ length text.now }
@@ -61,7 +64,7 @@ fn far_stop(text: &[u8], from: usize, quote: u8, no_backslash_escape: bool) -> u
     }
 }
 
-/// How many bytes there are up to and with the first place of the byte, or to the end.
+/// The length up to and with the first such byte, or to the end.
 pub(crate) fn len_up_to_byte(text: &[u8], byte: u8) -> usize
     ensures in_range { result ≤ length text.now }
     ensures up_to { IsUpTo (byte ∷ []) (take result text.now) (drop result text.now) }
@@ -75,7 +78,7 @@ pub(crate) fn len_up_to_byte(text: &[u8], byte: u8) -> usize
     near + far_len_up_to_byte(&text[near..], byte)
 }
 
-// The same by a jump.
+// `len_up_to_byte`, by a jump.
 #[inline(never)]
 fn far_len_up_to_byte(text: &[u8], byte: u8) -> usize
     ensures in_range { result ≤ length text.now }
@@ -87,7 +90,7 @@ fn far_len_up_to_byte(text: &[u8], byte: u8) -> usize
     }
 }
 
-/// How many bytes there are up to and with the first `*/`, or to the end.
+/// The length up to and with the first `*/`, or to the end.
 pub(crate) fn len_up_to_close(text: &[u8]) -> usize
     ensures in_range { result ≤ length text.now }
     ensures up_to { IsUpTo (asterisk ∷ slash ∷ []) (take result text.now) (drop result text.now) }
@@ -101,7 +104,7 @@ pub(crate) fn len_up_to_close(text: &[u8]) -> usize
     near + far_len_up_to_close(&text[near..])
 }
 
-// The same by a jump.
+// `len_up_to_close`, by a jump.
 #[inline(never)]
 fn far_len_up_to_close(text: &[u8]) -> usize
     ensures in_range { result ≤ length text.now }

@@ -18,7 +18,7 @@ pub fn one_token_list()
         IsTokens mode query ts → IsTokens mode query us → ts ≡ us }
 {}
 
-/// Every query has tokens, and a function gives them: where the query is a constant, they compute.
+/// Every query has tokens, and a function gives them. For a constant query they are computed.
 pub fn tokens_exist()
     ensures tokens { (mode : Bool) (query : List ℕ) → IsTokens mode query (tokens_of mode query) }
     ensures unique { (mode : Bool) (query : List ℕ) (ts : List Token) →
@@ -26,7 +26,7 @@ pub fn tokens_exist()
 {}
 
 /// A token looks at no more than two of the bytes after it, and an open one at whether there are
-/// any: what follows it otherwise may be any bytes.
+/// any. Beyond that, any bytes may follow it.
 pub fn locality()
     ensures local { (mode : Bool) (t : Token) (rest other : List ℕ) →
         LooksAlike mode t rest other → IsToken mode t rest → IsToken mode t other }
@@ -45,7 +45,7 @@ pub fn renaming_undone()
     ensures undone { (ts : List Token) → marks ts ≡ 0 → with_names (with_marks ts) (names ts) ≡ ts }
 {}
 
-/// Of a query without names, the query with marks is the query itself.
+/// The query with marks of a query without names is the query itself.
 pub fn nameless_is_unchanged()
     ensures unchanged { (mode : Bool) (query : List ℕ) (ts : List Token) →
         IsTokens mode query ts → names ts ≡ [] → (parsed ts).query ≡ query }
@@ -67,24 +67,25 @@ pub fn grammar_is_a_server()
         IsReadOn grammar mode query ts → IsTokens mode query ts }
 {}
 
-/// On every server the tokens of a query of which each passes its test, as those of a portable query
-/// do, are the grammar's, but for `--` before a newline.
+/// If each token of a query passes its test, as those of a portable query do, then every server
+/// reads the grammar's tokens, except that it may read `--` before a newline as a comment.
 pub fn portable_reading()
     ensures alike { (server : Server) (mode : Bool) (query : List ℕ) (ts us : List Token) →
         IsTokens mode query ts → AreReadAlike ts → IsReadOn server mode query us →
         IsReadAs ts us }
 {}
 
-/// No weaker condition serves: each token of a query that every server reads as the grammar does passes
-/// its test. (A portable query has no place directly after an exponent's sign either: that is more.)
+/// No weaker condition serves: if every server reads a query as the grammar does, each of its
+/// tokens passes its test. (A portable query also has no place directly after an exponent's sign,
+/// which is more than this needs.)
 pub fn portable_is_sharp()
     ensures sharp { (mode : Bool) (query : List ℕ) (ts : List Token) → IsTokens mode query ts →
         ((server : Server) (us : List Token) → IsReadOn server mode query us →
         IsReadAs ts us) → AreReadAlike ts }
 {}
 
-/// On every server such a query, as each portable one is, has the same names and marks at the same
-/// positions.
+/// Such a query, as each portable one is, has the same names and marks at the same positions on
+/// every server.
 pub fn same_places()
     ensures names { (server : Server) (mode : Bool) (query : List ℕ) (ts us : List Token) →
         IsTokens mode query ts → AreReadAlike ts → IsReadOn server mode query us →
@@ -97,7 +98,7 @@ pub fn same_places()
         positions us ≡ positions ts }
 {}
 
-/// Errors of reading names are equal where they are the same error.
+/// Errors of mixed parameters are equal: there is one.
 pub fn mixed_error_equality(a: &MixedParamsError, b: &MixedParamsError) -> bool
     ensures same { IsTrue result ↔ (a.now ≡ b.now) }
     ensures member { result ≡ ⟦<MixedParamsError as PartialEq>⟧.eq a.now b.now }
@@ -105,7 +106,7 @@ pub fn mixed_error_equality(a: &MixedParamsError, b: &MixedParamsError) -> bool
     a == b
 }
 
-/// Errors of reading names are equal where variant and field are.
+/// Errors of reading names are equal if and only if variant and field are.
 pub fn named_params_error_equality(a: &NamedParamsError, b: &NamedParamsError) -> bool
     ensures same { IsTrue result ↔ (a.now ≡ b.now) }
     ensures member { result ≡ ⟦<NamedParamsError as PartialEq>⟧.eq a.now b.now }
@@ -113,7 +114,7 @@ pub fn named_params_error_equality(a: &NamedParamsError, b: &NamedParamsError) -
     a == b
 }
 
-/// What makes queries unportable is equal where construct and position are.
+/// What makes queries unportable is equal if and only if construct and position are.
 pub fn unportable_equality(a: &Unportable, b: &Unportable) -> bool
     ensures same { IsTrue result ↔ (a.now ≡ b.now) }
     ensures member { result ≡ ⟦<Unportable as PartialEq>⟧.eq a.now b.now }
@@ -121,7 +122,7 @@ pub fn unportable_equality(a: &Unportable, b: &Unportable) -> bool
     a == b
 }
 
-/// Parsed queries are equal where the query with marks and the names are.
+/// Parsed queries are equal if and only if the query with marks and the names are.
 pub fn parsed_equality(a: &ParsedNamedParams<'_>, b: &ParsedNamedParams<'_>) -> bool
     ensures same { IsTrue result ↔ (a.now ≡ b.now) }
     ensures member { result ≡ ⟦<ParsedNamedParams<'static> as PartialEq>⟧.eq a.now b.now }

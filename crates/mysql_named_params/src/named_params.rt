@@ -64,9 +64,10 @@ impl<'a> ParsedNamedParams<'a> {
     /// to `z` and `_`, and then as many of these and `0` to `9` as follow. A query that has a name
     /// and a `?` there is refused as `Mixed`.
     ///
-    /// The flag is the server's mode: with `true`, as where `sql_mode` has `NO_BACKSLASH_ESCAPES`,
-    /// a backslash is a byte like any other; with `false` it escapes the byte after it in a string.
-    /// `Memory` is returned only for a query with names and without marks.
+    /// The flag is the server's mode: with `true`, as for an `sql_mode` with
+    /// `NO_BACKSLASH_ESCAPES`, a backslash is a byte like any other; with `false` it escapes the
+    /// byte after it in a string. `Memory` is returned only for a query with names and without
+    /// marks.
     // A query has one token list in each mode (`laws::one_token_list`), so the clauses speak of the
     // same `ts`.
     pub fn parse_in(
@@ -83,8 +84,8 @@ impl<'a> ParsedNamedParams<'a> {
         ensures memory { OnTokens no_backslash_escape query.now (λ ts.
             IsErrOf result (NamedParamsError.Memory alloc_error) → HasName ts × (marks ts ≡ 0)) }
 
-        // The query with marks has no names, and where names were found it has as many marks, and
-        // putting the names back in their place gives the query that was parsed.
+        // The query with marks has no names. If names were found, it has as many marks, and putting
+        // the names back in their place gives the query that was parsed.
         ensures nameless { IfOk result (λ p. OnTokens no_backslash_escape p.query (λ us.
             names us ≡ [])) }
         ensures marked { IfOk result (λ p. OnTokens no_backslash_escape p.query (λ us.
@@ -120,8 +121,8 @@ impl<'a> ParsedNamedParams<'a> {
         ensures memory { OnTokens with_backslashes query.now (λ ts.
             IsErrOf result (NamedParamsError.Memory alloc_error) → HasName ts × (marks ts ≡ 0)) }
 
-        // The query with marks has no names, and where names were found it has as many marks, and
-        // putting the names back in their place gives the query that was parsed.
+        // The query with marks has no names. If names were found, it has as many marks, and putting
+        // the names back in their place gives the query that was parsed.
         ensures nameless { IfOk result (λ p. OnTokens with_backslashes p.query (λ us.
             names us ≡ [])) }
         ensures marked { IfOk result (λ p. OnTokens with_backslashes p.query (λ us.
@@ -176,12 +177,12 @@ struct NameSurvey {
     has_mark: bool,
     // No name and no mark stands before this index.
     start: usize,
-    // How many names there are, where they were counted, or 0.
+    // The number of names if they were counted, or else 0.
     counted_names: usize,
 }
 
-// Without a byte `?` there is no mark, and the names need no count. Else they and the marks are
-// counted, since a query with both is refused before anything is allocated.
+// Surveys a query. Without a byte `?` there is no mark, and the names need no count. Otherwise
+// names and marks are counted, since a query with both is refused before anything is allocated.
 fn survey_of(query: &[u8], no_backslash_escape: bool) -> NameSurvey
     ensures places { OnTokens no_backslash_escape query.now (λ ts.
         (IsTrue result.has_name ↔ HasName ts) × (IsTrue result.has_mark ↔ HasMark ts)) }

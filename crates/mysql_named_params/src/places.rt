@@ -1,5 +1,5 @@
-//! The first name or mark of a text, and how many a query has. `mysql_binding` and
-//! `mysql_flat_params` go from place to place by the first; no user needs it.
+//! The first name or mark of a text, and the number of them in a query. `mysql_binding` and
+//! `mysql_flat_params` go from place to place by `first_place`; no user needs it.
 ghost use Rattle.std.specs.Prelude.{◌≡◌, ◌+◌, ◌≤◌, ◌<◌, None, length, take, drop, IfSome};
 ghost use Rattle.mysql_named_params.specs.Tokens.{OnTokens};
 ghost use Rattle.mysql_named_params.specs.Places.{names, marks, place_count};
@@ -20,11 +20,11 @@ pub enum PlaceKind {
 /// The first name or mark of a text.
 #[derive(Clone, Copy, Debug, PartialEq, Eq)]
 pub struct FoundPlace {
-    /// How many bytes stand before it.
+    /// The number of bytes before it.
     pub before: usize,
     /// Whether it is a name or a mark.
     pub kind: PlaceKind,
-    /// How many bytes it has; those of a name include the colon.
+    /// The number of its bytes; those of a name include the colon.
     pub len: usize,
 }
 
@@ -42,8 +42,8 @@ impl FoundPlace {
     }
 }
 
-/// The first name or mark of a text. Beside this function only
-/// [`first_unportable`](crate::portable::first_unportable) cuts a text into its tokens.
+/// The first name or mark of a text. Only this function and
+/// [`first_unportable`](crate::portable::first_unportable) divide a text into its tokens.
 pub fn first_place(text: &[u8], no_backslash_escape: bool) -> Option<FoundPlace>
     ensures place { OnTokens no_backslash_escape text.now (λ ts. IfSome result (IsFirstPlace ts)) }
     ensures none { OnTokens no_backslash_escape text.now (λ ts.
@@ -75,7 +75,7 @@ pub fn first_place(text: &[u8], no_backslash_escape: bool) -> Option<FoundPlace>
     None
 }
 
-/// How many names and marks a query has.
+/// The number of names and of marks in a query.
 #[derive(Clone, Copy)]
 pub(crate) struct PlaceCounts {
     /// Names, with repeats.

@@ -5,13 +5,15 @@ ghost use Rattle.mysql_named_params.specs.PlainBytes.{is_always_plain, AreAlways
 
 use std::simd::prelude::*;
 
-// So many bytes are passed by the table.
+// The number of bytes that are passed by the table.
 const NEAR: usize = 8;
 
+// The number of bytes that are passed at once.
 const LANES: usize = 16;
 
-/// An index up to which no byte from this one on begins another token than a plain one. It is the
-/// furthest such index, which no contract says: `first_place` looks into the byte there anyhow.
+/// An index up to which no byte, from the given one on, begins a token other than a plain one. It
+/// is in fact the furthest such index. The contract needn't say so, because `first_place` examines
+/// the byte there itself.
 pub(crate) fn plain_end(text: &[u8], from: usize) -> usize
     requires { from ≤ length text.now }
     ensures in_range { (from ≤ result) × (result ≤ length text.now) }
@@ -26,7 +28,7 @@ pub(crate) fn plain_end(text: &[u8], from: usize) -> usize
     far_plain_end(text, near)
 }
 
-// The same: 16 bytes at once as long as all are such, and then one by one.
+// `plain_end`: 16 bytes at once as long as they are always plain, and then one by one.
 fn far_plain_end(text: &[u8], from: usize) -> usize
     requires { from ≤ length text.now }
     ensures in_range { (from ≤ result) × (result ≤ length text.now) }
@@ -42,8 +44,8 @@ fn far_plain_end(text: &[u8], from: usize) -> usize
     at
 }
 
-// Whether the 16 bytes from this one on are all such. No contract says that `false` is told only
-// where one is not, since these bytes are looked at one by one then.
+// Whether the 16 bytes from this one on are always plain. `false` promises nothing: the caller then
+// checks byte by byte.
 fn are_always_plain(text: &[u8], at: usize) -> bool
     requires { at + LANES ≤ length text.now }
     ensures { IsTrue result → AreAlwaysPlain text.now at (at + LANES) }

@@ -1,12 +1,11 @@
-//! The token at the front of a text. `places` finds names and marks by it; no user of `mysql_params`
-//! needs it.
+//! The token at the front of a text. `places` finds names and marks by it; no user needs it.
 ghost use Rattle.std.specs.Prelude.{◌≡◌, ◌<◌, ◌≤◌, length, take, drop};
 ghost use Rattle.mysql_named_params.specs.Bytes.{is_white_space, is_start_byte, is_name_byte, begins};
 ghost use Rattle.mysql_named_params.specs.FirstToken.{IsNameFront, IsFirstToken, opens_dash_comment, opens_block_comment};
 
 use crate::ends::{len_up_to_byte, len_up_to_close, string_len};
 
-/// What a reader of names and marks wants to know of a token.
+/// The kinds of tokens that a search for names and marks tells apart.
 #[derive(Clone, Copy, Debug, PartialEq, Eq)]
 pub enum TokenKind {
     /// A name.
@@ -17,25 +16,28 @@ pub enum TokenKind {
     Other,
 }
 
+/// Whether the byte is white space.
 pub(crate) fn is_white_space(byte: u8) -> bool
     ensures { result ≡ is_white_space byte }
 {
     byte.is_ascii_whitespace()
 }
 
+/// Whether the byte begins a name.
 pub(crate) fn is_start_byte(byte: u8) -> bool
     ensures { result ≡ is_start_byte byte }
 {
     byte.is_ascii_lowercase() || byte == b'_'
 }
 
+// Whether the byte continues a name.
 fn is_name_byte(byte: u8) -> bool
     ensures { result ≡ is_name_byte byte }
 {
     is_start_byte(byte) || byte.is_ascii_digit()
 }
 
-/// How many name bytes the text begins with.
+// The number of name bytes at the front of the text.
 fn name_len(text: &[u8]) -> usize
     ensures in_range { result ≤ length text.now }
     ensures front { IsNameFront (take result text.now) (drop result text.now) }
@@ -48,7 +50,7 @@ fn name_len(text: &[u8]) -> usize
     text.len()
 }
 
-/// Whether a `-` and then this text open a comment.
+// Whether a `-` and then this text open a comment.
 fn opens_dash_comment(text: &[u8]) -> bool
     ensures { result ≡ opens_dash_comment text.now }
 {
@@ -58,7 +60,7 @@ fn opens_dash_comment(text: &[u8]) -> bool
     }
 }
 
-/// Whether a `/` and then this text open a comment.
+// Whether a `/` and then this text open a comment.
 fn opens_block_comment(text: &[u8]) -> bool
     ensures { result ≡ opens_block_comment text.now }
 {
@@ -69,7 +71,7 @@ fn opens_block_comment(text: &[u8]) -> bool
     }
 }
 
-/// Whether a `:` and then this text open a name.
+// Whether a `:` and then this text open a name.
 fn opens_name(text: &[u8]) -> bool
     ensures { result ≡ begins is_start_byte text.now }
 {
