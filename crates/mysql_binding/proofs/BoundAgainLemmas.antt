@@ -16,7 +16,7 @@ use Rattle.mysql_binding.specs.FirstCause.{cause_after_lookup, first_cause, late
 use Rattle.mysql_binding.specs.BoundAgain.{IsSameBoundAgain, IsSameByPosition}
 use Rattle.mysql_binding.specs.Isolation.{IsBoundText}
 use Rattle.mysql_binding.specs.Pieces.{pieces, pieces_from, joined_text}
-use Rattle.mysql_binding.specs.Contents.{contents, AreReadInPlace}
+use Rattle.mysql_binding.specs.Contents.{contents_between, AreReadInPlace}
 use Rattle.mysql_binding.specs.Replaced.{AreTokensOf, with_literal_tokens}
 use Rattle.mysql_binding.proofs.CauseLemmas.{no_cause_left, no_cause_renamed, no_float_cause, no_place_out, or_none, value_each}
 use Rattle.mysql_binding.proofs.ContentsLemmas as read
@@ -29,8 +29,8 @@ use Rattle.mysql_binding.proofs.ReplacedLemmas.{isolated_places}
 pub no_place_is_left : (mode : Bool) (ts us : List Token) (given : Given) (text : List ℕ) →
     IsBoundText mode ts given text → IsTokens mode text us → place_count us ≡ 0
 no_place_is_left mode ts us given text bound is =
-    let same : with_literal_tokens ts bound.lists ≡ us = one_token_list mode text (with_literal_tokens ts bound.lists) us bound.isolated is in
-    let none : place_count (with_literal_tokens ts bound.lists) ≡ 0 = isolated_places mode text ts bound.literals bound.lists bound.shapes bound.tokens_of_literals bound.exact in
+    let same : with_literal_tokens ts bound.literal_tokens ≡ us = one_token_list mode text (with_literal_tokens ts bound.literal_tokens) us bound.isolated is in
+    let none : place_count (with_literal_tokens ts bound.literal_tokens) ≡ 0 = isolated_places mode text ts bound.literals bound.literal_tokens bound.shapes bound.tokens_of_literals bound.text_is in
     subst (λ vs. place_count vs ≡ 0) same none
 
 -- ---- bound again
@@ -56,13 +56,13 @@ nothing_bound mode us text is none =
       literals = [];
       written = refl;
       shapes = tt;
-      exact = joined_text-pieces_from [] us [] (sym none) ∙ ap Some whole;
-      lists = [];
+      text_is = joined_text-pieces_from [] us [] (sym none) ∙ ap Some whole;
+      literal_tokens = [];
       tokens_of_literals = tt;
       isolated = subst (IsTokens mode text) (sym (with_literal_tokens-no_place us none)) is;
-      said = [];
-      says = refl;
-      in_place = tt;
+      contents = [];
+      contents_are = refl;
+      reads_in_place = tt;
       read_back = rw (← whole) (read.contents_of_bound mode us 0 [] [] [] [] alone tt (sym none));
     }
 
@@ -111,8 +111,8 @@ pub by_position_is_the_same : (mode : Bool) (query text : List ℕ) (ts : List T
 by_position_is_the_same mode query text ts given is bound =
     let parts = no_cause_parts ts given bound.values bound.no_cause bound.looked_up in
     let room = value_each ts given bound.values parts.0 bound.looked_up parts.1 in
-    let count = joined_text_count [] ts bound.literals text bound.exact in
-    let lists : length bound.lists ≡ place_count ts = as_many_lists mode bound.literals bound.lists bound.tokens_of_literals ∙ count in
+    let count = joined_text_count [] ts bound.literals text bound.text_is in
+    let lists : length bound.literal_tokens ≡ place_count ts = as_many_lists mode bound.literals bound.literal_tokens bound.tokens_of_literals ∙ count in
     let same : pieces (with_marks ts) ≡ pieces ts = pieces-with_marks [] ts in
     record {
       no_cause = no_cause_renamed mode ts bound.values is.each room (no_place_out ts bound.values parts.1) (no_float_cause ts bound.values parts.1);
@@ -121,14 +121,14 @@ by_position_is_the_same mode query text ts given is bound =
       literals = bound.literals;
       written = bound.written;
       shapes = bound.shapes;
-      exact = ap (λ ps. joined_text ps bound.literals) same ∙ bound.exact;
-      lists = bound.lists;
+      text_is = ap (λ ps. joined_text ps bound.literals) same ∙ bound.text_is;
+      literal_tokens = bound.literal_tokens;
       tokens_of_literals = bound.tokens_of_literals;
-      isolated = subst (IsTokens mode text) (sym (with_literal_tokens-with_marks ts bound.lists lists)) bound.isolated;
-      said = bound.said;
-      says = bound.says;
-      in_place = subst (λ ps. AreReadInPlace mode ps bound.literals bound.said) (sym same) bound.in_place;
-      read_back = ap (λ ps. contents mode ps text) same ∙ bound.read_back;
+      isolated = subst (IsTokens mode text) (sym (with_literal_tokens-with_marks ts bound.literal_tokens lists)) bound.isolated;
+      contents = bound.contents;
+      contents_are = bound.contents_are;
+      reads_in_place = subst (λ ps. AreReadInPlace mode ps bound.literals bound.contents) (sym same) bound.reads_in_place;
+      read_back = ap (λ ps. contents_between mode ps text) same ∙ bound.read_back;
     }
 
 -- ---- as the calls that bind promise it
@@ -136,7 +136,7 @@ by_position_is_the_same mode query text ts given is bound =
 pub same_bound_again : (mode : Bool) (query text : List ℕ) (given : Given) →
     OnTokens mode query (λ ts. IsBoundText mode ts given text) → IsSameBoundAgain mode text
 same_bound_again mode query text given o =
-    let us = with_literal_tokens o.0 o.2.lists in
+    let us = with_literal_tokens o.0 o.2.literal_tokens in
     let is : IsTokens mode text us = o.2.isolated in
     (us, is, (no_place_is_left mode o.0 us given text o.2 is, bound_again_is_the_same mode o.0 us given text o.2 is))
 
@@ -155,6 +155,6 @@ pub equal_texts_say_the_same : (mode : Bool) (query text : List ℕ) (ts us : Li
     map content_of x.values ≡ map content_of y.values
 equal_texts_say_the_same mode query text ts us a b is is' x y =
     let tokens : ts ≡ us = one_token_list mode query ts us is is' in
-    let same : Some x.said ≡ Some y.said = sym x.read_back ∙ (ap (λ l. contents mode (pieces l) text) tokens ∙ y.read_back) in
-    let said : x.said ≡ y.said = cc in
-    x.says ∙ (ap (map Some) said ∙ sym y.says)
+    let same : Some x.contents ≡ Some y.contents = sym x.read_back ∙ (ap (λ l. contents_between mode (pieces l) text) tokens ∙ y.read_back) in
+    let said : x.contents ≡ y.contents = cc in
+    x.contents_are ∙ (ap (map Some) said ∙ sym y.contents_are)

@@ -10,7 +10,8 @@ use Rattle.mysql_named_params.specs.Portable.{AreReadAlikeBefore, IsReadAs, read
 use Rattle.mysql_named_params.proofs.PortableLemmas.{NoEmptyComment, token_on, empty_line, read_text, portable_read}
 use Rattle.mysql_named_params.proofs.TokenRowLemmas.{text_then-append}
 use Rattle.mysql_binding.specs.Pieces.{pieces, joined_text}
-use Rattle.mysql_binding.specs.Replaced.{AreLiterals, AreReadOn, AreTokensOf, with_literal_tokens}
+use Rattle.mysql_binding.specs.Replaced.{AreLiterals, AreTokensOf, with_literal_tokens}
+use Rattle.mysql_binding.specs.ReadOnServer.{AreReadOn}
 use Rattle.mysql_binding.proofs.LiteralTokenLemmas.{AreSettledBefore, no_double}
 use Rattle.mysql_binding.proofs.PieceLemmas.{joined_text_count, joined_text_is}
 use Rattle.mysql_binding.proofs.ReplacedLemmas.{IsLiteral-tokens, replaced_text, replaced_tokens, replaced_up_to_literal}

@@ -16,40 +16,40 @@ use Rattle.mysql_binding.specs.declared.bind_error.BindError.{BindError}
 use Rattle.mysql_binding.specs.declared.bind_error.BindError.TheVariants.{Mixed}
 use Rattle.mysql_binding.specs.declared.binding.survey.Survey.{Survey}
 use Rattle.mysql_binding.specs.Survey.{IsSurvey}
-use Rattle.mysql_binding.specs.WrittenText.{IsWrittenText}
-use Rattle.mysql_binding.specs.BindErrors.{IsRefusal, cause_of}
+use Rattle.mysql_binding.specs.WrittenText.{AreReadAs, IsWrittenText}
+use Rattle.mysql_binding.specs.BindErrors.{IsCauseOrMemory, cause_of}
 use Rattle.mysql_binding.specs.Isolation.{IsBoundText}
 use Rattle.mysql_binding.specs.Pieces.{pieces, joined_text}
 use Rattle.mysql_binding.specs.Replaced.{AreLiterals, with_literal_tokens}
-use Rattle.mysql_binding.specs.ValueLiterals.{AreLiteralsOf, AreReadAs}
+use Rattle.mysql_binding.specs.ValueLiterals.{AreLiteralsOf}
 use Rattle.mysql_binding.proofs.BoundText.{bound}
 use Rattle.mysql_binding.proofs.CauseLemmas.{first_by, mixed_some, mixed_none_of, no_float_cause, no_place_out, on_both, on_map, value_each}
-use Rattle.mysql_binding.proofs.ContentsLemmas as contents
+use Rattle.mysql_binding.proofs.ContentsLemmas as read
 use Rattle.mysql_binding.proofs.PieceLemmas.{joined_text_is}
 use Rattle.mysql_binding.proofs.ValueLiteralLemmas.{as_many_texts}
 use Rattle.mysql_binding.proofs.ReplacedLemmas.{isolated, literal_lists}
 
--- what the values say, and that their literals read so
-pub record AreSaid (mode : Bool) (values : List Value) (texts : List (List ℕ)) : Type 0 where
-  pub said : List Content
-  pub says : map content_of values ≡ map Some said
-  pub read : contents.AreReadAs mode texts said
+-- the contents of the values, and that their literals read as these
+pub record HaveContents (mode : Bool) (values : List Value) (texts : List (List ℕ)) : Type 0 where
+  pub contents : List Content
+  pub contents_are : map content_of values ≡ map Some contents
+  pub reads : read.AreReadAs mode texts contents
 
-pub all_said : (mode : Bool) (values : List Value) (texts : List (List ℕ)) →
-    AreReadAs mode values texts → AreSaid mode values texts
-all_said mode [] [] h = record { said = []; says = refl; read = tt }
-all_said mode [] (text ∷ texts) h = absurd h
-all_said mode (v ∷ values) [] h = absurd h
-all_said mode (v ∷ values) (text ∷ texts) h = one (content_of v) refl h.0.content (all_said mode values texts h.1)
+pub contents_of_all : (mode : Bool) (values : List Value) (texts : List (List ℕ)) →
+    AreReadAs mode values texts → HaveContents mode values texts
+contents_of_all mode [] [] h = record { contents = []; contents_are = refl; reads = tt }
+contents_of_all mode [] (text ∷ texts) h = absurd h
+contents_of_all mode (v ∷ values) [] h = absurd h
+contents_of_all mode (v ∷ values) (text ∷ texts) h = one (content_of v) refl h.0.content (contents_of_all mode values texts h.1)
   where
     one : (c : Option Content) → content_of v ≡ c →
-        IsSomeAnd c (ReadsBefore continues_literal mode text) → AreSaid mode values texts →
-        AreSaid mode (v ∷ values) (text ∷ texts)
+        IsSomeAnd c (ReadsBefore continues_literal mode text) → HaveContents mode values texts →
+        HaveContents mode (v ∷ values) (text ∷ texts)
     one None e r more = absurd r
-    one (Some said) e r more = record {
-      said = said ∷ more.said;
-      says = ap (λ c. c ∷ map content_of values) e ∙ ap (λ cs. Some said ∷ cs) more.says;
-      read = (r, more.read);
+    one (Some content) e r more = record {
+      contents = content ∷ more.contents;
+      contents_are = ap (λ c. c ∷ map content_of values) e ∙ ap (λ cs. Some content ∷ cs) more.contents_are;
+      reads = (r, more.reads);
     }
 
 pub is_bound_text : (mode : Bool) (query : List ℕ) (ts : List Token) (given : Given) (values : List Value) (texts : List (List ℕ)) (text : List ℕ) →
@@ -57,7 +57,7 @@ pub is_bound_text : (mode : Bool) (query : List ℕ) (ts : List Token) (given : 
     later_cause ts values ≡ None → AreLiteralsOf mode values texts → AreLiterals mode texts →
     AreReadAs mode values texts → joined_text (pieces ts) texts ≡ Some text → IsBoundText mode ts given text
 is_bound_text mode query ts given values texts text is mixed looked later written shapes reads exact =
-    let s = all_said mode values texts reads in
+    let s = contents_of_all mode values texts reads in
     let tokens = literal_lists mode texts shapes in
     let room : length values ≡ place_count ts = value_each ts given values mixed looked later in
     let room' : length texts ≡ place_count ts = as_many_texts mode values texts written ∙ room in
@@ -71,14 +71,14 @@ is_bound_text mode query ts given values texts text is mixed looked later writte
       literals = texts;
       written = written;
       shapes = shapes;
-      exact = exact;
-      lists = tokens.0;
+      text_is = exact;
+      literal_tokens = tokens.0;
       tokens_of_literals = tokens.1;
       isolated = tokens_are;
-      said = s.said;
-      says = s.says;
-      in_place = contents.in_place mode ts 0 [] [] texts s.said alone s.read room';
-      read_back = rw text_is (contents.contents_of_bound mode ts 0 [] [] texts s.said alone s.read room');
+      contents = s.contents;
+      contents_are = s.contents_are;
+      reads_in_place = read.in_place mode ts 0 [] [] texts s.contents alone s.reads room';
+      read_back = rw text_is (read.contents_of_bound mode ts 0 [] [] texts s.contents alone s.reads room');
     }
 
 -- what is known of the tokens when the values were looked up and there is no later cause
@@ -91,9 +91,9 @@ IsLookedUp ts given values =
 -- a survey with names and marks
 pub refused_mixed : (mode : Bool) (query : List ℕ) (given : Given) (survey : Survey) →
     OnTokens mode query (IsSurvey survey) → 0 < survey.names → 0 < survey.marks →
-    OnTokens mode query (λ ts. IsRefusal (first_cause ts given) Mixed)
+    OnTokens mode query (λ ts. IsCauseOrMemory (first_cause ts given) Mixed)
 refused_mixed mode query given survey o some_names some_marks =
-    on_map mode query (IsSurvey survey) (λ ts. IsRefusal (first_cause ts given) Mixed)
+    on_map mode query (IsSurvey survey) (λ ts. IsCauseOrMemory (first_cause ts given) Mixed)
     (λ ts is h. inr (mixed_query, ap (λ x. option_or x (cause_after_lookup ts (lookup given (names ts)))) (mixed_some ts (omega (arith, h.0, some_names), omega (arith, h.1, some_marks))), refl))
     o
 
@@ -104,7 +104,8 @@ unmixed_survey mode query survey o never =
     on_map mode query (IsSurvey survey) _
     (λ ts is h. (h.0, mixed_none_of ts survey.names survey.marks h.0 h.1 never)) o
 
--- a lookup that refuses
+-- ---- a lookup that refuses
+
 -- an error is no refusal, or the one that is expected
 pub no_refusal_or_expected : {Seen Refusal : Type 0} (expected : Result Seen Refusal) (Takes : Type 0)
     (refusal : Option Refusal) → IsExpectedRefusal expected Takes refusal →
@@ -116,9 +117,9 @@ pub refused_lookup : (mode : Bool) (query : List ℕ) (given : Given) (count : �
     OnTokens mode query (λ ts. (count ≡ length (names ts)) × (mixed_cause ts ≡ None)) →
     OnTokens mode query (λ ts. ns ≡ names ts) →
     ((refusal : LookupRefusal) × (lookup given ns ≡ Err refusal) × (cause_of error ≡ Some (refused_params refusal))) →
-    OnTokens mode query (λ ts. IsRefusal (first_cause ts given) error)
+    OnTokens mode query (λ ts. IsCauseOrMemory (first_cause ts given) error)
 refused_lookup mode query given count ns error unmixed listed r =
-    on_map mode query (λ ts. ((count ≡ length (names ts)) × (mixed_cause ts ≡ None)) × (ns ≡ names ts)) (λ ts. IsRefusal (first_cause ts given) error)
+    on_map mode query (λ ts. ((count ≡ length (names ts)) × (mixed_cause ts ≡ None)) × (ns ≡ names ts)) (λ ts. IsCauseOrMemory (first_cause ts given) error)
     (λ ts is h. inr (refused_params r.0, ap (λ x. option_or x (cause_after_lookup ts (lookup given (names ts)))) h.0.1 ∙ ap (cause_after_lookup ts) (ap (lookup given) (sym h.1) ∙ r.1), r.2))
     (on_both mode query _ (λ ts. ns ≡ names ts) unmixed listed)
 
@@ -134,14 +135,14 @@ module _ (mode : Bool) (query : List ℕ) (given : Given) (survey : Survey) (val
 
   pub refused_later : (error : BindError) →
       ((ts : List Token) → IsSurvey survey ts → Some (cause_of error) ≡ option_map Some (later_cause ts values)) →
-      OnTokens mode query (λ ts. IsRefusal (first_cause ts given) error)
+      OnTokens mode query (λ ts. IsCauseOrMemory (first_cause ts given) error)
   refused_later error later =
-      on_map mode query _ (λ ts. IsRefusal (first_cause ts given) error)
+      on_map mode query _ (λ ts. IsCauseOrMemory (first_cause ts given) error)
       (λ ts is h. of_cause ts (mixed_none_of ts survey.names survey.marks h.0.0 h.0.1 never) h.1 (later_cause ts values) refl (later ts h.0)) known
     where
       of_cause : (ts : List Token) → mixed_cause ts ≡ None → lookup given (names ts) ≡ Ok values →
           (r : Option Cause) → later_cause ts values ≡ r →
-          Some (cause_of error) ≡ option_map Some r → IsRefusal (first_cause ts given) error
+          Some (cause_of error) ≡ option_map Some r → IsCauseOrMemory (first_cause ts given) error
       of_cause ts mixed found None r e = cc
       of_cause ts mixed found (Some why) r e =
           let same : cause_of error ≡ Some why = cc in
@@ -180,5 +181,5 @@ pub bound_on : (mode : Bool) (query : List ℕ) (given : Given) (values : List V
     OnTokens mode query (λ ts. IsBoundText mode ts given text)
 bound_on mode query given values text h written =
     on_map mode query (λ ts. IsLookedUp ts given values × IsWrittenText mode ts values text) (λ ts. IsBoundText mode ts given text)
-    (λ ts is k. is_bound_text mode query ts given values k.1.literals text is k.0.0 k.0.1 k.0.2 k.1.written k.1.shapes k.1.reads_back k.1.exact)
+    (λ ts is k. is_bound_text mode query ts given values k.1.literals text is k.0.0 k.0.1 k.0.2 k.1.written k.1.shapes k.1.reads_back k.1.text_is)
     (on_both mode query (λ ts. IsLookedUp ts given values) (λ ts. IsWrittenText mode ts values text) h written)

@@ -9,7 +9,7 @@ use Rattle.mysql_named_params.specs.Tokens.{Token, text_of, bytes_of, QuotedStri
 use Rattle.mysql_named_params.specs.Places.{place_count}
 use Rattle.mysql_binding.specs.StandsAlone.{may_stand_before, may_stand_after, none_or_first, none_or_last, stands_alone, first_not_alone_from}
 use Rattle.mysql_binding.specs.Pieces.{pieces_from}
-use Rattle.mysql_binding.specs.Contents.{contents_before, contents, AreReadInPlace}
+use Rattle.mysql_binding.specs.Contents.{contents_before, contents_between, AreReadInPlace}
 use Rattle.mysql_binding.proofs.BoundText.{bound}
 use Rattle.mysql_binding.proofs.ByteTestLemmas.{behind_ends, piece_ends, last_piece_ends}
 use Rattle.mysql_binding.proofs.PieceLemmas.{joined_text-pieces_from}
@@ -133,14 +133,14 @@ module _ (mode : Bool) where
       Goal-other ts piece (bytes_of t) literals cs (then_law ts place (before ++ bytes_of t) (piece ++ bytes_of t) literals cs a rs l) literal c r n
 
   contents-other : (ts : List Token) (piece bytes : List ℕ) (literals : List (List ℕ)) (cs : List Content) →
-      contents mode (pieces_from (piece ++ bytes) ts) ((piece ++ bytes) ++ bound ts literals) ≡ Some cs →
-      contents mode (pieces_from (piece ++ bytes) ts) (piece ++ (bytes ++ bound ts literals)) ≡ Some cs
+      contents_between mode (pieces_from (piece ++ bytes) ts) ((piece ++ bytes) ++ bound ts literals) ≡ Some cs →
+      contents_between mode (pieces_from (piece ++ bytes) ts) (piece ++ (bytes ++ bound ts literals)) ≡ Some cs
   contents-other ts piece bytes literals cs h = rw (← append_assoc piece bytes (bound ts literals)) h
 
   -- the contents of the text are those of the literals
   pub contents_of_bound : (ts : List Token) (place : ℕ) (before piece : List ℕ) (literals : List (List ℕ)) (cs : List Content) →
       first_not_alone_from place before ts ≡ None → AreReadAs mode literals cs → length literals ≡ place_count ts →
-      contents mode (pieces_from piece ts) (piece ++ bound ts literals) ≡ Some cs
+      contents_between mode (pieces_from piece ts) (piece ++ bound ts literals) ≡ Some cs
   unfolding Goal
   contents_of_bound [] place before piece [] [] a rs l = rw (after-append piece []) refl
   contents_of_bound [] place before piece [] (c' ∷ cs) a rs l = absurd rs

@@ -56,16 +56,16 @@ module _ (mode : Bool) (query rest : List ℕ) (values : List (Bor Value)) (i : 
           pub literal_fits : (len : ℕ) → len ≡ literal_len mode v.now → at' + len ≤ length text'
           literal_fits len len_is = omega (arith, both_fit, at'_is, same, len_is)
 
-          pub filled_more : (from_place after text'' : List ℕ) (len at'' : ℕ) → from_place ≡ drop found.before rest →
-              after ≡ drop found.len from_place → len ≡ literal_len mode v.now → at'' ≡ at' + len →
+          pub filled_more : (after text'' : List ℕ) (len at'' : ℕ) →
+              after ≡ drop (found.before + found.len) rest → len ≡ literal_len mode v.now → at'' ≡ at' + len →
               length text'' ≡ length text' → literal_of mode v.now ≡ Some (literal_text mode v.now) →
               IsLiteral mode (literal_text mode v.now) → ReadsAs mode v.now (literal_text mode v.now) →
               take at'' text'' ≡ take at' text' ++ literal_text mode v.now →
               FilledSoFar mode query after values (i + 1) text'' at''
-          filled_more from_place after text'' len at'' from_is after_is len_is at''_is same' literal shape reads written = record {
+          filled_more after text'' len at'' after_is len_is at''_is same' literal shape reads written = record {
             so_far = subst (λ n. WrittenSoFar mode query after (referents values) (i + 1) (take at'' text'') n) (sym (same' ∙ same))
-                (written_more mode query rest (referents values) i (take at text) (length text) s.so_far run from_place after (literal_text mode v.now)
-                (take at' text') (take at'' text'') v.now found below_referents value_is o run_is from_is after_is literal shape reads piece written);
+                (written_more mode query rest (referents values) i (take at text) (length text) s.so_far run after (literal_text mode v.now)
+                (take at' text') (take at'' text'') v.now found below_referents value_is o run_is after_is literal shape reads piece written);
             in_range = omega (arith, literal_fits len len_is, at''_is, same');
           }
 

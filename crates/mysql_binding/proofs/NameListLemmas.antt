@@ -1,6 +1,6 @@
 -- The names that are listed before a rest.
 use Rattle.std.specs.Prelude.{Bool}
-use Rattle.std.proofs.Common.{◌≡◌, inl, inr, ℕ, ◌+◌, ◌<◌, ◌≤◌, List, [], ◌∷◌, ◌++◌, length, take, drop, None, sym, ap, ◌∙◌, subst, arith, append_assoc, append-nil, drop-drop, length-append}
+use Rattle.std.proofs.Common.{◌≡◌, inl, inr, ℕ, ◌+◌, ◌<◌, ◌≤◌, List, [], ◌∷◌, ◌++◌, length, take, drop, None, sym, ap, ◌∙◌, subst, arith, append_assoc, append-nil, length-append}
 use Rattle.std.specs.Borrow.{Bor}
 use Rattle.std.proofs.lemmas.List.{nil_from_length, take_rest, map-append}
 use Rattle.mysql_named_params.specs.Tokens.{Token, bytes_of, IsTokens, OnTokens}
@@ -47,23 +47,22 @@ module _ (mode : Bool) (query rest : List ℕ) (count : ℕ) (list : List (Bor (
       omega (arith, missing, s.count_is, ap place_count same, o.2, place_count-sum s.left)
 
   -- one name more
-  pub listed_more : (from_place place after : List ℕ) (list' : List (Bor (List ℕ))) (name : Bor (List ℕ)) (found : FoundPlace) →
+  pub listed_more : (place after : List ℕ) (list' : List (Bor (List ℕ))) (name : Bor (List ℕ)) (found : FoundPlace) →
       length list < count → OnTokens mode rest (λ us. IsFirstPlace us found) →
-      from_place ≡ drop found.before rest → place ≡ take found.len from_place →
-      after ≡ drop found.len from_place → list' ≡ list ++ name ∷ [] → name.now ≡ slice_from 1 place →
+      place ≡ take found.len (drop found.before rest) →
+      after ≡ drop (found.before + found.len) rest → list' ≡ list ++ name ∷ [] → name.now ≡ slice_from 1 place →
       ListedSoFar mode query after count list'
-  listed_more from_place place after list' name found missing o from_is place_is after_is list_more name_is =
+  listed_more place after list' name found missing o place_is after_is list_more name_is =
       let p = parted mode rest s.left found s.rest_tokens o in
       let is = name_found mode rest s.left found (s.no_marks (omega (arith, missing))) p in
-      let after_rest : drop (found.before + found.len) rest ≡ after = sym (drop-drop found.len found.before rest) ∙ sym (after_is ∙ ap (drop found.len) from_is) in
       let names_left : names s.left ≡ drop 1 (bytes_of p.place) ∷ names p.back = ap names p.tokens_are ∙ names_at_name p.front p.place p.back p.no_place is in
-      let bytes_are : place ≡ bytes_of p.place = place_is ∙ (ap (take found.len) from_is ∙ sym p.place_bytes) in
+      let bytes_are : place ≡ bytes_of p.place = place_is ∙ sym p.place_bytes in
       let item : name.now ≡ drop 1 (bytes_of p.place) = name_is ∙ (take_rest place 1 ∙ ap (drop 1) bytes_are) in
       record {
         all = s.all;
         tokens = s.tokens;
         left = p.back;
-        rest_tokens = subst (λ x. IsTokens mode x p.back) after_rest p.rest_tokens;
+        rest_tokens = subst (λ x. IsTokens mode x p.back) (sym after_is) p.rest_tokens;
         no_marks = λ some. sym (marks_at_name p.front p.place p.back p.no_place is) ∙ (ap marks (sym p.tokens_are) ∙ s.no_marks some);
         count_is = omega (arith, s.count_is, ap length names_left, ap length list_more, length-append list (name ∷ []));
         names_are = ap (λ x. referents x ++ names p.back) list_more ∙ (ap (λ x. x ++ names p.back) (map-append (λ (v : Bor (List ℕ)). v.now) list (name ∷ [])) ∙ (append_assoc (referents list) (name.now ∷ []) (names p.back) ∙ (ap (λ x. referents list ++ x ∷ names p.back) item ∙ (ap (λ x. referents list ++ x) (sym names_left) ∙ s.names_are))));

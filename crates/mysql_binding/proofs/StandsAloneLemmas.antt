@@ -1,7 +1,7 @@
 -- The last byte of a text, and the position of the first place that doesn't stand alone.
 use Rattle.std.proofs.Common.{◌≡◌, ◌⊎◌, inl, inr, Bool, true, false, ℕ, suc, ◌+◌, ◌-◌, ◌<◌, List, [], ◌∷◌, ◌++◌, length, refl, ap, ◌∙◌, arith, subst, Some, if◌then◌else◌, get_or, Option, add-one, length-append}
 use Rattle.std.specs.Prelude.{slice_get}
-use Rattle.mysql_named_params.specs.Places.{positions, positions_from}
+use Rattle.mysql_named_params.specs.Positions.{positions, positions_from}
 use Rattle.mysql_named_params.specs.Tokens.{Token, bytes_of, text_of, Name, Mark}
 use Rattle.mysql_binding.specs.StandsAlone.{first_not_alone, first_not_alone_from, none_or_last, stands_alone}
 

@@ -7,7 +7,8 @@ use Rattle.mysql_sql_text.specs.LiteralShape.{IsLiteral}
 use Rattle.mysql_values.specs.ReadBack.{ReadsAs}
 use Rattle.mysql_binding.specs.FirstCause.{first_float_from}
 use Rattle.mysql_binding.specs.Replaced.{AreLiterals}
-use Rattle.mysql_binding.specs.ValueLiterals.{AreLiteralsOf, AreReadAs}
+use Rattle.mysql_binding.specs.ValueLiterals.{AreLiteralsOf}
+use Rattle.mysql_binding.specs.WrittenText.{AreReadAs}
 
 pub AreReadAs-push : (mode : Bool) (values : List Value) (texts : List (List ℕ)) (v : Value) (text : List ℕ) →
     AreReadAs mode values texts → ReadsAs mode v text →

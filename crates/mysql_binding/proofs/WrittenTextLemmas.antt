@@ -1,7 +1,7 @@
 -- A text that is written as far as a rest of the query.
 use Rattle.std.specs.Prelude.{Bool}
 use Rattle.std.specs.List.{sum, sum_by}
-use Rattle.std.proofs.Common.{◌≡◌, ℕ, ◌+◌, ◌<◌, ◌≤◌, false, List, [], ◌∷◌, ◌++◌, length, length-append, map, take, drop, get_or, Some, None, refl, sym, ap, ◌∙◌, subst, arith, append_assoc, append-nil, drop-drop, take_all}
+use Rattle.std.proofs.Common.{◌≡◌, ℕ, ◌+◌, ◌<◌, ◌≤◌, false, List, [], ◌∷◌, ◌++◌, length, length-append, map, take, drop, get_or, Some, None, refl, sym, ap, ◌∙◌, subst, arith, append_assoc, append-nil, take_all}
 use Rattle.std.proofs.lemmas.List.{take_more, drop_all}
 use Rattle.std.proofs.lemmas.List.Sums.{sum-map}
 use Rattle.mysql_values.specs.declared.value.Value.{Value}
@@ -18,9 +18,9 @@ use Rattle.mysql_named_params.proofs.TokenRowLemmas.{place_count-append}
 use Rattle.mysql_named_params.proofs.FoundPlaceLemmas.{parted}
 use Rattle.mysql_binding.specs.FirstCause.{first_float_from, first_float}
 use Rattle.mysql_binding.specs.Replaced.{AreLiterals}
-use Rattle.mysql_binding.specs.ValueLiterals.{AreLiteralsOf, AreReadAs}
+use Rattle.mysql_binding.specs.ValueLiterals.{AreLiteralsOf}
 use Rattle.mysql_binding.specs.TextLength.{pieces_len, literal_len}
-use Rattle.mysql_binding.specs.WrittenText.{IsWrittenText}
+use Rattle.mysql_binding.specs.WrittenText.{AreReadAs, IsWrittenText}
 use Rattle.mysql_binding.proofs.BoundText.{bound}
 use Rattle.mysql_binding.proofs.PieceLemmas.{bound_none, joined_text-pieces_from}
 use Rattle.mysql_binding.proofs.TextLengthLemmas.{plain_len, plain_len-place, plain_len-no_place, pieces_len-plain_len, lens_left, literal_len-literal_of}
@@ -108,15 +108,13 @@ module _ (mode : Bool) (query rest : List ℕ) (values : List Value) (i : ℕ) (
       omega (arith, s.len_is, front, plain, lens_left mode values i v below v_is)
 
   -- one value more: the bytes before its place, and its literal
-  pub written_more : (run from_place after sql text' text'' : List ℕ) (v : Value) (found : FoundPlace) →
+  pub written_more : (run after sql text' text'' : List ℕ) (v : Value) (found : FoundPlace) →
       i < length values → v ≡ get_or values i v → OnTokens mode rest (λ us. IsFirstPlace us found) →
-      run ≡ take found.before rest → from_place ≡ drop found.before rest →
-      after ≡ drop found.len from_place → literal_of mode v ≡ Some sql → IsLiteral mode sql →
+      run ≡ take found.before rest → after ≡ drop (found.before + found.len) rest → literal_of mode v ≡ Some sql → IsLiteral mode sql →
       ReadsAs mode v sql → text' ≡ text ++ run → text'' ≡ text' ++ sql →
       WrittenSoFar mode query after values (i + 1) text'' len
-  written_more run from_place after sql text' text'' v found below v_is o run_is from_is after_is literal shape reads text_more text_more' =
+  written_more run after sql text' text'' v found below v_is o run_is after_is literal shape reads text_more text_more' =
       let p = parted mode rest s.left found s.rest_tokens o in
-      let after_rest : drop (found.before + found.len) rest ≡ after = sym (drop-drop found.len found.before rest) ∙ sym (after_is ∙ ap (drop found.len) from_is) in
       let taken : take (i + 1) values ≡ take i values ++ v ∷ [] = take_more values i v below ∙ ap (λ x. take i values ++ x ∷ []) (sym v_is) in
       let run_text : text_of p.front ≡ run = p.front_text ∙ sym run_is in
       let places : place_count s.left ≡ place_count p.back + 1 = ap place_count p.tokens_are ∙ (place_count-append p.front (p.place ∷ p.back) ∙ omega (arith, p.no_place, place_count-place p.place found.kind p.back p.kind_is)) in
@@ -124,7 +122,7 @@ module _ (mode : Bool) (query rest : List ℕ) (values : List Value) (i : ℕ) (
         all = s.all;
         tokens = s.tokens;
         left = p.back;
-        rest_tokens = subst (λ x. IsTokens mode x p.back) after_rest p.rest_tokens;
+        rest_tokens = subst (λ x. IsTokens mode x p.back) (sym after_is) p.rest_tokens;
         places_left = omega (arith, s.places_left, places);
         room = s.room;
         literals = s.literals ++ sql ∷ [];
@@ -179,6 +177,6 @@ module _ (mode : Bool) (query rest : List ℕ) (values : List Value) (i : ℕ) (
           written = written;
           shapes = s.shapes;
           reads_back = subst (λ x. AreReadAs mode x s.literals) all_taken s.reads_back;
-          exact = joined_text-pieces_from [] s.all s.literals (as_many_texts mode values s.literals written ∙ s.room) ∙ ap Some (sym text_is);
+          text_is = joined_text-pieces_from [] s.all s.literals (as_many_texts mode values s.literals written ∙ s.room) ∙ ap Some (sym text_is);
         },
       )

@@ -16,8 +16,8 @@ cause_of (Memory error) = None
 
 -- either there is a first cause and the error is it, or the error is `Memory`: out of memory in the
 -- lookup is `Memory` too, and never `Params`
-abbrev pub IsRefusal : Option Cause → BindError → Type 0
-IsRefusal cause error = (error ≡ Memory alloc_error)
+abbrev pub IsCauseOrMemory : Option Cause → BindError → Type 0
+IsCauseOrMemory cause error = (error ≡ Memory alloc_error)
     ⊎ ((why : Cause) × (cause ≡ Some why) × (cause_of error ≡ Some why))
 
 -- the same variant, and the same fields

@@ -9,15 +9,15 @@ abbrev pub contents_before : Bool → List (List ℕ) → List ℕ → Option (L
 contents_before mode [] [] = Some []
 contents_before mode [] (b ∷ text) = None
 contents_before mode (piece ∷ pieces) text =
-    option_and_then (λ read. option_map (λ said. read.0 ∷ said)
+    option_and_then (λ read. option_map (λ contents. read.0 ∷ contents)
     (option_and_then (contents_before mode pieces) (after piece read.1)))
     (read_literal mode text)
 
 -- The contents of the literals between these pieces of a query (a query has at least one piece):
--- none where the text is not the first piece, a literal, the second piece, and so on to the last.
-abbrev pub contents : Bool → List (List ℕ) → List ℕ → Option (List Content)
-contents mode [] text = None
-contents mode (piece ∷ pieces) text =
+-- none if the text is not the first piece, a literal, the second piece, and so on to the last.
+abbrev pub contents_between : Bool → List (List ℕ) → List ℕ → Option (List Content)
+contents_between mode [] text = None
+contents_between mode (piece ∷ pieces) text =
     option_and_then (contents_before mode pieces) (after piece text)
 
 -- each literal, followed by the text after it, reads as its content and leaves exactly that text

@@ -2,6 +2,7 @@ pub mod StandsAlone
 pub mod Pieces
 pub mod Contents
 pub mod Replaced
+pub mod ReadOnServer
 pub mod FirstCause
 pub mod TextLength
 pub mod Survey

@@ -2,7 +2,6 @@
 use Rattle.std.specs.Prelude.{ℕ, Bool, List, [], ◌∷◌, ◌++◌, ⊤}
 use Rattle.mysql_sql_text.specs.LiteralShape.{IsLiteral}
 use Rattle.mysql_named_params.specs.Tokens.{Token, IsTokens, Name, Mark}
-use Rattle.mysql_named_params.specs.Server.{Server, IsReadOn}
 
 -- the tokens with the first list in place of the first name or mark, and so on; all others as
 -- they were
@@ -12,21 +11,13 @@ with_literal_tokens (Name name ∷ ts) (list ∷ lists) = list ++ with_literal_t
 with_literal_tokens (Mark ∷ ts) (list ∷ lists) = list ++ with_literal_tokens ts lists
 with_literal_tokens (t ∷ ts) lists = t ∷ with_literal_tokens ts lists
 
--- as many lists as texts, and each the tokens of its text, read alone
+-- as many lists as texts, and each is the tokens of its text, read alone
 abbrev pub AreTokensOf : Bool → List (List ℕ) → List (List Token) → Type 0
 AreTokensOf mode [] [] = ⊤
 AreTokensOf mode [] (list ∷ lists) = ⊥
 AreTokensOf mode (text ∷ texts) [] = ⊥
 AreTokensOf mode (text ∷ texts) (list ∷ lists) =
     IsTokens mode text list × AreTokensOf mode texts lists
-
--- as many lists as texts, and each the tokens of its text on the server, read alone
-abbrev pub AreReadOn : Server → Bool → List (List ℕ) → List (List Token) → Type 0
-AreReadOn server mode [] [] = ⊤
-AreReadOn server mode [] (list ∷ lists) = ⊥
-AreReadOn server mode (text ∷ texts) [] = ⊥
-AreReadOn server mode (text ∷ texts) (list ∷ lists) =
-    IsReadOn server mode text list × AreReadOn server mode texts lists
 
 -- each of the texts has the shape of a literal
 abbrev pub AreLiterals : Bool → List (List ℕ) → Type 0

@@ -1,11 +1,20 @@
 -- A text that is written over the places of a query, a literal of each value in each place: the
 -- contract of the private `written_text`, and no part of what is promised to users.
-use Rattle.std.specs.Prelude.{◌≡◌, ℕ, Bool, List, Some}
+use Rattle.std.specs.Prelude.{◌≡◌, ℕ, Bool, List, [], ◌∷◌, Some, ⊤}
 use Rattle.mysql_values.specs.declared.value.Value.{Value}
+use Rattle.mysql_values.specs.ReadBack.{ReadsAs}
 use Rattle.mysql_named_params.specs.Tokens.{Token}
 use Rattle.mysql_binding.specs.Pieces.{pieces, joined_text}
 use Rattle.mysql_binding.specs.Replaced.{AreLiterals}
-use Rattle.mysql_binding.specs.ValueLiterals.{AreLiteralsOf, AreReadAs}
+use Rattle.mysql_binding.specs.ValueLiterals.{AreLiteralsOf}
+
+-- each text reads as the content of its value
+abbrev pub AreReadAs : Bool → List Value → List (List ℕ) → Type 0
+AreReadAs mode [] [] = ⊤
+AreReadAs mode [] (text ∷ texts) = ⊥
+AreReadAs mode (value ∷ values) [] = ⊥
+AreReadAs mode (value ∷ values) (text ∷ texts) =
+    ReadsAs mode value text × AreReadAs mode values texts
 
 -- the text is the pieces of these tokens with the literals of the values between them
 pub record IsWrittenText (mode : Bool) (ts : List Token) (values : List Value) (text : List ℕ)
@@ -16,4 +25,4 @@ pub record IsWrittenText (mode : Bool) (ts : List Token) (values : List Value) (
   pub shapes : AreLiterals mode literals
   pub reads_back : AreReadAs mode values literals
   -- the text is exactly these, between the pieces
-  pub exact : joined_text (pieces ts) literals ≡ Some text
+  pub text_is : joined_text (pieces ts) literals ≡ Some text

@@ -7,7 +7,7 @@ ghost use Rattle.mysql_params_core.specs.Errors.{lookup_refusal};
 ghost use Rattle.mysql_params_core.specs.Given.{given};
 ghost use Rattle.mysql_params_core.specs.Lookup.{lookup};
 ghost use Rattle.mysql_params_core.specs.Referents.{referents};
-ghost use Rattle.mysql_binding.specs.BindErrors.{IsRefusal, cause_of};
+ghost use Rattle.mysql_binding.specs.BindErrors.{IsCauseOrMemory, cause_of};
 ghost use Rattle.mysql_binding.specs.BoundAgain.{IsSameBoundAgain, IsSameByPosition};
 ghost use Rattle.mysql_binding.specs.FirstCause.{mark_count_differs, first_cause, later_cause, mixed_cause, refused_params};
 ghost use Rattle.mysql_binding.specs.Isolation.{IsBoundText};
@@ -55,7 +55,7 @@ pub fn bind_text_in(
     ensures bound { OnTokens no_backslash_escape query.now (λ ts. IfOk result (λ text.
         IsBoundText no_backslash_escape ts (given params) text.items)) }
     ensures refused { OnTokens no_backslash_escape query.now (λ ts. IfErr result
-        (IsRefusal (first_cause ts (given params)))) }
+        (IsCauseOrMemory (first_cause ts (given params)))) }
     ensures bound_again { IfOk result (λ text. IsSameBoundAgain no_backslash_escape text.items) }
     ensures by_position { OnTokens no_backslash_escape query.now (λ ts. IfOk result (λ text.
         IsSameByPosition no_backslash_escape ts (given params) text.items)) }
@@ -92,7 +92,7 @@ pub fn bind_text(alloc: Global, query: &[u8], params: Params) -> Result<Vec<u8>,
     ensures bound { OnTokens with_backslashes query.now (λ ts. IfOk result (λ text.
         IsBoundText with_backslashes ts (given params) text.items)) }
     ensures refused { OnTokens with_backslashes query.now (λ ts. IfErr result
-        (IsRefusal (first_cause ts (given params)))) }
+        (IsCauseOrMemory (first_cause ts (given params)))) }
     ensures bound_again { IfOk result (λ text. IsSameBoundAgain with_backslashes text.items) }
     ensures by_position { OnTokens with_backslashes query.now (λ ts. IfOk result (λ text.
         IsSameByPosition with_backslashes ts (given params) text.items)) }
@@ -118,7 +118,7 @@ fn values_of_places<'p>(
     ensures values { IfOk result (λ values. OnTokens no_backslash_escape query.now (λ ts.
         lookup (given params.now) (names ts) ≡ Ok (referents values.items))) }
     ensures refused { IfErr result (λ error. OnTokens no_backslash_escape query.now (λ ts.
-        IsRefusal (first_cause ts (given params.now)) error)) }
+        IsCauseOrMemory (first_cause ts (given params.now)) error)) }
 {
     let names = match query_names(alloc, query, name_count, no_backslash_escape) {
         Ok(names) => names,

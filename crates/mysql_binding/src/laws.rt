@@ -2,14 +2,16 @@
 ghost use Rattle.std.specs.Prelude.{◌≡◌, ◌↔◌, ℕ, Bool, List, [], None, Some, IsTrue, map, slice_get};
 ghost use Rattle.mysql_values.specs.Content.{content_of};
 ghost use Rattle.mysql_named_params.specs.Tokens.{Token, IsTokens, text_of};
-ghost use Rattle.mysql_named_params.specs.Places.{place_count, positions, with_marks};
+ghost use Rattle.mysql_named_params.specs.Places.{place_count, with_marks};
+ghost use Rattle.mysql_named_params.specs.Positions.{positions};
 ghost use Rattle.mysql_named_params.specs.Portable.{AreReadAlike, IsPortable};
 ghost use Rattle.mysql_named_params.specs.Server.{Server, IsReadOn};
 ghost use Rattle.mysql_params_core.specs.Given.{Given, empty, positional};
 ghost use Rattle.mysql_binding.specs.BindErrors.{AreEqualBindErrors};
 ghost use Rattle.mysql_binding.specs.Isolation.{IsBoundText};
 ghost use Rattle.mysql_binding.specs.Pieces.{pieces, joined_text};
-ghost use Rattle.mysql_binding.specs.Replaced.{AreLiterals, AreReadOn, AreTokensOf, with_literal_tokens};
+ghost use Rattle.mysql_binding.specs.Replaced.{AreLiterals, AreTokensOf, with_literal_tokens};
+ghost use Rattle.mysql_binding.specs.ReadOnServer.{AreReadOn};
 ghost use Rattle.mysql_binding.specs.StandsAlone.{AllAlone, IsFirstNotAlone, first_not_alone};
 
 use crate::bind_error::BindError;
@@ -34,14 +36,14 @@ pub fn isolation()
 pub fn bound_texts_on_servers()
     ensures portable { (mode : Bool) (query text : List ℕ) (ts : List Token) (given : Given) →
         IsTokens mode query ts → (b : IsBoundText mode ts given text) → AreReadAlike ts →
-        IsPortable (with_literal_tokens ts b.lists) }
+        IsPortable (with_literal_tokens ts b.literal_tokens) }
     ensures tokens { (server : Server) (mode : Bool) (query text : List ℕ) (ts us : List Token)
         (given : Given) → IsTokens mode query ts → (b : IsBoundText mode ts given text) →
         AreReadAlike ts → IsReadOn server mode query us →
-        IsReadOn server mode text (with_literal_tokens us b.lists) }
+        IsReadOn server mode text (with_literal_tokens us b.literal_tokens) }
     ensures literals { (server : Server) (mode : Bool) (ts : List Token) (given : Given)
         (text : List ℕ) → (b : IsBoundText mode ts given text) →
-        AreReadOn server mode b.literals b.lists }
+        AreReadOn server mode b.literals b.literal_tokens }
 {}
 
 /// No name and no mark is left in a bound text.

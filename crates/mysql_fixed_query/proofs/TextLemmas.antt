@@ -32,7 +32,7 @@ text_is_computed mode query g values text looked_up bound =
     ap (map (literal_text mode)) (sym same)
     ∙ map-literal_text mode bound.values bound.literals bound.written in
     sym (ap (λ o. unwrap_or o [])
-    (ap (joined_text (pieces (tokens_of mode query))) literals ∙ bound.exact))
+    (ap (joined_text (pieces (tokens_of mode query))) literals ∙ bound.text_is))
 
 -- the same of an answer
 pub answer_is_computed : {A E : Type 0} (items : A → List ℕ) (r : Result A E) (mode : Bool)

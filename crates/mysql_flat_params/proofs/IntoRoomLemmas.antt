@@ -12,7 +12,7 @@ use Rattle.mysql_params_core.specs.Errors.{lookup_refusal}
 use Rattle.mysql_params_core.specs.declared.params.errors.ParamsError.{ParamsError}
 use Rattle.mysql_params_core.specs.declared.params.errors.ParamsError.TheVariants as params
 use Rattle.mysql_params_core.specs.declared.params.errors.MissingNamedParameterError.{MissingNamedParameterError}
-use Rattle.mysql_binding.specs.BindErrors.{IsRefusal, cause_of}
+use Rattle.mysql_binding.specs.BindErrors.{IsCauseOrMemory, cause_of}
 use Rattle.mysql_binding.specs.FirstCause.{Cause, first_cause, refused_params}
 use Rattle.mysql_binding.specs.declared.bind_error.BindError.{BindError}
 use Rattle.mysql_binding.specs.declared.bind_error.BindError.TheVariants as bind
@@ -31,14 +31,14 @@ use Rattle.mysql_flat_params.proofs.MissingLemmas.{missing_is_name}
 
 -- an error that stands for a cause is that of the first cause
 module _ (error : BindError) (cause : Cause) (is : cause_of error ≡ Some cause) where
-  cause_is_first : (first : Option Cause) → IsRefusal first error → first ≡ Some cause
+  cause_is_first : (first : Option Cause) → IsCauseOrMemory first error → first ≡ Some cause
   cause_is_first first (inl memory) =
       let never : Some cause ≡ None = sym is ∙ ap cause_of memory in
       cc
   cause_is_first first (inr why) = why.1 ∙ (sym why.2 ∙ is)
 
   pub refused_for : (mode : Bool) (query form : List ℕ) (given : Given) → IsFormReading form (Ok given) →
-      OnTokens mode query (λ ts. IsRefusal (first_cause ts given) error) → IsRefusedFor mode query form cause
+      OnTokens mode query (λ ts. IsCauseOrMemory (first_cause ts given) error) → IsRefusedFor mode query form cause
   refused_for mode query form given reads o = (given, reads, (o.0, o.1, cause_is_first (first_cause o.0 given) o.2))
 
 -- the cause of an error that holds a missing name
@@ -51,7 +51,7 @@ is_missing error why held name is why_is name_is =
 
 -- a name that is missing is one of the query's
 pub name_is_there : (mode : Bool) (query name : List ℕ) (error : BindError) → cause_of error ≡ Some (refused_params (missing name)) →
-    ((given : Given) × OnTokens mode query (λ ts. IsRefusal (first_cause ts given) error)) →
+    ((given : Given) × OnTokens mode query (λ ts. IsCauseOrMemory (first_cause ts given) error)) →
     OnTokens mode query (λ ts. Contains (names ts) name)
 name_is_there mode query name error is (given, o) =
     (o.0, o.1, missing_is_name o.0 given name (cause_is_first error (refused_params (missing name)) is (first_cause o.0 given) o.2))

@@ -6,7 +6,7 @@ ghost use Rattle.mysql_wire_part.specs.Lenenc.{lenenc_spelling};
 ghost use Rattle.mysql_named_params.specs.Tokens.{OnTokens};
 ghost use Rattle.mysql_named_params.specs.Places.{names, marks, HasName};
 ghost use Rattle.mysql_params_core.specs.Given.{Given};
-ghost use Rattle.mysql_binding.specs.BindErrors.{IsRefusal};
+ghost use Rattle.mysql_binding.specs.BindErrors.{IsCauseOrMemory};
 ghost use Rattle.mysql_binding.specs.FirstCause.{first_cause};
 ghost use Rattle.mysql_flat_params.specs.FlatForm.{HasFirstParameter, IsFormReading};
 ghost use Rattle.mysql_flat_params.specs.FormErrors.{IsFormRefusal};
@@ -217,9 +217,9 @@ fn form_outcome(error: FormError) -> Outcome
 // A refusal of binding to this query.
 fn bind_outcome(query: &[u8], error: BindError, no_backslash_escape: bool) -> Outcome
     requires { (given : Given) × OnTokens no_backslash_escape query.now (λ ts.
-        IsRefusal (first_cause ts given) error) }
+        IsCauseOrMemory (first_cause ts given) error) }
     ensures outcome { (form : List ℕ) (given : Given) → IsFormReading form (Ok given) →
-        OnTokens no_backslash_escape query.now (λ ts. IsRefusal (first_cause ts given) error) →
+        OnTokens no_backslash_escape query.now (λ ts. IsCauseOrMemory (first_cause ts given) error) →
         IsBindOutcome no_backslash_escape query.now form result }
     ensures mixed { error ≡ BindError.Mixed → result ≡ Outcome.Mixed }
     ensures no_answer { HasNoAnswer result }

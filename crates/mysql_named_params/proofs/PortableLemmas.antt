@@ -6,7 +6,8 @@ use Rattle.std.proofs.lemmas.Bool.Decides.{nat_tests}
 use Rattle.mysql_named_params.specs.Bytes.{asterisk, backquote, colon, dash, double_quote, hash, newline, question_mark, slash, is_white_space, is_string_quote, begins, HoldsOnlyAtEnd, IsUpTo, up_to_word, up_to_end}
 use Rattle.mysql_sql_text.specs.StringUnits.{AreUnits, no_units, byte_unit}
 use Rattle.mysql_named_params.specs.Tokens.{Token, bytes_of, text_of, IsToken, IsTokens, AreTokensBefore, IsStringTail, closed_string, open_string, open_in_escape, QuotedString, QuotedIdentifier, HashComment, DashComment, BlockComment, Name, Mark, Plain}
-use Rattle.mysql_named_params.specs.Places.{names, marks, positions_from}
+use Rattle.mysql_named_params.specs.Places.{names, marks}
+use Rattle.mysql_named_params.specs.Positions.{positions_from}
 use Rattle.mysql_named_params.specs.FirstToken.{opens_dash_comment}
 use Rattle.mysql_named_params.specs.TokensOf.{not_plain_at, dash_comment}
 use Rattle.mysql_named_params.proofs.TokenEnds.{plain_at}

@@ -1,7 +1,8 @@
 -- The positions of names and marks.
 use Rattle.std.proofs.Common.{◌≡◌, ℕ, ◌+◌, ◌≤◌, List, [], ◌∷◌, ◌++◌, length, refl, ap, ◌∙◌, subst, arith, append_assoc, append-nil, length-append}
 use Rattle.mysql_named_params.specs.Tokens.{Token, bytes_of, text_of, Name, Mark}
-use Rattle.mysql_named_params.specs.Places.{names, marks, positions_from, HavePlacesAt, AscendFrom}
+use Rattle.mysql_named_params.specs.Places.{names, marks}
+use Rattle.mysql_named_params.specs.Positions.{positions_from, HavePlacesAt, AscendFrom}
 use Rattle.mysql_named_params.proofs.TokenRowLemmas.{text_of-append}
 
 -- as many positions as names and marks

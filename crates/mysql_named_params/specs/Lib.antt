@@ -1,6 +1,7 @@
 pub mod Bytes
 pub mod Tokens
 pub mod Places
+pub mod Positions
 pub mod Locality
 pub mod FirstToken
 pub mod TokensOf

@@ -5,7 +5,8 @@ ghost use Rattle.mysql_named_params.specs.Tokens.{Token, IsToken, IsTokens};
 ghost use Rattle.mysql_named_params.specs.TokensOf.{tokens_of};
 ghost use Rattle.mysql_named_params.specs.Locality.{LooksAlike};
 ghost use Rattle.mysql_named_params.specs.Parsed.{parsed};
-ghost use Rattle.mysql_named_params.specs.Places.{names, marks, positions, HavePlacesAt, AscendFrom, with_marks, with_names};
+ghost use Rattle.mysql_named_params.specs.Places.{names, marks, with_marks, with_names};
+ghost use Rattle.mysql_named_params.specs.Positions.{positions, HavePlacesAt, AscendFrom};
 ghost use Rattle.mysql_named_params.specs.Portable.{AreReadAlike, IsReadAs};
 ghost use Rattle.mysql_named_params.specs.Server.{Server, IsReadOn, grammar};
 

@@ -1,6 +1,7 @@
 pub use Rattle.mysql_named_params.specs.Bytes
 pub use Rattle.mysql_named_params.specs.Tokens
 pub use Rattle.mysql_named_params.specs.Places
+pub use Rattle.mysql_named_params.specs.Positions
 pub use Rattle.mysql_named_params.specs.TokensOf
 pub use Rattle.mysql_named_params.specs.Locality
 pub use Rattle.mysql_named_params.specs.Parsed
@@ -19,6 +20,7 @@ pub use Rattle.mysql_binding.specs.StandsAlone
 pub use Rattle.mysql_binding.specs.Pieces
 pub use Rattle.mysql_binding.specs.Contents
 pub use Rattle.mysql_binding.specs.Replaced
+pub use Rattle.mysql_binding.specs.ReadOnServer
 pub use Rattle.mysql_binding.specs.FirstCause
 pub use Rattle.mysql_binding.specs.ValueLiterals
 pub use Rattle.mysql_binding.specs.BindErrors

@@ -3,7 +3,7 @@ use Rattle.std.specs.Prelude.{ℕ, List, [], ◌∷◌, codes, IfOk, ⊤}
 use Rattle.mysql_values.specs.Answer.{IsExpectedRefusal}
 use Rattle.mysql_values.specs.StringUnits.{with_backslashes}
 use Rattle.mysql_values.specs.ValueOf.{bytes_value, uint_value}
-use Rattle.mysql_params.specs.BindErrors.{IsRefusal}
+use Rattle.mysql_params.specs.BindErrors.{IsCauseOrMemory}
 use Rattle.mysql_params.specs.Errors.{to_params_refusal}
 use Rattle.mysql_params.specs.FirstCause.{first_cause}
 use Rattle.mysql_params.specs.Made.{Made, pairs_made}
@@ -24,4 +24,4 @@ abbrev pub IsQueryRefusal : List ℕ → Made → QueryError → Type 0
 IsQueryRefusal query made (Params error) = IsExpectedRefusal made ⊤ (to_params_refusal error)
 IsQueryRefusal query made (Bind error) =
     IfOk made (λ values. OnTokens with_backslashes query (λ ts.
-    IsRefusal (first_cause ts values) error))
+    IsCauseOrMemory (first_cause ts values) error))

@@ -26,8 +26,7 @@ pub(super) fn query_names<'q>(
         let Some(found) = first_place(rest, no_backslash_escape) else {
             unreachable!()
         };
-        let (_, from_place) = rest.split_at(found.before);
-        let (place, after) = from_place.split_at(found.len);
+        let (_, place, after) = found.cut(rest);
         list.push(&place[1..])?;
         rest = after;
     }

@@ -87,8 +87,7 @@ fn fill_text(
         let Some(found) = first_place(rest, no_backslash_escape) else {
             unreachable!()
         };
-        let (piece, from_place) = rest.split_at(found.before);
-        let (_, after) = from_place.split_at(found.len);
+        let (piece, _, after) = found.cut(rest);
         at = append_piece(text, at, piece);
         at = append_literal(text, at, value, lens[i] as usize, no_backslash_escape);
         rest = after;

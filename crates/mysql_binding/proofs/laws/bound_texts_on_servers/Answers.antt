@@ -8,9 +8,9 @@ use Rattle.mysql_binding.proofs.laws.bound_texts_on_servers.Goals as goal
 pub returns : goal.returns
 returns c = record {
   portable = λ mode query text ts given h b p. record {
-    alike = replaced_portable mode ts b.literals b.lists h.each p b.shapes b.tokens_of_literals (joined_text_count [] ts b.literals text b.exact);
-    apart = placeless_join_no_number mode _ b.isolated.each (isolated_places mode text ts b.literals b.lists b.shapes b.tokens_of_literals b.exact);
+    alike = replaced_portable mode ts b.literals b.literal_tokens h.each p b.shapes b.tokens_of_literals (joined_text_count [] ts b.literals text b.text_is);
+    apart = placeless_join_no_number mode _ b.isolated.each (isolated_places mode text ts b.literals b.literal_tokens b.shapes b.tokens_of_literals b.text_is);
   };
-  tokens = λ server mode query text ts us given h b p u. isolated_on server mode query text ts us b.literals b.lists h p b.shapes b.tokens_of_literals b.exact u;
-  literals = λ server mode ts given text b. literals_on server mode b.literals b.lists b.shapes b.tokens_of_literals;
+  tokens = λ server mode query text ts us given h b p u. isolated_on server mode query text ts us b.literals b.literal_tokens h p b.shapes b.tokens_of_literals b.text_is u;
+  literals = λ server mode ts given text b. literals_on server mode b.literals b.literal_tokens b.shapes b.tokens_of_literals;
 }

@@ -15,5 +15,5 @@ returns c = listed_all _ _ _ _ _ c.loop-rest.invariant (omega arith)
 
 pub loop-rest-preserved : goal.loop-rest-preserved
 loop-rest-preserved c =
-    listed_more _ _ _ _ _ c.loop-rest.invariant _ _ _ _ _ _ (omega arith) c.in-Some.ensures.place c.split_at.ensures.back
-    c.split_at-in-loop-rest.ensures.front c.split_at-in-loop-rest.ensures.back c.in_ok-push.ensures.items refl
+    listed_more _ _ _ _ _ c.loop-rest.invariant _ _ _ _ _ (omega arith) c.in-Some.ensures.place
+    c.cut.ensures.place c.cut.ensures.after c.in_ok-push.ensures.items refl

@@ -16,7 +16,7 @@ unreachable-requires c =
 
 pub append_piece-at-requires : goal.append_piece-at-requires
 append_piece-at-requires c =
-    piece_fits _ _ _ _ _ _ _ c.loop-i.invariant c.loop-i-test.true c.index-values-i.result c.index-values-i.is _ c.in-Some.ensures.place _ c.split_at.ensures.front
+    piece_fits _ _ _ _ _ _ _ c.loop-i.invariant c.loop-i-test.true c.index-values-i.result c.index-values-i.is _ c.in-Some.ensures.place _ c.cut.ensures.before
 
 pub append_literal-at-requires-clause-no_float : goal.append_literal-at-requires-clause-no_float
 append_literal-at-requires-clause-no_float c =
@@ -28,14 +28,14 @@ append_literal-at-requires-clause-len c =
 
 pub append_literal-at-requires-clause-room : goal.append_literal-at-requires-clause-room
 append_literal-at-requires-clause-room c =
-    literal_fits _ _ _ _ _ _ _ c.loop-i.invariant c.loop-i-test.true c.index-values-i.result c.index-values-i.is _ c.in-Some.ensures.place _ c.split_at.ensures.front
+    literal_fits _ _ _ _ _ _ _ c.loop-i.invariant c.loop-i-test.true c.index-values-i.result c.index-values-i.is _ c.in-Some.ensures.place _ c.cut.ensures.before
     _ _ c.append_piece-at.ensures.next (search rules) c.append_piece-at.ensures.front _
     (fill_len _ _ _ _ _ _ _ c.loop-i.invariant c.loop-i-test.true c.index-values-i.result c.index-values-i.is _ c.requires.lens)
 
 pub loop-i-preserved : goal.loop-i-preserved
 loop-i-preserved c =
-    filled_more _ _ _ _ _ _ _ c.loop-i.invariant c.loop-i-test.true c.index-values-i.result c.index-values-i.is _ c.in-Some.ensures.place _ c.split_at.ensures.front
-    _ _ c.append_piece-at.ensures.next (search rules) c.append_piece-at.ensures.front _ _ _ _ _ c.split_at.ensures.back c.split_at-in-loop-i.ensures.back
+    filled_more _ _ _ _ _ _ _ c.loop-i.invariant c.loop-i-test.true c.index-values-i.result c.index-values-i.is _ c.in-Some.ensures.place _ c.cut.ensures.before
+    _ _ c.append_piece-at.ensures.next (search rules) c.append_piece-at.ensures.front _ _ _ _ c.cut.ensures.after
     (fill_len _ _ _ _ _ _ _ c.loop-i.invariant c.loop-i-test.true c.index-values-i.result c.index-values-i.is _ c.requires.lens)
     c.append_literal-at.ensures.next (search rules) c.append_literal-at.ensures.literal c.append_literal-at.ensures.shape
     c.append_literal-at.ensures.reads_back c.append_literal-at.ensures.front
