@@ -1,18 +1,16 @@
 -- Lookups of names that are slices, which give borrowed values.
-use Rattle.std.proofs.Common.{◌≡◌, ◌⊎◌, inl, inr, subst, ◌<◌, ◌+◌, ◌-◌, ◌&&◌, ℕ, suc, Bool, true, false, List, [], ◌∷◌, ◌++◌, map, length, take, drop, get_or, refl, sym, ap, ◌∙◌, arith, add-one}
-use Rattle.std.specs.Prelude.{Option, Some, None, is_some, slice_index_or, ok_or, Err, ⊤}
+use Rattle.std.proofs.Common.{◌≡◌, ◌<◌, ◌+◌, ◌-◌, ◌&&◌, ℕ, true, List, [], ◌∷◌, ◌++◌, map, length, take, get_or, refl, sym, ap, ◌∙◌, arith}
+use Rattle.std.specs.Prelude.{Some, None, is_some, ok_or}
 use Rattle.std.specs.Borrow.{Bor}
-use Rattle.std.specs.List.{list_all, list_any}
+use Rattle.std.specs.List.{list_all}
 use Rattle.std.specs.FinMap.{contains_key, get}
-use Rattle.std.proofs.lemmas.List.{take_more, get_or-map, length-map, map-append, drop-map, take_all, length-drop}
-use Rattle.mysql_wire_part.specs.Answer.{IsExpectedRefusal}
+use Rattle.std.proofs.lemmas.List.{take_more, get_or-map, length-map, map-append, take_all}
 use Rattle.mysql_value_core.specs.declared.value.Value.{Value}
 use Rattle.mysql_params_core.specs.FirstAbsent.{IsFirstAbsent}
 use Rattle.mysql_params_core.specs.Given.{ValueMap, named}
-use Rattle.mysql_params_core.specs.Lookup.{LookupRefusal, lookup, missing, values_at}
+use Rattle.mysql_params_core.specs.Lookup.{lookup, missing}
 use Rattle.mysql_params_core.specs.Names.{missing_name}
 use Rattle.mysql_params_core.specs.Referents.{referents}
-use Rattle.mysql_params_core.proofs.MissingLemmas.{list_any-map, no_values, missing_name-then, missing_name-else}
 use Rattle.mysql_params_core.proofs.WalkLemmas.{values_at-from}
 
 -- the referents up to an index, and the one at that index

@@ -112,8 +112,7 @@ fn named_positional(
 {
     match first_absent(&entries, names) {
         None => {
-            let values =
-                take_values(alloc, entries, names).map_err(IntoPositionalError::Memory)?;
+            let values = take_values(alloc, entries, names).map_err(IntoPositionalError::Memory)?;
             Ok(Params::Positional(values))
         }
         Some(first) => match missing_error(alloc, names[first].as_slice()) {
@@ -157,7 +156,9 @@ fn has_any<N: ToName>(entries: &HashMap<Vec<u8>, Value>, names: &[N]) -> bool
     ensures { result
         ≡ list_any (λ name. contains_key (value_map entries.now.entries) (N.name name)) names.now }
 {
-    names.iter().any(|name| has_name(entries, name.name_bytes()))
+    names
+        .iter()
+        .any(|name| has_name(entries, name.name_bytes()))
 }
 
 // The values of the names, all of which are in the map. The first time that a name stands in the
