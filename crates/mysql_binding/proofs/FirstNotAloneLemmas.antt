@@ -49,7 +49,7 @@ record IsFirstFrom (place : ℕ) (before : List ℕ) (ts : List Token) (number a
   split : front ++ found ∷ back ≡ ts
   is_place : IsPlace found
   number_is : place + place_count front ≡ number
-  position : length (before ++ text_of front) ≡ at
+  position_is : length (before ++ text_of front) ≡ at
   not_alone : stands_alone (before ++ text_of front) (text_of back) ≡ false
   others_alone : AllAloneFrom before front (text_of (found ∷ back))
 
@@ -68,7 +68,7 @@ here t ts place number at before i h e =
       split = refl;
       is_place = i;
       number_is = omega (arith, place_is);
-      position = ap length (append-nil before) ∙ at_is;
+      position_is = ap length (append-nil before) ∙ at_is;
       not_alone = rw (append-nil before) h;
       others_alone = none_alone before (text_of (t ∷ ts));
     }
@@ -88,7 +88,7 @@ IsFirstNotAlone-next t ts place next number at before h counts f =
       split = ap (λ us. t ∷ us) f.split;
       is_place = f.is_place;
       number_is = counts f.front ∙ f.number_is;
-      position = ap length joined ∙ f.position;
+      position_is = ap length joined ∙ f.position_is;
       not_alone = rw joined f.not_alone;
       others_alone = one_more_alone before t f.front (text_of (f.found ∷ f.back)) (λ i. ap (stands_alone before) (sym text) ∙ h i) f.others_alone;
     }
@@ -121,7 +121,7 @@ first_is_first ts place at e =
       split = f.split;
       is_place = f.is_place;
       number = omega (arith, f.number_is);
-      position = f.position;
+      position_is = f.position_is;
       not_alone = f.not_alone;
       others_alone = f.others_alone;
     }

@@ -1,4 +1,4 @@
--- What each error of binding stands for.
+-- The cause that each error of binding stands for.
 use Rattle.std.specs.Prelude.{◌≡◌, ◌⊎◌, Option, Some, None, option_map, alloc_error}
 use Rattle.mysql_params_core.specs.Errors.{lookup_refusal, AreEqualParamsErrors}
 use Rattle.mysql_binding.specs.FirstCause.{Cause, mixed_query, refused_params, mark_count, not_alone, float_value}
@@ -14,8 +14,8 @@ cause_of (NotAlone place at) = Some (not_alone place at)
 cause_of (Float place) = Some (float_value place)
 cause_of (Memory error) = None
 
--- either there is a first cause and the error is it, or the error is `Memory`: out of memory in the
--- lookup is `Memory` too, and never `Params`
+-- either there is a first cause and the error is this cause, or the error is `Memory`; out of
+-- memory in the lookup is `Memory` too, and never `Params`
 abbrev pub IsCauseOrMemory : Option Cause → BindError → Type 0
 IsCauseOrMemory cause error = (error ≡ Memory alloc_error)
     ⊎ ((why : Cause) × (cause ≡ Some why) × (cause_of error ≡ Some why))

@@ -1,5 +1,5 @@
--- A text that is bound again: by itself, since no place is left in it, and from the query with marks
--- for its names.
+-- A text that is bound again: the text itself, in which no place is left, and the query with a mark
+-- in place of each name.
 use Rattle.std.specs.Prelude.{◌≡◌, ℕ, Bool, List, Ok}
 use Rattle.mysql_values.specs.declared.value.Value.{Value}
 use Rattle.mysql_named_params.specs.Tokens.{Token, OnTokens, text_of}
@@ -8,7 +8,7 @@ use Rattle.mysql_params_core.specs.Given.{Given, empty, positional}
 use Rattle.mysql_params_core.specs.Lookup.{lookup}
 use Rattle.mysql_binding.specs.Isolation.{IsBoundText}
 
--- the text has no place: bound with no parameters, it is not refused and stays as it is
+-- the text has no place, and bound with no parameters it is not refused and stays as it is
 abbrev pub IsSameBoundAgain : Bool → List ℕ → Type 0
 IsSameBoundAgain mode text = OnTokens mode text (λ us.
     (place_count us ≡ 0) × IsBoundText mode us empty text)

@@ -1,5 +1,5 @@
--- What a text says in the places of a query: the contents of the literals between its pieces, read
--- by the reader of literals alone.
+-- The contents of the literals that stand between the pieces of a query, as the reader of literals
+-- reads them.
 use Rattle.std.specs.Prelude.{◌≡◌, ℕ, Bool, List, [], ◌∷◌, ◌++◌, Option, Some, None, option_map, option_and_then, ⊤}
 use Rattle.mysql_sql_text.specs.ReadLiteral.{Content, after, read_literal}
 use Rattle.mysql_binding.specs.Pieces.{joined_text}

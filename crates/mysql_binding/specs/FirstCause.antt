@@ -1,5 +1,5 @@
--- The causes for which binding is refused, and the first that holds of a query and parameters. None
--- of them is out of memory.
+-- The causes for which binding is refused, and the first that holds of a query and parameters. Out
+-- of memory is no cause.
 use Rattle.std.specs.Prelude.{◌+◌, ◌&&◌, nat_eq, not, ℕ, Bool, List, [], ◌∷◌, length, if◌then◌else◌, Option, Some, None, option_map, Result, Ok, Err}
 use Rattle.std.specs.Option.{option_or}
 use Rattle.mysql_values.specs.declared.value.Value.{Value}
@@ -19,7 +19,7 @@ pub data Cause : Type 0 where
   -- it has no name, and this many marks for another number of values
   mark_count : (marks values : ℕ) → Cause
   -- the place of this number, at this position, doesn't stand alone
-  not_alone : (place at : ℕ) → Cause
+  not_alone : (place position : ℕ) → Cause
   -- the value of the place of this number is a float
   float_value : (place : ℕ) → Cause
 
@@ -27,7 +27,7 @@ pub data Cause : Type 0 where
 abbrev pub mixed_cause : List Token → Option Cause
 mixed_cause ts = if has_both ts then Some mixed_query else None
 
--- by their numbers: there are no names, and the marks are not as many as the values
+-- the test by numbers: there are no names, and the marks are not as many as the values
 abbrev pub mark_count_differs : ℕ → ℕ → ℕ → Bool
 mark_count_differs names marks values = nat_eq names 0 && not (nat_eq marks values)
 
@@ -38,11 +38,11 @@ count_cause ts values =
     then Some (mark_count (marks ts) (length values))
     else None
 
--- the cause that a place doesn't stand alone: the first such
+-- the cause for the first place that doesn't stand alone
 abbrev pub not_alone_cause : List Token → Option Cause
 not_alone_cause ts = option_map (λ found. not_alone found.0 found.1) (first_not_alone ts)
 
--- the place of the first float among the values, where `place` values stand before them
+-- the place of the first float among the values, if `place` values stand before them
 abbrev pub first_float_from : ℕ → List Value → Option ℕ
 first_float_from place [] = None
 first_float_from place (value ∷ values) =
@@ -52,21 +52,21 @@ first_float_from place (value ∷ values) =
 abbrev pub first_float : List Value → Option ℕ
 first_float = first_float_from 0
 
--- the cause that a value is a float: the first such
+-- the cause for the first float
 abbrev pub float_cause : List Value → Option Cause
 float_cause values = option_map float_value (first_float values)
 
 -- the first of the causes after a lookup that gave values: the number of marks, then the places,
--- then the values
+-- and then the values
 abbrev pub later_cause : List Token → List Value → Option Cause
 later_cause ts values =
     option_or (count_cause ts values) (option_or (not_alone_cause ts) (float_cause values))
 
--- the first cause where the lookup gave this
+-- the first cause after a mixed query, by the answer of the lookup
 abbrev pub cause_after_lookup : List Token → Result (List Value) LookupRefusal → Option Cause
 cause_after_lookup ts (Err refusal) = Some (refused_params refusal)
 cause_after_lookup ts (Ok values) = later_cause ts values
 
--- the first cause that holds of a query with these tokens and what is given to it, if any
+-- the first cause that holds of a query with these tokens and of what is given to it, if any
 abbrev pub first_cause : List Token → Given → Option Cause
 first_cause ts given = option_or (mixed_cause ts) (cause_after_lookup ts (lookup given (names ts)))

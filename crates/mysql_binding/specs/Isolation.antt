@@ -1,9 +1,9 @@
 -- What binding promises of the text that it gives: each value stands in one literal, and nothing
--- else of the query changes. `bind_text_in` promises this record in the mode that its flag names, and
--- `bind_text` in the mode with backslashes, or else an error that is the first cause or out of memory
--- (BindErrors.antt). The laws of src/laws.rt say more of such a text: `isolation`,
--- `bound_texts_on_servers`, `no_place_is_left`, `bound_again_is_the_same`, `by_position_is_the_same`
--- and `equal_texts_say_the_same`.
+-- else of the query changes. `bind_text_in` promises this record in the mode that its flag names,
+-- and `bind_text` in the mode with backslashes, or else an error that is the first cause or out of
+-- memory (BindErrors.antt). The laws of src/laws.rt say more of such a text: `isolation`,
+-- `bound_texts_on_servers`, `no_place_is_left`, `bound_again_is_the_same`,
+-- `by_position_is_the_same` and `equal_texts_say_the_same`.
 use Rattle.std.specs.Prelude.{◌≡◌, ℕ, Bool, List, map, Some, None, Ok}
 use Rattle.mysql_values.specs.declared.value.Value.{Value}
 use Rattle.mysql_values.specs.Content.{content_of}
@@ -28,8 +28,8 @@ pub record IsBoundText (mode : Bool) (ts : List Token) (given : Given) (text : L
   pub literal_tokens : List (List Token)
   pub contents : List Content
   -- ISOLATION
-  -- so that the tokens of the text are those of the query, with those of one literal in place of each
-  -- name and mark,
+  -- so that the tokens of the text are those of the query, with those of one literal in place of
+  -- each name and mark,
   pub isolated : IsTokens mode text (with_literal_tokens ts literal_tokens)
   -- and each literal, followed by the text after it, reads as the content of its value and leaves
   -- exactly that text.

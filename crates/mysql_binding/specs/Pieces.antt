@@ -1,20 +1,20 @@
--- The pieces of a query, what is left of it between its places, and their text with literals
--- between them.
+-- The pieces of a query, which are the texts between its places, and the text that they make with
+-- literals between them.
 use Rattle.std.specs.Prelude.{◌++◌, ℕ, List, [], ◌∷◌, Option, Some, None, option_map}
 use Rattle.mysql_named_params.specs.Tokens.{Token, bytes_of, Name, Mark}
 
--- the pieces between the places of these tokens, where the first piece begins with this text
+-- the pieces between the places of these tokens, if the first piece begins with this text
 abbrev pub pieces_from : List ℕ → List Token → List (List ℕ)
 pieces_from piece [] = piece ∷ []
 pieces_from piece (Name name ∷ ts) = piece ∷ pieces_from [] ts
 pieces_from piece (Mark ∷ ts) = piece ∷ pieces_from [] ts
 pieces_from piece (t ∷ ts) = pieces_from (piece ++ bytes_of t) ts
 
--- what is left of a query between its places: one text more than places
+-- the texts between the places of a query: one more than places
 abbrev pub pieces : List Token → List (List ℕ)
 pieces = pieces_from []
 
--- the piece, where no other follows it
+-- the piece, if no other follows it
 abbrev pub last_piece : List ℕ → List (List ℕ) → Option (List ℕ)
 last_piece piece [] = Some piece
 last_piece piece (next ∷ pieces) = None

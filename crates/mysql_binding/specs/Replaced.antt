@@ -3,8 +3,8 @@ use Rattle.std.specs.Prelude.{ℕ, Bool, List, [], ◌∷◌, ◌++◌, ⊤}
 use Rattle.mysql_sql_text.specs.LiteralShape.{IsLiteral}
 use Rattle.mysql_named_params.specs.Tokens.{Token, IsTokens, Name, Mark}
 
--- the tokens with the first list in place of the first name or mark, and so on; all others as
--- they were
+-- the tokens with the first list in place of the first name or mark, and so on; all others as they
+-- were, and so are places for which no list is left
 abbrev pub with_literal_tokens : List Token → List (List Token) → List Token
 with_literal_tokens [] lists = []
 with_literal_tokens (Name name ∷ ts) (list ∷ lists) = list ++ with_literal_tokens ts lists

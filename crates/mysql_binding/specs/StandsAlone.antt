@@ -1,4 +1,4 @@
--- Which places of a query stand alone: those whose neighbouring bytes may stand beside a literal.
+-- The places of a query that stand alone: the bytes beside them may stand beside a literal.
 use Rattle.std.specs.Prelude.{◌≡◌, ◌+◌, ◌++◌, ◌==◌, ◌&&◌, ◌||◌, IsTrue, IsFalse, ℕ, Bool, true, List, [], ◌∷◌, if◌then◌else◌, length, Option, Some, None, codes}
 use Rattle.std.specs.List.{list_any}
 use Rattle.mysql_named_params.specs.Bytes.{is_white_space}
@@ -41,13 +41,13 @@ abbrev pub stands_alone : List ℕ → List ℕ → Bool
 stands_alone before after =
     none_or_last may_stand_before before && none_or_first may_stand_after after
 
--- each name and mark among the tokens stands alone, where this text follows them
+-- each name and mark among the tokens stands alone, if this text follows them
 abbrev pub AllAlone : List Token → List ℕ → Type 0
 AllAlone ts rest = (front : List Token) (t : Token) (back : List Token) → front ++ t ∷ back ≡ ts →
     IsPlace t → IsTrue (stands_alone (text_of front) (text_then rest back))
 
 -- the place of this number, at this position, is the first that doesn't stand alone
-pub record IsFirstNotAlone (ts : List Token) (place at : ℕ) : Type 0 where
+pub record IsFirstNotAlone (ts : List Token) (place position : ℕ) : Type 0 where
   -- the tokens before it, itself, and the tokens after it
   pub front : List Token
   pub found : Token
@@ -55,16 +55,16 @@ pub record IsFirstNotAlone (ts : List Token) (place at : ℕ) : Type 0 where
   pub split : front ++ found ∷ back ≡ ts
   -- it is a name or a mark
   pub is_place : IsPlace found
-  -- its number is that of the places before it, its position that of the bytes before it
+  -- its number is the count of places before it, and its position the count of bytes before it
   pub number : place_count front ≡ place
-  pub position : length (text_of front) ≡ at
+  pub position_is : length (text_of front) ≡ position
   -- it doesn't stand alone
   pub not_alone : IsFalse (stands_alone (text_of front) (text_of back))
   -- each place before it does
   pub others_alone : AllAlone front (text_of (found ∷ back))
 
 -- The same as a function (`laws::first_not_alone_is_first`): number and position of the first place
--- that doesn't stand alone, where `place` places and this text stand before the tokens.
+-- that doesn't stand alone, if `place` places and this text stand before the tokens.
 abbrev pub first_not_alone_from : ℕ → List ℕ → List Token → Option (ℕ × ℕ)
 first_not_alone_from place before [] = None
 first_not_alone_from place before (Name name ∷ ts) =

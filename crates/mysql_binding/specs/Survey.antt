@@ -1,5 +1,5 @@
--- What binding asks of the places of a query before it looks up values: the contract of the private
--- `place_survey`, and no part of what is promised to users.
+-- What is known of the places of a query before values are looked up. For the private
+-- `place_survey`; no public contract cites it.
 use Rattle.std.specs.Prelude.{◌≡◌, List, length}
 use Rattle.mysql_named_params.specs.Tokens.{Token}
 use Rattle.mysql_named_params.specs.Places.{names, marks}

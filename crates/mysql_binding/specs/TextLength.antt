@@ -1,5 +1,5 @@
--- How long the text of a query with literals is: the contracts of private calls, and no part of what
--- is promised to users.
+-- The lengths that the text of a query with literals is made of. For private functions; no public
+-- contract cites them.
 use Rattle.std.specs.Prelude.{ℕ, Bool, List, length}
 use Rattle.std.specs.List.{sum_by}
 use Rattle.mysql_values.specs.declared.value.Value.{Value}
@@ -7,10 +7,10 @@ use Rattle.mysql_values.specs.Literal.{literal_text}
 use Rattle.mysql_named_params.specs.Tokens.{Token}
 use Rattle.mysql_binding.specs.Pieces.{pieces}
 
--- how many bytes the pieces of a query have together
+-- the length of all pieces of a query together
 abbrev pub pieces_len : List Token → ℕ
 pieces_len ts = sum_by length (pieces ts)
 
--- how many bytes the literal of a value has
+-- the length of the literal of a value; 0 for a float, which has none
 abbrev pub literal_len : Bool → Value → ℕ
 literal_len mode value = length (literal_text mode value)

@@ -1,5 +1,5 @@
--- A text that is written over the places of a query, a literal of each value in each place: the
--- contract of the private `written_text`, and no part of what is promised to users.
+-- A query with the literal of a value in each of its places. For the private `written_text`; no
+-- public contract cites it.
 use Rattle.std.specs.Prelude.{◌≡◌, ℕ, Bool, List, [], ◌∷◌, Some, ⊤}
 use Rattle.mysql_values.specs.declared.value.Value.{Value}
 use Rattle.mysql_values.specs.ReadBack.{ReadsAs}
@@ -8,7 +8,7 @@ use Rattle.mysql_binding.specs.Pieces.{pieces, joined_text}
 use Rattle.mysql_binding.specs.Replaced.{AreLiterals}
 use Rattle.mysql_binding.specs.ValueLiterals.{AreLiteralsOf}
 
--- each text reads as the content of its value
+-- as many texts as values, and each reads as the content of its value
 abbrev pub AreReadAs : Bool → List Value → List (List ℕ) → Type 0
 AreReadAs mode [] [] = ⊤
 AreReadAs mode [] (text ∷ texts) = ⊥

@@ -3,8 +3,8 @@ use mysql_params_core::params::ParamsError;
 use std::alloc::AllocError;
 use thiserror::Error;
 
-/// Why [`bind_text`](crate::bind_text) or [`bind_text_in`](crate::bind_text_in) gave no text. Of
-/// several causes it is the first, in this order.
+/// Why [`bind_text`](crate::bind_text) or [`bind_text_in`](crate::bind_text_in) gave no text: the
+/// first cause, in this order.
 #[derive(Debug, PartialEq, Drop, Error)]
 pub enum BindError {
     /// The query has both named and positional parameters.
@@ -22,7 +22,7 @@ pub enum BindError {
         /// The values given.
         values: usize,
     },
-    /// A name or mark doesn't stand alone; of several it is the first.
+    /// A name or mark doesn't stand alone; the first such is reported.
     #[error("Place {place} at byte {at} does not stand alone")]
     NotAlone {
         /// Its number among the names and marks, from 0.
@@ -30,7 +30,7 @@ pub enum BindError {
         /// The index of its first byte in the query.
         at: usize,
     },
-    /// The value for a place is a float, which has no literal; of several it is the first.
+    /// The value for a place is a float, which has no literal; the first such is reported.
     #[error("Float at place {place}")]
     Float {
         /// The number of its place, from 0.

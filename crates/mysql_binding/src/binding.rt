@@ -28,22 +28,22 @@ use mysql_params_core::params::{Params, ParamsError, place_values};
 use mysql_values::value::Value;
 use std::alloc::Global;
 
-/// The query with the literal of a value in the place of each name and mark: the names' own, or the
-/// positional ones in their order. Nothing else of the query changes.
+/// The query with the literal of a value in the place of each name and mark: the values of the
+/// names, or the positional ones in their order. Nothing else of the query changes.
 ///
 /// The first of these causes refuses it: names and marks in one query; what [`Params::into_values`]
 /// refuses for its names; without names, marks that are not as many as the values; a place that
-/// doesn't stand alone; a float. A place stands alone where the byte before it is none, white space
-/// or one of `(,=<>+-*/%&|^~`, and the byte after it is none, white space or one of
-/// `),;=<>+-*/%&|^!`. The parameters are consumed, also where the call refuses.
+/// doesn't stand alone; a float. A place stands alone if nothing, white space or one of
+/// `(,=<>+-*/%&|^~` stands directly before it, and nothing, white space or one of `),;=<>+-*/%&|^!`
+/// directly after it. The parameters are consumed, even if the call refuses.
 ///
 /// The flag is the server's mode, in which the query is read, as
 /// [`ParsedNamedParams`](mysql_named_params::named_params::ParsedNamedParams) reads it, and the
-/// literals are written: with `true`, as where `sql_mode` has `NO_BACKSLASH_ESCAPES`, a backslash
+/// literals are written: with `true`, as for an `sql_mode` with `NO_BACKSLASH_ESCAPES`, a backslash
 /// is a byte like any other; with `false` it escapes the byte after it in a string.
 ///
-/// `Memory` may come in place of any other result, but not for a query with names and marks. It also
-/// comes where the text would be longer than `isize::MAX` bytes.
+/// `Memory` may come in place of any other result, except for a query with names and marks. It also
+/// comes if the text would be longer than `isize::MAX` bytes.
 // A query has one token list in each mode (`mysql_named_params::laws::one_token_list`), so the
 // clauses speak of the same `ts`.
 pub fn bind_text_in(
@@ -104,8 +104,8 @@ pub fn bind_text(alloc: Global, query: &[u8], params: Params) -> Result<Vec<u8>,
     bind_text_in(alloc, query, params, false)
 }
 
-// The values that are given to the places of a query with this many names, and no marks beside them,
-// where they stand in the parameters. The list of names is dropped before the text is written.
+// References to the values in the parameters that are given to the places of a query with this many
+// names, and no marks beside them. The list of names is dropped before the text is written.
 fn values_of_places<'p>(
     alloc: Global,
     query: &[u8],
@@ -130,7 +130,7 @@ fn values_of_places<'p>(
     }
 }
 
-// A refusal of a lookup, as one of binding.
+// The error of binding for an error of the lookup: out of memory stays out of memory.
 fn bind_error_of(error: ParamsError) -> BindError
     ensures cause { cause_of result ≡ option_map refused_params (lookup_refusal error) }
     ensures memory { lookup_refusal error ≡ None → result ≡ BindError.Memory alloc_error }

@@ -17,7 +17,7 @@ ghost use Rattle.mysql_binding.specs.StandsAlone.{AllAlone, IsFirstNotAlone, fir
 use crate::bind_error::BindError;
 
 /// Whatever texts of the shape of literals stand in the places of a query, the tokens are the
-/// query's with those of each text in place of its name or mark, and no place is left among them.
+/// query's, with those of each text in place of its name or mark, and no place is left among them.
 pub fn isolation()
     ensures tokens { (mode : Bool) (query text : List ℕ) (ts : List Token)
         (literals : List (List ℕ)) (lists : List (List Token)) →
@@ -31,7 +31,7 @@ pub fn isolation()
         place_count (with_literal_tokens ts lists) ≡ 0 }
 {}
 
-/// A text that is bound to a portable query is portable, and on every server, whatever stands in the
+/// A text that is bound to a portable query is portable. On every server, whatever stands in the
 /// values, its tokens are the query's, with those of one literal in place of each name and mark.
 pub fn bound_texts_on_servers()
     ensures portable { (mode : Bool) (query text : List ℕ) (ts : List Token) (given : Given) →
@@ -58,8 +58,8 @@ pub fn bound_again_is_the_same()
         IsBoundText mode ts given text → IsTokens mode text us → IsBoundText mode us empty text }
 {}
 
-/// The query with a mark in place of each name, bound to the same values by position, is not refused
-/// and gives the same text.
+/// The query with a mark in place of each name, bound to the same values by position, is not
+/// refused and gives the same text.
 pub fn by_position_is_the_same()
     ensures tokens { (mode : Bool) (query : List ℕ) (ts : List Token) →
         IsTokens mode query ts → IsTokens mode (text_of (with_marks ts)) (with_marks ts) }
@@ -68,7 +68,7 @@ pub fn by_position_is_the_same()
         IsBoundText mode (with_marks ts) (positional bound.values) text }
 {}
 
-/// Where the same text is bound to one query for two sets of parameters, their values say the same
+/// If one query gives the same text for two sets of parameters, their values have the same contents
 /// at every place.
 pub fn equal_texts_say_the_same()
     ensures same { (mode : Bool) (query text : List ℕ) (ts us : List Token) (a b : Given) →
@@ -77,22 +77,22 @@ pub fn equal_texts_say_the_same()
         map content_of x.values ≡ map content_of y.values }
 {}
 
-/// The place that doesn't stand alone is one of the query's places, and its position is that
-/// place's.
+/// The position that is found is that of the query's place with the number that is found.
 pub fn position_of_first_not_alone()
-    ensures position { (ts : List Token) (place at : ℕ) →
-        first_not_alone ts ≡ Some (place, at) → slice_get (positions ts) place ≡ Some at }
+    ensures position { (ts : List Token) (place position : ℕ) →
+        first_not_alone ts ≡ Some (place, position) →
+        slice_get (positions ts) place ≡ Some position }
 {}
 
-/// The place that doesn't stand alone is the first of the query's places that doesn't; where none is
+/// The place that is found is the first of the query's places that doesn't stand alone. If none is
 /// found, each of them stands alone.
 pub fn first_not_alone_is_first()
-    ensures found { (ts : List Token) (place at : ℕ) →
-        first_not_alone ts ≡ Some (place, at) → IsFirstNotAlone ts place at }
+    ensures found { (ts : List Token) (place position : ℕ) →
+        first_not_alone ts ≡ Some (place, position) → IsFirstNotAlone ts place position }
     ensures none { (ts : List Token) → first_not_alone ts ≡ None → AllAlone ts [] }
 {}
 
-/// Errors of binding are equal where variant and fields are.
+/// Errors of binding are equal if and only if variant and fields are.
 pub fn bind_error_equality(a: &BindError, b: &BindError) -> bool
     ensures same { IsTrue result ↔ AreEqualBindErrors a.now b.now }
     ensures member { result ≡ ⟦<BindError as PartialEq>⟧.eq a.now b.now }

@@ -1,7 +1,7 @@
 //! Binding: the literals of values in the places of a query's names and marks.
 //!
-//! [`bind_text_in`] is the call for a mode of the server, and [`bind_text`] the same for the mode in
-//! which a backslash escapes. What they promise of the text stands in `specs/Isolation.antt`: each
+//! [`bind_text_in`] is the call for a mode of the server, and [`bind_text`] the same for the mode
+//! in which a backslash escapes. `specs/Isolation.antt` says what they promise of the text: each
 //! value stands in one literal, and nothing else of the query changes.
 #![tactic(auto)]
 

@@ -23,7 +23,7 @@ pub(super) fn first_float(values: &[&Value]) -> Option<usize>
     None
 }
 
-/// How long the literal of each value is, 0 for floats. A length may be above `isize::MAX`.
+/// The length of the literal of each value, 0 for floats. A length may be above `isize::MAX`.
 pub(super) fn literal_lens(
     alloc: Global,
     values: &[&Value],
@@ -39,7 +39,7 @@ pub(super) fn literal_lens(
     Ok(lens)
 }
 
-// How long the literal of a value is, 0 for a float.
+// The length of the literal of a value, 0 for a float.
 #[tactic(auto, using(crate::proofs::TextLengthLemmas::length_or_zero))]
 fn literal_len(value: &Value, no_backslash_escape: bool) -> u128
     ensures { result ≡ literal_len no_backslash_escape value.now }

@@ -1,4 +1,4 @@
-//! The names of a query, where they stand in it.
+//! The names of a query, as slices of it.
 ghost use Rattle.std.specs.Prelude.{◌≡◌, None, IfOk, length};
 ghost use Rattle.mysql_named_params.specs.Tokens.{OnTokens};
 ghost use Rattle.mysql_named_params.specs.Places.{names};

@@ -1,13 +1,15 @@
-//! Which bytes may stand beside a place.
+//! The bytes that may stand beside a place.
 ghost use Rattle.std.specs.Prelude.{◌≡◌};
 ghost use Rattle.mysql_binding.specs.StandsAlone.{may_stand_before, may_stand_after, none_or_first, none_or_last, stands_alone};
 
+// Whether the byte may stand directly before a place.
 fn may_stand_before(byte: u8) -> bool
     ensures { result ≡ may_stand_before byte }
 {
     MAY_STAND_BEFORE[byte as usize] == b'1'
 }
 
+// Whether the byte may stand directly after a place.
 fn may_stand_after(byte: u8) -> bool
     ensures { result ≡ may_stand_after byte }
 {
@@ -36,7 +38,7 @@ static MAY_STAND_AFTER: [u8; 256] = *b"\
     00000000000000000000000000000000\
     00000000000000000000000000000000";
 
-/// Whether a place may stand after this text.
+// Whether a place may stand after this text.
 fn allows_place_after(before: &[u8]) -> bool
     ensures { result ≡ none_or_last may_stand_before before.now }
 {
@@ -46,7 +48,7 @@ fn allows_place_after(before: &[u8]) -> bool
     }
 }
 
-/// Whether a place may stand before this text.
+// Whether a place may stand before this text.
 fn allows_place_before(after: &[u8]) -> bool
     ensures { result ≡ none_or_first may_stand_after after.now }
 {

@@ -1,4 +1,5 @@
-//! What binding asks of the places of a query, found in one walk that takes no memory.
+//! What is known of the places of a query before values are looked up, found in one walk that
+//! allocates nothing.
 ghost use Rattle.std.specs.Prelude.{◌≡◌, ◌≤◌, None, Some, length, take, drop, if◌then◌else◌};
 ghost use Rattle.mysql_named_params.specs.Tokens.{OnTokens};
 ghost use Rattle.mysql_binding.specs.StandsAlone.{stands_alone};
@@ -10,13 +11,13 @@ use mysql_named_params::places::{PlaceKind, first_place};
 /// The places of a query, counted and tested.
 #[derive(Clone, Copy)]
 pub(super) struct Survey {
-    /// How many names there are, with repeats.
+    /// The number of names, with repeats.
     pub(super) names: usize,
-    /// How many marks there are.
+    /// The number of marks.
     pub(super) marks: usize,
     /// Number and position of the first place that doesn't stand alone.
     pub(super) not_alone: Option<(usize, usize)>,
-    /// How many bytes the pieces between the places have together.
+    /// The length of all pieces between the places together.
     pub(super) piece_bytes: usize,
 }
 

@@ -16,8 +16,8 @@ use std::alloc::{AllocError, Global};
 /// The query with the literal of a value in place of each name and mark, of which there are as many
 /// as values. None of the values is a float, and the pieces of the query have `piece_bytes` bytes.
 ///
-/// Out of memory is returned without asking for the text where it would be longer than
-/// `isize::MAX`. Once there is a vector for it, nothing refuses.
+/// If the text would be longer than `isize::MAX`, out of memory is returned without asking for it.
+/// Once there is a vector for the text, nothing refuses.
 pub(super) fn written_text(
     alloc: Global,
     query: &[u8],
@@ -47,8 +47,8 @@ pub(super) fn written_text(
     Ok(text)
 }
 
-// How long pieces of so many bytes and literals of these lengths are together. A text longer than
-// `isize::MAX` has none.
+// The length of a text whose pieces have so many bytes and whose literals have these lengths; none
+// if it is above `isize::MAX`.
 fn text_len(piece_bytes: usize, lens: &[u128]) -> Option<usize>
     ensures len { IfSome result (λ len. len ≡ piece_bytes + sum lens.now) }
     ensures too_long { result ≡ None → 2 ^ 63 ≤ piece_bytes + sum lens.now }
@@ -63,8 +63,8 @@ fn text_len(piece_bytes: usize, lens: &[u128]) -> Option<usize>
     Some(len as usize)
 }
 
-// Fills the text: the pieces of the query, with the literals of the values, of these lengths,
-// between them.
+// Fills the text with the pieces of the query and, between them, the literals of the values, which
+// have these lengths.
 fn fill_text(
     query: &[u8],
     values: &[&Value],
