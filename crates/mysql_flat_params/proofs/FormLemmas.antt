@@ -1,5 +1,5 @@
 -- A form has one reading, and parameter by parameter it is that of what is left.
-use Rattle.std.specs.Prelude.{Result, Ok, Err, ⊤, IsOk, alloc_error, IfOk, IfErr, IsTrue, ◌==◌}
+use Rattle.std.specs.Prelude.{Result, Ok, Err, ⊤, IsOk, alloc_error, IfOk, IfErr, IsErrAnd, IsTrue, ◌==◌}
 use Rattle.std.specs.FinMap as finite
 use Rattle.std.proofs.Common.{◌≡◌, ◌≢◌, ℕ, zero, suc, ◌+◌, ◌-◌, ◌<◌, ◌≤◌, List, [], ◌∷◌, length, inl, inr, true, false, refl, sym, ap, ◌∙◌, subst, arith}
 use Rattle.mysql_value_core.specs.declared.value.Value.{Value}
@@ -98,6 +98,20 @@ pub out_of_memory : {X Seen : Type 0} (expected : Result Seen FormRefusal) (Take
 out_of_memory {X = X} expected Takes error answer is =
     let same : error ≡ Memory alloc_error = cc in
     subst (λ e. IsExpectedRefusal expected Takes (form_refusal e)) same answer
+
+-- a `?` hands on the error as it is
+pub handed_on : {A : Type 0} (P : FormError → Type 0) (r : Result A FormError) (e : FormError) →
+    IsErrAnd r (λ t. t ≡ e) → P e → IfErr r P
+handed_on P (Ok a) e same h = absurd same
+handed_on P (Err t) e same h = subst P (sym same) h
+
+-- .. and an error that is out of memory only where memory is asked for
+pub memory_handed_on : {A Seen : Type 0} (expected : Result Seen FormRefusal) (Takes : Type 0) (r : Result A FormError) (e : FormError) →
+    IsErrAnd r (λ t. t ≡ e) → IsExpectedRefusal expected Takes (form_refusal e) →
+    ◌≡◌ {A = Result A FormError} r (Err (Memory alloc_error)) → Takes
+memory_handed_on expected Takes (Ok a) e same answer is = absurd same
+memory_handed_on expected Takes (Err t) e same answer is =
+    out_of_memory expected Takes t (subst (λ x. IsExpectedRefusal expected Takes (form_refusal x)) (sym same) answer) is
 
 -- ---- the first parameter
 

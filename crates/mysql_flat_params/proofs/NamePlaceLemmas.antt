@@ -1,7 +1,7 @@
 -- The places of a query that are searched for a name, and those that are left.
 use Rattle.std.specs.Prelude.{Bool}
 use Rattle.std.specs.List.{Contains}
-use Rattle.std.proofs.Common.{◌≡◌, inl, inr, ℕ, zero, suc, ◌+◌, ◌-◌, ◌≤◌, List, [], ◌∷◌, ◌++◌, length, take, drop, Some, refl, sym, ap, ◌∙◌, subst, arith, append_assoc, append-nil, drop-drop, length-drop, length-append}
+use Rattle.std.proofs.Common.{◌≡◌, inl, inr, ℕ, zero, suc, ◌+◌, ◌-◌, ◌≤◌, List, [], ◌∷◌, ◌++◌, length, take, drop, Some, refl, sym, ap, ◌∙◌, subst, arith, append_assoc, append-nil, length-drop, length-append}
 use Rattle.std.proofs.lemmas.List.{length-take-le}
 use Rattle.std.proofs.lemmas.List.Elements.{Contains-append_cases}
 use Rattle.mysql_named_params.specs.Tokens.{Token, bytes_of, text_of, IsTokens, OnTokens, Name, Mark}
@@ -75,8 +75,8 @@ module _ (mode : Bool) (query rest name : List ℕ) (place : ℕ) (s : SearchedS
       let front_alone : names s.all ≡ names s.front = ap names (sym s.split) ∙ (names-append s.front s.left ∙ (ap (λ x. names s.front ++ x) none ∙ append-nil (names s.front))) in
       (s.all, s.tokens, λ c. s.without (subst (λ x. Contains x name) front_alone c))
 
-  module _ (found : FoundPlace) (o : OnTokens mode rest (λ us. IsFirstPlace us found)) (from_place bytes after : List ℕ)
-      (from_is : from_place ≡ drop found.before rest) (bytes_are : bytes ≡ take found.len from_place) (after_is : after ≡ drop found.len from_place) where
+  module _ (found : FoundPlace) (o : OnTokens mode rest (λ us. IsFirstPlace us found)) (bytes after : List ℕ)
+      (bytes_are : bytes ≡ take found.len (drop found.before rest)) (after_is : after ≡ drop (found.before + found.len) rest) where
     abbrev p : IsPartedAt mode rest s.left found
     p = parted mode rest s.left found s.rest_tokens o
 
@@ -84,7 +84,7 @@ module _ (mode : Bool) (query rest name : List ℕ) (place : ℕ) (s : SearchedS
     before = s.front ++ p.front
 
     place_bytes : bytes ≡ bytes_of p.place
-    place_bytes = bytes_are ∙ (ap (take found.len) from_is ∙ sym p.place_bytes)
+    place_bytes = bytes_are ∙ sym p.place_bytes
 
     place_length : length (bytes_of p.place) ≡ found.len
     place_length = omega (arith, ap length p.place_bytes, length-take-le found.len (drop found.before rest) (omega (arith, length-drop found.before rest, p.in_range)))
@@ -92,14 +92,11 @@ module _ (mode : Bool) (query rest name : List ℕ) (place : ℕ) (s : SearchedS
     split : before ++ p.place ∷ p.back ≡ s.all
     split = append_assoc s.front p.front (p.place ∷ p.back) ∙ (ap (λ x. s.front ++ x) (sym p.tokens_are) ∙ s.split)
 
-    from_length : length from_place + found.before ≡ length rest
-    from_length = omega (arith, ap length from_is, length-drop found.before rest, p.in_range)
+    after_length : length after + (found.before + found.len) ≡ length rest
+    after_length = omega (arith, ap length after_is, length-drop (found.before + found.len) rest, p.in_range)
 
-    after_length : length after + found.len ≡ length from_place
-    after_length = omega (arith, ap length after_is, length-drop found.len from_place, p.in_range, from_length)
-
-    before_text : length (text_of before) + length from_place ≡ length query
-    before_text = omega (arith, ap length (text_of-append s.front p.front), length-append (text_of s.front) (text_of p.front), ap length p.front_text, length-take-le found.before rest (omega (arith, p.in_range)), s.text, from_length)
+    before_text : length (text_of before) + length rest ≡ length query + found.before
+    before_text = omega (arith, ap length (text_of-append s.front p.front), length-append (text_of s.front) (text_of p.front), ap length p.front_text, length-take-le found.before rest (omega (arith, p.in_range)), s.text)
 
     without : Contains (names before) name → ⊥
     without = subst (λ x. Contains x name → ⊥)
@@ -110,7 +107,7 @@ module _ (mode : Bool) (query rest name : List ℕ) (place : ℕ) (s : SearchedS
     number = omega (arith, place_count-append s.front p.front, p.no_place, s.number)
 
     -- this place is the name
-    pub searched_found : (position : ℕ) → found.kind ≡ kind.Name → drop 1 bytes ≡ name → position ≡ length query - length from_place + 1 →
+    pub searched_found : (position : ℕ) → found.kind ≡ kind.Name → drop 1 bytes ≡ name → position ≡ length query - length rest + found.before + 1 →
         OnTokens mode query (λ ts. IsFirstOfName ts name place position)
     searched_found position is_name same position_is =
         let this : p.place ≡ Name name = name_is p.place (p.kind_is ∙ ap Some is_name) ∙ ap (λ x. Name x) (ap (drop 1) (sym place_bytes) ∙ same) in (
@@ -122,7 +119,7 @@ module _ (mode : Bool) (query rest name : List ℕ) (place : ℕ) (s : SearchedS
             split = ap (λ t. before ++ t ∷ p.back) (sym this) ∙ split;
             is_first = without;
             number = number;
-            at = omega (arith, before_text, position_is);
+            position_is = omega (arith, s.text, before_text, position_is);
           },
         )
 
@@ -134,11 +131,11 @@ module _ (mode : Bool) (query rest name : List ℕ) (place : ℕ) (s : SearchedS
       front = before ++ p.place ∷ [];
       left = p.back;
       split = append_assoc before (p.place ∷ []) p.back ∙ split;
-      rest_tokens = subst (λ x. IsTokens mode x p.back) (sym (after_is ∙ (ap (drop found.len) from_is ∙ drop-drop found.len found.before rest))) p.rest_tokens;
+      rest_tokens = subst (λ x. IsTokens mode x p.back) (sym after_is) p.rest_tokens;
       without = subst (λ x. Contains x name → ⊥) (sym (names-append before (p.place ∷ [])))
           (neither (names before) (names (p.place ∷ [])) name without
           (other_name p.place name (λ h. other (some_same (sym p.kind_is ∙ h.0), ap (drop 1) place_bytes ∙ h.1))));
       number = omega (arith, place_count-append before (p.place ∷ []), number, one_place p.place found.kind p.kind_is);
       text = omega (arith, before_text, after_length, ap length (text_of-append before (p.place ∷ [])), length-append (text_of before) (text_of (p.place ∷ [])), ap length (append-nil (bytes_of p.place)), place_length);
-      room = omega (arith, s.room, from_length, after_length, p.has_length);
+      room = omega (arith, s.room, after_length, p.has_length);
     }

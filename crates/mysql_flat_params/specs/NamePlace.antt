@@ -13,7 +13,7 @@ pub record IsFirstOfName (ts : List Token) (name : List ℕ) (place position : �
   pub split : front ++ Name name ∷ back ≡ ts
   -- none before it is the same name
   pub is_first : Contains (names front) name → ⊥
-  -- its number is that of the places before it, and one byte, the colon, stands between the text
+  -- its number is the count of places before it, and one byte, the colon, stands between the text
   -- before it and the name
   pub number : place_count front ≡ place
-  pub at : length (text_of front) + 1 ≡ position
+  pub position_is : length (text_of front) + 1 ≡ position

@@ -59,14 +59,8 @@ pub fn params_of_form(alloc: Global, form: &[u8]) -> Result<Params, FormError>
         place: 0,
         position: 0,
     };
-    let name = match eat_name(spot, &mut rest) {
-        Ok(name) => name,
-        Err(error) => return Err(error),
-    };
-    let value = match eat_value(alloc, spot, &mut rest) {
-        Ok(value) => value,
-        Err(error) => return Err(error),
-    };
+    let name = eat_name(spot, &mut rest)?;
+    let value = eat_value(alloc, spot, &mut rest)?;
     if name.is_empty() {
         positional_params(alloc, form.len(), value, rest)
     } else {
@@ -94,10 +88,7 @@ fn positional_params(
     }
     let mut rest = rest;
     while !rest.is_empty() {
-        match append_parameter(alloc, total, &mut values, &mut rest) {
-            Ok(()) => {}
-            Err(error) => return Err(error),
-        }
+        append_parameter(alloc, total, &mut values, &mut rest)?;
     }
     Ok(Params::Positional(values))
 }
@@ -119,20 +110,14 @@ fn append_parameter(
         place: values.len(),
         position: total - rest.len(),
     };
-    let name = match eat_name(spot, rest) {
-        Ok(name) => name,
-        Err(error) => return Err(error),
-    };
+    let name = eat_name(spot, rest)?;
     if !name.is_empty() {
         return Err(FormError::Mixed {
             place: spot.place,
             position: spot.position,
         });
     }
-    let value = match eat_value(alloc, spot, rest) {
-        Ok(value) => value,
-        Err(error) => return Err(error),
-    };
+    let value = eat_value(alloc, spot, rest)?;
     match values.push(value) {
         Ok(()) => Ok(()),
         Err(_) => Err(FormError::Memory(AllocError)),
@@ -156,17 +141,14 @@ fn named_params(
         (left rest.entry)) }
 {
     let mut entries = HashMap::new(alloc);
-    match insert_new(alloc, &mut entries, name, first) {
+    match insert_value(alloc, &mut entries, name, first) {
         Ok(()) => {}
         Err(error) => return Err(FormError::Memory(error)),
     }
     let mut rest = rest;
     let mut place = 1;
     while !rest.is_empty() {
-        match insert_parameter(alloc, total, place, &mut entries, &mut rest) {
-            Ok(()) => {}
-            Err(error) => return Err(error),
-        }
+        insert_parameter(alloc, total, place, &mut entries, &mut rest)?;
         place += 1;
     }
     Ok(Params::Named(entries))
@@ -189,19 +171,13 @@ fn insert_parameter(
         place,
         position: total - rest.len(),
     };
-    let name = match eat_name(spot, rest) {
-        Ok(name) => name,
-        Err(error) => return Err(error),
-    };
+    let name = eat_name(spot, rest)?;
     let at = total - rest.len() - name.len();
     if let Some(error) = name_error(spot, at, entries, name) {
         return Err(error);
     }
-    let value = match eat_value(alloc, spot, rest) {
-        Ok(value) => value,
-        Err(error) => return Err(error),
-    };
-    match insert_new(alloc, entries, name, value) {
+    let value = eat_value(alloc, spot, rest)?;
+    match insert_value(alloc, entries, name, value) {
         Ok(()) => Ok(()),
         Err(error) => Err(FormError::Memory(error)),
     }
@@ -240,8 +216,8 @@ fn has_name(entries: &HashMap<Vec<u8>, Value>, name: &[u8]) -> bool
     entries.contains_key(name)
 }
 
-// Inserts a value under a new name.
-fn insert_new(
+// Inserts a value under a copy of a new name.
+fn insert_value(
     alloc: Global,
     entries: &mut HashMap<Vec<u8>, Value>,
     name: &[u8],
@@ -250,10 +226,7 @@ fn insert_new(
     ensures { OnOk result (value_map entries.new.entries
         ≡ finite.insert (value_map entries.old.entries) name.now value) }
 {
-    let name = match Vec::from_slice(alloc, name) {
-        Ok(name) => name,
-        Err(error) => return Err(error),
-    };
+    let name = Vec::from_slice(alloc, name)?;
     match entries.insert(name, value) {
         Ok(_) => Ok(()),
         Err(_) => Err(AllocError),

@@ -22,10 +22,9 @@ pub(crate) fn name_place(
     let mut place = 0;
     let mut rest = query;
     while let Some(found) = first_place(rest, no_backslash_escape) {
-        let (_, from_place) = rest.split_at(found.before);
-        let (bytes, after) = from_place.split_at(found.len);
+        let (_, bytes, after) = found.cut(rest);
         if is_this_name(found.kind, bytes, name) {
-            return Some((place, query.len() - from_place.len() + 1));
+            return Some((place, query.len() - rest.len() + found.before + 1));
         }
         place += 1;
         rest = after;

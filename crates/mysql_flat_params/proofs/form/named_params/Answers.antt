@@ -1,21 +1,23 @@
 use Rattle.std.proofs.Common.{refl, arith}
-use Rattle.mysql_flat_params.proofs.FormLemmas.{not_empty, parameter_read, parameter_refused, whole_read}
+use Rattle.mysql_flat_params.proofs.FormLemmas.{handed_on, not_empty, parameter_read, parameter_refused, whole_read}
 use Rattle.mysql_flat_params.proofs.form.named_params.Goals as goal
 
 pub loop-rest-smaller : goal.loop-rest-smaller
 loop-rest-smaller c =
     (parameter_read _ _ _ _ _ _ _ _ _ _ c.loop-rest.invariant.0 (not_empty _ c.loop-rest-test.ensures.empty.1)
-    c.in-Ok-insert_parameter.ensures refl).1
+    c.in_ok-insert_parameter.ensures refl).1
 
 pub loop-rest-preserved : goal.loop-rest-preserved
 loop-rest-preserved c =
     let next = parameter_read _ _ _ _ _ _ _ _ _ _ c.loop-rest.invariant.0 (not_empty _ c.loop-rest-test.ensures.empty.1)
-    c.in-Ok-insert_parameter.ensures refl in
+    c.in_ok-insert_parameter.ensures refl in
     (next.0, omega (arith, next.1, c.loop-rest.invariant.1))
-
-pub returns-in-Err-insert_parameter-clause-refused : goal.returns-in-Err-insert_parameter-clause-refused
-returns-in-Err-insert_parameter-clause-refused c =
-    parameter_refused _ _ _ _ _ _ _ _ c.loop-rest.invariant.0 (not_empty _ c.loop-rest-test.ensures.empty.1) c.in-Err-insert_parameter.ensures
 
 pub returns-clause-params : goal.returns-clause-params
 returns-clause-params c = whole_read _ _ _ _ _ _ _ c.loop-rest.invariant.0 (c.loop-rest-test.ensures.empty.0 refl)
+
+pub returns-in_err-insert_parameter-clause-refused :
+    goal.returns-in_err-insert_parameter-clause-refused
+returns-in_err-insert_parameter-clause-refused c =
+    handed_on _ c.from_residual.result c.in_err-insert_parameter.field-0.0 c.from_residual.ensures.1
+    (parameter_refused _ _ _ _ _ _ _ _ c.loop-rest.invariant.0 (not_empty _ c.loop-rest-test.ensures.empty.1) c.in_err-insert_parameter.ensures)

@@ -1,21 +1,23 @@
 use Rattle.std.proofs.Common.{refl, arith}
-use Rattle.mysql_flat_params.proofs.FormLemmas.{not_empty, parameter_read, parameter_refused, whole_read}
+use Rattle.mysql_flat_params.proofs.FormLemmas.{handed_on, not_empty, parameter_read, parameter_refused, whole_read}
 use Rattle.mysql_flat_params.proofs.form.positional_params.Goals as goal
 
 pub loop-rest-smaller : goal.loop-rest-smaller
 loop-rest-smaller c =
     (parameter_read _ _ _ _ _ _ _ _ _ _ c.loop-rest.invariant.0 (not_empty _ c.loop-rest-test.ensures.empty.1)
-    c.in-Ok-append_parameter.ensures.parameter c.in-Ok-append_parameter.ensures.one_more).1
+    c.in_ok-append_parameter.ensures.parameter c.in_ok-append_parameter.ensures.one_more).1
 
 pub loop-rest-preserved : goal.loop-rest-preserved
 loop-rest-preserved c =
     let next = parameter_read _ _ _ _ _ _ _ _ _ _ c.loop-rest.invariant.0 (not_empty _ c.loop-rest-test.ensures.empty.1)
-    c.in-Ok-append_parameter.ensures.parameter c.in-Ok-append_parameter.ensures.one_more in
+    c.in_ok-append_parameter.ensures.parameter c.in_ok-append_parameter.ensures.one_more in
     (next.0, omega (arith, next.1, c.loop-rest.invariant.1))
-
-pub returns-in-Err-append_parameter-clause-refused : goal.returns-in-Err-append_parameter-clause-refused
-returns-in-Err-append_parameter-clause-refused c =
-    parameter_refused _ _ _ _ _ _ _ _ c.loop-rest.invariant.0 (not_empty _ c.loop-rest-test.ensures.empty.1) c.in-Err-append_parameter.ensures.parameter
 
 pub returns-clause-params : goal.returns-clause-params
 returns-clause-params c = whole_read _ _ _ _ _ _ _ c.loop-rest.invariant.0 (c.loop-rest-test.ensures.empty.0 refl)
+
+pub returns-in_err-append_parameter-clause-refused :
+    goal.returns-in_err-append_parameter-clause-refused
+returns-in_err-append_parameter-clause-refused c =
+    handed_on _ c.from_residual.result c.in_err-append_parameter.field-0.0 c.from_residual.ensures.1
+    (parameter_refused _ _ _ _ _ _ _ _ c.loop-rest.invariant.0 (not_empty _ c.loop-rest-test.ensures.empty.1) c.in_err-append_parameter.ensures.parameter)

@@ -9,12 +9,12 @@ loop-found-init c = searched_none _ _ _
 pub returns-then-is_this_name-clause-found : goal.returns-then-is_this_name-clause-found
 returns-then-is_this_name-clause-found c =
     let this = c.if-is_this_name.ensures.0 refl in
-    searched_found _ _ _ _ _ c.loop-found.invariant _ c.in-Some.ensures.place _ _ _ c.split_at.ensures.back c.split_at-in-Some.ensures.front c.split_at-in-Some.ensures.back
+    searched_found _ _ _ _ _ c.loop-found.invariant _ c.in-Some.ensures.place _ _ c.cut.ensures.place c.cut.ensures.after
     _ this.0 this.1 refl
 
 pub loop-found-preserved : goal.loop-found-preserved
 loop-found-preserved c =
-    searched_more _ _ _ _ _ c.loop-found.invariant _ c.in-Some.ensures.place _ _ _ c.split_at.ensures.back c.split_at-in-Some.ensures.front c.split_at-in-Some.ensures.back
+    searched_more _ _ _ _ _ c.loop-found.invariant _ c.in-Some.ensures.place _ _ c.cut.ensures.place c.cut.ensures.after
     (λ h. never (c.if-is_this_name.ensures.1 h))
   where
     never : IsTrue false → ⊥
