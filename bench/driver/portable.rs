@@ -15,7 +15,7 @@ const PIECES: &[&[u8]] = &[
     b"/*", b"*/", b"/*!", b"/*+", b"/*M!", b"M", b"!", b"--", b"-- ", b"--\x01", b"--\x0B",
     b"--\n", b"\"", b"\\\"", b"\\", b"'", b"`", b"#", b"\n", b" ", b"\t", b"\x7F", b"\xFF", b"[",
     b"]", b"$", b"$$", b"$a$", b".", b"1", b"90", b"e", b"E", b"1e+", b".5E-", b"+", b"-", b"?",
-    b":", b":a", b":_1", b":A", b"a", b"Z", b"_", b"*", b"/",
+    b":", b":a", b":_1", b":A", b"a", b"Z", b"_", b"*", b"/", b";", b"/*+ a */", b"/*M!1*/",
 ];
 
 /// How many pieces a random query has at most.

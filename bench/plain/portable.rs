@@ -58,6 +58,7 @@ pub fn first_unportable(query: &[u8], no_backslash_escape: bool) -> (i32, usize)
 /// The construct that begins with this byte before this text, but for a text in quotes.
 fn construct(byte: u8, rest: &[u8]) -> Option<i32> {
     Some(match (byte, rest) {
+        (b'/', [b'*', text @ ..]) if is_quiet(text) => return None,
         (b'/', [b'*', b'!', ..]) => EXECUTABLE_COMMENT,
         (b'/', [b'*', b'+', ..]) => HINT,
         (b'/', [b'*', b'M', b'!', ..]) => MARIADB_COMMENT,
@@ -70,6 +71,25 @@ fn construct(byte: u8, rest: &[u8]) -> Option<i32> {
         }
         _ => return None,
     })
+}
+
+/// Whether the text has a `*/` before anything that may begin elsewhere, and no `*` after it.
+fn is_quiet(text: &[u8]) -> bool {
+    let Some(end) = text.windows(2).position(|bytes| bytes == b"*/") else { return false };
+    text.get(end + 2) != Some(&b'*') && (0..end).all(|at| !begins_any(text[at], &text[at + 1..]))
+}
+
+/// Whether this byte before this text begins something other than a plain byte, or is `;` or `\`.
+fn begins_any(byte: u8, rest: &[u8]) -> bool {
+    match byte {
+        b'\'' | b'"' | b'`' | b'#' | b'?' | b'[' | b';' | b'\\' => true,
+        b'-' => rest.starts_with(b"-"),
+        b'/' => rest.starts_with(b"*"),
+        b':' => rest.first().is_some_and(begins_name),
+        b'$' => leads_to_dollar(rest),
+        b'.' => leads_to_dashes(rest),
+        _ => false,
+    }
 }
 
 /// Bytes of an identifier, and then `$` or a place.

@@ -381,11 +381,11 @@ const char *mysql_params_construct_message(int32_t construct)
 {
     switch (construct) {
     case MYSQL_PARAMS_EXECUTABLE_COMMENT:
-        return "`/*!` is executed or skipped: write its text without it, or leave it out";
+        return "`/*!` is executed or skipped: keep quotes, places, comments and `;` out of it";
     case MYSQL_PARAMS_HINT:
-        return "`/*+` is a hint or a comment: leave it out, or write a space before the `+`";
+        return "`/*+` is a hint or a comment: keep quotes, places, comments and `;` out of it";
     case MYSQL_PARAMS_MARIADB_COMMENT:
-        return "`/*M!` is executed or a comment: leave it out, or write a space before the `M`";
+        return "`/*M!` is executed or a comment: keep quotes, places, comments and `;` out of it";
     case MYSQL_PARAMS_DASHES:
         return "`--` is a comment or two signs here: write a space between them, or after them";
     case MYSQL_PARAMS_ESCAPED_QUOTE:

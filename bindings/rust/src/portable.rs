@@ -5,11 +5,13 @@ use std::fmt;
 /// to write instead.
 #[derive(Clone, Copy, Debug, PartialEq, Eq, Hash)]
 pub enum Construct {
-    /// `/*!`: executed, or skipped by the version of the server.
+    /// `/*!`, not quiet: executed, or skipped by the version of the server. It is quiet if it is closed, no `*` stands
+    /// directly after it, and it holds no quote, backquote, `#`, `--`, `/*`, place, `;`, backslash, `[`, `$$`, `$tag$` or
+    /// `.5e-- `.
     ExecutableComment,
-    /// `/*+`: an optimizer hint after some words, a comment elsewhere.
+    /// `/*+`, not quiet: an optimizer hint after some words, a comment elsewhere.
     Hint,
-    /// `/*M!`: executed by MariaDB, a comment to MySQL.
+    /// `/*M!`, not quiet: executed by MariaDB, a comment to MySQL.
     MariaDbComment,
     /// `--` before a byte that is neither printable ASCII nor white space: a comment on some servers.
     Dashes,
@@ -82,13 +84,13 @@ impl fmt::Display for Construct {
     fn fmt(&self, f: &mut fmt::Formatter<'_>) -> fmt::Result {
         f.write_str(match self {
             Construct::ExecutableComment => {
-                "`/*!` is executed or skipped: write its text without it, or leave it out"
+                "`/*!` is executed or skipped: keep quotes, places, comments and `;` out of it"
             }
             Construct::Hint => {
-                "`/*+` is a hint or a comment: leave it out, or write a space before the `+`"
+                "`/*+` is a hint or a comment: keep quotes, places, comments and `;` out of it"
             }
             Construct::MariaDbComment => {
-                "`/*M!` is executed or a comment: leave it out, or write a space before the `M`"
+                "`/*M!` is executed or a comment: keep quotes, places, comments and `;` out of it"
             }
             Construct::Dashes => {
                 "`--` is a comment or two signs here: write a space between them, or after them"

@@ -17,4 +17,5 @@ pub mod WrittenTextLemmas
 pub mod FilledTextLemmas
 pub mod BoundTextLemmas
 pub mod BoundAgainLemmas
+pub mod QuietTextLemmas
 pub mod BoundOnServerLemmas

@@ -16,7 +16,8 @@ use Rattle.mysql_named_params.specs.Tokens.{Token, IsToken, text_of, text_then, 
 use Rattle.mysql_named_params.specs.Tokens.{closed_string as closed_tail}
 use Rattle.mysql_named_params.specs.FirstToken.{opens_dash_comment}
 use Rattle.mysql_named_params.specs.Places.{place_count}
-use Rattle.mysql_named_params.specs.Portable.{may_open_line, is_read_alike}
+use Rattle.mysql_named_params.specs.Portable.{may_open_line}
+use Rattle.mysql_named_params.proofs.PortableLemmas.{is_alike_on_all}
 use Rattle.mysql_named_params.specs.TokensOf.{dash_comment}
 use Rattle.mysql_named_params.proofs.TokenRowLemmas.{text_then-append, text_of-append, AreTokensBefore-append, place_count-append}
 use Rattle.mysql_named_params.proofs.TokenEnds.{plain_at}
@@ -31,11 +32,11 @@ abbrev pub no_double : Token → List ℕ → Bool
 no_double (Plain b) rest = not (b == dash && begins (λ c. c == dash) rest)
 no_double t rest = true
 
--- portable, and no part of an empty comment
+-- read alike on every server, and no part of an empty comment
 abbrev pub AreSettledBefore : List ℕ → List Token → Type 0
 AreSettledBefore rest [] = ⊤
 AreSettledBefore rest (t ∷ ts) =
-    (is_read_alike t (text_then rest ts) ≡ true) × (no_double t (text_then rest ts) ≡ true)
+    (is_alike_on_all t (text_then rest ts) ≡ true) × (no_double t (text_then rest ts) ≡ true)
     × AreSettledBefore rest ts
 
 AreSettledBefore-append : (xs ys : List Token) (rest : List ℕ) → AreSettledBefore (text_then rest ys) xs →
@@ -72,7 +73,7 @@ is_alphanumeric-plain mode b h rest =
     not_k k f = other is_alphanumeric b k h f
 
 alphanumeric_portable : (b : ℕ) → is_alphanumeric b ≡ true → (rest : List ℕ) →
-    is_read_alike (Plain b) rest ≡ true
+    is_alike_on_all (Plain b) rest ≡ true
 alphanumeric_portable b h rest = rw (other is_alphanumeric b slash h refl, other is_alphanumeric b dash h refl, other is_alphanumeric b bracket h refl, other is_alphanumeric b dollar h refl, other is_alphanumeric b point h refl) refl
 
 alphanumeric_single : (b : ℕ) → is_alphanumeric b ≡ true → (rest : List ℕ) → no_double (Plain b) rest ≡ true
@@ -130,7 +131,7 @@ minus_plain mode d rest h = plain_at mode dash (d ∷ rest) (none_there rest)
     none_there [] = refl
     none_there (w ∷ rest) = rw (other is_ascii_digit d dash h refl) refl
 
-minus_portable : (d : ℕ) (rest : List ℕ) → is_ascii_digit d ≡ true → is_read_alike (Plain dash) (d ∷ rest) ≡ true
+minus_portable : (d : ℕ) (rest : List ℕ) → is_ascii_digit d ≡ true → is_alike_on_all (Plain dash) (d ∷ rest) ≡ true
 minus_portable d rest h = rw (no_line rest) refl
   where
     no_line : (rest : List ℕ) → may_open_line (d ∷ rest) ≡ false

@@ -9,8 +9,8 @@ use Rattle.std.proofs.lemmas.Bool.Decides.{nat_tests}
 use Rattle.mysql_named_params.specs.Bytes.{asterisk, colon, dash, newline, question_mark, slash, is_white_space, is_start_byte, begins, plus, bracket, dollar, point}
 use Rattle.mysql_named_params.specs.Tokens.{Token, QuotedString, QuotedIdentifier, HashComment, DashComment, BlockComment, Name, Mark, Plain}
 use Rattle.mysql_named_params.specs.Server.{is_graphic, is_tag_byte, begins_place, begins_tag, begins_dashes, begins_exponent_dashes, begins_fraction, begins_own}
-use Rattle.mysql_named_params.specs.Portable.{may_open_line, differs_at, is_read_alike}
-use Rattle.mysql_named_params.proofs.PortableLemmas.{second_false, false_if}
+use Rattle.mysql_named_params.specs.Portable.{may_open_line, differs_at}
+use Rattle.mysql_named_params.proofs.PortableLemmas.{second_false, false_if, is_alike_on_all}
 use Rattle.mysql_named_params.proofs.RestLemmas.{SameUpToPlace}
 use Rattle.mysql_named_params.proofs.RestLemmas.{at_end as end_of_both, same as same_byte, at_place as other_there}
 use Rattle.mysql_binding.proofs.LiteralTokenLemmas.{begins_literal, begins_literal-opens_nothing}
@@ -63,7 +63,7 @@ literal_no_star (b ∷ bs) h =
 
 -- ---- a portable byte stays one
 
-star_move : {x y : List ℕ} → SameUpToLiteral x y → begins (λ c. c == asterisk) x ≡ false →
+pub star_move : {x y : List ℕ} → SameUpToLiteral x y → begins (λ c. c == asterisk) x ≡ false →
     begins (λ c. c == asterisk) y ≡ false
 star_move at_end e = e
 star_move (same a) e = e
@@ -178,7 +178,7 @@ fraction_move (same {b = b} {x = x} {y = y} a) e =
 fraction_move (at_place {b = b} {x = x} p l) e =
     absurd (true≢false (sym p ∙ (or_parts (begins_place (b ∷ x)) ((is_ascii_digit b && begins_fraction x) || ((b == byte "e" || b == byte "E") && begins_exponent_dashes x)) e).0))
 
-plain_move : (b : ℕ) {x y : List ℕ} → SameUpToLiteral x y → differs_at b x ≡ false → differs_at b y ≡ false
+pub plain_move : (b : ℕ) {x y : List ℕ} → SameUpToLiteral x y → differs_at b x ≡ false → differs_at b y ≡ false
 plain_move b {x = x} {y = y} a p =
     let p1 = or_parts (b == slash && begins (λ c. c == asterisk) x) ((b == dash && may_open_line x) || begins_own b x) p in
     let p2 = or_parts (b == dash && may_open_line x) (begins_own b x) p1.1 in
@@ -189,7 +189,7 @@ plain_move b {x = x} {y = y} a p =
     (or_from _ _ p3.0
     (or_from _ _ (false_if _ _ (λ t. tag_move a (second_false _ _ p4.0 t))) (false_if _ _ (λ t. fraction_move a (second_false _ _ p4.1 t))))))
 
-pub portable_move : (t : Token) {x y : List ℕ} → SameUpToLiteral x y → is_read_alike t x ≡ true → is_read_alike t y ≡ true
+pub portable_move : (t : Token) {x y : List ℕ} → SameUpToLiteral x y → is_alike_on_all t x ≡ true → is_alike_on_all t y ≡ true
 portable_move (QuotedString quote tail) a p = p
 portable_move (QuotedIdentifier tail) a p = p
 portable_move (HashComment tail) a p = p

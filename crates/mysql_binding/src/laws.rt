@@ -4,8 +4,9 @@ ghost use Rattle.mysql_values.specs.Content.{content_of};
 ghost use Rattle.mysql_named_params.specs.Tokens.{Token, IsTokens, text_of};
 ghost use Rattle.mysql_named_params.specs.Places.{place_count, with_marks};
 ghost use Rattle.mysql_named_params.specs.Positions.{positions};
-ghost use Rattle.mysql_named_params.specs.Portable.{AreReadAlike, IsPortable};
+ghost use Rattle.mysql_named_params.specs.Portable.{AreReadAlike, IsPortable, IsReadAs};
 ghost use Rattle.mysql_named_params.specs.Server.{Server, IsReadOn};
+ghost use Rattle.mysql_named_params.specs.Quiet.{IsHonest, DecidesWithin};
 ghost use Rattle.mysql_params_core.specs.Given.{Given, empty, positional};
 ghost use Rattle.mysql_binding.specs.BindErrors.{AreEqualBindErrors};
 ghost use Rattle.mysql_binding.specs.Isolation.{IsBoundText};
@@ -31,15 +32,22 @@ pub fn isolation()
         place_count (with_literal_tokens ts lists) ≡ 0 }
 {}
 
-/// A text that is bound to a portable query is portable. On every server, whatever stands in the
-/// values, its tokens are the query's, with those of one literal in place of each name and mark.
+/// A text that is bound to a portable query is portable, and on every honest server, whatever stands in
+/// the values, its tokens are the query's, with those of one literal in place of each name and mark:
+/// those that the grammar reads, except for `--` before a newline and for what stands in quiet comments
+/// (`read`), and where the server decides about a quiet comment by its own text, exactly those that it
+/// reads in the query (`tokens`).
 pub fn bound_texts_on_servers()
     ensures portable { (mode : Bool) (query text : List ℕ) (ts : List Token) (given : Given) →
         IsTokens mode query ts → (b : IsBoundText mode ts given text) → AreReadAlike ts →
         IsPortable (with_literal_tokens ts b.literal_tokens) }
+    ensures read { (server : Server) (mode : Bool) (query text : List ℕ) (ts vs : List Token)
+        (given : Given) → IsHonest server → IsTokens mode query ts →
+        (b : IsBoundText mode ts given text) → AreReadAlike ts → IsReadOn server mode text vs →
+        IsReadAs (with_literal_tokens ts b.literal_tokens) vs }
     ensures tokens { (server : Server) (mode : Bool) (query text : List ℕ) (ts us : List Token)
-        (given : Given) → IsTokens mode query ts → (b : IsBoundText mode ts given text) →
-        AreReadAlike ts → IsReadOn server mode query us →
+        (given : Given) → IsHonest server → DecidesWithin server → IsTokens mode query ts →
+        (b : IsBoundText mode ts given text) → AreReadAlike ts → IsReadOn server mode query us →
         IsReadOn server mode text (with_literal_tokens us b.literal_tokens) }
     ensures literals { (server : Server) (mode : Bool) (ts : List Token) (given : Given)
         (text : List ℕ) → (b : IsBoundText mode ts given text) →

@@ -8,6 +8,7 @@ const PORTABLE: &[&[u8]] = &[
     b"",
     b"SELECT :id, ':id', :name",
     b"SELECT '/*! [ $$ 1e+?', `--\x01 \"\\\"\"`, ? /* [ */ # $$\n -- [",
+    b"SELECT /*+ x */ /*!80000 1 + */ 2 /*M! + 3 */",
     b"5--1, a--\n?, a---",
     b"\"a\\n\"",
     b"x.5e--2, 1e-- x",
@@ -16,9 +17,9 @@ const PORTABLE: &[&[u8]] = &[
 
 /// Queries, and in either mode the number and the position of their first construct.
 const CONSTRUCTS: &[(&[u8], i32, usize)] = &[
-    (b"SELECT /*!80000 1 */", 1, 7),
-    (b"SELECT /*+ x */ 1", 2, 7),
-    (b"1 /*M! 2 */", 3, 2),
+    (b"SELECT /*!80000 ? */", 1, 7),
+    (b"SELECT /*+ 'x' */ 1", 2, 7),
+    (b"1 /*M! 2; */", 3, 2),
     (b"1 --\x7f", 4, 2),
     (b"a, [b]", 6, 3),
     (b"$x y$_0\xff$", 7, 4),

@@ -6,6 +6,7 @@ use Rattle.std.proofs.lemmas.Bool.{cases_Bool, or_cases, eqb-true}
 use Rattle.mysql_named_params.specs.Bytes.{asterisk, dash, double_quote, single_quote, slash, is_string_quote, is_extension, begins, IsUpTo, bracket, dollar, point}
 use Rattle.mysql_named_params.specs.Tokens.{Token, bytes_of, IsToken, QuotedString, QuotedIdentifier, HashComment, DashComment, BlockComment, Name, Mark, Plain}
 use Rattle.mysql_named_params.specs.Server.{begins_special, begins_tag, begins_fraction}
+use Rattle.mysql_named_params.specs.Quiet.{is_quiet}
 use Rattle.mysql_named_params.specs.Portable.{stands_inside, may_open_line, begins_exponent, is_read_alike, joins_number}
 use Rattle.mysql_named_params.specs.FirstUnportable.{special_construct, construct_at}
 use Rattle.mysql_named_params.specs.FrontConstruct.{block_construct, front_construct}
@@ -14,8 +15,7 @@ use Rattle.mysql_named_params.specs.declared.portable.Construct.TheVariants as c
 use Rattle.mysql_named_params.specs.TokensOf.{not_plain_at, block_comment}
 use Rattle.mysql_named_params.proofs.PlainLemmas.{plain_none}
 use Rattle.mysql_named_params.proofs.RestLemmas.{block_none}
-use Rattle.mysql_named_params.proofs.PortableLemmas.{special_in_front}
-use Rattle.mysql_named_params.proofs.SharpLemmas.{special_more}
+use Rattle.mysql_named_params.proofs.PortableLemmas.{special_in_front, special_more}
 
 -- the token, before this text, is portable and joins no number
 abbrev pub passes : Token → List ℕ → Bool
@@ -65,7 +65,12 @@ block_front tail rest u = go (cases_Bool (begins_special tail))
   where
     go : (begins_special tail ≡ true) ⊎ (begins_special tail ≡ false) →
         block_construct (asterisk ∷ (tail ++ rest)) ≡ unportable_at (BlockComment tail) rest
-    go (inl p) = rw (special_more tail rest p, p) (ap Some (special_same tail rest p))
+    go (inl p) = rw (special_more tail rest p, p) (ways (is_quiet (tail ++ rest)))
+      where
+        ways : (q : Bool) → ◌≡◌ {A = Option Construct} (cond (not q) (Some (special_construct (tail ++ rest))) None)
+            (cond (q && true) None (Some (special_construct tail)))
+        ways true = refl
+        ways false = ap Some (special_same tail rest p)
     go (inr p) = rw (special_in_front tail rest u p, p) refl
 
 -- ---- a plain byte
@@ -92,23 +97,28 @@ slash_front : (rest : List ℕ) → block_comment rest ≡ None →
 slash_front [] e = refl
 slash_front (b ∷ bs) e = go (b == asterisk) (cases_Bool (begins is_extension bs)) (block_none (b ∷ bs) e)
   where
+    ways : (q : Bool) → ◌≡◌ {A = Option Construct} (cond (not q) (Some (special_construct bs)) None)
+        (cond (q && true) None (Some (special_construct bs)))
+    ways true = refl
+    ways false = refl
+
     go : (s : Bool) → (begins is_extension bs ≡ true) ⊎ (begins is_extension bs ≡ false) →
         (s && not (begins is_extension bs)) ≡ false →
-        ◌≡◌ {A = Option Construct} (cond (s && begins_special bs) (Some (special_construct bs)) None)
-        (cond (not (s || false) && true) None (Some (special_construct bs)))
+        ◌≡◌ {A = Option Construct} (cond (s && (begins_special bs && not (is_quiet bs))) (Some (special_construct bs)) None)
+        (cond ((not (s || false) || (s && (begins_special bs && is_quiet bs))) && true) None (Some (special_construct bs)))
     go false x h = refl
-    go true (inl x) h = rw (extension_special bs x) refl
+    go true (inl x) h = rw (extension_special bs x) (ways (is_quiet bs))
     go true (inr x) h = absurd (true≢false (rw x at h))
 
 -- one test
 one_way : (t : Bool) (c : Construct) → ◌≡◌ {A = Option Construct} (cond t (Some c) None)
-    (cond (not (t || false) && true) None (Some c))
+    (cond ((not (t || false) || false) && true) None (Some c))
 one_way true c = refl
 one_way false c = refl
 
 point_ways : (f x : Bool) (c d : Construct) →
     ◌≡◌ {A = Option Construct} (cond f (Some c) (cond x (Some d) None))
-    (cond (not f && not x) None (Some (cond f c d)))
+    (cond ((not f || false) && not x) None (Some (cond f c d)))
 point_ways true x c d = refl
 point_ways false true c d = refl
 point_ways false false c d = refl

@@ -22,6 +22,7 @@ pub mod ReparsedLemmas
 pub mod ServerTokenLemmas
 pub mod PortableLemmas
 pub mod GrammarLemmas
+pub mod QuietLemmas
 pub mod SharpLemmas
 pub mod FrontLemmas
 pub mod UnportableLemmas

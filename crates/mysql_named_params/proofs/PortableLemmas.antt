@@ -1,9 +1,9 @@
--- The tokens of a portable query, on a server.
+-- The tokens that every server reads alike.
 use Rattle.std.specs.Prelude.{Bool}
 use Rattle.std.proofs.Common.{◌≡◌, ◌≢◌, ◌⊎◌, ℕ, zero, suc, ◌+◌, ◌≤◌, true, false, cond, not, ◌==◌, ◌&&◌, ◌||◌, List, [], ◌∷◌, ◌++◌, length, Option, None, refl, sym, ap, ◌∙◌, subst, inl, inr, arith, true≢false, length-append, ne_eqb}
 use Rattle.std.proofs.lemmas.Bool.{cases_Bool, or_parts, not-true, not-false, eqb-true, eqb-false}
 use Rattle.std.proofs.lemmas.Bool.Decides.{nat_tests}
-use Rattle.mysql_named_params.specs.Bytes.{asterisk, backquote, colon, dash, double_quote, hash, newline, question_mark, slash, is_white_space, is_string_quote, begins, HoldsOnlyAtEnd, IsUpTo, up_to_word, up_to_end}
+use Rattle.mysql_named_params.specs.Bytes.{asterisk, backquote, colon, dash, double_quote, exclamation_mark, hash, newline, question_mark, slash, is_white_space, is_string_quote, begins, HoldsOnlyAtEnd, IsUpTo, up_to_word, up_to_end}
 use Rattle.mysql_sql_text.specs.StringUnits.{AreUnits, no_units, byte_unit}
 use Rattle.mysql_named_params.specs.Tokens.{Token, bytes_of, text_of, IsToken, IsTokens, AreTokensBefore, IsStringTail, closed_string, open_string, open_in_escape, QuotedString, QuotedIdentifier, HashComment, DashComment, BlockComment, Name, Mark, Plain}
 use Rattle.mysql_named_params.specs.Places.{names, marks}
@@ -15,7 +15,7 @@ use Rattle.mysql_named_params.proofs.PlainLemmas.{plain_none}
 use Rattle.mysql_named_params.proofs.RestLemmas.{cond_none, some_none, dash_none}
 use Rattle.mysql_named_params.proofs.TokenListLemmas.{one_token}
 use Rattle.mysql_named_params.specs.Server.{Server, opens_line, is_graphic, begins_special, begins_own, reads_in, usual_block, usual_quotes, IsTokenOn, AreTokensOn, IsReadOn}
-use Rattle.mysql_named_params.specs.Portable.{stands_inside, may_open_line, differs_at, is_read_alike, AreReadAlikeBefore, IsReadAs, read_all, read_same, read_empty_comment}
+use Rattle.mysql_named_params.specs.Portable.{stands_inside, may_open_line, differs_at}
 use Rattle.mysql_named_params.proofs.ServerTokenLemmas.{not_plain_on, plain_on, dash_comment_on, block_comment_on, own_on, one_list_on}
 
 -- ---- tests
@@ -118,6 +118,16 @@ special_in_front (b ∷ []) rest (up_to_word body e ends) p = absurd (omega (ari
 special_in_front (b ∷ []) rest (up_to_end lacks e) p = rw e p
 special_in_front (b ∷ c ∷ tail) rest u p = p
 
+pub special_more : (tail rest : List ℕ) → begins_special tail ≡ true → begins_special (tail ++ rest) ≡ true
+special_more [] rest h = absurd (true≢false (sym h))
+special_more (b ∷ []) rest h = go _ _ h
+  where
+    go : (a c : Bool) → (a || (c && false)) ≡ true → (a || (c && begins (λ d. d == exclamation_mark) rest)) ≡ true
+    go true c h = refl
+    go false true h = absurd (true≢false (sym h))
+    go false false h = absurd (true≢false (sym h))
+special_more (b ∷ c ∷ tail) rest h = h
+
 -- ---- plain bytes
 
 -- where `--` and a newline follow, the server opens no comment there
@@ -143,12 +153,12 @@ dash_on server (b ∷ gap ∷ bs) p n e = rw (opens (cases_Bool (b == dash)) (da
     opens (inl d) e p = rw d (no_gap (is_white_space gap) (is_graphic gap) refl refl (eqb-true b dash d) (rw d at e) (rw d at p))
     opens (inr d) e p = rw d refl
 
-slash_on : (server : Server) (rest : List ℕ) → begins (λ c. c == asterisk) rest ≡ false →
+pub slash_on : (server : Server) (rest : List ℕ) → begins (λ c. c == asterisk) rest ≡ false →
     block_comment_on server rest ≡ None
 slash_on server [] p = refl
 slash_on server (b ∷ bs) p = rw p refl
 
-own_none : (server : Server) (b : ℕ) (rest : List ℕ) → begins_own b rest ≡ false → own_on server b rest ≡ None
+pub own_none : (server : Server) (b : ℕ) (rest : List ℕ) → begins_own b rest ≡ false → own_on server b rest ≡ None
 own_none server b rest p = rw p refl
 
 plain_alike : (server : Server) (mode : Bool) (b : ℕ) (rest : List ℕ) → differs_at b rest ≡ false →
@@ -165,9 +175,17 @@ plain_alike server mode b rest p n =
     (cond_none (b == colon) _ _ _ _ (λ e. e)
     (cond_none (b == question_mark) _ _ _ _ (some_none _ _) (λ e. own_none server b rest p2.1)))))))
 
--- a portable token is a token on the server
+-- every server ends this token before this text where the grammar does, whatever it makes of special
+-- texts
+abbrev pub is_alike_on_all : Token → List ℕ → Bool
+is_alike_on_all (QuotedString quote tail) rest = not (quote == double_quote && stands_inside quote tail)
+is_alike_on_all (BlockComment tail) rest = not (begins_special tail)
+is_alike_on_all (Plain b) rest = not (differs_at b rest)
+is_alike_on_all t rest = true
+
+-- such a token is a token on the server
 pub token_on : (server : Server) (mode : Bool) (t : Token) (rest : List ℕ) → IsToken mode t rest →
-    is_read_alike t rest ≡ true → (t ≡ Plain dash → NoEmptyComment server rest) →
+    is_alike_on_all t rest ≡ true → (t ≡ Plain dash → NoEmptyComment server rest) →
     IsTokenOn server mode t rest
 token_on server mode (QuotedString quote tail) rest h p n = usual_quotes h.0 (string_on server mode quote tail rest h.1 p)
 token_on server mode (QuotedIdentifier tail) rest h p n = h
@@ -179,11 +197,6 @@ token_on server mode Mark rest h p n = tt
 token_on server mode (Plain b) rest h p n = plain_on server mode b rest (plain_alike server mode b rest (not-true _ p) (λ e. n (ap Plain e)) (plain_none mode b rest h))
 
 -- ---- the tokens of a query
-
-pub read_text : {ts us : List Token} → IsReadAs ts us → text_of us ≡ text_of ts
-read_text read_all = refl
-read_text (read_same {t = t} r) = ap (λ x. bytes_of t ++ x) (read_text r)
-read_text (read_empty_comment r) = ap (λ x. dash ∷ dash ∷ newline ∷ x) (read_text r)
 
 -- a text that begins with a byte that is plain there
 pub head_is : (mode : Bool) (ts : List Token) (b : ℕ) (more : List ℕ) → AreTokensBefore mode [] ts →
@@ -203,7 +216,7 @@ dash_plain : (mode : Bool) (more : List ℕ) → not_plain_at mode (dash ∷ new
 dash_plain mode [] = refl
 dash_plain mode (b ∷ more) = refl
 
-dash_line : (mode : Bool) (ts : List Token) (more : List ℕ) → AreTokensBefore mode [] ts →
+pub dash_line : (mode : Bool) (ts : List Token) (more : List ℕ) → AreTokensBefore mode [] ts →
     dash ∷ newline ∷ more ≡ text_of ts → (us : List Token) × (ts ≡ Plain dash ∷ Plain newline ∷ us)
 dash_line mode ts more h e =
     let a = head_is mode ts dash (newline ∷ more) h (sym e) (dash_plain mode more) in
@@ -234,7 +247,7 @@ line_here t (b ∷ c ∷ bs) h =
     second : (more : List ℕ) → dash ∷ newline ∷ more ≡ b ∷ c ∷ bs → c ≡ newline
     second more e = cc
 
-has_empty : (t : Token) (rest : List ℕ) → HasEmptyComment t rest
+pub has_empty : (t : Token) (rest : List ℕ) → HasEmptyComment t rest
 has_empty (Plain b) rest =
     elim (cases_Bool (b == dash)) [
       | inl e ↦ line_here (Plain b) rest (ap Plain (eqb-true b dash e))
@@ -250,81 +263,3 @@ has_empty (DashComment gap tail) rest = none_here (λ more d f. cc)
 has_empty (BlockComment tail) rest = none_here (λ more d f. cc)
 has_empty (Name name) rest = none_here (λ more d f. cc)
 has_empty Mark rest = none_here (λ more d f. cc)
-
--- what the server makes of the tokens
-pub record ReadingOn (server : Server) (mode : Bool) (ts : List Token) : Type 0 where
-  pub tokens : List Token
-  pub alike : IsReadAs ts tokens
-  pub holds : AreTokensOn server mode tokens
-
-reading_same : (server : Server) (mode : Bool) (t : Token) (ts : List Token) →
-    IsTokenOn server mode t (text_of ts) → ReadingOn server mode ts → ReadingOn server mode (t ∷ ts)
-reading_same server mode t ts h r = record {
-  tokens = t ∷ r.tokens;
-  alike = read_same r.alike;
-  holds = (subst (IsTokenOn server mode t) (sym (read_text r.alike)) h, r.holds);
-}
-
-reading_empty : (server : Server) (mode : Bool) (ts : List Token) → opens_line server newline ≡ true →
-    ReadingOn server mode ts → ReadingOn server mode (Plain dash ∷ Plain dash ∷ Plain newline ∷ ts)
-reading_empty server mode ts o r = record {
-  tokens = DashComment newline [] ∷ r.tokens;
-  alike = read_empty_comment r.alike;
-  holds = ((o, empty_line _), r.holds);
-}
-
-reading_within : (server : Server) (mode : Bool) (n : ℕ) (ts : List Token) → length ts ≤ n →
-    AreTokensBefore mode [] ts → AreReadAlikeBefore [] ts → ReadingOn server mode ts
-reading_within server mode n [] le h p = record { tokens = []; alike = read_all; holds = tt }
-reading_within server mode zero (t ∷ ts) le h p = absurd (omega arith)
-reading_within server mode (suc n) (t ∷ ts) le h p =
-    elim (cases_Bool (opens_line server newline)) [
-      | inr o ↦ reading_same server mode t ts (token_on server mode t (text_of ts) h.0 p.0 (λ d more e. o)) (reading_within server mode n ts (omega arith) h.1 p.1)
-      | inl o ↦ elim (has_empty t (text_of ts)) [
-        | none_here other ↦ reading_same server mode t ts (token_on server mode t (text_of ts) h.0 p.0 (λ d more e. absurd (other more d e))) (reading_within server mode n ts (omega arith) h.1 p.1)
-        | empty_here more d e ↦
-            let line = dash_line mode ts more h.1 e in
-            let h' : AreTokensBefore mode [] (Plain dash ∷ Plain newline ∷ line.0) = subst (AreTokensBefore mode []) line.1 h.1 in
-            let p' : AreReadAlikeBefore [] (Plain dash ∷ Plain newline ∷ line.0) = subst (AreReadAlikeBefore []) line.1 p.1 in
-            let shorter : length line.0 ≤ n = omega (arith, ap length line.1) in
-            let whole : Plain dash ∷ Plain dash ∷ Plain newline ∷ line.0 ≡ t ∷ ts = sym (ap (λ x. x ∷ ts) d ∙ ap (λ x. Plain dash ∷ x) line.1) in
-            subst (ReadingOn server mode) whole (reading_empty server mode line.0 o (reading_within server mode n line.0 shorter h'.1.1 p'.1.1))
-      ]
-    ]
-
-pub reading_on : (server : Server) (mode : Bool) (ts : List Token) → AreTokensBefore mode [] ts →
-    AreReadAlikeBefore [] ts → ReadingOn server mode ts
-reading_on server mode ts h p = reading_within server mode (length ts) ts (omega arith) h p
-
--- a portable query, on a server
-pub portable_read : (server : Server) (mode : Bool) (query : List ℕ) (ts us : List Token) →
-    IsTokens mode query ts → AreReadAlikeBefore [] ts → IsReadOn server mode query us → IsReadAs ts us
-portable_read server mode query ts us h p u =
-    let r = reading_on server mode ts h.each p in
-    let same : r.tokens ≡ us = one_list_on server mode query r.tokens us (record { text = read_text r.alike ∙ h.text; each = r.holds }) u in
-    subst (IsReadAs ts) same r.alike
-
--- ---- the places
-
-pub read_names : {ts us : List Token} → IsReadAs ts us → names us ≡ names ts
-read_names read_all = refl
-read_names (read_same {t = Name name} r) = ap (λ x. name ∷ x) (read_names r)
-read_names (read_same {t = Mark} r) = read_names r
-read_names (read_same {t = t} r) = read_names r
-read_names (read_empty_comment r) = read_names r
-
-pub read_marks : {ts us : List Token} → IsReadAs ts us → marks us ≡ marks ts
-read_marks read_all = refl
-read_marks (read_same {t = Mark} r) = ap (λ x. x + 1) (read_marks r)
-read_marks (read_same {t = Name name} r) = read_marks r
-read_marks (read_same {t = t} r) = read_marks r
-read_marks (read_empty_comment r) = read_marks r
-
-pub read_positions : {ts us : List Token} → IsReadAs ts us → (n : ℕ) → positions_from n us ≡ positions_from n ts
-read_positions read_all n = refl
-read_positions (read_same {t = Name name} r) n = ap (λ x. n ∷ x) (read_positions r _)
-read_positions (read_same {t = Mark} r) n = ap (λ x. n ∷ x) (read_positions r _)
-read_positions (read_same {t = t} r) n = read_positions r _
-read_positions (read_empty_comment {ts = ts} {us = us} r) n =
-    let e : n + 3 ≡ n + 1 + 1 + 1 = omega arith in
-    ap (λ x. positions_from x us) e ∙ read_positions r _

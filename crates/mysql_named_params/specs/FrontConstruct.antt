@@ -1,9 +1,10 @@
 -- The construct at the front of a text, by the text and the length of its first token. For private
 -- functions of `portable.rt`; no public contract cites it.
-use Rattle.std.specs.Prelude.{◌-◌, ◌==◌, ◌&&◌, ◌||◌, ℕ, List, [], ◌∷◌, if◌then◌else◌, take, Option, Some, None}
+use Rattle.std.specs.Prelude.{◌-◌, ◌==◌, ◌&&◌, ◌||◌, not, ℕ, List, [], ◌∷◌, if◌then◌else◌, take, Option, Some, None}
 use Rattle.std.specs.Char.{is_ascii_digit}
 use Rattle.mysql_named_params.specs.Bytes.{asterisk, dash, double_quote, slash, bracket, dollar, point}
 use Rattle.mysql_named_params.specs.Server.{begins_special, begins_tag, begins_fraction}
+use Rattle.mysql_named_params.specs.Quiet.{is_quiet}
 use Rattle.mysql_named_params.specs.Portable.{stands_inside, may_open_line, begins_exponent}
 use Rattle.mysql_named_params.specs.FirstUnportable.{special_construct}
 use Rattle.mysql_named_params.specs.declared.portable.Construct.{Construct}
@@ -13,7 +14,9 @@ use Rattle.mysql_named_params.specs.declared.portable.Construct.TheVariants as c
 abbrev pub block_construct : List ℕ → Option Construct
 block_construct [] = None
 block_construct (b ∷ bs) =
-    if b == asterisk && begins_special bs then Some (special_construct bs) else None
+    if b == asterisk && (begins_special bs && not (is_quiet bs))
+    then Some (special_construct bs)
+    else None
 
 -- the construct with which the token of so many bytes at the front of the text begins
 abbrev pub front_construct : List ℕ → ℕ → Option Construct

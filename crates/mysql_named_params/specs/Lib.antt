@@ -12,6 +12,7 @@ pub mod Parsed
 pub mod SameParsed
 pub mod NamedParamsErrors
 pub mod Server
+pub mod Quiet
 pub mod Portable
 pub mod FirstUnportable
 pub mod FrontConstruct

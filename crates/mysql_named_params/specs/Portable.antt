@@ -1,12 +1,13 @@
--- Portable queries: those that every server of Server.antt reads as the grammar does (by the laws
+-- Portable queries: those that every honest server reads as the grammar does (by the laws
 -- `portable_reading` and `portable_is_sharp`). Besides, as a condition of its own, no place stands
 -- directly after the sign of a number's exponent, since a value's digits would join the number.
-use Rattle.std.specs.Prelude.{ℕ, IsTrue, IsFalse, Bool, true, false, not, ◌==◌, ◌&&◌, ◌||◌, List, [], ◌∷◌, ⊤}
+use Rattle.std.specs.Prelude.{ℕ, IsTrue, IsFalse, Bool, true, false, not, ◌==◌, ◌&&◌, ◌||◌, List, [], ◌∷◌, ◌++◌, ⊤}
 use Rattle.std.specs.Char.{is_ascii_digit}
 use Rattle.std.specs.Str.{byte}
 use Rattle.mysql_named_params.specs.Bytes.{asterisk, dash, double_quote, newline, plus, slash, is_white_space, begins, point}
-use Rattle.mysql_named_params.specs.Tokens.{Token, text_then, QuotedString, DashComment, BlockComment, Plain}
+use Rattle.mysql_named_params.specs.Tokens.{Token, text_of, text_then, QuotedString, DashComment, BlockComment, Plain}
 use Rattle.mysql_named_params.specs.Server.{is_graphic, begins_special, begins_own, begins_place}
+use Rattle.mysql_named_params.specs.Quiet.{IsQuietComment, is_quiet, begins_quiet, plain_then}
 
 -- the byte stands before the last one
 abbrev pub stands_inside : ℕ → List ℕ → Bool
@@ -26,12 +27,13 @@ differs_at b rest =
     (b == slash && begins (λ c. c == asterisk) rest)
     || ((b == dash && may_open_line rest) || begins_own b rest)
 
--- every server ends this token, before this text, at the index at which the grammar ends it
+-- every honest server ends this token, before this text, at the index at which the grammar ends it;
+-- or it is a quiet comment, or its `/` begins one
 abbrev pub is_read_alike : Token → List ℕ → Bool
 is_read_alike (QuotedString quote tail) rest =
     not (quote == double_quote && stands_inside quote tail)
-is_read_alike (BlockComment tail) rest = not (begins_special tail)
-is_read_alike (Plain b) rest = not (differs_at b rest)
+is_read_alike (BlockComment tail) rest = not (begins_special tail) || is_quiet (tail ++ rest)
+is_read_alike (Plain b) rest = not (differs_at b rest) || (b == slash && begins_quiet rest)
 is_read_alike t rest = true
 
 -- each of the tokens passes `is_read_alike`, before a rest
@@ -69,15 +71,24 @@ JoinNoNumber = JoinNoNumberBefore []
 
 -- the query of these tokens is portable
 pub record IsPortable (ts : List Token) : Type 0 where
-  -- every server reads it as the grammar does
+  -- every honest server reads it as the grammar does
   pub alike : AreReadAlike ts
   -- no value's digits join a number of the query
   pub apart : JoinNoNumber ts
 
--- The tokens of the grammar, and those of a server that may read `--` before a newline as one
--- comment, with the newline in it.
+-- The tokens of the grammar, and those of an honest server: `--` before a newline may be one
+-- comment, and a quiet comment may be one comment or plain bytes in either.
 pub data IsReadAs : List Token → List Token → Type 0 where
   read_all : IsReadAs [] []
-  read_same : {t : Token} {ts us : List Token} → IsReadAs ts us → IsReadAs (t ∷ ts) (t ∷ us)
+  read_same : {t : Token} {ts us : List Token} → IsReadAs ts us →
+      IsReadAs (t ∷ ts) (t ∷ us)
   read_empty_comment : {ts us : List Token} → IsReadAs ts us →
       IsReadAs (Plain dash ∷ Plain dash ∷ Plain newline ∷ ts) (DashComment newline [] ∷ us)
+  -- the server skips what the grammar reads
+  read_skipped : {ts us : List Token} (tail : List ℕ) → IsQuietComment tail (text_of ts) →
+      IsReadAs ts us →
+      IsReadAs (Plain slash ∷ Plain asterisk ∷ plain_then ts tail) (BlockComment tail ∷ us)
+  -- the server reads what the grammar skips
+  read_executed : {ts us : List Token} (tail : List ℕ) → IsQuietComment tail (text_of ts) →
+      IsReadAs ts us →
+      IsReadAs (BlockComment tail ∷ ts) (Plain slash ∷ Plain asterisk ∷ plain_then us tail)

@@ -9,6 +9,7 @@ ghost use Rattle.mysql_named_params.specs.Places.{names, marks, with_marks, with
 ghost use Rattle.mysql_named_params.specs.Positions.{positions, HavePlacesAt, AscendFrom};
 ghost use Rattle.mysql_named_params.specs.Portable.{AreReadAlike, IsReadAs};
 ghost use Rattle.mysql_named_params.specs.Server.{Server, IsReadOn, grammar};
+ghost use Rattle.mysql_named_params.specs.Quiet.{IsHonest};
 
 use crate::named_params::{MixedParamsError, NamedParamsError, ParsedNamedParams};
 use crate::portable::Unportable;
@@ -68,34 +69,35 @@ pub fn grammar_is_a_server()
         IsReadOn grammar mode query ts → IsTokens mode query ts }
 {}
 
-/// If each token of a query passes its test, as those of a portable query do, then every server
-/// reads the grammar's tokens, except that it may read `--` before a newline as a comment.
+/// If each token of a query passes its test, as those of a portable query do, then every honest
+/// server, which reads each quiet comment or skips it whole, reads the grammar's tokens, except that
+/// it may read `--` before a newline as a comment, and has its own tokens in quiet comments.
 pub fn portable_reading()
     ensures alike { (server : Server) (mode : Bool) (query : List ℕ) (ts us : List Token) →
-        IsTokens mode query ts → AreReadAlike ts → IsReadOn server mode query us →
+        IsHonest server → IsTokens mode query ts → AreReadAlike ts → IsReadOn server mode query us →
         IsReadAs ts us }
 {}
 
-/// No weaker condition serves: if every server reads a query as the grammar does, each of its
-/// tokens passes its test. (A portable query also has no place directly after an exponent's sign,
-/// which is more than this needs.)
+/// No weaker condition serves: if every honest server reads a query so, each of its tokens passes
+/// its test. (A portable query also has no place directly after an exponent's sign, which is more
+/// than this needs.)
 pub fn portable_is_sharp()
     ensures sharp { (mode : Bool) (query : List ℕ) (ts : List Token) → IsTokens mode query ts →
-        ((server : Server) (us : List Token) → IsReadOn server mode query us →
+        ((server : Server) (us : List Token) → IsHonest server → IsReadOn server mode query us →
         IsReadAs ts us) → AreReadAlike ts }
 {}
 
 /// Such a query, as each portable one is, has the same names and marks at the same positions on
-/// every server.
+/// every honest server.
 pub fn same_places()
     ensures names { (server : Server) (mode : Bool) (query : List ℕ) (ts us : List Token) →
-        IsTokens mode query ts → AreReadAlike ts → IsReadOn server mode query us →
+        IsHonest server → IsTokens mode query ts → AreReadAlike ts → IsReadOn server mode query us →
         names us ≡ names ts }
     ensures marks { (server : Server) (mode : Bool) (query : List ℕ) (ts us : List Token) →
-        IsTokens mode query ts → AreReadAlike ts → IsReadOn server mode query us →
+        IsHonest server → IsTokens mode query ts → AreReadAlike ts → IsReadOn server mode query us →
         marks us ≡ marks ts }
     ensures positions { (server : Server) (mode : Bool) (query : List ℕ) (ts us : List Token) →
-        IsTokens mode query ts → AreReadAlike ts → IsReadOn server mode query us →
+        IsHonest server → IsTokens mode query ts → AreReadAlike ts → IsReadOn server mode query us →
         positions us ≡ positions ts }
 {}
 

@@ -8,6 +8,7 @@ pub use Rattle.mysql_named_params.specs.Parsed
 pub use Rattle.mysql_named_params.specs.SameParsed
 pub use Rattle.mysql_named_params.specs.NamedParamsErrors
 pub use Rattle.mysql_named_params.specs.Server
+pub use Rattle.mysql_named_params.specs.Quiet
 pub use Rattle.mysql_named_params.specs.Portable
 pub use Rattle.mysql_named_params.specs.FirstUnportable
 pub use Rattle.mysql_params_core.specs.Given

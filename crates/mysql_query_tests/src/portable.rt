@@ -71,12 +71,12 @@ fn leaks(rt: HostRuntime) {
 // Each construct in other forms, and where it stands.
 const FORMS: &[(&[u8], Construct, usize)] = &[
     (b"/*!", Construct::ExecutableComment, 0),
-    (b"*/*! */", Construct::ExecutableComment, 1),
-    (b"1 /* a *//*!*/", Construct::ExecutableComment, 9),
+    (b"*/*! ; */", Construct::ExecutableComment, 1),
+    (b"1 /* a *//*!;*/", Construct::ExecutableComment, 9),
     (b"/*+", Construct::Hint, 0),
-    (b"//*+*/", Construct::Hint, 1),
+    (b"//*+;*/", Construct::Hint, 1),
     (b"/*M!", Construct::MariaDbComment, 0),
-    (b"/**//*M!100100 a */", Construct::MariaDbComment, 4),
+    (b"/**//*M!100100 ; */", Construct::MariaDbComment, 4),
     (b"--\x00", Construct::Dashes, 0),
     (b"--\x08", Construct::Dashes, 0),
     (b"--\x1f", Construct::Dashes, 0),
@@ -115,6 +115,69 @@ const FORMS: &[(&[u8], Construct, usize)] = &[
 #[test]
 fn forms(rt: HostRuntime) {
     are_found(&rt, BOTH, FORMS);
+}
+
+// Hints and executable comments in which nothing begins or ends: MySQL 9.7 and MariaDB 11.8, with
+// versions below and above the server's, answered such queries alike for each of two values. The first
+// three are examples of the MySQL Reference Manual ("Optimizer Hints", "Comments") with a place.
+const QUIET: &[&[u8]] = &[
+    b"SELECT /*+ MAX_EXECUTION_TIME(1000) */ * FROM t1 WHERE a = :a",
+    b"SELECT /*! STRAIGHT_JOIN */ col1 FROM table1, table2 WHERE b = ?",
+    b"CREATE TABLE t1(a INT DEFAULT ?, KEY (a)) /*!50110 KEY_BLOCK_SIZE=1024 */;",
+    b"SELECT :a /*M! + 1 */, 2 /*M!100100 + 1 */",
+    b"SELECT 1 /*!99999 + 1 */, 2 /*!80000 + 1 */, :a",
+    b"/*!*/",
+    b"/*+*/",
+    b"/*M!*/",
+    b"/*!**/",
+    b"*/*! */",
+    b"//*+*/",
+    b"1 /* a *//*!*/",
+    b"/**//*M!100100 a */",
+    b"/*! a - b / c * d : e */",
+    b"/*! a$b $ . 1.5e-3 x.e5 */",
+    b"/*! SET @a:=1, @b:= 2 */",
+    b"/*! (] ,=<>~^&|%@ \x01\xc3 */",
+    b"/*!\n*/",
+    b"/*!*/ *",
+    b"/*!*/:a/*+*/?/*M!*/;",
+    b"/*+ a *//*! b */",
+];
+
+#[test]
+fn quiet_comments_are_portable(rt: HostRuntime) {
+    are_portable(&rt, BOTH, QUIET);
+}
+
+// What makes them differ: each of these in one of the three, and no end.
+const LOUD: &[(&[u8], Construct, usize)] = &[
+    (b"/*!'*/", Construct::ExecutableComment, 0),
+    (b"1 /*+\"*/", Construct::Hint, 2),
+    (b"/*M!`*/", Construct::MariaDbComment, 0),
+    (b"/*! a#*/", Construct::ExecutableComment, 0),
+    (b"/*+--*/", Construct::Hint, 0),
+    (b"/*M!/**/", Construct::MariaDbComment, 0),
+    (b"/*!/*/", Construct::ExecutableComment, 0),
+    (b"/*! a ?*/", Construct::ExecutableComment, 0),
+    (b"/*+:a*/", Construct::Hint, 0),
+    (b"/*M! :_*/", Construct::MariaDbComment, 0),
+    (b"/*![*/", Construct::ExecutableComment, 0),
+    (b"/*+ $$*/", Construct::Hint, 0),
+    (b"/*M! a$b$*/", Construct::MariaDbComment, 0),
+    (b"/*! 1.e-- */", Construct::ExecutableComment, 0),
+    (b"/*+ 1.5?*/", Construct::Hint, 0),
+    (b"/*M!;*/", Construct::MariaDbComment, 0),
+    (b"/*!\\*/", Construct::ExecutableComment, 0),
+    (b"/*+*/*", Construct::Hint, 0),
+    (b"/*M! a */* 5", Construct::MariaDbComment, 0),
+    (b"/*! a", Construct::ExecutableComment, 0),
+    (b"/*+ *", Construct::Hint, 0),
+    (b"/*! a */ /*+ ' */", Construct::Hint, 9),
+];
+
+#[test]
+fn loud_comments_are_found(rt: HostRuntime) {
+    are_found(&rt, BOTH, LOUD);
 }
 
 // In strings, identifiers and comments.
@@ -267,15 +330,15 @@ fn queries_of_the_other_tests(rt: HostRuntime) {
 const MESSAGES: &[(Construct, &str)] = &[
     (
         Construct::ExecutableComment,
-        "`/*!` is executed or skipped: write its text without it, or leave it out",
+        "`/*!` is executed or skipped: keep quotes, places, comments and `;` out of it",
     ),
     (
         Construct::Hint,
-        "`/*+` is a hint or a comment: leave it out, or write a space before the `+`",
+        "`/*+` is a hint or a comment: keep quotes, places, comments and `;` out of it",
     ),
     (
         Construct::MariaDbComment,
-        "`/*M!` is executed or a comment: leave it out, or write a space before the `M`",
+        "`/*M!` is executed or a comment: keep quotes, places, comments and `;` out of it",
     ),
     (
         Construct::Dashes,

@@ -1,6 +1,6 @@
 use Rattle.std.specs.Prelude.{[]}
 use Rattle.mysql_named_params.proofs.PlaceTextLemmas.{placeless_join_no_number}
-use Rattle.mysql_binding.proofs.BoundOnServerLemmas.{replaced_portable, isolated_on, literals_on}
+use Rattle.mysql_binding.proofs.BoundOnServerLemmas.{replaced_portable, isolated_on, bound_read, literals_on}
 use Rattle.mysql_binding.proofs.PieceLemmas.{joined_text_count}
 use Rattle.mysql_binding.proofs.ReplacedLemmas.{isolated_places}
 use Rattle.mysql_binding.proofs.laws.bound_texts_on_servers.Goals as goal
@@ -11,6 +11,7 @@ returns c = record {
     alike = replaced_portable mode ts b.literals b.literal_tokens h.each p b.shapes b.tokens_of_literals (joined_text_count [] ts b.literals text b.text_is);
     apart = placeless_join_no_number mode _ b.isolated.each (isolated_places mode text ts b.literals b.literal_tokens b.shapes b.tokens_of_literals b.text_is);
   };
-  tokens = λ server mode query text ts us given h b p u. isolated_on server mode query text ts us b.literals b.literal_tokens h p b.shapes b.tokens_of_literals b.text_is u;
+  read = λ server mode query text ts vs given honest h b p v. bound_read server mode query text ts vs b.literals b.literal_tokens honest h p b.shapes b.tokens_of_literals b.text_is v;
+  tokens = λ server mode query text ts us given honest within h b p u. isolated_on server mode query text ts us b.literals b.literal_tokens honest within h p b.shapes b.tokens_of_literals b.text_is u;
   literals = λ server mode ts given text b. literals_on server mode b.literals b.literal_tokens b.shapes b.tokens_of_literals;
 }

@@ -1,4 +1,4 @@
-use Rattle.mysql_named_params.proofs.PortableLemmas as lemmas
+use Rattle.mysql_named_params.proofs.QuietLemmas as lemmas
 use Rattle.mysql_named_params.proofs.laws.portable_reading.Goals as goal
 
 pub returns : goal.returns

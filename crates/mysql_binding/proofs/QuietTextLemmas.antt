@@ -1,0 +1,150 @@
+-- What is quiet in a text stays so up to a place, where a literal follows instead.
+use Rattle.std.specs.Prelude.{Bool}
+use Rattle.std.proofs.Common.{◌≡◌, ◌⊎◌, ℕ, true, false, not, ◌==◌, ◌&&◌, ◌||◌, List, [], ◌∷◌, ◌++◌, refl, sym, ◌∙◌, subst, inl, inr, true≢false}
+use Rattle.std.proofs.lemmas.Bool.{and_parts, or_parts, or_cases, or_from, or_right, not-true, eqb-true}
+use Rattle.mysql_named_params.specs.Bytes.{asterisk, backquote, dash, hash, slash, is_string_quote, begins, IsUpTo, up_to_word, up_to_end}
+use Rattle.mysql_named_params.specs.Tokens.{Token, QuotedString, QuotedIdentifier, HashComment, DashComment, BlockComment, Name, Mark, Plain}
+use Rattle.mysql_named_params.specs.Server.{begins_special, begins_place, begins_own}
+use Rattle.mysql_named_params.specs.Portable.{differs_at, may_open_line, is_read_alike}
+use Rattle.mysql_named_params.specs.Quiet.{is_loud, closes, is_quiet, IsQuietComment, begins_quiet}
+use Rattle.mysql_named_params.proofs.PortableLemmas.{second_false, false_if, is_alike_on_all}
+use Rattle.mysql_binding.proofs.UpToLiteralLemmas.{SameUpToLiteral, at_end, same, same-append, at_place, portable_move, plain_move, star_move}
+
+-- ---- a byte that is not loud stays one
+
+line_closed : (rest : List ℕ) → begins (λ c. c == dash) rest ≡ false → may_open_line rest ≡ false
+line_closed [] h = refl
+line_closed (b ∷ []) h = refl
+line_closed (b ∷ gap ∷ bs) h = rw h refl
+
+loud_move : (b c : ℕ) {x y : List ℕ} → SameUpToLiteral (c ∷ x) (c ∷ y) → is_loud b (c ∷ x) ≡ false →
+    is_loud b (c ∷ y) ≡ false
+loud_move b c {x = x} {y = y} a h =
+    let p1 = or_parts (is_string_quote b) _ h in
+    let p2 = or_parts (b == backquote) _ p1.1 in
+    let p3 = or_parts (b == hash) _ p2.1 in
+    let p4 = or_parts (b == dash && c == dash) _ p3.1 in
+    let p5 = or_parts (b == slash && c == asterisk) _ p4.1 in
+    let p6 = or_parts (begins_place (b ∷ c ∷ x)) _ p5.1 in
+    let p7 = or_parts (begins_own b (c ∷ x)) _ p6.1 in
+    let line : (b == dash && may_open_line (c ∷ x)) ≡ false = false_if _ _ (λ t. line_closed (c ∷ x) (second_false _ _ p4.0 t)) in
+    let d : differs_at b (c ∷ x) ≡ false = or_from _ _ p5.0 (or_from _ _ line p7.0) in
+    let e = or_parts (b == slash && c == asterisk) _ (plain_move b a d) in
+    let f = or_parts (b == dash && may_open_line (c ∷ y)) (begins_own b (c ∷ y)) e.1 in
+    or_from _ _ p1.0 (or_from _ _ p2.0 (or_from _ _ p3.0 (or_from _ _ p4.0 (or_from _ _ p5.0 (or_from _ _ p6.0 (or_from _ _ f.1 p7.1))))))
+
+-- ---- a quiet text stays one
+
+no_place_quiet : (b : ℕ) (x : List ℕ) → begins_place (b ∷ x) ≡ true → is_quiet (b ∷ x) ≡ true → ⊥
+no_place_quiet b x p q =
+    let h = not-true _ (and_parts (not (is_loud b x)) _ q).0 in
+    let p1 = or_parts (is_string_quote b) _ h in
+    let p2 = or_parts (b == backquote) _ p1.1 in
+    let p3 = or_parts (b == hash) _ p2.1 in
+    let p4 = or_parts (b == dash && begins (λ c. c == dash) x) _ p3.1 in
+    let p5 = or_parts (b == slash && begins (λ c. c == asterisk) x) _ p4.1 in
+    let p6 = or_parts (begins_place (b ∷ x)) _ p5.1 in
+    true≢false (sym p ∙ p6.0)
+
+no_place_slash : (b : ℕ) (x : List ℕ) → begins_place (b ∷ x) ≡ true → b ≡ slash → ⊥
+no_place_slash b x p e = true≢false (sym (subst (λ u. begins_place (u ∷ x) ≡ true) e p))
+
+closes_move : (b c : ℕ) {x y : List ℕ} → SameUpToLiteral x y → closes b (c ∷ x) ≡ true → closes b (c ∷ y) ≡ true
+closes_move b c {x = x} {y = y} a h =
+    let p = and_parts (b == asterisk) _ h in
+    let q = and_parts (c == slash) _ p.1 in
+    let s = star_move a (not-true _ q.1) in
+    rw (p.0, q.0, s) refl
+
+both : (p q : Bool) → p ≡ true → q ≡ true → (p && q) ≡ true
+both p q e f = rw (e, f) refl
+
+by_first : (p q : Bool) → p ≡ true → (p || q) ≡ true
+by_first p q e = rw e refl
+
+by_close : (p q r : Bool) → p ≡ false → q ≡ true → (not p && (q || r)) ≡ true
+by_close p q r e f = rw (e, f) refl
+
+by_rest : (p q r : Bool) → p ≡ false → r ≡ true → (not p && (q || r)) ≡ true
+by_rest p q r e f = rw (e, f) (or_right q true refl)
+
+pub quiet_move : {x y : List ℕ} → SameUpToLiteral x y → is_quiet x ≡ true → is_quiet y ≡ true
+quiet_move at_end h = h
+quiet_move (at_place {b = b} {x = x} p l) h = absurd (no_place_quiet b x p h)
+quiet_move (same {b = b} at_end) h = h
+quiet_move (same {b = b} (at_place {b = c} {x = x} p l)) h =
+    let q = and_parts (not (is_loud b (c ∷ x))) _ h in
+    elim (or_cases (closes b (c ∷ x)) (is_quiet (c ∷ x)) q.1) [
+      | inl k ↦ absurd (no_place_slash c x p (eqb-true c slash (and_parts (c == slash) _ (and_parts (b == asterisk) _ k).1).0))
+      | inr k ↦ absurd (no_place_quiet c x p k)
+    ]
+quiet_move (same {b = b} (same {b = c} {x = x} {y = y} a)) h =
+    let q = and_parts (not (is_loud b (c ∷ x))) _ h in
+    let loud : is_loud b (c ∷ y) ≡ false = loud_move b c (same {b = c} a) (not-true _ q.0) in
+    elim (or_cases (closes b (c ∷ x)) (is_quiet (c ∷ x)) q.1) [
+      | inl k ↦ by_close (is_loud b (c ∷ y)) (closes b (c ∷ y)) (is_quiet (c ∷ y)) loud (closes_move b c a k)
+      | inr k ↦ by_rest (is_loud b (c ∷ y)) (closes b (c ∷ y)) (is_quiet (c ∷ y)) loud (quiet_move (same {b = c} a) k)
+    ]
+
+-- ---- a token that passes its test does so in the bound text
+
+special_first : {x y : List ℕ} → SameUpToLiteral x y → is_quiet x ≡ true → begins_special x ≡ true → begins_special y ≡ true
+special_first at_end q h = h
+special_first (at_place {b = b} {x = x} p l) q h = absurd (no_place_quiet b x p q)
+special_first (same at_end) q h = h
+special_first (same (same a)) q h = h
+special_first (same {b = b} (at_place {b = c} {x = x} p l)) q h =
+    let k = and_parts (not (is_loud b (c ∷ x))) _ q in
+    elim (or_cases (closes b (c ∷ x)) (is_quiet (c ∷ x)) k.1) [
+      | inl m ↦ absurd (no_place_slash c x p (eqb-true c slash (and_parts (c == slash) _ (and_parts (b == asterisk) _ m).1).0))
+      | inr m ↦ absurd (no_place_quiet c x p m)
+    ]
+
+begins_quiet_move : {x y : List ℕ} → SameUpToLiteral x y → begins_quiet x ≡ true → begins_quiet y ≡ true
+begins_quiet_move at_end h = h
+begins_quiet_move (at_place {b = b} {x = x} p l) h =
+    let e = eqb-true b asterisk (and_parts (b == asterisk) _ h).0 in
+    absurd (true≢false (sym (subst (λ u. begins_place (u ∷ x) ≡ true) e p)))
+begins_quiet_move (same {b = b} {x = x} {y = y} a) h =
+    let p = and_parts (b == asterisk) _ h in
+    let q = and_parts (begins_special x) _ p.1 in
+    rw (p.0, special_first a q.1 q.0, quiet_move a q.1) refl
+
+pub quietly_move : (t : Token) {x y : List ℕ} → SameUpToLiteral x y → is_read_alike t x ≡ true → is_read_alike t y ≡ true
+quietly_move (QuotedString quote tail) a p = p
+quietly_move (QuotedIdentifier tail) a p = p
+quietly_move (HashComment tail) a p = p
+quietly_move (DashComment gap tail) a p = p
+quietly_move (BlockComment tail) {x = x} {y = y} a p =
+    elim (or_cases (not (begins_special tail)) (is_quiet (tail ++ x)) p) [
+      | inl e ↦ rw e refl
+      | inr e ↦ rw (quiet_move (same-append tail a) e) (or_right (not (begins_special tail)) true refl)
+    ]
+quietly_move (Name name) a p = p
+quietly_move Mark a p = p
+quietly_move (Plain b) {x = x} {y = y} a p =
+    elim (or_cases (is_alike_on_all (Plain b) x) (b == slash && begins_quiet x) p) [
+      | inl e ↦ by_first (is_alike_on_all (Plain b) y) (b == slash && begins_quiet y) (portable_move (Plain b) a e)
+      | inr e ↦
+          let k = and_parts (b == slash) (begins_quiet x) e in
+          or_right (is_alike_on_all (Plain b) y) (b == slash && begins_quiet y) (both (b == slash) (begins_quiet y) k.0 (begins_quiet_move a k.1))
+    ]
+
+-- ---- a quiet comment stays one
+
+nil_stays : {x y : List ℕ} → SameUpToLiteral x y → x ≡ [] → y ≡ []
+nil_stays at_end e = refl
+nil_stays (same a) e = cc
+nil_stays (at_place p l) e = cc
+
+end_stays : (tail : List ℕ) {x y : List ℕ} → SameUpToLiteral x y → IsUpTo (asterisk ∷ slash ∷ []) tail x →
+    IsUpTo (asterisk ∷ slash ∷ []) tail y
+end_stays tail a (up_to_word body e ends) = up_to_word body e ends
+end_stays tail a (up_to_end lacks e) = up_to_end lacks (nil_stays a e)
+
+pub quiet_stays : (tail : List ℕ) {x y : List ℕ} → SameUpToLiteral x y → IsQuietComment tail x → IsQuietComment tail y
+quiet_stays tail a q = record {
+  special = special_first (same-append tail a) q.quiet q.special;
+  ends = end_stays tail a q.ends;
+  quiet = quiet_move (same-append tail a) q.quiet;
+}
