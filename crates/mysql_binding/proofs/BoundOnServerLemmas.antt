@@ -9,8 +9,8 @@ use Rattle.mysql_named_params.specs.Server.{Server, executed, comment, comment_o
 use Rattle.mysql_named_params.specs.Portable.{is_read_alike, AreReadAlikeBefore, IsReadAs, read_all, read_same, read_empty_comment, read_skipped, read_executed}
 use Rattle.mysql_named_params.specs.Quiet.{IsQuietComment, IsHonest, DecidesWithin, plain_then}
 use Rattle.mysql_named_params.proofs.PortableLemmas.{NoEmptyComment, token_on, empty_line, special_more}
-use Rattle.mysql_named_params.proofs.ServerTokenLemmas.{not_plain_on, comment_by}
-use Rattle.mysql_named_params.proofs.QuietLemmas.{AreQuiet, each_quiet, plain_text, row_on, read_text, block_ways, opener_on, star_on, QuietKind, usual_token, opens_text, whole_comment, quiet_kind, quiet_row, portable_read, wider_token}
+use Rattle.mysql_named_params.proofs.ServerTokenLemmas.{comment_by}
+use Rattle.mysql_named_params.proofs.QuietLemmas.{AreQuiet, each_quiet, plain_text, row_on, read_text, block_ways, opener_on, star_on, usual_token, opens_text, whole_comment, quiet_kind, quiet_row, portable_read, wider_token}
 use Rattle.mysql_named_params.proofs.SharpLemmas.{plain_none_on, after_row, after_row_on}
 use Rattle.mysql_named_params.proofs.TokenRowLemmas.{text_then-append, text_of-append}
 use Rattle.mysql_binding.specs.Pieces.{pieces, joined_text}

@@ -1,6 +1,6 @@
 -- What is quiet in a text stays so up to a place, where a literal follows instead.
 use Rattle.std.specs.Prelude.{Bool}
-use Rattle.std.proofs.Common.{◌≡◌, ◌⊎◌, ℕ, true, false, not, ◌==◌, ◌&&◌, ◌||◌, List, [], ◌∷◌, ◌++◌, refl, sym, ◌∙◌, subst, inl, inr, true≢false}
+use Rattle.std.proofs.Common.{◌≡◌, ℕ, true, false, not, ◌==◌, ◌&&◌, ◌||◌, List, [], ◌∷◌, ◌++◌, refl, sym, ◌∙◌, subst, inl, inr, true≢false}
 use Rattle.std.proofs.lemmas.Bool.{and_parts, or_parts, or_cases, or_from, or_right, not-true, eqb-true}
 use Rattle.mysql_named_params.specs.Bytes.{asterisk, backquote, dash, hash, slash, is_string_quote, begins, IsUpTo, up_to_word, up_to_end}
 use Rattle.mysql_named_params.specs.Tokens.{Token, QuotedString, QuotedIdentifier, HashComment, DashComment, BlockComment, Name, Mark, Plain}
