@@ -1,22 +1,20 @@
 -- The tokens that every server reads alike.
 use Rattle.std.specs.Prelude.{Bool}
-use Rattle.std.proofs.Common.{◌≡◌, ◌≢◌, ◌⊎◌, ℕ, zero, suc, ◌+◌, ◌≤◌, true, false, cond, not, ◌==◌, ◌&&◌, ◌||◌, List, [], ◌∷◌, ◌++◌, length, Option, None, refl, sym, ap, ◌∙◌, subst, inl, inr, arith, true≢false, length-append, ne_eqb}
+use Rattle.std.proofs.Common.{◌≡◌, ◌≢◌, ◌⊎◌, ℕ, true, false, cond, not, ◌==◌, ◌&&◌, ◌||◌, List, [], ◌∷◌, ◌++◌, length, Option, None, refl, sym, ap, ◌∙◌, subst, inl, inr, arith, true≢false, length-append, ne_eqb}
 use Rattle.std.proofs.lemmas.Bool.{cases_Bool, or_parts, not-true, not-false, eqb-true, eqb-false}
 use Rattle.std.proofs.lemmas.Bool.Decides.{nat_tests}
 use Rattle.mysql_named_params.specs.Bytes.{asterisk, backquote, colon, dash, double_quote, exclamation_mark, hash, newline, question_mark, slash, is_white_space, is_string_quote, begins, HoldsOnlyAtEnd, IsUpTo, up_to_word, up_to_end}
 use Rattle.mysql_sql_text.specs.StringUnits.{AreUnits, no_units, byte_unit}
-use Rattle.mysql_named_params.specs.Tokens.{Token, bytes_of, text_of, IsToken, IsTokens, AreTokensBefore, IsStringTail, closed_string, open_string, open_in_escape, QuotedString, QuotedIdentifier, HashComment, DashComment, BlockComment, Name, Mark, Plain}
-use Rattle.mysql_named_params.specs.Places.{names, marks}
-use Rattle.mysql_named_params.specs.Positions.{positions_from}
+use Rattle.mysql_named_params.specs.Tokens.{Token, bytes_of, text_of, IsToken, AreTokensBefore, IsStringTail, closed_string, open_string, open_in_escape, QuotedString, QuotedIdentifier, HashComment, DashComment, BlockComment, Name, Mark, Plain}
 use Rattle.mysql_named_params.specs.FirstToken.{opens_dash_comment}
 use Rattle.mysql_named_params.specs.TokensOf.{not_plain_at, dash_comment}
 use Rattle.mysql_named_params.proofs.TokenEnds.{plain_at}
 use Rattle.mysql_named_params.proofs.PlainLemmas.{plain_none}
 use Rattle.mysql_named_params.proofs.RestLemmas.{cond_none, some_none, dash_none}
 use Rattle.mysql_named_params.proofs.TokenListLemmas.{one_token}
-use Rattle.mysql_named_params.specs.Server.{Server, opens_line, is_graphic, begins_special, begins_own, reads_in, usual_block, usual_quotes, IsTokenOn, AreTokensOn, IsReadOn}
+use Rattle.mysql_named_params.specs.Server.{Server, opens_line, is_graphic, begins_special, begins_own, reads_in, usual_block, usual_quotes, IsTokenOn}
 use Rattle.mysql_named_params.specs.Portable.{stands_inside, may_open_line, differs_at}
-use Rattle.mysql_named_params.proofs.ServerTokenLemmas.{not_plain_on, plain_on, dash_comment_on, block_comment_on, own_on, one_list_on}
+use Rattle.mysql_named_params.proofs.ServerTokenLemmas.{not_plain_on, plain_on, dash_comment_on, block_comment_on, own_on}
 
 -- ---- tests
 

@@ -1,21 +1,20 @@
 -- The tokens of a portable query, on an honest server.
 use Rattle.std.specs.Prelude.{Bool, IsTrue, ⊤}
-use Rattle.std.proofs.Common.{◌≡◌, ◌≢◌, ◌⊎◌, ℕ, zero, suc, ◌+◌, ◌≤◌, true, false, cond, not, ◌==◌, ◌&&◌, ◌||◌, List, [], ◌∷◌, ◌++◌, length, take, drop, Option, None, Some, refl, sym, ap, ◌∙◌, subst, inl, inr, arith, true≢false, length-append, append_assoc, take-append-drop}
-use Rattle.std.specs.Str.{byte}
+use Rattle.std.proofs.Common.{◌≡◌, ◌⊎◌, ℕ, zero, suc, ◌+◌, ◌≤◌, true, false, cond, not, ◌==◌, ◌&&◌, ◌||◌, List, [], ◌∷◌, ◌++◌, length, take, drop, Option, None, refl, sym, ap, ◌∙◌, subst, inl, inr, arith, true≢false, take-append-drop}
 use Rattle.std.proofs.lemmas.List.{append_cancel_left}
-use Rattle.std.proofs.lemmas.Bool.{cases_Bool, and_parts, or_parts, or_cases, not-true, not-false, eqb-true, eqb-false}
+use Rattle.std.proofs.lemmas.Bool.{cases_Bool, and_parts, or_parts, or_cases, not-true, eqb-true}
 use Rattle.mysql_named_params.specs.Bytes.{asterisk, backquote, colon, dash, hash, newline, question_mark, slash, is_start_byte, is_string_quote, begins, IsUpTo}
-use Rattle.mysql_named_params.specs.Tokens.{Token, bytes_of, text_of, text_then, IsToken, IsTokens, AreTokensBefore, QuotedString, QuotedIdentifier, HashComment, DashComment, BlockComment, Name, Mark, Plain}
+use Rattle.mysql_named_params.specs.Tokens.{Token, bytes_of, text_of, IsToken, IsTokens, AreTokensBefore, QuotedString, QuotedIdentifier, HashComment, DashComment, BlockComment, Name, Mark, Plain}
 use Rattle.mysql_named_params.specs.Places.{names, marks}
 use Rattle.mysql_named_params.specs.Positions.{positions_from}
 use Rattle.mysql_named_params.specs.TokensOf.{not_plain_at, dash_comment, block_comment, name_at, begins_with, len_up_to}
 use Rattle.mysql_named_params.specs.Server.{Server, Block, executed, comment, comment_of, begins_special, begins_place, begins_own, block_on, opens_line, usual_block, IsTokenOn, AreTokensOn, IsReadOn}
 use Rattle.mysql_named_params.specs.Portable.{is_read_alike, AreReadAlikeBefore, IsReadAs, read_all, read_same, read_empty_comment, read_skipped, read_executed}
 use Rattle.mysql_named_params.specs.Quiet.{is_loud, closes, is_quiet, IsQuietComment, reads_or_skips, IsHonest, begins_quiet, plain_then}
-use Rattle.mysql_named_params.proofs.TokenEnds.{take_front, up_to_is, plain_at}
+use Rattle.mysql_named_params.proofs.TokenEnds.{take_front, up_to_is}
 use Rattle.mysql_named_params.proofs.TokenEndLemmas.{up_to_gives}
-use Rattle.mysql_named_params.proofs.ServerTokenLemmas.{not_plain_on, dash_comment_on, plain_on, block_comment_on, comment_by, own_on, one_list_on}
-use Rattle.mysql_named_params.proofs.PortableLemmas.{second_false, is_alike_on_all, special_more, slash_on, own_none, opens_at_white, NoEmptyComment, token_on, head_is, dash_line, has_empty, HasEmptyComment, empty_here, none_here, empty_line}
+use Rattle.mysql_named_params.proofs.ServerTokenLemmas.{not_plain_on, dash_comment_on, plain_on, comment_by, one_list_on}
+use Rattle.mysql_named_params.proofs.PortableLemmas.{second_false, is_alike_on_all, special_more, slash_on, own_none, token_on, head_is, dash_line, has_empty, empty_here, none_here, empty_line}
 
 -- ---- a byte that is not loud
 

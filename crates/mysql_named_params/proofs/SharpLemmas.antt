@@ -2,17 +2,17 @@
 -- within quiet comments, passes.
 use Rattle.std.specs.Prelude.{Bool}
 use Rattle.std.proofs.Common.{◌≡◌, ◌⊎◌, ℕ, true, false, cond, not, ◌==◌, ◌&&◌, ◌||◌, List, [], ◌∷◌, ◌++◌, take, Option, Some, None, refl, sym, ap, ◌∙◌, subst, inl, inr, true≢false, ne_eqb}
-use Rattle.std.proofs.lemmas.Bool.{cases_Bool, or_parts, or_from, or_right, false_from_ne_true, eqb-true, not-true}
+use Rattle.std.proofs.lemmas.Bool.{cases_Bool, or_from, or_right, false_from_ne_true, eqb-true, not-true}
 use Rattle.mysql_sql_text.specs.StringUnits.{AreUnits, no_units, byte_unit, escape_unit}
 use Rattle.mysql_named_params.specs.Bytes.{asterisk, dash, double_quote, newline, slash, is_white_space, is_string_quote, begins, bracket, dollar, point}
 use Rattle.mysql_named_params.specs.Tokens.{Token, text_of, IsToken, IsTokens, AreTokensBefore, IsStringTail, closed_string, open_string, open_in_escape, QuotedString, QuotedIdentifier, HashComment, DashComment, BlockComment, Name, Mark, Plain}
 use Rattle.mysql_named_params.specs.Server.{Server, is_graphic, begins_special, begins_own, comment, comment_of, block_on, reads_in, IsBlockTail, usual_block, own_block, IsQuotedTail, usual_quotes, own_quotes, IsTokenOn, AreTokensOn, IsReadOn}
 use Rattle.mysql_named_params.specs.Portable.{stands_inside, may_open_line, differs_at, is_read_alike, AreReadAlikeBefore, IsReadAs, read_all, read_same, read_empty_comment, read_skipped, read_executed}
-use Rattle.mysql_named_params.specs.Quiet.{is_loud, is_quiet, IsQuietComment, IsHonest, begins_quiet, plain_then}
+use Rattle.mysql_named_params.specs.Quiet.{is_loud, is_quiet, IsHonest, begins_quiet, plain_then}
 use Rattle.mysql_named_params.proofs.ServerTokenLemmas.{not_plain_on, dash_comment_on, block_comment_on, comment_by, own_is, own_at}
 use Rattle.mysql_named_params.proofs.GrammarLemmas.{not_plain_found_on, tokens_on}
 use Rattle.mysql_named_params.proofs.PortableLemmas.{false_if, special_more, is_alike_on_all}
-use Rattle.mysql_named_params.proofs.QuietLemmas.{AreQuiet, QuietByte, quiet_byte, each_quiet, plain_text, read_text}
+use Rattle.mysql_named_params.proofs.QuietLemmas.{AreQuiet, quiet_byte, each_quiet, plain_text, read_text}
 
 -- a server that skips quiet comments, and differs from the grammar wherever else one may
 abbrev pub contrary : Server
