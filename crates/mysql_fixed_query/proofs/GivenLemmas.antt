@@ -16,7 +16,7 @@ use Rattle.mysql_params_core.specs.Names.{missing_name}
 use Rattle.mysql_params_core.specs.Made.{with_pair, pairs_made}
 use Rattle.mysql_binding.specs.FirstCause.{first_float_from}
 use Rattle.mysql_fixed_query.specs.Bindable.{pair_names, is_among, are_new, have_literals, valued, given_by}
-use Rattle.mysql_fixed_query.specs.FixedText.{value_under}
+use Rattle.mysql_fixed_query.specs.FixedText.{value_named}
 
 abbrev pub Pairs : Type 0
 Pairs = List (List ℕ × Value)
@@ -108,19 +108,19 @@ some_of (Some b) a e = refl
 -- names of the pairs have their values in the map
 values_at-from_entries : (pairs : Pairs) (names : List (List ℕ)) →
     list_all (is_among (pair_names pairs)) names ≡ true →
-    values_at (from_entries pairs) names ≡ Some (map (value_under pairs) names)
+    values_at (from_entries pairs) names ≡ Some (map (value_named pairs) names)
 values_at-from_entries pairs [] h = refl
 values_at-from_entries pairs (name ∷ names) h =
     let parts = and_parts (is_among (pair_names pairs) name) _ h in
     let here : get {R = slice_cmp nat_cmp} (from_entries pairs) name
-    ≡ Some (value_under pairs name) =
+    ≡ Some (value_named pairs name) =
     get-from_entries nat_list_cmp_total pairs name
     ∙ some_of _ NULL (is_some-find (slice_cmp nat_cmp) name pairs ∙ parts.0) in
     rw (here, values_at-from_entries pairs names parts.1) refl
 
 pub lookup-given_by : (pairs : Pairs) (names : List (List ℕ)) → 0 < length names →
     list_all (is_among (pair_names pairs)) names ≡ true →
-    lookup (given_by pairs) names ≡ Ok (map (value_under pairs) names)
+    lookup (given_by pairs) names ≡ Ok (map (value_named pairs) names)
 lookup-given_by pairs [] some h = absurd (omega (arith, some))
 lookup-given_by pairs (name ∷ names) some h =
     ap (λ o. ok_or o (missing (missing_name (from_entries pairs) (name ∷ names))))
@@ -136,22 +136,22 @@ no_float-valued ((name, Ok value) ∷ pairs) h =
     rw parts.0 (no_float-valued pairs parts.1)
 no_float-valued ((name, Err duration) ∷ pairs) h = absurd (true≢false (sym h))
 
-is_float-value_under : (pairs : Pairs) (name : List ℕ) → have_no_float pairs ≡ true →
-    is_float (value_under pairs name) ≡ false
-is_float-value_under [] name h = refl
-is_float-value_under (pair ∷ pairs) name h =
+is_float-value_named : (pairs : Pairs) (name : List ℕ) → have_no_float pairs ≡ true →
+    is_float (value_named pairs name) ≡ false
+is_float-value_named [] name h = refl
+is_float-value_named (pair ∷ pairs) name h =
     let parts = and_parts (not (is_float pair.1)) _ h in
     elim (cases_Bool (eq_by_cmp (slice_cmp nat_cmp) name pair.0)) [
       | inl same ↦ rw same (not-true (is_float pair.1) parts.0)
-      | inr other ↦ rw other (is_float-value_under pairs name parts.1)
+      | inr other ↦ rw other (is_float-value_named pairs name parts.1)
     ]
 
 first_float-values : (pairs : Pairs) → have_no_float pairs ≡ true →
-    (names : List (List ℕ)) (k : ℕ) → first_float_from k (map (value_under pairs) names) ≡ None
+    (names : List (List ℕ)) (k : ℕ) → first_float_from k (map (value_named pairs) names) ≡ None
 first_float-values pairs h [] k = refl
 first_float-values pairs h (name ∷ names) k =
-    rw (is_float-value_under pairs name h) (first_float-values pairs h names (k + 1))
+    rw (is_float-value_named pairs name h) (first_float-values pairs h names (k + 1))
 
 pub no_float_given : (pairs : List (List ℕ × Meaning)) → have_literals pairs ≡ true →
-    (names : List (List ℕ)) → first_float_from 0 (map (value_under (valued pairs)) names) ≡ None
+    (names : List (List ℕ)) → first_float_from 0 (map (value_named (valued pairs)) names) ≡ None
 no_float_given pairs h names = first_float-values (valued pairs) (no_float-valued pairs h) names 0

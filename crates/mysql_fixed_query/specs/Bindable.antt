@@ -1,6 +1,6 @@
--- Which queries fit exactly what is given to them, so that nothing but memory refuses to bind them:
--- facts that the prover computes where the query is a constant. A mode is the flag `no_backslash_escape`: `true` is the mode
--- without backslash escapes.
+-- Queries that fit exactly what is given to them, so that only memory refuses to bind them: facts
+-- that the prover computes for a constant query. A mode is the flag `no_backslash_escape`: `true`
+-- is the mode without backslash escapes.
 use Rattle.std.specs.Prelude.{◌≡◌, ◌<◌, ℕ, Bool, true, false, not, ◌&&◌, List, [], ◌∷◌, ◌++◌, length, map, None, Ok, Err, IsTrue}
 use Rattle.std.specs.List.{list_all, list_any}
 use Rattle.std.specs.Ordering.{eq_by_cmp, nat_cmp}
@@ -38,8 +38,8 @@ has_literal (Err duration) = false
 abbrev pub have_literals : List (List ℕ × Meaning) → Bool
 have_literals pairs = list_all (λ pair. has_literal pair.1) pairs
 
--- the query fits these pairs of a name and a thing: nothing but memory refuses to bind it to them,
--- and none of them is idle
+-- the query fits these pairs of a name and a thing: only memory refuses to bind it to them, and
+-- each of them is used
 pub record IsBindable (mode : Bool) (query : List ℕ) (pairs : List (List ℕ × Meaning))
     : Type 0 where
   -- it has a name and no mark,
@@ -72,12 +72,12 @@ is_by_position (Ok (positional values)) = true
 is_by_position (Ok (named entries)) = false
 is_by_position (Err refusal) = false
 
--- the values by position; where nothing is made by position there are none
+-- the values by position; there are none if nothing is made by position
 abbrev pub values_of : Made → List Value
 values_of (Ok (positional values)) = values
 values_of made = []
 
--- the query fits what things made, by position: nothing but memory refuses to bind it to that
+-- the query fits what things made, by position: only memory refuses to bind it to that
 pub record IsBindableByPosition (mode : Bool) (query : List ℕ) (made : Made) : Type 0 where
   -- these are values by position, or nothing,
   pub by_position : IsTrue (is_by_position made)

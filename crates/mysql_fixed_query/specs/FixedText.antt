@@ -1,5 +1,5 @@
--- The text of a query that is a constant, with the literals of values in its places: it computes,
--- so that a caller's clause can write it out.
+-- The text of a constant query with the literals of values in its places. It is computed, so that a
+-- caller's clause can write it out.
 use Rattle.std.specs.Prelude.{ℕ, Bool, List, [], map, unwrap_or}
 use Rattle.std.specs.Ordering.{nat_cmp}
 use Rattle.std.specs.Cmp.Lexicographic.{slice_cmp}
@@ -17,10 +17,10 @@ abbrev pub bound_text : Bool → List ℕ → List Value → List ℕ
 bound_text mode query values =
     unwrap_or (joined_text (pieces (tokens_of mode query)) (map (literal_text mode) values)) []
 
--- the value of the first pair with this name; each name of a query that is bound has one
-abbrev pub value_under : List (List ℕ × Value) → List ℕ → Value
-value_under pairs name = unwrap_or (find (slice_cmp nat_cmp) name pairs) NULL
+-- the value of the first pair with this name; each name of a query that is bound has a pair
+abbrev pub value_named : List (List ℕ × Value) → List ℕ → Value
+value_named pairs name = unwrap_or (find (slice_cmp nat_cmp) name pairs) NULL
 
 -- the values that pairs give to the names of a query, in the order of its places
-abbrev pub values_under : Bool → List ℕ → List (List ℕ × Value) → List Value
-values_under mode query pairs = map (value_under pairs) (names (tokens_of mode query))
+abbrev pub values_named : Bool → List ℕ → List (List ℕ × Value) → List Value
+values_named mode query pairs = map (value_named pairs) (names (tokens_of mode query))

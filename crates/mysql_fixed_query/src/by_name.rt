@@ -4,7 +4,7 @@ ghost use Rattle.mysql_sql_text.specs.StringUnits.{with_backslashes};
 ghost use Rattle.mysql_named_params.specs.TokensOf.{tokens_of};
 ghost use Rattle.mysql_binding.specs.Isolation.{IsBoundText};
 ghost use Rattle.mysql_fixed_query.specs.Bindable.{IsBindable, given_by, valued};
-ghost use Rattle.mysql_fixed_query.specs.FixedText.{bound_text, values_under};
+ghost use Rattle.mysql_fixed_query.specs.FixedText.{bound_text, values_named};
 
 use crate::made::bind_made;
 use mysql_params_core::params::ToPairs;
@@ -16,8 +16,8 @@ use std::alloc::{AllocError, Global};
 ///
 /// The caller proves that nothing refuses it: the query has a name and no mark, each of its places
 /// stands alone, its names are exactly those of the pairs, which differ, and each thing has a value
-/// and no float. Where the query is a constant the prover computes that by itself. So the only
-/// error is out of memory.
+/// and no float. For a constant query the prover computes that by itself. So the only error is out
+/// of memory.
 pub fn bind_named_in<P: ToPairs>(
     alloc: Global,
     query: &[u8],
@@ -29,7 +29,7 @@ pub fn bind_named_in<P: ToPairs>(
         (tokens_of no_backslash_escape query.now) (given_by (valued (P.pairs pairs.now)))
         text.items) }
     ensures text { IfOk result (λ text. text.items ≡ bound_text no_backslash_escape query.now
-        (values_under no_backslash_escape query.now (valued (P.pairs pairs.now)))) }
+        (values_named no_backslash_escape query.now (valued (P.pairs pairs.now)))) }
 {
     bind_made(alloc, query, pairs.to_named(alloc), no_backslash_escape)
 }
@@ -44,7 +44,7 @@ pub fn bind_named<P: ToPairs>(alloc: Global, query: &[u8], pairs: &P) -> Result<
         (tokens_of with_backslashes query.now) (given_by (valued (P.pairs pairs.now)))
         text.items) }
     ensures text { IfOk result (λ text. text.items ≡ bound_text with_backslashes query.now
-        (values_under with_backslashes query.now (valued (P.pairs pairs.now)))) }
+        (values_named with_backslashes query.now (valued (P.pairs pairs.now)))) }
 {
     bind_named_in(alloc, query, pairs, false)
 }

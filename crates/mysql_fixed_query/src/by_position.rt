@@ -16,8 +16,8 @@ use std::alloc::{AllocError, Global};
 ///
 /// The caller proves that nothing refuses it: the things make values by position, or nothing, the
 /// query has no name, and as many marks as there are values, each of its places stands alone, and
-/// no value is a float. Where the query is a constant and the things are a tuple the prover
-/// computes that by itself. So the only error is out of memory. A query without places takes `&()`.
+/// no value is a float. For a constant query and a tuple of things the prover computes that by
+/// itself. So the only error is out of memory. A query without places takes `&()`.
 pub fn bind_positional_in<P: ToParams>(
     alloc: Global,
     query: &[u8],

@@ -1,6 +1,5 @@
-//! Fixed queries: those that are constants of a program, and are proved bindable. What the prover
-//! computes of such a query stands in `specs/Bindable.antt`; its binding is then refused for
-//! nothing but memory.
+//! Fixed queries: those that are constants of a program and are proved bindable. What the prover
+//! computes of such a query stands in `specs/Bindable.antt`; only memory then refuses to bind it.
 //!
 //! [`bind_named`] takes values by name, [`bind_positional`] by position, in the mode in which a
 //! backslash escapes; [`bind_named_in`] and [`bind_positional_in`] take the mode.

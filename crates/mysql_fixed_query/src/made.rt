@@ -1,7 +1,7 @@
-//! Binding to parameters that nothing but memory refuses.
+//! Binding to parameters that only memory refuses.
 ghost use Rattle.std.specs.Prelude.{◌≡◌, ◌≢◌, None, Ok, IfErr, IfOk, alloc_error, ⊤};
-ghost use Rattle.mysql_wire_part.specs.Answer.{IsAnswer};
-ghost use Rattle.mysql_value_core.specs.declared.value.convert.ToValueError.TheVariants as to_value;
+ghost use Rattle.mysql_values.specs.Answer.{IsAnswer};
+ghost use Rattle.mysql_values.specs.declared.value.convert.ToValueError.TheVariants as to_value;
 ghost use Rattle.mysql_named_params.specs.TokensOf.{tokens_of};
 ghost use Rattle.mysql_params_core.specs.Errors.{to_params_refusal};
 ghost use Rattle.mysql_params_core.specs.Given.{Given, given};
@@ -13,8 +13,8 @@ use mysql_named_params::laws::tokens_exist;
 use mysql_params_core::params::{Params, ToParamsError};
 use std::alloc::{AllocError, Global};
 
-// The text of a query with what was made for it, where making and binding are refused for nothing
-// but memory.
+// The text of a query with what was made for it. Only memory refuses to make the parameters and to
+// bind them.
 pub(crate) fn bind_made(
     alloc: Global,
     query: &[u8],

@@ -1,5 +1,5 @@
 use Rattle.mysql_fixed_query.specs.Bindable.{given_by, valued}
-use Rattle.mysql_fixed_query.specs.FixedText.{values_under}
+use Rattle.mysql_fixed_query.specs.FixedText.{values_named}
 use Rattle.mysql_fixed_query.proofs.AnswerLemmas.{answer_at}
 use Rattle.mysql_fixed_query.proofs.CauseLemmas.{pairs_made_is, names_looked_up, no_cause_by_name}
 use Rattle.mysql_fixed_query.proofs.TextLemmas.{answer_is_computed}
@@ -22,5 +22,5 @@ returns-clause-text g c =
     let pairs = valued (g.P.ToPairs.pairs c.args.pairs.now) in
     answer_is_computed (λ text. text.items) c.bind_made.result c.args.no_backslash_escape
     c.args.query.now (given_by pairs)
-    (values_under c.args.no_backslash_escape c.args.query.now pairs)
+    (values_named c.args.no_backslash_escape c.args.query.now pairs)
     (names_looked_up c.requires) (returns-clause-bound g c)
