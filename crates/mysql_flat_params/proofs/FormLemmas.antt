@@ -5,7 +5,7 @@ use Rattle.std.proofs.Common.{◌≡◌, ◌≢◌, ℕ, zero, suc, ◌+◌, ◌
 use Rattle.mysql_value_core.specs.declared.value.Value.{Value}
 use Rattle.mysql_params_core.specs.Given.{Given, empty, named, positional, given}
 use Rattle.mysql_params_core.specs.declared.params.Params.{Params}
-use Rattle.mysql_flat_params.specs.FlatForm.{FormRefusal, FormReading, read_name, read_value, with_parameter, with_read, after_name, read_parameter, IsReadFrom, IsFormReading, read_to_end, refused_at, read_on}
+use Rattle.mysql_flat_params.specs.FlatForm.{FormRefusal, FormReading, read_name, read_value, with_parameter, after_value, after_name, read_parameter, IsReadFrom, IsFormReading, read_to_end, refused_at, read_on}
 use Rattle.std.proofs.lemmas.Bool.{eqb-true}
 use Rattle.mysql_wire_part.specs.Answer.{IsExpectedRefusal}
 use Rattle.mysql_wire_part.proofs.AnswerLemmas.{refusal_expected_too}
@@ -140,10 +140,10 @@ module _ (form : List ℕ) where
     first_value_refused error some answer =
         parameter_refused (length form) 0 empty form 0 empty form error all_of_it some
         (refusal_expected_too (read_value 0 0 rest) (read_parameter (length form) 0 empty form) (IsOk (read_value 0 0 rest)) ⊤ (form_refusal error)
-        (λ why e. first_parameter (Ok (name, rest)) is ∙ ap (with_read empty name) e) (λ _. tt) answer)
+        (λ why e. first_parameter (Ok (name, rest)) is ∙ ap (after_value empty name) e) (λ _. tt) answer)
 
     parameter_is_ok : (value : FormReading Value) → read_value 0 0 rest ≡ value → IsOk value → IsOk (read_parameter (length form) 0 empty form)
-    parameter_is_ok (Ok read) e ok = subst (λ r. IsOk r) (sym (first_parameter (Ok (name, rest)) is ∙ ap (with_read empty name) e)) refl
+    parameter_is_ok (Ok read) e ok = subst (λ r. IsOk r) (sym (first_parameter (Ok (name, rest)) is ∙ ap (after_value empty name) e)) refl
     parameter_is_ok (Err why) e ok = cc
 
     -- where its value is read, it is read
@@ -154,7 +154,7 @@ module _ (form : List ℕ) where
       first_read : LeadsTo (length form) 0 empty form 1 (with_parameter empty name value) next
       first_read =
           (parameter_read (length form) 0 empty form 0 empty form (with_parameter empty name value) next 1 all_of_it some
-          (first_parameter (Ok (name, rest)) is ∙ ap (with_read empty name) value_is) refl).0
+          (first_parameter (Ok (name, rest)) is ∙ ap (after_value empty name) value_is) refl).0
 
       -- what follows it gives the parameters, or refuses them
       pub params_after_first : (first : Given) → with_parameter empty name value ≡ first → (result : Result Params FormError) →

@@ -10,7 +10,7 @@ use Rattle.mysql_value_core.specs.declared.value.Value.{Value}
 use Rattle.mysql_value_core.specs.BinaryReading.{read_counted, read_bytes_value, read_integer, read_date, read_time, read_binary}
 use Rattle.mysql_params_core.specs.Given.{Given}
 use Rattle.mysql_flat_params.specs.ColumnNumbers.{column_type, is_unsigned_parameter}
-use Rattle.mysql_flat_params.specs.FlatForm.{FormRefusal, FormReading, in_parameter, read_name, read_of_type, read_value, name_refusal, with_read, value_unless, after_name, read_parameter}
+use Rattle.mysql_flat_params.specs.FlatForm.{FormRefusal, FormReading, in_parameter, read_name, read_of_type, read_value, name_refusal, after_value, value_unless, after_name, read_parameter}
 
 -- what is read leaves at most so many bytes
 abbrev pub Leaves : {X E : Type 0} → ℕ → Result (X × List ℕ) E → Type 0
@@ -156,7 +156,7 @@ leaves_value place position (number ∷ flags ∷ bytes) =
     leaves_more (length (number ∷ flags ∷ bytes)) (length bytes) _ (omega arith)
     (leaves_of_type place position number (column_type number) (is_unsigned_parameter flags) bytes)
 
-leaves_with : (n : ℕ) (given : Given) (name : List ℕ) (read : FormReading Value) → Leaves n read → Leaves n (with_read given name read)
+leaves_with : (n : ℕ) (given : Given) (name : List ℕ) (read : FormReading Value) → Leaves n read → Leaves n (after_value given name read)
 leaves_with n given name (Ok read) h = h
 leaves_with n given name (Err e) h = tt
 

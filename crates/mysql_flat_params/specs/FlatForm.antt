@@ -14,8 +14,8 @@ use Rattle.mysql_value_core.specs.BinaryReading.{read_binary}
 use Rattle.mysql_params_core.specs.Given.{Given, empty, named, positional}
 use Rattle.mysql_flat_params.specs.ColumnNumbers.{column_type, is_unsigned_parameter}
 
--- Why a form is refused. `place` is the number of the parameter at which it is, from 0, and
--- `position` the index of the parameter's first byte in the form.
+-- Why a form is refused: `place` is the number of the refused parameter, from 0, and `position` the
+-- index of its first byte in the form.
 pub data FormRefusal : Type 0 where
   -- the form ends within the parameter
   form_end : (place position : ℕ) → FormRefusal
@@ -44,7 +44,7 @@ abbrev pub in_parameter : {X : Type 0} → (place position number : ℕ) → Rea
 in_parameter place position number (Ok read) = Ok read
 in_parameter place position number (Err refusal) = Err (refused_in place position number refusal)
 
--- the name; reading it refuses no type, so the number 0 is never told
+-- the name; reading it refuses no type, so the number 0 is never reported
 abbrev pub read_name : (place position : ℕ) → List ℕ → FormReading (List ℕ)
 read_name place position bytes = in_parameter place position 0 (read_lenenc bytes)
 
@@ -80,19 +80,20 @@ with_parameter empty (b ∷ name) value = named (finite.insert finite.empty (b �
 with_parameter (positional values) name value = positional (values ++ value ∷ [])
 with_parameter (named entries) name value = named (finite.insert entries name value)
 
--- what is given with the value that is read
-abbrev pub with_read : Given → List ℕ → FormReading Value → FormReading Given
-with_read given name (Ok read) = Ok (with_parameter given name read.0, read.1)
-with_read given name (Err refusal) = Err refusal
+-- what is given with the value that was read, or the refusal of the value
+abbrev pub after_value : Given → List ℕ → FormReading Value → FormReading Given
+after_value given name (Ok read) = Ok (with_parameter given name read.0, read.1)
+after_value given name (Err refusal) = Err refusal
 
 -- after a name: its refusal, or else the value
 abbrev pub value_unless : Option FormRefusal → (place position : ℕ) → Given → List ℕ → List ℕ
     → FormReading Given
 value_unless (Some refusal) place position given name bytes = Err refusal
 value_unless None place position given name bytes =
-    with_read given name (read_value place position bytes)
+    after_value given name (read_value place position bytes)
 
--- what the name that is read refuses, or the value after it; the form has `total` bytes
+-- the refusal of the name that was read, or else what is given with the value after it; the form
+-- has `total` bytes
 abbrev pub after_name : (total place position : ℕ) → Given → FormReading (List ℕ)
     → FormReading Given
 after_name total place position given (Err refusal) = Err refusal

@@ -1,4 +1,4 @@
--- What is told of the first construct for which a query isn't portable: a number and a position.
+-- The report on the first construct for which a query isn't portable: a number and a position.
 use Rattle.std.specs.Prelude.{ℕ, Option, Some, None}
 use Rattle.mysql_named_params.specs.declared.portable.Construct.{Construct}
 use Rattle.mysql_named_params.specs.declared.portable.Construct.TheVariants.{ExecutableComment, Hint, MariaDbComment, Dashes, EscapedQuote, Bracket, DollarQuote, DashesAfterExponent, PlaceAfterExponent}
@@ -18,7 +18,7 @@ construct_number DollarQuote = 7
 construct_number DashesAfterExponent = 8
 construct_number PlaceAfterExponent = 9
 
--- the number of what was found: 0 where there is nothing
+-- the number of what was found: 0 if nothing was
 abbrev pub unportable_number : Option Unportable → ℕ
 unportable_number None = 0
 unportable_number (Some found) = construct_number found.construct

@@ -29,8 +29,8 @@ struct Spot {
     position: usize,
 }
 
-/// The parameters that a form says: none for the empty form, else by position or by name, as its
-/// first parameter is.
+/// The parameters that a form says: none for the empty form, and otherwise by position or by name,
+/// as its first parameter is.
 ///
 /// In the form parameters stand one after another up to its end. Each is its name, a length-encoded
 /// string (of no bytes: by position); a byte, the number of its column type
@@ -38,11 +38,11 @@ struct Spot {
 /// that a whole number has no sign and the others say nothing ("COM_STMT_EXECUTE"); and its value
 /// in binary form, as [`ValueDeserializer`] reads it.
 ///
-/// The parameters are read in order, and the first that is refused ends it. Of each the name is
-/// read first (`End`, `LengthLead`) and judged (`Mixed`, `Repeated`); then type and flags
-/// (`End`); a type without a reading is `UnsupportedType`; then the value is read (`End`,
-/// `LengthLead`). `Memory` is returned only where the form's first parameter is read.
-/// Nothing is allocated for a length that the form only states.
+/// The parameters are read in order, up to the first that is refused. The name of each is read
+/// first (`End`, `LengthLead`) and judged (`Mixed`, `Repeated`), then type and flags (`End`); a
+/// type that is not read is `UnsupportedType`; then the value is read (`End`, `LengthLead`).
+/// `Memory` is returned only if the form's first parameter is read. Nothing is allocated for a
+/// length that the form only states.
 pub fn params_of_form(alloc: Global, form: &[u8]) -> Result<Params, FormError>
     ensures params { IfOk result (λ params. IsFormReading form.now (Ok (given params))) }
     ensures refused { IfErr result (IsFormRefusal form.now) }
@@ -68,7 +68,7 @@ pub fn params_of_form(alloc: Global, form: &[u8]) -> Result<Params, FormError>
     }
 }
 
-// The parameters by position of which this value is the first, and that go on with the rest.
+// The parameters by position that begin with this value and go on with the rest.
 fn positional_params(
     alloc: Global,
     total: usize,
@@ -124,7 +124,7 @@ fn append_parameter(
     }
 }
 
-// The parameters by name of which this is the first, and that go on with the rest.
+// The parameters by name that begin with this one and go on with the rest.
 fn named_params(
     alloc: Global,
     total: usize,
@@ -275,7 +275,7 @@ fn eat_value(alloc: Global, spot: Spot, rest: &mut ParseBuf<'_>) -> Result<Value
     }
 }
 
-// The flags of a column of which the flags of a parameter say as much.
+// The flags of a column that say the same as the flags of a parameter.
 fn column_flags(flags: u8) -> ColumnFlags
     ensures { is_unsigned result ≡ is_unsigned_parameter flags }
 {
@@ -286,7 +286,7 @@ fn column_flags(flags: u8) -> ColumnFlags
     }
 }
 
-// Why a parameter can't be read, whose type has this number.
+// Why a parameter whose type has this number can't be read.
 fn form_error(spot: Spot, number: u8, error: WireError) -> FormError
     ensures refusal { IfSome (read_refusal error) (λ refusal. form_refusal result
         ≡ Some (refused_in spot.place spot.position number refusal)) }

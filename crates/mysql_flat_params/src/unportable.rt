@@ -9,7 +9,7 @@ use crate::outcome::{NO_FIELDS, Report};
 use mysql_named_params::portable::{Construct, first_unportable};
 
 /// Finds the first construct for which a query isn't portable, as [`first_unportable`] does in a
-/// mode: returns its number, and writes its position to the report. It returns 0 exactly where the
+/// mode: returns its number, and writes its position to the report. It returns 0 if and only if the
 /// query is portable; the position is 0 then too.
 ///
 /// The numbers are 1 for [`Construct::ExecutableComment`], and then in the order of the
