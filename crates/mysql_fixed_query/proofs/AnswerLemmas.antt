@@ -1,7 +1,7 @@
 -- What is said of an answer is said of it where what is expected is known.
 use Rattle.std.specs.Prelude.{Result, Ok, IfOk, ⊤}
 use Rattle.std.proofs.Common.{◌≡◌, sym, subst}
-use Rattle.mysql_wire_part.specs.Answer.{IsAnswer}
+use Rattle.mysql_values.specs.Answer.{IsAnswer}
 use Rattle.mysql_params_core.specs.declared.params.Params.{Params}
 use Rattle.mysql_params_core.specs.declared.params.errors.ToParamsError.{ToParamsError}
 use Rattle.mysql_params_core.specs.Errors.{to_params_refusal}
