@@ -60,7 +60,7 @@ def _read_as_bytes(connection: Connection, mode: bool, values: list) -> str:
 
 def _stored(connection: Connection, mode: bool, values: list) -> None:
     """A column of bytes holds what was handed in, and finds it again."""
-    connection.query(b"CREATE OR REPLACE TABLE strings.s (i INT PRIMARY KEY, v BLOB)")
+    connection.make_anew(b"TABLE", b"strings.s", b"(i INT PRIMARY KEY, v BLOB)")
     for begin in range(0, len(values), _BATCH):
         batch = values[begin : begin + _BATCH]
         query = b"INSERT INTO strings.s VALUES " + b",".join([b"(?,?)"] * len(batch))
@@ -80,9 +80,9 @@ def _long(connection: Connection, mode: bool) -> None:
     for length in (0, 250, 251, 65535, 65536, 1 << 20):
         for unit in (b"'", b"\\", b"\n", b"\xff", b"\0'"):
             value = (unit * length)[:length]
-            row = _row(connection, b"SELECT MD5(?), LENGTH(?)", [value, value], mode)
+            row = _row(connection, b"SELECT SHA2(?, 256), LENGTH(?)", [value, value], mode)
             copy = b"'%s'" % value.hex().encode()
-            own = connection.query(b"SELECT MD5(UNHEX(" + copy + b"))").rows()[0]
+            own = connection.query(b"SELECT SHA2(UNHEX(" + copy + b"), 256)").rows()[0]
             same(row, [own[0], str(length).encode()], (unit, length))
 
 
@@ -90,7 +90,7 @@ def _numbers(connection: Connection, mode: bool) -> None:
     """Whole numbers at the ends of every width, as text, as a number, and stored."""
     edges = sorted({sign * (1 << bit) + step for bit in range(64) for sign in (1, -1) for step in (-1, 0, 1)})
     numbers = [n for n in edges if -(1 << 63) <= n < 1 << 64] + [0, (1 << 64) - 1]
-    connection.query(b"CREATE OR REPLACE TABLE strings.n (s BIGINT, u BIGINT UNSIGNED)")
+    connection.make_anew(b"TABLE", b"strings.n", b"(s BIGINT, u BIGINT UNSIGNED)")
     for number in numbers:
         text = str(number).encode()
         row = _row(connection, b"SELECT ?, CAST(? AS CHAR), HEX(?), ?+0=?", [number] * 5, mode)
@@ -140,9 +140,10 @@ def _times(connection: Connection, mode: bool) -> None:
     """Times of either sign up to the server's longest, by their microseconds and their text."""
     micro = datetime.timedelta(microseconds=1)
     read = b"(SELECT CAST(:v AS TIME(6)) AS t) AS x"
-    query = b"SELECT CAST(TIME_TO_SEC(t) * 1000000 AS SIGNED), t < CAST('00:00:00' AS TIME) FROM " + read
+    query = b"SELECT (HOUR(t) * 3600 + MINUTE(t) * 60 + SECOND(t)) * 1000000 + MICROSECOND(t), "
+    query += b"t < CAST('00:00:00' AS TIME) FROM " + read
     for time in _timedeltas():
-        wanted = [str(time // micro).encode(), b"1" if time < 0 * micro else b"0"]
+        wanted = [str(abs(time) // micro).encode(), b"1" if time < 0 * micro else b"0"]
         same(_row(connection, query, {"v": time}, mode), wanted, time)
 
 

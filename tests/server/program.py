@@ -115,7 +115,7 @@ def _shell(path: str, program: str, folder: str):
 def _table(connection: Connection) -> None:
     connection.query(b"CREATE DATABASE IF NOT EXISTS shop")
     name = b"name VARCHAR(9000) CHARACTER SET utf8mb4 COLLATE utf8mb4_bin"
-    connection.query(b"CREATE OR REPLACE TABLE shop.t (id INT, %s)" % name)
+    connection.make_anew(b"TABLE", b"shop.t", b"(id INT, %s)" % name)
 
 
 def _stored(connection: Connection, shell, locale: str) -> str:

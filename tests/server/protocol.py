@@ -80,7 +80,10 @@ def _is_end(packet: bytes) -> bool:
 
 
 class Connection:
-    """A connection as `root`, without a password. Without a character set it is as the server makes it."""
+    """A connection as `root`, without a password. Without a character set it is as the server makes it.
+
+    `is_mysql`: the server's own name for its version isn't MariaDB's.
+    """
 
     def __init__(self, path: str, charset: Optional[str] = "utf8mb4", sql_mode: str = "") -> None:
         self._socket = socket.socket(socket.AF_UNIX)
@@ -104,6 +107,11 @@ class Connection:
         """Send a statement. Return its result, or None for one without rows."""
         self._send(bytes([_COM_QUERY]) + text)
         return self._result()
+
+    def make_anew(self, kind: bytes, name: bytes, definition: bytes) -> None:
+        """Make a table or a database, in the place of one of this name."""
+        self.query(b"DROP %s IF EXISTS %s" % (kind, name))
+        self.query(b"CREATE %s %s %s" % (kind, name, definition))
 
     def shapes(self, texts: list) -> list:
         """Send short statements at once. Return for each the number of its columns, or minus its error's code."""
@@ -171,7 +179,7 @@ class Connection:
         self._checked()
 
     def _log_in(self) -> None:
-        self._packet()
+        self.is_mysql = b"MariaDB" not in self._packet()
         answer = struct.pack("<IIB23x", _CAPABILITIES, 1 << 24, _UTF8MB4) + b"root\0" + b"\0" + _PLUGIN
         self._send(answer, 1)
         self._logged_in(3)

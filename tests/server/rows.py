@@ -124,7 +124,7 @@ def _cases(connection: Connection) -> list:
     for number, (kind_of_column, kind, values) in enumerate(_COLUMNS):
         table = b"strings.r%d" % number
         columns = b"i INT PRIMARY KEY, c %s NULL" % kind_of_column.encode()
-        connection.query(b"CREATE OR REPLACE TABLE %s (%s)" % (table, columns))
+        connection.make_anew(b"TABLE", table, b"(%s)" % columns)
         sources = [*[str(value) for value in values], "NULL"]
         for i, value in enumerate(sources):
             connection.query(b"INSERT INTO %s VALUES (%d, %s)" % (table, i, value.encode()))
