@@ -17,6 +17,7 @@ import literals
 import program
 import rows
 import search
+import signs
 from harness import Tests
 from protocol import Connection
 
@@ -25,7 +26,8 @@ def main(path: str, mysql_query: str, folder: str) -> int:
     """Run them, and print how many passed."""
     tests = Tests()
     connection = Connection(path)
-    print("server:", connection.query(b"SELECT VERSION()").rows()[0][0].decode(), flush=True)
+    version = ("MySQL " if connection.is_mysql else "") + connection.query(b"SELECT VERSION()").rows()[0][0].decode()
+    print("server:", version, flush=True)
     connection.query(b"CREATE DATABASE strings")
     connection.close()
     literals.run(tests, path)
@@ -36,7 +38,10 @@ def main(path: str, mysql_query: str, folder: str) -> int:
     leaks.run(tests, path)
     limits.run(tests, path, folder)
     search.run(tests, path)
-    print(f"{tests.passed} passed, {tests.failed} failed")
+    signs.run(tests, path)
+    print(f"{version}: {tests.passed} passed, {tests.failed} failed", flush=True)
+    with open(os.path.join(folder, "counts"), "w", encoding="utf-8") as counts:
+        counts.write(f"{tests.passed} {tests.failed}\n")
     return 1 if tests.failed else 0
 
 

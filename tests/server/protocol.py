@@ -158,16 +158,45 @@ class Connection:
         self._send(struct.pack("<BI", _COM_CLOSE, number))
         return result
 
+    def executed(self, text: bytes, kind: int, values: list) -> Result:
+        """Prepare a statement, execute it with values of one type in binary form: its result, with rows in that form."""
+        number, _ = self._prepare(text)
+        bitmap = bytes((len(values) + 7) // 8)
+        types = b"\1" + struct.pack("<H", kind) * len(values) if values else b""
+        self._send(struct.pack("<BIBI", _COM_EXECUTE, number, 0, 1) + bitmap + types + b"".join(values))
+        try:
+            return self._result()
+        finally:
+            self._send(struct.pack("<BI", _COM_CLOSE, number))
+
     def parameters(self, text: bytes) -> int:
         """Prepare a statement. Return how many values the server wants for it."""
         number, parameters = self._prepare(text)
         self._send(struct.pack("<BI", _COM_CLOSE, number))
         return parameters
 
+    def places(self, texts: list) -> list:
+        """Prepare short statements at once. Return how many values the server wants for each, or minus its error's code."""
+        packets = [struct.pack("<I", len(text) + 1) + bytes([_COM_PREPARE]) + text for text in texts]
+        self._socket.sendall(b"".join(packets))
+        found, numbers = [], []
+        for _ in texts:
+            packet = self._packet()
+            if packet[0] == 0xFF:
+                found.append(_minus_code(packet))
+                continue
+            number, parameters = self._prepared(packet)
+            found.append(parameters)
+            numbers.append(number)
+        self._socket.sendall(b"".join(struct.pack("<IBI", 5, _COM_CLOSE, number) for number in numbers))
+        return found
+
     def _prepare(self, text: bytes) -> tuple:
         """Return the number of a prepared statement, and how many parameters it has."""
         self._send(bytes([_COM_PREPARE]) + text)
-        packet = self._checked()
+        return self._prepared(self._checked())
+
+    def _prepared(self, packet: bytes) -> tuple:
         number, columns, parameters = struct.unpack_from("<IHH", packet, 1)
         for count in (parameters, columns):
             for _ in range(count + 1 if count else 0):

@@ -56,6 +56,8 @@ _COLUMNS = [
     ("SET('a', 'b', 'c')", "text", ["''", "'a'", "'a,c'", "'a,b,c'"]),
     ("JSON", "bytes", ["'{}'", "'[1, \"a\"]'"]),
     ("POINT", "bytes", ["POINT(1, 2)"]),
+]
+_MARIADB_COLUMNS = [
     ("INET6", "text", ["'::1'", "'2001:db8::ff00:42:8329'"]),
     ("UUID", "text", ["'123e4567-e89b-12d3-a456-426655440000'"]),
 ]
@@ -79,6 +81,7 @@ _WANTED_TYPES = {
     252: "BLOB",
     253: "VAR_STRING", 254: "STRING", 255: "GEOMETRY",
 }
+_MYSQL_TYPES = {245: "JSON"}
 
 # What the server says of a value `c`: of each kind, in columns of text.
 _ACCOUNTS = {
@@ -114,17 +117,18 @@ def run(tests: Tests, path: str, folder: str) -> None:
     cases = _cases(connection)
     sent = set()
     tests.run("rows: text cells and binary values", _by_program, connection, cases, folder, sent)
-    tests.run("rows: every type that the server sends was read", _types, sent)
+    tests.run("rows: every type that the server sends was read", _types, sent, connection.is_mysql)
     tests.run("rows: binary values through the archive", _by_archive, connection, cases)
     connection.close()
 
 
 def _cases(connection: Connection) -> list:
     cases = []
-    for number, (kind_of_column, kind, values) in enumerate(_COLUMNS):
+    columns = _COLUMNS + ([] if connection.is_mysql else _MARIADB_COLUMNS)
+    for number, (kind_of_column, kind, values) in enumerate(columns):
         table = b"strings.r%d" % number
-        columns = b"i INT PRIMARY KEY, c %s NULL" % kind_of_column.encode()
-        connection.make_anew(b"TABLE", table, b"(%s)" % columns)
+        definition = b"(i INT PRIMARY KEY, c %s NULL)" % kind_of_column.encode()
+        connection.make_anew(b"TABLE", table, definition)
         sources = [*[str(value) for value in values], "NULL"]
         for i, value in enumerate(sources):
             connection.query(b"INSERT INTO %s VALUES (%d, %s)" % (table, i, value.encode()))
@@ -232,11 +236,12 @@ def _whole_rows(connection: Connection) -> list:
     return rows
 
 
-def _types(sent: set) -> str:
+def _types(sent: set, is_mysql: bool) -> str:
     if not sent:
         raise Skip("no row was read")
-    missing = [name for number, name in _WANTED_TYPES.items() if number not in sent]
-    same((missing, sorted(sent - set(_WANTED_TYPES))), ([], []), "types missing, and types not known here")
+    wanted = {**_WANTED_TYPES, **(_MYSQL_TYPES if is_mysql else {})}
+    missing = [name for number, name in wanted.items() if number not in sent]
+    same((missing, sorted(sent - set(wanted))), ([], []), "types missing, and types not known here")
     return f"{len(sent)} types"
 
 

@@ -13,9 +13,9 @@ import mysql_params
 from harness import Tests
 from protocol import Connection
 
-SQL_MODES = (
-    "", "ANSI_QUOTES", "NO_BACKSLASH_ESCAPES", "NO_BACKSLASH_ESCAPES,ANSI_QUOTES", "MSSQL", "ORACLE",
-)
+_SQL_MODES = ("", "ANSI_QUOTES", "NO_BACKSLASH_ESCAPES", "NO_BACKSLASH_ESCAPES,ANSI_QUOTES")
+_MARIADB_MODES = ("MSSQL", "ORACLE")
+_MYSQL_MODES = ("PIPES_AS_CONCAT,IGNORE_SPACE", "HIGH_NOT_PRECEDENCE")
 _QUERIES = 1000000
 _ROUND = 500
 
@@ -56,13 +56,14 @@ _VALUES = [
 _NUMBERS = [5, 0, 77, 50000, 80000, 99999, 100700, 999999]
 
 # To the server the literal is an unsigned number: `1-0xFF` is out of range, and `1-5` isn't.
-_NOT_UTF8, _HEXADECIMAL, _OUT_OF_RANGE = b"\xff", b"0xFF", 1690
+NOT_UTF8, _HEXADECIMAL, _OUT_OF_RANGE = b"\xff", b"0xFF", 1690
 
 
 class Bound(NamedTuple):
-    """A query and the texts that it is bound to, one for each value; `at` says where it isn't portable."""
+    """A query, the flat forms of its values and the texts that it is bound to, one for each; `at`: it isn't portable."""
 
     query: bytes
+    forms: list
     texts: list
     at: Optional[int]
 
@@ -80,16 +81,20 @@ def run(tests: Tests, path: str) -> None:
     tests.run(f"search: {_QUERIES} short queries, and no portable one leaks", _search, path)
 
 
+def sql_modes(connection: Connection) -> tuple:
+    """Return the modes to search in: those that every server has, and two of its own."""
+    return _SQL_MODES + (_MYSQL_MODES if connection.is_mysql else _MARIADB_MODES)
+
+
 def _search(path: str) -> str:
-    is_portable = mysql_params.first_unportable
     source = random.Random(20261123)
     connection = Connection(path, "latin1")
-    found = Found()
+    found, modes = Found(), sql_modes(connection)
     for number in range(0, _QUERIES, _ROUND):
-        sql_mode = SQL_MODES[number // _ROUND % len(SQL_MODES)]
+        sql_mode = modes[number // _ROUND % len(modes)]
         connection.set("latin1", sql_mode)
         mode = sql_mode.startswith("NO_BACKSLASH_ESCAPES")
-        queries = [_bound(source, _query(source), mode, is_portable) for _ in range(_ROUND)]
+        queries = [bound_query(source, random_query(source), mode) for _ in range(_ROUND)]
         _send(connection, [bound for bound in queries if bound is not None], found, sql_mode)
     connection.close()
     return _judged(found)
@@ -106,7 +111,7 @@ def _judged(found: Found) -> str:
     return f"{told}; {found.leaks_of_others} leaks, of queries that aren't portable"
 
 
-def _query(source: random.Random) -> bytes:
+def random_query(source: random.Random) -> bytes:
     """Return a query with names or with marks, and not with both, since none such can be bound."""
     kinds = source.choices((_OPENERS, _FILLERS, _OTHERS), (5, 4, 2), k=source.randrange(1, 6))
     pieces = [source.choice(kind) for kind in kinds]
@@ -132,7 +137,7 @@ def _number(value: int, name: bytes) -> bytes:
 _FORMS = {
     name: (
         [_text(value, name) for value in _VALUES],
-        [*(_number(value, name) for value in _NUMBERS), _text(_NOT_UTF8, name)],
+        [*(_number(value, name) for value in _NUMBERS), _text(NOT_UTF8, name)],
     )
     for name in (b"a", b"")
 }
@@ -157,7 +162,7 @@ def _forms(source: random.Random, query: bytes, mode: bool) -> Optional[list]:
     return [form * marks for form in [first, *source.sample(others, 3)]]
 
 
-def _bound(source: random.Random, query: bytes, mode: bool, is_portable) -> Optional[Bound]:
+def bound_query(source: random.Random, query: bytes, mode: bool) -> Optional[Bound]:
     """Return a query with its texts. Of queries that are not portable one in eight has some."""
     forms = _forms(source, query, mode)
     if forms is None:
@@ -166,11 +171,11 @@ def _bound(source: random.Random, query: bytes, mode: bool, is_portable) -> Opti
         texts = [mysql_params.bind_form(query, forms[0], mode)]
     except mysql_params.NotAloneError:
         return None
-    found = is_portable(query, mode)
+    found = mysql_params.first_unportable(query, mode)
     if found is not None and source.random() > 0.125:
-        return Bound(query, [], found.position)
+        return Bound(query, [], [], found.position)
     texts += [mysql_params.bind_form(query, form, mode) for form in forms[1:]]
-    return Bound(query, texts, None if found is None else found.position)
+    return Bound(query, forms, texts, None if found is None else found.position)
 
 
 def _send(connection: Connection, queries: list, found: Found, sql_mode: str) -> None:

@@ -153,11 +153,10 @@ start_server() {
     cannot "be started" "$folder.log"
 }
 
-# Starts both: the first tells in its performance_schema what it was sent. The second has a binary log and ignores the
+# Starts both: the first has a performance_schema, where tests ask what it was sent. The second has a binary log and ignores the
 # client's character set, which MySQL has no option for.
 start_servers() {
-    set -- "$1" server --character-set-server=utf8mb4 --performance-schema=ON \
-        --performance-schema-consumer-events-statements-history-long=ON
+    set -- "$1" server --character-set-server=utf8mb4 --performance-schema=ON
     case $1 in
     mysql)
         shift
