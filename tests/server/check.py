@@ -14,6 +14,7 @@ import client
 import leaks
 import limits
 import literals
+import pipes
 import program
 import rows
 import search
@@ -29,12 +30,14 @@ def main(path: str, mysql_query: str, folder: str) -> int:
     version = ("MySQL " if connection.is_mysql else "") + connection.query(b"SELECT VERSION()").rows()[0][0].decode()
     print("server:", version, flush=True)
     connection.query(b"CREATE DATABASE strings")
+    is_mysql = connection.is_mysql
     connection.close()
     literals.run(tests, path)
     beside.run(tests, path)
     program.run(tests, path, mysql_query, folder)
     rows.run(tests, path, folder)
     client.run(tests, path, folder)
+    pipes.run(tests, folder, is_mysql)
     leaks.run(tests, path)
     limits.run(tests, path, folder)
     search.run(tests, path)
