@@ -159,7 +159,7 @@ class Connection:
         return result
 
     def executed(self, text: bytes, kind: int, values: list) -> Result:
-        """Prepare a statement, execute it with values of one type in binary form: its result, with rows in that form."""
+        """Prepare a statement, execute it with values of one type in binary form. Return the rows in that form."""
         number, _ = self._prepare(text)
         bitmap = bytes((len(values) + 7) // 8)
         types = b"\1" + struct.pack("<H", kind) * len(values) if values else b""
@@ -176,7 +176,7 @@ class Connection:
         return parameters
 
     def places(self, texts: list) -> list:
-        """Prepare short statements at once. Return how many values the server wants for each, or minus its error's code."""
+        """Prepare short statements at once. Return how many values each wants, or minus its error's code."""
         packets = [struct.pack("<I", len(text) + 1) + bytes([_COM_PREPARE]) + text for text in texts]
         self._socket.sendall(b"".join(packets))
         found, numbers = [], []

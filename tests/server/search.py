@@ -60,7 +60,7 @@ NOT_UTF8, _HEXADECIMAL, _OUT_OF_RANGE = b"\xff", b"0xFF", 1690
 
 
 class Bound(NamedTuple):
-    """A query, the flat forms of its values and the texts that it is bound to, one for each; `at`: it isn't portable."""
+    """A query, the flat forms of its values, the texts that it is bound to, and where it isn't portable."""
 
     query: bytes
     forms: list

@@ -1,5 +1,5 @@
-# The servers that `run` can have, for `run` to source. Each has a name, and a folder $work/NAME: there stand the commands
-# of its version in bin/, before all others on the path, `server` among them, and what it keeps.
+# The servers that `run` can have, for `run` to source. Each has a name, and a folder $work/NAME with what it keeps: the
+# commands of its version stand in bin/, before all others on the path, and `server` is one.
 #
 # mariadb is what is installed, or Debian's package, by apt-get. mysql and mariadb-sid are MySQL 9.7 and MariaDB 11.8 of
 # Debian's sid. They need sid's C library, so each stands in a root of its own, made by debootstrap, of which nothing is
@@ -69,7 +69,8 @@ write_rooted() {
     shift 2
     why="$program is missing"
     [ -x "$program" ] || return
-    write_command "$command" "$root"/lib64/ld-linux-*.so.* --library-path "$root/usr/lib/x86_64-linux-gnu" "$program" "$@"
+    set -- --library-path "$root/usr/lib/x86_64-linux-gnu" "$program" "$@"
+    write_command "$command" "$root"/lib64/ld-linux-*.so.* "$@"
 }
 
 # Has the commands of a server: have_server NAME
@@ -153,8 +154,8 @@ start_server() {
     cannot "be started" "$folder.log"
 }
 
-# Starts both: the first has a performance_schema, where tests ask what it was sent. The second has a binary log and ignores the
-# client's character set, which MySQL has no option for.
+# Starts both: the first has a performance_schema, where tests ask what it was sent. The second has a binary log and
+# ignores the client's character set. MySQL has no option for the latter, and no second one.
 start_servers() {
     set -- "$1" server --character-set-server=utf8mb4 --performance-schema=ON
     case $1 in
