@@ -39,6 +39,7 @@ make_root() {
     install_packages debootstrap debootstrap || return
     echo "server: making $root by debootstrap"
     why="debootstrap can't make $root"
+    mkdir -p "$roots"
     new=$(mktemp -d "$roots/.$1.XXXXXX") || return
     if ! timeout 900 debootstrap --variant=minbase --include="$2" sid "$new" >"$work/debootstrap.log" 2>&1; then
         tail -n 3 "$work/debootstrap.log"
