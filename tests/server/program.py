@@ -175,6 +175,6 @@ def _closed(shell) -> None:
     name = "*/ ; SELECT CURRENT_USER(); -- "
     ran = shell(_PIPE, query, name, "C.UTF-8")
     same((ran.returncode, ran.stdout, b"1064" in ran.stderr), (1, b"", True), query)
-    for pipe in (_PIPE.replace(" --comments", ""), _PIPE.replace("--skip-force", "--force")):
+    for pipe in (_PIPE.replace("--comments", "--skip-comments"), _PIPE.replace("--skip-force", "--force")):
         ran = shell(pipe, query, name, "C.UTF-8")
         same(b"root@localhost" in ran.stdout, True, pipe)
