@@ -1,5 +1,5 @@
-//! Tests of binding, of the example that README gives, and of the paths that a user may name, through
-//! public calls alone.
+//! Tests of binding, of the example that README gives, and of the paths that a user may name,
+//! through public calls alone.
 #![tactic(auto)]
 
 #[cfg(test)]

@@ -1,8 +1,8 @@
 //! A type of a user's own that values convert to, of which contracts see its number: so "converts
 //! to the same thing" says that it is the same number.
 ghost use Rattle.std.specs.Prelude.{ℕ};
-ghost use Rattle.mysql_value_core.specs.FromValue.{ConvertsOrHandsBack};
-ghost use Rattle.mysql_value_core.specs.ValueOf.{uint_value};
+ghost use Rattle.mysql_values.specs.FromValue.{ConvertsOrHandsBack};
+ghost use Rattle.mysql_values.specs.ValueOf.{uint_value};
 ghost use Rattle.mysql_conversion_tests.specs.Percent.{percent_conversion};
 
 use mysql_values::value::Value;

@@ -7,7 +7,7 @@ use Rattle.mysql_wire_part.specs.Lenenc.{read_length, read_lenenc, least_lead, l
 use Rattle.mysql_wire_part.specs.declared.column.ColumnType.{ColumnType}
 use Rattle.mysql_wire_part.specs.declared.column.ColumnType.TheVariants.{MYSQL_TYPE_DECIMAL, MYSQL_TYPE_TINY, MYSQL_TYPE_SHORT, MYSQL_TYPE_LONG, MYSQL_TYPE_FLOAT, MYSQL_TYPE_DOUBLE, MYSQL_TYPE_NULL, MYSQL_TYPE_TIMESTAMP, MYSQL_TYPE_LONGLONG, MYSQL_TYPE_INT24, MYSQL_TYPE_DATE, MYSQL_TYPE_TIME, MYSQL_TYPE_DATETIME, MYSQL_TYPE_YEAR, MYSQL_TYPE_NEWDATE, MYSQL_TYPE_VARCHAR, MYSQL_TYPE_BIT, MYSQL_TYPE_TIMESTAMP2, MYSQL_TYPE_DATETIME2, MYSQL_TYPE_TIME2, MYSQL_TYPE_TYPED_ARRAY, MYSQL_TYPE_VECTOR, MYSQL_TYPE_UNKNOWN, MYSQL_TYPE_JSON, MYSQL_TYPE_NEWDECIMAL, MYSQL_TYPE_ENUM, MYSQL_TYPE_SET, MYSQL_TYPE_TINY_BLOB, MYSQL_TYPE_MEDIUM_BLOB, MYSQL_TYPE_LONG_BLOB, MYSQL_TYPE_BLOB, MYSQL_TYPE_VAR_STRING, MYSQL_TYPE_STRING, MYSQL_TYPE_GEOMETRY}
 use Rattle.mysql_value_core.specs.declared.value.Value.{Value}
-use Rattle.mysql_value_core.specs.BinaryReading.{read_counted, read_bytes_value, read_integer, read_date, read_time, read_binary}
+use Rattle.mysql_values.specs.BinaryReading.{read_counted, read_bytes_value, read_integer, read_date, read_time, read_binary}
 use Rattle.mysql_params_core.specs.Given.{Given}
 use Rattle.mysql_flat_params.specs.ColumnNumbers.{column_type, is_unsigned_parameter}
 use Rattle.mysql_flat_params.specs.FlatForm.{FormRefusal, FormReading, in_parameter, read_name, read_of_type, read_value, name_refusal, after_value, value_unless, after_name, read_parameter}

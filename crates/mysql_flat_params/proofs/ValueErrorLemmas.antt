@@ -6,8 +6,8 @@ use Rattle.mysql_wire_part.specs.Answer.{IsExpectedRefusal}
 use Rattle.mysql_wire_part.specs.Reading.{ReadRefusal, Reading}
 use Rattle.mysql_wire_part.specs.declared.column.ColumnType.{ColumnType}
 use Rattle.mysql_value_core.specs.declared.value.Value.{Value}
-use Rattle.mysql_value_core.specs.BinaryReading.{read_binary}
-use Rattle.mysql_value_core.specs.TextCell.{ReadsBytes}
+use Rattle.mysql_values.specs.BinaryReading.{read_binary}
+use Rattle.mysql_values.specs.TextCell.{ReadsBytes}
 use Rattle.mysql_flat_params.specs.ColumnNumbers.{column_type, is_unsigned_parameter}
 use Rattle.mysql_flat_params.specs.FlatForm.{refused_in, in_parameter, read_of_type, read_value}
 use Rattle.mysql_flat_params.specs.FormErrors.{form_refusal}

@@ -59,8 +59,8 @@ pub(crate) const WITH_BACKSLASHES: bool = false;
 /// The flag of the mode without backslash escapes.
 pub(crate) const WITHOUT_BACKSLASHES: bool = true;
 
-/// In the mode, the query bound to the form is the text, in a room of 64 bytes, of which the rest is
-/// unchanged.
+/// In the mode, the query bound to the form is the text, in a room of 64 bytes, of which the rest
+/// is unchanged.
 pub(crate) fn binds_in(
     rt: &impl Abort,
     alloc: Global,
@@ -100,8 +100,8 @@ pub(crate) fn refuses(rt: &impl Abort, alloc: Global, query: &[u8], form: &[u8],
     refuses_in(rt, alloc, WITH_BACKSLASHES, query, form, wanted);
 }
 
-/// In the mode, the query is answered so if its names are asked for, in a room of 40 bytes, of which
-/// the rest is unchanged.
+/// In the mode, the query is answered so if its names are asked for, in a room of 40 bytes, of
+/// which the rest is unchanged.
 pub(crate) fn finds_in(rt: &impl Abort, alloc: Global, mode: bool, query: &[u8], answer: &[u8]) {
     let mut room = [b'#'; 40];
     let outcome = names_into(alloc, query, mode, &mut room);

@@ -3,11 +3,10 @@
 //! A query is bytes. [`named_params`] finds the names and marks outside its strings, quoted
 //! identifiers and comments; [`params`] are what is given to them, and [`bind_text`] puts the
 //! literals of the values in their places; [`bind_text_in`] does so in either mode of backslashes.
-//! [`first_unportable`] finds what servers read in different ways or with which a value would join a
-//! number, before a query is bound.
-//! Where the query is a constant, [`fixed_query`] binds it, refused for nothing but memory.
-//! [`run`] is the program, with its commands `names` and `bind`, for any reader and writer, and
-//! [`words_of`] has its words.
+//! [`first_unportable`] finds what servers read in different ways or with which a value would join
+//! a number, before a query is bound. Where the query is a constant, [`fixed_query`] binds it,
+//! refused for nothing but memory. [`run`] is the program, with its commands `names` and `bind`,
+//! for any reader and writer, and [`words_of`] has its words.
 #![tactic(auto)]
 
 pub mod fixed_query;

@@ -2,10 +2,10 @@
 //!
 //! Each export but the last writes its answer into the room that the caller lends and tells what
 //! became of the call: its result is the number of an [`Outcome`](mysql_flat_params::Outcome), and
-//! `report` has the outcome's fields. [`mysql_params_first_unportable`] tells a construct of a query
-//! by its number and, in `report`, its position. A slice comes from C as a pointer that is not null,
-//! also for no bytes, and a length of at most `isize::MAX`. Nothing is kept after a call. C passes
-//! nothing for the allocator.
+//! `report` has the outcome's fields. [`mysql_params_first_unportable`] tells a construct of a
+//! query by its number and, in `report`, its position. A slice comes from C as a pointer that is
+//! not null, also for no bytes, and a length of at most `isize::MAX`. Nothing is kept after a call.
+//! C passes nothing for the allocator.
 //!
 //! The contracts hold for callers that keep to `bindings/c/mysql_params.h`: `room` and `report`
 //! overlap neither each other nor what is read, and their bytes have values before the call.
@@ -27,11 +27,11 @@ use std::alloc::Global;
 /// Writes the query with `?` in place of each name, and then each name, each as a length-encoded
 /// string, to the front of the room: [`names_into`](mysql_flat_params::names_into).
 ///
-/// Returns 0 (`Done`) with the length of the answer in the report's `len`, 2 (`Room`) with the length
-/// that the room would need, 8 (`Mixed`) for a query with names and marks, or, for a query with names
-/// and without marks, in place of 0 and 2, 1 (`OutOfMemory`). All other fields of the report are 0. At
-/// each number but 0 the room is as before. The flag is true if the connection's `sql_mode` has
-/// `NO_BACKSLASH_ESCAPES`.
+/// Returns 0 (`Done`) with the length of the answer in the report's `len`, 2 (`Room`) with the
+/// length that the room would need, 8 (`Mixed`) for a query with names and marks, or, for a query
+/// with names and without marks, in place of 0 and 2, 1 (`OutOfMemory`). All other fields of the
+/// report are 0. At each number but 0 the room is as before. The flag is true if the connection's
+/// `sql_mode` has `NO_BACKSLASH_ESCAPES`.
 #[unsafe(no_mangle)]
 pub extern "C" fn mysql_params_names(
     alloc: Global,
@@ -64,11 +64,12 @@ pub extern "C" fn mysql_params_names(
 /// [`bind_into`](mysql_flat_params::bind_into).
 ///
 /// Returns the number of any [`Outcome`](mysql_flat_params::Outcome): 0 (`Done`) with the length of
-/// the text in the report's `len`, 2 (`Room`) with the length that the room would need, 3 to 7 for a
-/// form that is refused, 8 to 14 for a query that is refused, or 1 (`OutOfMemory`), but not for the
-/// empty form over a query with names and marks, nor for a form that is refused for its first
-/// parameter. The report has the fields of the outcome, and 0 in all others. At each number but 0 the
-/// room is as before. The flag is true if the connection's `sql_mode` has `NO_BACKSLASH_ESCAPES`.
+/// the text in the report's `len`, 2 (`Room`) with the length that the room would need, 3 to 7 for
+/// a form that is refused, 8 to 14 for a query that is refused, or 1 (`OutOfMemory`), but not for
+/// the empty form over a query with names and marks, nor for a form that is refused for its first
+/// parameter. The report has the fields of the outcome, and 0 in all others. At each number but 0
+/// the room is as before. The flag is true if the connection's `sql_mode` has
+/// `NO_BACKSLASH_ESCAPES`.
 #[unsafe(no_mangle)]
 pub extern "C" fn mysql_params_bind(
     alloc: Global,

@@ -6,7 +6,7 @@ use Rattle.std.proofs.lemmas.List.Sums.{fold-append}
 use Rattle.std.specs.FinMap as finite
 use Rattle.mysql_wire_part.specs.Answer.{IsAnswer, IsExpectedRefusal}
 use Rattle.mysql_wire_part.proofs.AnswerLemmas.{refusal_expected_too}
-use Rattle.mysql_value_core.specs.ValueOf.{Meaning, MeansBytes, too_long_duration}
+use Rattle.mysql_values.specs.ValueOf.{Meaning, MeansBytes, too_long_duration}
 use Rattle.mysql_value_core.specs.declared.value.Value.{Value}
 use Rattle.mysql_value_core.specs.declared.value.convert.ToValueError.{ToValueError}
 use Rattle.mysql_value_core.specs.declared.value.convert.ToValueError.TheVariants.{DurationTooLong, Memory}

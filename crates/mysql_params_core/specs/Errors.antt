@@ -27,9 +27,9 @@ abbrev pub value_refusal : ToValueError → Option ToParamsRefusal
 value_refusal (to_value.DurationTooLong duration) = Some (too_long duration)
 value_refusal (to_value.Memory error) = None
 
--- The refusal of `to_params` that the error stands for; none for out of memory. Nor is there one for
--- a `Value` that holds out of memory: `to_params` returns `Memory` instead, as a clause of its own
--- says.
+-- The refusal of `to_params` that the error stands for; none for out of memory. Nor is there one
+-- for a `Value` that holds out of memory: `to_params` returns `Memory` instead, as a clause of its
+-- own says.
 abbrev pub to_params_refusal : ToParamsError → Option ToParamsRefusal
 to_params_refusal (to_params.Redefined name) = Some (redefined name.items)
 to_params_refusal (to_params.Value error) = value_refusal error

@@ -3,7 +3,7 @@ use Rattle.std.specs.Prelude.{ℕ, List, [], ◌∷◌, ◌++◌, Result, Ok, Er
 use Rattle.std.specs.FinMap as finite
 use Rattle.std.specs.declared.time.Duration.{Duration}
 use Rattle.mysql_value_core.specs.declared.value.Value.{Value}
-use Rattle.mysql_value_core.specs.ValueOf.{Meaning}
+use Rattle.mysql_values.specs.ValueOf.{Meaning}
 use Rattle.mysql_params_core.specs.Given.{ValueMap, Given, empty, named, positional}
 
 -- why arguments make no parameters

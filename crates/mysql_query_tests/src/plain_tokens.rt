@@ -7,9 +7,10 @@ use mysql_named_params::tokens::{TokenKind, first_token};
 use std::alloc::{AllocError, Global};
 use std::process::Abort;
 
-// Down to `plain_first_place` these are the bodies that the crate had before its jumps. They have no
-// contract here: so their sums saturate, their slices begin at the end at the latest, an empty text
-// has a token of one byte, and the walk is a loop that ends. The table of plain bytes is a test here.
+// Down to `plain_first_place` these are the bodies that the crate had before its jumps. They have
+// no contract here: so their sums saturate, their slices begin at the end at the latest, an empty
+// text has a token of one byte, and the walk is a loop that ends. The table of plain bytes is a
+// test here.
 
 fn plain_is_white_space(byte: u8) -> bool {
     byte.is_ascii_whitespace()
@@ -120,8 +121,8 @@ fn plain_first_token(text: &[u8], no_backslash_escape: bool) -> (TokenKind, usiz
     (kind, opening.saturating_add(tail))
 }
 
-/// The index of the first byte from this one on with which another token than a plain one may begin,
-/// or the end.
+/// The index of the first byte from this one on with which another token than a plain one may
+/// begin, or the end.
 fn plain_run_end(text: &[u8], from: usize) -> usize {
     for at in from..text.len() {
         if matches!(
@@ -203,8 +204,8 @@ const KINDS: &[Kind] = &[
     (b"", b'\xff', b"?"),
 ];
 
-/// Appends an open token with so many bytes inside, and a backslash before one place of these, where
-/// there is one.
+/// Appends an open token with so many bytes inside, and a backslash before one place of these,
+/// where there is one.
 fn append_open(
     text: &mut Vec<u8>,
     kind: &Kind,

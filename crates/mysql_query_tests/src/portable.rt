@@ -118,8 +118,9 @@ fn forms(rt: HostRuntime) {
 }
 
 // Hints and executable comments in which nothing begins or ends: MySQL 9.7 and MariaDB 11.8, with
-// versions below and above the server's, answered such queries alike for each of two values. The first
-// three are examples of the MySQL Reference Manual ("Optimizer Hints", "Comments") with a place.
+// versions below and above the server's, answered such queries alike for each of two values. The
+// first three are examples of the MySQL Reference Manual ("Optimizer Hints", "Comments") with a
+// place.
 const QUIET: &[&[u8]] = &[
     b"SELECT /*+ MAX_EXECUTION_TIME(1000) */ * FROM t1 WHERE a = :a",
     b"SELECT /*! STRAIGHT_JOIN */ col1 FROM table1, table2 WHERE b = ?",

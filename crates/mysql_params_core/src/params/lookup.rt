@@ -63,9 +63,9 @@ impl Params {
     }
 
     /// The same parameters by position: named ones give the values for the names, in their order,
-    /// or the first name that has no value. Others are returned unchanged. `Memory` is returned only
-    /// for named parameters and a list with names. The parameters are consumed even if the call
-    /// refuses.
+    /// or the first name that has no value. Others are returned unchanged. `Memory` is returned
+    /// only for named parameters and a list with names. The parameters are consumed even if the
+    /// call refuses.
     pub fn into_positional(
         self,
         alloc: Global,

@@ -2,7 +2,7 @@
 ghost use Rattle.std.specs.Prelude.{◌≡◌, ◌≢◌, ◌⊎◌, ℕ, List, None, Some, Ok, map, IfErr, alloc_error, string_bytes, ⊤};
 ghost use Rattle.mysql_wire_part.specs.Answer.{IsAnswer};
 ghost use Rattle.mysql_value_core.specs.declared.value.convert.ToValueError.TheVariants as to_value;
-ghost use Rattle.mysql_value_core.specs.ValueOf.{Meaning, MeansBytes, too_long_duration};
+ghost use Rattle.mysql_values.specs.ValueOf.{Meaning, MeansBytes, too_long_duration};
 ghost use Rattle.mysql_params_core.specs.Errors.{to_params_refusal};
 ghost use Rattle.mysql_params_core.specs.Given.{given, value_map};
 ghost use Rattle.mysql_params_core.specs.Made.{pairs_made, redefined, with_new, with_pair};
@@ -57,10 +57,10 @@ impl ToName for String {
 }
 
 impl Params {
-    /// Named parameters of pairs, taken in order. A pair with the name of an earlier pair is refused
-    /// as `Redefined` with that name, and its argument isn't asked for its value. An argument that
-    /// has no value is refused as `Value`. The first refusal ends it. No pairs make an empty map.
-    /// `Memory` may come in place of any other result.
+    /// Named parameters of pairs, taken in order. A pair with the name of an earlier pair is
+    /// refused as `Redefined` with that name, and its argument isn't asked for its value. An
+    /// argument that has no value is refused as `Value`. The first refusal ends it. No pairs make
+    /// an empty map. `Memory` may come in place of any other result.
     pub fn from_pairs<N: ToName, V: ToValue>(
         alloc: Global,
         pairs: &[(N, V)],

@@ -5,7 +5,7 @@ ghost use Rattle.mysql_value_core.specs.declared.value.convert.ToValueError.TheV
 ghost use Rattle.mysql_params_core.specs.Errors.{to_params_refusal};
 ghost use Rattle.mysql_params_core.specs.Given.{given, empty};
 ghost use Rattle.mysql_params_core.specs.Made.{Made, list_made, with_value};
-ghost use Rattle.mysql_value_core.specs.ValueOf.{Meaning, MeansBytes, too_long_duration};
+ghost use Rattle.mysql_values.specs.ValueOf.{Meaning, MeansBytes, too_long_duration};
 
 use crate::params::{Params, ToParamsError};
 use mysql_values::value::Value;
@@ -71,8 +71,8 @@ impl<T: ToValue> ToParams for Vec<T> {
 }
 
 impl ToParams for &[&dyn ToValue] {
-    // What each object names as its value. A function's clause writes `value_of object.now`, as that
-    // of `object_params` does; an implementation has to write it out.
+    // What each object names as its value. A function's clause writes `value_of object.now`, as
+    // that of `object_params` does; an implementation has to write it out.
     ghost made = { λ objects.
         list_made (map (λ object. (ToValue-dyn object.now).value_of object.now.1) objects.now) };
 

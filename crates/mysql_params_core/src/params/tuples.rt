@@ -2,7 +2,7 @@
 ghost use Rattle.std.specs.Prelude.{◌≢◌, ◌∷◌, List, [], fold, Ok, IfErr, alloc_error, ⊤};
 ghost use Rattle.mysql_wire_part.specs.Answer.{IsAnswer};
 ghost use Rattle.mysql_value_core.specs.declared.value.convert.ToValueError.TheVariants as to_value;
-ghost use Rattle.mysql_value_core.specs.ValueOf.{Meaning};
+ghost use Rattle.mysql_values.specs.ValueOf.{Meaning};
 ghost use Rattle.mysql_params_core.specs.Errors.{to_params_refusal};
 ghost use Rattle.mysql_params_core.specs.Given.{given};
 ghost use Rattle.mysql_params_core.specs.Made.{by_position, list_made, values_made, with_value};
