@@ -6,7 +6,7 @@ use Rattle.std.specs.List.{list_all, list_any, position_or_len}
 use Rattle.std.proofs.lemmas.Bool.{cases_Bool, cond-true, cond-false}
 use Rattle.std.proofs.Math.Seq.{drop-cons}
 use Rattle.mysql_values.specs.declared.value.Value.{Value}
-use Rattle.mysql_program.specs.Words.{WordsRefusal, usage, parts_of_word, value_of_text, pair_of_word, pairs_of_words, word_bytes, bound_query, is_nameless, command_made, given_by_name, command_of_pairs}
+use Rattle.mysql_program.specs.Words.{WordsRefusal, usage, parts_of_word, parsed_value, pair_of_word, pairs_of_words, word_bytes, bound_query, is_nameless, command_made, given_by_name, command_of_pairs}
 use Rattle.mysql_program.specs.WordErrors.{seen_pair}
 use Rattle.mysql_params_core.specs.Given.{positional}
 use Rattle.std.specs.Borrow.{Bor}
@@ -33,16 +33,16 @@ ok_or-refused None why h = (refl, cc)
 ok_or-refused (Some y) why h = absurd cc
 
 pub pair_found : (word name text : List ℕ) (value : Value) → parts_of_word word ≡ Some (name, text)
-    → ok_or (value_of_text text) usage ≡ Ok value → ok_or (pair_of_word word) usage ≡ Ok (name, value)
+    → ok_or (parsed_value text) usage ≡ Ok value → ok_or (pair_of_word word) usage ≡ Ok (name, value)
 pair_found word name text value e h =
-    ap (λ parts. ok_or (option_and_then (λ p. option_map (λ v. (p.0, v)) (value_of_text p.1)) parts) usage) e
-    ∙ ap (λ o. ok_or (option_map (λ v. (name, v)) o) usage) (ok_or-found (value_of_text text) value h)
+    ap (λ parts. ok_or (option_and_then (λ p. option_map (λ v. (p.0, v)) (parsed_value p.1)) parts) usage) e
+    ∙ ap (λ o. ok_or (option_map (λ v. (name, v)) o) usage) (ok_or-found (parsed_value text) value h)
 
 pub pair_refused : (word name text : List ℕ) (why : WordsRefusal) → parts_of_word word ≡ Some (name, text)
-    → ok_or (value_of_text text) usage ≡ Err why → ok_or (pair_of_word word) usage ≡ Err why
+    → ok_or (parsed_value text) usage ≡ Err why → ok_or (pair_of_word word) usage ≡ Err why
 pair_refused word name text why e h =
-    let refused_so = ok_or-refused (value_of_text text) why h in
-    ap (λ parts. ok_or (option_and_then (λ p. option_map (λ v. (p.0, v)) (value_of_text p.1)) parts) usage) e
+    let refused_so = ok_or-refused (parsed_value text) why h in
+    ap (λ parts. ok_or (option_and_then (λ p. option_map (λ v. (p.0, v)) (parsed_value p.1)) parts) usage) e
     ∙ ap (λ o. ok_or (option_map (λ v. (name, v)) o) usage) refused_so.0 ∙ ap Err (sym refused_so.1)
 
 -- one word after another

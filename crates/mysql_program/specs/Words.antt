@@ -61,15 +61,15 @@ abbrev pub value_of_null : List ℕ → Option Value
 value_of_null text = if bytes_eq text (codes "null") then Some NULL else None
 
 -- the value of `i:` or `u:` and a number, of `s:` and a text, or of `null`
-abbrev pub value_of_text : List ℕ → Option Value
-value_of_text (kind ∷ colon ∷ text) =
+abbrev pub parsed_value : List ℕ → Option Value
+parsed_value (kind ∷ colon ∷ text) =
     if colon == byte ":" then value_of_kind kind text else value_of_null (kind ∷ colon ∷ text)
-value_of_text text = value_of_null text
+parsed_value text = value_of_null text
 
 -- name and value of a word
 abbrev pub pair_of_word : List ℕ → Option (List ℕ × Value)
 pair_of_word word =
-    option_and_then (λ parts. option_map (λ value. (parts.0, value)) (value_of_text parts.1))
+    option_and_then (λ parts. option_map (λ value. (parts.0, value)) (parsed_value parts.1))
     (parts_of_word word)
 
 -- name and value of each word; none if a word has none

@@ -1,11 +1,11 @@
 //! The command line: what the words of the program ask for.
 ghost use Rattle.std.specs.Str.{bytes_eq};
 ghost use Rattle.std.specs.Prelude.{◌∷◌, IsTrue, codes, ◌≡◌, Some, Ok, IfSome, IfNone, IsErrOf, alloc_error, map, ok_or, ⊤};
-ghost use Rattle.mysql_wire_part.specs.Answer.{IsAnswer};
+ghost use Rattle.mysql_values.specs.Answer.{IsAnswer};
 ghost use Rattle.mysql_values.specs.declared.value.Value.TheVariants.{Bytes as BytesOf};
 ghost use Rattle.std.specs.List.{list_all, list_any};
 ghost use Rattle.mysql_params_core.specs.Given.{given, positional};
-ghost use Rattle.mysql_program.specs.Words.{parts_of_word, int_of_text, uint_of_text, value_of_kind, value_of_null, value_of_text, pair_of_word, pairs_of_words, is_nameless, bound_query, command_made, given_by_name, command_of_pairs, bind_command, command_of, AsksToBind, usage, word_bytes};
+ghost use Rattle.mysql_program.specs.Words.{parts_of_word, int_of_text, uint_of_text, value_of_kind, value_of_null, parsed_value, pair_of_word, pairs_of_words, is_nameless, bound_query, command_made, given_by_name, command_of_pairs, bind_command, command_of, AsksToBind, usage, word_bytes};
 ghost use Rattle.mysql_program.specs.WordErrors.{words_refusal, seen_pair, seen_command};
 
 use mysql_params_core::params::{Params, ToParamsError};
@@ -164,7 +164,7 @@ fn pair_of_word<'a>(alloc: Global, word: &'a str) -> Result<(&'a [u8], Value), W
         (ok_or (pair_of_word word.now) usage) ⊤ result }
 {
     match parts_of_word(word) {
-        Some((name, text)) => match value_of_text(alloc, text.as_bytes()) {
+        Some((name, text)) => match parsed_value(alloc, text.as_bytes()) {
             Ok(value) => Ok((name.as_bytes(), value)),
             Err(error) => Err(error),
         },
@@ -181,9 +181,9 @@ fn parts_of_word(word: &str) -> Option<(&str, &str)>
 }
 
 // The value that a text stands for.
-fn value_of_text(alloc: Global, text: &[u8]) -> Result<Value, WordsError>
+fn parsed_value(alloc: Global, text: &[u8]) -> Result<Value, WordsError>
     ensures { IsAnswer (λ value. value) words_refusal
-        (ok_or (value_of_text text.now) usage) ⊤ result }
+        (ok_or (parsed_value text.now) usage) ⊤ result }
 {
     match text {
         [kind, b':', text @ ..] => value_of_kind(alloc, *kind, text),

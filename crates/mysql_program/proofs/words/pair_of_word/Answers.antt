@@ -1,6 +1,6 @@
 use Rattle.std.specs.Prelude.{ok_or, ⊤}
 use Rattle.mysql_wire_part.proofs.AnswerLemmas.{refusal_expected_too}
-use Rattle.mysql_program.specs.Words.{usage, value_of_text, pair_of_word}
+use Rattle.mysql_program.specs.Words.{usage, parsed_value, pair_of_word}
 use Rattle.mysql_program.specs.WordErrors.{words_refusal}
 use Rattle.mysql_program.proofs.WordLemmas.{pair_found, pair_refused}
 use Rattle.mysql_program.proofs.words.pair_of_word.Goals as goal
@@ -13,7 +13,7 @@ returns-in-Ok c =
 
 pub returns-in-Err : goal.returns-in-Err
 returns-in-Err c =
-    refusal_expected_too (ok_or (value_of_text c.as_bytes.result.now) usage)
+    refusal_expected_too (ok_or (parsed_value c.as_bytes.result.now) usage)
     (ok_or (pair_of_word c.args.word.now) usage) ⊤ ⊤ (words_refusal c.in-Err.error)
     (λ why refused. pair_refused c.args.word.now c.in-Some.name.now c.in-Some.text.now why
     c.in-Some.ensures.found (rw c.as_bytes.ensures.value at refused))

@@ -1,7 +1,7 @@
 use Rattle.std.proofs.Common.{◌≡◌, ◌<◌, length, rules, subst, sym, true, false}
 use Rattle.std.specs.List.{list_all, list_any}
 use Rattle.std.specs.Prelude.{⊤}
-use Rattle.mysql_wire_part.specs.Answer.{IsAnswer}
+use Rattle.mysql_values.specs.Answer.{IsAnswer}
 use Rattle.mysql_params_core.specs.Given.{given}
 use Rattle.mysql_program.specs.Words.{bound_query, is_nameless}
 use Rattle.mysql_program.specs.WordErrors.{words_refusal, seen_pair}
