@@ -30,11 +30,11 @@ use std::borrow::CowSlice;
 ///
 /// `Done` has the length of the text; the rest of the room is unchanged. `Room` has the length that
 /// the room would need. A form is refused before the query; then the first of the causes of
-/// [`bind_text_in`] refuses it. `Missing` tells the first place that has the missing name. The empty
-/// form over a query with names and marks is `Mixed` without allocating, and a form that is refused
-/// for its first parameter is refused without allocating too. Any other outcome may be `OutOfMemory`
-/// instead, which also comes where the text would be longer than `isize::MAX` bytes. After every
-/// outcome but `Done` the room is as before.
+/// [`bind_text_in`] refuses it. `Missing` tells the first place that has the missing name. The
+/// empty form over a query with names and marks is `Mixed` without allocating, and a form that is
+/// refused for its first parameter is refused without allocating too. Any other outcome may be
+/// `OutOfMemory` instead, which also comes where the text would be longer than `isize::MAX` bytes.
+/// After every outcome but `Done` the room is as before.
 pub fn bind_into(
     alloc: Global,
     query: &[u8],
@@ -73,9 +73,9 @@ pub fn bind_into(
 /// front of the room.
 ///
 /// `Done` has the length of the answer; the rest of the room is unchanged. `Room` has the length
-/// that the room would need. A query with names and marks is `Mixed`. `OutOfMemory` comes only for a
-/// query with names and without marks; no other allocates. There are no other outcomes. After every
-/// outcome but `Done` the room is as before.
+/// that the room would need. A query with names and marks is `Mixed`. `OutOfMemory` comes only for
+/// a query with names and without marks; no other allocates. There are no other outcomes. After
+/// every outcome but `Done` the room is as before.
 pub fn names_into(
     alloc: Global,
     query: &[u8],
@@ -219,7 +219,8 @@ fn bind_outcome(query: &[u8], error: BindError, no_backslash_escape: bool) -> Ou
     requires { (given : Given) × OnTokens no_backslash_escape query.now (λ ts.
         IsCauseOrMemory (first_cause ts given) error) }
     ensures outcome { (form : List ℕ) (given : Given) → IsFormReading form (Ok given) →
-        OnTokens no_backslash_escape query.now (λ ts. IsCauseOrMemory (first_cause ts given) error) →
+        OnTokens no_backslash_escape query.now (λ ts.
+        IsCauseOrMemory (first_cause ts given) error) →
         IsBindOutcome no_backslash_escape query.now form result }
     ensures mixed { error ≡ BindError.Mixed → result ≡ Outcome.Mixed }
     ensures no_answer { HasNoAnswer result }

@@ -2,8 +2,8 @@
 //! answer goes into a room that the caller lends.
 //!
 //! [`params_of_form`] reads the form. [`bind_into`] and [`names_into`] write their answer into the
-//! room, or leave it as it was and say by an [`Outcome`] why. [`report_first_unportable`] reports the
-//! first construct for which a query isn't portable.
+//! room, or leave it as it was and say by an [`Outcome`] why. [`report_first_unportable`] reports
+//! the first construct for which a query isn't portable.
 #![tactic(auto)]
 
 mod column_number;

@@ -146,7 +146,7 @@ later_quiet b (c ∷ bs) h w =
         let x : b ≡ asterisk = eqb-true b asterisk r.0 in
         let y : c ≡ slash = eqb-true c slash s.0 in
         let z : begins_with (asterisk ∷ slash ∷ []) (asterisk ∷ slash ∷ bs) ≡ false =
-            subst (λ u. begins_with (asterisk ∷ slash ∷ []) (asterisk ∷ u ∷ bs) ≡ false) y (subst (λ u. begins_with (asterisk ∷ slash ∷ []) (u ∷ c ∷ bs) ≡ false) x w) in
+        subst (λ u. begins_with (asterisk ∷ slash ∷ []) (asterisk ∷ u ∷ bs) ≡ false) y (subst (λ u. begins_with (asterisk ∷ slash ∷ []) (u ∷ c ∷ bs) ≡ false) x w) in
         true≢false z
 
 front_quiet : (text : List ℕ) → is_quiet text ≡ true →
@@ -170,7 +170,7 @@ each_quiet tail rest u h =
     let n = up_to_is (asterisk ∷ slash ∷ []) tail rest (omega arith) u in
     let front : take (len_up_to (asterisk ∷ slash ∷ []) (tail ++ rest)) (tail ++ rest) ≡ tail = take_front tail rest _ n in
     let back : drop (len_up_to (asterisk ∷ slash ∷ []) (tail ++ rest)) (tail ++ rest) ≡ rest =
-        append_cancel_left tail _ _ (subst (λ x. x ++ drop (len_up_to (asterisk ∷ slash ∷ []) (tail ++ rest)) (tail ++ rest) ≡ tail ++ rest) front (take-append-drop (len_up_to (asterisk ∷ slash ∷ []) (tail ++ rest)) (tail ++ rest))) in
+    append_cancel_left tail _ _ (subst (λ x. x ++ drop (len_up_to (asterisk ∷ slash ∷ []) (tail ++ rest)) (tail ++ rest) ≡ tail ++ rest) front (take-append-drop (len_up_to (asterisk ∷ slash ∷ []) (tail ++ rest)) (tail ++ rest))) in
     subst (λ x. AreQuiet x tail) back (subst (AreQuiet (drop (len_up_to (asterisk ∷ slash ∷ []) (tail ++ rest)) (tail ++ rest))) front (front_quiet (tail ++ rest) h))
 
 -- ---- rows of plain bytes
@@ -281,7 +281,7 @@ reading_executed server mode tail ts q k r =
       alike = read_executed tail q r.alike;
       holds = (
         subst (λ x. IsTokenOn server mode (Plain slash) (asterisk ∷ x)) (sym same) (opener_on server mode _ k),
-        (star_on server mode _, row_on server mode tail r.tokens (subst (λ x. AreQuiet x tail) (sym (read_text r.alike)) (each_quiet tail (text_of ts) q.ends q.quiet)) r.holds)
+        (star_on server mode _, row_on server mode tail r.tokens (subst (λ x. AreQuiet x tail) (sym (read_text r.alike)) (each_quiet tail (text_of ts) q.ends q.quiet)) r.holds),
       );
     }
 

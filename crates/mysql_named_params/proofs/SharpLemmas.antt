@@ -211,7 +211,7 @@ all_quiet mode (read_empty_comment {ts = ts} r) h o =
 all_quiet mode (read_skipped {ts = ts} tail q r) h o =
     let there : (begins_special (tail ++ text_of ts) && is_quiet (tail ++ text_of ts)) ≡ true = both _ _ q.special q.quiet in
     let opener : begins_quiet (asterisk ∷ text_of (plain_then ts tail)) ≡ true =
-        subst (λ x. (begins_special x && is_quiet x) ≡ true) (sym (plain_text tail ts)) there in
+    subst (λ x. (begins_special x && is_quiet x) ≡ true) (sym (plain_text tail ts)) there in
     (opener, (refl, row_quiet tail ts (each_quiet tail (text_of ts) q.ends q.quiet) (all_quiet mode r (after_row mode tail ts h.1.1) o.1)))
 all_quiet mode (read_executed {us = us} tail q r) h o =
     (or_right (not (begins_special tail)) _ q.quiet, all_quiet mode r h.1 (after_row_on contrary mode tail us o.1.1))

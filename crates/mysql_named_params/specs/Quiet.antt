@@ -1,7 +1,7 @@
--- Quiet comments: hints and executable comments in whose text, up to and with `*/`, nothing begins, on
--- any server of Server.antt or in the grammar. Whether such a text is read or skipped, no boundary
--- outside of it moves. And the honest servers, which read or skip each quiet comment, as all known do.
--- Example: `/*+ MAX_EXECUTION_TIME(1000) */`, a hint, a comment or plain bytes.
+-- Quiet comments: hints and executable comments in whose text, up to and with `*/`, nothing begins,
+-- on any server of Server.antt or in the grammar. Whether such a text is read or skipped, no
+-- boundary outside of it moves. And the honest servers, which read or skip each quiet comment, as
+-- all known do. Example: `/*+ MAX_EXECUTION_TIME(1000) */`, a hint, a comment or plain bytes.
 use Rattle.std.specs.Prelude.{◌≡◌, ℕ, IsTrue, Bool, true, false, not, ◌==◌, ◌&&◌, ◌||◌, List, [], ◌∷◌, ◌++◌}
 use Rattle.std.specs.Str.{byte}
 use Rattle.mysql_named_params.specs.Bytes.{asterisk, backquote, dash, hash, slash, is_string_quote, begins, IsUpTo}

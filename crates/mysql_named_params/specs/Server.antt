@@ -10,11 +10,12 @@
 --   `[`             MariaDB Knowledge Base, "SQL_MODE=MSSQL"
 --   `$$`, `$tag$`   MySQL Reference Manual 9, "JavaScript Stored Programs" (dollar-quoted text)
 --   `1.e--`         MySQL Reference Manual, "Numeric Literals" (an exponent has digits)
--- A point is asked of the text after the construct. MySQL asks what stands before too: `/*+` is a hint
--- after some words alone, and `$$` within a name is none. So it is one of these servers for each text,
--- since no two places of one text have the same text after them, and not one for all texts.
--- Readings that none of these servers has: `;` and white space at the end of a text are cut off before
--- it is read, so that `--` before them opens a comment (MySQL and MariaDB; nothing follows it);
+-- A point is asked of the text after the construct. MySQL asks what stands before it too: `/*+` is
+-- a hint after some words alone, and `$$` within a name opens nothing. So MySQL is one of these
+-- servers for each text, since no two places of a text have the same text after them, and none of
+-- them for all texts.
+-- No server here has these readings: `;` and white space at the end of a text are cut off before it
+-- is read, so that `--` before them opens a comment (MySQL and MariaDB; no value stands in it);
 -- `/*T! .. */` is executed (TiDB); `--` before a form feed is two plain bytes (Vitess).
 use Rattle.std.specs.Prelude.{◌≡◌, ◌≢◌, ℕ, IsTrue, IsFalse, Bool, false, not, ◌==◌, ◌&&◌, ◌||◌, nat_le, if◌then◌else◌, List, [], ◌∷◌, ◌++◌, take, Option, Some, None, ⊤}
 use Rattle.std.specs.Char.{is_ascii_digit}

@@ -70,8 +70,8 @@ pub fn grammar_is_a_server()
 {}
 
 /// If each token of a query passes its test, as those of a portable query do, then every honest
-/// server, which reads each quiet comment or skips it whole, reads the grammar's tokens, except that
-/// it may read `--` before a newline as a comment, and has its own tokens in quiet comments.
+/// server, which reads each quiet comment or skips it whole, reads the grammar's tokens, except
+/// that it may read `--` before a newline as a comment, and has its own tokens in quiet comments.
 pub fn portable_reading()
     ensures alike { (server : Server) (mode : Bool) (query : List ℕ) (ts us : List Token) →
         IsHonest server → IsTokens mode query ts → AreReadAlike ts → IsReadOn server mode query us →

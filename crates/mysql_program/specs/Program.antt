@@ -1,7 +1,7 @@
 -- What the program answers to its words and its input, over definitions of the query alone.
 --
--- Six types of refusal stand on the way from the words to the exit status. Three are the code's, which
--- can also be out of memory; three are of the definitions, which never are.
+-- Six types of refusal stand on the way from the words to the exit status. Three are the code's,
+-- which can also be out of memory; three are of the definitions, which never are.
 --
 --   of             in code                              in definitions
 --   the words      `WordsError` (src/words.rt)          `WordsRefusal` (Words.antt)
@@ -10,8 +10,9 @@
 --
 -- A `Refusal` holds a `WordsRefusal` or a `Cause`, or is that of a query that `names` refuses. A
 -- `RunError` holds a `BindError`, and has variants of its own for those of `WordsError` and for a
--- failed read or write. Which refusal an error stands for is said by `words_refusal` (WordErrors.antt),
--- `cause_of` (BindErrors.antt of mysql_binding) and `refusal_of` (RunErrors.antt).
+-- failed read or write. Which refusal an error stands for is said by `words_refusal`
+-- (WordErrors.antt), `cause_of` (BindErrors.antt of mysql_binding) and `refusal_of`
+-- (RunErrors.antt).
 use Rattle.std.specs.Prelude.{◌≡◌, ℕ, List, [], ◌∷◌, ◌++◌, if◌then◌else◌, Result, Ok, Err, Some, String}
 use Rattle.std.specs.Global.{Global}
 use Rattle.mysql_sql_text.specs.StringUnits.{with_backslashes}

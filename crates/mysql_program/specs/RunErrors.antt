@@ -13,8 +13,8 @@ abbrev pub HoldsCause : RunError → Type 0
 HoldsCause (Bind error) = (cause : Cause) × (cause_of error ≡ Some cause)
 HoldsCause error = ⊤
 
--- the exit status: 1 if a name is redefined or the query is refused; 2 for other words, a failed read
--- or write, and out of memory
+-- the exit status: 1 if a name is redefined or the query is refused; 2 for other words, a failed
+-- read or write, and out of memory
 abbrev pub status_of : RunError → ℕ
 status_of Usage = 2
 status_of (Redefined name) = 1

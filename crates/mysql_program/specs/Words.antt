@@ -97,8 +97,8 @@ abbrev pub command_made : Result Given ToParamsRefusal → Result Command WordsR
 command_made (Ok params) = Ok (bound_query params)
 command_made (Err refusal) = Err (words_refusal_of refusal)
 
--- What pairs ask for. If all names are empty, the values by position; if no name is empty, the values
--- by name; otherwise nothing that the program does.
+-- What pairs ask for. If all names are empty, the values by position; if no name is empty, the
+-- values by name; otherwise nothing that the program does.
 abbrev pub command_of_pairs : List (List ℕ × Value) → Result Command WordsRefusal
 command_of_pairs [] = Ok (bound_query empty)
 command_of_pairs (pair ∷ pairs) =

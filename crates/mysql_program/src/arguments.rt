@@ -6,8 +6,9 @@ use std::alloc::Global;
 use std::env;
 use std::env::{Env, FillError};
 
-// What has the same variables, and the same arguments without the first, which is the program's name.
-// `env::args` refuses all arguments if one isn't UTF-8, and the name says where the program stands.
+// What has the same variables, and the same arguments without the first, which is the program's
+// name. `env::args` refuses all arguments if one isn't UTF-8, and the name says where the program
+// stands.
 #[derive(Drop)]
 struct WithoutName<'a, E> {
     env: &'a E,

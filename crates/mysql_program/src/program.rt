@@ -29,8 +29,8 @@ use std::io::{Read, Write};
 /// `bind` and words `NAME=VALUE` write the query with the values bound, as
 /// [`bind_text`](mysql_binding::bind_text) binds them, and nothing else. A value is `null`, `i:` or
 /// `u:` and a decimal number of 64 bits, or `s:` and a text. Without such words no parameters are
-/// given to the query. If all names are empty, the values are bound by position; if no name is empty,
-/// they are bound by name; otherwise the words are refused as `Usage`.
+/// given to the query. If all names are empty, the values are bound by position; if no name is
+/// empty, they are bound by name; otherwise the words are refused as `Usage`.
 ///
 /// The words are judged first, then the input is read to its end, and the output is written only
 /// once all of it is made. No failed read or write is repeated.

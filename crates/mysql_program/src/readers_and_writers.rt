@@ -37,11 +37,11 @@ pub(crate) fn read_whole<R: Read>(alloc: Global, input: &mut R) -> Result<Vec<u8
     }
 }
 
-// Writes the whole text. On an error the writer took a beginning of it, and not the whole.
+// Writes the whole text. On an error the writer took a prefix of it, and not the whole.
 pub(crate) fn write_whole<W: Write>(output: &mut W, text: &[u8]) -> Result<(), RunError>
     ensures ok { OnOk result (Appends (W.contents output.old) (W.contents output.new) text.now) }
     ensures only_write { OnErr result (IsErrOf result RunError.Write) }
-    ensures beginning { OnErr result (
+    ensures prefix { OnErr result (
         AppendsBeginning (W.contents output.old) (W.contents output.new) text.now) }
 {
     let mut done = 0;

@@ -26,7 +26,7 @@ pub enum RunError {
     /// A read failed. Nothing was written.
     #[error("cannot read")]
     Read,
-    /// A write failed, or took no byte. A beginning of the output was written.
+    /// A write failed, or took no byte. A prefix of the output was written.
     #[error("cannot write")]
     Write,
     /// Out of memory. Nothing was written.
@@ -37,7 +37,8 @@ pub enum RunError {
 impl RunError {
     ghost use Rattle.mysql_program.specs.RunErrors.{status_of};
 
-    /// The exit status of the program: 1 if a name is redefined or the query is refused, otherwise 2.
+    /// The exit status of the program: 1 if a name is redefined or the query is refused, otherwise
+    /// 2.
     pub fn status(&self) -> u8
         ensures status { result ≡ status_of self.now }
     {

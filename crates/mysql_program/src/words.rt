@@ -174,7 +174,8 @@ fn pair_of_word<'a>(alloc: Global, word: &'a str) -> Result<(&'a [u8], Value), W
 
 // What stands before the first `=` of a word, and after it.
 fn parts_of_word(word: &str) -> Option<(&str, &str)>
-    ensures found { IfSome result (λ parts. parts_of_word word.now ≡ Some (parts.0.now, parts.1.now)) }
+    ensures found { IfSome result (λ parts.
+        parts_of_word word.now ≡ Some (parts.0.now, parts.1.now)) }
     ensures none { IfNone result (parts_of_word word.now ≡ None) }
 {
     word.split_once('=')

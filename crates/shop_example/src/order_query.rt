@@ -70,6 +70,9 @@ mod tests {
     const SEARCH: &[u8] =
         b"SELECT id FROM orders WHERE customer = :customer AND day >= :from AND note = :text";
 
+    const FOUND: &[u8] =
+        b"SELECT id FROM orders WHERE customer = 42 AND day >= '2026-01-01' AND note = 'A\\'1'";
+
     const NEW_YEAR: Day = Day {
         year: 2026,
         month: 1,
@@ -79,10 +82,7 @@ mod tests {
     #[test]
     fn by_name(rt: HostRuntime) -> Result<(), Fail> {
         let text = search_orders(rt.alloc(), SEARCH, 42, NEW_YEAR, "A'1")?;
-        assert_eq!(rt;
-            text.as_slice(),
-            b"SELECT id FROM orders WHERE customer = 42 AND day >= '2026-01-01' AND note = 'A\\'1'".as_slice()
-        );
+        assert_eq!(rt; text.as_slice(), FOUND);
         Ok(())
     }
 
