@@ -9,5 +9,5 @@ abbrev pub ReadsWhole : Option (List ℕ) → Option (List ℕ) → List ℕ →
 ReadsWhole old new bytes = Consumes old new bytes × IsAtEnd new
 
 -- the writer took a prefix of the text, and not the whole
-abbrev pub AppendsBeginning : Option (List ℕ) → Option (List ℕ) → List ℕ → Type 0
-AppendsBeginning old new text = (n : ℕ) × (n < length text) × Appends old new (take n text)
+abbrev pub AppendsPrefix : Option (List ℕ) → Option (List ℕ) → List ℕ → Type 0
+AppendsPrefix old new text = (n : ℕ) × (n < length text) × Appends old new (take n text)

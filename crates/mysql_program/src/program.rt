@@ -9,7 +9,7 @@ ghost use Rattle.mysql_params_core.specs.Given.{given};
 ghost use Rattle.mysql_binding.specs.BindErrors.{cause_of};
 ghost use Rattle.mysql_program.specs.Program.{Refusal, bad_words, binding_cause, lines_of, IsOutput, Answers};
 ghost use Rattle.mysql_program.specs.RunErrors.{refusal_of, HoldsCause, IsOutputRefusal};
-ghost use Rattle.mysql_program.specs.ReadersAndWriters.{ReadsWhole, AppendsBeginning};
+ghost use Rattle.mysql_program.specs.ReadersAndWriters.{ReadsWhole, AppendsPrefix};
 ghost use Rattle.mysql_program.specs.WordErrors.{seen_command, words_refusal};
 ghost use Rattle.mysql_program.specs.Words.{names_of_query, bound_query, usage, word_bytes, command_of, AsksToBind};
 
@@ -65,7 +65,7 @@ pub fn run<R: Read, W: Write>(
     ensures write { IsErrOf result RunError.Write → (bytes : List ℕ) × (text : List ℕ)
         × ReadsWhole (R.remaining input.old) (R.remaining input.new) bytes
         × Answers words.now bytes (Ok text)
-        × AppendsBeginning (W.contents output.old) (W.contents output.new) text }
+        × AppendsPrefix (W.contents output.old) (W.contents output.new) text }
 
     // Every other refusal leaves the writer alone.
     ensures unwritten { IfErr result (λ e. e ≢ RunError.Write → output.new ≡ output.old) }

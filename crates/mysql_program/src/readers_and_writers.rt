@@ -1,7 +1,7 @@
 //! Reading to the end and writing the whole. No failed call is repeated.
 ghost use Rattle.std.specs.Prelude.{◌≡◌, IfOk, OnErr, OnOk, IsErrOf};
 ghost use Rattle.std.specs.Io.KnownBytes.{Appends};
-ghost use Rattle.mysql_program.specs.ReadersAndWriters.{ReadsWhole, AppendsBeginning};
+ghost use Rattle.mysql_program.specs.ReadersAndWriters.{ReadsWhole, AppendsPrefix};
 
 use crate::run_error::RunError;
 use std::alloc::{AllocError, Global};
@@ -42,7 +42,7 @@ pub(crate) fn write_whole<W: Write>(output: &mut W, text: &[u8]) -> Result<(), R
     ensures ok { OnOk result (Appends (W.contents output.old) (W.contents output.new) text.now) }
     ensures only_write { OnErr result (IsErrOf result RunError.Write) }
     ensures prefix { OnErr result (
-        AppendsBeginning (W.contents output.old) (W.contents output.new) text.now) }
+        AppendsPrefix (W.contents output.old) (W.contents output.new) text.now) }
 {
     let mut done = 0;
     'writing: while done < text.len() {
