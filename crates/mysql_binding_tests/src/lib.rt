@@ -1,4 +1,4 @@
-//! Tests of binding, of the example that README gives, and of the paths that a user may name,
+//! Tests of binding, of the first call that README links to, and of the paths that a user may name,
 //! through public calls alone.
 #![tactic(auto)]
 

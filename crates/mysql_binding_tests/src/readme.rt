@@ -1,4 +1,4 @@
-//! The example that README gives: a query of texts that come as arguments, by name and by position,
+//! The first call, to which README links: a query of texts that come as arguments, by name and by position,
 //! and the same of literals.
 use mysql_params::params::{Params, ToParams, ToParamsError};
 use mysql_params::{BindError, bind_text};
