@@ -1,5 +1,5 @@
-//! The first call, to which README links: a query of texts that come as arguments, by name and by position,
-//! and the same of literals.
+//! The first call, to which README links: a query of texts that come as arguments, by name and by
+//! position, and the same of literals.
 use mysql_params::params::{Params, ToParams, ToParamsError};
 use mysql_params::{BindError, bind_text};
 use mysql_values::value::convert::{ToValue, ToValueError};
