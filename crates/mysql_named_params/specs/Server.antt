@@ -17,8 +17,8 @@
 -- No server here has these readings: `;` and white space at the end of a text are cut off before it
 -- is read, so that `--` before them opens a comment (MySQL and MariaDB; no value stands in it);
 -- `/*T! .. */` is executed (TiDB); `--` before a form feed is two plain bytes (Vitess). And MySQL
--- and MariaDB refuse each text in which one of them reads a quote as a plain byte: after `1.e`,
--- after a backslash outside of quotes, after `@@`.
+-- and MariaDB refuse each text in which one of them reads a quote, `#` or a byte of `/*` or `*/` as
+-- a plain byte: after `1.e`, after a backslash outside of quotes, after `@@`.
 use Rattle.std.specs.Prelude.{◌≡◌, ◌≢◌, ℕ, IsTrue, IsFalse, Bool, false, not, ◌==◌, ◌&&◌, ◌||◌, nat_le, if◌then◌else◌, List, [], ◌∷◌, ◌++◌, take, Option, Some, None, ⊤}
 use Rattle.std.specs.Char.{is_ascii_digit}
 use Rattle.std.specs.Str.{byte}
