@@ -1,10 +1,13 @@
+pub mod UpToSpliceLemmas
 pub mod LiteralTokenLemmas
-pub mod UpToLiteralLemmas
 pub mod BoundText
 pub mod PieceLemmas
-pub mod ReplacedLemmas
 pub mod ByteTestLemmas
 pub mod ContentsLemmas
+pub mod QuietTextLemmas
+pub mod SpliceLemmas
+pub mod SplicedOnServerLemmas
+pub mod ReplacedLemmas
 pub mod StandsAloneLemmas
 pub mod FirstNotAloneLemmas
 pub mod ValueLiteralLemmas
@@ -17,5 +20,4 @@ pub mod WrittenTextLemmas
 pub mod FilledTextLemmas
 pub mod BoundTextLemmas
 pub mod BoundAgainLemmas
-pub mod QuietTextLemmas
 pub mod BoundOnServerLemmas

@@ -1,27 +1,25 @@
 -- A literal, known by its shape alone: its first bytes, which open nothing with the byte before them,
 -- and its tokens. None of them is a place, and they end where it ends and are portable, whatever follows.
 use Rattle.std.specs.Prelude.{⊤}
-use Rattle.std.proofs.Common.{◌≡◌, ◌++◌, ◌==◌, ◌&&◌, ◌||◌, not, ℕ, Bool, true, false, List, [], ◌∷◌, None, arith, inl, inr, refl, ap, ◌∙◌, sym, subst, append-nil, append_assoc, true≢false}
+use Rattle.std.proofs.Common.{◌≡◌, ◌++◌, ◌==◌, ◌&&◌, ◌||◌, not, ℕ, Bool, true, false, List, [], ◌∷◌, None, arith, inl, inr, refl, ap, ◌∙◌, sym, append-nil, append_assoc, true≢false}
 use Rattle.std.specs.Char.{is_ascii_digit}
 use Rattle.std.specs.List.{list_all}
-use Rattle.std.specs.Str.{byte}
-use Rattle.std.proofs.lemmas.Bool.{and_parts, and_from, or_cases, cases_Bool, eqb-true}
+use Rattle.std.proofs.lemmas.Bool.{and_parts, and_from, cases_Bool, eqb-true}
 use Rattle.std.proofs.lemmas.Bool.Decides.{nat_tests}
 use Rattle.mysql_sql_text.specs.StringUnits.{AreUnits}
 use Rattle.mysql_sql_text.specs.ReadLiteral.{is_hexadecimal_digit}
 use Rattle.mysql_sql_text.specs.LiteralEnd.{is_letter}
 use Rattle.mysql_sql_text.specs.LiteralShape.{AreDigits, AreHexadecimalPairs, IsClosedString, closed_string, AreClosedStrings, one_string, more_strings, IsQuoted, IsLiteral, null_literal, natural_literal, negative_literal, hexadecimal_literal, quoted_literal}
-use Rattle.mysql_named_params.specs.Bytes.{asterisk, backquote, colon, dash, double_quote, hash, question_mark, single_quote, slash, begins, bracket, dollar, point}
+use Rattle.mysql_named_params.specs.Bytes.{backquote, colon, dash, double_quote, hash, question_mark, single_quote, slash, begins, is_start_byte, bracket, dollar, point}
 use Rattle.mysql_named_params.specs.Tokens.{Token, IsToken, text_of, text_then, AreTokensBefore, QuotedString, Plain}
 use Rattle.mysql_named_params.specs.Tokens.{closed_string as closed_tail}
-use Rattle.mysql_named_params.specs.FirstToken.{opens_dash_comment}
 use Rattle.mysql_named_params.specs.Places.{place_count}
 use Rattle.mysql_named_params.specs.Portable.{may_open_line}
 use Rattle.mysql_named_params.proofs.PortableLemmas.{is_alike_on_all}
 use Rattle.mysql_named_params.specs.TokensOf.{dash_comment}
 use Rattle.mysql_named_params.proofs.TokenRowLemmas.{text_then-append, text_of-append, AreTokensBefore-append, place_count-append}
 use Rattle.mysql_named_params.proofs.TokenEnds.{plain_at}
-use Rattle.mysql_named_params.proofs.RestLemmas.{OpensNothing}
+use Rattle.mysql_binding.proofs.UpToSpliceLemmas.{joins_nothing, opens_nothing_after}
 
 -- a digit or a letter
 abbrev pub is_alphanumeric : ℕ → Bool
@@ -39,7 +37,7 @@ AreSettledBefore rest (t ∷ ts) =
     (is_alike_on_all t (text_then rest ts) ≡ true) × (no_double t (text_then rest ts) ≡ true)
     × AreSettledBefore rest ts
 
-AreSettledBefore-append : (xs ys : List Token) (rest : List ℕ) → AreSettledBefore (text_then rest ys) xs →
+pub AreSettledBefore-append : (xs ys : List Token) (rest : List ℕ) → AreSettledBefore (text_then rest ys) xs →
     AreSettledBefore rest ys → AreSettledBefore rest (xs ++ ys)
 AreSettledBefore-append [] ys rest b h = h
 AreSettledBefore-append (x ∷ xs) ys rest b h = (rw (text_then-append xs ys rest) b.0, rw (text_then-append xs ys rest) b.1, AreSettledBefore-append xs ys rest b.2 h)
@@ -56,7 +54,7 @@ plain_tokens [] = []
 plain_tokens (b ∷ rest) = Plain b ∷ plain_tokens rest
 
 -- a byte that passes a test is none that fails it
-other : (test : ℕ → Bool) (b k : ℕ) → test b ≡ true → test k ≡ false → (b == k) ≡ false
+pub other : (test : ℕ → Bool) (b k : ℕ) → test b ≡ true → test k ≡ false → (b == k) ≡ false
 other test b k h f =
     elim (cases_Bool (b == k)) [
       | inl e ↦ absurd (true≢false (sym h ∙ ap test (eqb-true b k e) ∙ f))
@@ -64,7 +62,7 @@ other test b k h f =
     ]
 
 -- a digit or a letter is plain before any rest
-is_alphanumeric-plain : (mode : Bool) (b : ℕ) → is_alphanumeric b ≡ true → (rest : List ℕ) →
+pub is_alphanumeric-plain : (mode : Bool) (b : ℕ) → is_alphanumeric b ≡ true → (rest : List ℕ) →
     IsToken mode (Plain b) rest
 is_alphanumeric-plain mode b h rest =
     plain_at mode b rest (rw (not_k single_quote refl, not_k double_quote refl, not_k backquote refl, not_k hash refl, not_k dash refl, not_k slash refl, not_k colon refl, not_k question_mark refl) refl)
@@ -72,32 +70,32 @@ is_alphanumeric-plain mode b h rest =
     not_k : (k : ℕ) → is_alphanumeric k ≡ false → (b == k) ≡ false
     not_k k f = other is_alphanumeric b k h f
 
-alphanumeric_portable : (b : ℕ) → is_alphanumeric b ≡ true → (rest : List ℕ) →
+pub alphanumeric_portable : (b : ℕ) → is_alphanumeric b ≡ true → (rest : List ℕ) →
     is_alike_on_all (Plain b) rest ≡ true
 alphanumeric_portable b h rest = rw (other is_alphanumeric b slash h refl, other is_alphanumeric b dash h refl, other is_alphanumeric b bracket h refl, other is_alphanumeric b dollar h refl, other is_alphanumeric b point h refl) refl
 
-alphanumeric_single : (b : ℕ) → is_alphanumeric b ≡ true → (rest : List ℕ) → no_double (Plain b) rest ≡ true
+pub alphanumeric_single : (b : ℕ) → is_alphanumeric b ≡ true → (rest : List ℕ) → no_double (Plain b) rest ≡ true
 alphanumeric_single b h rest = rw (other is_alphanumeric b dash h refl) refl
 
-plain_text : (bytes : List ℕ) → text_of (plain_tokens bytes) ≡ bytes
+pub plain_text : (bytes : List ℕ) → text_of (plain_tokens bytes) ≡ bytes
 plain_text [] = refl
 plain_text (b ∷ bytes) = ap (λ x. b ∷ x) (plain_text bytes)
 
-plain_places : (bytes : List ℕ) → place_count (plain_tokens bytes) ≡ 0
+pub plain_places : (bytes : List ℕ) → place_count (plain_tokens bytes) ≡ 0
 plain_places [] = refl
 plain_places (b ∷ bytes) = plain_places bytes
 
-plain_before : (mode : Bool) (bytes : List ℕ) → list_all is_alphanumeric bytes ≡ true → (rest : List ℕ) →
+pub plain_before : (mode : Bool) (bytes : List ℕ) → list_all is_alphanumeric bytes ≡ true → (rest : List ℕ) →
     AreTokensBefore mode rest (plain_tokens bytes)
 plain_before mode [] h rest = tt
 plain_before mode (b ∷ bytes) h rest = let p = and_parts (is_alphanumeric b) (list_all is_alphanumeric bytes) h in (is_alphanumeric-plain mode b p.0 _, plain_before mode bytes p.1 rest)
 
-plain_settled : (bytes : List ℕ) → list_all is_alphanumeric bytes ≡ true → (rest : List ℕ) →
+pub plain_settled : (bytes : List ℕ) → list_all is_alphanumeric bytes ≡ true → (rest : List ℕ) →
     AreSettledBefore rest (plain_tokens bytes)
 plain_settled [] h rest = tt
 plain_settled (b ∷ bytes) h rest = let p = and_parts (is_alphanumeric b) (list_all is_alphanumeric bytes) h in (alphanumeric_portable b p.0 (text_then rest (plain_tokens bytes)), alphanumeric_single b p.0 (text_then rest (plain_tokens bytes)), plain_settled bytes p.1 rest)
 
-alphanumeric_cut : (mode : Bool) (bytes : List ℕ) → list_all is_alphanumeric bytes ≡ true →
+pub alphanumeric_cut : (mode : Bool) (bytes : List ℕ) → list_all is_alphanumeric bytes ≡ true →
     (ts : List Token) × IsCutBefore mode bytes ts
 alphanumeric_cut mode bytes h = (plain_tokens bytes, record { cut_text = plain_text bytes; cut_tokens = plain_before mode bytes h; cut_settled = plain_settled bytes h; cut_places = plain_places bytes })
 
@@ -107,15 +105,15 @@ digit_alphanumeric b h = rw h refl
 hexadecimal_alphanumeric : (b : ℕ) → is_hexadecimal_digit b ≡ true → is_alphanumeric b ≡ true
 hexadecimal_alphanumeric b h = grind (arith, nat_tests)
 
-digits_alphanumeric : (bytes : List ℕ) → list_all is_ascii_digit bytes ≡ true → list_all is_alphanumeric bytes ≡ true
+pub digits_alphanumeric : (bytes : List ℕ) → list_all is_ascii_digit bytes ≡ true → list_all is_alphanumeric bytes ≡ true
 digits_alphanumeric [] h = refl
 digits_alphanumeric (b ∷ bytes) h = let p = and_parts (is_ascii_digit b) (list_all is_ascii_digit bytes) h in and_from _ _ (digit_alphanumeric b p.0) (digits_alphanumeric bytes p.1)
 
-AreDigits-alphanumeric : (bytes : List ℕ) → AreDigits bytes → list_all is_alphanumeric bytes ≡ true
+pub AreDigits-alphanumeric : (bytes : List ℕ) → AreDigits bytes → list_all is_alphanumeric bytes ≡ true
 AreDigits-alphanumeric [] h = absurd h
 AreDigits-alphanumeric (b ∷ bytes) h = and_from _ _ (digit_alphanumeric b h.0) (digits_alphanumeric bytes h.1)
 
-AreHexadecimalPairs-alphanumeric : (bytes : List ℕ) → AreHexadecimalPairs bytes →
+pub AreHexadecimalPairs-alphanumeric : (bytes : List ℕ) → AreHexadecimalPairs bytes →
     list_all is_alphanumeric bytes ≡ true
 AreHexadecimalPairs-alphanumeric [] h = absurd h
 AreHexadecimalPairs-alphanumeric (a ∷ []) h = absurd h
@@ -123,7 +121,7 @@ AreHexadecimalPairs-alphanumeric (a ∷ b ∷ []) h = and_from _ _ (hexadecimal_
 AreHexadecimalPairs-alphanumeric (a ∷ b ∷ c ∷ bytes) h = and_from _ _ (hexadecimal_alphanumeric a h.0) (and_from _ _ (hexadecimal_alphanumeric b h.1) (AreHexadecimalPairs-alphanumeric (c ∷ bytes) h.2))
 
 -- a dash before a digit is plain
-minus_plain : (mode : Bool) (d : ℕ) (rest : List ℕ) → is_ascii_digit d ≡ true →
+pub minus_plain : (mode : Bool) (d : ℕ) (rest : List ℕ) → is_ascii_digit d ≡ true →
     IsToken mode (Plain dash) (d ∷ rest)
 minus_plain mode d rest h = plain_at mode dash (d ∷ rest) (none_there rest)
   where
@@ -131,14 +129,14 @@ minus_plain mode d rest h = plain_at mode dash (d ∷ rest) (none_there rest)
     none_there [] = refl
     none_there (w ∷ rest) = rw (other is_ascii_digit d dash h refl) refl
 
-minus_portable : (d : ℕ) (rest : List ℕ) → is_ascii_digit d ≡ true → is_alike_on_all (Plain dash) (d ∷ rest) ≡ true
+pub minus_portable : (d : ℕ) (rest : List ℕ) → is_ascii_digit d ≡ true → is_alike_on_all (Plain dash) (d ∷ rest) ≡ true
 minus_portable d rest h = rw (no_line rest) refl
   where
     no_line : (rest : List ℕ) → may_open_line (d ∷ rest) ≡ false
     no_line [] = refl
     no_line (w ∷ rest) = rw (other is_ascii_digit d dash h refl) refl
 
-minus_single : (d : ℕ) (rest : List ℕ) → is_ascii_digit d ≡ true → no_double (Plain dash) (d ∷ rest) ≡ true
+pub minus_single : (d : ℕ) (rest : List ℕ) → is_ascii_digit d ≡ true → no_double (Plain dash) (d ∷ rest) ≡ true
 minus_single d rest h = rw (other is_ascii_digit d dash h refl) refl
 
 minus_cut : (mode : Bool) (digits : List ℕ) → AreDigits digits →
@@ -158,7 +156,7 @@ string_before : (mode : Bool) (body rest : List ℕ) → AreUnits mode single_qu
     IsToken mode (QuotedString single_quote (body ++ single_quote ∷ [])) rest
 string_before mode body rest u = (refl, closed_tail body u refl)
 
-string_cut : (mode : Bool) {string : List ℕ} → IsClosedString mode string →
+pub string_cut : (mode : Bool) {string : List ℕ} → IsClosedString mode string →
     (ts : List Token) × IsCutBefore mode string ts
 string_cut mode (closed_string body u) = (
   QuotedString single_quote (body ++ single_quote ∷ []) ∷ [],
@@ -171,7 +169,7 @@ string_cut mode (closed_string body u) = (
 )
 
 -- tokens of one text and then of another
-cut_both : (mode : Bool) (text more : List ℕ) (ts us : List Token) → IsCutBefore mode text ts →
+pub cut_both : (mode : Bool) (text more : List ℕ) (ts us : List Token) → IsCutBefore mode text ts →
     IsCutBefore mode more us → IsCutBefore mode (text ++ more) (ts ++ us)
 cut_both mode text more ts us h k = record {
   cut_text = text_of-append ts us ∙ (ap (λ x. x ++ text_of us) h.cut_text ∙ ap (λ x. text ++ x) k.cut_text);
@@ -203,70 +201,42 @@ IsLiteral-cut mode (quoted_literal literal h) = quoted_cut mode literal h
 
 -- ---- its first bytes
 
--- a byte with which a literal other than a negative one begins
-abbrev first_byte : ℕ → Bool
-first_byte b = is_ascii_digit b || (b == single_quote || b == byte "N")
+-- a byte that opens nothing, whatever stands before it
+first_byte : (b : ℕ) (bs : List ℕ) (before : ℕ) → joins_nothing b ≡ true → is_start_byte b ≡ false →
+    opens_nothing_after before (b ∷ bs) ≡ true
+first_byte b bs before j n = rw (j, n) refl
 
--- such a byte, or a dash and a digit
-abbrev pub begins_literal : List ℕ → Bool
-begins_literal [] = false
-begins_literal (b ∷ bs) = first_byte b || (b == dash && begins is_ascii_digit bs)
+digit_first : (d : ℕ) (bs : List ℕ) (before : ℕ) → is_ascii_digit d ≡ true → opens_nothing_after before (d ∷ bs) ≡ true
+digit_first d bs before h = first_byte d bs before (grind (arith, nat_tests)) (grind (arith, nat_tests))
 
-digits_begin : (digits rest : List ℕ) → AreDigits digits → begins_literal (digits ++ rest) ≡ true
-digits_begin [] rest h = absurd h
-digits_begin (d ∷ digits) rest h = rw h.0 refl
+pub digits_open_nothing : (digits : List ℕ) → AreDigits digits → (before : ℕ) (rest : List ℕ) →
+    opens_nothing_after before (digits ++ rest) ≡ true
+digits_open_nothing [] h before rest = absurd h
+digits_open_nothing (d ∷ digits) h before rest = digit_first d (digits ++ rest) before h.0
 
-minus_begins : (digits rest : List ℕ) → AreDigits digits → begins_literal (dash ∷ (digits ++ rest)) ≡ true
-minus_begins [] rest h = absurd h
-minus_begins (d ∷ digits) rest h = rw h.0 refl
+pub minus_opens_nothing : (digits : List ℕ) → AreDigits digits → (before : ℕ) (rest : List ℕ) →
+    opens_nothing_after before (dash ∷ (digits ++ rest)) ≡ true
+minus_opens_nothing [] h before rest = absurd h
+minus_opens_nothing (d ∷ digits) h before rest = rw h.0 refl
 
-string_begins : {mode : Bool} {string : List ℕ} → IsClosedString mode string → (rest : List ℕ) →
-    begins_literal (string ++ rest) ≡ true
-string_begins (closed_string body u) rest = refl
+string_opens_nothing : {mode : Bool} {string : List ℕ} → IsClosedString mode string → (before : ℕ) (rest : List ℕ) →
+    opens_nothing_after before (string ++ rest) ≡ true
+string_opens_nothing (closed_string body u) before rest = refl
 
-strings_begin : {mode : Bool} {literal : List ℕ} → AreClosedStrings mode literal → (rest : List ℕ) →
-    begins_literal (literal ++ rest) ≡ true
-strings_begin (one_string string h) rest = string_begins h rest
-strings_begin (more_strings string more h hs) rest = rw (append_assoc string more rest) (string_begins h (more ++ rest))
+strings_open_nothing : {mode : Bool} {literal : List ℕ} → AreClosedStrings mode literal → (before : ℕ) (rest : List ℕ) →
+    opens_nothing_after before (literal ++ rest) ≡ true
+strings_open_nothing (one_string string h) before rest = string_opens_nothing h before rest
+strings_open_nothing (more_strings string more h hs) before rest = rw (append_assoc string more rest) (string_opens_nothing h before (more ++ rest))
 
-quoted_begins : (mode : Bool) (literal : List ℕ) → IsQuoted mode literal → (rest : List ℕ) →
-    begins_literal (literal ++ rest) ≡ true
-quoted_begins false literal h rest = string_begins h rest
-quoted_begins true literal h rest = strings_begin h rest
+quoted_opens_nothing : (mode : Bool) (literal : List ℕ) → IsQuoted mode literal → (before : ℕ) (rest : List ℕ) →
+    opens_nothing_after before (literal ++ rest) ≡ true
+quoted_opens_nothing false literal h before rest = string_opens_nothing h before rest
+quoted_opens_nothing true literal h before rest = strings_open_nothing h before rest
 
-pub IsLiteral-begins : (mode : Bool) {literal : List ℕ} → IsLiteral mode literal → (rest : List ℕ) →
-    begins_literal (literal ++ rest) ≡ true
-IsLiteral-begins mode null_literal rest = refl
-IsLiteral-begins mode (natural_literal digits h) rest = digits_begin digits rest h
-IsLiteral-begins mode (negative_literal digits h) rest = minus_begins digits rest h
-IsLiteral-begins mode (hexadecimal_literal pairs h) rest = refl
-IsLiteral-begins mode (quoted_literal literal h) rest = quoted_begins mode literal h rest
-
-first_opens_nothing : (b : ℕ) (rest : List ℕ) → first_byte b ≡ true → OpensNothing (b ∷ rest)
-first_opens_nothing b rest h =
-    record {
-      no_line = no_line rest;
-      no_gap = grind (arith, nat_tests);
-      no_block = rw (other first_byte b asterisk h refl) refl;
-      no_start = grind (arith, nat_tests);
-    }
-  where
-    no_line : (rest : List ℕ) → opens_dash_comment (b ∷ rest) ≡ false
-    no_line [] = refl
-    no_line (w ∷ rest) = rw (other first_byte b dash h refl) refl
-
-minus_opens_nothing : (rest : List ℕ) → begins is_ascii_digit rest ≡ true → OpensNothing (dash ∷ rest)
-minus_opens_nothing [] h = absurd (true≢false (sym h))
-minus_opens_nothing (d ∷ rest) h =
-    record { no_line = (first_opens_nothing d rest (rw h refl)).no_gap; no_gap = refl; no_block = refl; no_start = refl }
-
--- they open nothing with the byte before them
-pub begins_literal-opens_nothing : (text : List ℕ) → begins_literal text ≡ true → OpensNothing text
-begins_literal-opens_nothing [] h = absurd (true≢false (sym h))
-begins_literal-opens_nothing (b ∷ bs) h =
-    elim (or_cases (first_byte b) (b == dash && begins is_ascii_digit bs) h) [
-      | inl f ↦ first_opens_nothing b bs f
-      | inr m ↦
-          let p = and_parts (b == dash) (begins is_ascii_digit bs) m in
-          subst (λ x. OpensNothing (x ∷ bs)) (sym (eqb-true b dash p.0)) (minus_opens_nothing bs p.1)
-    ]
+pub IsLiteral-opens_nothing : (mode : Bool) {literal : List ℕ} → IsLiteral mode literal → (before : ℕ) (rest : List ℕ) →
+    opens_nothing_after before (literal ++ rest) ≡ true
+IsLiteral-opens_nothing mode null_literal before rest = refl
+IsLiteral-opens_nothing mode (natural_literal digits h) before rest = digits_open_nothing digits h before rest
+IsLiteral-opens_nothing mode (negative_literal digits h) before rest = minus_opens_nothing digits h before rest
+IsLiteral-opens_nothing mode (hexadecimal_literal pairs h) before rest = refl
+IsLiteral-opens_nothing mode (quoted_literal literal h) before rest = quoted_opens_nothing mode literal h before rest

@@ -1,14 +1,14 @@
--- What is quiet in a text stays so up to a place, where a literal follows instead.
+-- What is quiet in a text stays so up to a place, where another text follows instead.
 use Rattle.std.specs.Prelude.{Bool}
 use Rattle.std.proofs.Common.{◌≡◌, ℕ, true, false, not, ◌==◌, ◌&&◌, ◌||◌, List, [], ◌∷◌, ◌++◌, refl, sym, ◌∙◌, subst, inl, inr, true≢false}
 use Rattle.std.proofs.lemmas.Bool.{and_parts, or_parts, or_cases, or_from, or_right, not-true, eqb-true}
 use Rattle.mysql_named_params.specs.Bytes.{asterisk, backquote, dash, hash, slash, is_string_quote, begins, IsUpTo, up_to_word, up_to_end}
-use Rattle.mysql_named_params.specs.Tokens.{Token, QuotedString, QuotedIdentifier, HashComment, DashComment, BlockComment, Name, Mark, Plain}
+use Rattle.mysql_named_params.specs.Tokens.{Token, bytes_of, QuotedString, QuotedIdentifier, HashComment, DashComment, BlockComment, Name, Mark, Plain}
 use Rattle.mysql_named_params.specs.Server.{begins_special, begins_place, begins_own}
 use Rattle.mysql_named_params.specs.Portable.{differs_at, may_open_line, is_read_alike}
 use Rattle.mysql_named_params.specs.Quiet.{is_loud, closes, is_quiet, IsQuietComment, begins_quiet}
 use Rattle.mysql_named_params.proofs.PortableLemmas.{second_false, false_if, is_alike_on_all}
-use Rattle.mysql_binding.proofs.UpToLiteralLemmas.{SameUpToLiteral, at_end, same, same-append, at_place, portable_move, plain_move, star_move}
+use Rattle.mysql_binding.proofs.UpToSpliceLemmas.{SameUpToSplice, at_end, same, same-append, at_place, last_byte, portable_move, plain_move, star_move, same-end}
 
 -- ---- a byte that is not loud stays one
 
@@ -17,7 +17,7 @@ line_closed [] h = refl
 line_closed (b ∷ []) h = refl
 line_closed (b ∷ gap ∷ bs) h = rw h refl
 
-loud_move : (b c : ℕ) {x y : List ℕ} → SameUpToLiteral (c ∷ x) (c ∷ y) → is_loud b (c ∷ x) ≡ false →
+loud_move : (b c : ℕ) {x y : List ℕ} → SameUpToSplice b (c ∷ x) (c ∷ y) → is_loud b (c ∷ x) ≡ false →
     is_loud b (c ∷ y) ≡ false
 loud_move b c {x = x} {y = y} a h =
     let p1 = or_parts (is_string_quote b) _ h in
@@ -49,7 +49,7 @@ no_place_quiet b x p q =
 no_place_slash : (b : ℕ) (x : List ℕ) → begins_place (b ∷ x) ≡ true → b ≡ slash → ⊥
 no_place_slash b x p e = true≢false (sym (subst (λ u. begins_place (u ∷ x) ≡ true) e p))
 
-closes_move : (b c : ℕ) {x y : List ℕ} → SameUpToLiteral x y → closes b (c ∷ x) ≡ true → closes b (c ∷ y) ≡ true
+closes_move : (b c : ℕ) {x y : List ℕ} → SameUpToSplice c x y → closes b (c ∷ x) ≡ true → closes b (c ∷ y) ≡ true
 closes_move b c {x = x} {y = y} a h =
     let p = and_parts (b == asterisk) _ h in
     let q = and_parts (c == slash) _ p.1 in
@@ -68,7 +68,7 @@ by_close p q r e f = rw (e, f) refl
 by_rest : (p q r : Bool) → p ≡ false → r ≡ true → (not p && (q || r)) ≡ true
 by_rest p q r e f = rw (e, f) (or_right q true refl)
 
-pub quiet_move : {x y : List ℕ} → SameUpToLiteral x y → is_quiet x ≡ true → is_quiet y ≡ true
+pub quiet_move : {before : ℕ} {x y : List ℕ} → SameUpToSplice before x y → is_quiet x ≡ true → is_quiet y ≡ true
 quiet_move at_end h = h
 quiet_move (at_place {b = b} {x = x} p l) h = absurd (no_place_quiet b x p h)
 quiet_move (same {b = b} at_end) h = h
@@ -83,12 +83,12 @@ quiet_move (same {b = b} (same {b = c} {x = x} {y = y} a)) h =
     let loud : is_loud b (c ∷ y) ≡ false = loud_move b c (same {b = c} a) (not-true _ q.0) in
     elim (or_cases (closes b (c ∷ x)) (is_quiet (c ∷ x)) q.1) [
       | inl k ↦ by_close (is_loud b (c ∷ y)) (closes b (c ∷ y)) (is_quiet (c ∷ y)) loud (closes_move b c a k)
-      | inr k ↦ by_rest (is_loud b (c ∷ y)) (closes b (c ∷ y)) (is_quiet (c ∷ y)) loud (quiet_move (same {b = c} a) k)
+      | inr k ↦ by_rest (is_loud b (c ∷ y)) (closes b (c ∷ y)) (is_quiet (c ∷ y)) loud (quiet_move (same {before = b} {b = c} a) k)
     ]
 
 -- ---- a token that passes its test does so in the bound text
 
-special_first : {x y : List ℕ} → SameUpToLiteral x y → is_quiet x ≡ true → begins_special x ≡ true → begins_special y ≡ true
+special_first : {before : ℕ} {x y : List ℕ} → SameUpToSplice before x y → is_quiet x ≡ true → begins_special x ≡ true → begins_special y ≡ true
 special_first at_end q h = h
 special_first (at_place {b = b} {x = x} p l) q h = absurd (no_place_quiet b x p q)
 special_first (same at_end) q h = h
@@ -100,7 +100,7 @@ special_first (same {b = b} (at_place {b = c} {x = x} p l)) q h =
       | inr m ↦ absurd (no_place_quiet c x p m)
     ]
 
-begins_quiet_move : {x y : List ℕ} → SameUpToLiteral x y → begins_quiet x ≡ true → begins_quiet y ≡ true
+begins_quiet_move : {before : ℕ} {x y : List ℕ} → SameUpToSplice before x y → begins_quiet x ≡ true → begins_quiet y ≡ true
 begins_quiet_move at_end h = h
 begins_quiet_move (at_place {b = b} {x = x} p l) h =
     let e = eqb-true b asterisk (and_parts (b == asterisk) _ h).0 in
@@ -110,21 +110,21 @@ begins_quiet_move (same {b = b} {x = x} {y = y} a) h =
     let q = and_parts (begins_special x) _ p.1 in
     rw (p.0, special_first a q.1 q.0, quiet_move a q.1) refl
 
-pub quietly_move : (t : Token) {x y : List ℕ} → SameUpToLiteral x y → is_read_alike t x ≡ true → is_read_alike t y ≡ true
-quietly_move (QuotedString quote tail) a p = p
-quietly_move (QuotedIdentifier tail) a p = p
-quietly_move (HashComment tail) a p = p
-quietly_move (DashComment gap tail) a p = p
-quietly_move (BlockComment tail) {x = x} {y = y} a p =
+pub quietly_move : (before : ℕ) (t : Token) {x y : List ℕ} → SameUpToSplice (last_byte before (bytes_of t)) x y → is_read_alike t x ≡ true → is_read_alike t y ≡ true
+quietly_move before (QuotedString quote tail) a p = p
+quietly_move before (QuotedIdentifier tail) a p = p
+quietly_move before (HashComment tail) a p = p
+quietly_move before (DashComment gap tail) a p = p
+quietly_move before (BlockComment tail) {x = x} {y = y} a p =
     elim (or_cases (not (begins_special tail)) (is_quiet (tail ++ x)) p) [
       | inl e ↦ rw e refl
-      | inr e ↦ rw (quiet_move (same-append tail a) e) (or_right (not (begins_special tail)) true refl)
+      | inr e ↦ rw (quiet_move (same-append asterisk tail a) e) (or_right (not (begins_special tail)) true refl)
     ]
-quietly_move (Name name) a p = p
-quietly_move Mark a p = p
-quietly_move (Plain b) {x = x} {y = y} a p =
+quietly_move before (Name name) a p = p
+quietly_move before Mark a p = p
+quietly_move before (Plain b) {x = x} {y = y} a p =
     elim (or_cases (is_alike_on_all (Plain b) x) (b == slash && begins_quiet x) p) [
-      | inl e ↦ by_first (is_alike_on_all (Plain b) y) (b == slash && begins_quiet y) (portable_move (Plain b) a e)
+      | inl e ↦ by_first (is_alike_on_all (Plain b) y) (b == slash && begins_quiet y) (portable_move before (Plain b) a e)
       | inr e ↦
           let k = and_parts (b == slash) (begins_quiet x) e in
           or_right (is_alike_on_all (Plain b) y) (b == slash && begins_quiet y) (both (b == slash) (begins_quiet y) k.0 (begins_quiet_move a k.1))
@@ -132,19 +132,15 @@ quietly_move (Plain b) {x = x} {y = y} a p =
 
 -- ---- a quiet comment stays one
 
-nil_stays : {x y : List ℕ} → SameUpToLiteral x y → x ≡ [] → y ≡ []
-nil_stays at_end e = refl
-nil_stays (same a) e = cc
-nil_stays (at_place p l) e = cc
-
-end_stays : (tail : List ℕ) {x y : List ℕ} → SameUpToLiteral x y → IsUpTo (asterisk ∷ slash ∷ []) tail x →
+end_stays : (tail : List ℕ) {before : ℕ} {x y : List ℕ} → SameUpToSplice before x y → IsUpTo (asterisk ∷ slash ∷ []) tail x →
     IsUpTo (asterisk ∷ slash ∷ []) tail y
 end_stays tail a (up_to_word body e ends) = up_to_word body e ends
-end_stays tail a (up_to_end lacks e) = up_to_end lacks (nil_stays a e)
+end_stays tail a (up_to_end lacks e) = up_to_end lacks (same-end a e)
 
-pub quiet_stays : (tail : List ℕ) {x y : List ℕ} → SameUpToLiteral x y → IsQuietComment tail x → IsQuietComment tail y
-quiet_stays tail a q = record {
-  special = special_first (same-append tail a) q.quiet q.special;
+pub quiet_stays : (before : ℕ) (tail : List ℕ) {x y : List ℕ} → SameUpToSplice (last_byte before tail) x y →
+    IsQuietComment tail x → IsQuietComment tail y
+quiet_stays before tail a q = record {
+  special = special_first (same-append before tail a) q.quiet q.special;
   ends = end_stays tail a q.ends;
-  quiet = quiet_move (same-append tail a) q.quiet;
+  quiet = quiet_move (same-append before tail a) q.quiet;
 }
