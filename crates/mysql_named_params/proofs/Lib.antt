@@ -27,3 +27,5 @@ pub mod SharpLemmas
 pub mod FrontLemmas
 pub mod UnportableLemmas
 pub mod PlaceTextLemmas
+pub mod OtherModeLemmas
+pub mod SteadyLemmas

@@ -16,3 +16,5 @@ pub mod Quiet
 pub mod Portable
 pub mod FirstUnportable
 pub mod FrontConstruct
+pub mod Steady
+pub mod CharacterSet

@@ -10,6 +10,8 @@ ghost use Rattle.mysql_named_params.specs.Positions.{positions, HavePlacesAt, As
 ghost use Rattle.mysql_named_params.specs.Portable.{AreReadAlike, IsReadAs};
 ghost use Rattle.mysql_named_params.specs.Server.{Server, IsReadOn, grammar};
 ghost use Rattle.mysql_named_params.specs.Quiet.{IsHonest};
+ghost use Rattle.mysql_named_params.specs.Steady.{HoldNoEscapes, IsSteady};
+ghost use Rattle.mysql_named_params.specs.CharacterSet.{CharacterSet, seen};
 
 use crate::named_params::{MixedParamsError, NamedParamsError, ParsedNamedParams};
 use crate::portable::Unportable;
@@ -32,6 +34,25 @@ pub fn tokens_exist()
 pub fn locality()
     ensures local { (mode : Bool) (t : Token) (rest other : List ℕ) →
         LooksAlike mode t rest other → IsToken mode t rest → IsToken mode t other }
+{}
+
+/// If no backslash stands in a string of the tokens, they are the text's tokens in both modes, in
+/// the grammar and on every server.
+pub fn modes_agree()
+    ensures tokens { (mode other : Bool) (text : List ℕ) (ts : List Token) → HoldNoEscapes ts →
+        IsTokens mode text ts → IsTokens other text ts }
+    ensures servers { (server : Server) (mode other : Bool) (text : List ℕ) (ts : List Token) →
+        HoldNoEscapes ts → IsReadOn server mode text ts → IsReadOn server other text ts }
+{}
+
+/// A steady text, which is ASCII without a backslash, has the same tokens in both modes, in the
+/// grammar and on every server, and every character set shows it as it is.
+pub fn steady_texts()
+    ensures tokens { (mode other : Bool) (text : List ℕ) (ts : List Token) → IsSteady text →
+        IsTokens mode text ts → IsTokens other text ts }
+    ensures servers { (server : Server) (mode other : Bool) (text : List ℕ) (ts : List Token) →
+        IsSteady text → IsReadOn server mode text ts → IsReadOn server other text ts }
+    ensures seen { (set : CharacterSet) (text : List ℕ) → IsSteady text → seen set text ≡ text }
 {}
 
 /// The positions are those of the names and marks: as many, one after another, and at each the

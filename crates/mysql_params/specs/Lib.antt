@@ -11,6 +11,8 @@ pub use Rattle.mysql_named_params.specs.Server
 pub use Rattle.mysql_named_params.specs.Quiet
 pub use Rattle.mysql_named_params.specs.Portable
 pub use Rattle.mysql_named_params.specs.FirstUnportable
+pub use Rattle.mysql_named_params.specs.Steady
+pub use Rattle.mysql_named_params.specs.CharacterSet
 pub use Rattle.mysql_params_core.specs.Given
 pub use Rattle.mysql_params_core.specs.Answer
 pub use Rattle.mysql_params_core.specs.Names

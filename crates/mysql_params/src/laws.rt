@@ -7,10 +7,10 @@ pub use mysql_binding::laws::{
     position_of_first_not_alone,
 };
 pub use mysql_named_params::laws::{
-    grammar_is_a_server, locality, mixed_error_equality, named_params_error_equality,
+    grammar_is_a_server, locality, mixed_error_equality, modes_agree, named_params_error_equality,
     nameless_is_unchanged, one_list_on_a_server, one_token_list, parsed_equality,
     portable_is_sharp, portable_reading, positions_of_places, renaming_undone, same_places,
-    tokens_exist, unportable_equality,
+    steady_texts, tokens_exist, unportable_equality,
 };
 pub use mysql_params_core::laws::{
     into_positional_error_equality, lookups_agree, missing_named_parameter_error_equality,

@@ -4,7 +4,8 @@
 //! identifiers and comments; [`params`] are what is given to them, and [`bind_text`] puts the
 //! literals of the values in their places; [`bind_text_in`] does so in either mode of backslashes.
 //! [`first_unportable`] finds what servers read in different ways or with which a value would join
-//! a number, before a query is bound. Where the query is a constant, [`fixed_query`] binds it,
+//! a number, before a query is bound; [`first_unsteady`] the first byte that a mode or a character
+//! set may read otherwise. Where the query is a constant, [`fixed_query`] binds it,
 //! refused for nothing but memory. [`run`] is the program, with its commands `names` and `bind`,
 //! for any reader and writer, and [`words_of`] has its words.
 #![tactic(auto)]
@@ -16,4 +17,5 @@ pub mod params;
 
 pub use mysql_binding::{BindError, bind_text, bind_text_in};
 pub use mysql_named_params::portable::{Construct, Unportable, first_unportable};
+pub use mysql_named_params::steady::first_unsteady;
 pub use mysql_program::{RunError, run, words_of};

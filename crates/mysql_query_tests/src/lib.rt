@@ -13,3 +13,5 @@ mod queries;
 mod shared;
 #[cfg(test)]
 mod spellings;
+#[cfg(test)]
+mod steady;
