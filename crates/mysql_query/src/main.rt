@@ -4,11 +4,13 @@
 use mysql_params::{RunError, run, words_of};
 use std::process::ExitCode;
 
+// Answers the arguments and standard input on standard output, or refuses.
 fn answer(rt: &HostRuntime) -> Result<(), RunError> {
     let words = words_of(rt.alloc(), rt)?;
     run(rt.alloc(), &words, &mut rt.stdin(), &mut rt.stdout())
 }
 
+// Ends with the status 0, or with that of a refusal, whose message it prints.
 fn main(rt: HostRuntime) -> ExitCode {
     match answer(&rt) {
         Ok(()) => ExitCode::SUCCESS,
