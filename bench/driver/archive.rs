@@ -42,7 +42,7 @@ const UNWRITTEN: Report = Report {
 
 /// The number and the report of a call, which has to write each field.
 #[inline(always)]
-fn number_and_report(call: impl FnOnce(*mut Report) -> i32) -> (i32, Report) {
+pub fn number_and_report(call: impl FnOnce(*mut Report) -> i32) -> (i32, Report) {
     let mut report = UNWRITTEN;
     let number = call(&mut report);
     (number, report)
@@ -100,4 +100,20 @@ pub fn first_unportable(query: &[u8], no_backslash_escape: bool) -> (i32, Report
     number_and_report(|report| unsafe {
         mysql_params_first_unportable(query_at, query.len(), no_backslash_escape, report)
     })
+}
+
+/// `bind` by a template that is made for this call alone.
+#[cfg(templates)]
+pub fn bind_by_template(query: &[u8], form: &[u8], room: &mut [u8]) -> (i32, Report) {
+    crate::archive_template::Template::new(query, false).bind(form, room)
+}
+
+/// The same in the mode without backslash escapes.
+#[cfg(templates)]
+pub fn bind_by_template_without_backslashes(
+    query: &[u8],
+    form: &[u8],
+    room: &mut [u8],
+) -> (i32, Report) {
+    crate::archive_template::Template::new(query, true).bind(form, room)
 }

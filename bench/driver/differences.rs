@@ -35,21 +35,44 @@ pub struct Differences {
     answers: [u64; NUMBERS.len()],
     differences: u64,
     smallest: Option<Call>,
-    rooms: [Vec<u8>; 3],
+    rooms: [Vec<u8>; BINDS.len()],
 }
 
 /// The archive, plain Rust by a table, and plain Rust by 16 bytes.
 const NAMES: [Names; 3] = [archive::names, TABLE.names, WIDE.names];
-const BINDS: [BindForm; 3] = [archive::bind, TABLE.bind_form, WIDE.bind_form];
+/// The same sides, and then those that bind by a template.
+const BINDS: [BindForm; SIDES.len()] = [
+    archive::bind,
+    TABLE.bind_form,
+    WIDE.bind_form,
+    by_template,
+    #[cfg(templates)]
+    archive::bind_by_template,
+];
 /// The same without backslash escapes.
 const NAMES_WITHOUT: [Names; 3] =
     [archive::names_without_backslashes, other_mode::names::<Table>, other_mode::names::<Wide>];
-const BINDS_WITHOUT: [BindForm; 3] = [
+const BINDS_WITHOUT: [BindForm; SIDES.len()] = [
     archive::bind_without_backslashes,
     other_mode::bind_form::<Table>,
     other_mode::bind_form::<Wide>,
+    other_mode::bind_form_by_template,
+    #[cfg(templates)]
+    archive::bind_by_template_without_backslashes,
 ];
-const SIDES: [&str; 3] = ["archive", "plain Rust by a table", "plain Rust by 16 bytes"];
+const SIDES: &[&str] = &[
+    "archive",
+    "plain Rust by a table",
+    "plain Rust by 16 bytes",
+    "plain Rust by a table, by a template",
+    #[cfg(templates)]
+    "archive, by a template",
+];
+
+/// Plain Rust by a template that is made for this call alone.
+fn by_template(query: &[u8], form: &[u8], room: &mut [u8]) -> (i32, Report) {
+    (TABLE.bind_template_form)(&(TABLE.template)(query), form, room)
+}
 
 impl Differences {
     /// Compares a call of `names`; gives what plain Rust answered.
@@ -79,29 +102,32 @@ impl Differences {
         query: &[u8],
         form: Option<&[u8]>,
         room: usize,
-    ) -> [(i32, Report); 3] {
+    ) -> Vec<(i32, Report)> {
         let (names, binds) = match mode {
             Mode::WithBackslashes => (&NAMES, &BINDS),
             Mode::WithoutBackslashes => (&NAMES_WITHOUT, &BINDS_WITHOUT),
         };
-        std::array::from_fn(|side| {
-            let lent = &mut self.rooms[side];
+        let sides = if form.is_some() { binds.len() } else { names.len() };
+        let rooms = self.rooms[..sides].iter_mut().enumerate();
+        let answer = |(side, lent): (usize, &mut Vec<u8>)| {
             lent.clear();
             lent.resize(room + MARGIN, UNWRITTEN);
             match form {
                 None => names[side](query, &mut lent[..room]),
                 Some(form) => binds[side](query, form, &mut lent[..room]),
             }
-        })
+        };
+        rooms.map(answer).collect()
     }
 
-    fn differ(&self, answers: &[(i32, Report); 3]) -> bool {
-        (0..3).any(|side| answers[side] != answers[1] || self.rooms[side] != self.rooms[1])
+    fn differ(&self, answers: &[(i32, Report)]) -> bool {
+        (0..answers.len())
+            .any(|side| answers[side] != answers[1] || self.rooms[side] != self.rooms[1])
     }
 
     fn count(
         &mut self,
-        answers: &[(i32, Report); 3],
+        answers: &[(i32, Report)],
         mode: Mode,
         query: &[u8],
         form: Option<&[u8]>,

@@ -3,6 +3,7 @@
 use crate::random::Random;
 use plain::form;
 use plain::value::{Params, Value};
+use std::borrow::Cow;
 use std::collections::HashMap;
 
 const MEGABYTE: usize = 1 << 20;
@@ -13,7 +14,12 @@ const TEN_NAMES: &[u8] =
 
 /// As many whole pieces as a megabyte holds.
 fn rows(piece: &[u8]) -> Vec<u8> {
-    piece.repeat(MEGABYTE / piece.len())
+    rows_of(MEGABYTE, piece)
+}
+
+/// As many whole pieces as so many bytes hold.
+fn rows_of(len: usize, piece: &[u8]) -> Vec<u8> {
+    piece.repeat(len / piece.len())
 }
 
 /// The text, a megabyte of pieces, and the end.
@@ -54,7 +60,7 @@ pub fn queries() -> Vec<(&'static str, Vec<u8>)> {
 
 /// What a caller has: a name, empty by position, and a number or a text.
 pub struct Given {
-    name: &'static [u8],
+    name: Cow<'static, [u8]>,
     thing: Thing,
 }
 
@@ -71,11 +77,11 @@ pub struct Binding {
 }
 
 fn number(name: &'static [u8], number: i64) -> Given {
-    Given { name, thing: Thing::Number(number) }
+    Given { name: Cow::Borrowed(name), thing: Thing::Number(number) }
 }
 
 fn text(name: &'static [u8], text: &[u8]) -> Given {
-    Given { name, thing: Thing::Text(text.to_vec()) }
+    Given { name: Cow::Borrowed(name), thing: Thing::Text(text.to_vec()) }
 }
 
 pub fn bindings() -> Vec<Binding> {
@@ -83,11 +89,6 @@ pub fn bindings() -> Vec<Binding> {
     let thousand =
         (0..1000).map(|at| if at % 2 == 0 { number(b"", 5) } else { text(b"", b"v'123") });
     let quotes: Vec<u8> = b"aaaaaaaaaaaaaaaaaaa'".iter().copied().cycle().take(MEGABYTE).collect();
-    let insert = around(
-        b"INSERT INTO t VALUES ",
-        b"(12345, 'some text here', 3.25, NULL), ",
-        b"(?, '', 0, NULL)",
-    );
     let names: [&[u8]; 10] =
         [b"p_a", b"p_b", b"p_c", b"p_d", b"p_e", b"p_f", b"p_g", b"p_h", b"p_i", b"p_j"];
     let ten = names.iter().enumerate().map(|(at, name)| number(name, 1000 * at as i64));
@@ -98,15 +99,71 @@ pub fn bindings() -> Vec<Binding> {
             query: b"SELECT ?".to_vec(),
             given: vec![text(b"", &quotes)],
         },
-        Binding { name: "query of 1 MiB, one mark", query: insert, given: vec![text(b"", b"5")] },
+        Binding { name: "query of 1 MiB, one mark", ..insert_with_one_mark(MEGABYTE) },
         Binding { name: "short query, ten names", query: TEN_NAMES.to_vec(), given: ten.collect() },
         rows_binding(),
     ]
 }
 
+/// An insert of about so many bytes, with a mark in its last row.
+pub fn insert_with_one_mark(len: usize) -> Binding {
+    let rows = rows_of(len, b"(12345, 'some text here', 3.25, NULL), ");
+    let query = [b"INSERT INTO t VALUES ".as_slice(), &rows, b"(?, '', 0, NULL)"].concat();
+    Binding { name: "insert with one mark", query, given: vec![text(b"", b"5")] }
+}
+
 /// The binding whose memory is measured.
 pub fn rows_binding() -> Binding {
-    Binding { query: rows(ROW_OF_NAMES), ..one_row_binding() }
+    rows_of_names(MEGABYTE)
+}
+
+/// The query whose names take most memory.
+pub fn all_names() -> Binding {
+    Binding { query: rows_of(8 * MEGABYTE, b":a "), ..one_row_binding() }
+}
+
+/// Rows of names, of at most so many bytes.
+pub fn rows_of_names(len: usize) -> Binding {
+    Binding { query: rows_of(len, ROW_OF_NAMES), ..one_row_binding() }
+}
+
+/// One name, and so many parameters, of which that name is the first.
+pub fn many_names(count: usize) -> Binding {
+    named_by(count, |at| format!("name{at:012}").into_bytes())
+}
+
+/// The same, with names that lie close together in a hash map whose seed is fixed, as anyone can
+/// find them: among the names of hexadecimal digits those whose hash ends in a small number.
+pub fn colliding_names(count: usize) -> Binding {
+    let names: Vec<Vec<u8>> = (0u64..)
+        .map(|at| format!("c{at:x}").into_bytes())
+        .filter(|name| hash(name) & 0x3FFF < 64)
+        .take(count)
+        .collect();
+    named_by(count, |at| names[at].clone())
+}
+
+/// The hash by which the map of the archive's standard library finds a name.
+fn hash(name: &[u8]) -> u32 {
+    const SEED: u64 = 0x243f_6a88_85a3_08d3;
+    const MULTIPLIER: u64 = 0x9e37_79b9_7f4a_7c15;
+    let fold = |state: u64, word: u64, len: u64| {
+        let product = u128::from(state ^ word) * u128::from(MULTIPLIER ^ (2 * len));
+        product as u64 ^ (product >> 64) as u64
+    };
+    let start = fold(SEED, name.len() as u64, 8);
+    let whole = name.iter().fold(start, |state, byte| fold(state, 0x01_0101 * u64::from(*byte), 1));
+    (whole ^ (whole >> 32)) as u32
+}
+
+fn named_by(count: usize, name: impl Fn(usize) -> Vec<u8>) -> Binding {
+    let others =
+        (1..count).map(|at| Given { name: Cow::Owned(name(at)), thing: Thing::Number(at as i64) });
+    Binding {
+        name: "many names",
+        query: b"SELECT :one".to_vec(),
+        given: std::iter::once(number(b"one", 1)).chain(others).collect(),
+    }
 }
 
 pub fn one_row_binding() -> Binding {
@@ -143,11 +200,11 @@ pub fn form_of(given: &[Given]) -> Vec<u8> {
     for given in given {
         match &given.thing {
             Thing::Number(number) => {
-                form::append_head(&mut form, given.name, form::LONGLONG, false);
+                form::append_head(&mut form, &given.name, form::LONGLONG, false);
                 form.extend_from_slice(&number.to_le_bytes());
             }
             Thing::Text(text) => {
-                form::append_head(&mut form, given.name, form::BLOB, false);
+                form::append_head(&mut form, &given.name, form::BLOB, false);
                 form::append_string(&mut form, text);
             }
         }

@@ -1,9 +1,12 @@
 //! The bench: times the archive against plain Rust, and compares their answers.
 
 mod archive;
+#[cfg(templates)]
+mod archive_template;
 mod bindings;
 mod compare;
 mod differences;
+mod growth;
 mod inputs;
 mod memory;
 mod other_mode;
@@ -14,7 +17,7 @@ mod sides;
 mod time;
 
 use crate::report::Report;
-use crate::time::best_times;
+use crate::time::{Input, best_times};
 use std::process::ExitCode;
 
 const USAGE: &str = "\
@@ -22,7 +25,8 @@ time                    prints the ratios
 time FILE DATE KIT      also writes them into the file
 compare LONGEST COUNT   compares on all queries of up to LONGEST bytes, and on COUNT random bindings
 repeat SIDE CALL INPUT  does one call over and over, for two seconds
-peak SIDE               prints by how many bytes one binding of rows of names grows the process";
+peak SIDE CALL          prints by how many bytes one call of `bind`, `template` or `names` grows the
+                        process";
 
 fn main() -> ExitCode {
     let words: Vec<String> = std::env::args().skip(1).collect();
@@ -44,8 +48,8 @@ fn main() -> ExitCode {
             }
         }
         ["repeat", side, call, input] => return sides::repeat(side, call, input),
-        ["peak", side] => {
-            println!("{}", memory::growth(side));
+        ["peak", side, call] => {
+            println!("{}", memory::growth(side, call));
             return ExitCode::SUCCESS;
         }
         _ => {}
@@ -58,20 +62,24 @@ fn measured() -> Report {
     let mut report = Report::new();
     memory::keep_freed();
     let (queries, bindings, rooms) = (inputs::queries(), inputs::bindings(), sides::rooms());
-    let mut inputs = sides::parsing(&queries, &rooms);
-    inputs.extend(sides::binding(&bindings, &rooms));
+    let tables = [
+        (&sides::PARSING[..], sides::parsing(&queries, &rooms)),
+        (&sides::BINDING, sides::binding(&bindings, &rooms)),
+        #[cfg(templates)]
+        (&sides::BY_TEMPLATE, sides::by_template(&bindings, &rooms)),
+    ];
+    let inputs: Vec<&Input> = tables.iter().flat_map(|(_, inputs)| inputs).collect();
     let kept = best_times(&inputs);
     memory::give_back_freed();
     let given_back = best_times(&inputs);
-    for (at, input) in inputs.iter().enumerate() {
-        if at == 0 {
-            report.head(&[&sides::PARSING[..input.sides.len()], &[GIVEN_BACK]].concat());
+    let mut times = kept.iter().zip(&given_back);
+    for (head, inputs) in &tables {
+        report.head(&[&head[..inputs[0].sides.len()], &[GIVEN_BACK]].concat());
+        for (input, (kept, given_back)) in inputs.iter().zip(&mut times) {
+            report.ratios(input, kept, given_back);
         }
-        if at == queries.len() {
-            report.head(&[&sides::BINDING[..input.sides.len()], &[GIVEN_BACK]].concat());
-        }
-        report.ratios(input, &kept[at], &given_back[at]);
     }
+    growth::measure(&mut report);
     memory::measure(&mut report);
     report
 }

@@ -1,8 +1,8 @@
 //! What `malloc` does with freed memory, and the growth of a process's memory by one binding.
 
-use crate::inputs::{one_row_binding, rows_binding};
+use crate::inputs::{Binding, all_names, one_row_binding, rows_binding};
 use crate::report::Report;
-use crate::sides::bound_once;
+use crate::sides::answered_once;
 use std::process::Command;
 
 const PROCESSES: usize = 11;
@@ -40,36 +40,46 @@ fn status(field: &str) -> usize {
     1024 * kilobytes.parse::<usize>().expect("a number")
 }
 
-/// By how many bytes the peak is above what the process held before the binding.
-pub fn growth(side: &str) -> usize {
+/// By how many bytes the peak is above what the process held before the call.
+pub fn growth(side: &str, call: &str) -> usize {
     // The first call brings in the code.
-    drop(bound_once(side, &one_row_binding()));
-    let binding = rows_binding();
+    drop(answered_once(side, call, &one_row_binding()));
+    let binding = binding_of(call);
     let before = status("VmRSS:");
     // The text is still held where the peak is read: the kernel's count of a peak that is over is
     // rough.
-    let text = bound_once(side, &binding);
+    let text = answered_once(side, call, &binding);
     let peak = status("VmHWM:");
     drop(text);
     peak.saturating_sub(before)
 }
 
+/// What is measured of a call.
+fn binding_of(call: &str) -> Binding {
+    if call == "names" { all_names() } else { rows_binding() }
+}
+
 /// The median of several processes, over the query's length.
-fn ratio(side: &str) -> String {
+fn ratio(side: &str, call: &str) -> String {
     let program = std::env::current_exe().expect("the path of this program");
     let mut growths: Vec<usize> = (0..PROCESSES)
         .map(|_| {
-            let output = Command::new(&program).args(["peak", side]).output().expect("a process");
+            let output =
+                Command::new(&program).args(["peak", side, call]).output().expect("a process");
             assert!(output.status.success());
             String::from_utf8_lossy(&output.stdout).trim().parse().expect("a number")
         })
         .collect();
     growths.sort_unstable();
-    format!("{:.2}", growths[PROCESSES / 2] as f64 / rows_binding().query.len() as f64)
+    format!("{:.2}", growths[PROCESSES / 2] as f64 / binding_of(call).query.len() as f64)
 }
 
 pub fn measure(report: &mut Report) {
     let head = ["Peak memory over the query", "archive", "table", "16 bytes"];
     report.head(&head);
-    report.row("`bind`, rows of names", &["archive", "table", "wide"].map(ratio));
+    let sides = ["archive", "table", "wide"];
+    report.row("`bind`, rows of names", &sides.map(|side| ratio(side, "bind")));
+    #[cfg(templates)]
+    report.row("the same by a template", &sides.map(|side| ratio(side, "template")));
+    report.row("`names`, 8 MiB of `:a `", &sides.map(|side| ratio(side, "names")));
 }

@@ -1,9 +1,9 @@
 //! Plain Rust in the mode without backslash escapes, which is compared and not timed.
 
-use plain::bind::{BindError, bind};
+use plain::bind::bind;
 use plain::room::{self, Report};
-use plain::search::Search;
-use plain::value::Params;
+use plain::search::{Search, Table};
+use plain::template::Template;
 use std::marker::PhantomData;
 
 /// The searches of one kind, in the mode without backslash escapes.
@@ -33,9 +33,11 @@ pub fn names<S: Search>(query: &[u8], room: &mut [u8]) -> (i32, Report) {
 }
 
 pub fn bind_form<S: Search>(query: &[u8], form: &[u8], room: &mut [u8]) -> (i32, Report) {
-    room::bind_form(query, form, room, bind_params::<S>)
+    room::bind_form(form, room, |params| bind::<WithoutBackslashes<S>>(query, params))
 }
 
-fn bind_params<S: Search>(query: &[u8], params: &Params) -> Result<Vec<u8>, BindError> {
-    bind::<WithoutBackslashes<S>>(query, params)
+/// A template that is made for this call alone.
+pub fn bind_form_by_template(query: &[u8], form: &[u8], room: &mut [u8]) -> (i32, Report) {
+    let template = Template::new::<WithoutBackslashes<Table>>(query);
+    room::bind_form(form, room, |params| template.bind::<WithoutBackslashes<Table>>(params))
 }

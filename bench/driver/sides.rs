@@ -1,6 +1,8 @@
 //! The sides that are timed.
 
 use crate::archive;
+#[cfg(templates)]
+use crate::archive_template::Template;
 use crate::inputs::{self, Binding, form_of, params_of};
 use crate::memory;
 use crate::time::{Input, Side};
@@ -21,6 +23,17 @@ pub const PARSING: [&str; 4] = ["`names`", "table", "16 bytes", "upstream"];
 /// The same of `bind`.
 pub const BINDING: [&str; 5] =
     ["`bind`", "table", "16 bytes", "table, behind the calls", "16 bytes, behind the calls"];
+
+/// The same of binding by a template that was made before.
+#[cfg(templates)]
+pub const BY_TEMPLATE: [&str; 6] = [
+    "`bind` by a template",
+    "table",
+    "16 bytes",
+    "table, behind the calls",
+    "16 bytes, behind the calls",
+    "`memcpy` of the query",
+];
 
 /// The archive and plain Rust, and upstream's parser where it is built in.
 const NAMES: &[Names] = &[
@@ -79,13 +92,13 @@ fn parsing_input<'a>(
 }
 
 /// Plain Rust: the making of the values, the call, and the text as a vector.
-fn plain(kind: Kind, binding: &Binding) -> Vec<u8> {
+pub fn plain(kind: Kind, binding: &Binding) -> Vec<u8> {
     let params = params_of(black_box(&binding.given));
     (kind.bind)(black_box(&binding.query), &params).expect("a query that can be bound")
 }
 
 /// The making of the flat form, the call, and the text in lent room.
-fn behind_calls(call: BindForm, binding: &Binding, room: &RefCell<Vec<u8>>) -> usize {
+pub fn behind_calls(call: BindForm, binding: &Binding, room: &RefCell<Vec<u8>>) -> usize {
     let form = form_of(black_box(&binding.given));
     answered(call(black_box(&binding.query), &form, &mut room.borrow_mut()))
 }
@@ -111,18 +124,79 @@ fn binding_input<'a>(binding: &'a Binding, rooms: &'a [RefCell<Vec<u8>>]) -> Inp
     Input { name: binding.name, sides, last_differs: false }
 }
 
-/// Binds once; gives the text, or the room with the text at its front. The room is twice the query.
-pub fn bound_once(side: &str, binding: &Binding) -> Vec<u8> {
-    match side {
-        "archive" => {
-            let room = RefCell::new(vec![0; 2 * binding.query.len()]);
-            behind_calls(archive::bind, binding, &room);
-            room.into_inner()
-        }
-        "table" => plain(TABLE, binding),
-        "wide" => plain(WIDE, binding),
-        _ => panic!("the sides are archive, table and wide"),
+#[cfg(templates)]
+pub fn by_template<'a>(bindings: &'a [Binding], rooms: &'a [RefCell<Vec<u8>>]) -> Vec<Input<'a>> {
+    bindings.iter().map(|binding| template_input(binding, rooms)).collect()
+}
+
+#[cfg(templates)]
+fn template_input<'a>(binding: &'a Binding, rooms: &'a [RefCell<Vec<u8>>]) -> Input<'a> {
+    let query = binding.query.as_slice();
+    let archive = Template::new(query, false);
+    let of_archive: Side = Box::new(move || {
+        let form = form_of(black_box(&binding.given));
+        answered(black_box(&archive).bind(&form, &mut rooms[0].borrow_mut()))
+    });
+    let of_plain = |kind: Kind| -> Side<'a> {
+        let template = (kind.template)(query);
+        Box::new(move || {
+            let params = params_of(black_box(&binding.given));
+            let text = (kind.bind_template)(black_box(&template), &params);
+            black_box(text.expect("a query that can be bound")).len()
+        })
+    };
+    let behind_calls = |kind: Kind, room: &'a RefCell<Vec<u8>>| -> Side<'a> {
+        let template = (kind.template)(query);
+        Box::new(move || {
+            let form = form_of(black_box(&binding.given));
+            let room = &mut room.borrow_mut();
+            answered((kind.bind_template_form)(black_box(&template), &form, room))
+        })
+    };
+    let copy: Side = Box::new(move || {
+        rooms[1].borrow_mut()[..query.len()].copy_from_slice(black_box(query));
+        query.len()
+    });
+    let (table, wide) = (behind_calls(TABLE, &rooms[1]), behind_calls(WIDE, &rooms[2]));
+    let sides = vec![of_archive, of_plain(TABLE), of_plain(WIDE), table, wide, copy];
+    let text = plain(TABLE, binding);
+    let lens: Vec<usize> = sides[..5].iter().map(|side| side()).collect();
+    assert!(lens.iter().all(|len| *len == text.len()), "another length of {}", binding.name);
+    for room in &rooms[..3] {
+        assert!(room.borrow()[..text.len()] == text[..], "another text of {}", binding.name);
     }
+    Input { name: binding.name, sides, last_differs: false }
+}
+
+/// Does a call once; gives the text, or the room with the answer at its front. The room is twice the
+/// query.
+pub fn answered_once(side: &str, call: &str, binding: &Binding) -> Vec<u8> {
+    let room = RefCell::new(vec![0; 2 * binding.query.len()]);
+    let names = |call: Names| answered(call(&binding.query, &mut room.borrow_mut()));
+    match (side, call) {
+        ("table", "bind") => return plain(TABLE, binding),
+        ("wide", "bind") => return plain(WIDE, binding),
+        ("archive", "bind") => behind_calls(archive::bind, binding, &room),
+        #[cfg(templates)]
+        ("table", "template") => return plain_by_template(TABLE, binding),
+        #[cfg(templates)]
+        ("wide", "template") => return plain_by_template(WIDE, binding),
+        #[cfg(templates)]
+        ("archive", "template") => behind_calls(archive::bind_by_template, binding, &room),
+        ("archive", "names") => names(archive::names),
+        ("table", "names") => names(TABLE.names),
+        ("wide", "names") => names(WIDE.names),
+        _ => panic!("the sides are archive, table and wide; the calls bind, template and names"),
+    };
+    room.into_inner()
+}
+
+/// Plain Rust by a template that is made for this call alone.
+#[cfg(templates)]
+fn plain_by_template(kind: Kind, binding: &Binding) -> Vec<u8> {
+    let template = (kind.template)(&binding.query);
+    let text = (kind.bind_template)(&template, &params_of(&binding.given));
+    text.expect("a query that can be bound")
 }
 
 /// Does one call over and over, for two seconds.

@@ -31,6 +31,13 @@ fn time_of(side: &Side, calls: u64) -> u64 {
     now() - start
 }
 
+/// The time of one call, in nanoseconds.
+pub fn time_once(call: impl FnOnce() -> usize) -> f64 {
+    let start = now();
+    black_box(call());
+    (now() - start) as f64
+}
+
 /// An input, and what each side does with it.
 pub struct Input<'a> {
     pub name: &'static str,
@@ -51,8 +58,8 @@ impl Input<'_> {
 }
 
 /// The best time of one call of each side, in nanoseconds, for each input.
-pub fn best_times(inputs: &[Input]) -> Vec<Vec<f64>> {
-    let calls: Vec<Vec<u64>> = inputs.iter().map(Input::calls).collect();
+pub fn best_times(inputs: &[&Input]) -> Vec<Vec<f64>> {
+    let calls: Vec<Vec<u64>> = inputs.iter().map(|input| input.calls()).collect();
     let mut best: Vec<Vec<f64>> =
         inputs.iter().map(|input| vec![f64::MAX; input.sides.len()]).collect();
     for _ in 0..ROUNDS {

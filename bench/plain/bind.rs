@@ -35,8 +35,9 @@ pub struct Name {
 static MAY_STAND_BEFORE: [bool; 256] = set(b"\t\n\x0c\r (,=<>+-*/%&|^~");
 static MAY_STAND_AFTER: [bool; 256] = set(b"\t\n\x0c\r ),;=<>+-*/%&|^!");
 
+/// Whether the bytes beside a place let it stand there.
 #[inline(always)]
-fn stands_alone(query: &[u8], start: usize, end: usize) -> bool {
+pub fn stands_alone(query: &[u8], start: usize, end: usize) -> bool {
     (start == 0 || MAY_STAND_BEFORE[query[start - 1] as usize])
         && (end == query.len() || MAY_STAND_AFTER[query[end] as usize])
 }

@@ -7,11 +7,13 @@ pub mod portable;
 pub mod query;
 pub mod room;
 pub mod search;
+pub mod template;
 pub mod value;
 
 use bind::BindError;
 use room::Report;
 use search::{Table, Wide};
+use template::Template;
 use value::Params;
 
 /// A call of `names`: a query, and the lent room.
@@ -21,12 +23,22 @@ pub type BindForm = fn(&[u8], &[u8], &mut [u8]) -> (i32, Report);
 /// Binding in Rust's own terms.
 pub type Bind = fn(&[u8], &Params) -> Result<Vec<u8>, BindError>;
 
+/// The making of a template.
+pub type MakeTemplate = for<'q> fn(&'q [u8]) -> Template<'q>;
+/// A call of binding by a template: the flat form, and the lent room.
+pub type BindTemplateForm = fn(&Template, &[u8], &mut [u8]) -> (i32, Report);
+/// Binding by a template in Rust's own terms.
+pub type BindTemplate = fn(&Template, &Params) -> Result<Vec<u8>, BindError>;
+
 /// One kind of plain Rust.
 #[derive(Clone, Copy)]
 pub struct Kind {
     pub names: Names,
     pub bind_form: BindForm,
     pub bind: Bind,
+    pub template: MakeTemplate,
+    pub bind_template_form: BindTemplateForm,
+    pub bind_template: BindTemplate,
 }
 
 /// The calls by one way to search. They aren't generic, so that they are compiled in this crate.
@@ -36,12 +48,21 @@ macro_rules! kind {
             room::names::<$search>(query, room)
         }
         fn bind_form(query: &[u8], form: &[u8], room: &mut [u8]) -> (i32, Report) {
-            room::bind_form(query, form, room, bind)
+            room::bind_form(form, room, |params| bind(query, params))
         }
         fn bind(query: &[u8], params: &Params) -> Result<Vec<u8>, BindError> {
             bind::bind::<$search>(query, params)
         }
-        Kind { names, bind_form, bind }
+        fn template(query: &[u8]) -> Template<'_> {
+            Template::new::<$search>(query)
+        }
+        fn bind_template(template: &Template, params: &Params) -> Result<Vec<u8>, BindError> {
+            template.bind::<$search>(params)
+        }
+        fn bind_template_form(template: &Template, form: &[u8], room: &mut [u8]) -> (i32, Report) {
+            room::bind_form(form, room, |params| bind_template(template, params))
+        }
+        Kind { names, bind_form, bind, template, bind_template_form, bind_template }
     }};
 }
 

@@ -1,10 +1,10 @@
 //! Plain Rust behind the archive's two calls: the answer goes into room that the caller lends.
 
-use crate::Bind;
 use crate::bind::BindError;
 use crate::form::{self, FormError};
 use crate::query::{Parsed, parse};
 use crate::search::Search;
+use crate::value::Params;
 
 /// What a call tells beside its number; a field that the number doesn't name is 0.
 #[repr(C)]
@@ -103,12 +103,18 @@ fn fill_string<'r>(room: &'r mut [u8], bytes: &[u8]) -> &'r mut [u8] {
     rest
 }
 
-pub fn bind_form(query: &[u8], form: &[u8], room: &mut [u8], bind: Bind) -> (i32, Report) {
+/// Binds what a form says, and copies the text into the room.
+#[inline(always)]
+pub fn bind_form(
+    form: &[u8],
+    room: &mut [u8],
+    bind: impl FnOnce(&Params) -> Result<Vec<u8>, BindError>,
+) -> (i32, Report) {
     let params = match form::read(form) {
         Ok(params) => params,
         Err((error, number, start)) => return form_answer(&error, number, start),
     };
-    let text = match bind(query, &params) {
+    let text = match bind(&params) {
         Ok(text) => text,
         Err(error) => return bind_answer(&error),
     };

@@ -38,7 +38,7 @@ impl Params {
 }
 
 /// No literal of the value is longer.
-fn literal_room(value: &Value) -> usize {
+pub fn literal_room(value: &Value) -> usize {
     match value {
         Value::Bytes(bytes) => 2 * bytes.len() + 2,
         _ => 40,
