@@ -29,7 +29,11 @@ fn first_bytes(rt: HostRuntime) {
 #[test]
 fn single_bytes(rt: HostRuntime) {
     for byte in 0..=255u8 {
-        let wanted = if byte == 92 || byte >= 128 { Some(0) } else { None };
+        let wanted = if byte == 92 || byte >= 128 {
+            Some(0)
+        } else {
+            None
+        };
         same_in(&rt, first_unsteady(&[byte]), wanted, &byte);
     }
 }
