@@ -15,6 +15,7 @@ pub mod RenamedPlaceLemmas
 pub mod TextLengthLemmas
 pub mod SurveyLemmas
 pub mod CauseLemmas
+pub mod FoundPlacesLemmas
 pub mod NameListLemmas
 pub mod WrittenTextLemmas
 pub mod FilledTextLemmas

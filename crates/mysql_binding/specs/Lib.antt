@@ -5,7 +5,10 @@ pub mod Replaced
 pub mod ReadOnServer
 pub mod FirstCause
 pub mod TextLength
+pub mod FoundPlaces
 pub mod Survey
+pub mod ParsedQuery
+pub mod SameQuery
 pub mod ValueLiterals
 pub mod WrittenText
 pub mod BindErrors

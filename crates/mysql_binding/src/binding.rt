@@ -10,11 +10,14 @@ ghost use Rattle.mysql_params_core.specs.Referents.{referents};
 ghost use Rattle.mysql_binding.specs.BindErrors.{IsCauseOrMemory, cause_of};
 ghost use Rattle.mysql_binding.specs.BoundAgain.{IsSameBoundAgain, IsSameByPosition};
 ghost use Rattle.mysql_binding.specs.FirstCause.{mark_count_differs, first_cause, later_cause, mixed_cause, refused_params};
+ghost use Rattle.mysql_binding.specs.FoundPlaces.{BeginWithPlaces};
 ghost use Rattle.mysql_binding.specs.Isolation.{IsBoundText};
 ghost use Rattle.mysql_binding.specs.Survey.{IsSurvey};
 
+mod found;
 mod literals;
 mod names;
+mod parsed_query;
 mod stands_alone;
 mod survey;
 mod text;
@@ -22,8 +25,10 @@ mod text;
 use crate::bind_error::BindError;
 use crate::binding::literals::first_float;
 use crate::binding::names::query_names;
+pub use crate::binding::parsed_query::ParsedQuery;
 use crate::binding::survey::{Survey, place_survey};
 use crate::binding::text::written_text;
+use mysql_named_params::places::{FoundPlace, PlaceKind};
 use mysql_params_core::params::{Params, ParamsError, place_values};
 use mysql_values::value::Value;
 use std::alloc::Global;
@@ -64,24 +69,16 @@ pub fn bind_text_in(
     ensures mixed { OnTokens no_backslash_escape query.now (λ ts.
         HasName ts × HasMark ts → IsErrOf result BindError.Mixed) }
 {
-    let survey = place_survey(query, no_backslash_escape);
-    if survey.names > 0 && survey.marks > 0 {
-        return Err(BindError::Mixed);
-    }
-    let values = values_of_places(alloc, query, survey.names, &params, no_backslash_escape)?;
-    if let Some(error) = later_error(survey, values.as_slice()) {
-        return Err(error);
-    }
-    match written_text(
+    let mut first = [NO_PLACE; KEPT_PLACES];
+    let (survey, kept) = place_survey(query, &mut first, no_backslash_escape);
+    bind_surveyed(
         alloc,
         query,
-        survey.piece_bytes,
-        values.as_slice(),
+        survey,
+        &first[..kept],
+        &params,
         no_backslash_escape,
-    ) {
-        Ok(text) => Ok(text),
-        Err(error) => Err(BindError::Memory(error)),
-    }
+    )
 }
 
 /// The query with the literal of a value in the place of each name and mark, in the mode in which a
@@ -104,23 +101,85 @@ pub fn bind_text(alloc: Global, query: &[u8], params: Params) -> Result<Vec<u8>,
     bind_text_in(alloc, query, params, false)
 }
 
+// The number of places that are kept on the stack while a query is surveyed, so that a query with
+// no more of them isn't walked again.
+const KEPT_PLACES: usize = 16;
+
+// What stands in the array before a place is kept.
+const NO_PLACE: FoundPlace = FoundPlace {
+    before: 0,
+    kind: PlaceKind::Mark,
+    len: 0,
+};
+
+// The text of a query with this survey and these first places: the body of `bind_text_in` and of
+// `ParsedQuery::bind`.
+fn bind_surveyed(
+    alloc: Global,
+    query: &[u8],
+    survey: Survey,
+    known: &[FoundPlace],
+    params: &Params,
+    no_backslash_escape: bool,
+) -> Result<Vec<u8>, BindError>
+    requires survey { OnTokens no_backslash_escape query.now (IsSurvey survey) }
+    requires known { OnTokens no_backslash_escape query.now (BeginWithPlaces known.now) }
+    ensures bound { OnTokens no_backslash_escape query.now (λ ts. IfOk result (λ text.
+        IsBoundText no_backslash_escape ts (given params.now) text.items)) }
+    ensures refused { OnTokens no_backslash_escape query.now (λ ts. IfErr result
+        (IsCauseOrMemory (first_cause ts (given params.now)))) }
+    ensures bound_again { IfOk result (λ text. IsSameBoundAgain no_backslash_escape text.items) }
+    ensures by_position { OnTokens no_backslash_escape query.now (λ ts. IfOk result (λ text.
+        IsSameByPosition no_backslash_escape ts (given params.now) text.items)) }
+    ensures mixed { OnTokens no_backslash_escape query.now (λ ts.
+        HasName ts × HasMark ts → IsErrOf result BindError.Mixed) }
+{
+    if survey.names > 0 && survey.marks > 0 {
+        return Err(BindError::Mixed);
+    }
+    let values = values_of_places(
+        alloc,
+        query,
+        known,
+        survey.names,
+        params,
+        no_backslash_escape,
+    )?;
+    if let Some(error) = later_error(survey, values.as_slice()) {
+        return Err(error);
+    }
+    match written_text(
+        alloc,
+        query,
+        known,
+        survey.piece_bytes,
+        values.as_slice(),
+        no_backslash_escape,
+    ) {
+        Ok(text) => Ok(text),
+        Err(error) => Err(BindError::Memory(error)),
+    }
+}
+
 // References to the values in the parameters that are given to the places of a query with this many
 // names, and no marks beside them. The list of names is dropped before the text is written.
 fn values_of_places<'p>(
     alloc: Global,
     query: &[u8],
+    known: &[FoundPlace],
     name_count: usize,
     params: &'p Params,
     no_backslash_escape: bool,
 ) -> Result<Vec<&'p Value>, BindError>
-    requires { OnTokens no_backslash_escape query.now (λ ts.
+    requires known { OnTokens no_backslash_escape query.now (BeginWithPlaces known.now) }
+    requires names { OnTokens no_backslash_escape query.now (λ ts.
         (name_count ≡ length (names ts)) × (mixed_cause ts ≡ None)) }
     ensures values { IfOk result (λ values. OnTokens no_backslash_escape query.now (λ ts.
         lookup (given params.now) (names ts) ≡ Ok (referents values.items))) }
     ensures refused { IfErr result (λ error. OnTokens no_backslash_escape query.now (λ ts.
         IsCauseOrMemory (first_cause ts (given params.now)) error)) }
 {
-    let names = match query_names(alloc, query, name_count, no_backslash_escape) {
+    let names = match query_names(alloc, query, known, name_count, no_backslash_escape) {
         Ok(names) => names,
         Err(error) => return Err(BindError::Memory(error)),
     };

@@ -16,6 +16,7 @@ ghost use Rattle.mysql_binding.specs.ReadOnServer.{AreReadOn};
 ghost use Rattle.mysql_binding.specs.StandsAlone.{AllAlone, IsFirstNotAlone, first_not_alone};
 
 use crate::bind_error::BindError;
+use crate::binding::ParsedQuery;
 
 /// Whatever texts of the shape of literals stand in the places of a query, the tokens are the
 /// query's, with those of each text in place of its name or mark, and no place is left among them.
@@ -104,6 +105,14 @@ pub fn first_not_alone_is_first()
 pub fn bind_error_equality(a: &BindError, b: &BindError) -> bool
     ensures same { IsTrue result ↔ AreEqualBindErrors a.now b.now }
     ensures member { result ≡ ⟦<BindError as PartialEq>⟧.eq a.now b.now }
+{
+    a == b
+}
+
+/// Parsed queries are equal if and only if mode and query are.
+pub fn parsed_query_equality(a: &ParsedQuery<'_>, b: &ParsedQuery<'_>) -> bool
+    ensures same { IsTrue result ↔ (a.now ≡ b.now) }
+    ensures member { result ≡ ⟦<ParsedQuery<'static> as PartialEq>⟧.eq a.now b.now }
 {
     a == b
 }

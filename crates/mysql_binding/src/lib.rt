@@ -10,4 +10,4 @@ mod binding;
 pub mod laws;
 
 pub use bind_error::BindError;
-pub use binding::{bind_text, bind_text_in};
+pub use binding::{ParsedQuery, bind_text, bind_text_in};

@@ -11,6 +11,8 @@ mod fixed_query;
 #[cfg(test)]
 mod isolation;
 #[cfg(test)]
+mod parsed_query;
+#[cfg(test)]
 mod paths;
 #[cfg(test)]
 mod readme;

@@ -3,6 +3,7 @@
 
 pub use mysql_params::BindError;
 pub use mysql_params::Construct;
+pub use mysql_params::ParsedQuery;
 pub use mysql_params::RunError;
 pub use mysql_params::Unportable;
 pub use mysql_params::bind_text;
@@ -36,6 +37,7 @@ pub use mysql_params::laws::params_confusion_error_equality;
 pub use mysql_params::laws::params_equality;
 pub use mysql_params::laws::params_error_equality;
 pub use mysql_params::laws::parsed_equality;
+pub use mysql_params::laws::parsed_query_equality;
 pub use mysql_params::laws::portable_is_sharp;
 pub use mysql_params::laws::portable_reading;
 pub use mysql_params::laws::position_of_first_not_alone;

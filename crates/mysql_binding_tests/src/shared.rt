@@ -1,6 +1,6 @@
 //! Parameters and refusals as plain data, and what they stand for; the calls that bind.
 use mysql_params::params::{MissingNamedParameterError, Params, ParamsConfusionError, ParamsError};
-use mysql_params::{BindError, bind_text, bind_text_in};
+use mysql_params::{BindError, ParsedQuery, bind_text, bind_text_in};
 use mysql_values::bytes::Bytes;
 use mysql_values::value::Value;
 use std::alloc::Global;
@@ -149,19 +149,30 @@ pub(crate) enum Spelling {
     BindText,
     /// `bind_text_in` with this flag.
     BindTextIn(bool),
+    /// `bind` of the query that `ParsedQuery::parse_in` parsed with this flag.
+    Parsed(bool),
 }
 
 /// The calls that bind in the mode in which a backslash escapes.
-pub(crate) const WITH_BACKSLASHES: &[Spelling] = &[Spelling::BindText, Spelling::BindTextIn(false)];
+pub(crate) const WITH_BACKSLASHES: &[Spelling] = &[
+    Spelling::BindText,
+    Spelling::BindTextIn(false),
+    Spelling::Parsed(false),
+];
 
-/// The call that binds in the mode without backslash escapes.
-pub(crate) const WITHOUT_BACKSLASHES: &[Spelling] = &[Spelling::BindTextIn(true)];
+/// The calls that bind in the mode without backslash escapes.
+pub(crate) const WITHOUT_BACKSLASHES: &[Spelling] = &[
+    Spelling::BindTextIn(true),
+    Spelling::Parsed(true),
+];
 
 /// Every call that binds.
 pub(crate) const EITHER_MODE: &[Spelling] = &[
     Spelling::BindText,
     Spelling::BindTextIn(false),
     Spelling::BindTextIn(true),
+    Spelling::Parsed(false),
+    Spelling::Parsed(true),
 ];
 
 impl Spelling {
@@ -175,6 +186,10 @@ impl Spelling {
         match self {
             Spelling::BindText => bind_text(alloc, query, params),
             Spelling::BindTextIn(mode) => bind_text_in(alloc, query, params, mode),
+            Spelling::Parsed(mode) => match ParsedQuery::parse_in(alloc, query, mode) {
+                Ok(parsed) => parsed.bind(alloc, params),
+                Err(error) => Err(BindError::Memory(error)),
+            },
         }
     }
 }

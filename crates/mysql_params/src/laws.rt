@@ -4,7 +4,7 @@
 pub use mysql_binding::laws::{
     bind_error_equality, bound_again_is_the_same, bound_texts_on_servers, by_position_is_the_same,
     equal_texts_say_the_same, first_not_alone_is_first, isolation, no_place_is_left,
-    position_of_first_not_alone,
+    parsed_query_equality, position_of_first_not_alone,
 };
 pub use mysql_named_params::laws::{
     grammar_is_a_server, locality, mixed_error_equality, modes_agree, named_params_error_equality,

@@ -2,7 +2,8 @@
 //!
 //! A query is bytes. [`named_params`] finds the names and marks outside its strings, quoted
 //! identifiers and comments; [`params`] are what is given to them, and [`bind_text`] puts the
-//! literals of the values in their places; [`bind_text_in`] does so in either mode of backslashes.
+//! literals of the values in their places; [`bind_text_in`] does so in either mode of backslashes,
+//! and a [`ParsedQuery`] is parsed once and bound many times.
 //! [`first_unportable`] finds what servers read in different ways or with which a value would join
 //! a number, before a query is bound; [`first_unsteady`] the first byte that a mode or a character
 //! set may read otherwise. Where the query is a constant, [`fixed_query`] binds it,
@@ -15,7 +16,7 @@ pub mod laws;
 pub mod named_params;
 pub mod params;
 
-pub use mysql_binding::{BindError, bind_text, bind_text_in};
+pub use mysql_binding::{BindError, ParsedQuery, bind_text, bind_text_in};
 pub use mysql_named_params::portable::{Construct, Unportable, first_unportable};
 pub use mysql_named_params::steady::first_unsteady;
 pub use mysql_program::{RunError, run, words_of};

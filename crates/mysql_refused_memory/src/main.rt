@@ -11,6 +11,7 @@ mod inputs;
 mod lookup_cases;
 mod maker_cases;
 mod outcome;
+mod parsed_query_cases;
 mod program_cases;
 mod query_cases;
 mod read_cases;
@@ -60,6 +61,9 @@ fn query_case(alloc: Global, name: &str) -> Option<Case> {
         return Some(case);
     }
     if let Some(case) = lookup_cases::case(alloc, name) {
+        return Some(case);
+    }
+    if let Some(case) = parsed_query_cases::case(alloc, name) {
         return Some(case);
     }
     if let Some(case) = binding_cases::case(alloc, name) {

@@ -1,15 +1,16 @@
 //! What is known of the places of a query before values are looked up, found in one walk that
 //! allocates nothing.
-ghost use Rattle.std.specs.Prelude.{◌≡◌, ◌≤◌, None, Some, length, take, drop, if◌then◌else◌};
+ghost use Rattle.std.specs.Prelude.{◌≡◌, ◌+◌, ◌≤◌, None, Some, length, take, drop, if◌then◌else◌};
 ghost use Rattle.mysql_named_params.specs.Tokens.{OnTokens};
+ghost use Rattle.mysql_binding.specs.FoundPlaces.{BeginWithPlaces};
 ghost use Rattle.mysql_binding.specs.StandsAlone.{stands_alone};
 ghost use Rattle.mysql_binding.specs.Survey.{IsSurvey};
 
 use crate::binding::stands_alone::stands_alone;
-use mysql_named_params::places::{PlaceKind, first_place};
+use mysql_named_params::places::{FoundPlace, PlaceKind, first_place};
 
 /// The places of a query, counted and tested.
-#[derive(Clone, Copy)]
+#[derive(Debug, Clone, Copy)]
 pub(super) struct Survey {
     /// The number of names, with repeats.
     pub(super) names: usize,
@@ -21,14 +22,23 @@ pub(super) struct Survey {
     pub(super) piece_bytes: usize,
 }
 
-/// The survey of a query.
-pub(super) fn place_survey(query: &[u8], no_backslash_escape: bool) -> Survey
-    ensures { OnTokens no_backslash_escape query.now (IsSurvey result) }
+/// The survey of a query, and how many of its first places were kept: as many as there is room for.
+pub(super) fn place_survey(
+    query: &[u8],
+    first: &mut [FoundPlace],
+    no_backslash_escape: bool,
+) -> (Survey, usize)
+    ensures survey { OnTokens no_backslash_escape query.now (IsSurvey result.0) }
+    ensures in_query { result.0.names + result.0.marks ≤ length query.now }
+    ensures kept { OnTokens no_backslash_escape query.now
+        (BeginWithPlaces (take result.1 first.new)) }
+    ensures in_room { result.1 ≤ length first.new }
 {
     let mut names = 0;
     let mut marks = 0;
     let mut not_alone = None;
     let mut piece_bytes = 0;
+    let mut kept = 0;
     let mut at = 0;
     while let Some(found) = first_place(&query[at..], no_backslash_escape) {
         let start = at + found.before;
@@ -40,14 +50,19 @@ pub(super) fn place_survey(query: &[u8], no_backslash_escape: bool) -> Survey
             PlaceKind::Name => names += 1,
             PlaceKind::Mark => marks += 1,
         }
+        if kept < first.len() {
+            first[kept] = found;
+            kept += 1;
+        }
         at = end;
     }
-    Survey {
+    let survey = Survey {
         names,
         marks,
         not_alone,
         piece_bytes: piece_bytes + (query.len() - at),
-    }
+    };
+    (survey, kept)
 }
 
 // Number and position of the place from `start` to `end`, unless it stands alone.

@@ -5,26 +5,31 @@ ghost use Rattle.mysql_named_params.specs.Tokens.{OnTokens};
 ghost use Rattle.mysql_named_params.specs.Places.{place_count};
 ghost use Rattle.mysql_params_core.specs.Referents.{referents};
 ghost use Rattle.mysql_binding.specs.FirstCause.{first_float};
+ghost use Rattle.mysql_binding.specs.FoundPlaces.{BeginWithPlaces};
 ghost use Rattle.mysql_binding.specs.TextLength.{literal_len, pieces_len};
 ghost use Rattle.mysql_binding.specs.WrittenText.{IsWrittenText};
 
+use crate::binding::found::place_after;
 use crate::binding::literals::{append_literal, literal_lens};
-use mysql_named_params::places::first_place;
+use mysql_named_params::places::FoundPlace;
 use mysql_values::value::Value;
 use std::alloc::{AllocError, Global};
 
 /// The query with the literal of a value in place of each name and mark, of which there are as many
 /// as values. None of the values is a float, and the pieces of the query have `piece_bytes` bytes.
+/// The first places of the query may be known.
 ///
 /// If the text would be longer than `isize::MAX`, out of memory is returned without asking for it.
 /// Once there is a vector for the text, nothing refuses.
 pub(super) fn written_text(
     alloc: Global,
     query: &[u8],
+    known: &[FoundPlace],
     piece_bytes: usize,
     values: &[&Value],
     no_backslash_escape: bool,
 ) -> Result<Vec<u8>, AllocError>
+    requires known { OnTokens no_backslash_escape query.now (BeginWithPlaces known.now) }
     requires no_float { first_float (referents values.now) ≡ None }
     requires places { OnTokens no_backslash_escape query.now (λ ts.
         length (referents values.now) ≡ place_count ts) }
@@ -39,6 +44,7 @@ pub(super) fn written_text(
     let mut text = vec![in alloc; 0u8; len]?;
     fill_text(
         query,
+        known,
         values,
         lens.as_slice(),
         text.as_mut_slice(),
@@ -67,11 +73,13 @@ fn text_len(piece_bytes: usize, lens: &[u128]) -> Option<usize>
 // have these lengths.
 fn fill_text(
     query: &[u8],
+    known: &[FoundPlace],
     values: &[&Value],
     lens: &[u128],
     text: &mut [u8],
     no_backslash_escape: bool,
 )
+    requires known { OnTokens no_backslash_escape query.now (BeginWithPlaces known.now) }
     requires no_float { first_float (referents values.now) ≡ None }
     requires places { OnTokens no_backslash_escape query.now (λ ts.
         length (referents values.now) ≡ place_count ts) }
@@ -84,7 +92,7 @@ fn fill_text(
     let mut rest = query;
     let mut at = 0;
     for (i, value) in values.iter().enumerate() {
-        let Some(found) = first_place(rest, no_backslash_escape) else {
+        let Some(found) = place_after(known, i, rest, no_backslash_escape) else {
             unreachable!()
         };
         let (piece, _, after) = found.cut(rest);

@@ -11,8 +11,8 @@ pub returns-clause-refused : goal.returns-clause-refused
 returns-clause-refused c =
     let params = given c.args.params.now in
     elim (no_refusal_or_expected _ _ _ c.in-Err-place_values.ensures.values) [
-      | inl e ↦ (c.requires.0, c.requires.1, inl (c.bind_error_of.ensures.memory e))
+      | inl e ↦ (c.requires.names.0, c.requires.names.1, inl (c.bind_error_of.ensures.memory e))
       | inr r ↦
-          refused_lookup _ _ params _ (referents c.in-Ok.names.items) c.bind_error_of.result c.requires c.in-Ok.ensures
+          refused_lookup _ _ params _ (referents c.in-Ok.names.items) c.bind_error_of.result c.requires.names c.in-Ok.ensures
           (r.0, ap (λ ns. lookup params (referents ns)) (sym c.as_slice.ensures.value) ∙ r.1, c.bind_error_of.ensures.cause ∙ ap (option_map refused_params) r.2)
     ]

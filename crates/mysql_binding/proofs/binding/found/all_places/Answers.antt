@@ -1,0 +1,20 @@
+use Rattle.std.proofs.Common.{◌+◌, refl, arith}
+use Rattle.mysql_binding.proofs.FoundPlacesLemmas.{none_passed, one_passed, collected_none, place_left, collected_more, collected_all}
+use Rattle.mysql_binding.proofs.binding.found.all_places.Goals as goal
+
+pub loop-rest-init : goal.loop-rest-init
+loop-rest-init c = (collected_none _ _ _ _ c.requires.count c.in_ok-places.ensures.items, none_passed _ _ _ _ c.in_ok-places.ensures.items c.requires.known)
+
+pub unreachable-requires : goal.unreachable-requires
+unreachable-requires c =
+    let o = c.in_default.ensures.none in
+    place_left _ _ _ _ _ c.loop-rest.invariant.0 (omega arith) (o.0, o.1, o.2 refl)
+
+pub returns : goal.returns
+returns c = collected_all _ _ _ _ _ c.loop-rest.invariant.0 (omega arith)
+
+pub loop-rest-preserved : goal.loop-rest-preserved
+loop-rest-preserved c = (
+  collected_more _ _ _ _ _ c.loop-rest.invariant.0 _ _ _ c.in-Some.ensures.place c.cut.ensures.after c.in_ok-push.ensures.items,
+  one_passed c.args.no_backslash_escape c.loop-rest.rest.now _ c.args.known.now (c.in-Some.found.before + c.in-Some.found.len) c.len-in-loop-rest.result _ _ _ c.in_ok-push.ensures.items c.cut.ensures.after (omega arith) c.in-Some.ensures.next,
+)

@@ -1,0 +1,25 @@
+-- The places of a query, each as it is found after the one before it. For private functions and the
+-- invariant of `ParsedQuery`; no public contract cites them.
+use Rattle.std.specs.Prelude.{◌≡◌, ◌+◌, ◌++◌, ℕ, List, [], ◌∷◌, length}
+use Rattle.mysql_named_params.specs.Tokens.{Token, bytes_of, Name, Mark}
+use Rattle.mysql_named_params.specs.declared.places.FoundPlace.{FoundPlace}
+use Rattle.mysql_named_params.specs.declared.places.PlaceKind.TheVariants as kind
+
+-- each place, with the number of bytes between it and the place before it, or the front; `before`
+-- bytes of them stand before these tokens
+abbrev pub found_from : ℕ → List Token → List FoundPlace
+found_from before [] = []
+found_from before (Name name ∷ ts) =
+    record { before = before; kind = kind.Name; len = length (bytes_of (Name name)) }
+    ∷ found_from 0 ts
+found_from before (Mark ∷ ts) =
+    record { before = before; kind = kind.Mark; len = length (bytes_of Mark) } ∷ found_from 0 ts
+found_from before (t ∷ ts) = found_from (before + length (bytes_of t)) ts
+
+-- the places of a query
+abbrev pub found_places : List Token → List FoundPlace
+found_places = found_from 0
+
+-- the places of a query begin with these
+abbrev pub BeginWithPlaces : List FoundPlace → List Token → Type 0
+BeginWithPlaces places ts = (more : List FoundPlace) × (places ++ more ≡ found_places ts)

@@ -1,0 +1,62 @@
+//! The places of a query that were found before, and those that are found now.
+ghost use Rattle.std.specs.Prelude.{◌≡◌, ◌+◌, ◌<◌, ◌≤◌, None, IfOk, IfSome, drop, length};
+ghost use Rattle.mysql_named_params.specs.FirstPlace.{IsFirstPlace};
+ghost use Rattle.mysql_named_params.specs.Places.{place_count};
+ghost use Rattle.mysql_named_params.specs.Tokens.{OnTokens};
+ghost use Rattle.mysql_binding.specs.FoundPlaces.{BeginWithPlaces, found_places};
+
+use mysql_named_params::places::{FoundPlace, first_place};
+use std::alloc::{AllocError, Global};
+
+/// The first place of the rest of a query, before which stand `i` places: the one that is known, or
+/// else the one that is found now.
+pub(super) fn place_after(
+    known: &[FoundPlace],
+    i: usize,
+    rest: &[u8],
+    no_backslash_escape: bool,
+) -> Option<FoundPlace>
+    requires { OnTokens no_backslash_escape rest.now (BeginWithPlaces (drop i known.now)) }
+    ensures place { OnTokens no_backslash_escape rest.now (λ ts. IfSome result (IsFirstPlace ts)) }
+    ensures none { OnTokens no_backslash_escape rest.now (λ ts.
+        result ≡ None → place_count ts ≡ 0) }
+    ensures in_range { IfSome result (λ found.
+        (0 < found.len) × (found.before + found.len ≤ length rest.now)) }
+    ensures next { IfSome result (λ found.
+        OnTokens no_backslash_escape (drop (found.before + found.len) rest.now)
+        (BeginWithPlaces (drop (i + 1) known.now))) }
+{
+    if i < known.len() {
+        return Some(known[i]);
+    }
+    match first_place(rest, no_backslash_escape) {
+        Some(found) => Some(found),
+        None => None,
+    }
+}
+
+/// All places of a query that has `count` of them. The first may be known.
+pub(super) fn all_places(
+    alloc: Global,
+    query: &[u8],
+    known: &[FoundPlace],
+    count: usize,
+    no_backslash_escape: bool,
+) -> Result<Vec<FoundPlace>, AllocError>
+    requires known { OnTokens no_backslash_escape query.now (BeginWithPlaces known.now) }
+    requires count { OnTokens no_backslash_escape query.now (λ ts. count ≡ place_count ts) }
+    ensures { IfOk result (λ places. OnTokens no_backslash_escape query.now (λ ts.
+        places.items ≡ found_places ts)) }
+{
+    let mut places = Vec::with_capacity(alloc, count)?;
+    let mut rest = query;
+    while places.len() < count {
+        let Some(found) = place_after(known, places.len(), rest, no_backslash_escape) else {
+            unreachable!()
+        };
+        let (_, _, after) = found.cut(rest);
+        places.push(found)?;
+        rest = after;
+    }
+    Ok(places)
+}

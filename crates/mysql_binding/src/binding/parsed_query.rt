@@ -1,0 +1,233 @@
+//! Queries that are parsed once and bound many times.
+ghost use Rattle.std.specs.Prelude.{◌≡◌, ◌↔◌, IfErr, IfOk, IsErrOf, IsTrue};
+ghost use Rattle.std.specs.Cmp.{partial_equiv_from_equiv};
+ghost use Rattle.mysql_sql_text.specs.StringUnits.{with_backslashes};
+ghost use Rattle.mysql_named_params.specs.NamedParamsErrors.{mixed};
+ghost use Rattle.mysql_named_params.specs.Tokens.{OnTokens};
+ghost use Rattle.mysql_named_params.specs.Places.{HasName, HasMark, marks, names};
+ghost use Rattle.mysql_named_params.specs.FirstUnportable.{first_unportable};
+ghost use Rattle.mysql_params_core.specs.Given.{given};
+ghost use Rattle.mysql_binding.specs.BindErrors.{IsCauseOrMemory};
+ghost use Rattle.mysql_binding.specs.BoundAgain.{IsSameBoundAgain, IsSameByPosition};
+ghost use Rattle.mysql_binding.specs.FirstCause.{first_cause};
+ghost use Rattle.mysql_binding.specs.Isolation.{IsBoundText};
+ghost use Rattle.mysql_binding.specs.ParsedQuery.{AreParsed, same_query};
+ghost use Rattle.mysql_binding.specs.SameQuery.{same_query_is_equivalence};
+ghost use Rattle.mysql_params_core.specs.Referents.{referents};
+
+use crate::bind_error::BindError;
+use crate::binding::found::all_places;
+use crate::binding::names::query_names;
+use crate::binding::survey::{Survey, place_survey};
+use crate::binding::{KEPT_PLACES, NO_PLACE, bind_surveyed};
+use mysql_named_params::named_params::{MixedParamsError, NamedParamsError};
+use mysql_named_params::places::FoundPlace;
+use mysql_named_params::portable::{Unportable, first_unportable};
+use mysql_params_core::params::Params;
+use std::alloc::{AllocError, Global};
+use std::borrow::CowSlice;
+use std::marker::Model;
+
+/// A query whose places were found, to be bound many times.
+///
+/// It is borrowed from the query, or owns it ([`into_owned`](ParsedQuery::into_owned)). Binding it
+/// changes nothing, so many threads can do so at once.
+#[derive(Debug, Drop)]
+pub struct ParsedQuery<'q> {
+    query: CowSlice<'q, u8>,
+    no_backslash_escape: bool,
+    survey: Survey,
+    places: Vec<FoundPlace>,
+}
+
+impl<'q> Model for ParsedQuery<'q> {
+    ghost use Rattle.std.specs.Cow.{cow_slice_items};
+    ghost use Rattle.mysql_binding.specs.ParsedQuery.{QueryInMode, AreParsed};
+
+    ghost Value = { QueryInMode };
+
+    ghost view = { λ p. record {
+      mode = p.no_backslash_escape;
+      query = cow_slice_items p.query;
+    } };
+
+    ghost invariant = { λ p.
+        AreParsed p.survey p.places.items p.no_backslash_escape (cow_slice_items p.query) };
+}
+
+impl<'q> ParsedQuery<'q> {
+    /// Finds the names and marks of a query, in the mode that the flag names, as
+    /// [`bind_text_in`](crate::bind_text_in) does. It takes 24 bytes a name or mark.
+    pub fn parse_in(
+        alloc: Global,
+        query: &'q [u8],
+        no_backslash_escape: bool,
+    ) -> Result<ParsedQuery<'q>, AllocError>
+        ensures { IfOk result (λ p.
+            p ≡ record { mode = no_backslash_escape; query = query.now }) }
+    {
+        let (survey, places) = survey_and_places(alloc, query, no_backslash_escape)?;
+        Ok(ParsedQuery {
+            query: CowSlice::Borrowed(query),
+            no_backslash_escape,
+            survey,
+            places,
+        })
+    }
+
+    /// Finds the names and marks of a query in the mode in which a backslash escapes:
+    /// [`parse_in`](ParsedQuery::parse_in) with `false`.
+    pub fn parse(alloc: Global, query: &'q [u8]) -> Result<ParsedQuery<'q>, AllocError>
+        ensures { IfOk result (λ p. p ≡ record { mode = with_backslashes; query = query.now }) }
+    {
+        ParsedQuery::parse_in(alloc, query, false)
+    }
+
+    /// The same, with a copy of the query if it is borrowed.
+    pub fn into_owned(self, alloc: Global) -> Result<ParsedQuery<'static>, AllocError>
+        ensures { IfOk result (λ p. p ≡ self.entry) }
+    {
+        Ok(ParsedQuery {
+            query: CowSlice::Owned(self.query.into_owned(alloc)?),
+            no_backslash_escape: self.no_backslash_escape,
+            survey: self.survey,
+            places: self.places,
+        })
+    }
+
+    /// A copy, on the allocator that the places hold. It is borrowed as before, or owns a copy of
+    /// the query.
+    pub fn clone(&self) -> Result<ParsedQuery<'q>, AllocError>
+        ensures { IfOk result (λ copy. copy ≡ self.now) }
+    {
+        let alloc = *self.places.allocator();
+        let query = match &self.query {
+            CowSlice::Borrowed(query) => CowSlice::Borrowed(*query),
+            CowSlice::Owned(query) => { CowSlice::Owned(Vec::from_slice(alloc, query.as_slice())?) }
+        };
+        Ok(ParsedQuery {
+            query,
+            no_backslash_escape: self.no_backslash_escape,
+            survey: self.survey,
+            places: Vec::from_slice(alloc, self.places.as_slice())?,
+        })
+    }
+
+    /// The query with the literal of a value in the place of each name and mark, exactly as
+    /// [`bind_text_in`](crate::bind_text_in) gives it in this mode. No byte of the query is looked
+    /// at: its pieces are copied.
+    pub fn bind(&self, alloc: Global, params: Params) -> Result<Vec<u8>, BindError>
+        ensures bound { OnTokens self.now.mode self.now.query (λ ts. IfOk result (λ text.
+            IsBoundText self.now.mode ts (given params) text.items)) }
+        ensures refused { OnTokens self.now.mode self.now.query (λ ts. IfErr result
+            (IsCauseOrMemory (first_cause ts (given params)))) }
+        ensures bound_again { IfOk result (λ text. IsSameBoundAgain self.now.mode text.items) }
+        ensures by_position { OnTokens self.now.mode self.now.query (λ ts. IfOk result (λ text.
+            IsSameByPosition self.now.mode ts (given params) text.items)) }
+
+        // A query with a name and a mark is refused without allocating.
+        ensures mixed { OnTokens self.now.mode self.now.query (λ ts.
+            HasName ts × HasMark ts → IsErrOf result BindError.Mixed) }
+    {
+        bind_surveyed(
+            alloc,
+            self.query.as_slice(),
+            self.survey,
+            self.places.as_slice(),
+            &params,
+            self.no_backslash_escape,
+        )
+    }
+
+    /// The query that was parsed.
+    pub fn query(&self) -> &[u8]
+        ensures { result.now ≡ self.now.query }
+    {
+        self.query.as_slice()
+    }
+
+    /// The mode in which the query is read.
+    pub fn no_backslash_escape(&self) -> bool
+        ensures { result ≡ self.now.mode }
+    {
+        self.no_backslash_escape
+    }
+
+    /// The names without the colon, in the order of the query, with repeats: slices of it. Beside
+    /// a mark they are refused as `Mixed`, as [`parse_in`] refuses them.
+    ///
+    /// [`parse_in`]: mysql_named_params::named_params::ParsedNamedParams::parse_in
+    pub fn names(&self, alloc: Global) -> Result<Vec<&[u8]>, NamedParamsError>
+        ensures ok { OnTokens self.now.mode self.now.query (λ ts. IfOk result (λ list.
+            referents list.items ≡ names ts)) }
+        ensures mixed { OnTokens self.now.mode self.now.query (λ ts.
+            IsErrOf result (NamedParamsError.Mixed mixed) ↔ (HasName ts × HasMark ts)) }
+    {
+        if self.survey.names > 0 && self.survey.marks > 0 {
+            return Err(NamedParamsError::Mixed(MixedParamsError));
+        }
+        match query_names(
+            alloc,
+            self.query.as_slice(),
+            self.places.as_slice(),
+            self.survey.names,
+            self.no_backslash_escape,
+        ) {
+            Ok(names) => Ok(names),
+            Err(error) => Err(NamedParamsError::Memory(error)),
+        }
+    }
+
+    /// The number of the query's marks.
+    pub fn marks(&self) -> usize
+        ensures { OnTokens self.now.mode self.now.query (λ ts. result ≡ marks ts) }
+    {
+        self.survey.marks
+    }
+
+    /// The first construct for which the query isn't portable. This walks the query: the walk for
+    /// its places jumps over what has to be looked at here.
+    pub fn first_unportable(&self) -> Option<Unportable>
+        ensures { OnTokens self.now.mode self.now.query (λ ts. result ≡ first_unportable ts) }
+    {
+        first_unportable(self.query.as_slice(), self.no_backslash_escape)
+    }
+}
+
+impl<'q> PartialEq for ParsedQuery<'q> {
+    ghost eq = { same_query };
+
+    ghost laws = { partial_equiv_from_equiv same_query_is_equivalence };
+
+    fn eq(&self, other: &Self) -> bool
+        ensures test { result ≡ same_query self.now other.now }
+        ensures equal { IsTrue result ↔ (self.now ≡ other.now) }
+    {
+        self.no_backslash_escape == other.no_backslash_escape && self.query == other.query
+    }
+}
+
+impl<'q> Eq for ParsedQuery<'q> {
+    ghost laws = { same_query_is_equivalence };
+}
+
+// The survey and the places of a query.
+fn survey_and_places(
+    alloc: Global,
+    query: &[u8],
+    no_backslash_escape: bool,
+) -> Result<(Survey, Vec<FoundPlace>), AllocError>
+    ensures { IfOk result (λ found.
+        AreParsed found.0 found.1.items no_backslash_escape query.now) }
+{
+    let mut first = [NO_PLACE; KEPT_PLACES];
+    let (survey, kept) = place_survey(query, &mut first, no_backslash_escape);
+    let places = all_places(
+        alloc,
+        query,
+        &first[..kept],
+        survey.names + survey.marks,
+        no_backslash_escape,
+    )?;
+    Ok((survey, places))
+}
