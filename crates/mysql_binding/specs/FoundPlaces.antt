@@ -1,5 +1,5 @@
--- The places of a query, each as it is found after the one before it. For private functions and the
--- invariant of `ParsedQuery`; no public contract cites them.
+-- The places of a query, each as it is found after the one before it: for the invariant of
+-- `ParsedQuery`, and for `place_survey` and `bind_surveyed`, which are lent to the crate above.
 use Rattle.std.specs.Prelude.{◌≡◌, ◌+◌, ◌++◌, ℕ, List, [], ◌∷◌, length}
 use Rattle.mysql_named_params.specs.Tokens.{Token, bytes_of, Name, Mark}
 use Rattle.mysql_named_params.specs.declared.places.FoundPlace.{FoundPlace}

@@ -1,5 +1,5 @@
--- What is known of the places of a query before values are looked up. For the private
--- `place_survey`; no public contract cites it.
+-- What is known of the places of a query before values are looked up: for `place_survey` and
+-- `bind_surveyed`, which are lent to the crate above.
 use Rattle.std.specs.Prelude.{◌≡◌, List, length}
 use Rattle.mysql_named_params.specs.Tokens.{Token}
 use Rattle.mysql_named_params.specs.Places.{names, marks}

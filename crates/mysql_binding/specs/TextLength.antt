@@ -1,5 +1,5 @@
--- The lengths that the text of a query with literals is made of. For private functions; no public
--- contract cites them.
+-- The lengths that the text of a query with literals is made of: for the survey and for private
+-- functions.
 use Rattle.std.specs.Prelude.{ℕ, Bool, List, length}
 use Rattle.std.specs.List.{sum_by}
 use Rattle.mysql_values.specs.declared.value.Value.{Value}

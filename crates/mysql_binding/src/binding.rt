@@ -26,7 +26,7 @@ use crate::bind_error::BindError;
 use crate::binding::literals::first_float;
 use crate::binding::names::query_names;
 pub use crate::binding::parsed_query::ParsedQuery;
-use crate::binding::survey::{Survey, place_survey};
+pub use crate::binding::survey::{Survey, place_survey};
 use crate::binding::text::written_text;
 use mysql_named_params::places::{FoundPlace, PlaceKind};
 use mysql_params_core::params::{Params, ParamsError, place_values};
@@ -112,9 +112,10 @@ const NO_PLACE: FoundPlace = FoundPlace {
     len: 0,
 };
 
-// The text of a query with this survey and these first places: the body of `bind_text_in` and of
-// `ParsedQuery::bind`.
-fn bind_surveyed(
+/// The text of a query with this survey and these first places: the body of [`bind_text_in`] and of
+/// [`ParsedQuery::bind`], lent to the crate above, which keeps a survey in another form. It refuses
+/// what these refuse.
+pub fn bind_surveyed(
     alloc: Global,
     query: &[u8],
     survey: Survey,

@@ -1,8 +1,9 @@
 //! Binding: the literals of values in the places of a query's names and marks.
 //!
 //! [`bind_text_in`] is the call for a mode of the server, and [`bind_text`] the same for the mode
-//! in which a backslash escapes. `specs/Isolation.antt` says what they promise of the text: each
-//! value stands in one literal, and nothing else of the query changes.
+//! in which a backslash escapes; a [`ParsedQuery`] is parsed once and bound many times.
+//! `specs/Isolation.antt` says what they promise of the text: each value stands in one literal, and
+//! nothing else of the query changes.
 #![tactic(auto)]
 
 mod bind_error;
@@ -10,4 +11,4 @@ mod binding;
 pub mod laws;
 
 pub use bind_error::BindError;
-pub use binding::{ParsedQuery, bind_text, bind_text_in};
+pub use binding::{ParsedQuery, Survey, bind_surveyed, bind_text, bind_text_in, place_survey};

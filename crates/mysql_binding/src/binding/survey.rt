@@ -11,19 +11,19 @@ use mysql_named_params::places::{FoundPlace, PlaceKind, first_place};
 
 /// The places of a query, counted and tested.
 #[derive(Debug, Clone, Copy)]
-pub(super) struct Survey {
+pub struct Survey {
     /// The number of names, with repeats.
-    pub(super) names: usize,
+    pub names: usize,
     /// The number of marks.
-    pub(super) marks: usize,
+    pub marks: usize,
     /// Number and position of the first place that doesn't stand alone.
-    pub(super) not_alone: Option<(usize, usize)>,
+    pub not_alone: Option<(usize, usize)>,
     /// The length of all pieces between the places together.
-    pub(super) piece_bytes: usize,
+    pub piece_bytes: usize,
 }
 
 /// The survey of a query, and how many of its first places were kept: as many as there is room for.
-pub(super) fn place_survey(
+pub fn place_survey(
     query: &[u8],
     first: &mut [FoundPlace],
     no_backslash_escape: bool,
