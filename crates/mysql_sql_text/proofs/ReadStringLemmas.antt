@@ -8,7 +8,7 @@ use Rattle.mysql_sql_text.specs.LiteralEnd.{is_single_quote, BeginsWithout}
 use Rattle.mysql_sql_text.proofs.ByteNames.{newline, carriage_return, backslash, single_quote, double_quote}
 
 -- a byte that is no quote and begins no pair stands for itself
-read_units-ordinary : (mode : Bool) (b : ℕ) (text : List ℕ) → is_single_quote b ≡ false → begins_pair mode b ≡ false
+pub read_units-ordinary : (mode : Bool) (b : ℕ) (text : List ℕ) → is_single_quote b ≡ false → begins_pair mode b ≡ false
     → read_units mode (b ∷ text) ≡ prefix_read (b ∷ []) (read_units mode text)
 read_units-ordinary mode b [] no_quote no_pair = cond-false (is_single_quote b) _ _ no_quote
 read_units-ordinary mode b (c ∷ text) no_quote no_pair =
@@ -36,7 +36,7 @@ read_units-escaped_byte false b text =
     cond_both (eqb b double_quote) _ _ P (same double_quote) (λ _. read_units-ordinary false b text no_quote no_pair)))))))
 
 -- a quote that no quote follows ends the units
-read_units-quote : (mode : Bool) (rest : List ℕ) → BeginsWithout is_single_quote rest → read_units mode (single_quote ∷ rest) ≡ Some ([], rest)
+pub read_units-quote : (mode : Bool) (rest : List ℕ) → BeginsWithout is_single_quote rest → read_units mode (single_quote ∷ rest) ≡ Some ([], rest)
 read_units-quote mode [] h = refl
 read_units-quote mode (b ∷ rest) h = cond-false (is_single_quote b) _ _ h
 

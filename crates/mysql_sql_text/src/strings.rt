@@ -32,8 +32,16 @@ pub fn fill_bytes_literal(buffer: &mut [u8], bytes: &[u8], no_backslash_escape: 
     }
 }
 
-// Fills the slice with bytes between quotes, escaped.
-fn fill_string(buffer: &mut [u8], bytes: &[u8], no_backslash_escape: bool)
+/// How long bytes between quotes are, escaped.
+pub fn string_len(bytes: &[u8], no_backslash_escape: bool) -> u128
+    ensures exact { result ≡ length (quoted (escaped no_backslash_escape bytes.now)) }
+    ensures few { result ≤ 2 + 2 * length bytes.now }
+{
+    2 + escaped_len(bytes, no_backslash_escape)
+}
+
+/// Fills the slice with bytes between quotes, escaped. The slice is exactly `string_len` long.
+pub fn fill_string(buffer: &mut [u8], bytes: &[u8], no_backslash_escape: bool)
     requires { length buffer.old ≡ length (quoted (escaped no_backslash_escape bytes.now)) }
     ensures { buffer.new ≡ quoted (escaped no_backslash_escape bytes.now) }
 {
@@ -42,8 +50,8 @@ fn fill_string(buffer: &mut [u8], bytes: &[u8], no_backslash_escape: bool)
     append_byte(buffer, at, b'\'');
 }
 
-// Fills the slice with `0x` and two hexadecimal digits for each byte.
-fn fill_hexadecimal(buffer: &mut [u8], bytes: &[u8])
+/// Fills the slice with `0x` and two hexadecimal digits for each byte.
+pub fn fill_hexadecimal(buffer: &mut [u8], bytes: &[u8])
     requires { length buffer.old ≡ 2 + 2 * length bytes.now }
     ensures { buffer.new ≡ codes "0x" ++ hexadecimal bytes.now }
 {

@@ -1,12 +1,21 @@
-//! Laws of literals: their shape, how they read back, and which values have none.
+//! Laws of literals: their shape, how they read back, and which values have none; and the ranges of
+//! fields, on which literals rest.
 ghost use Rattle.std.specs.Prelude.{◌≡◌, ◌↔◌, Bool, IfSome, IsTrue, is_none};
 ghost use Rattle.mysql_value_core.specs.declared.value.Value as value;
+ghost use Rattle.mysql_value_core.specs.Value.{FieldsInRange};
 ghost use Rattle.mysql_value_core.specs.Literal.{is_float, literal_of};
 ghost use Rattle.mysql_value_core.specs.Content.{content_of};
 ghost use Rattle.mysql_value_core.specs.ReadBack.{ReadsAs};
 ghost use Rattle.mysql_sql_text.specs.LiteralShape.{IsLiteral};
 
 use crate::value::{AsSqlError, Value};
+
+/// Each field of a value is in the range of its type.
+pub fn fields_in_range(value: &Value)
+    ensures range { FieldsInRange value.now }
+{
+    value.fields_in_range();
+}
 
 /// The literal of a value has the shape of literals.
 pub fn literal_shape(value: &Value)

@@ -1,0 +1,2 @@
+pub mod SteadyLiteralLemmas
+pub mod FormLemmas

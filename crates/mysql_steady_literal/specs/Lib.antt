@@ -1,0 +1,3 @@
+pub mod SteadyLiteral
+pub mod SteadyShape
+pub mod ReadSteadyLiteral
