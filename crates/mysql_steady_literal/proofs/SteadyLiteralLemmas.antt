@@ -1,20 +1,20 @@
 -- The steady literal of a value: its shape, that it is steady, and how it reads.
-use Rattle.std.specs.Prelude.{Bool, ℤ, pos, negsuc, codes, nat_lt, IfSome, IsSomeAnd, is_none, option_map, Some}
+use Rattle.std.specs.Prelude.{Bool, ℤ, pos, negsuc, codes, nat_lt, IfSome, is_none, option_map, Some}
 use Rattle.std.specs.Option.{option_or}
-use Rattle.std.proofs.Common.{◌≡◌, ◌++◌, ◌==◌, ◌&&◌, ◌<◌, ◌^◌, not, ℕ, suc, true, false, List, [], ◌∷◌, length, get_or, None, refl, sym, ap, ◌∙◌, inl, inr, arith, true≢false, append_assoc}
+use Rattle.std.proofs.Common.{◌≡◌, ◌++◌, ◌==◌, ◌<◌, ◌^◌, ℕ, suc, true, false, List, [], ◌∷◌, length, get_or, None, refl, sym, ap, ◌∙◌, arith, true≢false, append_assoc}
 use Rattle.std.specs.Char.{is_ascii_digit}
 use Rattle.std.specs.Fmt.{decimal, signed_decimal}
 use Rattle.std.proofs.lemmas.Int.{ints}
 use lib.Signed.{mag}
 use Rattle.std.specs.List.{list_all}
 use Rattle.std.specs.Str.{byte, is_utf8}
-use Rattle.std.proofs.lemmas.Bool.{and_parts, and_from, cases_Bool, eqb-true, cond_both, not-true, cond-false}
+use Rattle.std.proofs.lemmas.Bool.{and_parts, and_from, eqb-true, cond_both, not-true}
 use Rattle.std.proofs.lemmas.Bool.Decides.{nat_tests}
 use Rattle.std.proofs.lemmas.List.Folds.{list_all-append}
 use Rattle.mysql_sql_text.specs.LiteralText.{escaped_byte, escaped, quoted, hexadecimal, date_text, time_text}
-use Rattle.mysql_sql_text.specs.ReadLiteral.{Content, byte_string, after, begins_pair, prefix_read, is_hexadecimal_digit, read_literal, read_string, read_units}
+use Rattle.mysql_sql_text.specs.ReadLiteral.{Content, byte_string, begins_pair, prefix_read, is_hexadecimal_digit, read_literal, read_units}
 use Rattle.mysql_sql_text.specs.LiteralEnd.{BeginsWithout, ReadsBefore, continues_literal, is_single_quote}
-use Rattle.mysql_sql_text.specs.LiteralShape.{AreDigits, AreHexadecimalPairs, IsClosedString, AreClosedStrings, IsLiteral, closed_string, one_string, more_strings, null_literal, natural_literal, negative_literal, hexadecimal_literal, quoted_literal}
+use Rattle.mysql_sql_text.specs.LiteralShape.{AreHexadecimalPairs, AreClosedStrings, IsLiteral, closed_string, one_string, more_strings, null_literal, natural_literal, negative_literal, hexadecimal_literal, quoted_literal}
 use Rattle.mysql_sql_text.proofs.ByteNames.{single_quote}
 use Rattle.mysql_sql_text.proofs.ClockLemmas.{is_clock_byte, IsClockText, IsClockText-date_text, IsClockText-time_text}
 use Rattle.mysql_sql_text.proofs.HexadecimalLemmas.{hexadecimal_reads, AreHexadecimalPairs-hexadecimal}
@@ -26,12 +26,11 @@ use Rattle.mysql_value_core.specs.declared.value.Value.{Value}
 use Rattle.mysql_value_core.specs.declared.value.Value.TheVariants.{NULL, Bytes, Int, UInt, Float, Double, Date, Time}
 use Rattle.mysql_value_core.specs.Value.{FieldsInRange}
 use Rattle.mysql_value_core.specs.Literal.{is_float}
-use Rattle.mysql_value_core.specs.Content.{content_of}
 use Rattle.mysql_value_core.proofs.LiteralLemmas.{literal_shape, literal_reads}
 use Rattle.mysql_named_params.specs.Steady.{is_no_backslash, is_steady}
 use Rattle.mysql_steady_literal.specs.SteadyLiteral.{is_spelled_out, steady_bytes_literal, steady_literal_of}
 use Rattle.mysql_steady_literal.specs.SteadyShape.{IsSteadyLiteral, bare_literal, introduced_string, introduced_pairs}
-use Rattle.mysql_steady_literal.specs.ReadSteadyLiteral.{read_after_introducer, read_introduced, read_steady_literal, ReadsSteadyBefore, ReadsSteadyAs}
+use Rattle.mysql_steady_literal.specs.ReadSteadyLiteral.{read_introduced, ReadsSteadyBefore, ReadsSteadyAs}
 
 -- bytes that a steady string doesn't hold are not empty
 some_byte : (bytes : List ℕ) → list_all is_spelled_out bytes ≡ false → 0 < length bytes
@@ -168,8 +167,8 @@ string_reads : (bytes : List ℕ) → list_all is_spelled_out bytes ≡ true →
 string_reads bytes e mode rest n =
     let text : List ℕ = (codes "_utf8mb4" ++ quoted (escaped true bytes)) ++ rest in
     ap (λ x. option_or (option_or (option_map (λ r. (byte_string r.0, r.1)) x) None) (read_literal mode text)) (
-      ap (read_units mode) (append_assoc (escaped true bytes) (single_quote ∷ []) rest)
-      ∙ read_units-all_doubled mode bytes rest (all_wider is_spelled_out is_no_backslash spelled_out_no_backslash bytes e) (begins_without_quote rest n)
+    ap (read_units mode) (append_assoc (escaped true bytes) (single_quote ∷ []) rest)
+    ∙ read_units-all_doubled mode bytes rest (all_wider is_spelled_out is_no_backslash spelled_out_no_backslash bytes e) (begins_without_quote rest n)
     )
 
 introduced_pairs_read : (bytes : List ℕ) → ((i : ℕ) → get_or bytes i 0 < 256) → 0 < length bytes →

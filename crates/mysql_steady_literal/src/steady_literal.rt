@@ -30,8 +30,8 @@ pub fn steady_len(value: &Value) -> Option<u128>
 
 /// Writes the steady literal of a value over the whole of `room`.
 ///
-/// It can be called only if the value has a literal, so is no float, and `room` is exactly as long as
-/// [`steady_len`] says. Nothing is allocated, and nothing is refused.
+/// It can be called only if the value has a literal, so is no float, and `room` is exactly as long
+/// as [`steady_len`] says. Nothing is allocated, and nothing is refused.
 pub fn put_steady(value: &Value, room: &mut [u8])
     requires { option_map length (steady_literal_of value.now) ≡ Some (length room.old) }
     ensures exact { steady_literal_of value.now ≡ Some room.new }

@@ -16,6 +16,8 @@ mod shared;
 #[cfg(test)]
 mod sql_literals;
 #[cfg(test)]
+mod steady_literals;
+#[cfg(test)]
 mod text_cells;
 #[cfg(test)]
 mod time_texts;
