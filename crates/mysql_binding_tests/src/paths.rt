@@ -73,6 +73,7 @@ pub use mysql_values::laws::bytes_equality;
 pub use mysql_values::laws::bytes_order;
 pub use mysql_values::laws::duration_converts_back;
 pub use mysql_values::laws::escapes_read;
+pub use mysql_values::laws::fields_in_range;
 pub use mysql_values::laws::floats_have_no_literal;
 pub use mysql_values::laws::from_value_error_equality;
 pub use mysql_values::laws::literal_reads_back;
