@@ -29,3 +29,7 @@ pub mod UnportableLemmas
 pub mod PlaceTextLemmas
 pub mod OtherModeLemmas
 pub mod SteadyLemmas
+pub mod ClientLemmas
+pub mod StatementLemmas
+pub mod ClientWalkLemmas
+pub mod ClientTextLemmas

@@ -18,3 +18,8 @@ pub mod FirstUnportable
 pub mod FrontConstruct
 pub mod Steady
 pub mod CharacterSet
+pub mod Client
+pub mod Statements
+pub mod FoundInClient
+pub mod FirstUnportableInClient
+pub mod FrontInClient

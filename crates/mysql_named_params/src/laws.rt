@@ -12,6 +12,8 @@ ghost use Rattle.mysql_named_params.specs.Server.{Server, IsReadOn, grammar};
 ghost use Rattle.mysql_named_params.specs.Quiet.{IsHonest};
 ghost use Rattle.mysql_named_params.specs.Steady.{HoldNoEscapes, IsSteady};
 ghost use Rattle.mysql_named_params.specs.CharacterSet.{CharacterSet, seen};
+ghost use Rattle.mysql_named_params.specs.Client.{Client, IsReadBy, HoldNoOpener};
+ghost use Rattle.mysql_named_params.specs.Statements.{statements};
 
 use crate::named_params::{MixedParamsError, NamedParamsError, ParsedNamedParams};
 use crate::portable::Unportable;
@@ -120,6 +122,25 @@ pub fn same_places()
     ensures positions { (server : Server) (mode : Bool) (query : List ℕ) (ts us : List Token) →
         IsHonest server → IsTokens mode query ts → AreReadAlike ts → IsReadOn server mode query us →
         positions us ≡ positions ts }
+{}
+
+/// Such a query has as many statements on every honest server: each cuts it at the same `;`.
+pub fn same_statements()
+    ensures count { (server : Server) (mode : Bool) (query : List ℕ) (ts us : List Token) →
+        IsHonest server → IsTokens mode query ts → AreReadAlike ts → IsReadOn server mode query us →
+        length (statements us) ≡ length (statements ts) }
+{}
+
+/// A client that keeps comments is one more server for each such query without `/*!`, `/*+` and
+/// `/*/` in a block comment: it reads what its server reads, and nothing else. So what the laws say
+/// of servers holds of it.
+pub fn client_is_a_server()
+    ensures reads { (client : Client) (mode : Bool) (query : List ℕ) (ts us : List Token) →
+        IsHonest client.reader → IsTokens mode query ts → AreReadAlike ts → HoldNoOpener ts →
+        IsReadOn client.reader mode query us → IsReadBy client mode query us }
+    ensures is_read { (client : Client) (mode : Bool) (query : List ℕ) (ts us : List Token) →
+        IsHonest client.reader → IsTokens mode query ts → AreReadAlike ts → HoldNoOpener ts →
+        IsReadBy client mode query us → IsReadOn client.reader mode query us }
 {}
 
 /// Errors of mixed parameters are equal: there is one.

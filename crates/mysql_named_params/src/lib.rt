@@ -6,6 +6,7 @@
 //! hands on all three and the laws.
 #![tactic(auto)]
 
+pub mod client;
 mod ends;
 pub mod laws;
 pub mod named_params;

@@ -1,0 +1,152 @@
+-- What a client of Client.antt makes of a query's tokens beside reading them: commands, lines that
+-- it drops, bytes that it changes or never sends. A test for each token by what stands before and
+-- after it, and the construct that it finds. Source: what the clients send, by experiment
+-- (docs/EVIDENCE.md); no law says that these are all.
+use Rattle.std.specs.Prelude.{ℕ, Bool, true, false, not, ◌==◌, ◌&&◌, ◌||◌, nat_le, if◌then◌else◌, List, [], ◌∷◌, length, drop, Option, Some, None}
+use Rattle.std.specs.List.{list_any}
+use Rattle.std.specs.Char.{to_ascii_lowercase}
+use Rattle.std.specs.Str.{byte}
+use Rattle.mysql_named_params.specs.Bytes.{asterisk, carriage_return, dash, hash, newline, slash, space, is_white_space, begins}
+use Rattle.mysql_named_params.specs.Tokens.{Token, bytes_of, QuotedString, QuotedIdentifier, HashComment, DashComment, BlockComment, Name, Mark, Plain}
+use Rattle.mysql_named_params.specs.Server.{begins_place}
+use Rattle.mysql_named_params.specs.Client.{holds_opener}
+use Rattle.mysql_named_params.specs.declared.portable.Construct.{Construct}
+use Rattle.mysql_named_params.specs.declared.portable.Construct.TheVariants as construct
+
+-- ---- where a token stands
+
+-- a token of a comment
+abbrev pub is_comment : Token → Bool
+is_comment (HashComment tail) = true
+is_comment (DashComment gap tail) = true
+is_comment (BlockComment tail) = true
+is_comment t = false
+
+-- after this token a statement begins, if one began before it or not: only white space, control
+-- bytes and comments stand before its first word
+abbrev pub begins_statement : Bool → Token → Bool
+begins_statement before (Plain b) = b == byte ";" || (nat_le b space && before)
+begins_statement before t = is_comment t && before
+
+-- after this token a line or a statement may begin; also after each comment, and after a `/`, which
+-- may end a hint
+abbrev pub begins_line : Bool → Token → Bool
+begins_line before (Plain b) =
+    b == byte ";" || (b == newline || (b == slash || (nat_le b space && before)))
+begins_line before t = is_comment t
+
+-- ---- texts
+
+-- the text begins with this word of lower-case letters, in letters of either case
+abbrev pub begins_word : List ℕ → List ℕ → Bool
+begins_word [] text = true
+begins_word (w ∷ ws) [] = false
+begins_word (w ∷ ws) (b ∷ bs) = to_ascii_lowercase b == w && begins_word ws bs
+
+-- the text begins with nothing that would be part of a word: white space, a control byte or `;`
+abbrev pub ends_word : List ℕ → Bool
+ends_word [] = true
+ends_word (b ∷ bs) = nat_le b space || b == byte ";"
+
+-- the text begins with the whole word
+abbrev pub begins_whole_word : List ℕ → List ℕ → Bool
+begins_whole_word word text = begins_word word text && ends_word (drop (length word) text)
+
+-- the word `delimiter`
+abbrev pub delimiter_word : List ℕ
+delimiter_word =
+    byte "d" ∷ byte "e" ∷ byte "l" ∷ byte "i" ∷ byte "m" ∷ byte "i" ∷ byte "t"
+    ∷ byte "e" ∷ byte "r" ∷ []
+
+-- the word `use`
+abbrev pub use_word : List ℕ
+use_word = byte "u" ∷ byte "s" ∷ byte "e" ∷ []
+
+-- the word `help`
+abbrev pub help_word : List ℕ
+help_word = byte "h" ∷ byte "e" ∷ byte "l" ∷ byte "p" ∷ []
+
+-- a byte that a client joins to what stands before a comment: from 128 on, or a backslash
+abbrev pub is_joined : ℕ → Bool
+is_joined b = nat_le 128 b || b == byte "\\"
+
+-- after a `*`: `/` and such a byte
+abbrev pub closes_before_joined : List ℕ → Bool
+closes_before_joined [] = false
+closes_before_joined (b ∷ bs) = b == slash && begins is_joined bs
+
+-- after a `-`, by which a statement begins: another that opens no comment, or a place, whose value
+-- may begin with one
+abbrev pub drops_line : List ℕ → Bool
+drops_line [] = false
+drops_line (b ∷ bs) =
+    begins_place (b ∷ bs) || (b == dash && begins (λ c. not (is_white_space c)) bs)
+
+-- two dashes, and then white space or the end
+abbrev pub begins_comment_dashes : List ℕ → Bool
+begins_comment_dashes [] = false
+begins_comment_dashes (a ∷ []) = false
+begins_comment_dashes (a ∷ b ∷ []) = a == dash && b == dash
+begins_comment_dashes (a ∷ b ∷ gap ∷ bs) = a == dash && (b == dash && is_white_space gap)
+
+-- the text begins with a comment
+abbrev pub begins_comment : List ℕ → Bool
+begins_comment [] = false
+begins_comment (b ∷ bs) =
+    b == hash
+    || ((b == slash && begins (λ c. c == asterisk) bs) || begins_comment_dashes (b ∷ bs))
+
+-- after a `-`: another, directly before a comment
+abbrev pub stand_before_comment : List ℕ → Bool
+stand_before_comment [] = false
+stand_before_comment (b ∷ bs) = b == dash && begins_comment bs
+
+-- after a backslash: the end of a line
+abbrev pub ends_line : List ℕ → Bool
+ends_line [] = false
+ends_line (b ∷ bs) = b == newline || (b == carriage_return && begins (λ c. c == newline) bs)
+
+-- a backslash stands in the text at the end of a line
+abbrev pub escapes_newline : List ℕ → Bool
+escapes_newline [] = false
+escapes_newline (b ∷ bs) = (b == byte "\\" && ends_line bs) || escapes_newline bs
+
+-- ---- what is found
+
+-- in a text in quotes or backquotes
+abbrev pub found_in_quotes : List ℕ → Option Construct
+found_in_quotes tail =
+    if escapes_newline tail then Some construct.EscapedNewline else None
+
+-- in a block comment, before this text
+abbrev pub found_in_comment : List ℕ → List ℕ → Option Construct
+found_in_comment tail rest =
+    if holds_opener tail then Some construct.OpenerInComment
+    else if begins is_joined rest then Some construct.JoiningComment
+    else None
+
+-- at a plain byte before this text; the flags say whether a statement or a line may begin there
+abbrev pub found_at_byte : Bool → Bool → ℕ → List ℕ → Option Construct
+found_at_byte statement line b rest =
+    if b == byte "\\" && not (begins (λ c. c == byte "N") rest) then Some construct.ClientCommand
+    else if b == asterisk && closes_before_joined rest then Some construct.JoiningComment
+    else if b == dash && (statement && drops_line rest) then Some construct.DashInFront
+    else if b == dash && stand_before_comment rest then Some construct.DashesBeforeComment
+    else if line && begins_word delimiter_word (b ∷ rest) then Some construct.Delimiter
+    else if statement && (begins_whole_word use_word (b ∷ rest) || begins_whole_word help_word (b ∷ rest))
+    then Some construct.ClientWord
+    else None
+
+-- in this token before this text, if it holds no byte 0
+abbrev pub found_in_token : Bool → Bool → Token → List ℕ → Option Construct
+found_in_token statement line (QuotedString quote tail) rest = found_in_quotes tail
+found_in_token statement line (QuotedIdentifier tail) rest = found_in_quotes tail
+found_in_token statement line (BlockComment tail) rest = found_in_comment tail rest
+found_in_token statement line (Plain b) rest = found_at_byte statement line b rest
+found_in_token statement line t rest = None
+
+-- in this token before this text
+abbrev pub found_in_client : Bool → Bool → Token → List ℕ → Option Construct
+found_in_client statement line t rest =
+    if list_any (λ b. b == 0) (bytes_of t) then Some construct.ZeroByte
+    else found_in_token statement line t rest

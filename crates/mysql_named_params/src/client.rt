@@ -1,0 +1,272 @@
+//! The first construct of a query for which it isn't portable on servers, or for which the client
+//! `mysql` or `mariadb` sends something else than the query.
+ghost use Rattle.std.specs.Prelude.{◌≡◌, ◌↔◌, ◌≤◌, ◌<◌, length, None, IsTrue};
+ghost use Rattle.mysql_named_params.specs.Tokens.{OnTokens};
+ghost use Rattle.mysql_named_params.specs.Client.{begins_opener, begins_end, holds_opener};
+ghost use Rattle.mysql_named_params.specs.FoundInClient.{begins_word, ends_word, begins_whole_word, is_joined, closes_before_joined, drops_line, begins_comment, stand_before_comment, ends_line, escapes_newline, found_in_quotes, found_in_comment, found_at_byte};
+ghost use Rattle.mysql_named_params.specs.FirstUnportableInClient.{first_unportable_in_client, IsPortableInClient};
+ghost use Rattle.mysql_named_params.specs.FrontInClient.{are_comment, statement_after, line_after, found_in_bytes, found_or_zero, found_in_front};
+
+use crate::portable::{Construct, Unportable, begins_place, front_construct};
+use crate::tokens::{first_token, is_white_space};
+
+// Whether the bytes of a token are those of a comment.
+fn are_comment(token: &[u8]) -> bool
+    ensures { result ≡ are_comment token.now }
+{
+    matches!(token, [b'#', ..] | [b'-' | b'/', _, ..])
+}
+
+// Whether a statement begins after this token, if the flag says so of the place before it.
+fn statement_after(before: bool, token: &[u8]) -> bool
+    ensures { result ≡ statement_after before token.now }
+{
+    match token {
+        [b';'] => true,
+        [b'#'] => before,
+        [byte] => *byte <= b' ' && before,
+        _ => are_comment(token) && before,
+    }
+}
+
+// Whether a line or a statement may begin after this token.
+fn line_after(before: bool, token: &[u8]) -> bool
+    ensures { result ≡ line_after before token.now }
+{
+    match token {
+        [b';' | b'\n' | b'/' | b'#'] => true,
+        [byte] => *byte <= b' ' && before,
+        _ => are_comment(token),
+    }
+}
+
+// Whether the text begins with `/*!`, `/*+` or `/*/`.
+fn begins_opener(text: &[u8]) -> bool
+    ensures { result ≡ begins_opener text.now }
+{
+    matches!(text, [b'/', b'*', b'!' | b'+' | b'/', ..])
+}
+
+// Whether the text begins with `*/`.
+fn begins_end(text: &[u8]) -> bool
+    ensures { result ≡ begins_end text.now }
+{
+    matches!(text, [b'*', b'/', ..])
+}
+
+// Whether one of these openers stands in the text of a comment.
+fn holds_opener(text: &[u8]) -> bool
+    ensures { result ≡ holds_opener text.now }
+{
+    for i in 0..text.len() {
+        let rest = &text[i..];
+        if begins_opener(rest) {
+            return true;
+        }
+        if begins_end(rest) {
+            return false;
+        }
+    }
+    false
+}
+
+// Whether the text begins with this word of lower-case letters, in letters of either case.
+fn begins_word(word: &[u8], text: &[u8]) -> bool
+    ensures value { result ≡ begins_word word.now text.now }
+    ensures in_range { IsTrue result → length word.now ≤ length text.now }
+{
+    for i in 0..word.len() {
+        if text.len() <= i {
+            return false;
+        }
+        if text[i].to_ascii_lowercase() != word[i] {
+            return false;
+        }
+    }
+    true
+}
+
+// Whether the text begins with the whole word.
+fn begins_whole_word(word: &[u8], text: &[u8]) -> bool
+    ensures { result ≡ begins_whole_word word.now text.now }
+{
+    begins_word(word, text) && ends_word(&text[word.len()..])
+}
+
+// Whether the text begins with nothing that would be part of a word.
+fn ends_word(text: &[u8]) -> bool
+    ensures { result ≡ ends_word text.now }
+{
+    match text {
+        [byte, ..] => *byte <= b' ' || *byte == b';',
+        [] => true,
+    }
+}
+
+// Whether the client joins the byte to what stands before a comment.
+fn is_joined(byte: u8) -> bool
+    ensures { result ≡ is_joined byte }
+{
+    128 <= byte || byte == b'\\'
+}
+
+// Whether a `*` and then this text close a comment before such a byte.
+fn closes_before_joined(text: &[u8]) -> bool
+    ensures { result ≡ closes_before_joined text.now }
+{
+    match text {
+        [b'/', byte, ..] => is_joined(*byte),
+        _ => false,
+    }
+}
+
+// Whether the client drops a line that begins with a `-` and then this text.
+fn drops_line(text: &[u8]) -> bool
+    ensures { result ≡ drops_line text.now }
+{
+    match text {
+        [b'-', byte, ..] => !is_white_space(*byte),
+        _ => begins_place(text),
+    }
+}
+
+// Whether the text begins with a comment.
+fn begins_comment(text: &[u8]) -> bool
+    ensures { result ≡ begins_comment text.now }
+{
+    match text {
+        [b'#', ..] | [b'/', b'*', ..] | [b'-', b'-'] => true,
+        [b'-', b'-', gap, ..] => is_white_space(*gap),
+        _ => false,
+    }
+}
+
+// Whether a `-` and then this text are two signs directly before a comment.
+fn stand_before_comment(text: &[u8]) -> bool
+    ensures { result ≡ stand_before_comment text.now }
+{
+    match text {
+        [b'-', rest @ ..] => begins_comment(rest),
+        _ => false,
+    }
+}
+
+// Whether the text begins with the end of a line.
+fn ends_line(text: &[u8]) -> bool
+    ensures { result ≡ ends_line text.now }
+{
+    matches!(text, [b'\n', ..] | [b'\r', b'\n', ..])
+}
+
+// Whether a backslash stands in the text at the end of a line.
+fn escapes_newline(text: &[u8]) -> bool
+    ensures { result ≡ escapes_newline text.now }
+{
+    for i in 0..text.len() {
+        if text[i] == b'\\' && ends_line(&text[i + 1..]) {
+            return true;
+        }
+    }
+    false
+}
+
+// What is found at a plain byte before this text.
+fn found_at_byte(statement: bool, line: bool, byte: u8, rest: &[u8]) -> Option<Construct>
+    ensures { result ≡ found_at_byte statement line byte rest.now }
+{
+    let letter = byte.to_ascii_lowercase();
+    match byte {
+        b'\\' if !matches!(rest, [b'N', ..]) => Some(Construct::ClientCommand),
+        b'*' if closes_before_joined(rest) => Some(Construct::JoiningComment),
+        b'-' if statement && drops_line(rest) => Some(Construct::DashInFront),
+        b'-' if stand_before_comment(rest) => Some(Construct::DashesBeforeComment),
+        _ if line && letter == b'd' && begins_word(b"elimiter", rest) => Some(Construct::Delimiter),
+        _ if statement && letter == b'u' && begins_whole_word(b"se", rest) => Some(
+            Construct::ClientWord,
+        ),
+        _ if statement && letter == b'h' && begins_whole_word(b"elp", rest) => Some(
+            Construct::ClientWord,
+        ),
+        _ => None,
+    }
+}
+
+// What is found in a token of these bytes, before this text.
+fn found_in_bytes(statement: bool, line: bool, token: &[u8], rest: &[u8]) -> Option<Construct>
+    ensures { result ≡ found_in_bytes statement line token.now rest.now }
+{
+    match token {
+        [byte] => found_at_byte(statement, line, *byte, rest),
+        [b'/', _, tail @ ..] => found_in_comment(tail, rest),
+        [b'\'' | b'"' | b'`', tail @ ..] if escapes_newline(tail) => Some(
+            Construct::EscapedNewline,
+        ),
+        _ => None,
+    }
+}
+
+// What is found in a block comment before this text.
+fn found_in_comment(tail: &[u8], rest: &[u8]) -> Option<Construct>
+    ensures { result ≡ found_in_comment tail.now rest.now }
+{
+    if holds_opener(tail) {
+        return Some(Construct::OpenerInComment);
+    }
+    match rest {
+        [byte, ..] if is_joined(*byte) => Some(Construct::JoiningComment),
+        _ => None,
+    }
+}
+
+// What is found in the token at the front of the text, which has this length.
+fn found_in_front(statement: bool, line: bool, text: &[u8], len: usize) -> Option<Construct>
+    requires some { 0 < len }
+    requires in_range { len ≤ length text.now }
+    ensures { result ≡ found_in_front statement line text.now len }
+{
+    if let Some(found) = front_construct(text, len) {
+        return Some(found);
+    }
+    let (token, rest) = text.split_at(len);
+    if token.contains(&0) {
+        return Some(Construct::ZeroByte);
+    }
+    found_in_bytes(statement, line, token, rest)
+}
+
+/// The first construct of a query for which it isn't portable, as
+/// [`first_unportable`](crate::portable::first_unportable) has it, or for which the client `mysql`
+/// or `mariadb` sends something else than the query.
+///
+/// It is for a query whose bound text goes through such a client with `--comments`, as
+/// `.. | mysql --comments --default-character-set=utf8mb4`, without `--binary-mode` and `--force`.
+/// A program that sends the text itself needs `first_unportable` alone.
+///
+/// If there is none, the client reads the query and each text bound to it as a server does
+/// ([`client_is_a_server`](crate::laws::client_is_a_server)), so that it ends a statement at each
+/// `;` of the query's own and at no other. That it does nothing else with the query, as to take a
+/// line for a command, is known by tests alone.
+pub fn first_unportable_in_client(query: &[u8], no_backslash_escape: bool) -> Option<Unportable>
+    ensures first { OnTokens no_backslash_escape query.now
+        (λ ts. result ≡ first_unportable_in_client ts) }
+    ensures none { OnTokens no_backslash_escape query.now
+        (λ ts. (result ≡ None) ↔ IsPortableInClient ts) }
+{
+    let mut rest = query;
+    let mut statement = true;
+    let mut line = true;
+    while !rest.is_empty() {
+        let (_, len) = first_token(rest, no_backslash_escape);
+        if let Some(construct) = found_in_front(statement, line, rest, len) {
+            return Some(Unportable {
+                construct,
+                at: query.len() - rest.len(),
+            });
+        }
+        let token = &rest[..len];
+        statement = statement_after(statement, token);
+        line = line_after(line, token);
+        rest = &rest[len..];
+    }
+    None
+}
