@@ -22,3 +22,4 @@ pub mod FilledTextLemmas
 pub mod BoundTextLemmas
 pub mod BoundAgainLemmas
 pub mod BoundOnServerLemmas
+pub mod BoundStatementLemmas

@@ -14,3 +14,4 @@ pub mod WrittenText
 pub mod BindErrors
 pub mod Isolation
 pub mod BoundAgain
+pub mod BoundStatements

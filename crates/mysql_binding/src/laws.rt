@@ -1,5 +1,5 @@
 //! Laws of the definitions that the contracts cite, and of equality. No program needs to call them.
-ghost use Rattle.std.specs.Prelude.{◌≡◌, ◌↔◌, ℕ, Bool, List, [], None, Some, IsTrue, map, slice_get};
+ghost use Rattle.std.specs.Prelude.{◌≡◌, ◌↔◌, ℕ, Bool, List, [], None, Some, IsTrue, length, map, slice_get};
 ghost use Rattle.mysql_values.specs.Content.{content_of};
 ghost use Rattle.mysql_named_params.specs.Tokens.{Token, IsTokens, text_of};
 ghost use Rattle.mysql_named_params.specs.Places.{place_count, with_marks};
@@ -7,8 +7,11 @@ ghost use Rattle.mysql_named_params.specs.Positions.{positions};
 ghost use Rattle.mysql_named_params.specs.Portable.{AreReadAlike, IsPortable, IsReadAs};
 ghost use Rattle.mysql_named_params.specs.Server.{Server, IsReadOn};
 ghost use Rattle.mysql_named_params.specs.Quiet.{IsHonest, DecidesWithin};
+ghost use Rattle.mysql_named_params.specs.Client.{Client, IsReadBy, HoldNoOpener};
+ghost use Rattle.mysql_named_params.specs.Statements.{statements};
 ghost use Rattle.mysql_params_core.specs.Given.{Given, empty, positional};
 ghost use Rattle.mysql_binding.specs.BindErrors.{AreEqualBindErrors};
+ghost use Rattle.mysql_binding.specs.BoundStatements.{statements_with_literals};
 ghost use Rattle.mysql_binding.specs.Isolation.{IsBoundText};
 ghost use Rattle.mysql_binding.specs.Pieces.{pieces, joined_text};
 ghost use Rattle.mysql_binding.specs.Replaced.{AreLiterals, AreTokensOf, with_literal_tokens};
@@ -53,6 +56,27 @@ pub fn bound_texts_on_servers()
     ensures literals { (server : Server) (mode : Bool) (ts : List Token) (given : Given)
         (text : List ℕ) → (b : IsBoundText mode ts given text) →
         AreReadOn server mode b.literals b.literal_tokens }
+{}
+
+/// A client that keeps comments cuts a text that is bound to a portable query, without `/*!`, `/*+`
+/// and `/*/` in a block comment, at each `;` of the query's own and at no other (`count`). If it
+/// decides about a quiet comment by its own text, it reads the tokens that it reads in the query,
+/// with those of one literal in place of each name and mark (`tokens`); its statements are then
+/// those of the query, with literals in their places (`statements`).
+pub fn bound_texts_in_clients()
+    ensures count { (client : Client) (mode : Bool) (query text : List ℕ) (ts vs : List Token)
+        (given : Given) → IsHonest client.reader → IsTokens mode query ts →
+        IsBoundText mode ts given text → AreReadAlike ts → HoldNoOpener ts →
+        IsReadBy client mode text vs → length (statements vs) ≡ length (statements ts) }
+    ensures tokens { (client : Client) (mode : Bool) (query text : List ℕ) (ts us : List Token)
+        (given : Given) → IsHonest client.reader → DecidesWithin client.reader →
+        IsTokens mode query ts → (b : IsBoundText mode ts given text) → AreReadAlike ts →
+        HoldNoOpener ts → IsReadBy client mode query us →
+        IsReadBy client mode text (with_literal_tokens us b.literal_tokens) }
+    ensures statements { (mode : Bool) (text : List ℕ) (ts us : List Token) (given : Given) →
+        (b : IsBoundText mode ts given text) →
+        statements (with_literal_tokens us b.literal_tokens) ≡
+        statements_with_literals (statements us) b.literal_tokens }
 {}
 
 /// No name and no mark is left in a bound text.

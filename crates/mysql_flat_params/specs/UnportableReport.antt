@@ -1,7 +1,7 @@
 -- The report on the first construct for which a query isn't portable: a number and a position.
 use Rattle.std.specs.Prelude.{ℕ, Option, Some, None}
 use Rattle.mysql_named_params.specs.declared.portable.Construct.{Construct}
-use Rattle.mysql_named_params.specs.declared.portable.Construct.TheVariants.{ExecutableComment, Hint, MariaDbComment, Dashes, EscapedQuote, Bracket, DollarQuote, DashesAfterExponent, PlaceAfterExponent}
+use Rattle.mysql_named_params.specs.declared.portable.Construct.TheVariants.{ExecutableComment, Hint, MariaDbComment, Dashes, EscapedQuote, Bracket, DollarQuote, DashesAfterExponent, PlaceAfterExponent, OpenerInComment, JoiningComment, DashesBeforeComment, ClientCommand, DashInFront, Delimiter, ClientWord, EscapedNewline, ZeroByte}
 use Rattle.mysql_named_params.specs.declared.portable.Unportable.{Unportable}
 use Rattle.mysql_flat_params.specs.Outcomes.{no_fields}
 use Rattle.mysql_flat_params.specs.declared.outcome.Report.{Report}
@@ -17,6 +17,15 @@ construct_number Bracket = 6
 construct_number DollarQuote = 7
 construct_number DashesAfterExponent = 8
 construct_number PlaceAfterExponent = 9
+construct_number OpenerInComment = 10
+construct_number JoiningComment = 11
+construct_number DashesBeforeComment = 12
+construct_number ClientCommand = 13
+construct_number DashInFront = 14
+construct_number Delimiter = 15
+construct_number ClientWord = 16
+construct_number EscapedNewline = 17
+construct_number ZeroByte = 18
 
 -- the number of what was found: 0 if nothing was
 abbrev pub unportable_number : Option Unportable → ℕ

@@ -3,7 +3,8 @@
 //!
 //! [`params_of_form`] reads the form. [`bind_into`] and [`names_into`] write their answer into the
 //! room, or leave it as it was and say by an [`Outcome`] why. [`report_first_unportable`] reports
-//! the first construct for which a query isn't portable.
+//! the first construct for which a query isn't portable, and [`report_first_unportable_in_client`]
+//! also what a client reads or sends otherwise.
 #![tactic(auto)]
 
 mod column_number;
@@ -19,4 +20,4 @@ pub use form::params_of_form;
 pub use form_error::FormError;
 pub use into_room::{bind_into, names_into};
 pub use outcome::{Outcome, Report};
-pub use unportable::report_first_unportable;
+pub use unportable::{report_first_unportable, report_first_unportable_in_client};

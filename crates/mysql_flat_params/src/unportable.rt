@@ -1,12 +1,14 @@
 //! The first construct for which a query isn't portable, as a number and a report.
-ghost use Rattle.std.specs.Prelude.{◌≡◌, ◌↔◌, pos};
+ghost use Rattle.std.specs.Prelude.{◌≡◌, ◌↔◌, pos, None};
 ghost use Rattle.mysql_named_params.specs.FirstUnportable.{first_unportable};
+ghost use Rattle.mysql_named_params.specs.FirstUnportableInClient.{first_unportable_in_client, IsPortableInClient};
 ghost use Rattle.mysql_named_params.specs.Portable.{IsPortable};
 ghost use Rattle.mysql_named_params.specs.Tokens.{OnTokens};
 ghost use Rattle.mysql_flat_params.specs.UnportableReport.{construct_number, unportable_number, unportable_report};
 
 use crate::outcome::{NO_FIELDS, Report};
-use mysql_named_params::portable::{Construct, first_unportable};
+use mysql_named_params::client::first_unportable_in_client;
+use mysql_named_params::portable::{Construct, Unportable, first_unportable};
 
 /// Finds the first construct for which a query isn't portable, as [`first_unportable`] does in a
 /// mode: returns its number, and writes its position to the report. It returns 0 if and only if the
@@ -22,7 +24,37 @@ pub fn report_first_unportable(query: &[u8], no_backslash_escape: bool, report: 
     ensures portable { OnTokens no_backslash_escape query.now (λ ts.
         (result ≡ pos 0) ↔ IsPortable ts) }
 {
-    match first_unportable(query, no_backslash_escape) {
+    number_and_report(first_unportable(query, no_backslash_escape), report)
+}
+
+/// Finds the first construct for which a query isn't portable on servers and in a client that keeps
+/// comments, as [`first_unportable_in_client`] does in a mode, and tells it as
+/// [`report_first_unportable`] does. It returns 0 if and only if there is none.
+///
+/// The numbers are 1 for [`Construct::ExecutableComment`], and then in the order of the
+/// declaration up to 18.
+pub fn report_first_unportable_in_client(
+    query: &[u8],
+    no_backslash_escape: bool,
+    report: &mut Report,
+) -> i32
+    ensures number { OnTokens no_backslash_escape query.now (λ ts.
+        result ≡ pos (unportable_number (first_unportable_in_client ts))) }
+    ensures report { OnTokens no_backslash_escape query.now (λ ts.
+        report.new ≡ unportable_report (first_unportable_in_client ts)) }
+    ensures portable { OnTokens no_backslash_escape query.now (λ ts.
+        (result ≡ pos 0) ↔ IsPortableInClient ts) }
+{
+    number_and_report(first_unportable_in_client(query, no_backslash_escape), report)
+}
+
+// The number of what was found, and its report.
+fn number_and_report(found: Option<Unportable>, report: &mut Report) -> i32
+    ensures number { result ≡ pos (unportable_number found) }
+    ensures report { report.new ≡ unportable_report found }
+    ensures none { (result ≡ pos 0) ↔ (found ≡ None) }
+{
+    match found {
         None => {
             *report = NO_FIELDS;
             0
@@ -51,5 +83,14 @@ fn construct_number(construct: Construct) -> i32
         Construct::DollarQuote => 7,
         Construct::DashesAfterExponent => 8,
         Construct::PlaceAfterExponent => 9,
+        Construct::OpenerInComment => 10,
+        Construct::JoiningComment => 11,
+        Construct::DashesBeforeComment => 12,
+        Construct::ClientCommand => 13,
+        Construct::DashInFront => 14,
+        Construct::Delimiter => 15,
+        Construct::ClientWord => 16,
+        Construct::EscapedNewline => 17,
+        Construct::ZeroByte => 18,
     }
 }

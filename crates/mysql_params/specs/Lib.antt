@@ -13,6 +13,10 @@ pub use Rattle.mysql_named_params.specs.Portable
 pub use Rattle.mysql_named_params.specs.FirstUnportable
 pub use Rattle.mysql_named_params.specs.Steady
 pub use Rattle.mysql_named_params.specs.CharacterSet
+pub use Rattle.mysql_named_params.specs.Client
+pub use Rattle.mysql_named_params.specs.Statements
+pub use Rattle.mysql_named_params.specs.FoundInClient
+pub use Rattle.mysql_named_params.specs.FirstUnportableInClient
 pub use Rattle.mysql_params_core.specs.Given
 pub use Rattle.mysql_params_core.specs.Answer
 pub use Rattle.mysql_params_core.specs.Names
@@ -24,6 +28,7 @@ pub use Rattle.mysql_binding.specs.Pieces
 pub use Rattle.mysql_binding.specs.Contents
 pub use Rattle.mysql_binding.specs.Replaced
 pub use Rattle.mysql_binding.specs.ReadOnServer
+pub use Rattle.mysql_binding.specs.BoundStatements
 pub use Rattle.mysql_binding.specs.FirstCause
 pub use Rattle.mysql_binding.specs.ValueLiterals
 pub use Rattle.mysql_binding.specs.BindErrors

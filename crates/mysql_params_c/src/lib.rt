@@ -1,9 +1,10 @@
 //! Binding for C, and for every language that calls C: the static library over `mysql_flat_params`.
 //!
-//! Each export but the last writes its answer into the room that the caller lends and tells what
+//! Each export but the last two writes its answer into the room that the caller lends and tells what
 //! became of the call: its result is the number of an [`Outcome`](mysql_flat_params::Outcome), and
-//! `report` has the outcome's fields. [`mysql_params_first_unportable`] tells a construct of a
-//! query by its number and, in `report`, its position. A slice comes from C as a pointer that is
+//! `report` has the outcome's fields. [`mysql_params_first_unportable`] and
+//! [`mysql_params_first_unportable_in_client`] tell a construct of a query by its number and, in
+//! `report`, its position. A slice comes from C as a pointer that is
 //! not null, also for no bytes, and a length of at most `isize::MAX`. Nothing is kept after a call.
 //! C passes nothing for the allocator.
 //!
@@ -17,11 +18,12 @@ ghost use Rattle.mysql_flat_params.specs.IntoRoom.{IfMixed, IsBindOutcome, IsBou
 ghost use Rattle.mysql_flat_params.specs.Outcomes.{IsTold};
 ghost use Rattle.mysql_flat_params.specs.UnportableReport.{unportable_number, unportable_report};
 ghost use Rattle.mysql_named_params.specs.FirstUnportable.{first_unportable};
+ghost use Rattle.mysql_named_params.specs.FirstUnportableInClient.{first_unportable_in_client, IsPortableInClient};
 ghost use Rattle.mysql_named_params.specs.Places.{marks, HasName};
 ghost use Rattle.mysql_named_params.specs.Portable.{IsPortable};
 ghost use Rattle.mysql_named_params.specs.Tokens.{OnTokens};
 
-use mysql_flat_params::{Report, bind_into, names_into, report_first_unportable};
+use mysql_flat_params::{Report, bind_into, names_into, report_first_unportable, report_first_unportable_in_client};
 use std::alloc::Global;
 
 /// Writes the query with `?` in place of each name, and then each name, each as a length-encoded
@@ -122,4 +124,27 @@ pub extern "C" fn mysql_params_first_unportable(
         (result ≡ pos 0) ↔ IsPortable ts) }
 {
     report_first_unportable(query, no_backslash_escape, report)
+}
+
+/// Finds the first construct of the query for which it isn't portable, or for which a client that
+/// keeps comments reads or sends something else: [`report_first_unportable_in_client`].
+///
+/// Returns 0 where there is none, and only there. Else it returns the number of the
+/// [`Construct`](mysql_named_params::portable::Construct), 1 to 18 in the order of its declaration,
+/// and the report has its position in the query. All other fields of the report are 0. Nothing is
+/// allocated. The flag is true where the connection's `sql_mode` has `NO_BACKSLASH_ESCAPES`.
+#[unsafe(no_mangle)]
+pub extern "C" fn mysql_params_first_unportable_in_client(
+    query: &[u8],
+    no_backslash_escape: bool,
+    report: &mut Report,
+) -> i32
+    ensures number { OnTokens no_backslash_escape query.now (λ ts.
+        result ≡ pos (unportable_number (first_unportable_in_client ts))) }
+    ensures report { OnTokens no_backslash_escape query.now (λ ts.
+        report.new ≡ unportable_report (first_unportable_in_client ts)) }
+    ensures portable { OnTokens no_backslash_escape query.now (λ ts.
+        (result ≡ pos 0) ↔ IsPortableInClient ts) }
+{
+    report_first_unportable_in_client(query, no_backslash_escape, report)
 }

@@ -4,6 +4,8 @@
 #[cfg(test)]
 mod all_short_queries;
 #[cfg(test)]
+mod client;
+#[cfg(test)]
 mod plain_tokens;
 #[cfg(test)]
 mod portable;

@@ -1,0 +1,169 @@
+//! The first construct of a query that a client which keeps comments reads or sends otherwise.
+//! Where a row has no comment, the clients `mysql` 9.7 and `mariadb` 10.11 and 11.8 were given the
+//! query on standard input, and at least one of them sent something else than the query.
+use crate::shared::{same_in, says};
+use mysql_params::{Construct, Unportable, first_unportable, first_unportable_in_client};
+use std::process::Abort;
+
+/// In both modes this is found in the query.
+fn is_found(rt: &impl Abort, query: &[u8], wanted: Option<Unportable>) {
+    for mode in [false, true] {
+        let found = first_unportable_in_client(query, mode);
+        same_in(rt, &found, &wanted, &(query, mode));
+    }
+}
+
+/// Each query has this construct at this index, for the client alone: servers read it alike.
+fn are_found(rt: &impl Abort, rows: &[(&[u8], Construct, usize)]) {
+    for (query, construct, at) in rows {
+        let wanted = Unportable {
+            construct: *construct,
+            at: *at,
+        };
+        is_found(rt, *query, Some(wanted));
+        for mode in [false, true] {
+            same_in(rt, &first_unportable(*query, mode), &None, &(query, mode));
+        }
+    }
+}
+
+// In these the client ended a comment elsewhere, so that a value ran.
+const OPENERS: &[(&[u8], Construct, usize)] = &[
+    (b"SELECT 1 /*//*/, :a", Construct::OpenerInComment, 9),
+    (b"SELECT 1 /* /*! */, :a", Construct::OpenerInComment, 9),
+    (b"SELECT 1 /* /*+ */, :a", Construct::OpenerInComment, 9),
+    (b"/* a\n/*/ SELECT ?", Construct::OpenerInComment, 0),
+    // Of several the first.
+    (b"/**/ /*/*!*/ /*/*!*/", Construct::OpenerInComment, 5),
+];
+
+#[test]
+fn openers(rt: HostRuntime) {
+    are_found(&rt, OPENERS);
+}
+
+// What the client does beside reading: commands, dropped lines, changed bytes.
+const COMMANDS: &[(&[u8], Construct, usize)] = &[
+    (b"SELECT $/**/\xc3\xa9$x", Construct::JoiningComment, 8),
+    (b"SELECT 5/**/\\N", Construct::JoiningComment, 8),
+    (b"SELECT 5/*+*/\xc3\xa9", Construct::JoiningComment, 11),
+    (b"SELECT 1 --/**/2", Construct::DashesBeforeComment, 9),
+    (b"SELECT 5 --#x\n3", Construct::DashesBeforeComment, 9),
+    (b"SELECT 5 ---- x\n3", Construct::DashesBeforeComment, 9),
+    (b"SELECT 1 \\C gbk\n, :a", Construct::ClientCommand, 9),
+    (b"SELECT 1 \\", Construct::ClientCommand, 9),
+    (b"SELECT 1; --x\nSELECT 2", Construct::DashInFront, 10),
+    (b"-:a", Construct::DashInFront, 0),
+    (b"; /* a */ -?", Construct::DashInFront, 10),
+    (b"SELECT 1\ndelimiter\n5", Construct::Delimiter, 9),
+    (b"DELIMITER //", Construct::Delimiter, 0),
+    (b"SELECT 1;\tDelimiters", Construct::Delimiter, 10),
+    (b"/*! a */ delimiter", Construct::Delimiter, 9),
+    (b"USE shop", Construct::ClientWord, 0),
+    (b"SELECT 1; # a\n help ;", Construct::ClientWord, 15),
+    (b"use", Construct::ClientWord, 0),
+    (b"SELECT 1, 'a\\\nb'", Construct::EscapedNewline, 10),
+    (b"SELECT `a\\\r\nb`", Construct::EscapedNewline, 7),
+    (b"SELECT \"\\\n\"", Construct::EscapedNewline, 7),
+    (b"SELECT 1 /* \0 */", Construct::ZeroByte, 9),
+    (b"SELECT '\0'", Construct::ZeroByte, 7),
+    (b"\0", Construct::ZeroByte, 0),
+];
+
+#[test]
+fn commands_and_changed_bytes(rt: HostRuntime) {
+    are_found(&rt, COMMANDS);
+}
+
+// The clients sent these as they are.
+const SENT: &[&[u8]] = &[
+    b"",
+    b"SELECT * FROM t WHERE id = :id AND name = :name",
+    b"SELECT 1; SELECT ?; -- a\nSELECT :a # b\n",
+    b"SELECT 1 /* /*M! */, :a",
+    b"SELECT 1 /*/ a */, :a",
+    b"SELECT 1 /* a * / b / * ! */, :a",
+    b"SELECT '/* /*! */', :a",
+    b"SELECT /*+ MAX_EXECUTION_TIME(1000) */ ? /*! + 1 */ /*M! + 2 */",
+    b"SELECT \\N, :a",
+    b"SELECT 'a\\n', \"\\\\\", `\\`, :a",
+    b"SELECT 5 /**/ \xc3\xa9",
+    b"SELECT 5 - -:a, 5 -- :a\n, --5",
+    b"--\n-- a\nSELECT -:a",
+    b"SELECT 1 AS delimiter, 2 AS a_delimiter",
+    b"SELECT 1 FROM t\nUSE INDEX (a)",
+    b"SELECT 1; user",
+    b"-- use a\nSELECT 'help'",
+    b"SELECT 'a\nb', 'a\r\nb'",
+];
+
+#[test]
+fn queries_that_are_sent_as_they_are(rt: HostRuntime) {
+    for query in SENT {
+        is_found(&rt, *query, None);
+    }
+}
+
+// What servers read in different ways is found too, and of both the first.
+const OF_SERVERS: &[(&[u8], Construct, usize)] = &[
+    (b"SELECT /*+ ? */ 1", Construct::Hint, 7),
+    (b"SELECT 1 AS [a], /*/*!*/ 2", Construct::Bracket, 12),
+    (b"USE [a]", Construct::ClientWord, 0),
+];
+
+#[test]
+fn constructs_of_servers(rt: HostRuntime) {
+    for (query, construct, at) in OF_SERVERS {
+        let wanted = Unportable {
+            construct: *construct,
+            at: *at,
+        };
+        is_found(&rt, *query, Some(wanted));
+    }
+}
+
+const MESSAGES: &[(Construct, &str)] = &[
+    (
+        Construct::OpenerInComment,
+        "the client may not end this comment here: keep `/*!`, `/*+` and `/*/` out of it",
+    ),
+    (
+        Construct::JoiningComment,
+        "the client may join what stands around this comment: write a space after it",
+    ),
+    (
+        Construct::DashesBeforeComment,
+        "a client that drops comments begins one here: write a space between the two signs",
+    ),
+    (
+        Construct::ClientCommand,
+        "the client takes `\\` and the next byte for its command: leave the `\\` out",
+    ),
+    (
+        Construct::DashInFront,
+        "the client may take this line for a comment: write a space after the `-`",
+    ),
+    (
+        Construct::Delimiter,
+        "the client takes this line for its command: write the word in backquotes",
+    ),
+    (
+        Construct::ClientWord,
+        "the client runs `use` and `help` itself: choose the database when you connect",
+    ),
+    (
+        Construct::EscapedNewline,
+        "the client changes a `\\` at the end of a line: write `\\n`, or the newline alone",
+    ),
+    (
+        Construct::ZeroByte,
+        "the client sends nothing from this line on: write `\\0` in a string, or hexadecimal",
+    ),
+];
+
+#[test]
+fn messages(rt: HostRuntime) {
+    for (construct, message) in MESSAGES {
+        says(&rt, rt.alloc(), construct, *message);
+    }
+}
