@@ -2,7 +2,7 @@
 -- it drops, bytes that it changes or never sends. A test for each token by what stands before and
 -- after it, and the construct that it finds. Source: what the clients send, by experiment
 -- (docs/EVIDENCE.md); no law says that these are all.
-use Rattle.std.specs.Prelude.{ℕ, Bool, true, false, not, ◌==◌, ◌&&◌, ◌||◌, nat_le, if◌then◌else◌, List, [], ◌∷◌, length, drop, Option, Some, None}
+use Rattle.std.specs.Prelude.{ℕ, Bool, true, false, not, ◌==◌, ◌&&◌, ◌||◌, nat_le, if◌then◌else◌, List, [], ◌∷◌, length, drop, codes, Option, Some, None}
 use Rattle.std.specs.List.{list_any}
 use Rattle.std.specs.Char.{to_ascii_lowercase}
 use Rattle.std.specs.Str.{byte}
@@ -52,19 +52,42 @@ ends_word (b ∷ bs) = nat_le b space || b == byte ";"
 abbrev pub begins_whole_word : List ℕ → List ℕ → Bool
 begins_whole_word word text = begins_word word text && ends_word (drop (length word) text)
 
--- the word `delimiter`
-abbrev pub delimiter_word : List ℕ
-delimiter_word =
-    byte "d" ∷ byte "e" ∷ byte "l" ∷ byte "i" ∷ byte "m" ∷ byte "i" ∷ byte "t"
-    ∷ byte "e" ∷ byte "r" ∷ []
-
--- the word `use`
-abbrev pub use_word : List ℕ
-use_word = byte "u" ∷ byte "s" ∷ byte "e" ∷ []
-
--- the word `help`
-abbrev pub help_word : List ℕ
-help_word = byte "h" ∷ byte "e" ∷ byte "l" ∷ byte "p" ∷ []
+-- This lower-case letter and then this text begin with a word that MariaDB's client runs itself:
+-- `charset`, `clear`, `connect`, `costs`, `edit`, `ego`, `exit`, `go`, `help`, `nopager`, `notee`,
+-- `nowarning`, `pager`, `print`, `prompt`, `quit`, `rehash`, `sandbox`, `source`, `status`,
+-- `system`, `tee`, `use`, `warnings`.
+abbrev pub is_client_word : ℕ → List ℕ → Bool
+is_client_word letter rest =
+    if letter == byte "c"
+    then begins_whole_word (codes "harset") rest
+    || (begins_whole_word (codes "lear") rest
+    || (begins_whole_word (codes "onnect") rest
+    || begins_whole_word (codes "osts") rest))
+    else if letter == byte "e"
+    then begins_whole_word (codes "dit") rest
+    || (begins_whole_word (codes "go") rest
+    || begins_whole_word (codes "xit") rest)
+    else if letter == byte "g" then begins_whole_word (codes "o") rest
+    else if letter == byte "h" then begins_whole_word (codes "elp") rest
+    else if letter == byte "n"
+    then begins_whole_word (codes "opager") rest
+    || (begins_whole_word (codes "otee") rest
+    || begins_whole_word (codes "owarning") rest)
+    else if letter == byte "p"
+    then begins_whole_word (codes "ager") rest
+    || (begins_whole_word (codes "rint") rest
+    || begins_whole_word (codes "rompt") rest)
+    else if letter == byte "q" then begins_whole_word (codes "uit") rest
+    else if letter == byte "r" then begins_whole_word (codes "ehash") rest
+    else if letter == byte "s"
+    then begins_whole_word (codes "andbox") rest
+    || (begins_whole_word (codes "ource") rest
+    || (begins_whole_word (codes "tatus") rest
+    || begins_whole_word (codes "ystem") rest))
+    else if letter == byte "t" then begins_whole_word (codes "ee") rest
+    else if letter == byte "u" then begins_whole_word (codes "se") rest
+    else if letter == byte "w" then begins_whole_word (codes "arnings") rest
+    else false
 
 -- a byte that a client joins to what stands before a comment: from 128 on, or a backslash
 abbrev pub is_joined : ℕ → Bool
@@ -125,6 +148,15 @@ found_in_comment tail rest =
     else if begins is_joined rest then Some construct.JoiningComment
     else None
 
+-- at a word of which this is the first letter, in lower case; the flags say whether a statement or a
+-- line may begin there
+abbrev pub found_word : Bool → Bool → ℕ → List ℕ → Option Construct
+found_word statement line letter rest =
+    if line && (letter == byte "d" && begins_word (codes "elimiter") rest)
+    then Some construct.Delimiter
+    else if statement && is_client_word letter rest then Some construct.ClientWord
+    else None
+
 -- at a plain byte before this text; the flags say whether a statement or a line may begin there
 abbrev pub found_at_byte : Bool → Bool → ℕ → List ℕ → Option Construct
 found_at_byte statement line b rest =
@@ -132,10 +164,7 @@ found_at_byte statement line b rest =
     else if b == asterisk && closes_before_joined rest then Some construct.JoiningComment
     else if b == dash && (statement && drops_line rest) then Some construct.DashInFront
     else if b == dash && stand_before_comment rest then Some construct.DashesBeforeComment
-    else if line && begins_word delimiter_word (b ∷ rest) then Some construct.Delimiter
-    else if statement && (begins_whole_word use_word (b ∷ rest) || begins_whole_word help_word (b ∷ rest))
-    then Some construct.ClientWord
-    else None
+    else found_word statement line (to_ascii_lowercase b) rest
 
 -- in this token before this text, if it holds no byte 0
 abbrev pub found_in_token : Bool → Bool → Token → List ℕ → Option Construct

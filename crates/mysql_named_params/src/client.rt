@@ -3,7 +3,7 @@
 ghost use Rattle.std.specs.Prelude.{◌≡◌, ◌↔◌, ◌≤◌, ◌<◌, length, None, IsTrue};
 ghost use Rattle.mysql_named_params.specs.Tokens.{OnTokens};
 ghost use Rattle.mysql_named_params.specs.Client.{begins_opener, begins_end, holds_opener};
-ghost use Rattle.mysql_named_params.specs.FoundInClient.{begins_word, ends_word, begins_whole_word, is_joined, closes_before_joined, drops_line, begins_comment, stand_before_comment, ends_line, escapes_newline, found_in_quotes, found_in_comment, found_at_byte};
+ghost use Rattle.mysql_named_params.specs.FoundInClient.{begins_word, ends_word, begins_whole_word, is_client_word, is_joined, closes_before_joined, drops_line, begins_comment, stand_before_comment, ends_line, escapes_newline, found_in_quotes, found_in_comment, found_word, found_at_byte};
 ghost use Rattle.mysql_named_params.specs.FirstUnportableInClient.{first_unportable_in_client, IsPortableInClient};
 ghost use Rattle.mysql_named_params.specs.FrontInClient.{are_comment, statement_after, line_after, found_in_bytes, found_or_zero, found_in_front};
 
@@ -170,25 +170,73 @@ fn escapes_newline(text: &[u8]) -> bool
     false
 }
 
+// Whether the letter and then this text begin with a word that MariaDB's client runs itself.
+fn is_client_word(letter: u8, rest: &[u8]) -> bool
+    ensures { result ≡ is_client_word letter rest.now }
+{
+    match letter {
+        b'c' => {
+            begins_whole_word(b"harset", rest)
+                || begins_whole_word(b"lear", rest)
+                || begins_whole_word(b"onnect", rest)
+                || begins_whole_word(b"osts", rest)
+        }
+        b'e' => {
+            begins_whole_word(b"dit", rest)
+                || begins_whole_word(b"go", rest)
+                || begins_whole_word(b"xit", rest)
+        }
+        b'g' => begins_whole_word(b"o", rest),
+        b'h' => begins_whole_word(b"elp", rest),
+        b'n' => {
+            begins_whole_word(b"opager", rest)
+                || begins_whole_word(b"otee", rest)
+                || begins_whole_word(b"owarning", rest)
+        }
+        b'p' => {
+            begins_whole_word(b"ager", rest)
+                || begins_whole_word(b"rint", rest)
+                || begins_whole_word(b"rompt", rest)
+        }
+        b'q' => begins_whole_word(b"uit", rest),
+        b'r' => begins_whole_word(b"ehash", rest),
+        b's' => {
+            begins_whole_word(b"andbox", rest)
+                || begins_whole_word(b"ource", rest)
+                || begins_whole_word(b"tatus", rest)
+                || begins_whole_word(b"ystem", rest)
+        }
+        b't' => begins_whole_word(b"ee", rest),
+        b'u' => begins_whole_word(b"se", rest),
+        b'w' => begins_whole_word(b"arnings", rest),
+        _ => false,
+    }
+}
+
 // What is found at a plain byte before this text.
 fn found_at_byte(statement: bool, line: bool, byte: u8, rest: &[u8]) -> Option<Construct>
     ensures { result ≡ found_at_byte statement line byte rest.now }
 {
-    let letter = byte.to_ascii_lowercase();
     match byte {
         b'\\' if !matches!(rest, [b'N', ..]) => Some(Construct::ClientCommand),
         b'*' if closes_before_joined(rest) => Some(Construct::JoiningComment),
         b'-' if statement && drops_line(rest) => Some(Construct::DashInFront),
         b'-' if stand_before_comment(rest) => Some(Construct::DashesBeforeComment),
-        _ if line && letter == b'd' && begins_word(b"elimiter", rest) => Some(Construct::Delimiter),
-        _ if statement && letter == b'u' && begins_whole_word(b"se", rest) => Some(
-            Construct::ClientWord,
-        ),
-        _ if statement && letter == b'h' && begins_whole_word(b"elp", rest) => Some(
-            Construct::ClientWord,
-        ),
-        _ => None,
+        _ => found_word(statement, line, byte.to_ascii_lowercase(), rest),
     }
+}
+
+// What is found at this letter, of lower case, and then this text.
+fn found_word(statement: bool, line: bool, letter: u8, rest: &[u8]) -> Option<Construct>
+    ensures { result ≡ found_word statement line letter rest.now }
+{
+    if line && letter == b'd' && begins_word(b"elimiter", rest) {
+        return Some(Construct::Delimiter);
+    }
+    if statement && is_client_word(letter, rest) {
+        return Some(Construct::ClientWord);
+    }
+    None
 }
 
 // What is found in a token of these bytes, before this text.

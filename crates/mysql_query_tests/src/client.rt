@@ -62,6 +62,8 @@ const COMMANDS: &[(&[u8], Construct, usize)] = &[
     (b"USE shop", Construct::ClientWord, 0),
     (b"SELECT 1; # a\n help ;", Construct::ClientWord, 15),
     (b"use", Construct::ClientWord, 0),
+    (b"system :a", Construct::ClientWord, 0),
+    (b"SELECT 1;quit\n", Construct::ClientWord, 9),
     (b"SELECT 1, 'a\\\nb'", Construct::EscapedNewline, 10),
     (b"SELECT `a\\\r\nb`", Construct::EscapedNewline, 7),
     (b"SELECT \"\\\n\"", Construct::EscapedNewline, 7),
@@ -94,7 +96,8 @@ const SENT: &[&[u8]] = &[
     b"SELECT 1 FROM t\nUSE INDEX (a)",
     b"SELECT 1; user",
     b"-- use a\nSELECT 'help'",
-    b"SELECT 'a\nb', 'a\r\nb'",
+    b"SELECT 'a\nb'",
+    b"SELECT 1; show status",
 ];
 
 #[test]
@@ -149,7 +152,7 @@ const MESSAGES: &[(Construct, &str)] = &[
     ),
     (
         Construct::ClientWord,
-        "the client runs `use` and `help` itself: choose the database when you connect",
+        "the client may run this word itself: leave it out, name the database by an option",
     ),
     (
         Construct::EscapedNewline,
