@@ -1,5 +1,5 @@
--- The statements of a text that is bound to a query: those of the query, with the tokens of literals
--- in their places.
+-- The statements of a text that is bound to a query: those of the query, with the tokens of
+-- literals in their places.
 use Rattle.std.specs.Prelude.{List, [], ◌∷◌, drop}
 use Rattle.mysql_named_params.specs.Tokens.{Token}
 use Rattle.mysql_named_params.specs.Places.{place_count}

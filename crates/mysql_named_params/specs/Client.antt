@@ -1,5 +1,5 @@
--- The client `mysql` or `mariadb` that keeps comments (`--comments`), as a reader of texts. It finds
--- strings, identifiers and comments as a server does, to know where a statement ends, and only in
+-- The client `mysql` or `mariadb` that keeps comments (`--comments`), as a reader of texts. It
+-- finds strings, identifiers and comments as a server does, to know where a statement ends, and in
 -- one point as no server does: within a block comment it looks for `/*!`, `/*+` and `/*/`, and may
 -- then end the comment elsewhere. Example: `/* a /*/ ; ' */`, of which the grammar's comment ends
 -- before the `;`, and MySQL's client ends it at the very end.

@@ -148,8 +148,8 @@ found_in_comment tail rest =
     else if begins is_joined rest then Some construct.JoiningComment
     else None
 
--- at a word of which this is the first letter, in lower case; the flags say whether a statement or a
--- line may begin there
+-- at a word of which this is the first letter, in lower case; the flags say whether a statement or
+-- a line may begin there
 abbrev pub found_word : Bool → Bool → ℕ → List ℕ → Option Construct
 found_word statement line letter rest =
     if line && (letter == byte "d" && begins_word (codes "elimiter") rest)

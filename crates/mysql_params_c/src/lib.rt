@@ -1,12 +1,12 @@
 //! Binding for C, and for every language that calls C: the static library over `mysql_flat_params`.
 //!
-//! Each export but the last two writes its answer into the room that the caller lends and tells what
-//! became of the call: its result is the number of an [`Outcome`](mysql_flat_params::Outcome), and
-//! `report` has the outcome's fields. [`mysql_params_first_unportable`] and
+//! Each export except the last two writes its answer into the room that the caller lends and tells
+//! what became of the call: its result is the number of an [`Outcome`](mysql_flat_params::Outcome),
+//! and `report` has the outcome's fields. [`mysql_params_first_unportable`] and
 //! [`mysql_params_first_unportable_in_client`] tell a construct of a query by its number and, in
-//! `report`, its position. A slice comes from C as a pointer that is
-//! not null, also for no bytes, and a length of at most `isize::MAX`. Nothing is kept after a call.
-//! C passes nothing for the allocator.
+//! `report`, its position. A slice comes from C as a pointer that is not null, also for no bytes,
+//! and a length of at most `isize::MAX`. Nothing is kept after a call. C passes nothing for the
+//! allocator.
 //!
 //! The contracts hold for callers that keep to `bindings/c/mysql_params.h`: `room` and `report`
 //! overlap neither each other nor what is read, and their bytes have values before the call.
