@@ -200,11 +200,12 @@ static void read_field(test_case *it, char *field)
 /* Names of the constructs, as in enum mysql_params_construct. */
 static const char *const CONSTRUCTS[] = {
     "PORTABLE", "EXECUTABLE_COMMENT", "HINT", "MARIADB_COMMENT", "DASHES", "ESCAPED_QUOTE", "BRACKET", "DOLLAR_QUOTE",
-    "DASHES_AFTER_EXPONENT", "PLACE_AFTER_EXPONENT"};
+    "DASHES_AFTER_EXPONENT", "PLACE_AFTER_EXPONENT", "OPENER_IN_COMMENT", "JOINING_COMMENT", "DASHES_BEFORE_COMMENT",
+    "CLIENT_COMMAND", "DASH_IN_FRONT", "DELIMITER", "CLIENT_WORD", "ESCAPED_NEWLINE", "ZERO_BYTE"};
 
 static int32_t construct_of(const char *name)
 {
-    return index_of(name, CONSTRUCTS, 1, MYSQL_PARAMS_PLACE_AFTER_EXPONENT);
+    return index_of(name, CONSTRUCTS, 1, MYSQL_PARAMS_ZERO_BYTE);
 }
 
 /* Reads a name, which the function knows, and the fields after it. */

@@ -398,6 +398,24 @@ const char *mysql_params_construct_message(int32_t construct)
         return "`--` after `.e` may open no comment: write the exponent's digits, or a space first";
     case MYSQL_PARAMS_PLACE_AFTER_EXPONENT:
         return "a value's digits would join this number: write a space before the place";
+    case MYSQL_PARAMS_OPENER_IN_COMMENT:
+        return "the client may not end this comment here: keep `/*!`, `/*+` and `/*/` out of it";
+    case MYSQL_PARAMS_JOINING_COMMENT:
+        return "the client may join what stands around this comment: write a space after it";
+    case MYSQL_PARAMS_DASHES_BEFORE_COMMENT:
+        return "a client that drops comments begins one here: write a space between the two signs";
+    case MYSQL_PARAMS_CLIENT_COMMAND:
+        return "the client takes `\\` and the next byte for its command: leave the `\\` out";
+    case MYSQL_PARAMS_DASH_IN_FRONT:
+        return "the client may take this line for a comment: write a space after the `-`";
+    case MYSQL_PARAMS_DELIMITER:
+        return "the client takes this line for its command: write the word in backquotes";
+    case MYSQL_PARAMS_CLIENT_WORD:
+        return "the client may run this word itself: leave it out, name the database by an option";
+    case MYSQL_PARAMS_ESCAPED_NEWLINE:
+        return "the client changes a `\\` at the end of a line: write `\\n`, or the newline alone";
+    case MYSQL_PARAMS_ZERO_BYTE:
+        return "the client sends nothing from this line on: write `\\0` in a string, or hexadecimal";
     default:
         return NULL;
     }

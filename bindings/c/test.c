@@ -199,6 +199,9 @@ static void names_of_queries(void)
     each_case(folder, "names.txt", try_rooms);
 }
 
+/* The call of the archive by which cases of constructs are tried. */
+static int32_t (*first_of_case)(const uint8_t *, size_t, bool, mysql_params_report *);
+
 /* A query in its mode: the first construct, its position and its message. No allocation is asked for. */
 static void try_construct(const test_case *it)
 {
@@ -207,7 +210,7 @@ static void try_construct(const test_case *it)
     expect(it->portable == (it->number == MYSQL_PARAMS_PORTABLE), it, "the case says both or neither");
     allocation_refused = false;
     allocations_left = 0;
-    int32_t number = mysql_params_first_unportable(query, it->query.len, it->no_backslash_escape, &report);
+    int32_t number = first_of_case(query, it->query.len, it->no_backslash_escape, &report);
     allocations_left = ALL;
     free(query);
     expect(!allocation_refused, it, "it allocates");
@@ -221,9 +224,12 @@ static void try_construct(const test_case *it)
 
 static void portable_queries(void)
 {
+    first_of_case = mysql_params_first_unportable;
     each_case(folder, "portable.txt", try_construct);
+    first_of_case = mysql_params_first_unportable_in_client;
+    each_case(folder, "in_client.txt", try_construct);
     /* Numbers that are no construct. */
-    static const int32_t others[] = {0, 10, -1, INT32_MAX, INT32_MIN};
+    static const int32_t others[] = {0, 19, -1, INT32_MAX, INT32_MIN};
     test_case it = {0};
     for (size_t i = 0; i < sizeof others / sizeof others[0]; i++)
         expect(mysql_params_construct_message(others[i]) == NULL, &it, "a message of no construct");

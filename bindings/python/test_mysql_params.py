@@ -15,7 +15,7 @@ import unittest
 from unittest import mock
 
 import mysql_params
-from mysql_params import Construct, _archive, bind, bind_form, first_unportable, names
+from mysql_params import Construct, _archive, bind, bind_form, first_unportable, first_unportable_in_client, names
 from shared_cases import CASES, CONSTRUCTS, FIELDS, NUMBERS, cases, text_of
 
 UNTOUCHED = 0xA5
@@ -39,7 +39,7 @@ def literal(byte):
 
 def library_of(suffices: bool, *more: str) -> mock.Mock:
     """Return a library with the functions of the archive and more, on a processor that suffices or doesn't."""
-    names = ("names", "bind", "first_unportable", "processor_suffices")
+    names = ("names", "bind", "first_unportable", "first_unportable_in_client", "processor_suffices")
     library = mock.Mock(spec=[*(f"mysql_params_{name}" for name in names), *more])
     library.mysql_params_processor_suffices.return_value = suffices
     return library
@@ -115,9 +115,17 @@ class Test(unittest.TestCase):
                 wanted["position"] = 0 if case.portable else int(case.fields["position"])
                 self.assertEqual(fields, wanted)
 
+    def test_queries_for_a_client(self):
+        for case in cases("in_client.txt"):
+            with self.subTest(case=case.lines):
+                self.assertEqual(case.portable, case.construct is None)
+                self.expect_construct(case, first_unportable_in_client(case.query, case.no_backslash_escape))
+                if not case.no_backslash_escape:
+                    self.expect_construct(case, first_unportable_in_client(case.query))
+
     def test_constructs(self):
         self.assertEqual([construct.name for construct in Construct], CONSTRUCTS)
-        self.assertEqual([int(construct) for construct in Construct], list(range(1, 10)))
+        self.assertEqual([int(construct) for construct in Construct], list(range(1, 19)))
         found = first_unportable("\u00e4 [")
         self.assertEqual(found, (Construct.BRACKET, 3))
         self.assertEqual((found.construct, found.position), (6, 3))
@@ -125,7 +133,7 @@ class Test(unittest.TestCase):
         copy = pickle.loads(pickle.dumps(found))
         self.assertIs(copy.construct, Construct.BRACKET)
         report = _archive.Report()
-        for number in (-1, 10):
+        for number in (-1, 19):
             with self.subTest(number=number), self.assertRaises(RuntimeError):
                 _archive.unportable(number, report)
         for query in (None, 5):

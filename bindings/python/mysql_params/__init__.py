@@ -70,6 +70,7 @@ __all__ = [
     "bind",
     "bind_form",
     "first_unportable",
+    "first_unportable_in_client",
     "names",
 ]
 
@@ -123,6 +124,18 @@ def first_unportable(query: Union[str, bytes], no_backslash_escape: bool = False
     ('EXECUTABLE_COMMENT', 7)
     """
     return _archive.unportable(*_archive.first_unportable(_form.bytes_of(query), no_backslash_escape))
+
+
+def first_unportable_in_client(query: Union[str, bytes], no_backslash_escape: bool = False) -> Optional[Unportable]:
+    """Return the first construct of a query for servers, or for the client ``mysql`` or ``mariadb``.
+
+    It is for a query whose bound text goes through such a client with ``--comments``, and finds also what that reads or
+    sends otherwise than a server.
+
+    >>> first_unportable_in_client("SELECT 1 /*//*/, :a").construct.name
+    'OPENER_IN_COMMENT'
+    """
+    return _archive.unportable(*_archive.first_unportable_in_client(_form.bytes_of(query), no_backslash_escape))
 
 
 def bind(query: Union[str, bytes], params: Params = None, no_backslash_escape: bool = False) -> bytes:

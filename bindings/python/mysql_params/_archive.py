@@ -43,6 +43,8 @@ def load() -> ctypes.CDLL:
         library.mysql_params_bind.restype = ctypes.c_int32
         library.mysql_params_first_unportable.argtypes = (*string, ctypes.c_bool, ctypes.POINTER(Report))
         library.mysql_params_first_unportable.restype = ctypes.c_int32
+        library.mysql_params_first_unportable_in_client.argtypes = library.mysql_params_first_unportable.argtypes
+        library.mysql_params_first_unportable_in_client.restype = ctypes.c_int32
         library.mysql_params_processor_suffices.argtypes = ()
         library.mysql_params_processor_suffices.restype = ctypes.c_bool
         suffices = library.mysql_params_processor_suffices()
@@ -145,6 +147,13 @@ def first_unportable(query: bytes, mode: bool) -> tuple[int, Report]:
     """Return the number and the report of the first construct of a query. The mode is as for call."""
     report = Report()
     number = LIBRARY.mysql_params_first_unportable(query, len(query), flag(mode), ctypes.byref(report))
+    return int(number), report
+
+
+def first_unportable_in_client(query: bytes, mode: bool) -> tuple[int, Report]:
+    """Return the number and the report of the first construct for servers or a client. The mode is as for call."""
+    report = Report()
+    number = LIBRARY.mysql_params_first_unportable_in_client(query, len(query), flag(mode), ctypes.byref(report))
     return int(number), report
 
 

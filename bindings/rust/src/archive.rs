@@ -42,6 +42,13 @@ unsafe extern "C" {
         no_backslash_escape: bool,
         report: *mut Report,
     ) -> i32;
+
+    fn mysql_params_first_unportable_in_client(
+        query: *const u8,
+        query_len: usize,
+        no_backslash_escape: bool,
+        report: *mut Report,
+    ) -> i32;
 }
 
 /// The answer is written.
@@ -228,6 +235,21 @@ pub(crate) fn first_unportable(query: &[u8], no_backslash_escape: bool) -> (i32,
     // is borrowed for writing alone, and so overlaps nothing. The call keeps no pointer.
     let number = unsafe {
         mysql_params_first_unportable(
+            query.as_ptr(),
+            query.len(),
+            no_backslash_escape,
+            &mut report,
+        )
+    };
+    (number, report)
+}
+
+/// The number and the report of the first construct of a query for servers or a client, in a mode.
+pub(crate) fn first_unportable_in_client(query: &[u8], no_backslash_escape: bool) -> (i32, Report) {
+    let mut report = Report::default();
+    // SAFETY: as in `first_unportable`.
+    let number = unsafe {
+        mysql_params_first_unportable_in_client(
             query.as_ptr(),
             query.len(),
             no_backslash_escape,

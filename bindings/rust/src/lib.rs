@@ -130,6 +130,41 @@ pub fn first_unportable_in(
     archive::unportable(number, &report)
 }
 
+/// As [`first_unportable`], for a query whose bound text goes through the client `mysql` or `mariadb` with
+/// `--comments`: finds also what that client reads or sends otherwise than a server.
+///
+/// ```
+/// use mysql_params::{Construct, first_unportable_in_client};
+///
+/// let found = first_unportable_in_client(b"SELECT 1 /*//*/, :a")?.expect("an opener in a comment");
+/// assert_eq!((found.construct, found.position), (Construct::OpenerInComment, 9));
+/// # Ok::<(), mysql_params::Error>(())
+/// ```
+///
+/// # Errors
+///
+/// Those of [`first_unportable`].
+pub fn first_unportable_in_client(query: &[u8]) -> Result<Option<Unportable>, Error> {
+    first_unportable_in_client_in(query, false)
+}
+
+/// As [`first_unportable_in_client`], for a connection in either mode: the flag is true where `SELECT @@sql_mode` has
+/// `NO_BACKSLASH_ESCAPES`.
+///
+/// # Errors
+///
+/// Those of [`first_unportable`].
+pub fn first_unportable_in_client_in(
+    query: &[u8],
+    no_backslash_escape: bool,
+) -> Result<Option<Unportable>, Error> {
+    if !archive::processor_suffices() {
+        return Err(Error::Processor);
+    }
+    let (number, report) = archive::first_unportable_in_client(query, no_backslash_escape);
+    archive::unportable(number, &report)
+}
+
 /// The query with the SQL literals of the values in its places: the text to send. Ask [`first_unportable`] of the query
 /// before.
 ///

@@ -25,6 +25,24 @@ pub enum Construct {
     DashesAfterExponent,
     /// `1e+?`: the digits of a value would join the number.
     PlaceAfterExponent,
+    /// `/*!`, `/*+` or `/*/` in a block comment. This and all that follow are found for a client alone.
+    OpenerInComment,
+    /// `*/` directly before a byte from 128 on, or a backslash.
+    JoiningComment,
+    /// `--` directly before a comment.
+    DashesBeforeComment,
+    /// A backslash outside of quotes and comments, except `\N`.
+    ClientCommand,
+    /// `-` at the front of a statement, before a place or another `-` that opens no comment.
+    DashInFront,
+    /// A word that begins with `delimiter` at the front of a line or a statement.
+    Delimiter,
+    /// A statement that begins with a word of MariaDB's client, as `use`, `source` or `system`.
+    ClientWord,
+    /// A backslash at the end of a line, in quotes or backquotes.
+    EscapedNewline,
+    /// A byte 0.
+    ZeroByte,
 }
 
 /// A construct of a query, and where it begins. It is an [`Error`](std::error::Error), for callers who refuse such a
@@ -60,6 +78,15 @@ impl Construct {
             Construct::DollarQuote => 7,
             Construct::DashesAfterExponent => 8,
             Construct::PlaceAfterExponent => 9,
+            Construct::OpenerInComment => 10,
+            Construct::JoiningComment => 11,
+            Construct::DashesBeforeComment => 12,
+            Construct::ClientCommand => 13,
+            Construct::DashInFront => 14,
+            Construct::Delimiter => 15,
+            Construct::ClientWord => 16,
+            Construct::EscapedNewline => 17,
+            Construct::ZeroByte => 18,
         }
     }
 
@@ -75,6 +102,15 @@ impl Construct {
             7 => Construct::DollarQuote,
             8 => Construct::DashesAfterExponent,
             9 => Construct::PlaceAfterExponent,
+            10 => Construct::OpenerInComment,
+            11 => Construct::JoiningComment,
+            12 => Construct::DashesBeforeComment,
+            13 => Construct::ClientCommand,
+            14 => Construct::DashInFront,
+            15 => Construct::Delimiter,
+            16 => Construct::ClientWord,
+            17 => Construct::EscapedNewline,
+            18 => Construct::ZeroByte,
             _ => return None,
         })
     }
@@ -107,6 +143,33 @@ impl fmt::Display for Construct {
             }
             Construct::PlaceAfterExponent => {
                 "a value's digits would join this number: write a space before the place"
+            }
+            Construct::OpenerInComment => {
+                "the client may not end this comment here: keep `/*!`, `/*+` and `/*/` out of it"
+            }
+            Construct::JoiningComment => {
+                "the client may join what stands around this comment: write a space after it"
+            }
+            Construct::DashesBeforeComment => {
+                "a client that drops comments begins one here: write a space between the two signs"
+            }
+            Construct::ClientCommand => {
+                "the client takes `\\` and the next byte for its command: leave the `\\` out"
+            }
+            Construct::DashInFront => {
+                "the client may take this line for a comment: write a space after the `-`"
+            }
+            Construct::Delimiter => {
+                "the client takes this line for its command: write the word in backquotes"
+            }
+            Construct::ClientWord => {
+                "the client may run this word itself: leave it out, name the database by an option"
+            }
+            Construct::EscapedNewline => {
+                "the client changes a `\\` at the end of a line: write `\\n`, or the newline alone"
+            }
+            Construct::ZeroByte => {
+                "the client sends nothing from this line on: write `\\0` in a string, or hexadecimal"
             }
         })
     }

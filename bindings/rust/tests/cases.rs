@@ -1,7 +1,8 @@
 //! The cases of bindings/cases, which say what they are in README.md there, and every value of one byte.
 use mysql_params::{
     Construct, Date, Error, Names, Params, Time, Unportable, Value, bind, bind_form, bind_form_in,
-    bind_in, bind_str, bind_str_in, first_unportable, first_unportable_in, names, names_in,
+    bind_in, bind_str, bind_str_in, first_unportable, first_unportable_in, first_unportable_in_client,
+    first_unportable_in_client_in, names, names_in,
 };
 use std::collections::HashMap;
 use std::path::Path;
@@ -324,6 +325,15 @@ fn wanted_construct(case: &Case) -> Option<Unportable> {
         "DOLLAR_QUOTE" => Construct::DollarQuote,
         "DASHES_AFTER_EXPONENT" => Construct::DashesAfterExponent,
         "PLACE_AFTER_EXPONENT" => Construct::PlaceAfterExponent,
+        "OPENER_IN_COMMENT" => Construct::OpenerInComment,
+        "JOINING_COMMENT" => Construct::JoiningComment,
+        "DASHES_BEFORE_COMMENT" => Construct::DashesBeforeComment,
+        "CLIENT_COMMAND" => Construct::ClientCommand,
+        "DASH_IN_FRONT" => Construct::DashInFront,
+        "DELIMITER" => Construct::Delimiter,
+        "CLIENT_WORD" => Construct::ClientWord,
+        "ESCAPED_NEWLINE" => Construct::EscapedNewline,
+        "ZERO_BYTE" => Construct::ZeroByte,
         _ => panic!("{}: {name} is no construct", case.at),
     };
     Some(Unportable {
@@ -332,16 +342,22 @@ fn wanted_construct(case: &Case) -> Option<Unportable> {
     })
 }
 
-#[test]
-fn portable_queries() {
-    for case in cases("portable.txt") {
+/// A call that finds a construct, in the mode with backslash escapes and in either.
+type Finds = (
+    fn(&[u8]) -> Result<Option<Unportable>, Error>,
+    fn(&[u8], bool) -> Result<Option<Unportable>, Error>,
+);
+
+/// The call finds in each query of the file what its case wants.
+fn constructs_of(file: &str, (finds, finds_in): Finds) {
+    for case in cases(file) {
         let wanted = wanted_construct(&case);
         assert_eq!(case.portable, wanted.is_none(), "{}", case.at);
         let mode = case.no_backslash_escape;
-        let found = first_unportable_in(&case.query, mode);
+        let found = finds_in(&case.query, mode);
         assert_eq!(found, Ok(wanted), "{}", case.at);
         if !mode {
-            assert_eq!(first_unportable(&case.query), Ok(wanted), "{}", case.at);
+            assert_eq!(finds(&case.query), Ok(wanted), "{}", case.at);
         }
         if let Some(message) = &case.message {
             let found = wanted.expect("a construct");
@@ -350,6 +366,19 @@ fn portable_queries() {
             assert_eq!(found.to_string(), told, "{}", case.at);
         }
     }
+}
+
+#[test]
+fn portable_queries() {
+    constructs_of("portable.txt", (first_unportable, first_unportable_in));
+}
+
+#[test]
+fn queries_for_a_client() {
+    constructs_of(
+        "in_client.txt",
+        (first_unportable_in_client, first_unportable_in_client_in),
+    );
 }
 
 #[test]

@@ -45,7 +45,10 @@ pub fn report_first_unportable_in_client(
     ensures portable { OnTokens no_backslash_escape query.now (λ ts.
         (result ≡ pos 0) ↔ IsPortableInClient ts) }
 {
-    number_and_report(first_unportable_in_client(query, no_backslash_escape), report)
+    number_and_report(
+        first_unportable_in_client(query, no_backslash_escape),
+        report,
+    )
 }
 
 // The number of what was found, and its report.

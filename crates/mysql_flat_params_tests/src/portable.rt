@@ -1,6 +1,6 @@
 //! The first construct for which a query isn't portable, as a number and a report.
 use crate::shared::same_in;
-use mysql_flat_params::{Report, report_first_unportable};
+use mysql_flat_params::{Report, report_first_unportable, report_first_unportable_in_client};
 use std::process::Abort;
 
 /// Queries that are portable in either mode.
@@ -87,5 +87,41 @@ fn quotes_after_a_backslash(rt: HostRuntime) {
     for (query, (number, position), (without, at)) in AFTER_A_BACKSLASH {
         tells(&rt, *query, false, *number, *position);
         tells(&rt, *query, true, *without, *at);
+    }
+}
+
+/// Queries, and in either mode the number and the position of their first construct for a client.
+const IN_CLIENT: &[(&[u8], i32, usize)] = &[
+    (b"SELECT :id, ':id', :name", 0, 0),
+    (b"a, [b] /*/*!*/", 6, 3),
+    (b"1 /*//*/, :a", 10, 2),
+    (b"5/**/\\N", 11, 1),
+    (b"1 --#", 12, 2),
+    (b"1 \\g", 13, 2),
+    (b"-:a", 14, 0),
+    (b"1\ndelimiter", 15, 2),
+    (b"use a", 16, 0),
+    (b"1, 'a\\\n'", 17, 3),
+    (b"1, '\0'", 18, 3),
+];
+
+#[test]
+fn first_constructs_in_a_client(rt: HostRuntime) {
+    for (query, number, position) in IN_CLIENT {
+        for mode in [false, true] {
+            let mut report = Report {
+                len: 9,
+                place: 9,
+                position: 9,
+                marks: 9,
+                values: 9,
+                byte: 9,
+            };
+            let told = report_first_unportable_in_client(*query, mode, &mut report);
+            let case = (*query, mode);
+            same_in(&rt, told, *number, &case);
+            same_in(&rt, report.position, *position, &case);
+            same_in(&rt, report.len, 0, &case);
+        }
     }
 }

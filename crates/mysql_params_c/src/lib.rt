@@ -23,7 +23,9 @@ ghost use Rattle.mysql_named_params.specs.Places.{marks, HasName};
 ghost use Rattle.mysql_named_params.specs.Portable.{IsPortable};
 ghost use Rattle.mysql_named_params.specs.Tokens.{OnTokens};
 
-use mysql_flat_params::{Report, bind_into, names_into, report_first_unportable, report_first_unportable_in_client};
+use mysql_flat_params::{
+    Report, bind_into, names_into, report_first_unportable, report_first_unportable_in_client,
+};
 use std::alloc::Global;
 
 /// Writes the query with `?` in place of each name, and then each name, each as a length-encoded

@@ -10,15 +10,15 @@ use Rattle.mysql_binding.proofs.laws.bound_texts_in_clients.Goals as goal
 pub returns : goal.returns
 returns c = record {
   count = λ client mode query text ts vs given honest h b p o v.
-    let inside = literals_within mode b.literals b.literal_tokens b.shapes b.tokens_of_literals in
-    let alike = bound_portable mode query text ts b.literals b.literal_tokens h p b.shapes b.tokens_of_literals b.text_is in
-    let on = read_as_server client mode text (with_literal_tokens ts b.literal_tokens) vs honest b.isolated alike (replaced_no_opener ts b.literal_tokens inside o) v in
-    let r = bound_read mode query text ts b.literals b.literal_tokens h p b.shapes b.tokens_of_literals b.text_is client.reader vs honest on in
-    read_statements r ∙ (ap length (replaced_statements ts b.literal_tokens inside) ∙ length-with_literals (statements ts) b.literal_tokens);
+      let inside = literals_within mode b.literals b.literal_tokens b.shapes b.tokens_of_literals in
+      let alike = bound_portable mode query text ts b.literals b.literal_tokens h p b.shapes b.tokens_of_literals b.text_is in
+      let on = read_as_server client mode text (with_literal_tokens ts b.literal_tokens) vs honest b.isolated alike (replaced_no_opener ts b.literal_tokens inside o) v in
+      let r = bound_read mode query text ts b.literals b.literal_tokens h p b.shapes b.tokens_of_literals b.text_is client.reader vs honest on in
+      read_statements r ∙ (ap length (replaced_statements ts b.literal_tokens inside) ∙ length-with_literals (statements ts) b.literal_tokens);
   tokens = λ client mode query text ts us given honest decides h b p o u.
-    let inside = literals_within mode b.literals b.literal_tokens b.shapes b.tokens_of_literals in
-    let alike = bound_portable mode query text ts b.literals b.literal_tokens h p b.shapes b.tokens_of_literals b.text_is in
-    let on = isolated_on mode query text ts b.literals b.literal_tokens h p b.shapes b.tokens_of_literals b.text_is client.reader us honest decides (read_as_server client mode query ts us honest h p o u) in
-    reads_as_server client mode text (with_literal_tokens ts b.literal_tokens) (with_literal_tokens us b.literal_tokens) honest b.isolated alike (replaced_no_opener ts b.literal_tokens inside o) on;
+      let inside = literals_within mode b.literals b.literal_tokens b.shapes b.tokens_of_literals in
+      let alike = bound_portable mode query text ts b.literals b.literal_tokens h p b.shapes b.tokens_of_literals b.text_is in
+      let on = isolated_on mode query text ts b.literals b.literal_tokens h p b.shapes b.tokens_of_literals b.text_is client.reader us honest decides (read_as_server client mode query ts us honest h p o u) in
+      reads_as_server client mode text (with_literal_tokens ts b.literal_tokens) (with_literal_tokens us b.literal_tokens) honest b.isolated alike (replaced_no_opener ts b.literal_tokens inside o) on;
   statements = λ mode text ts us given b. replaced_statements us b.literal_tokens (literals_within mode b.literals b.literal_tokens b.shapes b.tokens_of_literals);
 }
