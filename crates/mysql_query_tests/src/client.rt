@@ -1,6 +1,6 @@
-//! The first construct of a query that a client which keeps comments reads or sends otherwise.
-//! Where a row has no comment, the clients `mysql` 9.7 and `mariadb` 10.11 and 11.8 were given the
-//! query on standard input, and at least one of them sent something else than the query.
+//! The first construct of a query that a client which keeps comments reads or sends otherwise. The
+//! rows are restated by hand from docs/RULES.md, "Queries for a client"; `tests/server` shows what
+//! the clients send.
 use crate::shared::{same_in, says};
 use mysql_params::{Construct, Unportable, first_unportable, first_unportable_in_client};
 use std::process::Abort;
@@ -27,7 +27,7 @@ fn are_found(rt: &impl Abort, rows: &[(&[u8], Construct, usize)]) {
     }
 }
 
-// In these the client ended a comment elsewhere, so that a value ran.
+// In these a client ends a comment elsewhere.
 const OPENERS: &[(&[u8], Construct, usize)] = &[
     (b"SELECT 1 /*//*/, :a", Construct::OpenerInComment, 9),
     (b"SELECT 1 /* /*! */, :a", Construct::OpenerInComment, 9),
@@ -77,7 +77,7 @@ fn commands_and_changed_bytes(rt: HostRuntime) {
     are_found(&rt, COMMANDS);
 }
 
-// The clients sent these as they are.
+// A client sends these as they are, or a comment in front of a statement apart.
 const SENT: &[&[u8]] = &[
     b"",
     b"SELECT * FROM t WHERE id = :id AND name = :name",
