@@ -57,7 +57,8 @@ impl<'q> Model for ParsedQuery<'q> {
 
 impl<'q> ParsedQuery<'q> {
     /// Finds the names and marks of a query, in the mode that the flag names, as
-    /// [`bind_text_in`](crate::bind_text_in) does. It takes 24 bytes a name or mark.
+    /// [`bind_text_in`](crate::bind_text_in) does. It takes 24 bytes a name or mark, and asks for
+    /// no memory if there are none.
     pub fn parse_in(
         alloc: Global,
         query: &'q [u8],
@@ -83,7 +84,8 @@ impl<'q> ParsedQuery<'q> {
         ParsedQuery::parse_in(alloc, query, false)
     }
 
-    /// The same, with a copy of the query if it is borrowed.
+    /// The same, with a copy of the query if it is borrowed. Only that copy asks for memory; if it
+    /// is refused, the parsed query is gone.
     pub fn into_owned(self, alloc: Global) -> Result<ParsedQuery<'static>, AllocError>
         ensures { IfOk result (λ p. p ≡ self.entry) }
     {
@@ -154,7 +156,8 @@ impl<'q> ParsedQuery<'q> {
     }
 
     /// The names without the colon, in the order of the query, with repeats: slices of it. Beside
-    /// a mark they are refused as `Mixed`, as [`parse_in`] refuses them.
+    /// a mark they are refused as `Mixed`, as [`parse_in`] refuses them. No byte of the query is
+    /// looked at.
     ///
     /// [`parse_in`]: mysql_named_params::named_params::ParsedNamedParams::parse_in
     pub fn names(&self, alloc: Global) -> Result<Vec<&[u8]>, NamedParamsError>
