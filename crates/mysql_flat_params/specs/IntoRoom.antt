@@ -24,6 +24,11 @@ IsInRoom answer old new (Room len) =
     (length answer ≡ len) × (length old < len) × (new ≡ old)
 IsInRoom answer old new outcome = ⊥
 
+-- the same, or out of memory, and the room is unchanged
+abbrev pub IsInRoomOrMemory : (answer old new : List ℕ) → Outcome → Type 0
+IsInRoomOrMemory answer old new OutOfMemory = new ≡ old
+IsInRoomOrMemory answer old new outcome = IsInRoom answer old new outcome
+
 -- the outcome tells the first place of this name
 abbrev pub IsMissingName : (mode : Bool) (query name : List ℕ) → Outcome → Type 0
 IsMissingName mode query name (Missing place position len) = (length name ≡ len)

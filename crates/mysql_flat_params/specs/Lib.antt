@@ -4,5 +4,6 @@ pub mod FormErrors
 pub mod Outcomes
 pub mod NamePlace
 pub mod NamesAnswer
+pub mod NamesSurvey
 pub mod IntoRoom
 pub mod UnportableReport

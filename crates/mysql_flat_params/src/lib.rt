@@ -13,11 +13,13 @@ mod form_error;
 mod into_room;
 pub mod laws;
 mod missing_place;
+mod names_room;
 mod outcome;
 mod unportable;
 
 pub use form::params_of_form;
 pub use form_error::FormError;
-pub use into_room::{bind_into, names_into};
+pub use into_room::bind_into;
+pub use names_room::names_into;
 pub use outcome::{Outcome, Report};
 pub use unportable::{report_first_unportable, report_first_unportable_in_client};

@@ -91,11 +91,13 @@ fn names_refused(alloc: Global) -> Outcome {
     Outcome::AnswerWithoutMemory.if_holds(holds)
 }
 
+// A room no longer than the query is too short before anything is written.
 fn names_too_long(alloc: Global) -> Outcome {
     let mut room = *ROOM;
     let query = b":a :b /* a comment that is longer */";
     let told = names_into(alloc, query, false, &mut room);
-    refused(told, &room, mysql_flat_params::Outcome::Room { len: 39 })
+    let holds = told == (mysql_flat_params::Outcome::Room { len: 39 }) && is_untouched(&room);
+    Outcome::AnswerWithoutMemory.if_holds(holds)
 }
 
 fn bound(alloc: Global, what: &str) -> Option<Case> {
