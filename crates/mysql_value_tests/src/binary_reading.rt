@@ -204,6 +204,12 @@ fn types_that_are_not_read(rt: HostRuntime) {
 // Bytes that end too early.
 const TOO_SHORT: &[(ColumnType, &[u8])] = &[
     (ColumnType::MYSQL_TYPE_STRING, &[2, 1]),
+    (ColumnType::MYSQL_TYPE_BLOB, &[252, 1]),
+    (ColumnType::MYSQL_TYPE_BLOB, &[253, 1, 0]),
+    (
+        ColumnType::MYSQL_TYPE_BLOB,
+        &[254, 255, 255, 255, 255, 255, 255, 255, 255],
+    ),
     (ColumnType::MYSQL_TYPE_FLOAT, &[1, 2, 3]),
     (ColumnType::MYSQL_TYPE_DOUBLE, &[1, 2, 3, 4, 5, 6, 7]),
     (ColumnType::MYSQL_TYPE_DATETIME, &[]),

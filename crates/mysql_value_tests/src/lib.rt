@@ -2,15 +2,9 @@
 #![tactic(auto)]
 
 #[cfg(test)]
-mod any_bytes;
-#[cfg(test)]
 mod binary;
 #[cfg(test)]
 mod binary_reading;
-#[cfg(test)]
-mod literal_runs;
-#[cfg(test)]
-mod read_literals;
 #[cfg(test)]
 mod shared;
 #[cfg(test)]
