@@ -524,7 +524,7 @@ class Test(unittest.TestCase):
         self.assertEqual(wrong, [])
 
     def test_examples_of_the_documentation(self):
-        self.assertEqual(doctest.testmod(mysql_params), (0, 4))
+        self.assertEqual(doctest.testmod(mysql_params), (0, 5))
 
 
 class Result(unittest.TestResult):

@@ -91,7 +91,7 @@ const SENT: &[&[u8]] = &[
     b"SELECT 'a\\n', \"\\\\\", `\\`, :a",
     b"SELECT 5 /**/ \xc3\xa9",
     b"SELECT 5 - -:a, 5 -- :a\n, --5",
-    b"--\n-- a\nSELECT -:a",
+    b"-- a\nSELECT -:a",
     b"SELECT 1 AS delimiter, 2 AS a_delimiter",
     b"SELECT 1 FROM t\nUSE INDEX (a)",
     b"SELECT 1; user",
