@@ -98,12 +98,13 @@ abbrev pub closes_before_joined : List ℕ → Bool
 closes_before_joined [] = false
 closes_before_joined (b ∷ bs) = b == slash && begins is_joined bs
 
--- after a `-`, by which a statement begins: another that opens no comment, or a place, whose value
--- may begin with one
+-- after a plain `-`, by which a statement begins: another, also before a newline, where the client
+-- takes both for a comment and begins the statement after it; or a place, whose value may begin
+-- with one
 abbrev pub drops_line : List ℕ → Bool
 drops_line [] = false
 drops_line (b ∷ bs) =
-    begins_place (b ∷ bs) || (b == dash && begins (λ c. not (is_white_space c)) bs)
+    begins_place (b ∷ bs) || b == dash
 
 -- two dashes, and then white space or the end
 abbrev pub begins_comment_dashes : List ℕ → Bool

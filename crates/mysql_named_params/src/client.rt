@@ -125,7 +125,7 @@ fn drops_line(text: &[u8]) -> bool
     ensures { result ≡ drops_line text.now }
 {
     match text {
-        [b'-', byte, ..] => !is_white_space(*byte),
+        [b'-', ..] => true,
         _ => begins_place(text),
     }
 }

@@ -54,6 +54,7 @@ const COMMANDS: &[(&[u8], Construct, usize)] = &[
     (b"SELECT 1 \\", Construct::ClientCommand, 9),
     (b"SELECT 1; --x\nSELECT 2", Construct::DashInFront, 10),
     (b"-:a", Construct::DashInFront, 0),
+    (b"--\nuse a", Construct::DashInFront, 0),
     (b"; /* a */ -?", Construct::DashInFront, 10),
     (b"SELECT 1\ndelimiter\n5", Construct::Delimiter, 9),
     (b"DELIMITER //", Construct::Delimiter, 0),
