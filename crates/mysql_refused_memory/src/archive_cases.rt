@@ -1,287 +1,134 @@
 //! The calls of the archive, whose answer goes into the caller's room, and the reading of its form.
-use crate::inputs::{is_bytes, is_named};
-use crate::outcome::{Case, Outcome};
-use mysql_flat_params::{FormError, bind_into, names_into, params_of_form};
-use mysql_params::params::Params;
+use crate::inputs::Given::{Empty, Named, Positional};
+use crate::inputs::Plain::Bytes;
+use crate::inputs::{Given, Plain};
+use crate::outcome::Memory::{Asked, Never};
+use crate::outcome::{Case, Memory, Outcome, cases, judged, row};
+use mysql_flat_params::{Outcome as Told, bind_into, names_into, params_of_form};
 use std::alloc::Global;
+
+/// How the call of this name went, if it stands here.
+pub(crate) fn case(alloc: Global, name: &str) -> Option<Case> {
+    if let Some(row) = row(BOUND, name) {
+        return Some(Ok(bound(alloc, row)));
+    }
+    if let Some(row) = row(NAMES, name) {
+        return Some(Ok(names_written(alloc, row)));
+    }
+    let (form, given, memory) = row(FORMS, name)?;
+    Some(Ok(judged(params_of_form(alloc, form), given).with(memory)))
+}
 
 /// A caller's room, before a call.
 const ROOM: &[u8; 32] = &[b'*'; 32];
 
-/// The number for out of memory.
-const OUT_OF_MEMORY: i32 = 1;
+/// What stands in the room, or the refusal, which leaves the room as it was.
+type Wanted = Result<&'static [u8], Told>;
 
-/// A parameter `a` with the number -3, and one without a name.
-const NUMBER_OF_A: &[u8] = b"\x01a\x01\x00\xFD";
-
-const NUMBER: &[u8] = b"\x00\x01\x00\xFD";
-
-/// How the call of this name went, if it stands here.
-pub(crate) fn case(alloc: Global, name: &str) -> Option<Case> {
-    if let Some(what) = name.strip_prefix("bind_into of ") {
-        return bound(alloc, what);
+/// How a call went that may write into the room.
+fn written(told: Told, room: &[u8], wanted: Wanted) -> Outcome {
+    let is_untouched = room == ROOM.as_slice();
+    if told.number() == 1 {
+        return Outcome::Memory.if_holds(is_untouched);
     }
-    let outcome = match name {
-        "names_into of two names" => names_written(alloc, b":a :b", b"\x03? ?\x01a\x01b"),
-        "names_into of no names" => nameless_written(alloc),
-        "names_into of names and marks" => names_refused(alloc),
-        "names_into of a room that is too short" => names_too_long(alloc),
-        "params_of_form of a name" => named_form(alloc),
-        "params_of_form of values" => positional_form(alloc),
-        "params_of_form of nothing" => empty_form(alloc),
-        "params_of_form of a cut form" => cut_form(alloc),
-        _ => return None,
-    };
-    Some(Ok(outcome))
+    match wanted {
+        Ok(text) => Outcome::Answer.if_holds(
+            told == (Told::Done { len: text.len() })
+                && told.number() == 0
+                && is_written(room, text),
+        ),
+        Err(refusal) => Outcome::Refusal.if_holds(told == refusal && is_untouched),
+    }
 }
 
 /// Whether the room has the text in front, and is as before after it.
 fn is_written(room: &[u8], text: &[u8]) -> bool {
     match room.strip_prefix(text) {
-        Some(rest) => match ROOM.get(text.len()..) {
-            Some(before) => rest == before,
-            None => false,
-        },
+        Some(rest) => ROOM.get(text.len()..) == Some(rest),
         None => false,
     }
 }
 
-fn is_untouched(room: &[u8]) -> bool {
-    room == ROOM.as_slice()
-}
-
-/// How a call went that may write the text into the room.
-fn written(told: mysql_flat_params::Outcome, room: &[u8], text: &[u8]) -> Outcome {
-    if told == (mysql_flat_params::Outcome::Done { len: text.len() }) {
-        return Outcome::Answer.if_holds(told.number() == 0 && is_written(room, text));
-    }
-    Outcome::Memory.if_holds(told.number() == OUT_OF_MEMORY && is_untouched(room))
-}
-
-/// How a call went that is refused.
-fn refused(
-    told: mysql_flat_params::Outcome,
-    room: &[u8],
-    refusal: mysql_flat_params::Outcome,
-) -> Outcome {
-    if told == refusal {
-        return Outcome::Refusal.if_holds(is_untouched(room));
-    }
-    Outcome::Memory.if_holds(told.number() == OUT_OF_MEMORY && is_untouched(room))
-}
-
-fn names_written(alloc: Global, query: &[u8], text: &[u8]) -> Outcome {
-    let mut room = *ROOM;
-    let told = names_into(alloc, query, false, &mut room);
-    written(told, &room, text)
-}
-
-// A query without names is written without a vector of its own.
-fn nameless_written(alloc: Global) -> Outcome {
-    let mut room = *ROOM;
-    let told = names_into(alloc, b"?", false, &mut room);
-    let holds = told.number() == 0 && is_written(&room, b"\x01?");
-    Outcome::AnswerWithoutMemory.if_holds(holds)
-}
-
-fn names_refused(alloc: Global) -> Outcome {
-    let mut room = *ROOM;
-    let told = names_into(alloc, b":a ?", false, &mut room);
-    let holds = told == mysql_flat_params::Outcome::Mixed && is_untouched(&room);
-    Outcome::AnswerWithoutMemory.if_holds(holds)
-}
+/// A query, the answer or refusal, and whether the call asks for memory.
+type NamesRow = (&'static [u8], Wanted, Memory);
 
 // A room no longer than the query is too short before anything is written.
-fn names_too_long(alloc: Global) -> Outcome {
+const LONG_NAMES: &[u8] = b":a :b /* a comment that is longer */";
+
+const NAMES: &[(&str, NamesRow)] = cases! {
+    "names_into of two names" => b":a :b", Ok(b"\x03? ?\x01a\x01b"), Asked;
+    // A query without names is written without a vector of its own.
+    "names_into of no names" => b"?", Ok(b"\x01?"), Never;
+    "names_into of names and marks" => b":a ?", Err(Told::Mixed), Never;
+    "names_into of a room that is too short" => LONG_NAMES, Err(Told::Room { len: 39 }), Never;
+};
+
+fn names_written(alloc: Global, (query, wanted, memory): NamesRow) -> Outcome {
     let mut room = *ROOM;
-    let query = b":a :b /* a comment that is longer */";
     let told = names_into(alloc, query, false, &mut room);
-    let holds = told == (mysql_flat_params::Outcome::Room { len: 39 }) && is_untouched(&room);
-    Outcome::AnswerWithoutMemory.if_holds(holds)
+    written(told, &room, wanted).with(memory)
 }
 
-fn bound(alloc: Global, what: &str) -> Option<Case> {
-    let outcome = match what {
-        "a name" => binds(alloc, b"(:a-10)", NUMBER_OF_A, b"(-3-10)"),
-        "a repeated name" => binds(alloc, b":a%:a", b"\x01a\x01\x00\x05", b"5%5"),
-        "a text" => binds(alloc, b"= ?", b"\x00\xFC\x00\x04it's", b"= 'it\\'s'"),
-        "values" => binds(alloc, b"?,?", b"\x00\x01\x00\xFD\x00\x06\x00", b"-3,NULL"),
-        "nothing" => binds(alloc, b"':a'", b"", b"':a'"),
-        "a room that is too short" => too_long(alloc),
-        "a cut form" => form_refused(alloc, b"\x01a\x01\x00", cut()),
-        "a form with a bad lead" => form_refused(alloc, b"\xFF", bad_lead()),
-        "a form with an unknown type" => form_refused(alloc, b"\x01a\x15\x00", bad_type()),
-        "a form with and without names" => form_refused(alloc, MIXED_FORM, mixed_form()),
-        "a form with a repeated name" => form_refused(alloc, REPEATED_FORM, repeated_form()),
-        _ => return query_refused(alloc, what),
-    };
-    Some(Ok(outcome))
-}
+/// A form, its parameters or how the refusal is shown, and whether reading asks for memory.
+type FormRow = (&'static [u8], Result<Given<'static>, &'static str>, Memory);
 
-fn binds(alloc: Global, query: &[u8], form: &[u8], text: &[u8]) -> Outcome {
-    let mut room = *ROOM;
-    let told = bind_into(alloc, query, form, false, &mut room);
-    written(told, &room, text)
-}
+const AB: Plain = Bytes(b"ab");
 
-fn refuses(
-    alloc: Global,
-    query: &[u8],
-    form: &[u8],
-    refusal: mysql_flat_params::Outcome,
-) -> Outcome {
-    let mut room = *ROOM;
-    let told = bind_into(alloc, query, form, false, &mut room);
-    refused(told, &room, refusal)
-}
+const FORMS: &[(&str, FormRow)] = cases! {
+    "params_of_form of a name" => b"\x01a\xFC\x00\x02ab", Ok(Named(&[(b"a", AB)])), Asked;
+    "params_of_form of values" => b"\x00\xFC\x00\x02ab", Ok(Positional(&[AB])), Asked;
+    "params_of_form of nothing" => b"", Ok(Empty), Never;
+    "params_of_form of a cut form" =>
+        b"\x01a\xFC\x00\x01x\x01b", Err("End { place: 1, position: 6 }"), Asked;
+};
 
-/// The form is refused, whatever the query is.
-fn form_refused(alloc: Global, form: &[u8], refusal: mysql_flat_params::Outcome) -> Outcome {
-    refuses(alloc, b":a ?", form, refusal)
-}
+/// A query, a form, and the answer or refusal.
+type BoundRow = (&'static [u8], &'static [u8], Wanted);
 
-fn too_long(alloc: Global) -> Outcome {
-    let query = b":a /* a comment that is longer than it */";
-    let refusal = mysql_flat_params::Outcome::Room { len: 41 };
-    refuses(alloc, query, NUMBER_OF_A, refusal)
-}
+/// The number -3 for `a`, and by position.
+const NUMBER_OF_A: &[u8] = b"\x01a\x01\x00\xFD";
 
-fn cut() -> mysql_flat_params::Outcome {
-    mysql_flat_params::Outcome::FormEnd {
-        place: 0,
-        position: 0,
-    }
-}
+const NUMBER: &[u8] = b"\x00\x01\x00\xFD";
 
-fn bad_lead() -> mysql_flat_params::Outcome {
-    mysql_flat_params::Outcome::FormLengthLead {
-        place: 0,
-        position: 0,
-        lead: 255,
-    }
-}
-
-fn bad_type() -> mysql_flat_params::Outcome {
-    mysql_flat_params::Outcome::FormType {
-        place: 0,
-        position: 0,
-        number: 21,
-    }
-}
-
-/// A parameter with a name and one without.
+/// A parameter with a name and one without, and two with one name.
 const MIXED_FORM: &[u8] = b"\x01a\x01\x00\xFD\x00\x06\x00";
 
-fn mixed_form() -> mysql_flat_params::Outcome {
-    mysql_flat_params::Outcome::FormMixed {
-        place: 1,
-        position: 5,
-    }
-}
-
-/// Two parameters with one name.
 const REPEATED_FORM: &[u8] = b"\x01a\x01\x00\xFD\x01a\x06\x00";
 
-fn repeated_form() -> mysql_flat_params::Outcome {
-    mysql_flat_params::Outcome::FormRepeated {
-        place: 1,
-        position: 6,
-        len: 1,
-    }
-}
+const FLOAT_OF_A: &[u8] = b"\x01a\x04\x00\x00\x00\x80\x3F";
 
-fn query_refused(alloc: Global, what: &str) -> Option<Case> {
-    use mysql_flat_params::Outcome as Told;
-    let outcome = match what {
-        "names and marks" => refuses(alloc, b":a ?", NUMBER, Told::Mixed),
-        "a missing name" => missing(alloc),
-        "named parameters for marks" => refuses(alloc, b"?", NUMBER_OF_A, Told::NamedForPositional),
-        "values for names" => refuses(alloc, b":a", NUMBER, Told::PositionalForNamed),
-        "too few values" => too_few(alloc),
-        "a place that does not stand alone" => not_alone(alloc),
-        "a float" => float(alloc),
-        _ => return None,
-    };
-    Some(Ok(outcome))
-}
+const LONG_QUERY: &[u8] = b":a /* a comment that is longer than it */";
 
-fn missing(alloc: Global) -> Outcome {
-    let refusal = mysql_flat_params::Outcome::Missing {
-        place: 0,
-        position: 1,
-        len: 1,
-    };
-    refuses(alloc, b":b", NUMBER_OF_A, refusal)
-}
+const BOUND: &[(&str, BoundRow)] = cases! {
+    "bind_into of a name" => b"(:a-10)", NUMBER_OF_A, Ok(b"(-3-10)");
+    "bind_into of a repeated name" => b":a%:a", b"\x01a\x01\x00\x05", Ok(b"5%5");
+    "bind_into of a text" => b"= ?", b"\x00\xFC\x00\x04it's", Ok(b"= 'it\\'s'");
+    "bind_into of values" => b"?,?", b"\x00\x01\x00\xFD\x00\x06\x00", Ok(b"-3,NULL");
+    "bind_into of nothing" => b"':a'", b"", Ok(b"':a'");
+    "bind_into of a room that is too short" => LONG_QUERY, NUMBER_OF_A, Err(Told::Room { len: 41 });
+    "bind_into of a cut form" =>
+        b":a ?", b"\x01a\x01\x00", Err(Told::FormEnd { place: 0, position: 0, });
+    "bind_into of a form with a bad lead" =>
+        b":a ?", b"\xFF", Err(Told::FormLengthLead { place: 0, position: 0, lead: 255, });
+    "bind_into of a form with an unknown type" =>
+        b":a ?", b"\x01a\x15\x00", Err(Told::FormType { place: 0, position: 0, number: 21, });
+    "bind_into of a form with and without names" =>
+        b":a ?", MIXED_FORM, Err(Told::FormMixed { place: 1, position: 5, });
+    "bind_into of a form with a repeated name" =>
+        b":a ?", REPEATED_FORM, Err(Told::FormRepeated { place: 1, position: 6, len: 1, });
+    "bind_into of names and marks" => b":a ?", NUMBER, Err(Told::Mixed);
+    "bind_into of a missing name" =>
+        b":b", NUMBER_OF_A, Err(Told::Missing { place: 0, position: 1, len: 1, });
+    "bind_into of named parameters for marks" => b"?", NUMBER_OF_A, Err(Told::NamedForPositional);
+    "bind_into of values for names" => b":a", NUMBER, Err(Told::PositionalForNamed);
+    "bind_into of too few values" => b"?,?", NUMBER, Err(Told::MarkCount { marks: 2, values: 1, });
+    "bind_into of a place that does not stand alone" =>
+        b"x:a", NUMBER_OF_A, Err(Told::NotAlone { place: 0, position: 1, });
+    "bind_into of a float" => b":a", FLOAT_OF_A, Err(Told::Float { place: 0 });
+};
 
-fn too_few(alloc: Global) -> Outcome {
-    let refusal = mysql_flat_params::Outcome::MarkCount {
-        marks: 2,
-        values: 1,
-    };
-    refuses(alloc, b"?,?", NUMBER, refusal)
-}
-
-fn not_alone(alloc: Global) -> Outcome {
-    let refusal = mysql_flat_params::Outcome::NotAlone {
-        place: 0,
-        position: 1,
-    };
-    refuses(alloc, b"x:a", NUMBER_OF_A, refusal)
-}
-
-fn float(alloc: Global) -> Outcome {
-    let form = b"\x01a\x04\x00\x00\x00\x80\x3F";
-    refuses(
-        alloc,
-        b":a",
-        form,
-        mysql_flat_params::Outcome::Float { place: 0 },
-    )
-}
-
-fn named_form(alloc: Global) -> Outcome {
-    match params_of_form(alloc, b"\x01a\xFC\x00\x02ab") {
-        Err(FormError::Memory(_)) => Outcome::Memory,
-        Ok(params) => Outcome::Answer.if_holds(is_named(&params, b"ab")),
-        Err(_) => Outcome::Wrong,
-    }
-}
-
-fn positional_form(alloc: Global) -> Outcome {
-    match params_of_form(alloc, b"\x00\xFC\x00\x02ab") {
-        Err(FormError::Memory(_)) => Outcome::Memory,
-        Ok(params) => Outcome::Answer.if_holds(is_positional(&params)),
-        Err(_) => Outcome::Wrong,
-    }
-}
-
-/// Whether the parameters are the bytes `ab`, by position.
-fn is_positional(params: &Params) -> bool {
-    match params {
-        Params::Positional(values) => match values.as_slice() {
-            [value] => is_bytes(value, b"ab"),
-            _ => false,
-        },
-        _ => false,
-    }
-}
-
-fn empty_form(alloc: Global) -> Outcome {
-    match params_of_form(alloc, b"") {
-        Ok(params) => Outcome::AnswerWithoutMemory.if_holds(params == Params::Empty),
-        Err(_) => Outcome::Wrong,
-    }
-}
-
-fn cut_form(alloc: Global) -> Outcome {
-    let refusal = FormError::End {
-        place: 1,
-        position: 6,
-    };
-    match params_of_form(alloc, b"\x01a\xFC\x00\x01x\x01b") {
-        Err(FormError::Memory(_)) => Outcome::Memory,
-        Err(error) => Outcome::Refusal.if_holds(error == refusal),
-        Ok(_) => Outcome::Wrong,
-    }
+fn bound(alloc: Global, (query, form, wanted): BoundRow) -> Outcome {
+    let mut room = *ROOM;
+    let told = bind_into(alloc, query, form, false, &mut room);
+    written(told, &room, wanted)
 }

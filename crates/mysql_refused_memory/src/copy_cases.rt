@@ -1,6 +1,6 @@
 //! Copies: every `clone` that can be out of memory.
-use crate::inputs::{bytes, named, positional};
-use crate::outcome::{Case, Outcome, copied};
+use crate::inputs::{Given, Plain, bytes};
+use crate::outcome::{Case, copied, holds};
 use mysql_params::named_params::ParsedNamedParams;
 use mysql_params::params::{MissingNamedParameterError, Params, ParamsConfusionError, ParamsError};
 use mysql_values::bytes::Bytes;
@@ -16,15 +16,19 @@ pub(crate) fn case(alloc: Global, name: &str) -> Option<Case> {
         "FromValueError" => copy_of_conversion_error(alloc),
         "ValueIr" => copy_of_intermediate(alloc),
         "ParsedNamedParams" => copy_of_parsed(alloc),
-        "named parameters" => copy_of_named(alloc),
-        "positional parameters" => copy_of_positional(alloc),
+        "named parameters" => copy_of_params(alloc, NAMED),
+        "positional parameters" => copy_of_params(alloc, POSITIONAL),
         "MissingNamedParameterError" => copy_of_missing(alloc),
         "ParamsError" => copy_of_params_error(alloc),
-        "what holds no bytes" => Ok(copies_without_bytes()),
+        "what holds no bytes" => holds(are_copied()),
         _ => return None,
     };
     Some(case)
 }
+
+const NAMED: Given = Given::Named(&[(b"a", Plain::Bytes(b"abc"))]);
+
+const POSITIONAL: Given = Given::Positional(&[Plain::Bytes(b"abc")]);
 
 fn copy_of_bytes(alloc: Global) -> Case {
     let bytes = Bytes::from(Vec::from_slice(alloc, b"abc")?);
@@ -53,13 +57,8 @@ fn copy_of_parsed(alloc: Global) -> Case {
     }
 }
 
-fn copy_of_named(alloc: Global) -> Case {
-    let params = named(alloc, b"a", bytes(alloc, b"abc")?)?;
-    Ok(copied(params.clone(), &params))
-}
-
-fn copy_of_positional(alloc: Global) -> Case {
-    let params = positional(alloc, bytes(alloc, b"abc")?)?;
+fn copy_of_params(alloc: Global, given: Given<'_>) -> Case {
+    let params = given.params(alloc)?;
     Ok(copied(params.clone(), &params))
 }
 
@@ -74,12 +73,11 @@ fn copy_of_params_error(alloc: Global) -> Case {
     Ok(copied(error.clone(), &error))
 }
 
-fn copies_without_bytes() -> Outcome {
+fn are_copied() -> bool {
     let error = ParamsError::Confusion(ParamsConfusionError::NamedParamsForPositionalQuery);
     let ir = ValueIr(Value::Int(5));
-    let holds = Value::UInt(5).clone() == Ok(Value::UInt(5))
+    Value::UInt(5).clone() == Ok(Value::UInt(5))
         && Params::Empty.clone() == Ok(Params::Empty)
         && ir.clone() == Ok(ValueIr(Value::Int(5)))
-        && error.clone() == Ok(error);
-    Outcome::AnswerWithoutMemory.if_holds(holds)
+        && error.clone() == Ok(error)
 }

@@ -1,5 +1,5 @@
 //! Fixed queries: `bind_named`, `bind_positional`, and both in a mode.
-use crate::outcome::{Case, Outcome};
+use crate::outcome::{Case, Outcome, judged};
 use mysql_params::fixed_query::{bind_named, bind_named_in, bind_positional, bind_positional_in};
 use std::alloc::{AllocError, Global};
 
@@ -9,7 +9,9 @@ pub(crate) fn case(alloc: Global, name: &str) -> Option<Case> {
         "bind_named of a text and a number" => by_name(alloc),
         "bind_named_in of a text without backslash escapes" => by_name_in(alloc),
         "bind_positional of a text and a number" => by_position(alloc),
-        "bind_positional of a query without places" => nothing(alloc),
+        "bind_positional of a query without places" => {
+            is_bound(bind_positional(alloc, b"SELECT '?'", &()), b"SELECT '?'")
+        }
         "bind_positional_in of a text without backslash escapes" => by_position_in(alloc),
         _ => return None,
     };
@@ -18,10 +20,7 @@ pub(crate) fn case(alloc: Global, name: &str) -> Option<Case> {
 
 /// The call returned this text.
 fn is_bound(answer: Result<Vec<u8>, AllocError>, text: &[u8]) -> Outcome {
-    match answer {
-        Err(AllocError) => Outcome::Memory,
-        Ok(bound) => Outcome::Answer.if_holds(bound.as_slice() == text),
-    }
+    judged(answer, Ok(text))
 }
 
 fn by_name(alloc: Global) -> Outcome {
@@ -38,10 +37,6 @@ fn by_name_in(alloc: Global) -> Outcome {
 fn by_position(alloc: Global) -> Outcome {
     let answer = bind_positional(alloc, b"SELECT ?, ?", &("it's", 42u8));
     is_bound(answer, b"SELECT 'it\\'s', 42")
-}
-
-fn nothing(alloc: Global) -> Outcome {
-    is_bound(bind_positional(alloc, b"SELECT '?'", &()), b"SELECT '?'")
 }
 
 fn by_position_in(alloc: Global) -> Outcome {

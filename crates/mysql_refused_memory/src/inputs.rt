@@ -1,50 +1,154 @@
-//! What the calls are given, and how an answer is looked at without memory.
+//! What the calls are given and should answer, as plain data for tables.
+use crate::outcome::Is;
 use mysql_params::params::Params;
 use mysql_values::bytes::Bytes;
 use mysql_values::value::Value;
 use std::alloc::{AllocError, Global};
 use std::collections::HashMap;
 
+/// A value as plain data.
+#[derive(Clone, Copy)]
+pub(crate) enum Plain<'a> {
+    Null,
+    Bytes(&'a [u8]),
+    Int(i64),
+    UInt(u64),
+    Float(u32),
+    Double(u64),
+    Date(u16, u8, u8, u8, u8, u8, u32),
+    Time(bool, u32, u8, u8, u8, u32),
+}
+
+impl Plain<'_> {
+    /// The value. Only one of bytes asks for memory, once.
+    pub(crate) fn value(self, alloc: Global) -> Result<Value, AllocError> {
+        match self {
+            Plain::Bytes(text) => bytes(alloc, text),
+            _ => Ok(self.without_bytes()),
+        }
+    }
+
+    /// The value, if it isn't one of bytes.
+    pub(crate) fn without_bytes(self) -> Value {
+        match self {
+            Plain::Null | Plain::Bytes(_) => Value::NULL,
+            Plain::Int(number) => Value::Int(number),
+            Plain::UInt(number) => Value::UInt(number),
+            Plain::Float(bits) => Value::Float(bits),
+            Plain::Double(bits) => Value::Double(bits),
+            Plain::Date(y, m, d, h, min, s, micros) => Value::Date(y, m, d, h, min, s, micros),
+            Plain::Time(negative, d, h, min, s, micros) => Value::Time(
+                negative, d, h, min, s, micros,
+            ),
+        }
+    }
+}
+
+impl Is<Plain<'_>> for Value {
+    fn is(&self, wanted: Plain<'_>) -> bool {
+        match wanted {
+            Plain::Bytes(text) => is_bytes(self, text),
+            _ => *self == wanted.without_bytes(),
+        }
+    }
+}
+
 /// The value that holds these bytes.
 pub(crate) fn bytes(alloc: Global, text: &[u8]) -> Result<Value, AllocError> {
     Ok(Value::Bytes(Bytes::from(Vec::from_slice(alloc, text)?)))
 }
 
-/// Whether a value holds these bytes.
-pub(crate) fn is_bytes(value: &Value, text: &[u8]) -> bool {
+fn is_bytes(value: &Value, text: &[u8]) -> bool {
     match value {
         Value::Bytes(bytes) => bytes.as_slice() == text,
         _ => false,
     }
 }
 
-/// Named parameters: one value.
-pub(crate) fn named(alloc: Global, name: &[u8], value: Value) -> Result<Params, AllocError> {
-    let mut entries = HashMap::new(alloc);
-    let name = Vec::from_slice(alloc, name)?;
-    match entries.insert(name, value) {
-        Ok(_) => Ok(Params::Named(entries)),
-        Err(_) => Err(AllocError),
+/// Parameters as plain data.
+#[derive(Clone, Copy)]
+pub(crate) enum Given<'a> {
+    Empty,
+    Positional(&'a [Plain<'a>]),
+    Named(&'a [(&'a [u8], Plain<'a>)]),
+}
+
+impl Given<'_> {
+    /// The parameters.
+    pub(crate) fn params(self, alloc: Global) -> Result<Params, AllocError> {
+        match self {
+            Given::Empty => Ok(Params::Empty),
+            Given::Positional(values) => positional(alloc, values),
+            Given::Named(entries) => named(alloc, entries),
+        }
     }
 }
 
-/// Whether the parameters are `a` with these bytes.
-pub(crate) fn is_named(params: &Params, text: &[u8]) -> bool {
-    match params {
-        Params::Named(entries) => match entries.get(b"a".as_slice()) {
-            Some(value) => entries.len() == 1 && is_bytes(value, text),
-            None => false,
-        },
-        _ => false,
-    }
-}
-
-/// Positional parameters: one value.
-pub(crate) fn positional(alloc: Global, value: Value) -> Result<Params, AllocError> {
+fn positional(alloc: Global, plain: &[Plain<'_>]) -> Result<Params, AllocError> {
     let mut values = Vec::new(alloc);
-    match values.push(value) {
-        Ok(()) => Ok(Params::Positional(values)),
-        Err(_) => Err(AllocError),
+    for value in plain {
+        values.push(value.value(alloc)?)?;
+    }
+    Ok(Params::Positional(values))
+}
+
+fn named(alloc: Global, plain: &[(&[u8], Plain<'_>)]) -> Result<Params, AllocError> {
+    let mut entries = HashMap::new(alloc);
+    for (name, value) in plain {
+        let value = value.value(alloc)?;
+        let name = Vec::from_slice(alloc, *name)?;
+        match entries.insert(name, value) {
+            Ok(_) => {}
+            Err(_) => return Err(AllocError),
+        }
+    }
+    Ok(Params::Named(entries))
+}
+
+impl Is<Given<'_>> for Params {
+    fn is(&self, wanted: Given<'_>) -> bool {
+        match (self, wanted) {
+            (Params::Empty, Given::Empty) => true,
+            (Params::Positional(found), Given::Positional(wanted)) => found.is(wanted),
+            (Params::Named(found), Given::Named(wanted)) => are_entries(found, wanted),
+            _ => false,
+        }
+    }
+}
+
+impl Is<&[Plain<'_>]> for Vec<Value> {
+    fn is(&self, wanted: &[Plain<'_>]) -> bool {
+        if self.len() != wanted.len() {
+            return false;
+        }
+        for (found, wanted) in self.iter().zip(wanted) {
+            if !found.is(*wanted) {
+                return false;
+            }
+        }
+        true
+    }
+}
+
+fn are_entries(found: &HashMap<Vec<u8>, Value>, wanted: &[(&[u8], Plain<'_>)]) -> bool {
+    for (name, value) in wanted {
+        match found.get(*name) {
+            Some(found) if found.is(*value) => {}
+            _ => return false,
+        }
+    }
+    found.len() == wanted.len()
+}
+
+impl Is<&[u8]> for Vec<u8> {
+    fn is(&self, wanted: &[u8]) -> bool {
+        self.as_slice() == wanted
+    }
+}
+
+impl Is<&str> for String {
+    fn is(&self, wanted: &str) -> bool {
+        self.as_str() == wanted
     }
 }
 
@@ -52,11 +156,7 @@ pub(crate) fn positional(alloc: Global, value: Value) -> Result<Params, AllocErr
 pub(crate) fn names(alloc: Global, letters: &[u8]) -> Result<Vec<Vec<u8>>, AllocError> {
     let mut names = Vec::new(alloc);
     for letter in letters {
-        let name = Vec::from_slice(alloc, &[*letter])?;
-        match names.push(name) {
-            Ok(()) => {}
-            Err(_) => return Err(AllocError),
-        }
+        names.push(Vec::from_slice(alloc, &[*letter])?)?;
     }
     Ok(names)
 }

@@ -1,22 +1,22 @@
 //! Queries that are parsed once: `ParsedQuery`.
-use crate::inputs::{bytes, named, positional};
-use crate::outcome::{Case, Outcome, copied};
-use mysql_params::named_params::{MixedParamsError, NamedParamsError};
-use mysql_params::params::{Params, ParamsConfusionError, ParamsError};
-use mysql_params::{BindError, ParsedQuery};
-use mysql_values::value::Value;
-use std::alloc::{AllocError, Global};
+use crate::inputs::Given;
+use crate::inputs::Given::{Empty, Named, Positional};
+use crate::inputs::Plain::{Bytes, Float, Int, Null, UInt};
+use crate::outcome::Memory::{Asked, Never};
+use crate::outcome::{Case, Is, Memory, Outcome, cases, copied, holds, judged, row};
+use mysql_params::ParsedQuery;
+use std::alloc::Global;
 
 /// How the call of this name went, if it stands here.
 pub(crate) fn case(alloc: Global, name: &str) -> Option<Case> {
-    if let Some(what) = name.strip_prefix("bind of ") {
-        return bound(alloc, what);
+    if let Some(row) = row(BOUND, name) {
+        return Some(bound(alloc, row));
     }
     let case = match name {
         "ParsedQuery::parse of a name" => Ok(parsed(alloc, b":a, 1")),
         "ParsedQuery::parse of more places than are kept" => Ok(parsed(alloc, MANY)),
-        "ParsedQuery::parse of no places" => Ok(parsed_without_memory(alloc)),
-        "ParsedQuery::names of two names" => two_names(alloc),
+        "ParsedQuery::parse of no places" => parsed_without_memory(alloc),
+        "ParsedQuery::names of two names" => names(alloc, b":a, :b", Ok(&[b"a", b"b"])),
         "ParsedQuery::names of names and marks" => mixed_names(alloc),
         "into_owned of a borrowed query" => owned_copy(alloc),
         "into_owned of an owned query" => owned_again(alloc),
@@ -29,62 +29,46 @@ pub(crate) fn case(alloc: Global, name: &str) -> Option<Case> {
 
 const MANY: &[u8] = b"?,?,?,?,?,?,?,?,?,?,?,?,?,?,?,?,?,?";
 
+impl Is<&[u8]> for ParsedQuery<'_> {
+    fn is(&self, query: &[u8]) -> bool {
+        self.query() == query
+    }
+}
+
 fn parsed(alloc: Global, query: &[u8]) -> Outcome {
-    match ParsedQuery::parse(alloc, query) {
-        Err(AllocError) => Outcome::Memory,
-        Ok(parsed) => Outcome::Answer.if_holds(parsed.query() == query),
-    }
+    judged(ParsedQuery::parse(alloc, query), Ok(query))
 }
 
-fn parsed_without_memory(alloc: Global) -> Outcome {
+fn parsed_without_memory(alloc: Global) -> Case {
     match ParsedQuery::parse(alloc, b"SELECT ':a'") {
-        Err(AllocError) => Outcome::Wrong,
-        Ok(parsed) => Outcome::AnswerWithoutMemory.if_holds(parsed.marks() == 0),
+        Ok(parsed) => holds(parsed.marks() == 0),
+        Err(_) => holds(false),
     }
 }
 
-fn two_names(alloc: Global) -> Case {
-    let parsed = ParsedQuery::parse(alloc, b":a, :b")?;
-    match parsed.names(alloc) {
-        Err(NamedParamsError::Memory(_)) => Ok(Outcome::Memory),
-        Err(NamedParamsError::Mixed(_)) => Ok(Outcome::Wrong),
-        Ok(names) => Ok(Outcome::Answer.if_holds(are_a_and_b(names.as_slice()))),
+impl Is<&[&[u8]]> for Vec<&[u8]> {
+    fn is(&self, wanted: &[&[u8]]) -> bool {
+        self.as_slice() == wanted
     }
 }
 
-fn are_a_and_b(names: &[&[u8]]) -> bool {
-    match names {
-        [a, b] => *a == b"a".as_slice() && *b == b"b".as_slice(),
-        _ => false,
-    }
+fn names(alloc: Global, query: &[u8], wanted: Result<&[&[u8]], &str>) -> Case {
+    let parsed = ParsedQuery::parse(alloc, query)?;
+    Ok(judged(parsed.names(alloc), wanted))
 }
 
 fn mixed_names(alloc: Global) -> Case {
-    let parsed = ParsedQuery::parse(alloc, b":a ?")?;
-    match parsed.names(alloc) {
-        Ok(_) => Ok(Outcome::Wrong),
-        Err(error) => Ok(Outcome::AnswerWithoutMemory.if_holds(
-            error == NamedParamsError::Mixed(MixedParamsError),
-        )),
-    }
+    Ok(names(alloc, b":a ?", Err("Mixed(MixedParamsError)"))?.without_memory())
 }
 
 fn owned_copy(alloc: Global) -> Case {
     let parsed = ParsedQuery::parse(alloc, b":a")?;
-    match parsed.into_owned(alloc) {
-        Err(AllocError) => Ok(Outcome::Memory),
-        Ok(owned) => Ok(Outcome::Answer.if_holds(owned.query() == b":a".as_slice())),
-    }
+    Ok(judged(parsed.into_owned(alloc), Ok(b":a".as_slice())))
 }
 
 fn owned_again(alloc: Global) -> Case {
     let owned = ParsedQuery::parse(alloc, b":a")?.into_owned(alloc)?;
-    match owned.into_owned(alloc) {
-        Err(AllocError) => Ok(Outcome::Wrong),
-        Ok(owned) => {
-            Ok(Outcome::AnswerWithoutMemory.if_holds(owned.query() == b":a".as_slice()))
-        }
-    }
+    Ok(judged(owned.into_owned(alloc), Ok(b":a".as_slice())).without_memory())
 }
 
 fn copy_of_borrowed(alloc: Global) -> Case {
@@ -97,97 +81,38 @@ fn copy_of_owned(alloc: Global) -> Case {
     Ok(copied(parsed.clone(), &parsed))
 }
 
-fn bound(alloc: Global, what: &str) -> Option<Case> {
-    let case = match what {
-        "a parsed query by name" => by_name(alloc),
-        "a parsed query by position" => by_position(alloc),
-        "a parsed query of names and marks" => mixed(alloc),
-        "a parsed query with a missing name" => missing_name(alloc),
-        "a parsed query with values for names" => values_for_names(alloc),
-        "a parsed query with too few values" => too_few(alloc),
-        "a parsed query whose place does not stand alone" => not_alone(alloc),
-        "a parsed query with a float" => float(alloc),
-        _ => return None,
-    };
-    Some(case)
-}
+/// A query, what is given, the text or the refusal, and whether the call asks for memory.
+type Row = (
+    &'static [u8],
+    Given<'static>,
+    Result<&'static [u8], &'static str>,
+    Memory,
+);
 
-/// The parsed query is bound to the text.
-fn is_bound(alloc: Global, query: &[u8], params: Params, text: &[u8]) -> Case {
+const FIVE: Given = Positional(&[UInt(5)]);
+
+const MISSING_A: &str = "Params(Missing(MissingNamedParameterError([97])))";
+
+const FOR_NAMES: &str = "Params(Confusion(PositionalParamsForNamedQuery))";
+
+const BOUND: &[(&str, Row)] = cases! {
+    "bind of a parsed query by name" =>
+        b":a = :a", Named(&[(b"a", Bytes(b"it's"))]), Ok(b"'it\\'s' = 'it\\'s'"), Asked;
+    "bind of a parsed query by position" =>
+        b"SELECT (?-10)", Positional(&[Int(-3)]), Ok(b"SELECT (-3-10)"), Asked;
+    "bind of a parsed query of names and marks" => b":a ?", Empty, Err("Mixed"), Never;
+    "bind of a parsed query with a missing name" => b"x:a", Empty, Err(MISSING_A), Asked;
+    "bind of a parsed query with values for names" => b":a", FIVE, Err(FOR_NAMES), Asked;
+    "bind of a parsed query with too few values" =>
+        b"SELECT ?, ?", FIVE, Err("MarkCount { marks: 2, values: 1 }"), Asked;
+    "bind of a parsed query whose place does not stand alone" =>
+        b"x:a", Named(&[(b"a", Null)]), Err("NotAlone { place: 0, at: 1 }"), Asked;
+    "bind of a parsed query with a float" =>
+        b"1+:a", Named(&[(b"a", Float(0))]), Err("Float { place: 0 }"), Asked;
+};
+
+fn bound(alloc: Global, (query, given, wanted, memory): Row) -> Case {
+    let params = given.params(alloc)?;
     let parsed = ParsedQuery::parse(alloc, query)?;
-    match parsed.bind(alloc, params) {
-        Err(BindError::Memory(_)) => Ok(Outcome::Memory),
-        Ok(bound) => Ok(Outcome::Answer.if_holds(bound.as_slice() == text)),
-        Err(_) => Ok(Outcome::Wrong),
-    }
-}
-
-/// Binding the parsed query is refused.
-fn is_refused(alloc: Global, query: &[u8], params: Params, refusal: BindError) -> Case {
-    let parsed = ParsedQuery::parse(alloc, query)?;
-    match parsed.bind(alloc, params) {
-        Err(BindError::Memory(_)) => Ok(Outcome::Memory),
-        Err(error) => Ok(Outcome::Refusal.if_holds(error == refusal)),
-        Ok(_) => Ok(Outcome::Wrong),
-    }
-}
-
-fn by_name(alloc: Global) -> Case {
-    let params = named(alloc, b"a", bytes(alloc, b"it's")?)?;
-    is_bound(alloc, b":a = :a", params, b"'it\\'s' = 'it\\'s'")
-}
-
-fn by_position(alloc: Global) -> Case {
-    let params = positional(alloc, Value::Int(-3))?;
-    is_bound(alloc, b"SELECT (?-10)", params, b"SELECT (-3-10)")
-}
-
-fn mixed(alloc: Global) -> Case {
-    let parsed = ParsedQuery::parse(alloc, b":a ?")?;
-    match parsed.bind(alloc, Params::Empty) {
-        Err(error) => Ok(Outcome::AnswerWithoutMemory.if_holds(error == BindError::Mixed)),
-        Ok(_) => Ok(Outcome::Wrong),
-    }
-}
-
-fn missing_name(alloc: Global) -> Case {
-    let parsed = ParsedQuery::parse(alloc, b"x:a")?;
-    match parsed.bind(alloc, Params::Empty) {
-        Err(BindError::Memory(_)) => Ok(Outcome::Memory),
-        Err(BindError::Params(ParamsError::Missing(missing))) => {
-            Ok(Outcome::Refusal.if_holds(missing.0.as_slice() == b"a".as_slice()))
-        }
-        _ => Ok(Outcome::Wrong),
-    }
-}
-
-fn values_for_names(alloc: Global) -> Case {
-    let params = positional(alloc, Value::UInt(5))?;
-    let why = ParamsConfusionError::PositionalParamsForNamedQuery;
-    let refusal = BindError::Params(ParamsError::Confusion(why));
-    is_refused(alloc, b":a", params, refusal)
-}
-
-fn too_few(alloc: Global) -> Case {
-    let params = positional(alloc, Value::UInt(5))?;
-    let refusal = BindError::MarkCount {
-        marks: 2,
-        values: 1,
-    };
-    is_refused(alloc, b"SELECT ?, ?", params, refusal)
-}
-
-fn not_alone(alloc: Global) -> Case {
-    let params = named(alloc, b"a", Value::NULL)?;
-    is_refused(
-        alloc,
-        b"x:a",
-        params,
-        BindError::NotAlone { place: 0, at: 1 },
-    )
-}
-
-fn float(alloc: Global) -> Case {
-    let params = named(alloc, b"a", Value::Float(0))?;
-    is_refused(alloc, b"1+:a", params, BindError::Float { place: 0 })
+    Ok(judged(parsed.bind(alloc, params), wanted).with(memory))
 }

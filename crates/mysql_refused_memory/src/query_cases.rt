@@ -1,110 +1,85 @@
 //! Queries: `parse` and what it found.
-use crate::outcome::{Case, Outcome};
-use mysql_params::named_params::{MixedParamsError, NamedParamsError, ParsedNamedParams};
+use crate::outcome::Memory::{Asked, Never};
+use crate::outcome::{Case, Is, Memory, Outcome, cases, holds, judged, row};
+use mysql_params::named_params::ParsedNamedParams;
 use std::alloc::{AllocError, Global};
+use std::borrow::CowSlice;
 
 /// How the call of this name went, if it stands here.
 pub(crate) fn case(alloc: Global, name: &str) -> Option<Case> {
-    let case = match name {
-        "parse of two names" => Ok(two_names(alloc)),
-        "parse of names outside strings" => Ok(names_outside_strings(alloc)),
-        "parse of the empty query" => Ok(unchanged(alloc, b"")),
-        "parse of a mark" => Ok(unchanged(alloc, b"?")),
-        "parse of an open string" => Ok(unchanged(alloc, b"SELECT 'a\\':b")),
-        "parse of names and marks" => Ok(mixed(alloc)),
-        "parse_in of a name after a backslash" => Ok(name_after_a_backslash(alloc)),
-        "parse_in of no names" => Ok(no_names_without_backslashes(alloc)),
-        "parse_in of names and marks" => Ok(mixed_without_backslashes(alloc)),
-        "query and params of what was parsed" => parts_of_parsed(alloc),
-        _ => return None,
-    };
-    Some(case)
-}
-
-/// Whether the parsed query is this one with two names.
-fn has_two(parsed: &ParsedNamedParams<'_>, query: &[u8], one: &[u8], other: &[u8]) -> bool {
-    match parsed.params() {
-        [a, b] => parsed.query() == query && a.as_slice() == one && b.as_slice() == other,
-        _ => false,
+    if let Some((query, no_backslash_escape, parts, memory)) = row(QUERIES, name) {
+        return Some(Ok(parsed(alloc, query, no_backslash_escape, parts).with(memory)));
+    }
+    match name {
+        "parse of names and marks" => Some(holds(mixed(alloc))),
+        "query and params of what was parsed" => Some(parts_of_parsed(alloc)),
+        _ => None,
     }
 }
 
-/// The query has two names.
-fn parses_two(alloc: Global, query: &[u8], marks: &[u8], one: &[u8], other: &[u8]) -> Outcome {
-    match ParsedNamedParams::parse(alloc, query) {
-        Err(NamedParamsError::Memory(_)) => Outcome::Memory,
-        Err(NamedParamsError::Mixed(_)) => Outcome::Wrong,
-        Ok(parsed) => Outcome::Answer.if_holds(has_two(&parsed, marks, one, other)),
+/// The query with marks in the place of names, and the names.
+type Parts = (&'static [u8], &'static [&'static [u8]]);
+
+const MIXED: Result<Parts, &str> = Err("Mixed(MixedParamsError)");
+
+const TABLE: &[u8] = b"INSERT INTO `my:table` VALUES (:one, ':two\\\\', :three)";
+
+const MARKS_OF_TABLE: &[u8] = b"INSERT INTO `my:table` VALUES (?, ':two\\\\', ?)";
+
+/// Queries, the mode (without one it is `parse`), the parts, and whether they ask for memory.
+const QUERIES: &[(&str, (&[u8], Option<bool>, Result<Parts, &str>, Memory))] = cases! {
+    "parse of two names" => b":a_Aa:b", None, Ok((b"?Aa?", &[b"a_", b"b"])), Asked;
+    "parse of names outside strings" =>
+        TABLE, None, Ok((MARKS_OF_TABLE, &[b"one", b"three"])), Asked;
+    "parse of the empty query" => b"", None, Ok((b"", &[])), Never;
+    "parse of a mark" => b"?", None, Ok((b"?", &[])), Never;
+    "parse of an open string" => b"SELECT 'a\\':b", None, Ok((b"SELECT 'a\\':b", &[])), Never;
+    "parse_in of a name after a backslash" =>
+        b"SELECT 'a\\':b", Some(true), Ok((b"SELECT 'a\\'?", &[b"b"])), Asked;
+    "parse_in of no names" => b"'\\' ?", Some(true), Ok((b"'\\' ?", &[])), Never;
+    "parse_in of names and marks" => b"'\\':a ?", Some(true), MIXED, Never;
+};
+
+impl Is<Parts> for ParsedNamedParams<'_> {
+    fn is(&self, (query, names): Parts) -> bool {
+        self.query() == query && are_names(self.params(), names)
     }
 }
 
-fn two_names(alloc: Global) -> Outcome {
-    parses_two(alloc, b":a_Aa:b", b"?Aa?", b"a_", b"b")
-}
-
-fn names_outside_strings(alloc: Global) -> Outcome {
-    let query = b"INSERT INTO `my:table` VALUES (:one, ':two\\\\', :three)";
-    let marks = b"INSERT INTO `my:table` VALUES (?, ':two\\\\', ?)";
-    parses_two(alloc, query, marks, b"one", b"three")
-}
-
-fn name_after_a_backslash(alloc: Global) -> Outcome {
-    let marks = b"SELECT 'a\\'?".as_slice();
-    match ParsedNamedParams::parse_in(alloc, b"SELECT 'a\\':b", true) {
-        Err(NamedParamsError::Memory(_)) => Outcome::Memory,
-        Err(NamedParamsError::Mixed(_)) => Outcome::Wrong,
-        Ok(parsed) => {
-            Outcome::Answer.if_holds(parsed.query() == marks && parsed.params().len() == 1)
+fn are_names(found: &[CowSlice<'_, u8>], names: &[&[u8]]) -> bool {
+    if found.len() != names.len() {
+        return false;
+    }
+    for (found, name) in found.iter().zip(names) {
+        if found.as_slice() != *name {
+            return false;
         }
     }
+    true
 }
 
-fn no_names_without_backslashes(alloc: Global) -> Outcome {
-    let query = b"'\\' ?".as_slice();
-    match ParsedNamedParams::parse_in(alloc, query, true) {
-        Err(_) => Outcome::Wrong,
-        Ok(parsed) => Outcome::AnswerWithoutMemory.if_holds(
-            parsed.query() == query && parsed.params().is_empty(),
-        ),
-    }
+fn parsed(
+    alloc: Global,
+    query: &[u8],
+    no_backslash_escape: Option<bool>,
+    parts: Result<Parts, &str>,
+) -> Outcome {
+    let answer = match no_backslash_escape {
+        Some(mode) => ParsedNamedParams::parse_in(alloc, query, mode),
+        None => ParsedNamedParams::parse(alloc, query),
+    };
+    judged(answer, parts)
 }
 
-fn mixed_without_backslashes(alloc: Global) -> Outcome {
-    match ParsedNamedParams::parse_in(alloc, b"'\\':a ?", true) {
-        Ok(_) => Outcome::Wrong,
-        Err(error) => Outcome::AnswerWithoutMemory.if_holds(
-            error == NamedParamsError::Mixed(MixedParamsError),
-        ),
-    }
+fn mixed(alloc: Global) -> bool {
+    parsed(alloc, b":a?", None, MIXED).is_right() && parsed(alloc, b":a ?", None, MIXED).is_right()
 }
 
-/// The query has no names.
-fn unchanged(alloc: Global, query: &[u8]) -> Outcome {
-    match ParsedNamedParams::parse(alloc, query) {
-        Err(_) => Outcome::Wrong,
-        Ok(parsed) => Outcome::AnswerWithoutMemory.if_holds(
-            parsed.query() == query && parsed.params().is_empty(),
-        ),
-    }
-}
-
-fn is_mixed(alloc: Global, query: &[u8]) -> bool {
-    match ParsedNamedParams::parse(alloc, query) {
-        Ok(_) => false,
-        Err(error) => error == NamedParamsError::Mixed(MixedParamsError),
-    }
-}
-
-fn mixed(alloc: Global) -> Outcome {
-    let holds = is_mixed(alloc, b":a?") && is_mixed(alloc, b":a ?");
-    Outcome::AnswerWithoutMemory.if_holds(holds)
-}
+const TWO: Parts = (b"? ?", &[b"a", b"b"]);
 
 fn parts_of_parsed(alloc: Global) -> Case {
     match ParsedNamedParams::parse(alloc, b":a :b") {
         Err(_) => Err(AllocError),
-        Ok(parsed) => Ok(Outcome::AnswerWithoutMemory.if_holds(has_two(
-            &parsed, b"? ?", b"a", b"b",
-        ))),
+        Ok(parsed) => holds(parsed.is(TWO)),
     }
 }

@@ -1,209 +1,167 @@
 //! Values read: text cells, rows in text form, and columns in binary form.
-use crate::inputs::is_bytes;
-use crate::outcome::{Case, Outcome};
+use crate::inputs::Plain;
+use crate::inputs::Plain::{Bytes, Date, Double, Float, Int, Null, Time, UInt};
+use crate::outcome::Memory::{Asked, Never};
+use crate::outcome::{Case, Memory, Outcome, cases, judged, row};
 use mysql_values::value::{BinValue, TextValue, Value, ValueDeserializer, read_text_cells};
 use mysql_wire_part::{ColumnFlags, ColumnType, Flags, MyDeserialize, ParseBuf, WireError};
 use std::alloc::Global;
 
 /// How the call of this name went, if it stands here.
 pub(crate) fn case(alloc: Global, name: &str) -> Option<Case> {
+    if let Some(row) = row(ROWS, name) {
+        return Some(Ok(text_cells(alloc, row)));
+    }
     let outcome = match name {
-        "deserialize of a text cell" => text_cell(alloc),
-        "deserialize of a text cell of NULL" => null_cell(alloc),
+        "deserialize of a text cell" => cell(alloc, b"\x02ab*", AB),
+        "deserialize of a text cell of NULL" => cell(alloc, b"\xFB*", NULL).without_memory(),
         "deserialize of what is no text cell" => cells_refused(alloc),
-        "deserialize of a BLOB" => blob(alloc),
+        "deserialize of a BLOB" => column(alloc, (ColumnType::MYSQL_TYPE_BLOB, 0), b"\x02ab*", AB),
         "deserialize of what is no BLOB" => strings_refused(alloc),
-        "deserialize of whole numbers" => whole_numbers(alloc),
-        "deserialize of floats and NULL" => floats_and_null(alloc),
-        "deserialize of dates and times" => dates_and_times(alloc),
-        "deserialize of what is cut" => cut(alloc),
-        "deserialize of types without a reading" => unsupported(alloc),
-        "read_text_cells of 3 cells" => row(alloc),
-        "read_text_cells of 0 cells" => empty_row(alloc),
-        "read_text_cells of a cut row" => cut_row(alloc),
-        "read_text_cells of a bad lead" => bad_row(alloc),
+        "deserialize of whole numbers" => columns(alloc, WHOLE_NUMBERS),
+        "deserialize of floats and NULL" => columns(alloc, FLOATS_AND_NULL),
+        "deserialize of dates and times" => columns(alloc, DATES_AND_TIMES),
+        "deserialize of what is cut" => columns(alloc, CUT),
+        "deserialize of types without a reading" => columns(alloc, UNSUPPORTED),
         _ => return None,
     };
     Some(Ok(outcome))
 }
 
-fn text_cell(alloc: Global) -> Outcome {
-    let mut buf = ParseBuf(b"\x02ab*");
+/// A value, or how the refusal is shown.
+type Wanted = Result<Plain<'static>, &'static str>;
+
+const NULL: Wanted = Ok(Null);
+
+const AB: Wanted = Ok(Bytes(b"ab"));
+
+/// How a value was read off the front of the input: with a star left after it, or after a refusal
+/// the whole input.
+fn value_read(
+    answer: Result<Value, WireError>,
+    left: &[u8],
+    input: &[u8],
+    wanted: Wanted,
+) -> Outcome {
+    let is_left = if answer.is_ok() {
+        left == b"*".as_slice()
+    } else {
+        left == input
+    };
+    judged(answer, wanted).if_holds(is_left)
+}
+
+fn cell(alloc: Global, input: &[u8], wanted: Wanted) -> Outcome {
+    let mut buf = ParseBuf(input);
     match ValueDeserializer::<TextValue>::deserialize(alloc, (), &mut buf) {
-        Err(WireError::Memory(_)) => Outcome::Memory.if_holds(buf.0 == b"\x02ab*".as_slice()),
-        Err(_) => Outcome::Wrong,
-        Ok(cell) => {
-            Outcome::Answer.if_holds(is_bytes(&cell.0, b"ab") && buf.0 == b"*".as_slice())
-        }
+        Ok(cell) => value_read(Ok(cell.0), buf.0, input, wanted),
+        Err(error) => value_read(Err(error), buf.0, input, wanted),
     }
 }
 
-fn null_cell(alloc: Global) -> Outcome {
-    let mut buf = ParseBuf(b"\xFB*");
-    match ValueDeserializer::<TextValue>::deserialize(alloc, (), &mut buf) {
-        Err(_) => Outcome::Wrong,
-        Ok(cell) => Outcome::AnswerWithoutMemory.if_holds(
-            cell.0 == Value::NULL && buf.0 == b"*".as_slice(),
-        ),
-    }
-}
+/// What is no string, and its refusal.
+const NO_STRINGS: &[(&[u8], &str)] = &[
+    (b"\xFFa", "BadLengthLead(255)"),
+    (b"\x03ab", "UnexpectedEof"),
+    (b"", "UnexpectedEof"),
+];
 
 fn cells_refused(alloc: Global) -> Outcome {
-    let holds = refuses_cell(alloc, b"\xFFa", WireError::BadLengthLead(255))
-        && refuses_cell(alloc, b"\x03ab", WireError::UnexpectedEof)
-        && refuses_cell(alloc, b"", WireError::UnexpectedEof);
-    Outcome::AnswerWithoutMemory.if_holds(holds)
-}
-
-/// The bytes are refused as a text cell, and stay.
-fn refuses_cell(alloc: Global, input: &[u8], refusal: WireError) -> bool {
-    let mut buf = ParseBuf(input);
-    match ValueDeserializer::<TextValue>::deserialize(alloc, (), &mut buf) {
-        Ok(_) => false,
-        Err(error) => error == refusal && buf.0 == input,
-    }
-}
-
-/// What a column reads at the front of a buffer.
-fn read(
-    alloc: Global,
-    column: ColumnType,
-    flags: u16,
-    buf: &mut ParseBuf<'_>,
-) -> Result<Value, WireError> {
-    let ctx = (column, ColumnFlags::from_bits_retain(flags));
-    let value = ValueDeserializer::<BinValue>::deserialize(alloc, ctx, buf)?;
-    Ok(value.0)
-}
-
-fn blob(alloc: Global) -> Outcome {
-    let mut buf = ParseBuf(b"\x02ab*");
-    match read(alloc, ColumnType::MYSQL_TYPE_BLOB, 0, &mut buf) {
-        Err(WireError::Memory(_)) => Outcome::Memory.if_holds(buf.0 == b"\x02ab*".as_slice()),
-        Err(_) => Outcome::Wrong,
-        Ok(value) => {
-            Outcome::Answer.if_holds(is_bytes(&value, b"ab") && buf.0 == b"*".as_slice())
-        }
-    }
-}
-
-/// The column reads the value at the front of the bytes, and leaves the star after it.
-fn reads(alloc: Global, column: ColumnType, flags: u16, input: &[u8], value: &Value) -> bool {
-    let mut buf = ParseBuf(input);
-    match read(alloc, column, flags, &mut buf) {
-        Ok(found) => found == *value && buf.0 == b"*".as_slice(),
-        Err(_) => false,
-    }
-}
-
-/// The column refuses the bytes, and leaves them.
-fn refuses(alloc: Global, column: ColumnType, input: &[u8], refusal: WireError) -> bool {
-    let mut buf = ParseBuf(input);
-    match read(alloc, column, 0, &mut buf) {
-        Ok(_) => false,
-        Err(error) => error == refusal && buf.0 == input,
-    }
-}
-
-/// Columns of whole numbers, whether they are unsigned, bytes, and the number.
-const WHOLE_NUMBERS: &[(ColumnType, u16, &[u8], i64)] = &[
-    (ColumnType::MYSQL_TYPE_TINY, 0, b"\xFF*", -1),
-    (ColumnType::MYSQL_TYPE_TINY, 32, b"\xFF*", 255),
-    (ColumnType::MYSQL_TYPE_SHORT, 0, b"\xFE\xFF*", -2),
-    (ColumnType::MYSQL_TYPE_YEAR, 32, b"\xE3\x07*", 2019),
-    (ColumnType::MYSQL_TYPE_LONG, 0, b"\xFE\xFF\xFF\xFF*", -2),
-    (
-        ColumnType::MYSQL_TYPE_INT24,
-        32,
-        b"\xFE\xFF\xFF\xFF*",
-        4294967294,
-    ),
-    (
-        ColumnType::MYSQL_TYPE_LONGLONG,
-        0,
-        b"\xFE\xFF\xFF\xFF\xFF\xFF\xFF\xFF*",
-        -2,
-    ),
-    (
-        ColumnType::MYSQL_TYPE_LONGLONG,
-        32,
-        b"\xFF\xFF\xFF\xFF\xFF\xFF\xFF\x7F*",
-        9223372036854775807,
-    ),
-];
-
-fn whole_numbers(alloc: Global) -> Outcome {
-    for (column, flags, input, number) in WHOLE_NUMBERS {
-        if !reads(alloc, *column, *flags, *input, &Value::Int(*number)) {
-            return Outcome::Wrong;
-        }
-    }
-    let great = b"\0\0\0\0\0\0\0\x80*";
-    let column = ColumnType::MYSQL_TYPE_LONGLONG;
-    let value = Value::UInt(9223372036854775808);
-    Outcome::AnswerWithoutMemory.if_holds(reads(alloc, column, 32, great, &value))
-}
-
-fn floats_and_null(alloc: Global) -> Outcome {
-    let float = Value::Float(1065353216);
-    let double = Value::Double(1);
-    let holds = reads(
-        alloc,
-        ColumnType::MYSQL_TYPE_FLOAT,
-        0,
-        b"\0\0\x80\x3F*",
-        &float,
-    ) && reads(
-        alloc,
-        ColumnType::MYSQL_TYPE_DOUBLE,
-        0,
-        b"\x01\0\0\0\0\0\0\0*",
-        &double,
-    ) && reads(alloc, ColumnType::MYSQL_TYPE_NULL, 0, b"*", &Value::NULL);
-    Outcome::AnswerWithoutMemory.if_holds(holds)
-}
-
-/// Columns of dates.
-const DATES: &[ColumnType] = &[
-    ColumnType::MYSQL_TYPE_TIMESTAMP,
-    ColumnType::MYSQL_TYPE_DATE,
-    ColumnType::MYSQL_TYPE_NEWDATE,
-    ColumnType::MYSQL_TYPE_DATETIME,
-];
-
-fn dates_and_times(alloc: Global) -> Outcome {
-    let date = Value::Date(2019, 11, 27, 0, 0, 0, 0);
-    for column in DATES {
-        if !reads(alloc, *column, 0, b"\x05\xE3\x07\x0B\x1B\xFF*", &date) {
-            return Outcome::Wrong;
-        }
-    }
-    let time = Value::Time(false, 1, 2, 3, 4, 0);
-    let input = b"\x0A\x02\x01\0\0\0\x02\x03\x04\x09\x09*";
-    let holds = reads(alloc, ColumnType::MYSQL_TYPE_TIME, 0, input, &time);
-    Outcome::AnswerWithoutMemory.if_holds(holds)
-}
-
-/// Columns, and bytes that end within a value.
-const CUT: &[(ColumnType, &[u8])] = &[
-    (ColumnType::MYSQL_TYPE_TINY, b""),
-    (ColumnType::MYSQL_TYPE_SHORT, b"a"),
-    (ColumnType::MYSQL_TYPE_LONG, b"abc"),
-    (ColumnType::MYSQL_TYPE_LONGLONG, b"abcdefg"),
-    (ColumnType::MYSQL_TYPE_FLOAT, b"abc"),
-    (ColumnType::MYSQL_TYPE_DOUBLE, b"abcdefg"),
-    (ColumnType::MYSQL_TYPE_DATETIME, b"\x04\xE3"),
-    (ColumnType::MYSQL_TYPE_TIME, b"\x08\x01"),
-];
-
-fn cut(alloc: Global) -> Outcome {
-    for (column, input) in CUT {
-        if !refuses(alloc, *column, *input, WireError::UnexpectedEof) {
+    for (input, refusal) in NO_STRINGS {
+        let outcome = cell(alloc, *input, Err(*refusal));
+        if !outcome.is_right() {
             return Outcome::Wrong;
         }
     }
     Outcome::AnswerWithoutMemory
 }
+
+/// What a column of these flags reads.
+fn column(
+    alloc: Global,
+    (column, flags): (ColumnType, u16),
+    input: &[u8],
+    wanted: Wanted,
+) -> Outcome {
+    let mut buf = ParseBuf(input);
+    let ctx = (column, ColumnFlags::from_bits_retain(flags));
+    match ValueDeserializer::<BinValue>::deserialize(alloc, ctx, &mut buf) {
+        Ok(value) => value_read(Ok(value.0), buf.0, input, wanted),
+        Err(error) => value_read(Err(error), buf.0, input, wanted),
+    }
+}
+
+/// A column, its flags, its bytes, and what it reads.
+type Column = (ColumnType, u16, &'static [u8], Wanted);
+
+/// A table of columns.
+macro_rules! columns {
+    ($($column:ident, $($field:expr),+;)*) => { &[$((ColumnType::$column, $($field),+)),*] };
+}
+
+/// What the columns read without memory.
+fn columns(alloc: Global, rows: &[Column]) -> Outcome {
+    for (kind, flags, input, wanted) in rows {
+        if !column(alloc, (*kind, *flags), *input, *wanted).is_right() {
+            return Outcome::Wrong;
+        }
+    }
+    Outcome::AnswerWithoutMemory
+}
+
+/// Columns of whole numbers.
+const WHOLE_NUMBERS: &[Column] = columns! {
+    MYSQL_TYPE_TINY, 0, b"\xFF*", Ok(Int(-1));
+    MYSQL_TYPE_TINY, 32, b"\xFF*", Ok(Int(255));
+    MYSQL_TYPE_SHORT, 0, b"\xFE\xFF*", Ok(Int(-2));
+    MYSQL_TYPE_YEAR, 32, b"\xE3\x07*", Ok(Int(2019));
+    MYSQL_TYPE_LONG, 0, b"\xFE\xFF\xFF\xFF*", Ok(Int(-2));
+    MYSQL_TYPE_INT24, 32, b"\xFE\xFF\xFF\xFF*", Ok(Int(4294967294));
+    MYSQL_TYPE_LONGLONG, 0, b"\xFE\xFF\xFF\xFF\xFF\xFF\xFF\xFF*", Ok(Int(-2));
+    MYSQL_TYPE_LONGLONG, 32, b"\xFF\xFF\xFF\xFF\xFF\xFF\xFF\x7F*", Ok(Int(9223372036854775807));
+    MYSQL_TYPE_LONGLONG, 32, b"\0\0\0\0\0\0\0\x80*", Ok(UInt(9223372036854775808));
+};
+
+/// Columns of floats and of `NULL`.
+const FLOATS_AND_NULL: &[Column] = columns! {
+    MYSQL_TYPE_FLOAT, 0, b"\0\0\x80\x3F*", Ok(Float(1065353216));
+    MYSQL_TYPE_DOUBLE, 0, b"\x01\0\0\0\0\0\0\0*", Ok(Double(1));
+    MYSQL_TYPE_NULL, 0, b"*", NULL;
+};
+
+const DATE: Wanted = Ok(Date(2019, 11, 27, 0, 0, 0, 0));
+
+const TIME: Wanted = Ok(Time(false, 1, 2, 3, 4, 0));
+
+/// Columns of dates and times.
+const DATES_AND_TIMES: &[Column] = columns! {
+    MYSQL_TYPE_TIMESTAMP, 0, b"\x05\xE3\x07\x0B\x1B\xFF*", DATE;
+    MYSQL_TYPE_DATE, 0, b"\x05\xE3\x07\x0B\x1B\xFF*", DATE;
+    MYSQL_TYPE_NEWDATE, 0, b"\x05\xE3\x07\x0B\x1B\xFF*", DATE;
+    MYSQL_TYPE_DATETIME, 0, b"\x05\xE3\x07\x0B\x1B\xFF*", DATE;
+    MYSQL_TYPE_TIME, 0, b"\x0A\x02\x01\0\0\0\x02\x03\x04\x09\x09*", TIME;
+};
+
+/// Columns whose bytes end within the value.
+const CUT: &[Column] = columns! {
+    MYSQL_TYPE_TINY, 0, b"", Err("UnexpectedEof");
+    MYSQL_TYPE_SHORT, 0, b"a", Err("UnexpectedEof");
+    MYSQL_TYPE_LONG, 0, b"abc", Err("UnexpectedEof");
+    MYSQL_TYPE_LONGLONG, 0, b"abcdefg", Err("UnexpectedEof");
+    MYSQL_TYPE_FLOAT, 0, b"abc", Err("UnexpectedEof");
+    MYSQL_TYPE_DOUBLE, 0, b"abcdefg", Err("UnexpectedEof");
+    MYSQL_TYPE_DATETIME, 0, b"\x04\xE3", Err("UnexpectedEof");
+    MYSQL_TYPE_TIME, 0, b"\x08\x01", Err("UnexpectedEof");
+};
+
+/// Columns without a reading.
+const UNSUPPORTED: &[Column] = columns! {
+    MYSQL_TYPE_TIMESTAMP2, 0, b"*", Err("UnsupportedColumn(MYSQL_TYPE_TIMESTAMP2)");
+    MYSQL_TYPE_DATETIME2, 0, b"*", Err("UnsupportedColumn(MYSQL_TYPE_DATETIME2)");
+    MYSQL_TYPE_TIME2, 0, b"*", Err("UnsupportedColumn(MYSQL_TYPE_TIME2)");
+    MYSQL_TYPE_TYPED_ARRAY, 0, b"*", Err("UnsupportedColumn(MYSQL_TYPE_TYPED_ARRAY)");
+    MYSQL_TYPE_UNKNOWN, 0, b"*", Err("UnsupportedColumn(MYSQL_TYPE_UNKNOWN)");
+};
 
 /// Columns of strings.
 const STRINGS: &[ColumnType] = &[
@@ -224,81 +182,52 @@ const STRINGS: &[ColumnType] = &[
     ColumnType::MYSQL_TYPE_JSON,
 ];
 
-fn strings_refused(alloc: Global) -> Outcome {
-    for column in STRINGS {
-        if !refuses(alloc, *column, b"\xFB*", WireError::BadLengthLead(251))
-            || !refuses(alloc, *column, b"\xFF*", WireError::BadLengthLead(255))
-            || !refuses(alloc, *column, b"\x02a", WireError::UnexpectedEof)
-        {
-            return Outcome::Wrong;
-        }
-    }
-    Outcome::AnswerWithoutMemory
-}
-
-/// Columns without a reading.
-const UNSUPPORTED: &[ColumnType] = &[
-    ColumnType::MYSQL_TYPE_TIMESTAMP2,
-    ColumnType::MYSQL_TYPE_DATETIME2,
-    ColumnType::MYSQL_TYPE_TIME2,
-    ColumnType::MYSQL_TYPE_TYPED_ARRAY,
-    ColumnType::MYSQL_TYPE_UNKNOWN,
+/// What is no string of a column, and its refusal.
+const REFUSED_STRINGS: &[(&[u8], &str)] = &[
+    (b"\xFB*", "BadLengthLead(251)"),
+    (b"\xFF*", "BadLengthLead(255)"),
+    (b"\x02a", "UnexpectedEof"),
 ];
 
-fn unsupported(alloc: Global) -> Outcome {
-    for column in UNSUPPORTED {
-        if !refuses(alloc, *column, b"*", WireError::UnsupportedColumn(*column)) {
-            return Outcome::Wrong;
+fn strings_refused(alloc: Global) -> Outcome {
+    for kind in STRINGS {
+        for (input, refusal) in REFUSED_STRINGS {
+            if !column(alloc, (*kind, 0), *input, Err(*refusal)).is_right() {
+                return Outcome::Wrong;
+            }
         }
     }
     Outcome::AnswerWithoutMemory
 }
 
-/// Two cells with bytes and one of NULL, and a star after them.
+/// A row, how many cells are read, what is left, the cells or the refusal, and whether they ask for
+/// memory.
+type Row = (
+    &'static [u8],
+    usize,
+    &'static [u8],
+    Result<&'static [Plain<'static>], &'static str>,
+    Memory,
+);
+
+const ROWS: &[(&str, Row)] = cases! {
+    "read_text_cells of 3 cells" => ROW, 3, b"*", Ok(CELLS), Asked;
+    "read_text_cells of 0 cells" => ROW, 0, ROW, Ok(&[]), Never;
+    "read_text_cells of a cut row" => b"\x011\x022", 2, b"\x011\x022", Err("UnexpectedEof"), Asked;
+    "read_text_cells of a bad lead" =>
+        b"\x011\xFF", 2, b"\x011\xFF", Err("BadLengthLead(255)"), Asked;
+};
+
+/// Two cells with bytes and one of `NULL`, and a star after them.
 const ROW: &[u8] = b"\x01a\xFB\x01b*";
 
-fn row(alloc: Global) -> Outcome {
-    let mut buf = ParseBuf(ROW);
-    match read_text_cells(alloc, &mut buf, 3) {
-        Err(WireError::Memory(_)) => Outcome::Memory.if_holds(buf.0 == ROW),
-        Err(_) => Outcome::Wrong,
-        Ok(cells) => {
-            Outcome::Answer.if_holds(is_row(cells.as_slice()) && buf.0 == b"*".as_slice())
-        }
-    }
-}
+const CELLS: &[Plain] = &[Bytes(b"a"), Null, Bytes(b"b")];
 
-fn is_row(cells: &[Value]) -> bool {
-    match cells {
-        [a, null, b] => is_bytes(a, b"a") && *null == Value::NULL && is_bytes(b, b"b"),
-        _ => false,
-    }
-}
-
-fn empty_row(alloc: Global) -> Outcome {
-    let mut buf = ParseBuf(ROW);
-    match read_text_cells(alloc, &mut buf, 0) {
-        Err(_) => Outcome::Wrong,
-        Ok(cells) => {
-            Outcome::AnswerWithoutMemory.if_holds(cells.as_slice().is_empty() && buf.0 == ROW)
-        }
-    }
-}
-
-/// The row is refused, and its bytes stay.
-fn refused_row(alloc: Global, input: &[u8], count: usize, refusal: WireError) -> Outcome {
+/// The cells are read off the front. Out of memory leaves the whole row.
+fn text_cells(alloc: Global, (input, count, left, wanted, memory): Row) -> Outcome {
     let mut buf = ParseBuf(input);
-    match read_text_cells(alloc, &mut buf, count) {
-        Err(WireError::Memory(_)) => Outcome::Memory.if_holds(buf.0 == input),
-        Err(error) => Outcome::Refusal.if_holds(error == refusal && buf.0 == input),
-        Ok(_) => Outcome::Wrong,
-    }
-}
-
-fn cut_row(alloc: Global) -> Outcome {
-    refused_row(alloc, b"\x011\x022", 2, WireError::UnexpectedEof)
-}
-
-fn bad_row(alloc: Global) -> Outcome {
-    refused_row(alloc, b"\x011\xFF", 2, WireError::BadLengthLead(255))
+    let answer = read_text_cells(alloc, &mut buf, count);
+    let left = if answer.is_ok() { left } else { input };
+    let is_left = buf.0 == left;
+    judged(answer, wanted).if_holds(is_left).with(memory)
 }

@@ -1,61 +1,53 @@
 //! Calls of the wire: buffers and length-encoded strings.
-use crate::outcome::{Case, Outcome};
+use crate::outcome::{Case, Outcome, holds};
 use mysql_wire_part::{ParseBuf, WireError, lenenc_str_len, put_lenenc_str};
 use std::alloc::{AllocError, Global};
 
 /// How the call of this name went, if it stands here.
 pub(crate) fn case(alloc: Global, name: &str) -> Option<Case> {
-    match name {
-        "put_lenenc_str of 3 bytes" => Some(short_string_appended(alloc)),
-        "put_lenenc_str of 251 bytes" => Some(long_string_appended(alloc)),
-        "lenenc_str_len of 251 bytes" => Some(Ok(length_of_long_string())),
-        "checked_eat of 8 bytes" => Some(Ok(integers_eaten())),
-        "checked_eat of too few bytes" => Some(Ok(too_few_bytes())),
-        "eat_lenenc_str of 3 bytes" => Some(Ok(string_eaten())),
-        "eat_lenenc_str of what is no string" => Some(Ok(strings_refused())),
-        _ => None,
+    let case = match name {
+        "put_lenenc_str of 3 bytes" => string_appended(alloc, b"abc", b"\x03"),
+        "put_lenenc_str of 251 bytes" => string_appended(alloc, &[b'a'; 251], b"\xFC\xFB\x00"),
+        "lenenc_str_len of 251 bytes" => holds(lenenc_str_len(&[b'a'; 251]) == 254),
+        "checked_eat of 8 bytes" => holds(
+            short_integers_eaten() && long_integers_eaten() && bytes_eaten(),
+        ),
+        "checked_eat of too few bytes" => holds(too_few_for_short() && too_few_for_long()),
+        "eat_lenenc_str of 3 bytes" => holds(string_eaten()),
+        "eat_lenenc_str of what is no string" => holds(strings_refused()),
+        _ => return None,
+    };
+    Some(case)
+}
+
+/// How a call went that appends a head and a text to `xy`.
+pub(crate) fn appended(
+    answer: Result<(), AllocError>,
+    buf: &[u8],
+    head: &[u8],
+    text: &[u8],
+) -> Outcome {
+    match answer {
+        Err(AllocError) => Outcome::Memory.if_holds(buf == b"xy".as_slice()),
+        Ok(()) => Outcome::Answer.if_holds(is_appended(buf, head, text)),
     }
 }
 
-fn short_string_appended(alloc: Global) -> Case {
-    let mut buf = Vec::from_slice(alloc, b"xy")?;
-    Ok(match put_lenenc_str(&mut buf, b"abc") {
-        Err(AllocError) => Outcome::Memory.if_holds(buf.as_slice() == b"xy".as_slice()),
-        Ok(()) => Outcome::Answer.if_holds(buf.as_slice() == b"xy\x03abc".as_slice()),
-    })
-}
-
-fn long_string_appended(alloc: Global) -> Case {
-    let text = [b'a'; 251];
-    let mut buf = Vec::from_slice(alloc, b"xy")?;
-    Ok(match put_lenenc_str(&mut buf, &text) {
-        Err(AllocError) => Outcome::Memory.if_holds(buf.as_slice() == b"xy".as_slice()),
-        Ok(()) => {
-            Outcome::Answer.if_holds(is_after(buf.as_slice(), &text, b"xy\xFC\xFB\x00".as_slice()))
-        }
-    })
-}
-
-/// Whether the bytes are a text after a head.
-fn is_after(bytes: &[u8], text: &[u8], head: &[u8]) -> bool {
-    match bytes.strip_prefix(head) {
-        Some(rest) => rest == text,
+fn is_appended(buf: &[u8], head: &[u8], text: &[u8]) -> bool {
+    match buf.strip_prefix(b"xy".as_slice()) {
+        Some(rest) => rest.strip_prefix(head) == Some(text),
         None => false,
     }
 }
 
-fn length_of_long_string() -> Outcome {
-    Outcome::AnswerWithoutMemory.if_holds(lenenc_str_len(&[b'a'; 251]) == 254)
+fn string_appended(alloc: Global, text: &[u8], head: &[u8]) -> Case {
+    let mut buf = Vec::from_slice(alloc, b"xy")?;
+    let answer = put_lenenc_str(&mut buf, text);
+    Ok(appended(answer, buf.as_slice(), head, text))
 }
 
 /// The first bytes of 2^63 - 2, least first.
 const BYTES: &[u8] = &[0xFE, 0xFF, 0xFF, 0xFF, 0xFF, 0xFF, 0xFF, 0x7F];
-
-fn integers_eaten() -> Outcome {
-    Outcome::AnswerWithoutMemory.if_holds(
-        short_integers_eaten() && long_integers_eaten() && bytes_eaten(),
-    )
-}
 
 fn short_integers_eaten() -> bool {
     ParseBuf(BYTES).checked_eat_u8() == Some(254)
@@ -77,10 +69,6 @@ fn bytes_eaten() -> bool {
         Some(front) => front.0 == &BYTES[..7] && buf.0 == [0x7F].as_slice(),
         None => false,
     }
-}
-
-fn too_few_bytes() -> Outcome {
-    Outcome::AnswerWithoutMemory.if_holds(too_few_for_short() && too_few_for_long())
 }
 
 fn too_few_for_short() -> bool {
@@ -105,21 +93,19 @@ fn too_few_for_long() -> bool {
         && seven.len() == 7
 }
 
-fn string_eaten() -> Outcome {
+fn string_eaten() -> bool {
     let mut buf = ParseBuf(b"\x03abc*");
-    Outcome::AnswerWithoutMemory.if_holds(match buf.eat_lenenc_str() {
+    match buf.eat_lenenc_str() {
         Ok(text) => text == b"abc".as_slice() && buf.0 == b"*".as_slice(),
         Err(_) => false,
-    })
+    }
 }
 
-fn strings_refused() -> Outcome {
-    Outcome::AnswerWithoutMemory.if_holds(
-        refuses(b"\xFB", WireError::BadLengthLead(251))
-            && refuses(b"\xFFa", WireError::BadLengthLead(255))
-            && refuses(b"\x03ab", WireError::UnexpectedEof)
-            && refuses(b"", WireError::UnexpectedEof),
-    )
+fn strings_refused() -> bool {
+    refuses(b"\xFB", WireError::BadLengthLead(251))
+        && refuses(b"\xFFa", WireError::BadLengthLead(255))
+        && refuses(b"\x03ab", WireError::UnexpectedEof)
+        && refuses(b"", WireError::UnexpectedEof)
 }
 
 /// The bytes are refused as a string, and stay.

@@ -1,160 +1,112 @@
 //! Values written: binary forms and SQL literals.
-use crate::inputs::bytes;
-use crate::outcome::{Case, Outcome};
-use mysql_values::value::{AsSqlError, Value};
+use crate::inputs::Plain;
+use crate::inputs::Plain::{Bytes, Date, Double, Float, Int, Null, Time, UInt};
+use crate::outcome::Memory::{Asked, Never};
+use crate::outcome::{Case, Memory, cases, holds, judged, row};
+use crate::wire_cases::appended;
 use mysql_wire_part::MySerialize;
-use std::alloc::{AllocError, Global};
+use std::alloc::Global;
 
 /// How the call of this name went, if it stands here.
 pub(crate) fn case(alloc: Global, name: &str) -> Option<Case> {
-    if let Some(form) = name.strip_prefix("serialize of ") {
-        return serialized(alloc, form);
+    if let Some((value, form, memory)) = row(FORMS, name) {
+        return Some(serialized(alloc, value, form, memory));
     }
-    if let Some(value) = name.strip_prefix("as_sql of ") {
-        return literal(alloc, value);
+    if let Some((value, mode, literal)) = row(LITERALS, name) {
+        return Some(literal_made(alloc, value, mode, literal));
     }
     match name {
-        "bin_len of values" => Some(lengths(alloc)),
-        "put_sql of a text" => Some(text_put(alloc)),
-        "put_sql of a number" => Some(Ok(number_put())),
-        "sql_len of a float" => Some(Ok(float_without_length())),
+        "as_sql of floats" => Some(floats_refused(alloc)),
+        "bin_len of values" => Some(has_lengths(alloc)),
+        "put_sql of a text" => Some(puts(alloc, Bytes(b"it's"), b"'it\\'s'")),
+        "put_sql of a number" => Some(puts(alloc, Int(-123456), b"-123456")),
+        "sql_len of a float" => Some(floats_without_length(alloc)),
         _ => None,
     }
 }
 
-fn serialized(alloc: Global, form: &str) -> Option<Case> {
-    let case = match form {
-        "Bytes" => serialized_bytes(alloc),
-        "Int" => appends(alloc, &Value::Int(-2), b"\xFE\xFF\xFF\xFF\xFF\xFF\xFF\xFF"),
-        "UInt" => appends(alloc, &Value::UInt(1), b"\x01\0\0\0\0\0\0\0"),
-        "Float" => appends(alloc, &Value::Float(1065353216), b"\0\0\x80\x3F"),
-        "Double" => appends(alloc, &Value::Double(1), b"\x01\0\0\0\0\0\0\0"),
-        "Date" => serialized_date(alloc),
-        "Time" => serialized_time(alloc),
-        "NULL" => serialized_null(alloc),
-        _ => return None,
-    };
-    Some(case)
-}
+const TIME: Plain = Time(true, 300, 8, 8, 8, 123456);
 
-/// The value is appended in this form to a vector of two bytes.
-fn appends(alloc: Global, value: &Value, form: &[u8]) -> Case {
+/// Values, their binary forms, and whether writing these asks for memory.
+const FORMS: &[(&str, (Plain, &[u8], Memory))] = cases! {
+    "serialize of Bytes" => Bytes(b"abc"), b"\x03abc", Asked;
+    "serialize of Int" => Int(-2), b"\xFE\xFF\xFF\xFF\xFF\xFF\xFF\xFF", Asked;
+    "serialize of UInt" => UInt(1), b"\x01\0\0\0\0\0\0\0", Asked;
+    "serialize of Float" => Float(1065353216), b"\0\0\x80\x3F", Asked;
+    "serialize of Double" => Double(1), b"\x01\0\0\0\0\0\0\0", Asked;
+    "serialize of Date" => Date(2019, 11, 27, 0, 0, 0, 0), b"\x04\xE3\x07\x0B\x1B", Asked;
+    "serialize of Time" => TIME, b"\x0C\x01\x2C\x01\0\0\x08\x08\x08\x40\xE2\x01\0", Asked;
+    "serialize of NULL" => Null, b"", Never;
+};
+
+fn serialized(alloc: Global, value: Plain<'_>, form: &[u8], memory: Memory) -> Case {
+    let value = value.value(alloc)?;
     let mut buf = Vec::from_slice(alloc, b"xy")?;
-    Ok(match value.serialize(&mut buf) {
-        Err(AllocError) => Outcome::Memory.if_holds(buf.as_slice() == b"xy".as_slice()),
-        Ok(()) => Outcome::Answer.if_holds(ends_with_form(buf.as_slice(), form)),
-    })
+    let answer = value.serialize(&mut buf);
+    Ok(appended(answer, buf.as_slice(), form, b"").with(memory))
 }
 
-fn ends_with_form(bytes: &[u8], form: &[u8]) -> bool {
-    match bytes.strip_prefix(b"xy".as_slice()) {
-        Some(rest) => rest == form,
-        None => false,
+/// Values, whether without backslash escapes, and their literals.
+const LITERALS: &[(&str, (Plain, bool, &str))] = cases! {
+    "as_sql of NULL" => Null, false, "NULL";
+    "as_sql of Int" => Int(-3), false, "-3";
+    "as_sql of UInt" => UInt(5), false, "5";
+    "as_sql of text" => Bytes(b"it's"), false, "'it\\'s'";
+    "as_sql of text without backslashes" => Bytes(b"it's"), true, "'it''s'";
+    "as_sql of an empty text" => Bytes(b""), false, "''";
+    "as_sql of bytes that are no text" => Bytes(b"\xC3\x28"), false, "0xC328";
+    "as_sql of Date" =>
+        Date(2019, 11, 27, 12, 30, 0, 123456), false, "'2019-11-27 12:30:00.123456'";
+    "as_sql of Time" => TIME, false, "'-7208:08:08.123456'";
+};
+
+fn literal_made(alloc: Global, value: Plain<'_>, no_backslash_escape: bool, literal: &str) -> Case {
+    let value = value.value(alloc)?;
+    Ok(judged(value.as_sql(alloc, no_backslash_escape), Ok(literal)))
+}
+
+/// Values, and whether without backslash escapes.
+const FLOATS: &[(Plain, bool)] = &[(Float(0), false), (Double(0), true)];
+
+fn floats_refused(alloc: Global) -> Case {
+    for (float, mode) in FLOATS {
+        let float = float.value(alloc)?;
+        let outcome = judged(float.as_sql(alloc, *mode), Err::<&str, &str>("Float"));
+        if !outcome.is_right() {
+            return holds(false);
+        }
     }
+    holds(true)
 }
 
-fn serialized_bytes(alloc: Global) -> Case {
-    let value = bytes(alloc, b"abc")?;
-    appends(alloc, &value, b"\x03abc")
-}
-
-fn serialized_date(alloc: Global) -> Case {
-    let value = Value::Date(2019, 11, 27, 0, 0, 0, 0);
-    appends(alloc, &value, b"\x04\xE3\x07\x0B\x1B")
-}
-
-fn serialized_time(alloc: Global) -> Case {
-    let value = Value::Time(true, 300, 8, 8, 8, 123456);
-    appends(
-        alloc,
-        &value,
-        b"\x0C\x01\x2C\x01\0\0\x08\x08\x08\x40\xE2\x01\0",
-    )
-}
-
-fn serialized_null(alloc: Global) -> Case {
-    let mut buf = Vec::from_slice(alloc, b"xy")?;
-    Ok(match Value::NULL.serialize(&mut buf) {
-        Err(AllocError) => Outcome::Wrong,
-        Ok(()) => Outcome::AnswerWithoutMemory.if_holds(buf.as_slice() == b"xy".as_slice()),
-    })
-}
-
-fn lengths(alloc: Global) -> Case {
-    let text = bytes(alloc, b"abc")?;
-    let time = Value::Time(true, 300, 8, 8, 8, 123456);
-    let holds = text.bin_len() == 4 && time.bin_len() == 13 && Value::NULL.bin_len() == 0;
-    Ok(Outcome::AnswerWithoutMemory.if_holds(holds))
-}
-
-fn literal(alloc: Global, value: &str) -> Option<Case> {
-    let case = match value {
-        "NULL" => Ok(is_literal(alloc, &Value::NULL, false, "NULL")),
-        "Int" => Ok(is_literal(alloc, &Value::Int(-3), false, "-3")),
-        "UInt" => Ok(is_literal(alloc, &Value::UInt(5), false, "5")),
-        "text" => literal_of_bytes(alloc, b"it's", false, "'it\\'s'"),
-        "text without backslashes" => literal_of_bytes(alloc, b"it's", true, "'it''s'"),
-        "an empty text" => literal_of_bytes(alloc, b"", false, "''"),
-        "bytes that are no text" => literal_of_bytes(alloc, b"\xC3\x28", false, "0xC328"),
-        "Date" => Ok(literal_of_date(alloc)),
-        "Time" => Ok(literal_of_time(alloc)),
-        "floats" => Ok(floats_refused(alloc)),
-        _ => return None,
-    };
-    Some(case)
-}
-
-/// The value has this literal.
-fn is_literal(alloc: Global, value: &Value, no_backslash_escape: bool, sql: &str) -> Outcome {
-    match value.as_sql(alloc, no_backslash_escape) {
-        Err(AsSqlError::Memory(_)) => Outcome::Memory,
-        Err(AsSqlError::Float) => Outcome::Wrong,
-        Ok(text) => Outcome::Answer.if_holds(text.as_str() == sql),
+fn floats_without_length(alloc: Global) -> Case {
+    for (float, mode) in FLOATS {
+        if float.value(alloc)?.sql_len(*mode).is_some() {
+            return holds(false);
+        }
     }
+    holds(true)
 }
 
-fn literal_of_bytes(alloc: Global, text: &[u8], no_backslash_escape: bool, sql: &str) -> Case {
-    let value = bytes(alloc, text)?;
-    Ok(is_literal(alloc, &value, no_backslash_escape, sql))
-}
+/// Values, and the lengths of their binary forms.
+const LENGTHS: &[(Plain, u64)] = &[(Bytes(b"abc"), 4), (TIME, 13), (Null, 0)];
 
-fn literal_of_date(alloc: Global) -> Outcome {
-    let value = Value::Date(2019, 11, 27, 12, 30, 0, 123456);
-    is_literal(alloc, &value, false, "'2019-11-27 12:30:00.123456'")
-}
-
-fn literal_of_time(alloc: Global) -> Outcome {
-    let value = Value::Time(true, 300, 8, 8, 8, 123456);
-    is_literal(alloc, &value, false, "'-7208:08:08.123456'")
-}
-
-fn floats_refused(alloc: Global) -> Outcome {
-    let holds = Value::Float(0).as_sql(alloc, false) == Err(AsSqlError::Float)
-        && Value::Double(0).as_sql(alloc, true) == Err(AsSqlError::Float);
-    Outcome::AnswerWithoutMemory.if_holds(holds)
+fn has_lengths(alloc: Global) -> Case {
+    for (value, len) in LENGTHS {
+        if value.value(alloc)?.bin_len() != *len {
+            return holds(false);
+        }
+    }
+    holds(true)
 }
 
 /// Whether the value puts this literal of 7 bytes into a room of its length.
-fn puts(value: &Value, sql: &[u8]) -> bool {
+fn puts(alloc: Global, value: Plain<'_>, literal: &[u8]) -> Case {
+    let value = value.value(alloc)?;
     let mut room = [b'*'; 7];
     if value.sql_len(false) != Some(7) {
-        return false;
+        return holds(false);
     }
     value.put_sql(false, &mut room);
-    room.as_slice() == sql
-}
-
-fn text_put(alloc: Global) -> Case {
-    let value = bytes(alloc, b"it's")?;
-    Ok(Outcome::AnswerWithoutMemory.if_holds(puts(&value, b"'it\\'s'")))
-}
-
-fn number_put() -> Outcome {
-    Outcome::AnswerWithoutMemory.if_holds(puts(&Value::Int(-123456), b"-123456"))
-}
-
-fn float_without_length() -> Outcome {
-    let holds = Value::Float(0).sql_len(false).is_none()
-        && Value::Double(0).sql_len(true).is_none();
-    Outcome::AnswerWithoutMemory.if_holds(holds)
+    holds(room.as_slice() == literal)
 }
