@@ -1,0 +1,62 @@
+//! Laws of the definitions. They do nothing: each is called for what it ensures.
+ghost use Rattle.std.specs.Prelude.{◌≡◌, ℕ, Bool, List, None, Some};
+ghost use Rattle.mysql_named_params.specs.Tokens.{Token, IsTokens};
+ghost use Rattle.mysql_named_params.specs.Places.{place_count};
+ghost use Rattle.mysql_named_params.specs.Portable.{AreReadAlike, IsReadAs};
+ghost use Rattle.mysql_named_params.specs.Server.{Server, IsReadOn};
+ghost use Rattle.mysql_named_params.specs.Quiet.{IsHonest, DecidesWithin};
+ghost use Rattle.mysql_named_params.specs.Steady.{IsSteady};
+ghost use Rattle.mysql_named_params.specs.CharacterSet.{CharacterSet, seen};
+ghost use Rattle.mysql_binding.specs.Pieces.{pieces, joined_text};
+ghost use Rattle.mysql_binding.specs.Replaced.{AreTokensOf, with_literal_tokens};
+ghost use Rattle.mysql_binding.specs.StandsAlone.{first_not_alone};
+ghost use Rattle.mysql_steady_text.specs.SteadyLiterals.{AreSteadyLiterals};
+
+/// Whatever texts of the shape of steady literals stand in the places of a query, if these stand
+/// alone, then in either mode the tokens are the query's, with those of each text in place of its
+/// name or mark, and no place is left among them.
+pub fn steady_isolation()
+    ensures tokens { (mode : Bool) (query text : List ℕ) (ts : List Token)
+        (literals : List (List ℕ)) (lists : List (List Token)) → IsTokens mode query ts →
+        first_not_alone ts ≡ None → AreSteadyLiterals literals → AreTokensOf mode literals lists →
+        joined_text (pieces ts) literals ≡ Some text →
+        IsTokens mode text (with_literal_tokens ts lists) }
+    ensures no_place { (mode : Bool) (text : List ℕ) (ts : List Token)
+        (literals : List (List ℕ)) (lists : List (List Token)) → first_not_alone ts ≡ None →
+        AreSteadyLiterals literals → AreTokensOf mode literals lists →
+        joined_text (pieces ts) literals ≡ Some text →
+        place_count (with_literal_tokens ts lists) ≡ 0 }
+    // The tokens of steady literals are the same in both modes.
+    ensures modes { (mode other : Bool) (literals : List (List ℕ)) (lists : List (List Token)) →
+        AreSteadyLiterals literals → AreTokensOf mode literals lists →
+        AreTokensOf other literals lists }
+{}
+
+/// If each token of the query passes its test, as those of a portable query do, then so does each
+/// token of the text. On every honest server, in either mode, its tokens are those that the grammar
+/// reads, except for `--` before a newline and for what stands in quiet comments (`read`); and if
+/// the server decides about a quiet comment by its own text, exactly those that it reads in the
+/// query (`tokens`). If the query is steady, every character set shows the text as it is.
+pub fn steady_texts_on_servers()
+    ensures portable { (mode : Bool) (query text : List ℕ) (ts : List Token)
+        (literals : List (List ℕ)) (lists : List (List Token)) → IsTokens mode query ts →
+        AreReadAlike ts → first_not_alone ts ≡ None → AreSteadyLiterals literals →
+        AreTokensOf mode literals lists → joined_text (pieces ts) literals ≡ Some text →
+        AreReadAlike (with_literal_tokens ts lists) }
+    ensures read { (server : Server) (mode : Bool) (query text : List ℕ) (ts vs : List Token)
+        (literals : List (List ℕ)) (lists : List (List Token)) → IsHonest server →
+        IsTokens mode query ts → AreReadAlike ts → first_not_alone ts ≡ None →
+        AreSteadyLiterals literals → AreTokensOf mode literals lists →
+        joined_text (pieces ts) literals ≡ Some text → IsReadOn server mode text vs →
+        IsReadAs (with_literal_tokens ts lists) vs }
+    ensures tokens { (server : Server) (mode : Bool) (query text : List ℕ) (ts us : List Token)
+        (literals : List (List ℕ)) (lists : List (List Token)) → IsHonest server →
+        DecidesWithin server → IsTokens mode query ts → AreReadAlike ts →
+        first_not_alone ts ≡ None → AreSteadyLiterals literals → AreTokensOf mode literals lists →
+        joined_text (pieces ts) literals ≡ Some text → IsReadOn server mode query us →
+        IsReadOn server mode text (with_literal_tokens us lists) }
+    ensures seen { (set : CharacterSet) (mode : Bool) (query text : List ℕ) (ts : List Token)
+        (literals : List (List ℕ)) → IsTokens mode query ts → IsSteady query →
+        AreSteadyLiterals literals → joined_text (pieces ts) literals ≡ Some text →
+        seen set text ≡ text }
+{}
