@@ -148,7 +148,7 @@ pub fn first_unportable_in_client(query: &[u8]) -> Result<Option<Unportable>, Er
     first_unportable_in_client_in(query, false)
 }
 
-/// As [`first_unportable_in_client`], for a connection in either mode: the flag is true where `SELECT @@sql_mode` has
+/// As [`first_unportable_in_client`], for a connection in either mode: the flag is true if `SELECT @@sql_mode` has
 /// `NO_BACKSLASH_ESCAPES`.
 ///
 /// # Errors

@@ -59,10 +59,10 @@ pub fn bound_texts_on_servers()
 {}
 
 /// A client that keeps comments cuts a text that is bound to a portable query, without `/*!`, `/*+`
-/// and `/*/` in a block comment, at each `;` of the query's own and at no other (`count`). If it
-/// decides about a quiet comment by its own text, it reads the tokens that it reads in the query,
-/// with those of one literal in place of each name and mark (`tokens`); its statements are then
-/// those of the query, with literals in their places (`statements`).
+/// and `/*/` in a block comment, into as many statements as the query has, whatever stands in the
+/// values (`count`). If it decides about a quiet comment by the comment alone, it reads the tokens
+/// that it reads in the query, with those of one literal in place of each name and mark (`tokens`);
+/// its statements are then those of the query, with literals in their places (`statements`).
 pub fn bound_texts_in_clients()
     ensures count { (client : Client) (mode : Bool) (query text : List ℕ) (ts vs : List Token)
         (given : Given) → IsHonest client.reader → IsTokens mode query ts →

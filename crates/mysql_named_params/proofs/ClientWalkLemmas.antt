@@ -14,7 +14,7 @@ use Rattle.mysql_named_params.specs.Portable.{is_read_alike, joins_number, AreRe
 use Rattle.mysql_named_params.specs.Client.{holds_opener, HoldNoOpener}
 use Rattle.mysql_named_params.specs.FirstUnportable.{construct_at}
 use Rattle.mysql_named_params.specs.FrontConstruct.{front_construct}
-use Rattle.mysql_named_params.specs.FoundInClient.{is_comment, begins_statement, begins_line, found_in_comment, found_in_token, found_in_client}
+use Rattle.mysql_named_params.specs.FoundInClient.{is_comment, begins_no_word, begins_statement, begins_line, found_in_comment, found_in_token, found_in_client}
 use Rattle.mysql_named_params.specs.FirstUnportableInClient.{found_or, found_at, first_in_client_from, first_unportable_in_client, AreSentAsTheyAreFrom, IsPortableInClient}
 use Rattle.mysql_named_params.specs.FrontInClient.{are_comment, statement_after, line_after, found_in_bytes, first_of, found_or_zero, found_in_front}
 use Rattle.mysql_named_params.specs.declared.portable.Construct.{Construct}
@@ -91,7 +91,7 @@ statement_is before mode (Name []) rest h = absurd h.0
 statement_is before mode (Name (b ∷ bs)) rest h = refl
 statement_is before mode Mark rest h = refl
 statement_is before mode (Plain b) rest h =
-    rw (no_hash mode b rest (plain_none mode b rest h)) (ap (λ x. b == byte ";" || (x && before)) (or-false (nat_le b space)))
+    rw (no_hash mode b rest (plain_none mode b rest h)) (ap (λ x. b == byte ";" || (x && before)) (or-false (begins_no_word b)))
 
 line_is : (before mode : Bool) (t : Token) (rest : List ℕ) → IsToken mode t rest →
     line_after before (bytes_of t) ≡ begins_line before t

@@ -8,7 +8,7 @@ use Rattle.std.specs.Char.{to_ascii_lowercase}
 use Rattle.std.specs.Str.{byte}
 use Rattle.mysql_named_params.specs.Bytes.{asterisk, carriage_return, dash, hash, newline, slash, space, is_white_space, begins}
 use Rattle.mysql_named_params.specs.Tokens.{Token, bytes_of, QuotedString, QuotedIdentifier, HashComment, DashComment, BlockComment, Name, Mark, Plain}
-use Rattle.mysql_named_params.specs.Server.{begins_place}
+use Rattle.mysql_named_params.specs.Server.{begins_place, begins_special}
 use Rattle.mysql_named_params.specs.Client.{holds_opener}
 use Rattle.mysql_named_params.specs.declared.portable.Construct.{Construct}
 use Rattle.mysql_named_params.specs.declared.portable.Construct.TheVariants as construct
@@ -22,17 +22,22 @@ is_comment (DashComment gap tail) = true
 is_comment (BlockComment tail) = true
 is_comment t = false
 
--- after this token a statement begins, if one began before it or not: only white space, control
--- bytes and comments stand before its first word
+-- a byte with which no word begins: white space, a control byte, or a byte from 128 on, as those of
+-- a UTF-8 mark at the front, which the client drops
+abbrev pub begins_no_word : ℕ → Bool
+begins_no_word b = nat_le b space || nat_le 128 b
+
+-- after this token a statement begins, if one began before it or not: only such bytes and comments
+-- stand before its first word
 abbrev pub begins_statement : Bool → Token → Bool
-begins_statement before (Plain b) = b == byte ";" || (nat_le b space && before)
+begins_statement before (Plain b) = b == byte ";" || (begins_no_word b && before)
 begins_statement before t = is_comment t && before
 
 -- after this token a line or a statement may begin; also after each comment, and after a `/`, which
 -- may end a hint
 abbrev pub begins_line : Bool → Token → Bool
 begins_line before (Plain b) =
-    b == byte ";" || (b == newline || (b == slash || (nat_le b space && before)))
+    b == byte ";" || (b == newline || (b == slash || (begins_no_word b && before)))
 begins_line before t = is_comment t
 
 -- ---- texts
@@ -135,18 +140,28 @@ abbrev pub escapes_newline : List ℕ → Bool
 escapes_newline [] = false
 escapes_newline (b ∷ bs) = (b == byte "\\" && ends_line bs) || escapes_newline bs
 
+-- a line of the text after the first begins with the word `delimiter`
+abbrev pub begins_delimiter_line : List ℕ → Bool
+begins_delimiter_line [] = false
+begins_delimiter_line (b ∷ bs) =
+    (b == newline && begins_word (codes "delimiter") bs) || begins_delimiter_line bs
+
 -- ---- what is found
 
--- in a text in quotes or backquotes
+-- In a text in quotes or backquotes. The client drops the newline at the end of a line that begins
+-- with `delimiter`, also if the word stands in quotes that end on that line.
 abbrev pub found_in_quotes : List ℕ → Option Construct
 found_in_quotes tail =
-    if escapes_newline tail then Some construct.EscapedNewline else None
+    if escapes_newline tail then Some construct.EscapedNewline
+    else if begins_delimiter_line tail then Some construct.Delimiter
+    else None
 
--- in a block comment, before this text
+-- In a block comment, before this text. MariaDB's client reads the text of `/*M! .. */`.
 abbrev pub found_in_comment : List ℕ → List ℕ → Option Construct
 found_in_comment tail rest =
     if holds_opener tail then Some construct.OpenerInComment
     else if begins is_joined rest then Some construct.JoiningComment
+    else if begins_special tail && begins_delimiter_line tail then Some construct.Delimiter
     else None
 
 -- at a word of which this is the first letter, in lower case; the flags say whether a statement or

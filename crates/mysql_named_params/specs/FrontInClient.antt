@@ -1,10 +1,10 @@
 -- What is found for the client in the token at the front of a text, by its bytes. For private
 -- functions of `client.rt`; no public contract cites it.
-use Rattle.std.specs.Prelude.{ℕ, Bool, true, false, ◌==◌, ◌&&◌, ◌||◌, nat_le, if◌then◌else◌, List, [], ◌∷◌, take, drop, Option, Some, None}
+use Rattle.std.specs.Prelude.{ℕ, Bool, true, false, ◌==◌, ◌&&◌, ◌||◌, if◌then◌else◌, List, [], ◌∷◌, take, drop, Option, Some, None}
 use Rattle.std.specs.List.{list_any}
 use Rattle.std.specs.Str.{byte}
-use Rattle.mysql_named_params.specs.Bytes.{asterisk, backquote, dash, hash, newline, slash, space, is_string_quote}
-use Rattle.mysql_named_params.specs.FoundInClient.{found_in_quotes, found_in_comment, found_at_byte}
+use Rattle.mysql_named_params.specs.Bytes.{asterisk, backquote, dash, hash, newline, slash, is_string_quote}
+use Rattle.mysql_named_params.specs.FoundInClient.{begins_no_word, found_in_quotes, found_in_comment, found_at_byte}
 use Rattle.mysql_named_params.specs.FrontConstruct.{front_construct}
 use Rattle.mysql_named_params.specs.declared.portable.Construct.{Construct}
 use Rattle.mysql_named_params.specs.declared.portable.Construct.TheVariants as construct
@@ -19,14 +19,15 @@ are_comment (b ∷ c ∷ bs) = b == hash || (b == dash || b == slash)
 abbrev pub statement_after : Bool → List ℕ → Bool
 statement_after before [] = false
 statement_after before (b ∷ []) =
-    b == byte ";" || ((nat_le b space || b == hash) && before)
+    b == byte ";" || ((begins_no_word b || b == hash) && before)
 statement_after before (b ∷ c ∷ bs) = are_comment (b ∷ c ∷ bs) && before
 
 -- after a token of these bytes a line or a statement may begin
 abbrev pub line_after : Bool → List ℕ → Bool
 line_after before [] = false
 line_after before (b ∷ []) =
-    b == byte ";" || (b == newline || (b == slash || (b == hash || (nat_le b space && before))))
+    b == byte ";"
+    || (b == newline || (b == slash || (b == hash || (begins_no_word b && before))))
 line_after before (b ∷ c ∷ bs) = are_comment (b ∷ c ∷ bs)
 
 -- in a token of these bytes, before this text

@@ -3,18 +3,33 @@
 ghost use Rattle.std.specs.Prelude.{◌≡◌, ◌↔◌, ◌≤◌, ◌<◌, length, None, IsTrue};
 ghost use Rattle.mysql_named_params.specs.Tokens.{OnTokens};
 ghost use Rattle.mysql_named_params.specs.Client.{begins_opener, begins_end, holds_opener};
-ghost use Rattle.mysql_named_params.specs.FoundInClient.{begins_word, ends_word, begins_whole_word, is_client_word, is_joined, closes_before_joined, drops_line, begins_comment, stand_before_comment, ends_line, escapes_newline, found_in_quotes, found_in_comment, found_word, found_at_byte};
+ghost use Rattle.mysql_named_params.specs.Server.{begins_special};
+ghost use Rattle.mysql_named_params.specs.FoundInClient.{begins_no_word, begins_delimiter_line, begins_word, ends_word, begins_whole_word, is_client_word, is_joined, closes_before_joined, drops_line, begins_comment, stand_before_comment, ends_line, escapes_newline, found_in_quotes, found_in_comment, found_word, found_at_byte};
 ghost use Rattle.mysql_named_params.specs.FirstUnportableInClient.{first_unportable_in_client, IsPortableInClient};
 ghost use Rattle.mysql_named_params.specs.FrontInClient.{are_comment, statement_after, line_after, found_in_bytes, found_or_zero, found_in_front};
 
 use crate::portable::{Construct, Unportable, begins_place, front_construct};
 use crate::tokens::{first_token, is_white_space};
 
+// Whether the text is that of `/*!`, `/*+` or `/*M!` after its `/*`.
+fn begins_special(text: &[u8]) -> bool
+    ensures { result ≡ begins_special text.now }
+{
+    matches!(text, [b'!' | b'+', ..] | [b'M', b'!', ..])
+}
+
 // Whether the bytes of a token are those of a comment.
 fn are_comment(token: &[u8]) -> bool
     ensures { result ≡ are_comment token.now }
 {
     matches!(token, [b'#', ..] | [b'-' | b'/', _, ..])
+}
+
+// Whether no word begins with the byte.
+fn begins_no_word(byte: u8) -> bool
+    ensures { result ≡ begins_no_word byte }
+{
+    byte <= b' ' || 128 <= byte
 }
 
 // Whether a statement begins after this token, if the flag says so of the place before it.
@@ -24,7 +39,7 @@ fn statement_after(before: bool, token: &[u8]) -> bool
     match token {
         [b';'] => true,
         [b'#'] => before,
-        [byte] => *byte <= b' ' && before,
+        [byte] => begins_no_word(*byte) && before,
         _ => are_comment(token) && before,
     }
 }
@@ -35,7 +50,7 @@ fn line_after(before: bool, token: &[u8]) -> bool
 {
     match token {
         [b';' | b'\n' | b'/' | b'#'] => true,
-        [byte] => *byte <= b' ' && before,
+        [byte] => begins_no_word(*byte) && before,
         _ => are_comment(token),
     }
 }
@@ -213,6 +228,18 @@ fn is_client_word(letter: u8, rest: &[u8]) -> bool
     }
 }
 
+// Whether a line of the text after the first begins with the word `delimiter`.
+fn begins_delimiter_line(text: &[u8]) -> bool
+    ensures { result ≡ begins_delimiter_line text.now }
+{
+    for i in 0..text.len() {
+        if text[i] == b'\n' && begins_word(b"delimiter", &text[i + 1..]) {
+            return true;
+        }
+    }
+    false
+}
+
 // What is found at a plain byte before this text.
 fn found_at_byte(statement: bool, line: bool, byte: u8, rest: &[u8]) -> Option<Construct>
     ensures { result ≡ found_at_byte statement line byte rest.now }
@@ -246,9 +273,7 @@ fn found_in_bytes(statement: bool, line: bool, token: &[u8], rest: &[u8]) -> Opt
     match token {
         [byte] => found_at_byte(statement, line, *byte, rest),
         [b'/', _, tail @ ..] => found_in_comment(tail, rest),
-        [b'\'' | b'"' | b'`', tail @ ..] if escapes_newline(tail) => Some(
-            Construct::EscapedNewline,
-        ),
+        [b'\'' | b'"' | b'`', tail @ ..] => found_in_quotes(tail),
         _ => None,
     }
 }
@@ -262,8 +287,22 @@ fn found_in_comment(tail: &[u8], rest: &[u8]) -> Option<Construct>
     }
     match rest {
         [byte, ..] if is_joined(*byte) => Some(Construct::JoiningComment),
+        _ if begins_special(tail) && begins_delimiter_line(tail) => Some(Construct::Delimiter),
         _ => None,
     }
+}
+
+// What is found in a text in quotes or backquotes.
+fn found_in_quotes(tail: &[u8]) -> Option<Construct>
+    ensures { result ≡ found_in_quotes tail.now }
+{
+    if escapes_newline(tail) {
+        return Some(Construct::EscapedNewline);
+    }
+    if begins_delimiter_line(tail) {
+        return Some(Construct::Delimiter);
+    }
+    None
 }
 
 // What is found in the token at the front of the text, which has this length.
@@ -290,10 +329,10 @@ fn found_in_front(statement: bool, line: bool, text: &[u8], len: usize) -> Optio
 /// `.. | mysql --comments --default-character-set=utf8mb4`, without `--binary-mode` and `--force`.
 /// A program that sends the text itself needs `first_unportable` alone.
 ///
-/// If there is none, the client reads the query and each text bound to it as a server does
-/// ([`client_is_a_server`](crate::laws::client_is_a_server)), so that it ends a statement at each
-/// `;` of the query's own and at no other. That it does nothing else with the query, as to take a
-/// line for a command, is known by tests alone.
+/// If there is none, the client reads the query as a server does
+/// ([`client_is_a_server`](crate::laws::client_is_a_server)), and cuts each text bound to it into
+/// as many statements as the query has (the law `bound_texts_in_clients` of `mysql_binding`). That
+/// it does nothing else with the query, as to take a line for a command, is known by tests alone.
 pub fn first_unportable_in_client(query: &[u8], no_backslash_escape: bool) -> Option<Unportable>
     ensures first { OnTokens no_backslash_escape query.now
         (λ ts. result ≡ first_unportable_in_client ts) }

@@ -124,7 +124,7 @@ pub fn same_places()
         positions us ≡ positions ts }
 {}
 
-/// Such a query has as many statements on every honest server: each cuts it at the same `;`.
+/// Such a query has as many statements on every honest server.
 pub fn same_statements()
     ensures count { (server : Server) (mode : Bool) (query : List ℕ) (ts us : List Token) →
         IsHonest server → IsTokens mode query ts → AreReadAlike ts → IsReadOn server mode query us →

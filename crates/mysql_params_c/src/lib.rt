@@ -54,6 +54,7 @@ pub extern "C" fn mysql_params_names(
     // Only a query with names and without marks allocates.
     ensures memory { OnTokens no_backslash_escape query.now (λ ts.
         result ≡ pos 1 → HasName ts × (marks ts ≡ 0)) }
+    ensures short_room { result ≡ pos 1 → length query.now < length room.old }
     ensures rest { result ≡ pos 0 → (report.new.len ≤ length room.old)
         × (drop report.new.len room.new ≡ drop report.new.len room.old) }
     ensures too_long { result ≡ pos 2 → length room.old < report.new.len }
@@ -131,10 +132,10 @@ pub extern "C" fn mysql_params_first_unportable(
 /// Finds the first construct of the query for which it isn't portable, or for which a client that
 /// keeps comments reads or sends something else: [`report_first_unportable_in_client`].
 ///
-/// Returns 0 where there is none, and only there. Else it returns the number of the
+/// Returns 0 if and only if there is none. Else it returns the number of the
 /// [`Construct`](mysql_named_params::portable::Construct), 1 to 18 in the order of its declaration,
 /// and the report has its position in the query. All other fields of the report are 0. Nothing is
-/// allocated. The flag is true where the connection's `sql_mode` has `NO_BACKSLASH_ESCAPES`.
+/// allocated. The flag is true if the connection's `sql_mode` has `NO_BACKSLASH_ESCAPES`.
 #[unsafe(no_mangle)]
 pub extern "C" fn mysql_params_first_unportable_in_client(
     query: &[u8],

@@ -58,6 +58,16 @@ const COMMANDS: &[(&[u8], Construct, usize)] = &[
     (b"; /* a */ -?", Construct::DashInFront, 10),
     (b"SELECT 1\ndelimiter\n5", Construct::Delimiter, 9),
     (b"DELIMITER //", Construct::Delimiter, 0),
+    // In quotes too, if they end on that line, and after a UTF-8 mark.
+    (b"SELECT 'a\ndelimiter', 5\ne5", Construct::Delimiter, 7),
+    (b"SELECT `a\r\nDELIMITER`, 5\r\ne5", Construct::Delimiter, 7),
+    (b"\xef\xbb\xbfdelimiter x", Construct::Delimiter, 3),
+    (b"\xef\xbb\xbfsystem :a", Construct::ClientWord, 3),
+    (
+        b"\xef\xbb\xbf--don't\nSELECT ' :a '",
+        Construct::DashInFront,
+        3,
+    ),
     (b"SELECT 1;\tDelimiters", Construct::Delimiter, 10),
     (b"/*! a */ delimiter", Construct::Delimiter, 9),
     (b"USE shop", Construct::ClientWord, 0),
@@ -98,6 +108,7 @@ const SENT: &[&[u8]] = &[
     b"SELECT 1; user",
     b"-- use a\nSELECT 'help'",
     b"SELECT 'a\nb'",
+    b"SELECT 'delimiter', 'a\n delimiter' /* a\ndelimiter */ 5\ne5",
     b"SELECT 1; show status",
 ];
 

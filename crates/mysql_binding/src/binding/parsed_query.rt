@@ -116,8 +116,7 @@ impl<'q> ParsedQuery<'q> {
     }
 
     /// The query with the literal of a value in the place of each name and mark, exactly as
-    /// [`bind_text_in`](crate::bind_text_in) gives it in this mode. No byte of the query is looked
-    /// at: its pieces are copied.
+    /// [`bind_text_in`](crate::bind_text_in) gives it in this mode. The query isn't walked again.
     pub fn bind(&self, alloc: Global, params: Params) -> Result<Vec<u8>, BindError>
         ensures bound { OnTokens self.now.mode self.now.query (λ ts. IfOk result (λ text.
             IsBoundText self.now.mode ts (given params) text.items)) }
@@ -156,10 +155,9 @@ impl<'q> ParsedQuery<'q> {
     }
 
     /// The names without the colon, in the order of the query, with repeats: slices of it. Beside
-    /// a mark they are refused as `Mixed`, as [`parse_in`] refuses them. No byte of the query is
-    /// looked at.
-    ///
-    /// [`parse_in`]: mysql_named_params::named_params::ParsedNamedParams::parse_in
+    /// a mark they are refused as `Mixed`, as
+    /// [`ParsedNamedParams`](mysql_named_params::named_params::ParsedNamedParams) refuses them. The
+    /// query isn't walked again.
     pub fn names(&self, alloc: Global) -> Result<Vec<&[u8]>, NamedParamsError>
         ensures ok { OnTokens self.now.mode self.now.query (λ ts. IfOk result (λ list.
             referents list.items ≡ names ts)) }
