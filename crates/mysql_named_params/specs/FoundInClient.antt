@@ -2,7 +2,7 @@
 -- it drops, bytes that it changes or never sends. A test for each token by what stands before and
 -- after it, and the construct that it finds. Source: what the clients send, by experiment
 -- (docs/EVIDENCE.md); no law says that these are all.
-use Rattle.std.specs.Prelude.{ℕ, Bool, true, false, not, ◌==◌, ◌&&◌, ◌||◌, nat_le, if◌then◌else◌, List, [], ◌∷◌, length, drop, codes, Option, Some, None}
+use Rattle.std.specs.Prelude.{ℕ, Bool, true, false, not, ◌==◌, ◌&&◌, ◌||◌, nat_le, nat_lt, ◌-◌, if◌then◌else◌, List, [], ◌∷◌, length, drop, codes, Option, Some, None}
 use Rattle.std.specs.List.{list_any}
 use Rattle.std.specs.Char.{to_ascii_lowercase}
 use Rattle.std.specs.Str.{byte}
@@ -42,11 +42,36 @@ begins_line before t = is_comment t
 
 -- ---- texts
 
--- the text begins with this word of lower-case letters, in letters of either case
+-- The lower-case letter for which a client takes a capital of latin1 with an accent, from 192 on. The
+-- collation latin1_swedish_ci has no letter for 196 to 198, 214 to 216, and from 222 on.
+abbrev pub without_accent : ℕ → ℕ
+without_accent b =
+    if nat_lt b 196 then byte "a"
+    else if nat_lt b 199 then b
+    else if b == 199 then byte "c"
+    else if nat_lt b 204 then byte "e"
+    else if nat_lt b 208 then byte "i"
+    else if b == 208 then byte "d"
+    else if b == 209 then byte "n"
+    else if nat_lt b 214 then byte "o"
+    else if nat_lt b 217 then b
+    else if nat_lt b 220 then byte "u"
+    else if nat_lt b 222 then byte "y"
+    else b
+
+-- The lower-case letter for which a client takes a byte. MariaDB's compares by latin1, where a small
+-- letter stands 32 after its capital: to it `syst\xEAm` is `system`.
+abbrev pub letter_of : ℕ → ℕ
+letter_of b =
+    if nat_lt b 192 then to_ascii_lowercase b
+    else if nat_lt b 224 then without_accent b
+    else without_accent (b - 32)
+
+-- the text begins with this word of lower-case letters
 abbrev pub begins_word : List ℕ → List ℕ → Bool
 begins_word [] text = true
 begins_word (w ∷ ws) [] = false
-begins_word (w ∷ ws) (b ∷ bs) = to_ascii_lowercase b == w && begins_word ws bs
+begins_word (w ∷ ws) (b ∷ bs) = letter_of b == w && begins_word ws bs
 
 -- the text begins with nothing that would be part of a word: white space, a control byte or `;`
 abbrev pub ends_word : List ℕ → Bool
@@ -180,7 +205,7 @@ found_at_byte statement line b rest =
     else if b == asterisk && closes_before_joined rest then Some construct.JoiningComment
     else if b == dash && (statement && drops_line rest) then Some construct.DashInFront
     else if b == dash && stand_before_comment rest then Some construct.DashesBeforeComment
-    else found_word statement line (to_ascii_lowercase b) rest
+    else found_word statement line (letter_of b) rest
 
 -- in this token before this text, if it holds no byte 0
 abbrev pub found_in_token : Bool → Bool → Token → List ℕ → Option Construct

@@ -4,7 +4,7 @@ ghost use Rattle.std.specs.Prelude.{◌≡◌, ◌↔◌, ◌≤◌, ◌<◌, le
 ghost use Rattle.mysql_named_params.specs.Tokens.{OnTokens};
 ghost use Rattle.mysql_named_params.specs.Client.{begins_opener, begins_end, holds_opener};
 ghost use Rattle.mysql_named_params.specs.Server.{begins_special};
-ghost use Rattle.mysql_named_params.specs.FoundInClient.{begins_no_word, begins_delimiter_line, begins_word, ends_word, begins_whole_word, is_client_word, is_joined, closes_before_joined, drops_line, begins_comment, stand_before_comment, ends_line, escapes_newline, found_in_quotes, found_in_comment, found_word, found_at_byte};
+ghost use Rattle.mysql_named_params.specs.FoundInClient.{begins_no_word, begins_delimiter_line, without_accent, letter_of, begins_word, ends_word, begins_whole_word, is_client_word, is_joined, closes_before_joined, drops_line, begins_comment, stand_before_comment, ends_line, escapes_newline, found_in_quotes, found_in_comment, found_word, found_at_byte};
 ghost use Rattle.mysql_named_params.specs.FirstUnportableInClient.{first_unportable_in_client, IsPortableInClient};
 ghost use Rattle.mysql_named_params.specs.FrontInClient.{are_comment, statement_after, line_after, found_in_bytes, found_or_zero, found_in_front};
 
@@ -85,7 +85,51 @@ fn holds_opener(text: &[u8]) -> bool
     false
 }
 
-// Whether the text begins with this word of lower-case letters, in letters of either case.
+// The lower-case letter for which a client takes a capital of latin1 with an accent.
+fn without_accent(capital: u8) -> u8
+    ensures { result ≡ without_accent capital }
+{
+    if capital < 196 {
+        b'a'
+    } else if capital < 199 {
+        capital
+    } else if capital == 199 {
+        b'c'
+    } else if capital < 204 {
+        b'e'
+    } else if capital < 208 {
+        b'i'
+    } else if capital == 208 {
+        b'd'
+    } else if capital == 209 {
+        b'n'
+    } else if capital < 214 {
+        b'o'
+    } else if capital < 217 {
+        capital
+    } else if capital < 220 {
+        b'u'
+    } else if capital < 222 {
+        b'y'
+    } else {
+        capital
+    }
+}
+
+// The lower-case letter for which a client takes the byte.
+fn letter_of(byte: u8) -> u8
+    ensures { result ≡ letter_of byte }
+{
+    if byte < 192 {
+        byte.to_ascii_lowercase()
+    } else if byte < 224 {
+        without_accent(byte)
+    } else {
+        without_accent(byte - 32)
+    }
+}
+
+// Whether the text begins with this word of lower-case letters.
 fn begins_word(word: &[u8], text: &[u8]) -> bool
     ensures value { result ≡ begins_word word.now text.now }
     ensures in_range { IsTrue result → length word.now ≤ length text.now }
@@ -94,7 +138,7 @@ fn begins_word(word: &[u8], text: &[u8]) -> bool
         if text.len() <= i {
             return false;
         }
-        if text[i].to_ascii_lowercase() != word[i] {
+        if letter_of(text[i]) != word[i] {
             return false;
         }
     }
@@ -249,7 +293,7 @@ fn found_at_byte(statement: bool, line: bool, byte: u8, rest: &[u8]) -> Option<C
         b'*' if closes_before_joined(rest) => Some(Construct::JoiningComment),
         b'-' if statement && drops_line(rest) => Some(Construct::DashInFront),
         b'-' if stand_before_comment(rest) => Some(Construct::DashesBeforeComment),
-        _ => found_word(statement, line, byte.to_ascii_lowercase(), rest),
+        _ => found_word(statement, line, letter_of(byte), rest),
     }
 }
 

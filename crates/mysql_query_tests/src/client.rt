@@ -69,6 +69,12 @@ const COMMANDS: &[(&[u8], Construct, usize)] = &[
         3,
     ),
     (b"SELECT 1;\tDelimiters", Construct::Delimiter, 10),
+    // A letter of latin1 with an accent, of either case, is the one without to MariaDB's client.
+    (b"syst\xeam :a", Construct::ClientWord, 0),
+    (b"\xc9go", Construct::ClientWord, 0),
+    (b"\xdbs\xe8 a", Construct::ClientWord, 0),
+    (b"\xf0elimiter x", Construct::Delimiter, 0),
+    (b"SELECT 'a\nd\xc9limiter', 5\ne5", Construct::Delimiter, 7),
     (b"/*! a */ delimiter", Construct::Delimiter, 9),
     (b"USE shop", Construct::ClientWord, 0),
     (b"SELECT 1; # a\n help ;", Construct::ClientWord, 15),
@@ -106,6 +112,9 @@ const SENT: &[&[u8]] = &[
     b"SELECT 1 AS delimiter, 2 AS a_delimiter",
     b"SELECT 1 FROM t\nUSE INDEX (a)",
     b"SELECT 1; user",
+    // To no client are these letters of a word: y of the Swedish order for u, UTF-8.
+    b"\xfcse a",
+    b"syst\xc3\xa9m :a",
     b"-- use a\nSELECT 'help'",
     b"SELECT 'a\nb'",
     b"SELECT 'delimiter', 'a\n delimiter' /* a\ndelimiter */ 5\ne5",
