@@ -25,7 +25,7 @@ typedef struct test_case {
 } test_case;
 
 /* Reads the cases of a file, hands each to the function, and returns how many there were. It ends the program with a
- * message where the file can't be read. */
+ * message if the file can't be read. */
 int each_case(const char *folder, const char *file, void (*use)(const test_case *));
 
 /* Appends bytes. */

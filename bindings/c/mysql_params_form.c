@@ -30,7 +30,7 @@ enum { VALUE_ROOM = 13 };
 
 mysql_params_form mysql_params_form_in(uint8_t *room, size_t room_len)
 {
-    /* Stands where no memory is given, for mysql_params_bind takes no null. Its length is 0, so it is never written. */
+    /* Lent if no memory is given, since mysql_params_bind takes no null. Its length is 0, so it is never written. */
     static uint8_t nothing;
     mysql_params_form form = {room == NULL ? &nothing : room, room == NULL ? 0 : room_len, 0, 0};
     return form;
@@ -56,7 +56,7 @@ static size_t fill_length(uint8_t bytes[LENGTH_ROOM], uint64_t length)
     return 1 + count;
 }
 
-/* The sum, or SIZE_MAX where that is too much to count. */
+/* The sum, or SIZE_MAX if that is too much to count. */
 static size_t sum(size_t a, size_t b)
 {
     return a > SIZE_MAX - b ? SIZE_MAX : a + b;
@@ -181,7 +181,7 @@ bool mysql_params_next_string(const uint8_t **answer, size_t *len, mysql_params_
     return true;
 }
 
-/* A line that is being written: where it is full, it is only counted. */
+/* A line that is being written: if it is full, it is only counted. */
 typedef struct line {
     char *bytes;
     size_t room_len;
@@ -260,7 +260,7 @@ static void append_alphabet(line *to, const uint8_t *query, size_t query_len, si
         append_byte(to, '`');
 }
 
-/* Appends what names are of, where that may be why the query is refused. */
+/* Appends what names are of, if that may be why the query is refused. */
 static void append_hint(line *to, int32_t number, const mysql_params_report *report,
                         const uint8_t *query, size_t query_len)
 {
@@ -295,7 +295,7 @@ static const char *fixed_message(int32_t number)
     }
 }
 
-/* Returns what is wrong with a parameter of the form, or null where the number says something else. */
+/* Returns what is wrong with a parameter of the form, or null if the number says something else. */
 static const char *fault_of_form(int32_t number)
 {
     switch (number) {

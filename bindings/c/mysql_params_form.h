@@ -13,13 +13,13 @@ extern "C" {
 
 /* A form that is being written into memory of the caller's. Set it up with mysql_params_form_in. */
 typedef struct mysql_params_form {
-    /* The caller's memory. It is never null, also where none was given. */
+    /* The caller's memory. It is never null, also if none was given. */
     uint8_t *room;
     /* Bytes of that memory. */
     size_t room_len;
     /* Bytes of the form so far: hand `room` and `len` to mysql_params_bind once `needed` is `len`. */
     size_t len;
-    /* Bytes that all appended parameters need; SIZE_MAX where that is too many to count. It is greater than `len` once a
+    /* Bytes that all appended parameters need; SIZE_MAX if that is too many to count. It is greater than `len` once a
      * parameter did not fit. */
     size_t needed;
 } mysql_params_form;
@@ -51,7 +51,7 @@ typedef struct mysql_params_time {
 mysql_params_form mysql_params_form_in(uint8_t *room, size_t room_len);
 
 /* The functions below append one parameter. `name` is the name without a colon, ended by a zero byte; null or "" gives
- * the parameter by position. Each returns true where this and all earlier parameters stand in the room. Else it has
+ * the parameter by position. Each returns true if this and all earlier parameters stand in the room. Else it has
  * written nothing, and later calls write nothing either: they go on counting `needed`.
  *
  * Neither the name nor the bytes nor the text may overlap the room: other bytes would be appended without a word. To
@@ -66,7 +66,7 @@ bool mysql_params_append_int(mysql_params_form *form, const char *name, int64_t 
 /* Appends an unsigned whole number. */
 bool mysql_params_append_uint(mysql_params_form *form, const char *name, uint64_t number);
 
-/* Appends bytes, of any kind. `bytes` may be null where `len` is 0. */
+/* Appends bytes, of any kind. `bytes` may be null if `len` is 0. */
 bool mysql_params_append_bytes(mysql_params_form *form, const char *name, const void *bytes, size_t len);
 
 /* Appends a text that a zero byte ends. */
@@ -78,7 +78,7 @@ bool mysql_params_append_date(mysql_params_form *form, const char *name, mysql_p
 /* Appends a span of time. */
 bool mysql_params_append_time(mysql_params_form *form, const char *name, mysql_params_time time);
 
-/* Appends a floating-point number. Binding refuses it as MYSQL_PARAMS_FLOAT where the query has a place for it. For a
+/* Appends a floating-point number. Binding refuses it as MYSQL_PARAMS_FLOAT if the query has a place for it. For a
  * decimal append its text, and write CAST(:p AS DECIMAL(20,2)) in the query: a text in arithmetic is computed as a
  * double. */
 bool mysql_params_append_double(mysql_params_form *form, const char *name, double number);
@@ -90,13 +90,13 @@ typedef struct mysql_params_string {
 } mysql_params_string;
 
 /* Takes the next length-encoded string off the front of an answer: the query with marks first, then each name. It moves
- * `*answer` and `*len` after it. Returns false, and changes nothing, where no whole string stands there. */
+ * `*answer` and `*len` after it. Returns false, and changes nothing, if no whole string stands there. */
 bool mysql_params_next_string(const uint8_t **answer, size_t *len, mysql_params_string *string);
 
 /* Writes what a number and its report say into `line`: one line of printable ASCII, ended by a zero byte, cut to
  * `line_len` bytes with that byte. `source`, of `source_len` bytes, is the form for MYSQL_PARAMS_FORM_REPEATED, else
  * the query; without any (null and 0) a name is left out. For MYSQL_PARAMS_MISSING, _NOT_ALONE and
- * _NAMED_FOR_POSITIONAL the line also says what names are of, where a letter that none has stands directly after a name
+ * _NAMED_FOR_POSITIONAL the line also says what names are of, if a letter that none has stands directly after a name
  * or in place of one: of `:userId` that it ends after `user`. Returns the length of the whole line without the zero
  * byte. */
 size_t mysql_params_message(int32_t number, const mysql_params_report *report,
@@ -107,8 +107,8 @@ size_t mysql_params_message(int32_t number, const mysql_params_report *report,
  * ended by a zero byte. Null for MYSQL_PARAMS_PORTABLE, and for what is no number of that enum. */
 const char *mysql_params_construct_message(int32_t construct);
 
-/* Returns whether the processor has what the archive is compiled for, x86-64-v2. Where it is false, a call of the
- * archive may end the process with SIGILL: ask it once, before the first. Where the compiler has no way to ask, it is
+/* Returns whether the processor has what the archive is compiled for, x86-64-v2. If it is false, a call of the
+ * archive may end the process with SIGILL: ask it once, before the first. If the compiler has no way to ask, it is
  * true. */
 bool mysql_params_processor_suffices(void);
 

@@ -67,7 +67,7 @@ static void expect(bool holds, const test_case *it, const char *what)
         fail(it, what);
 }
 
-/* A copy in a block of exactly its length, or of one byte where there is none. */
+/* A copy in a block of exactly its length, or of one byte if there is none. */
 static uint8_t *exact_copy(bytes from)
 {
     uint8_t *copy = malloc(from.len > 0 ? from.len : 1);

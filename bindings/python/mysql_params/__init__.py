@@ -13,7 +13,7 @@ A name in a query is a colon, one of `a` to `z` and `_`, and all of `a` to `z`, 
 `:userId` is the name `user` followed by `Id`, and `:A` is none.
 
 The library is the file that the environment variable MYSQL_PARAMS_LIBRARY names, by its path, else libmysql_params_c.so
-in the folder of this package; `bindings/build FOLDER` makes it. Where there is none, or the processor lacks a feature
+in the folder of this package; `bindings/build FOLDER` makes it. If there is none, or the processor lacks a feature
 of x86-64-v2, the import is an ImportError.
 """
 
@@ -77,7 +77,7 @@ __all__ = [
 Value = Union[
     None, bool, int, float, bytes, bytearray, memoryview, str, datetime.date, datetime.datetime, datetime.timedelta
 ]
-"""What a value may be. A float has no literal, and is refused where the query has a place for it."""
+"""What a value may be. A float has no literal, and is refused if the query has a place for it."""
 
 Params = Union[
     None,
@@ -145,7 +145,7 @@ def bind(query: Union[str, bytes], params: Params = None, no_backslash_escape: b
     the literal of its date.
 
     The text is for a connection with backslash escapes, that is without NO_BACKSLASH_ESCAPES in its sql_mode; with the
-    flag it is for one that has it. Ask on the connection that the text goes to: SELECT @@sql_mode. Where the two differ
+    flag it is for one that has it. Ask on the connection that the text goes to: SELECT @@sql_mode. If the two differ,
     a value can leave its literal. The flag is True or False: anything else, also the sql_mode itself, is a TypeError.
 
     For a decimal give its str, and write ``CAST(:p AS DECIMAL(20,2))`` in the query: a text in arithmetic is computed

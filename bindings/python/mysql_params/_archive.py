@@ -73,7 +73,7 @@ def flag(mode: bool) -> bool:
 
 
 def call(query: bytes, form: Optional[bytes], mode: bool, room: bytearray, room_len: int) -> tuple[int, Report]:
-    """Bind the form, or take the names where it is None, into the room. Return the number and the report.
+    """Bind the form, or take the names if it is None, into the room. Return the number and the report.
 
     The mode is True without backslash escapes. The room is longer than `room_len`, so that it has a first byte.
 

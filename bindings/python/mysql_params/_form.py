@@ -30,7 +30,7 @@ def _cast(which: Union[bytes, int], digits: str) -> str:
 
 
 def bytes_of(text: object) -> bytes:
-    """Return the bytes of a text: those of its UTF-8 where it is a str."""
+    """Return the bytes of a text: those of its UTF-8 if it is a str."""
     return str.encode(text) if isinstance(text, str) else copy(text)
 
 

@@ -49,7 +49,7 @@ class _WordError(Error):
     """A refusal that a letter which no name has may be the cause of."""
 
     word: Optional[bytes] = None
-    """The word of the query that is told, without its colon, where a letter that no name has stands directly after the
+    """The word of the query that is told, without its colon, if a letter that no name has stands directly after the
     name or in place of it, as in ``:userId``. Else None."""
 
     def _more(self) -> str:

@@ -134,7 +134,7 @@ impl Call<'_> {
             .unwrap_or_else(|other| other)
     }
 
-    /// The same; or `Err` where the number or its report isn't one of mysql_params.h, or the name finds no memory.
+    /// The same; or `Err` if the number or its report isn't one of mysql_params.h, or the name finds no memory.
     fn known_error(self, number: i32, report: &Report) -> Result<Error, Error> {
         let Report {
             place,
@@ -200,7 +200,7 @@ impl Call<'_> {
         if !processor_suffices() {
             return Err(Error::Processor);
         }
-        // The answer may be far shorter than the guess: where that finds no memory, the archive tells the length.
+        // The answer may be far shorter than the guess: if that finds no memory, the archive tells the length.
         let mut room = room_of(guess).unwrap_or_default();
         let (mut number, mut report) = self.answer(no_backslash_escape, &mut room);
         if number == ROOM {
@@ -219,7 +219,7 @@ impl Call<'_> {
     }
 }
 
-/// The answer that stands in a room; or `Err` where the report says that it is longer than the room.
+/// The answer that stands in a room; or `Err` if the report says that it is longer than the room.
 pub(crate) fn written(mut room: Vec<u8>, report: &Report) -> Result<Vec<u8>, Error> {
     if report.len > room.len() {
         return Err(Error::UnknownAnswer { number: DONE });
@@ -259,7 +259,7 @@ pub(crate) fn first_unportable_in_client(query: &[u8], no_backslash_escape: bool
     (number, report)
 }
 
-/// What such a number with its report says; or `Err` where the number isn't one of mysql_params.h.
+/// What such a number with its report says; or `Err` if the number isn't one of mysql_params.h.
 pub(crate) fn unportable(number: i32, report: &Report) -> Result<Option<Unportable>, Error> {
     if number == PORTABLE {
         return Ok(None);

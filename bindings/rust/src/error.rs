@@ -127,7 +127,7 @@ impl fmt::Display for Shown<'_> {
     }
 }
 
-/// What names are of, where a word of the query shows that it matters.
+/// What names are of, if a word of the query shows that it matters.
 struct Alphabet<'a>(&'a Option<Vec<u8>>);
 
 impl fmt::Display for Alphabet<'_> {

@@ -66,7 +66,7 @@ pub fn names(query: &[u8]) -> Result<Names, Error> {
     names_in(query, false)
 }
 
-/// As [`names`], for a connection in either mode: the flag is true where `SELECT @@sql_mode` has
+/// As [`names`], for a connection in either mode: the flag is true if `SELECT @@sql_mode` has
 /// `NO_BACKSLASH_ESCAPES`.
 ///
 /// # Errors
@@ -94,8 +94,8 @@ pub fn names_in(query: &[u8], no_backslash_escape: bool) -> Result<Names, Error>
 }
 
 /// The first construct of a query that servers read in different ways, or in which a value's digits would join a
-/// number; none exactly where the query is portable. Ask it of each query, once, before you bind to it. What stands
-/// within strings, quoted identifiers and comments is none, but `\"` in a string in `"`. It allocates nothing.
+/// number; none exactly if the query is portable. Ask it of each query, once, before you bind to it. What stands
+/// within strings, quoted identifiers and comments is none, except `\"` in a string in `"`. It allocates nothing.
 ///
 /// ```
 /// use mysql_params::{Construct, first_unportable};
@@ -113,7 +113,7 @@ pub fn first_unportable(query: &[u8]) -> Result<Option<Unportable>, Error> {
     first_unportable_in(query, false)
 }
 
-/// As [`first_unportable`], for a connection in either mode: the flag is true where `SELECT @@sql_mode` has
+/// As [`first_unportable`], for a connection in either mode: the flag is true if `SELECT @@sql_mode` has
 /// `NO_BACKSLASH_ESCAPES`.
 ///
 /// # Errors
@@ -181,8 +181,8 @@ pub fn bind(query: &[u8], params: &Params<'_>) -> Result<Vec<u8>, Error> {
     bind_in(query, params, false)
 }
 
-/// As [`bind`], for a connection in either mode: the flag is true where `SELECT @@sql_mode`, asked on the connection
-/// that the text goes to, has `NO_BACKSLASH_ESCAPES`. Where the two differ a value can leave its literal.
+/// As [`bind`], for a connection in either mode: the flag is true if `SELECT @@sql_mode`, asked on the connection
+/// that the text goes to, has `NO_BACKSLASH_ESCAPES`. If the two differ, a value can leave its literal.
 ///
 /// # Errors
 ///

@@ -6,7 +6,7 @@ use std::cell::Cell;
 use std::fmt::Debug;
 
 thread_local! {
-    /// How many more allocations of this thread succeed; none where all do.
+    /// How many more allocations of this thread succeed; none if all do.
     static LEFT: Cell<Option<usize>> = const { Cell::new(None) };
     /// Whether one was refused.
     static REFUSED: Cell<bool> = const { Cell::new(false) };
