@@ -51,8 +51,8 @@ pub enum Construct {
 pub struct Unportable {
     /// Which it is.
     pub construct: Construct,
-    /// Byte of the query at which it begins: of `"..\".."` its first quote, of a place after an exponent the digit or
-    /// point before the `e`.
+    /// Byte of the query at which it begins: of what is found within a string, a quoted identifier or a comment the
+    /// first byte of that, of a place after an exponent the digit or point before the `e`.
     pub position: usize,
 }
 
