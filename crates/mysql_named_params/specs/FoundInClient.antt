@@ -42,8 +42,8 @@ begins_line before t = is_comment t
 
 -- ---- texts
 
--- The lower-case letter for which a client takes a capital of latin1 with an accent, from 192 on. The
--- collation latin1_swedish_ci has no letter for 196 to 198, 214 to 216, and from 222 on.
+-- The lower-case letter for which a client takes a capital of latin1 with an accent, from 192 on.
+-- The collation latin1_swedish_ci has no letter for 196 to 198, 214 to 216, and from 222 on.
 abbrev pub without_accent : ℕ → ℕ
 without_accent b =
     if nat_lt b 196 then byte "a"
@@ -59,8 +59,8 @@ without_accent b =
     else if nat_lt b 222 then byte "y"
     else b
 
--- The lower-case letter for which a client takes a byte. MariaDB's compares by latin1, where a small
--- letter stands 32 after its capital: to it `syst\xEAm` is `system`.
+-- The lower-case letter for which a client takes a byte. MariaDB's compares by latin1, where a
+-- small letter stands 32 after its capital: to it `syst\xEAm` is `system`.
 abbrev pub letter_of : ℕ → ℕ
 letter_of b =
     if nat_lt b 192 then to_ascii_lowercase b
