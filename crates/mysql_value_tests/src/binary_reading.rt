@@ -1,282 +1,160 @@
 //! Values in binary form: as the types of columns read them.
-use crate::shared::{DateFields, SIGNED, TimeFields, UNSIGNED, bytes, date, reads, refuses, time};
-use mysql_values::value::Value;
-use mysql_wire_part::{ColumnType, WireError};
+use crate::shared::Plain::{Bytes, Date, Double, Float, Int, Null, Time, UInt};
+use crate::shared::{Plain, answer_of, same_in, value};
+use mysql_values::value::{BinValue, Value, ValueDeserializer};
+use mysql_wire_part::WireError::{BadLengthLead, UnexpectedEof, UnsupportedColumn};
+use mysql_wire_part::{ColumnFlags, ColumnType, Flags, MyDeserialize, ParseBuf, WireError};
+use std::alloc::Global;
+use std::process::Abort;
 
-// Bytes of integers, and what they are without the flag of unsigned columns and with it.
-const INTEGERS: &[(ColumnType, &[u8], i64, i64)] = &[
-    (ColumnType::MYSQL_TYPE_TINY, &[0xFF], -1, 255),
-    (ColumnType::MYSQL_TYPE_TINY, &[0x80], -128, 128),
-    (ColumnType::MYSQL_TYPE_TINY, &[0x7F], 127, 127),
-    (ColumnType::MYSQL_TYPE_SHORT, &[0xFF, 0xFF], -1, 65535),
-    (ColumnType::MYSQL_TYPE_SHORT, &[0, 0x80], -32768, 32768),
-    (ColumnType::MYSQL_TYPE_YEAR, &[0xFF, 0x7F], 32767, 32767),
-    (ColumnType::MYSQL_TYPE_YEAR, &[0, 0x80], -32768, 32768),
-    (
-        ColumnType::MYSQL_TYPE_LONG,
-        &[0, 0, 0, 0x80],
-        -2147483648,
-        2147483648,
-    ),
-    (
-        ColumnType::MYSQL_TYPE_LONG,
-        &[255, 255, 255, 255],
-        -1,
-        4294967295,
-    ),
-    (ColumnType::MYSQL_TYPE_SHORT, &[0xFF, 0x7F], 32767, 32767),
-    (
-        ColumnType::MYSQL_TYPE_LONG,
-        &[255, 255, 255, 0x7F],
-        2147483647,
-        2147483647,
-    ),
-    (
-        ColumnType::MYSQL_TYPE_INT24,
-        &[0, 0, 0, 0x80],
-        -2147483648,
-        2147483648,
-    ),
-    (
-        ColumnType::MYSQL_TYPE_INT24,
-        &[255, 255, 255, 0x7F],
-        2147483647,
-        2147483647,
-    ),
-    (
-        ColumnType::MYSQL_TYPE_LONGLONG,
-        &[255, 255, 255, 255, 255, 255, 255, 0x7F],
-        9223372036854775807,
-        9223372036854775807,
-    ),
-];
+const SIGNED: u16 = 0;
 
-#[test]
-fn read_integers(rt: HostRuntime) {
-    let alloc = rt.alloc();
-    for (column, input, signed, unsigned) in INTEGERS {
-        reads(
-            &rt,
-            alloc,
-            (*column, SIGNED),
-            *input,
-            &[],
-            Value::Int(*signed),
-        );
-        // Other flags say nothing.
-        let flags = UNSIGNED | 1;
-        reads(
-            &rt,
-            alloc,
-            (*column, flags),
-            *input,
-            &[],
-            Value::Int(*unsigned),
-        );
-        let error = WireError::UnexpectedEof;
-        refuses(&rt, alloc, (*column, UNSIGNED), &input[1..], error);
+// The flag of unsigned columns, and one that says nothing.
+const OTHERS: u16 = 33;
+
+// A table of columns.
+macro_rules! columns {
+    ($($column:ident, $($field:expr),+;)*) => { &[$((ColumnType::$column, $($field),+)),*] };
+}
+
+// The value that the column reads at the front of the buffer.
+fn read(
+    alloc: Global,
+    (column, flags): (ColumnType, u16),
+    buf: &mut ParseBuf<'_>,
+) -> Result<Value, WireError> {
+    let ctx = (column, ColumnFlags::from_bits_retain(flags));
+    match ValueDeserializer::<BinValue>::deserialize(alloc, ctx, buf) {
+        Ok(read) => Ok(read.0),
+        Err(error) => Err(error),
     }
 }
 
-#[test]
-fn integer_beyond_63_bits(rt: HostRuntime) {
-    let alloc = rt.alloc();
-    let column = ColumnType::MYSQL_TYPE_LONGLONG;
-    let input = [0, 0, 0, 0, 0, 0, 0, 0x80];
-    let least = Value::Int(-9223372036854775808);
-    reads(&rt, alloc, (column, SIGNED), &input, &[], least);
-    let unsigned = Value::UInt(9223372036854775808);
-    reads(&rt, alloc, (column, UNSIGNED | 1), &input, &[], unsigned);
-    refuses(
-        &rt,
-        alloc,
-        (column, UNSIGNED),
-        &input[1..],
-        WireError::UnexpectedEof,
-    );
+// The column reads the value at the front of the bytes, and leaves the byte 42.
+fn reads(rt: &impl Abort, alloc: Global, column: (ColumnType, u16), input: &[u8], value: &Value) {
+    let mut buf = ParseBuf(input);
+    let found = answer_of(rt, read(alloc, column, &mut buf));
+    same_in(rt, &found, value, &column);
+    same_in(rt, buf.0, b"*".as_slice(), &input);
 }
 
+// Columns and their flags, bytes, and the value that they begin with.
+const READ: &[(ColumnType, u16, &[u8], Plain)] = columns! {
+    MYSQL_TYPE_TINY, SIGNED, &[0xFF, 0x2A], Int(-1);
+    MYSQL_TYPE_TINY, OTHERS, &[0xFF, 0x2A], Int(255);
+    MYSQL_TYPE_TINY, SIGNED, &[0x80, 0x2A], Int(-128);
+    MYSQL_TYPE_TINY, OTHERS, &[0x80, 0x2A], Int(128);
+    MYSQL_TYPE_TINY, SIGNED, &[0x7F, 0x2A], Int(127);
+    MYSQL_TYPE_TINY, OTHERS, &[0x7F, 0x2A], Int(127);
+    MYSQL_TYPE_SHORT, SIGNED, &[0xFF, 0xFF, 0x2A], Int(-1);
+    MYSQL_TYPE_SHORT, OTHERS, &[0xFF, 0xFF, 0x2A], Int(65535);
+    MYSQL_TYPE_SHORT, SIGNED, &[0, 0x80, 0x2A], Int(-32768);
+    MYSQL_TYPE_SHORT, OTHERS, &[0, 0x80, 0x2A], Int(32768);
+    MYSQL_TYPE_YEAR, SIGNED, &[0xFF, 0x7F, 0x2A], Int(32767);
+    MYSQL_TYPE_YEAR, OTHERS, &[0xFF, 0x7F, 0x2A], Int(32767);
+    MYSQL_TYPE_YEAR, SIGNED, &[0, 0x80, 0x2A], Int(-32768);
+    MYSQL_TYPE_YEAR, OTHERS, &[0, 0x80, 0x2A], Int(32768);
+    MYSQL_TYPE_LONG, SIGNED, &[0, 0, 0, 0x80, 0x2A], Int(-2147483648);
+    MYSQL_TYPE_LONG, OTHERS, &[0, 0, 0, 0x80, 0x2A], Int(2147483648);
+    MYSQL_TYPE_LONG, SIGNED, &[255, 255, 255, 255, 0x2A], Int(-1);
+    MYSQL_TYPE_LONG, OTHERS, &[255, 255, 255, 255, 0x2A], Int(4294967295);
+    MYSQL_TYPE_SHORT, SIGNED, &[0xFF, 0x7F, 0x2A], Int(32767);
+    MYSQL_TYPE_SHORT, OTHERS, &[0xFF, 0x7F, 0x2A], Int(32767);
+    MYSQL_TYPE_LONG, SIGNED, &[255, 255, 255, 0x7F, 0x2A], Int(2147483647);
+    MYSQL_TYPE_LONG, OTHERS, &[255, 255, 255, 0x7F, 0x2A], Int(2147483647);
+    MYSQL_TYPE_INT24, SIGNED, &[0, 0, 0, 0x80, 0x2A], Int(-2147483648);
+    MYSQL_TYPE_INT24, OTHERS, &[0, 0, 0, 0x80, 0x2A], Int(2147483648);
+    MYSQL_TYPE_INT24, SIGNED, &[255, 255, 255, 0x7F, 0x2A], Int(2147483647);
+    MYSQL_TYPE_INT24, OTHERS, &[255, 255, 255, 0x7F, 0x2A], Int(2147483647);
+    MYSQL_TYPE_LONGLONG, SIGNED,
+        &[255, 255, 255, 255, 255, 255, 255, 0x7F, 0x2A], Int(9223372036854775807);
+    MYSQL_TYPE_LONGLONG, OTHERS,
+        &[255, 255, 255, 255, 255, 255, 255, 0x7F, 0x2A], Int(9223372036854775807);
+    MYSQL_TYPE_LONGLONG, SIGNED, &[0, 0, 0, 0, 0, 0, 0, 0x80, 0x2A], Int(-9223372036854775808);
+    MYSQL_TYPE_LONGLONG, OTHERS, &[0, 0, 0, 0, 0, 0, 0, 0x80, 0x2A], UInt(9223372036854775808);
+    MYSQL_TYPE_NULL, SIGNED, b"*", Null;
+    MYSQL_TYPE_FLOAT, SIGNED, b"\x00\x00\x80\x3F*", Float(1065353216);
+    MYSQL_TYPE_DOUBLE, SIGNED, b"\x01\x00\x00\x00\x00\x00\x00\x00*", Double(1);
+    MYSQL_TYPE_DATETIME, SIGNED, &[0, 0x2A], Date(0, 0, 0, 0, 0, 0, 0);
+    MYSQL_TYPE_DATETIME, SIGNED,
+        &[5, 0xE3, 7, 0x0B, 0x1B, 0xFF, 0x2A], Date(2019, 11, 27, 0, 0, 0, 0);
+    MYSQL_TYPE_TIMESTAMP, SIGNED,
+        &[11, 1, 2, 3, 4, 5, 6, 7, 8, 9, 10, 11, 0x2A], Date(513, 3, 4, 5, 6, 7, 185207048);
+    MYSQL_TYPE_DATE, SIGNED,
+        &[12, 1, 2, 3, 4, 5, 6, 7, 8, 9, 10, 11, 12, 0x2A], Date(513, 3, 4, 5, 6, 7, 0);
+    MYSQL_TYPE_NEWDATE, SIGNED, &[3, 1, 2, 3, 0x2A], Date(0, 0, 0, 0, 0, 0, 0);
+    MYSQL_TYPE_TIME, SIGNED,
+        &[10, 2, 1, 0, 0, 0, 2, 3, 4, 9, 9, 0x2A], Time(false, 1, 2, 3, 4, 0);
+    MYSQL_TYPE_TIME, SIGNED,
+        &[12, 1, 2, 3, 4, 5, 6, 7, 8, 9, 10, 11, 12, 0x2A], Time(true, 84148994, 6, 7, 8, 202050057);
+    MYSQL_TYPE_TIME, SIGNED, &[7, 1, 2, 3, 4, 5, 6, 7, 0x2A], Time(false, 0, 0, 0, 0, 0);
+    // A negative time of zero is written so too.
+    MYSQL_TYPE_TIME, SIGNED, &[0, 0x2A], Time(false, 0, 0, 0, 0, 0);
+    MYSQL_TYPE_STRING, OTHERS, &[1, 0x41, 0x2A], Bytes(b"A");
+    MYSQL_TYPE_VAR_STRING, OTHERS, &[1, 0x41, 0x2A], Bytes(b"A");
+    MYSQL_TYPE_BLOB, OTHERS, &[1, 0x41, 0x2A], Bytes(b"A");
+    MYSQL_TYPE_TINY_BLOB, OTHERS, &[1, 0x41, 0x2A], Bytes(b"A");
+    MYSQL_TYPE_MEDIUM_BLOB, OTHERS, &[1, 0x41, 0x2A], Bytes(b"A");
+    MYSQL_TYPE_LONG_BLOB, OTHERS, &[1, 0x41, 0x2A], Bytes(b"A");
+    MYSQL_TYPE_SET, OTHERS, &[1, 0x41, 0x2A], Bytes(b"A");
+    MYSQL_TYPE_ENUM, OTHERS, &[1, 0x41, 0x2A], Bytes(b"A");
+    MYSQL_TYPE_DECIMAL, OTHERS, &[1, 0x41, 0x2A], Bytes(b"A");
+    MYSQL_TYPE_VARCHAR, OTHERS, &[1, 0x41, 0x2A], Bytes(b"A");
+    MYSQL_TYPE_BIT, OTHERS, &[1, 0x41, 0x2A], Bytes(b"A");
+    MYSQL_TYPE_NEWDECIMAL, OTHERS, &[1, 0x41, 0x2A], Bytes(b"A");
+    MYSQL_TYPE_GEOMETRY, OTHERS, &[1, 0x41, 0x2A], Bytes(b"A");
+    MYSQL_TYPE_VECTOR, OTHERS, &[1, 0x41, 0x2A], Bytes(b"A");
+    MYSQL_TYPE_JSON, OTHERS, &[1, 0x41, 0x2A], Bytes(b"A");
+    MYSQL_TYPE_BLOB, SIGNED, &[0, 0x2A], Bytes(b"");
+    MYSQL_TYPE_NEWDECIMAL, SIGNED, &[3, 0x31, 0x2E, 0x35, 0x2A], Bytes(b"1.5");
+};
+
 #[test]
-fn read_null_and_floats(rt: HostRuntime) {
-    let alloc = rt.alloc();
-    let null = (ColumnType::MYSQL_TYPE_NULL, SIGNED);
-    reads(&rt, alloc, null, b"*", b"*", Value::NULL);
-    let float = (ColumnType::MYSQL_TYPE_FLOAT, SIGNED);
-    let one = Value::Float(1065353216);
-    reads(&rt, alloc, float, b"\x00\x00\x80\x3F*", b"*", one);
-    let double = (ColumnType::MYSQL_TYPE_DOUBLE, SIGNED);
-    let least = Value::Double(1);
-    let input = b"\x01\x00\x00\x00\x00\x00\x00\x00*";
-    reads(&rt, alloc, double, input, b"*", least);
-}
-
-// Dates, and after them the byte 42.
-const DATES: &[(ColumnType, &[u8], DateFields)] = &[
-    (
-        ColumnType::MYSQL_TYPE_DATETIME,
-        &[0, 0x2A],
-        (0, 0, 0, 0, 0, 0, 0),
-    ),
-    (
-        ColumnType::MYSQL_TYPE_DATETIME,
-        &[5, 0xE3, 7, 0x0B, 0x1B, 0xFF, 0x2A],
-        (2019, 11, 27, 0, 0, 0, 0),
-    ),
-    (
-        ColumnType::MYSQL_TYPE_TIMESTAMP,
-        &[11, 1, 2, 3, 4, 5, 6, 7, 8, 9, 10, 11, 0x2A],
-        (513, 3, 4, 5, 6, 7, 185207048),
-    ),
-    (
-        ColumnType::MYSQL_TYPE_DATE,
-        &[12, 1, 2, 3, 4, 5, 6, 7, 8, 9, 10, 11, 12, 0x2A],
-        (513, 3, 4, 5, 6, 7, 0),
-    ),
-    (
-        ColumnType::MYSQL_TYPE_NEWDATE,
-        &[3, 1, 2, 3, 0x2A],
-        (0, 0, 0, 0, 0, 0, 0),
-    ),
-];
-
-// Times, and after them the byte 42.
-const TIMES: &[(ColumnType, &[u8], TimeFields)] = &[
-    (
-        ColumnType::MYSQL_TYPE_TIME,
-        &[10, 2, 1, 0, 0, 0, 2, 3, 4, 9, 9, 0x2A],
-        (false, 1, 2, 3, 4, 0),
-    ),
-    (
-        ColumnType::MYSQL_TYPE_TIME,
-        &[12, 1, 2, 3, 4, 5, 6, 7, 8, 9, 10, 11, 12, 0x2A],
-        (true, 84148994, 6, 7, 8, 202050057),
-    ),
-    (
-        ColumnType::MYSQL_TYPE_TIME,
-        &[7, 1, 2, 3, 4, 5, 6, 7, 0x2A],
-        (false, 0, 0, 0, 0, 0),
-    ),
-];
-
-#[test]
-fn read_dates_and_times(rt: HostRuntime) {
-    let alloc = rt.alloc();
-    for (column, input, fields) in DATES {
-        reads(
-            &rt,
-            alloc,
-            (*column, SIGNED),
-            *input,
-            &[0x2A],
-            date(*fields),
-        );
-    }
-    for (column, input, fields) in TIMES {
-        reads(
-            &rt,
-            alloc,
-            (*column, SIGNED),
-            *input,
-            &[0x2A],
-            time(*fields),
-        );
+fn values_that_are_read(rt: HostRuntime) {
+    for (column, flags, input, plain) in READ {
+        let value = value(&rt, rt.alloc(), *plain);
+        reads(&rt, rt.alloc(), (*column, *flags), *input, &value);
     }
 }
 
-const UNSUPPORTED: &[ColumnType] = &[
-    ColumnType::MYSQL_TYPE_TIMESTAMP2,
-    ColumnType::MYSQL_TYPE_DATETIME2,
-    ColumnType::MYSQL_TYPE_TIME2,
-    ColumnType::MYSQL_TYPE_TYPED_ARRAY,
-    ColumnType::MYSQL_TYPE_UNKNOWN,
-];
-
-#[test]
-fn types_that_are_not_read(rt: HostRuntime) {
-    for column in UNSUPPORTED {
-        let error = WireError::UnsupportedColumn(*column);
-        refuses(&rt, rt.alloc(), (*column, SIGNED), b"\x01\x02", error);
-        let error = WireError::UnsupportedColumn(*column);
-        refuses(&rt, rt.alloc(), (*column, SIGNED), b"", error);
-    }
+// The column refuses the bytes, and leaves them.
+fn refuses(rt: &impl Abort, alloc: Global, column: ColumnType, input: &[u8], error: &WireError) {
+    let mut buf = ParseBuf(input);
+    let refusal = read(alloc, (column, SIGNED), &mut buf).err();
+    same_in(rt, refusal.as_ref(), Some(error), &column);
+    same_in(rt, buf.0, input, &column);
 }
 
-// Bytes that end too early.
-const TOO_SHORT: &[(ColumnType, &[u8])] = &[
-    (ColumnType::MYSQL_TYPE_STRING, &[2, 1]),
-    (ColumnType::MYSQL_TYPE_BLOB, &[252, 1]),
-    (ColumnType::MYSQL_TYPE_BLOB, &[253, 1, 0]),
-    (
-        ColumnType::MYSQL_TYPE_BLOB,
-        &[254, 255, 255, 255, 255, 255, 255, 255, 255],
-    ),
-    (ColumnType::MYSQL_TYPE_FLOAT, &[1, 2, 3]),
-    (ColumnType::MYSQL_TYPE_DOUBLE, &[1, 2, 3, 4, 5, 6, 7]),
-    (ColumnType::MYSQL_TYPE_DATETIME, &[]),
-    (ColumnType::MYSQL_TYPE_DATETIME, &[4, 0xE3]),
-    (ColumnType::MYSQL_TYPE_TIME, &[8, 1, 2, 3, 4, 5, 6, 7]),
-];
-
-// Strings whose length begins with a byte that begins none.
-const BAD_LEADS: &[(ColumnType, &[u8], u8)] = &[
-    (ColumnType::MYSQL_TYPE_BLOB, &[0xFB], 251),
-    (ColumnType::MYSQL_TYPE_JSON, &[0xFF, 1], 255),
-];
+// Values that end too early, lengths whose first byte begins none, and types that are not read.
+const REFUSED: &[(ColumnType, &[u8], WireError)] = columns! {
+    MYSQL_TYPE_STRING, &[2, 1], UnexpectedEof;
+    MYSQL_TYPE_BLOB, &[252, 1], UnexpectedEof;
+    MYSQL_TYPE_BLOB, &[253, 1, 0], UnexpectedEof;
+    MYSQL_TYPE_BLOB, &[254, 255, 255, 255, 255, 255, 255, 255, 255], UnexpectedEof;
+    MYSQL_TYPE_FLOAT, &[1, 2, 3], UnexpectedEof;
+    MYSQL_TYPE_DOUBLE, &[1, 2, 3, 4, 5, 6, 7], UnexpectedEof;
+    MYSQL_TYPE_DATETIME, &[], UnexpectedEof;
+    MYSQL_TYPE_DATETIME, &[4, 0xE3], UnexpectedEof;
+    MYSQL_TYPE_TIME, &[8, 1, 2, 3, 4, 5, 6, 7], UnexpectedEof;
+    MYSQL_TYPE_TINY, &[], UnexpectedEof;
+    MYSQL_TYPE_SHORT, &[0xFF], UnexpectedEof;
+    MYSQL_TYPE_YEAR, &[0x7F], UnexpectedEof;
+    MYSQL_TYPE_LONG, &[0, 0, 0x80], UnexpectedEof;
+    MYSQL_TYPE_INT24, &[0, 0, 0x80], UnexpectedEof;
+    MYSQL_TYPE_LONGLONG, &[255, 255, 255, 255, 255, 255, 0x7F], UnexpectedEof;
+    MYSQL_TYPE_BLOB, &[0xFB], BadLengthLead(251);
+    MYSQL_TYPE_JSON, &[0xFF, 1], BadLengthLead(255);
+    MYSQL_TYPE_TIMESTAMP2, &[1, 2], UnsupportedColumn(ColumnType::MYSQL_TYPE_TIMESTAMP2);
+    MYSQL_TYPE_DATETIME2, &[1, 2], UnsupportedColumn(ColumnType::MYSQL_TYPE_DATETIME2);
+    MYSQL_TYPE_TIME2, &[1, 2], UnsupportedColumn(ColumnType::MYSQL_TYPE_TIME2);
+    MYSQL_TYPE_TYPED_ARRAY, &[1, 2], UnsupportedColumn(ColumnType::MYSQL_TYPE_TYPED_ARRAY);
+    MYSQL_TYPE_UNKNOWN, &[1, 2], UnsupportedColumn(ColumnType::MYSQL_TYPE_UNKNOWN);
+    MYSQL_TYPE_TIMESTAMP2, &[], UnsupportedColumn(ColumnType::MYSQL_TYPE_TIMESTAMP2);
+};
 
 #[test]
 fn refused_values_leave_the_buffer(rt: HostRuntime) {
-    let alloc = rt.alloc();
-    for (column, input) in TOO_SHORT {
-        let error = WireError::UnexpectedEof;
-        refuses(&rt, alloc, (*column, SIGNED), *input, error);
-    }
-    for (column, input, lead) in BAD_LEADS {
-        let error = WireError::BadLengthLead(*lead);
-        refuses(&rt, alloc, (*column, SIGNED), *input, error);
-    }
-}
-
-const STRINGS: &[ColumnType] = &[
-    ColumnType::MYSQL_TYPE_STRING,
-    ColumnType::MYSQL_TYPE_VAR_STRING,
-    ColumnType::MYSQL_TYPE_BLOB,
-    ColumnType::MYSQL_TYPE_TINY_BLOB,
-    ColumnType::MYSQL_TYPE_MEDIUM_BLOB,
-    ColumnType::MYSQL_TYPE_LONG_BLOB,
-    ColumnType::MYSQL_TYPE_SET,
-    ColumnType::MYSQL_TYPE_ENUM,
-    ColumnType::MYSQL_TYPE_DECIMAL,
-    ColumnType::MYSQL_TYPE_VARCHAR,
-    ColumnType::MYSQL_TYPE_BIT,
-    ColumnType::MYSQL_TYPE_NEWDECIMAL,
-    ColumnType::MYSQL_TYPE_GEOMETRY,
-    ColumnType::MYSQL_TYPE_VECTOR,
-    ColumnType::MYSQL_TYPE_JSON,
-];
-
-#[test]
-fn types_that_are_read_as_strings(rt: HostRuntime) {
-    for column in STRINGS {
-        let input = [1, 0x41, 0x2A];
-        let value = bytes(&rt, rt.alloc(), b"A");
-        reads(&rt, rt.alloc(), (*column, UNSIGNED), &input, &[0x2A], value);
-    }
-}
-
-// Strings, and after them the byte 42.
-const TEXTS: &[(ColumnType, &[u8], &[u8])] = &[
-    (ColumnType::MYSQL_TYPE_BLOB, &[0, 0x2A], b""),
-    (
-        ColumnType::MYSQL_TYPE_NEWDECIMAL,
-        &[3, 0x31, 0x2E, 0x35, 0x2A],
-        b"1.5",
-    ),
-];
-
-#[test]
-fn read_strings(rt: HostRuntime) {
-    for (column, input, text) in TEXTS {
-        let value = bytes(&rt, rt.alloc(), *text);
-        reads(&rt, rt.alloc(), (*column, SIGNED), *input, &[0x2A], value);
+    for (column, input, error) in REFUSED {
+        refuses(&rt, rt.alloc(), *column, *input, error);
     }
 }

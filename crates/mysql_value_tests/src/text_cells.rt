@@ -5,20 +5,14 @@ use mysql_wire_part::{MyDeserialize, ParseBuf, WireError};
 use std::alloc::Global;
 use std::process::Abort;
 
-// The value of a cell, where None is NULL.
-fn value_of(rt: &impl Abort, alloc: Global, cell: Option<&[u8]>) -> Value {
-    match cell {
-        Some(text) => bytes(rt, alloc, text),
-        None => Value::NULL,
+// The cells are these, where None is NULL.
+fn are_cells(rt: &impl Abort, alloc: Global, found: &[Value], cells: &[Option<&[u8]>]) {
+    for (value, cell) in found.iter().zip(cells) {
+        match cell {
+            Some(text) => same_in(rt, value, &bytes(rt, alloc, *text), &cells),
+            None => same_in(rt, value, &Value::NULL, &cells),
+        }
     }
-}
-
-fn values(rt: &impl Abort, alloc: Global, cells: &[Option<&[u8]>]) -> Vec<Value> {
-    let mut values = Vec::new(alloc);
-    for cell in cells {
-        answer_of(rt, values.push(value_of(rt, alloc, *cell)));
-    }
-    values
 }
 
 // Bytes, the cells in front of them, and what is left.
@@ -45,80 +39,52 @@ const ROWS: &[(&[u8], &[Option<&[u8]>], &[u8])] = &[
 
 #[test]
 fn rows(rt: HostRuntime) {
-    let alloc = rt.alloc();
     for (input, cells, left) in ROWS {
         let mut buf = ParseBuf(*input);
-        let row = answer_of(&rt, read_text_cells(alloc, &mut buf, cells.len()));
-        let wanted = values(&rt, alloc, *cells);
-        same_in(&rt, row.as_slice(), wanted.as_slice(), &input);
-        same_in(&rt, buf.0, *left, &input);
+        let row = answer_of(&rt, read_text_cells(rt.alloc(), &mut buf, cells.len()));
+        same_in(&rt, (row.len(), buf.0), (cells.len(), *left), input);
+        are_cells(&rt, rt.alloc(), row.as_slice(), *cells);
     }
 }
 
 // So many cells are refused, and the bytes are left.
-fn refuses(rt: &impl Abort, alloc: Global, input: &[u8], count: usize, error: WireError) {
+fn refuses(rt: &impl Abort, alloc: Global, input: &[u8], count: usize, error: &WireError) {
     let mut buf = ParseBuf(input);
-    let case = (count, input);
     let refusal = read_text_cells(alloc, &mut buf, count).err();
-    same_in(rt, &refusal, &Some(error), &case);
-    same_in(rt, buf.0, input, &case);
+    same_in(rt, refusal.as_ref(), Some(error), &input);
+    same_in(rt, buf.0, input, &input);
 }
 
-// Bytes that end before so many cells do.
-const TOO_SHORT: &[(&[u8], usize)] = &[
+// Bytes that begin with fewer cells, and the refusal of the first that is none.
+const REFUSED: &[(&[u8], usize, WireError)] = &[
     // The second cell ends too early.
-    (&[1, 0x31, 2, 0x32], 2),
-    (&[], 1),
-    (&[0xFC, 1], 1),
-    (&[0xFD, 1, 0], 1),
-    (&[0xFE, 255, 255, 255, 255, 255, 255, 255, 255, 0x41], 1),
-    (&[0xFB], usize::MAX),
-    (&[0xFB, 0], usize::MAX),
+    (&[1, 0x31, 2, 0x32], 2, WireError::UnexpectedEof),
+    (&[], 1, WireError::UnexpectedEof),
+    (&[0xFC, 1], 1, WireError::UnexpectedEof),
+    (&[0xFD, 1, 0], 1, WireError::UnexpectedEof),
+    (
+        &[0xFE, 255, 255, 255, 255, 255, 255, 255, 255, 0x41],
+        1,
+        WireError::UnexpectedEof,
+    ),
+    (&[0xFB], usize::MAX, WireError::UnexpectedEof),
+    (&[0xFB, 0], usize::MAX, WireError::UnexpectedEof),
+    (&[0xFF], 1, WireError::BadLengthLead(255)),
+    (&[0xFB, 0xFF, 1], 3, WireError::BadLengthLead(255)),
 ];
 
 #[test]
 fn refused_rows_leave_the_buffer(rt: HostRuntime) {
-    let alloc = rt.alloc();
-    for (input, count) in TOO_SHORT {
-        refuses(&rt, alloc, *input, *count, WireError::UnexpectedEof);
+    for (input, count, error) in REFUSED {
+        refuses(&rt, rt.alloc(), *input, *count, error);
     }
-    refuses(&rt, alloc, &[0xFF], 1, WireError::BadLengthLead(255));
-    // The first cell that is refused decides.
-    let error = WireError::BadLengthLead(255);
-    refuses(&rt, alloc, &[0xFB, 0xFF, 1], 3, error);
-}
-
-// A cell, and after it the byte 9.
-const CELLS: &[(&[u8], Option<&[u8]>)] = &[
-    (&[0xFB, 9], None),
-    (&[0, 9], Some(b"")),
-    (&[2, 0x61, 0x62, 9], Some(b"ab")),
-];
-
-// The cell is read at the front of the bytes, and the byte 9 is left.
-fn reads_cell(rt: &impl Abort, alloc: Global, input: &[u8], cell: Value) {
-    let mut buf = ParseBuf(input);
-    let read = answer_of(
-        rt,
-        ValueDeserializer::<TextValue>::deserialize(alloc, (), &mut buf),
-    );
-    same_in(rt, &read.0, &cell, &input);
-    same_in(rt, buf.0, [9].as_slice(), &input);
 }
 
 #[test]
 fn single_cells(rt: HostRuntime) {
-    let alloc = rt.alloc();
-    for (input, cell) in CELLS {
-        reads_cell(&rt, alloc, *input, value_of(&rt, alloc, *cell));
-    }
-}
-
-#[test]
-fn refused_cell(rt: HostRuntime) {
-    let mut buf = ParseBuf(&[0xFF]);
-    let refused = ValueDeserializer::<TextValue>::deserialize(rt.alloc(), (), &mut buf);
-    same(&rt, &refused.err(), &Some(WireError::BadLengthLead(255)));
-    same(&rt, &buf.len(), &1);
-    assert!(rt; ValueDeserializer::<TextValue>::SIZE.is_none());
+    let mut buf = ParseBuf(b"\x02ab*");
+    let cell = ValueDeserializer::<TextValue>::deserialize(rt.alloc(), (), &mut buf);
+    same(&rt, &answer_of(&rt, cell).0, &bytes(&rt, rt.alloc(), b"ab"));
+    same(&rt, buf.0, b"*".as_slice());
+    assert!(rt; ValueDeserializer::<TextValue>::deserialize(rt.alloc(), (), &mut buf).is_err());
 }

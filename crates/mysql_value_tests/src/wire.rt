@@ -1,209 +1,203 @@
 //! The buffer: integers of each width, and length-encoded strings.
-use crate::shared::{LENGTHS, answer_of, same_bytes_in, same_in, string_and_form};
+use crate::shared::{answer_of, each, same, same_in};
 use mysql_wire_part::{ParseBuf, WireError, fill_lenenc_str, lenenc_str_len, put_lenenc_str};
 use std::alloc::Global;
-use std::fmt::Debug;
 use std::process::Abort;
 
-// What each of the eight calls answers for the bytes, widened, and how many bytes it leaves.
-fn integers(bytes: &[u8]) -> [(Option<i128>, usize); 8] {
-    let mut bufs = [ParseBuf(bytes); 8];
-    let answers = [
-        bufs[0].checked_eat_u8().map(i128::from),
-        bufs[1].checked_eat_i8().map(i128::from),
-        bufs[2].checked_eat_u16_le().map(i128::from),
-        bufs[3].checked_eat_i16_le().map(i128::from),
-        bufs[4].checked_eat_u32_le().map(i128::from),
-        bufs[5].checked_eat_i32_le().map(i128::from),
-        bufs[6].checked_eat_u64_le().map(i128::from),
-        bufs[7].checked_eat_i64_le().map(i128::from),
-    ];
-    let mut table = [(None, 0); 8];
-    for i in 0..8 {
-        table[i] = (answers[i], bufs[i].len());
-    }
-    table
+// What the eight calls answer one after another, widened.
+fn integers(bytes: &[u8]) -> [Option<i128>; 8] {
+    let mut buf = ParseBuf(bytes);
+    [
+        buf.checked_eat_u8().map(i128::from),
+        buf.checked_eat_i8().map(i128::from),
+        buf.checked_eat_u16_le().map(i128::from),
+        buf.checked_eat_i16_le().map(i128::from),
+        buf.checked_eat_u32_le().map(i128::from),
+        buf.checked_eat_i32_le().map(i128::from),
+        buf.checked_eat_u64_le().map(i128::from),
+        buf.checked_eat_i64_le().map(i128::from),
+    ]
 }
 
-// Bytes, and the integers of each width that they begin with.
-const INTEGERS: &[([u8; 8], [i128; 8])] = &[
+// Bytes, and the integers that they begin with.
+const INTEGERS: &[(&[u8], [Option<i128>; 8])] = &[
     (
-        [0xFE, 0xFF, 0xFF, 0xFF, 0xFF, 0xFF, 0xFF, 0x7F],
+        b"\xFE\xFE\xFE\xFF\xFE\xFF\xFE\xFF\xFF\xFF\xFE\xFF\xFF\xFF\xFE\xFF\xFF\xFF\xFF\xFF\xFF\x7F\xFE\xFF\xFF\xFF\xFF\xFF\xFF\x7F",
         [
-            254,
-            -2,
-            65534,
-            -2,
-            4294967294,
-            -2,
-            9223372036854775806,
-            9223372036854775806,
+            Some(254),
+            Some(-2),
+            Some(65534),
+            Some(-2),
+            Some(4294967294),
+            Some(-2),
+            Some(9223372036854775806),
+            Some(9223372036854775806),
         ],
     ),
     (
-        [0x01, 0x80, 0x00, 0x80, 0x00, 0x00, 0x00, 0x80],
+        b"\x01\x01\x01\x80\x01\x80\x01\x80\x00\x80\x01\x80\x00\x80\x01\x80\x00\x80\x00\x00\x00\x80\x01\x80\x00\x80\x00\x00\x00\x80",
         [
-            1,
-            1,
-            32769,
-            -32767,
-            2147516417,
-            -2147450879,
-            9223372039002292225,
-            -9223372034707259391,
+            Some(1),
+            Some(1),
+            Some(32769),
+            Some(-32767),
+            Some(2147516417),
+            Some(-2147450879),
+            Some(9223372039002292225),
+            Some(-9223372034707259391),
         ],
     ),
-    ([0, 0, 0, 0, 0, 0, 0, 0], [0, 0, 0, 0, 0, 0, 0, 0]),
+    // Too few bytes for the rest.
+    (b"", [None; 8]),
+    (b"\x01", [Some(1), None, None, None, None, None, None, None]),
+    (
+        b"\x01\x02\x03",
+        [Some(1), Some(2), None, None, None, None, None, None],
+    ),
+    (
+        b"\x00\x00\x00\x00\x00\x00\x01\x02\x03",
+        [Some(0), Some(0), Some(0), Some(0), None, None, None, None],
+    ),
+    (
+        b"\x00\x00\x00\x00\x00\x00\x01\x00\x00\x00\x02\x00\x00\x00\x03\x00\x00\x00\x00\x00\x00",
+        [
+            Some(0),
+            Some(0),
+            Some(0),
+            Some(0),
+            Some(1),
+            Some(2),
+            None,
+            None,
+        ],
+    ),
 ];
 
 #[test]
 fn integers_of_each_width(rt: HostRuntime) {
-    for (bytes, numbers) in INTEGERS {
-        let found = integers(bytes);
-        for i in 0..8 {
-            let width = 1 << (i / 2);
-            same_in(
-                &rt,
-                &found[i],
-                &(Some(numbers[i]), 8 - width),
-                &(&i, &bytes),
-            );
-        }
-    }
+    each(&rt, INTEGERS, integers);
 }
 
-// Bytes, and how many of the calls they are enough for.
-const TOO_FEW: &[(&[u8], usize)] = &[
-    (&[], 0),
-    (&[1], 2),
-    (&[1, 2, 3], 4),
-    (&[1, 2, 3, 4, 5, 6, 7], 6),
+// So many bytes are wanted of seven, these are handed out, and so many are left.
+const STRETCHES: &[(usize, (Option<&[u8]>, usize))] = &[
+    (8, (None, 7)),
+    (usize::MAX, (None, 7)),
+    (3, (Some(&[1, 2, 3]), 4)),
+    (7, (Some(&[1, 2, 3, 4, 5, 6, 7]), 0)),
+    (0, (Some(&[]), 7)),
 ];
 
-#[test]
-fn too_few_bytes(rt: HostRuntime) {
-    for (bytes, answered) in TOO_FEW {
-        let found = integers(*bytes);
-        for i in 0..8 {
-            if i < *answered {
-                same_in(&rt, &found[i].0.is_some(), &true, &(&i, &bytes));
-            } else {
-                same_in(&rt, &found[i], &(None, bytes.len()), &(&i, &bytes));
-            }
-        }
+// What is handed out of the front of seven bytes, and how many are left.
+fn stretch(count: usize) -> (Option<&'static [u8]>, usize) {
+    let mut buf = ParseBuf(&[1, 2, 3, 4, 5, 6, 7]);
+    match buf.checked_eat_buf(count) {
+        Some(front) => (Some(front.0), buf.len()),
+        None => (None, buf.len()),
     }
 }
-
-// So many bytes are wanted of seven, and these are handed out.
-const STRETCHES: &[(usize, Option<&[u8]>)] = &[
-    (8, None),
-    (usize::MAX, None),
-    (3, Some(&[1, 2, 3])),
-    (4, Some(&[4, 5, 6, 7])),
-    (0, Some(&[])),
-];
 
 #[test]
 fn stretches_of_bytes(rt: HostRuntime) {
-    let mut buf = ParseBuf(&[1, 2, 3, 4, 5, 6, 7]);
-    for (count, wanted) in STRETCHES {
-        let found = buf.checked_eat_buf(*count).map(|front| front.0);
-        same_in(&rt, &found, wanted, count);
-    }
-    assert!(rt; buf.is_empty());
+    each(&rt, STRETCHES, stretch);
 }
 
-// The string is written after what stands in the buffer, as the form, whose length it knows; and
-// once more over that.
-fn is_written(rt: &impl Abort, alloc: Global, text: &[u8], form: &[u8]) {
-    let len = text.len();
-    let mut buf = vec![in alloc; 7].expect(rt, "no memory");
-    // Only this call itself says how long the bytes are, which the calls below need.
-    put_lenenc_str(&mut buf, text).expect(rt, "no memory");
-    same_in(rt, &buf[0], &7, &len);
-    same_bytes_in(rt, &buf[1..], form, &len);
-    same_in(rt, &lenenc_str_len(text), &(form.len() as u64), &len);
-    buf[1..].fill(0);
-    fill_lenenc_str(&mut buf[1..], text);
-    same_bytes_in(rt, &buf[1..], form, &len);
-}
-
-#[test]
-fn written_lengths(rt: HostRuntime) {
-    let alloc = rt.alloc();
-    for (len, head) in LENGTHS {
-        let (text, form) = string_and_form(&rt, alloc, *len, *head);
-        is_written(&rt, alloc, &text, &form);
-    }
-}
-
-// The string is read at the front of its form, and what is after it is left.
-fn is_read<C: Debug>(rt: &impl Abort, text: &[u8], form: &[u8], left: &[u8], case: &C) {
-    let mut buf = ParseBuf(form);
-    match buf.eat_lenenc_str() {
-        Ok(read) => same_bytes_in(rt, read, text, case),
-        Err(error) => assert!(rt; false, "of {case:?}: {error}"),
-    }
-    same_in(rt, buf.0, left, case);
-}
-
-#[test]
-fn read_lengths(rt: HostRuntime) {
-    let alloc = rt.alloc();
-    for (len, head) in LENGTHS {
-        let (text, mut form) = string_and_form(&rt, alloc, *len, *head);
-        answer_of(&rt, form.push(0x2A));
-        is_read(&rt, &text, &form, &[0x2A], len);
-    }
-}
-
-// The string of one letter, and after it the byte 42.
-const LONGER_SPELLINGS: &[&[u8]] = &[
-    &[0xFC, 1, 0, b'A', 0x2A],
-    &[0xFD, 1, 0, 0, b'A', 0x2A],
-    &[0xFE, 1, 0, 0, 0, 0, 0, 0, 0, b'A', 0x2A],
-    &[1, b'A', 0x2A],
+// Lengths of strings, and how they are written.
+const LENGTHS: &[(usize, &[u8])] = &[
+    (0, &[0]),
+    (1, &[1]),
+    (250, &[0xFA]),
+    (251, &[0xFC, 0xFB, 0]),
+    (65535, &[0xFC, 0xFF, 0xFF]),
+    (65536, &[0xFD, 0, 0, 1]),
+    (16777215, &[0xFD, 0xFF, 0xFF, 0xFF]),
+    (16777216, &[0xFE, 0, 0, 0, 1, 0, 0, 0, 0]),
 ];
 
+// The string is written after what stands in the buffer, with this head, and read from there.
+fn is_written(rt: &impl Abort, alloc: Global, text: &[u8], head: &[u8]) {
+    let mut buf = answer_of(rt, Vec::from_slice(alloc, head));
+    answer_of(rt, put_lenenc_str(&mut buf, text));
+    let mut rest = ParseBuf(buf.as_slice());
+    let is_front = rest.checked_eat_buf(head.len()).is_some();
+    let form = rest.0;
+    let is_read = rest.eat_lenenc_str() == Ok(text);
+    let is_form = form.strip_prefix(head) == Some(text);
+    let len = form.len() as u64;
+    same_in(
+        rt,
+        (is_front, is_form, is_read, lenenc_str_len(text)),
+        (true, true, true, len),
+        &head,
+    );
+}
+
 #[test]
-fn longer_spellings_than_needed(rt: HostRuntime) {
-    for bytes in LONGER_SPELLINGS {
-        is_read(&rt, b"A", *bytes, &[0x2A], bytes);
+fn lengths(rt: HostRuntime) {
+    for (len, head) in LENGTHS {
+        let text = answer_of(&rt, vec![in rt.alloc(); b'a'; *len]);
+        is_written(&rt, rt.alloc(), text.as_slice(), *head);
     }
 }
 
-// Bytes that end before their length or their string does.
-const TOO_SHORT: &[&[u8]] = &[
-    &[],
-    &[1],
-    &[0xFA, 1, 2],
-    &[0xFC, 0],
-    &[0xFC, 1, 0],
-    &[0xFD, 0, 0],
-    &[0xFD, 2, 0, 0, 1],
-    &[0xFE, 0, 0, 0, 0, 0, 0, 0],
-    &[0xFE, 0, 0, 0, 0, 0, 0, 0, 0x80, 1],
-    &[0xFE, 255, 255, 255, 255, 255, 255, 255, 255, 1],
-];
+#[test]
+fn a_string_in_a_room(rt: HostRuntime) {
+    let mut room = Vec::new(rt.alloc());
+    // Only this call itself says how long the bytes are, which the call below needs.
+    put_lenenc_str(&mut room, b"abc").expect(&rt, "no memory");
+    room.fill(0);
+    fill_lenenc_str(&mut room, b"abc");
+    same(&rt, room.as_slice(), b"\x03abc".as_slice());
+}
 
-// No string is read, and the bytes are left.
-fn is_refused(rt: &impl Abort, bytes: &[u8], error: WireError) {
+// What is read of the front of the bytes, and what is left.
+fn eaten(bytes: &'static [u8]) -> (Option<&'static [u8]>, &'static [u8]) {
     let mut buf = ParseBuf(bytes);
-    let read = buf.eat_lenenc_str();
-    same_in(rt, &read, &Err(error), &bytes);
-    same_in(rt, buf.0, bytes, &bytes);
+    let read = buf.eat_lenenc_str().ok();
+    (read, buf.0)
 }
 
-#[test]
-fn refused_strings_leave_the_buffer(rt: HostRuntime) {
-    for bytes in TOO_SHORT {
-        is_refused(&rt, *bytes, WireError::UnexpectedEof);
-    }
-}
+// Bytes, the string in front of them, and what is left.
+const STRINGS: &[(&[u8], (Option<&[u8]>, &[u8]))] = &[
+    // Longer spellings than needed.
+    (&[0xFC, 1, 0, b'A', 0x2A], (Some(b"A"), b"*")),
+    (&[0xFD, 1, 0, 0, b'A', 0x2A], (Some(b"A"), b"*")),
+    (
+        &[0xFE, 1, 0, 0, 0, 0, 0, 0, 0, b'A', 0x2A],
+        (Some(b"A"), b"*"),
+    ),
+    (&[1, b'A', 0x2A], (Some(b"A"), b"*")),
+    (&[], (None, &[])),
+    (&[1], (None, &[1])),
+    (&[0xFA, 1, 2], (None, &[0xFA, 1, 2])),
+    (&[0xFC, 0], (None, &[0xFC, 0])),
+    (&[0xFC, 1, 0], (None, &[0xFC, 1, 0])),
+    (&[0xFD, 0, 0], (None, &[0xFD, 0, 0])),
+    (&[0xFD, 2, 0, 0, 1], (None, &[0xFD, 2, 0, 0, 1])),
+    (
+        &[0xFE, 0, 0, 0, 0, 0, 0, 0],
+        (None, &[0xFE, 0, 0, 0, 0, 0, 0, 0]),
+    ),
+    (
+        &[0xFE, 0, 0, 0, 0, 0, 0, 0, 0x80, 1],
+        (None, &[0xFE, 0, 0, 0, 0, 0, 0, 0, 0x80, 1]),
+    ),
+    (
+        &[0xFE, 255, 255, 255, 255, 255, 255, 255, 255, 1],
+        (None, &[0xFE, 255, 255, 255, 255, 255, 255, 255, 255, 1]),
+    ),
+];
 
 #[test]
-fn refused_leads_leave_the_buffer(rt: HostRuntime) {
+fn strings(rt: HostRuntime) {
+    each(&rt, STRINGS, eaten);
+}
+
+// No string begins so.
+#[test]
+fn refused_leads(rt: HostRuntime) {
     for lead in [0xFB, 0xFF] {
-        is_refused(&rt, &[lead, 1, 2], WireError::BadLengthLead(lead));
+        let bytes = [lead, 1, 2];
+        let refusal = ParseBuf(&bytes).eat_lenenc_str();
+        same(&rt, &refusal, &Err(WireError::BadLengthLead(lead)));
     }
 }
