@@ -1,6 +1,6 @@
 //! Conversions and their way back.
 use crate::inputs::{Plain, bytes};
-use crate::outcome::{Case, Is, Outcome, holds, judged};
+use crate::outcome::{Case, Is, Outcome, cases, holds, judged, row};
 use mysql_values::value::Value;
 use mysql_values::value::convert::{
     FromValue, IntoValue, OptionIr2, ParseIr, ParseIrOpt, ValueIr, from_value, from_value_opt,
@@ -9,29 +9,84 @@ use std::alloc::Global;
 use std::borrow::{CowSlice, CowStr};
 use std::time::Duration;
 
+/// What is handed back.
+#[derive(Clone, Copy)]
+enum Source {
+    Great,
+    Array,
+    BorrowedSlice,
+    BorrowedText,
+    Present,
+    String,
+    Vector,
+    OwnedText,
+    OwnedSlice,
+    Intermediate,
+    NumbersAndNothing,
+    GreatRollback,
+    KeptText,
+    Numbers,
+}
+
+const SOURCES: &[(&str, Source)] = cases! {
+    "into_value of a great u128" => Source::Great;
+    "into_value of [u8; 3]" => Source::Array;
+    "into_value of borrowed CowSlice" => Source::BorrowedSlice;
+    "into_value of borrowed CowStr" => Source::BorrowedText;
+    "into_value of Some array" => Source::Present;
+    "into_value of String" => Source::String;
+    "into_value of Vec<u8>" => Source::Vector;
+    "into_value of owned CowStr" => Source::OwnedText;
+    "into_value of owned CowSlice" => Source::OwnedSlice;
+    "into_value of ValueIr" => Source::Intermediate;
+    "into_value of numbers and nothing" => Source::NumbersAndNothing;
+    "rollback of a great u128" => Source::GreatRollback;
+    "rollback of a kept text" => Source::KeptText;
+    "rollback of numbers" => Source::Numbers;
+};
+
+/// What bytes or values are converted to.
+#[derive(Clone, Copy)]
+enum Target {
+    U8,
+    I8,
+    I128,
+    Bool,
+    Duration,
+    Array,
+    Optional,
+    String,
+    CowText,
+    Vector,
+    CowSlice,
+    Value,
+    WhatConverts,
+    Nothing,
+}
+
+const TARGETS: &[(&str, Target)] = cases! {
+    "conversion to u8" => Target::U8;
+    "conversion to i8" => Target::I8;
+    "conversion to i128" => Target::I128;
+    "conversion to bool" => Target::Bool;
+    "conversion to Duration" => Target::Duration;
+    "conversion to [u8; 2]" => Target::Array;
+    "conversion to Option<u8>" => Target::Optional;
+    "conversion to String" => Target::String;
+    "conversion to CowStr" => Target::CowText;
+    "conversion to Vec<u8>" => Target::Vector;
+    "conversion to CowSlice" => Target::CowSlice;
+    "conversion to Value" => Target::Value;
+    "from_value of what converts" => Target::WhatConverts;
+    "from_value_opt of what doesn't convert" => Target::Nothing;
+};
+
 /// How the call of this name went, if it stands here.
 pub(crate) fn case(alloc: Global, name: &str) -> Option<Case> {
-    if let Some(source) = name.strip_prefix("into_value of ") {
-        return match handed_back(alloc, source) {
-            Some(outcome) => Some(Ok(outcome)),
-            None => handed_back_as_it_was(alloc, source),
-        };
+    if let Some(source) = row(SOURCES, name) {
+        return Some(handed_back(alloc, source));
     }
-    if let Some(target) = name.strip_prefix("conversion to ") {
-        return converted(alloc, target);
-    }
-    let case = match name {
-        "rollback of a great u128" => Ok(judged(
-            ParseIrOpt::Ready(GREAT).rollback(alloc),
-            GREAT_TEXT,
-        )),
-        "rollback of a kept text" => kept_text(alloc),
-        "rollback of numbers" => holds(are_handed_back(alloc)),
-        "from_value of what converts" => holds(are_converted()),
-        "from_value_opt of what doesn't convert" => holds(are_refused()),
-        _ => return None,
-    };
-    Some(case)
+    Some(converted(alloc, row(TARGETS, name)?))
 }
 
 const GREAT: u128 = 18446744073709551616;
@@ -58,30 +113,26 @@ fn gives<T: IntoValue>(alloc: Global, source: T, wanted: Result<Plain<'_>, &str>
     judged(source.into_value(alloc), wanted)
 }
 
-fn handed_back(alloc: Global, source: &str) -> Option<Outcome> {
-    let outcome = match source {
-        "a great u128" => gives(alloc, ParseIrOpt::Ready(GREAT), GREAT_TEXT),
-        "[u8; 3]" => gives(alloc, *b"abc", ABC),
-        "borrowed CowSlice" => gives(alloc, CowSlice::Borrowed(b"abc"), ABC),
-        "borrowed CowStr" => gives(alloc, CowStr::Borrowed("abc"), ABC),
-        "Some array" => gives(alloc, OptionIr2::<[u8; 3]>::Some(*b"abc"), ABC),
-        _ => return None,
-    };
-    Some(outcome)
-}
-
-/// A source that keeps its bytes is handed back without memory.
-fn handed_back_as_it_was(alloc: Global, source: &str) -> Option<Case> {
-    let case = match source {
-        "String" => text_given(alloc),
-        "Vec<u8>" => vector_given(alloc),
-        "owned CowStr" => owned_text_given(alloc),
-        "owned CowSlice" => owned_slice_given(alloc),
-        "ValueIr" => value_given(alloc),
-        "numbers and nothing" => holds(numbers_are_given(alloc)),
-        _ => return None,
-    };
-    Some(case)
+fn handed_back(alloc: Global, source: Source) -> Case {
+    match source {
+        Source::Great => Ok(gives(alloc, ParseIrOpt::Ready(GREAT), GREAT_TEXT)),
+        Source::Array => Ok(gives(alloc, *b"abc", ABC)),
+        Source::BorrowedSlice => Ok(gives(alloc, CowSlice::Borrowed(b"abc"), ABC)),
+        Source::BorrowedText => Ok(gives(alloc, CowStr::Borrowed("abc"), ABC)),
+        Source::Present => Ok(gives(alloc, OptionIr2::<[u8; 3]>::Some(*b"abc"), ABC)),
+        // What keeps its bytes is handed back without memory.
+        Source::String => text_given(alloc),
+        Source::Vector => vector_given(alloc),
+        Source::OwnedText => owned_text_given(alloc),
+        Source::OwnedSlice => owned_slice_given(alloc),
+        Source::Intermediate => value_given(alloc),
+        Source::NumbersAndNothing => holds(numbers_are_given(alloc)),
+        Source::GreatRollback => {
+            Ok(judged(ParseIrOpt::Ready(GREAT).rollback(alloc), GREAT_TEXT))
+        }
+        Source::KeptText => kept_text(alloc),
+        Source::Numbers => holds(are_handed_back(alloc)),
+    }
 }
 
 fn text_given(alloc: Global) -> Case {
@@ -120,27 +171,25 @@ fn numbers_are_given(alloc: Global) -> bool {
         && gives(alloc, ParseIrOpt::Ready(5u8), Ok(Plain::UInt(5))).is_right()
 }
 
-fn converted(alloc: Global, target: &str) -> Option<Case> {
-    let case = match target {
-        "u8" => converts(alloc, b"0000000255", &255u8),
-        "i8" => converts(alloc, b"-128", &-128i8),
-        "i128" => converts(
-            alloc,
-            b"-170141183460469231731687303715884105728",
-            &i128::MIN,
-        ),
-        "bool" => converts(alloc, b"1", &true),
-        "Duration" => converts(alloc, b"12:34:56", &Duration::from_secs(45296)),
-        "[u8; 2]" => converts_one_way(alloc, b"ab", b"ab"),
-        "Option<u8>" => converts(alloc, b"+7", &Some(7u8)),
-        "String" => text_converted(alloc),
-        "CowStr" => cow_text_converted(alloc),
-        "Vec<u8>" => bytes_converted(alloc),
-        "CowSlice" => cow_bytes_converted(alloc),
-        "Value" => value_converted(alloc),
-        _ => return None,
-    };
-    Some(case)
+const LEAST_I128: &[u8] = b"-170141183460469231731687303715884105728";
+
+fn converted(alloc: Global, target: Target) -> Case {
+    match target {
+        Target::U8 => converts(alloc, b"0000000255", &255u8),
+        Target::I8 => converts(alloc, b"-128", &-128i8),
+        Target::I128 => converts(alloc, LEAST_I128, &i128::MIN),
+        Target::Bool => converts(alloc, b"1", &true),
+        Target::Duration => converts(alloc, b"12:34:56", &Duration::from_secs(45296)),
+        Target::Array => converts_one_way(alloc, b"ab", b"ab"),
+        Target::Optional => converts(alloc, b"+7", &Some(7u8)),
+        Target::String => text_converted(alloc),
+        Target::CowText => cow_text_converted(alloc),
+        Target::Vector => bytes_converted(alloc),
+        Target::CowSlice => cow_bytes_converted(alloc),
+        Target::Value => value_converted(alloc),
+        Target::WhatConverts => holds(are_converted()),
+        Target::Nothing => holds(are_refused()),
+    }
 }
 
 /// The bytes convert to the target, directly and by the intermediate, which goes back to them.

@@ -1,6 +1,6 @@
 //! Copies: every `clone` that can be out of memory.
 use crate::inputs::{Given, Plain, bytes};
-use crate::outcome::{Case, copied, holds};
+use crate::outcome::{Case, cases, copied, holds, row};
 use mysql_params::named_params::ParsedNamedParams;
 use mysql_params::params::{MissingNamedParameterError, Params, ParamsConfusionError, ParamsError};
 use mysql_values::bytes::Bytes;
@@ -8,20 +8,47 @@ use mysql_values::value::Value;
 use mysql_values::value::convert::{FromValueError, ValueIr};
 use std::alloc::{AllocError, Global};
 
+/// What is copied.
+#[derive(Clone, Copy)]
+enum Source {
+    Bytes,
+    Value,
+    ConversionError,
+    Intermediate,
+    Parsed,
+    NamedParams,
+    PositionalParams,
+    Missing,
+    ParamsError,
+    NoBytes,
+}
+
+const SOURCES: &[(&str, Source)] = cases! {
+    "clone of Bytes" => Source::Bytes;
+    "clone of a value of bytes" => Source::Value;
+    "clone of FromValueError" => Source::ConversionError;
+    "clone of ValueIr" => Source::Intermediate;
+    "clone of ParsedNamedParams" => Source::Parsed;
+    "clone of named parameters" => Source::NamedParams;
+    "clone of positional parameters" => Source::PositionalParams;
+    "clone of MissingNamedParameterError" => Source::Missing;
+    "clone of ParamsError" => Source::ParamsError;
+    "clone of what holds no bytes" => Source::NoBytes;
+};
+
 /// How the call of this name went, if it stands here.
 pub(crate) fn case(alloc: Global, name: &str) -> Option<Case> {
-    let case = match name.strip_prefix("clone of ")? {
-        "Bytes" => copy_of_bytes(alloc),
-        "a value of bytes" => copy_of_value(alloc),
-        "FromValueError" => copy_of_conversion_error(alloc),
-        "ValueIr" => copy_of_intermediate(alloc),
-        "ParsedNamedParams" => copy_of_parsed(alloc),
-        "named parameters" => copy_of_params(alloc, NAMED),
-        "positional parameters" => copy_of_params(alloc, POSITIONAL),
-        "MissingNamedParameterError" => copy_of_missing(alloc),
-        "ParamsError" => copy_of_params_error(alloc),
-        "what holds no bytes" => holds(are_copied()),
-        _ => return None,
+    let case = match row(SOURCES, name)? {
+        Source::Bytes => copy_of_bytes(alloc),
+        Source::Value => copy_of_value(alloc),
+        Source::ConversionError => copy_of_conversion_error(alloc),
+        Source::Intermediate => copy_of_intermediate(alloc),
+        Source::Parsed => copy_of_parsed(alloc),
+        Source::NamedParams => copy_of_params(alloc, NAMED),
+        Source::PositionalParams => copy_of_params(alloc, POSITIONAL),
+        Source::Missing => copy_of_missing(alloc),
+        Source::ParamsError => copy_of_params_error(alloc),
+        Source::NoBytes => holds(are_copied()),
     };
     Some(case)
 }

@@ -1,19 +1,36 @@
 //! Fixed queries: `bind_named`, `bind_positional`, and both in a mode.
-use crate::outcome::{Case, Outcome, judged};
+use crate::outcome::{Case, Outcome, cases, judged, row};
 use mysql_params::fixed_query::{bind_named, bind_named_in, bind_positional, bind_positional_in};
 use std::alloc::{AllocError, Global};
 
+/// A call that binds a fixed query.
+#[derive(Clone, Copy)]
+enum Call {
+    ByName,
+    ByNameIn,
+    ByPosition,
+    WithoutPlaces,
+    ByPositionIn,
+}
+
+const CALLS: &[(&str, Call)] = cases! {
+    "bind_named of a text and a number" => Call::ByName;
+    "bind_named_in of a text without backslash escapes" => Call::ByNameIn;
+    "bind_positional of a text and a number" => Call::ByPosition;
+    "bind_positional of a query without places" => Call::WithoutPlaces;
+    "bind_positional_in of a text without backslash escapes" => Call::ByPositionIn;
+};
+
 /// How the call of this name went, if it stands here.
 pub(crate) fn case(alloc: Global, name: &str) -> Option<Case> {
-    let outcome = match name {
-        "bind_named of a text and a number" => by_name(alloc),
-        "bind_named_in of a text without backslash escapes" => by_name_in(alloc),
-        "bind_positional of a text and a number" => by_position(alloc),
-        "bind_positional of a query without places" => {
+    let outcome = match row(CALLS, name)? {
+        Call::ByName => by_name(alloc),
+        Call::ByNameIn => by_name_in(alloc),
+        Call::ByPosition => by_position(alloc),
+        Call::WithoutPlaces => {
             is_bound(bind_positional(alloc, b"SELECT '?'", &()), b"SELECT '?'")
         }
-        "bind_positional_in of a text without backslash escapes" => by_position_in(alloc),
-        _ => return None,
+        Call::ByPositionIn => by_position_in(alloc),
     };
     Some(Ok(outcome))
 }

@@ -1,6 +1,6 @@
 //! What makes parameters: `to_params`, `from_pairs`, `from_objects` and `to_named`.
 use crate::inputs::{Given, Plain};
-use crate::outcome::{Case, Outcome, holds, judged};
+use crate::outcome::{Case, Outcome, cases, holds, judged, row};
 use mysql_params::params::{Params, ToPairs, ToParams, ToParamsError};
 use mysql_values::value::convert::ToValue;
 use std::alloc::Global;
@@ -9,41 +9,111 @@ use std::time::Duration;
 /// A duration of more days than a `Time` has, in seconds.
 const TOO_LONG: u64 = 371085174374400;
 
+/// What makes parameters.
+#[derive(Clone, Copy)]
+enum Maker {
+    Pairs(&'static [(&'static str, u8)], Wanted),
+    PairOfText,
+    LongPair,
+    Objects,
+    RepeatedObject,
+    LongObject,
+    TupleOfPairs,
+    TwelvePairs,
+    RepeatedPair,
+    LongPairOfTuple,
+}
+
+const MAKERS: &[(&str, Maker)] = cases! {
+    "from_pairs of two names" => Maker::Pairs(&[("a", 1), ("b", 2)], ONE_AND_TWO);
+    "from_pairs of a text" => Maker::PairOfText;
+    "from_pairs of a repeated name" => Maker::Pairs(&[("a", 1), ("a", 2)], REPEATED);
+    "from_pairs of a duration that is too long" => Maker::LongPair;
+    "from_objects of two names" => Maker::Objects;
+    "from_objects of a repeated name" => Maker::RepeatedObject;
+    "from_objects of a duration that is too long" => Maker::LongObject;
+    "to_named of two pairs" => Maker::TupleOfPairs;
+    "to_named of twelve pairs" => Maker::TwelvePairs;
+    "to_named of a repeated name" => Maker::RepeatedPair;
+    "to_named of a duration that is too long" => Maker::LongPairOfTuple;
+};
+
 /// How the call of this name went, if it stands here.
 pub(crate) fn case(alloc: Global, name: &str) -> Option<Case> {
-    if let Some(arguments) = name.strip_prefix("to_params of ") {
-        return params_made(alloc, arguments);
+    if let Some(maker) = row(MAKERS, name) {
+        return Some(Ok(made(alloc, maker)));
     }
-    let outcome = match name {
-        "from_pairs of two names" => {
-            is_made(
-                Params::from_pairs(alloc, &[("a", 1u8), ("b", 2u8)]),
-                ONE_AND_TWO,
-            )
-        }
-        "from_pairs of a text" => {
-            is_made(Params::from_pairs(alloc, &[(b"a".as_slice(), "x")]), X_OF_A)
-        }
-        "from_pairs of a repeated name" => {
-            is_made(
-                Params::from_pairs(alloc, &[("a", 1u8), ("a", 2u8)]),
-                REPEATED,
-            )
-        }
-        "from_pairs of a duration that is too long" => long_pair(alloc),
-        "from_objects of two names" => objects_by_name(alloc),
-        "from_objects of a repeated name" => repeated_object(alloc),
-        "from_objects of a duration that is too long" => long_object_by_name(alloc),
-        "to_named of two pairs" => { is_made((("a", 1u8), ("b", "x")).to_named(alloc), ONE_AND_X) }
-        "to_named of twelve pairs" => twelve_pairs(alloc),
-        "to_named of a repeated name" => {
-            is_made((("a", 1u8), ("a", 2u8)).to_named(alloc), REPEATED)
-        }
-        "to_named of a duration that is too long" => long_pair_of_tuple(alloc),
-        _ => return None,
-    };
-    Some(Ok(outcome))
+    if let Some(len) = row(TUPLES, name) {
+        return Some(Ok(tuple(alloc, len)));
+    }
+    Some(params_made(alloc, row(ARGUMENTS, name)?))
 }
+
+const PAIR_OF_TEXT: &[(&[u8], &str)] = &[(b"a", "x")];
+
+const ONE_AND_TEXT: ((&str, u8), (&str, &str)) = (("a", 1), ("b", "x"));
+
+const TWO_OF_A: ((&str, u8), (&str, u8)) = (("a", 1), ("a", 2));
+
+/// The parameters that are made by name.
+fn made(alloc: Global, maker: Maker) -> Outcome {
+    match maker {
+        Maker::Pairs(pairs, wanted) => is_made(Params::from_pairs(alloc, pairs), wanted),
+        Maker::PairOfText => is_made(Params::from_pairs(alloc, PAIR_OF_TEXT), X_OF_A),
+        Maker::LongPair => long_pair(alloc),
+        Maker::Objects => objects_by_name(alloc),
+        Maker::RepeatedObject => repeated_object(alloc),
+        Maker::LongObject => long_object_by_name(alloc),
+        Maker::TupleOfPairs => is_made(ONE_AND_TEXT.to_named(alloc), ONE_AND_X),
+        Maker::TwelvePairs => is_made(TWELVE_PAIRS.to_named(alloc), TWELVE_NAMES),
+        Maker::RepeatedPair => is_made(TWO_OF_A.to_named(alloc), REPEATED),
+        Maker::LongPairOfTuple => long_pair_of_tuple(alloc),
+    }
+}
+
+/// Arguments that stand in no tuple.
+#[derive(Clone, Copy)]
+enum Arguments {
+    Numbers,
+    Texts,
+    Reference,
+    Objects,
+    Copied(Given<'static>),
+    Text,
+    Nothing,
+    LongDurations,
+    LongObject,
+    LongInTuple,
+}
+
+const ARGUMENTS: &[(&str, Arguments)] = cases! {
+    "to_params of numbers in a vector" => Arguments::Numbers;
+    "to_params of texts in a vector" => Arguments::Texts;
+    "to_params of a reference" => Arguments::Reference;
+    "to_params of objects" => Arguments::Objects;
+    "to_params of named parameters" => Arguments::Copied(ABC_OF_A);
+    "to_params of positional parameters" => Arguments::Copied(ABC);
+    "to_params of a text in a tuple" => Arguments::Text;
+    "to_params of nothing" => Arguments::Nothing;
+    "to_params of durations that are too long in a vector" => Arguments::LongDurations;
+    "to_params of an object that is too long" => Arguments::LongObject;
+    "to_params of a duration that is too long in a tuple" => Arguments::LongInTuple;
+};
+
+const TUPLES: &[(&str, usize)] = cases! {
+    "to_params of a tuple of 1" => 1;
+    "to_params of a tuple of 2" => 2;
+    "to_params of a tuple of 3" => 3;
+    "to_params of a tuple of 4" => 4;
+    "to_params of a tuple of 5" => 5;
+    "to_params of a tuple of 6" => 6;
+    "to_params of a tuple of 7" => 7;
+    "to_params of a tuple of 8" => 8;
+    "to_params of a tuple of 9" => 9;
+    "to_params of a tuple of 10" => 10;
+    "to_params of a tuple of 11" => 11;
+    "to_params of a tuple of 12" => 12;
+};
 
 /// The parameters, or how the refusal is shown.
 type Wanted = Result<Given<'static>, &'static str>;
@@ -98,36 +168,34 @@ fn counts<T: ToParams>(alloc: Global, arguments: &T, last: usize) -> Outcome {
     )
 }
 
-fn params_made(alloc: Global, arguments: &str) -> Option<Case> {
-    let case = match arguments {
-        "numbers in a vector" => vector(alloc),
-        "texts in a vector" => vector_of_texts(alloc),
-        "a reference" => reference(alloc),
-        "objects" => Ok(objects(alloc)),
-        "named parameters" => copied(alloc, ABC_OF_A),
-        "positional parameters" => copied(alloc, ABC),
-        "a text in a tuple" => Ok(makes(alloc, &("abc",), Ok(ABC))),
-        "nothing" => holds(nothing(alloc)),
-        "durations that are too long in a vector" => long_vector(alloc),
-        "an object that is too long" => Ok(long_object(alloc)),
-        "a duration that is too long in a tuple" => Ok(long_tuple(alloc)),
-        _ => return Some(Ok(tuple(alloc, arguments.strip_prefix("a tuple of ")?)?)),
-    };
-    Some(case)
+fn params_made(alloc: Global, arguments: Arguments) -> Case {
+    match arguments {
+        Arguments::Numbers => vector(alloc),
+        Arguments::Texts => vector_of_texts(alloc),
+        Arguments::Reference => reference(alloc),
+        Arguments::Objects => Ok(objects(alloc)),
+        Arguments::Copied(given) => copied(alloc, given),
+        Arguments::Text => Ok(makes(alloc, &TEXT, Ok(ABC))),
+        Arguments::Nothing => holds(nothing(alloc)),
+        Arguments::LongDurations => long_vector(alloc),
+        Arguments::LongObject => Ok(long_object(alloc)),
+        Arguments::LongInTuple => Ok(long_tuple(alloc)),
+    }
 }
 
-fn tuple(alloc: Global, len: &str) -> Option<Outcome> {
-    let outcome = match len {
-        "1" => counts(alloc, &(1u8,), 1),
-        "2" => counts(alloc, &(1u8, 2u8), 2),
-        "3" => counts(alloc, &(1u8, 2u8, 3u8), 3),
-        "4" => counts(alloc, &(1u8, 2u8, 3u8, 4u8), 4),
-        "5" => counts(alloc, &(1u8, 2u8, 3u8, 4u8, 5u8), 5),
-        "6" => counts(alloc, &(1u8, 2u8, 3u8, 4u8, 5u8, 6u8), 6),
-        _ => return long_tuples(alloc, len),
-    };
-    Some(outcome)
-}
+const TEXT: (&str,) = ("abc",);
+
+const ONE: (u8,) = (1,);
+
+const TWO: (u8, u8) = (1, 2);
+
+const THREE: (u8, u8, u8) = (1, 2, 3);
+
+const FOUR: (u8, u8, u8, u8) = (1, 2, 3, 4);
+
+const FIVE: (u8, u8, u8, u8, u8) = (1, 2, 3, 4, 5);
+
+const SIX: (u8, u8, u8, u8, u8, u8) = (1, 2, 3, 4, 5, 6);
 
 const SEVEN: (u8, u8, u8, u8, u8, u8, u8) = (1, 2, 3, 4, 5, 6, 7);
 
@@ -143,17 +211,21 @@ const TWELVE: (u8, u8, u8, u8, u8, u8, u8, u8, u8, u8, u8, u8) = (
     1, 2, 3, 4, 5, 6, 7, 8, 9, 10, 11, 12,
 );
 
-fn long_tuples(alloc: Global, len: &str) -> Option<Outcome> {
-    let outcome = match len {
-        "7" => counts(alloc, &SEVEN, 7),
-        "8" => counts(alloc, &EIGHT, 8),
-        "9" => counts(alloc, &NINE, 9),
-        "10" => counts(alloc, &TEN, 10),
-        "11" => counts(alloc, &ELEVEN, 11),
-        "12" => counts(alloc, &TWELVE, 12),
-        _ => return None,
-    };
-    Some(outcome)
+fn tuple(alloc: Global, len: usize) -> Outcome {
+    match len {
+        1 => counts(alloc, &ONE, 1),
+        2 => counts(alloc, &TWO, 2),
+        3 => counts(alloc, &THREE, 3),
+        4 => counts(alloc, &FOUR, 4),
+        5 => counts(alloc, &FIVE, 5),
+        6 => counts(alloc, &SIX, 6),
+        7 => counts(alloc, &SEVEN, 7),
+        8 => counts(alloc, &EIGHT, 8),
+        9 => counts(alloc, &NINE, 9),
+        10 => counts(alloc, &TEN, 10),
+        11 => counts(alloc, &ELEVEN, 11),
+        _ => counts(alloc, &TWELVE, 12),
+    }
 }
 
 fn vector(alloc: Global) -> Case {
@@ -242,15 +314,35 @@ const TWELVE_NAMES: Wanted = Ok(Given::Named(&[
     (b"l", Plain::UInt(12)),
 ]));
 
-fn twelve_pairs(alloc: Global) -> Outcome {
-    let (a, b, c, d) = (("a", 1u8), ("b", 2u8), ("c", 3u8), ("d", 4u8));
-    let (e, f, g, h) = (("e", 5u8), ("f", 6u8), ("g", 7u8), ("h", 8u8));
-    let (i, j, k, l) = (("i", 9u8), ("j", 10u8), ("k", 11u8), ("l", 12u8));
-    is_made(
-        (a, b, c, d, e, f, g, h, i, j, k, l).to_named(alloc),
-        TWELVE_NAMES,
-    )
-}
+type Pair = (&'static str, u8);
+
+const TWELVE_PAIRS: (
+    Pair,
+    Pair,
+    Pair,
+    Pair,
+    Pair,
+    Pair,
+    Pair,
+    Pair,
+    Pair,
+    Pair,
+    Pair,
+    Pair,
+) = (
+    ("a", 1),
+    ("b", 2),
+    ("c", 3),
+    ("d", 4),
+    ("e", 5),
+    ("f", 6),
+    ("g", 7),
+    ("h", 8),
+    ("i", 9),
+    ("j", 10),
+    ("k", 11),
+    ("l", 12),
+);
 
 fn long_pair_of_tuple(alloc: Global) -> Outcome {
     let pairs = (("a", 1u8), ("b", Duration::from_secs(TOO_LONG)));

@@ -12,20 +12,43 @@ pub(crate) fn case(alloc: Global, name: &str) -> Option<Case> {
     if let Some(row) = row(BOUND, name) {
         return Some(bound(alloc, row));
     }
-    let case = match name {
-        "ParsedQuery::parse of a name" => Ok(parsed(alloc, b":a, 1")),
-        "ParsedQuery::parse of more places than are kept" => Ok(parsed(alloc, MANY)),
-        "ParsedQuery::parse of no places" => parsed_without_memory(alloc),
-        "ParsedQuery::names of two names" => names(alloc, b":a, :b", Ok(&[b"a", b"b"])),
-        "ParsedQuery::names of names and marks" => mixed_names(alloc),
-        "into_owned of a borrowed query" => owned_copy(alloc),
-        "into_owned of an owned query" => owned_again(alloc),
-        "clone of a borrowed ParsedQuery" => copy_of_borrowed(alloc),
-        "clone of an owned ParsedQuery" => copy_of_owned(alloc),
-        _ => return None,
+    let case = match row(CALLS, name)? {
+        Call::Parse(query) => Ok(parsed(alloc, query)),
+        Call::ParseOfNoPlaces => parsed_without_memory(alloc),
+        Call::Names => names(alloc, b":a, :b", Ok(&[b"a", b"b"])),
+        Call::NamesOfMixed => mixed_names(alloc),
+        Call::Owned => owned_copy(alloc),
+        Call::OwnedAgain => owned_again(alloc),
+        Call::CloneOfBorrowed => copy_of_borrowed(alloc),
+        Call::CloneOfOwned => copy_of_owned(alloc),
     };
     Some(case)
 }
+
+/// A call that binds nothing.
+#[derive(Clone, Copy)]
+enum Call {
+    Parse(&'static [u8]),
+    ParseOfNoPlaces,
+    Names,
+    NamesOfMixed,
+    Owned,
+    OwnedAgain,
+    CloneOfBorrowed,
+    CloneOfOwned,
+}
+
+const CALLS: &[(&str, Call)] = cases! {
+    "ParsedQuery::parse of a name" => Call::Parse(b":a, 1");
+    "ParsedQuery::parse of more places than are kept" => Call::Parse(MANY);
+    "ParsedQuery::parse of no places" => Call::ParseOfNoPlaces;
+    "ParsedQuery::names of two names" => Call::Names;
+    "ParsedQuery::names of names and marks" => Call::NamesOfMixed;
+    "into_owned of a borrowed query" => Call::Owned;
+    "into_owned of an owned query" => Call::OwnedAgain;
+    "clone of a borrowed ParsedQuery" => Call::CloneOfBorrowed;
+    "clone of an owned ParsedQuery" => Call::CloneOfOwned;
+};
 
 const MANY: &[u8] = b"?,?,?,?,?,?,?,?,?,?,?,?,?,?,?,?,?,?";
 

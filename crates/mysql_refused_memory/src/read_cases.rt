@@ -12,21 +12,39 @@ pub(crate) fn case(alloc: Global, name: &str) -> Option<Case> {
     if let Some(row) = row(ROWS, name) {
         return Some(Ok(text_cells(alloc, row)));
     }
-    let outcome = match name {
-        "deserialize of a text cell" => cell(alloc, b"\x02ab*", AB),
-        "deserialize of a text cell of NULL" => cell(alloc, b"\xFB*", NULL).without_memory(),
-        "deserialize of what is no text cell" => cells_refused(alloc),
-        "deserialize of a BLOB" => column(alloc, (ColumnType::MYSQL_TYPE_BLOB, 0), b"\x02ab*", AB),
-        "deserialize of what is no BLOB" => strings_refused(alloc),
-        "deserialize of whole numbers" => columns(alloc, WHOLE_NUMBERS),
-        "deserialize of floats and NULL" => columns(alloc, FLOATS_AND_NULL),
-        "deserialize of dates and times" => columns(alloc, DATES_AND_TIMES),
-        "deserialize of what is cut" => columns(alloc, CUT),
-        "deserialize of types without a reading" => columns(alloc, UNSUPPORTED),
-        _ => return None,
+    let outcome = match row(READINGS, name)? {
+        Reading::Cell(input, wanted, memory) => cell(alloc, input, wanted).with(memory),
+        Reading::NoCells => cells_refused(alloc),
+        Reading::Blob => column(alloc, (ColumnType::MYSQL_TYPE_BLOB, 0), b"\x02ab*", AB),
+        Reading::NoStrings => strings_refused(alloc),
+        Reading::Columns(rows) => columns(alloc, rows),
     };
     Some(Ok(outcome))
 }
+
+/// What is read.
+#[derive(Clone, Copy)]
+enum Reading {
+    /// A text cell, what it reads, and whether it asks for memory.
+    Cell(&'static [u8], Wanted, Memory),
+    NoCells,
+    Blob,
+    NoStrings,
+    Columns(&'static [Column]),
+}
+
+const READINGS: &[(&str, Reading)] = cases! {
+    "deserialize of a text cell" => Reading::Cell(b"\x02ab*", AB, Asked);
+    "deserialize of a text cell of NULL" => Reading::Cell(b"\xFB*", NULL, Never);
+    "deserialize of what is no text cell" => Reading::NoCells;
+    "deserialize of a BLOB" => Reading::Blob;
+    "deserialize of what is no BLOB" => Reading::NoStrings;
+    "deserialize of whole numbers" => Reading::Columns(WHOLE_NUMBERS);
+    "deserialize of floats and NULL" => Reading::Columns(FLOATS_AND_NULL);
+    "deserialize of dates and times" => Reading::Columns(DATES_AND_TIMES);
+    "deserialize of what is cut" => Reading::Columns(CUT);
+    "deserialize of types without a reading" => Reading::Columns(UNSUPPORTED);
+};
 
 /// A value, or how the refusal is shown.
 type Wanted = Result<Plain<'static>, &'static str>;

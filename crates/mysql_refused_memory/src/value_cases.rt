@@ -1,18 +1,73 @@
 //! Values of arguments: `to_value`.
 use crate::inputs::{Plain, bytes};
-use crate::outcome::{Case, Outcome, holds, judged};
+use crate::outcome::{Case, Outcome, cases, holds, judged, row};
 use mysql_values::value::convert::ToValue;
 use std::alloc::Global;
 use std::borrow::{CowSlice, CowStr};
 use std::time::Duration;
 
+/// An argument.
+#[derive(Clone, Copy)]
+enum Argument {
+    Slice,
+    Array,
+    BorrowedSlice,
+    Text,
+    BorrowedText,
+    Present,
+    Reference,
+    GreatUnsigned,
+    GreatSigned,
+    Least,
+    Object,
+    Vector,
+    OwnedSlice,
+    String,
+    OwnedText,
+    Value,
+    Numbers,
+    NothingAndDurations,
+    TooLong,
+}
+
+const ARGUMENTS: &[(&str, Argument)] = cases! {
+    "to_value of &[u8]" => Argument::Slice;
+    "to_value of [u8; 3]" => Argument::Array;
+    "to_value of borrowed CowSlice" => Argument::BorrowedSlice;
+    "to_value of &str" => Argument::Text;
+    "to_value of borrowed CowStr" => Argument::BorrowedText;
+    "to_value of Some text" => Argument::Present;
+    "to_value of &&str" => Argument::Reference;
+    "to_value of a great u128" => Argument::GreatUnsigned;
+    "to_value of a great i128" => Argument::GreatSigned;
+    "to_value of a least i128" => Argument::Least;
+    "to_value of an object" => Argument::Object;
+    "to_value of Vec<u8>" => Argument::Vector;
+    "to_value of owned CowSlice" => Argument::OwnedSlice;
+    "to_value of String" => Argument::String;
+    "to_value of owned CowStr" => Argument::OwnedText;
+    "to_value of a value of bytes" => Argument::Value;
+    "to_value of numbers" => Argument::Numbers;
+    "to_value of nothing and durations" => Argument::NothingAndDurations;
+    "to_value of a duration that is too long" => Argument::TooLong;
+};
+
 /// How the call of this name went, if it stands here.
 pub(crate) fn case(alloc: Global, name: &str) -> Option<Case> {
-    let argument = name.strip_prefix("to_value of ")?;
-    match borrowed(alloc, argument) {
-        Some(outcome) => Some(Ok(outcome)),
-        None => owned(alloc, argument),
-    }
+    let case = match row(ARGUMENTS, name)? {
+        Argument::Vector => vector(alloc),
+        Argument::OwnedSlice => owned_slice(alloc),
+        Argument::String => string(alloc),
+        Argument::OwnedText => owned_text(alloc),
+        Argument::Value => value_of_bytes(alloc),
+        Argument::Numbers => {
+            holds(signed_numbers(alloc) && unsigned_numbers(alloc) && others(alloc))
+        }
+        Argument::NothingAndDurations => holds(nothing_and_durations(alloc)),
+        Argument::TooLong => Ok(too_long(alloc)),
+        other => Ok(borrowed(alloc, other)),
+    };
+    Some(case)
 }
 
 const ABC: Plain = Plain::Bytes(b"abc");
@@ -21,37 +76,30 @@ const GREAT: Plain = Plain::Bytes(b"18446744073709551616");
 
 const LEAST: Plain = Plain::Bytes(b"-9223372036854775809");
 
-fn borrowed(alloc: Global, argument: &str) -> Option<Outcome> {
-    let outcome = match argument {
-        "&[u8]" => makes(alloc, &b"abc".as_slice(), ABC),
-        "[u8; 3]" => makes(alloc, b"abc", ABC),
-        "borrowed CowSlice" => makes(alloc, &CowSlice::Borrowed(b"abc"), ABC),
-        "&str" => makes(alloc, &"abc", ABC),
-        "borrowed CowStr" => makes(alloc, &CowStr::Borrowed("abc"), ABC),
-        "Some text" => makes(alloc, &Some("abc"), ABC),
-        "&&str" => makes(alloc, &&"abc", ABC),
-        "a great u128" => makes(alloc, &18446744073709551616u128, GREAT),
-        "a great i128" => makes(alloc, &18446744073709551616i128, GREAT),
-        "a least i128" => makes(alloc, &-9223372036854775809i128, LEAST),
-        "an object" => object(alloc),
-        _ => return None,
-    };
-    Some(outcome)
-}
+const SLICE: &[u8] = b"abc";
 
-fn owned(alloc: Global, argument: &str) -> Option<Case> {
-    let case = match argument {
-        "Vec<u8>" => vector(alloc),
-        "owned CowSlice" => owned_slice(alloc),
-        "String" => string(alloc),
-        "owned CowStr" => owned_text(alloc),
-        "a value of bytes" => value_of_bytes(alloc),
-        "numbers" => holds(signed_numbers(alloc) && unsigned_numbers(alloc) && others(alloc)),
-        "nothing and durations" => holds(nothing_and_durations(alloc)),
-        "a duration that is too long" => Ok(too_long(alloc)),
-        _ => return None,
-    };
-    Some(case)
+const GREAT_SIGNED: i128 = 18446744073709551616;
+
+const GREAT_UNSIGNED: u128 = 18446744073709551616;
+
+const BELOW_64_BITS: i128 = -9223372036854775809;
+
+const TEXT: &str = "abc";
+
+fn borrowed(alloc: Global, argument: Argument) -> Outcome {
+    match argument {
+        Argument::Slice => makes(alloc, &SLICE, ABC),
+        Argument::Array => makes(alloc, b"abc", ABC),
+        Argument::BorrowedSlice => makes(alloc, &CowSlice::Borrowed(SLICE), ABC),
+        Argument::Text => makes(alloc, &TEXT, ABC),
+        Argument::BorrowedText => makes(alloc, &CowStr::Borrowed(TEXT), ABC),
+        Argument::Present => makes(alloc, &Some(TEXT), ABC),
+        Argument::Reference => makes(alloc, &&TEXT, ABC),
+        Argument::GreatUnsigned => makes(alloc, &GREAT_UNSIGNED, GREAT),
+        Argument::GreatSigned => makes(alloc, &GREAT_SIGNED, GREAT),
+        Argument::Least => makes(alloc, &BELOW_64_BITS, LEAST),
+        _ => object(alloc),
+    }
 }
 
 /// The argument has this value.

@@ -1,21 +1,42 @@
 //! Calls of the wire: buffers and length-encoded strings.
-use crate::outcome::{Case, Outcome, holds};
+use crate::outcome::{Case, Outcome, cases, holds, row};
 use mysql_wire_part::{ParseBuf, WireError, lenenc_str_len, put_lenenc_str};
 use std::alloc::{AllocError, Global};
 
+/// A call of the wire.
+#[derive(Clone, Copy)]
+enum Call {
+    PutShort,
+    PutLong,
+    Length,
+    EatAll,
+    EatTooFew,
+    EatString,
+    EatNoString,
+}
+
+const CALLS: &[(&str, Call)] = cases! {
+    "put_lenenc_str of 3 bytes" => Call::PutShort;
+    "put_lenenc_str of 251 bytes" => Call::PutLong;
+    "lenenc_str_len of 251 bytes" => Call::Length;
+    "checked_eat of 8 bytes" => Call::EatAll;
+    "checked_eat of too few bytes" => Call::EatTooFew;
+    "eat_lenenc_str of 3 bytes" => Call::EatString;
+    "eat_lenenc_str of what is no string" => Call::EatNoString;
+};
+
+const LONG: &[u8; 251] = &[b'a'; 251];
+
 /// How the call of this name went, if it stands here.
 pub(crate) fn case(alloc: Global, name: &str) -> Option<Case> {
-    let case = match name {
-        "put_lenenc_str of 3 bytes" => string_appended(alloc, b"abc", b"\x03"),
-        "put_lenenc_str of 251 bytes" => string_appended(alloc, &[b'a'; 251], b"\xFC\xFB\x00"),
-        "lenenc_str_len of 251 bytes" => holds(lenenc_str_len(&[b'a'; 251]) == 254),
-        "checked_eat of 8 bytes" => holds(
-            short_integers_eaten() && long_integers_eaten() && bytes_eaten(),
-        ),
-        "checked_eat of too few bytes" => holds(too_few_for_short() && too_few_for_long()),
-        "eat_lenenc_str of 3 bytes" => holds(string_eaten()),
-        "eat_lenenc_str of what is no string" => holds(strings_refused()),
-        _ => return None,
+    let case = match row(CALLS, name)? {
+        Call::PutShort => string_appended(alloc, b"abc", b"\x03"),
+        Call::PutLong => string_appended(alloc, LONG, b"\xFC\xFB\x00"),
+        Call::Length => holds(lenenc_str_len(LONG) == 254),
+        Call::EatAll => holds(short_integers_eaten() && long_integers_eaten() && bytes_eaten()),
+        Call::EatTooFew => holds(too_few_for_short() && too_few_for_long()),
+        Call::EatString => holds(string_eaten()),
+        Call::EatNoString => holds(strings_refused()),
     };
     Some(case)
 }

@@ -15,15 +15,32 @@ pub(crate) fn case(alloc: Global, name: &str) -> Option<Case> {
     if let Some((value, mode, literal)) = row(LITERALS, name) {
         return Some(literal_made(alloc, value, mode, literal));
     }
-    match name {
-        "as_sql of floats" => Some(floats_refused(alloc)),
-        "bin_len of values" => Some(has_lengths(alloc)),
-        "put_sql of a text" => Some(puts(alloc, Bytes(b"it's"), b"'it\\'s'")),
-        "put_sql of a number" => Some(puts(alloc, Int(-123456), b"-123456")),
-        "sql_len of a float" => Some(floats_without_length(alloc)),
-        _ => None,
-    }
+    let case = match row(CALLS, name)? {
+        Call::AsSqlOfFloats => floats_refused(alloc),
+        Call::Lengths => has_lengths(alloc),
+        Call::PutSql(value, literal) => puts(alloc, value, literal),
+        Call::LengthOfFloats => floats_without_length(alloc),
+    };
+    Some(case)
 }
+
+/// Another call of values.
+#[derive(Clone, Copy)]
+enum Call {
+    AsSqlOfFloats,
+    Lengths,
+    /// A value and its literal.
+    PutSql(Plain<'static>, &'static [u8]),
+    LengthOfFloats,
+}
+
+const CALLS: &[(&str, Call)] = cases! {
+    "as_sql of floats" => Call::AsSqlOfFloats;
+    "bin_len of values" => Call::Lengths;
+    "put_sql of a text" => Call::PutSql(Bytes(b"it's"), b"'it\\'s'");
+    "put_sql of a number" => Call::PutSql(Int(-123456), b"-123456");
+    "sql_len of a float" => Call::LengthOfFloats;
+};
 
 const TIME: Plain = Time(true, 300, 8, 8, 8, 123456);
 
