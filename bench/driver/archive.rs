@@ -28,6 +28,12 @@ unsafe extern "C" {
         no_backslash_escape: bool,
         report: *mut Report,
     ) -> i32;
+    fn mysql_params_first_unportable_in_client(
+        query: *const u8,
+        query_len: usize,
+        no_backslash_escape: bool,
+        report: *mut Report,
+    ) -> i32;
 }
 
 /// A report that no call gives: the archive has to write each field.
@@ -99,6 +105,14 @@ pub fn first_unportable(query: &[u8], no_backslash_escape: bool) -> (i32, Report
     let query_at = query.as_ptr();
     number_and_report(|report| unsafe {
         mysql_params_first_unportable(query_at, query.len(), no_backslash_escape, report)
+    })
+}
+
+/// The same, or what is found for a client.
+pub fn first_unportable_in_client(query: &[u8], no_backslash_escape: bool) -> (i32, Report) {
+    let query_at = query.as_ptr();
+    number_and_report(|report| unsafe {
+        mysql_params_first_unportable_in_client(query_at, query.len(), no_backslash_escape, report)
     })
 }
 

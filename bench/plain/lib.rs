@@ -2,6 +2,7 @@
 //! its machine code is the same whatever the driver does.
 
 pub mod bind;
+pub mod client;
 pub mod form;
 pub mod portable;
 pub mod query;

@@ -26,36 +26,50 @@ pub const CONSTRUCTS: [&str; 10] = [
     "PLACE_AFTER_EXPONENT",
 ];
 
-/// The number of the construct, and the index of its first byte; both are 0 where there is none.
+/// The number of the construct, and the index of its first byte; both are 0 if there is none.
 pub fn first_unportable(query: &[u8], no_backslash_escape: bool) -> (i32, usize) {
     let mut at = 0;
     while at < query.len() {
-        let rest = &query[at + 1..];
-        if let Some(number) = construct(query[at], rest) {
+        let (found, len) = first_token(&query[at..], no_backslash_escape);
+        if let Some(number) = found {
             return (number, at);
         }
-        at += 1 + match query[at] {
-            quote @ (b'\'' | b'"') => {
-                let (len, is_escaped_inside) = string_len(rest, quote, no_backslash_escape);
-                if quote == b'"' && is_escaped_inside {
-                    return (ESCAPED_QUOTE, at);
-                }
-                len
-            }
-            b'`' => len_with(rest, b"`"),
-            b'#' => len_with(rest, b"\n"),
-            b'-' if matches!(rest, [b'-', 9 | 12 | 13 | 32, ..]) => 2 + len_with(&rest[2..], b"\n"),
-            b'/' if rest.starts_with(b"*") => 1 + len_with(&rest[1..], b"*/"),
-            b':' if rest.first().is_some_and(begins_name) => {
-                rest.iter().take_while(|byte| begins_name(byte) || byte.is_ascii_digit()).count()
-            }
-            _ => 0,
-        };
+        at += len;
     }
     (PORTABLE, 0)
 }
 
-/// The construct that begins with this byte before this text, but for a text in quotes.
+/// The construct that begins with the first token of a text, and the token's length; the text isn't
+/// empty.
+pub fn first_token(text: &[u8], no_backslash_escape: bool) -> (Option<i32>, usize) {
+    let (byte, rest) = (text[0], &text[1..]);
+    let mut found = construct(byte, rest);
+    let len = match byte {
+        quote @ (b'\'' | b'"') => {
+            let (len, is_escaped_inside) = string_len(rest, quote, no_backslash_escape);
+            if quote == b'"' && is_escaped_inside {
+                found = Some(ESCAPED_QUOTE);
+            }
+            len
+        }
+        b'`' => len_with(rest, b"`"),
+        b'#' => len_with(rest, b"\n"),
+        b'-' if matches!(rest, [b'-', 9 | 12 | 13 | 32, ..]) => 2 + len_with(&rest[2..], b"\n"),
+        b'/' if opens_comment(rest) => 1 + len_with(&rest[1..], b"*/"),
+        b':' if rest.first().is_some_and(begins_name) => {
+            rest.iter().take_while(|byte| begins_name(byte) || byte.is_ascii_digit()).count()
+        }
+        _ => 0,
+    };
+    (found, 1 + len)
+}
+
+/// Whether a `/` before this text opens a comment of the grammar.
+fn opens_comment(rest: &[u8]) -> bool {
+    matches!(rest, [b'*', after @ ..] if !matches!(after, [b'!' | b'+', ..]))
+}
+
+/// The construct that begins with this byte before this text, except that of a text in quotes.
 fn construct(byte: u8, rest: &[u8]) -> Option<i32> {
     Some(match (byte, rest) {
         (b'/', [b'*', text @ ..]) if is_quiet(text) => return None,
@@ -110,7 +124,7 @@ fn leads_to_dashes(text: &[u8]) -> bool {
     }
 }
 
-fn begins_place(text: &[u8]) -> bool {
+pub fn begins_place(text: &[u8]) -> bool {
     match text {
         [b'?', ..] => true,
         [b':', byte, ..] => begins_name(byte),
