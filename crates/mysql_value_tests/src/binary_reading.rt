@@ -86,7 +86,8 @@ const READ: &[(ColumnType, u16, &[u8], Plain)] = columns! {
     MYSQL_TYPE_TIME, SIGNED,
         &[10, 2, 1, 0, 0, 0, 2, 3, 4, 9, 9, 0x2A], Time(false, 1, 2, 3, 4, 0);
     MYSQL_TYPE_TIME, SIGNED,
-        &[12, 1, 2, 3, 4, 5, 6, 7, 8, 9, 10, 11, 12, 0x2A], Time(true, 84148994, 6, 7, 8, 202050057);
+        &[12, 1, 2, 3, 4, 5, 6, 7, 8, 9, 10, 11, 12, 0x2A],
+        Time(true, 84148994, 6, 7, 8, 202050057);
     MYSQL_TYPE_TIME, SIGNED, &[7, 1, 2, 3, 4, 5, 6, 7, 0x2A], Time(false, 0, 0, 0, 0, 0);
     // A negative time of zero is written so too.
     MYSQL_TYPE_TIME, SIGNED, &[0, 0x2A], Time(false, 0, 0, 0, 0, 0);

@@ -81,10 +81,17 @@ fn refused_rows_leave_the_buffer(rt: HostRuntime) {
 }
 
 #[test]
-fn single_cells(rt: HostRuntime) {
+fn single_cell(rt: HostRuntime) {
     let mut buf = ParseBuf(b"\x02ab*");
     let cell = ValueDeserializer::<TextValue>::deserialize(rt.alloc(), (), &mut buf);
     same(&rt, &answer_of(&rt, cell).0, &bytes(&rt, rt.alloc(), b"ab"));
     same(&rt, buf.0, b"*".as_slice());
-    assert!(rt; ValueDeserializer::<TextValue>::deserialize(rt.alloc(), (), &mut buf).is_err());
+}
+
+#[test]
+fn refused_cell(rt: HostRuntime) {
+    let mut buf = ParseBuf(b"\xFF");
+    let refusal = ValueDeserializer::<TextValue>::deserialize(rt.alloc(), (), &mut buf).err();
+    same(&rt, refusal.as_ref(), Some(&WireError::BadLengthLead(255)));
+    same(&rt, buf.len(), 1);
 }
