@@ -1,130 +1,101 @@
 //! Every query of up to three bytes over the bytes that the grammar names, alone and before a name,
 //! against a plain reading of the grammar that shares no code with the crate, in both modes.
+use crate::plain_reading::{plain_token, split};
 use crate::shared::same_in;
 use crate::spellings::Spelling;
+use mysql_named_params::tokens::TokenKind;
 use mysql_params::named_params::{NamedParamsError, ParsedNamedParams};
-use std::alloc::{AllocError, Global};
+use std::alloc::Global;
+use std::borrow::CowSlice;
 use std::process::Abort;
 
 /// The bytes that the grammar names but the form feed, and one of each kind of other byte.
 const ALPHABET: &[u8] = b"'\"\\`#-/*!+:?a_Z0 \t\n\x0b\r\xc3";
 
-/// How many bytes there are up to and with the first place of a word of one or two bytes, or all.
-fn up_to(text: &[u8], word: &[u8]) -> usize {
-    match text
-        .windows(word.len().max(1))
-        .position(|window| window == word)
-    {
-        Some(at) => at.saturating_add(word.len()),
-        None => text.len(),
-    }
-}
-
-/// How many bytes of a string stand after its opening quote.
-fn string(text: &[u8], quote: u8, no_backslash_escape: bool) -> usize {
-    let mut at = 0usize;
-    for _ in 0..text.len() {
-        match text.get(at) {
-            None => return text.len(),
-            Some(byte) if *byte == quote => return at.saturating_add(1),
-            Some(b'\\') if !no_backslash_escape => at = at.saturating_add(2),
-            Some(_) => at = at.saturating_add(1),
-        }
-    }
-    text.len()
-}
-
-/// How many bytes the first token has, by the first row of the grammar's table that fits.
-fn token_len(text: &[u8], no_backslash_escape: bool) -> usize {
-    match text {
-        [quote @ (b'\'' | b'"'), rest @ ..] => {
-            string(rest, *quote, no_backslash_escape).saturating_add(1)
-        }
-        [b'`', rest @ ..] => up_to(rest, b"`").saturating_add(1),
-        [b'#', rest @ ..] => up_to(rest, b"\n").saturating_add(1),
-        [b'-', b'-', b' ' | b'\t' | b'\x0c' | b'\r', rest @ ..] => {
-            up_to(rest, b"\n").saturating_add(3)
-        }
-        [b'/', b'*', b'!' | b'+', ..] => 1,
-        [b'/', b'*', rest @ ..] => up_to(rest, b"*/").saturating_add(2),
-        [b':', b'a'..=b'z' | b'_', rest @ ..] => rest
-            .iter()
-            .take_while(|byte| matches!(**byte, b'a'..=b'z' | b'_' | b'0'..=b'9'))
-            .count()
-            .saturating_add(2),
-        _ => 1,
-    }
-}
-
-/// What a query is by the plain reading: its text with marks, its names, how many marks it has.
-#[derive(Drop)]
-struct Reading {
-    query: Vec<u8>,
-    names: Vec<Vec<u8>>,
-    marks: usize,
-}
-
-impl Reading {
-    /// Takes the token in, after those before it.
-    fn take(&mut self, alloc: Global, token: &[u8]) -> Result<(), AllocError> {
-        match token {
-            [b':', name @ ..] if !name.is_empty() => {
-                self.query.push(b'?')?;
-                self.names.push(name.to_vec(alloc)?)?;
-                Ok(())
-            }
-            _ => {
-                if token == b"?".as_slice() {
-                    self.marks = self.marks.saturating_add(1);
-                }
-                self.query.extend_from_slice(token)
-            }
-        }
-    }
-
-    /// Whether the query has names and marks.
-    fn is_mixed(&self) -> bool {
-        !self.names.is_empty() && self.marks > 0
-    }
-
-    /// Whether it is what was parsed.
-    fn is_parsed(&self, parsed: &ParsedNamedParams<'_>) -> bool {
-        let mut same = !self.is_mixed()
-            && parsed.query() == self.query.as_slice()
-            && parsed.params().len() == self.names.len();
-        for (name, wanted) in parsed.params().iter().zip(self.names.iter()) {
-            same = same && name.as_slice() == wanted.as_slice();
-        }
-        same
-    }
-}
-
-fn plain_reading(
-    alloc: Global,
-    query: &[u8],
-    no_backslash_escape: bool,
-) -> Result<Reading, AllocError> {
-    let mut reading = Reading {
-        query: Vec::new(alloc),
-        names: Vec::new(alloc),
-        marks: 0,
-    };
+/// Whether the query has a token of this kind.
+fn has(query: &[u8], no_backslash_escape: bool, wanted: TokenKind) -> bool {
     let mut rest = query;
     for _ in 0..query.len() {
-        let (token, after) = rest.split_at(token_len(rest, no_backslash_escape).min(rest.len()));
-        reading.take(alloc, token)?;
-        rest = after;
+        let (kind, len) = plain_token(rest, no_backslash_escape);
+        if kind == wanted {
+            return true;
+        }
+        rest = split(rest, len).1;
     }
-    Ok(reading)
+    false
 }
 
-/// Whether the call answers as the plain reading.
-fn answers(alloc: Global, query: &[u8], spelling: Spelling) -> Result<bool, AllocError> {
-    let reading = plain_reading(alloc, query, spelling.has_no_backslash_escape())?;
+/// A token as it stands in the query with marks.
+fn marked<'a>(kind: TokenKind, token: &'a [u8]) -> &'a [u8] {
+    match kind {
+        TokenKind::Name => b"?",
+        _ => token,
+    }
+}
+
+/// Whether this is the query with a mark for each of its names.
+fn is_marked(query: &[u8], no_backslash_escape: bool, wanted: &[u8]) -> bool {
+    let mut rest = query;
+    let mut left = wanted;
+    for _ in 0..query.len() {
+        let (kind, len) = plain_token(rest, no_backslash_escape);
+        let (token, after) = split(rest, len);
+        match left.strip_prefix(marked(kind, token)) {
+            Some(tail) => left = tail,
+            None => return false,
+        }
+        rest = after;
+    }
+    left.is_empty()
+}
+
+/// Whether at this place of the names the one of this token stands.
+fn stands_at(names: &[CowSlice<'_, u8>], at: usize, token: &[u8]) -> bool {
+    match (names.get(at), token) {
+        (Some(name), [b':', wanted @ ..]) => name.as_slice() == wanted,
+        _ => false,
+    }
+}
+
+/// Whether these are the names of the query.
+fn are_names(query: &[u8], no_backslash_escape: bool, names: &[CowSlice<'_, u8>]) -> bool {
+    let mut rest = query;
+    let mut at = 0usize;
+    for _ in 0..query.len() {
+        let (kind, len) = plain_token(rest, no_backslash_escape);
+        let (token, after) = split(rest, len);
+        if kind == TokenKind::Name {
+            if !stands_at(names, at, token) {
+                return false;
+            }
+            at = at.saturating_add(1);
+        }
+        rest = after;
+    }
+    at == names.len()
+}
+
+/// Whether the query has names and marks.
+fn is_mixed(query: &[u8], no_backslash_escape: bool) -> bool {
+    has(query, no_backslash_escape, TokenKind::Name)
+        && has(query, no_backslash_escape, TokenKind::Mark)
+}
+
+/// Whether the query with marks and the names are what was parsed.
+fn is_parsed(query: &[u8], no_backslash_escape: bool, parsed: &ParsedNamedParams<'_>) -> bool {
+    is_marked(query, no_backslash_escape, parsed.query())
+        && are_names(query, no_backslash_escape, parsed.params())
+}
+
+/// Whether the call answers as the plain reading. That there is no memory is no answer: so callers
+/// have no error to meet.
+fn answers(alloc: Global, query: &[u8], spelling: Spelling) -> bool {
+    let mode = spelling.has_no_backslash_escape();
+    let mixed = is_mixed(query, mode);
     match spelling.parsed(alloc, query) {
-        Ok(parsed) => Ok(reading.is_parsed(&parsed)),
-        Err(NamedParamsError::Mixed(_)) => Ok(reading.is_mixed()),
-        Err(NamedParamsError::Memory(error)) => Err(error),
+        Ok(parsed) => !mixed && is_parsed(query, mode, &parsed),
+        Err(NamedParamsError::Mixed(_)) => mixed,
+        Err(NamedParamsError::Memory(_)) => false,
     }
 }
 
@@ -135,12 +106,11 @@ const SPELLINGS: &[Spelling] = &[
     Spelling::ParseIn(true),
 ];
 
-/// Each call answers as the plain reading. That there is no memory is no answer: so callers have no
-/// error to meet.
+/// Each call answers as the plain reading.
 fn agrees(rt: &impl Abort, alloc: Global, query: &[u8]) {
     for spelling in SPELLINGS {
         let same = answers(alloc, query, *spelling);
-        same_in(rt, &same, &Ok(true), &(query, spelling));
+        same_in(rt, same, true, &(query, spelling.name()));
     }
 }
 
@@ -165,16 +135,20 @@ fn parse_agrees_with_a_plain_reading(rt: HostRuntime) {
     }
 }
 
+/// So it is of each query of two bytes that begins with this one.
+fn agrees_before_all(rt: &impl Abort, alloc: Global, first: u8) {
+    for second in 0..=255u8 {
+        agrees(rt, alloc, &[first, second]);
+    }
+}
+
 #[test]
 fn parse_agrees_on_all_bytes(rt: HostRuntime) {
-    let alloc = rt.alloc();
     for first in 0..=255u8 {
-        agrees(&rt, alloc, &[first]);
-        agrees(&rt, alloc, &[b'-', b'-', first, b':', b'a']);
-        agrees(&rt, alloc, &[b'/', b'*', first, b':', b'a']);
-        agrees(&rt, alloc, &[b':', first, b':', b'a']);
-        for second in 0..=255u8 {
-            agrees(&rt, alloc, &[first, second]);
-        }
+        agrees(&rt, rt.alloc(), &[first]);
+        agrees(&rt, rt.alloc(), &[b'-', b'-', first, b':', b'a']);
+        agrees(&rt, rt.alloc(), &[b'/', b'*', first, b':', b'a']);
+        agrees(&rt, rt.alloc(), &[b':', first, b':', b'a']);
+        agrees_before_all(&rt, rt.alloc(), first);
     }
 }

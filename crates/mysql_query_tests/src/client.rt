@@ -1,14 +1,16 @@
 //! The first construct of a query that a client which keeps comments reads or sends otherwise. The
 //! rows are restated by hand from docs/RULES.md, "Queries for a client"; `tests/server` shows what
 //! the clients send.
-use crate::shared::{same_in, says};
-use mysql_params::{Construct, Unportable, first_unportable, first_unportable_in_client};
+use crate::portable;
+use crate::portable::{BOTH, print};
+use crate::shared::same_in;
+use mysql_params::{Construct, Unportable, first_unportable_in_client};
 use std::process::Abort;
 
 /// In both modes this is found in the query.
 fn is_found(rt: &impl Abort, query: &[u8], wanted: Option<Unportable>) {
-    for mode in [false, true] {
-        let found = first_unportable_in_client(query, mode);
+    for mode in BOTH {
+        let found = first_unportable_in_client(query, *mode);
         same_in(rt, &found, &wanted, &(query, mode));
     }
 }
@@ -21,9 +23,7 @@ fn are_found(rt: &impl Abort, rows: &[(&[u8], Construct, usize)]) {
             at: *at,
         };
         is_found(rt, *query, Some(wanted));
-        for mode in [false, true] {
-            same_in(rt, &first_unportable(*query, mode), &None, &(query, mode));
-        }
+        portable::is_found(rt, *query, BOTH, None);
     }
 }
 
@@ -187,7 +187,5 @@ const MESSAGES: &[(Construct, &str)] = &[
 
 #[test]
 fn messages(rt: HostRuntime) {
-    for (construct, message) in MESSAGES {
-        says(&rt, rt.alloc(), construct, *message);
-    }
+    print(&rt, rt.alloc(), MESSAGES);
 }

@@ -6,6 +6,8 @@ mod all_short_queries;
 #[cfg(test)]
 mod client;
 #[cfg(test)]
+mod plain_reading;
+#[cfg(test)]
 mod plain_tokens;
 #[cfg(test)]
 mod portable;

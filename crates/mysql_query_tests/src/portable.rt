@@ -1,8 +1,8 @@
 //! The first construct of a query that servers read in different ways.
 use crate::queries::{COMMENTS, QUERIES, QUERIES_WITHOUT_BACKSLASHES};
 use crate::shared::{same_in, says};
-use mysql_params::laws::unportable_equality;
 use mysql_params::{Construct, Unportable, first_unportable};
+use std::alloc::Global;
 use std::process::Abort;
 
 // The modes: with backslash escapes, and without.
@@ -10,10 +10,10 @@ const WITH: &[bool] = &[false];
 
 const WITHOUT: &[bool] = &[true];
 
-const BOTH: &[bool] = &[false, true];
+pub(crate) const BOTH: &[bool] = &[false, true];
 
 /// In each of these modes this is found in the query.
-fn is_found(rt: &impl Abort, query: &[u8], modes: &[bool], wanted: Option<Unportable>) {
+pub(crate) fn is_found(rt: &impl Abort, query: &[u8], modes: &[bool], wanted: Option<Unportable>) {
     for mode in modes {
         let found = first_unportable(query, *mode);
         same_in(rt, &found, &wanted, &(query, mode));
@@ -292,17 +292,17 @@ const UNPORTABLE: &[(&[u8], Construct, usize)] = &[
     (b"--\x0b:a", Construct::Dashes, 0),
     (b"--\x01:a", Construct::Dashes, 0),
     (b"--\x7f:a", Construct::Dashes, 0),
+    // With backslash escapes.
+    (
+        b"SELECT '\"\\':a' \"'\\\"':c\" :b",
+        Construct::EscapedQuote,
+        15,
+    ),
 ];
 
-const UNPORTABLE_WITH_BACKSLASHES: &[(&[u8], Construct, usize)] = &[(
-    b"SELECT '\"\\':a' \"'\\\"':c\" :b",
-    Construct::EscapedQuote,
-    15,
-)];
-
 /// The construct of the row that begins the query, if there is one.
-fn row_of(query: &[u8], rows: &[(&[u8], Construct, usize)]) -> Option<Unportable> {
-    for (beginning, construct, at) in rows {
+fn row_of(query: &[u8]) -> Option<Unportable> {
+    for (beginning, construct, at) in UNPORTABLE {
         if query.starts_with(*beginning) {
             return Some(Unportable {
                 construct: *construct,
@@ -316,15 +316,13 @@ fn row_of(query: &[u8], rows: &[(&[u8], Construct, usize)]) -> Option<Unportable
 #[test]
 fn queries_of_the_other_tests(rt: HostRuntime) {
     for (query, _) in QUERIES {
-        let query = query.as_bytes();
-        let wanted = row_of(query, UNPORTABLE).or(row_of(query, UNPORTABLE_WITH_BACKSLASHES));
-        is_found(&rt, query, WITH, wanted);
+        is_found(&rt, query.as_bytes(), WITH, row_of(query.as_bytes()));
     }
     for (query, _) in QUERIES_WITHOUT_BACKSLASHES {
         is_found(&rt, query.as_bytes(), WITHOUT, None);
     }
     for (query, _) in COMMENTS {
-        is_found(&rt, *query, BOTH, row_of(*query, UNPORTABLE));
+        is_found(&rt, *query, BOTH, row_of(*query));
     }
 }
 
@@ -367,25 +365,14 @@ const MESSAGES: &[(Construct, &str)] = &[
     ),
 ];
 
-#[test]
-fn messages(rt: HostRuntime) {
-    for (construct, message) in MESSAGES {
-        says(&rt, rt.alloc(), construct, *message);
+/// Each construct prints its message.
+pub(crate) fn print(rt: &impl Abort, alloc: Global, rows: &[(Construct, &str)]) {
+    for (construct, message) in rows {
+        says(rt, alloc, construct, *message);
     }
 }
 
 #[test]
-fn equality(rt: HostRuntime) {
-    let hint = Unportable {
-        construct: Construct::Hint,
-        at: 3,
-    };
-    let later = Unportable { at: 4, ..hint };
-    let other = Unportable {
-        construct: Construct::Bracket,
-        ..hint
-    };
-    assert!(rt; unportable_equality(&hint, &hint));
-    assert!(rt; !unportable_equality(&hint, &later));
-    assert!(rt; !unportable_equality(&hint, &other));
+fn messages(rt: HostRuntime) {
+    print(&rt, rt.alloc(), MESSAGES);
 }

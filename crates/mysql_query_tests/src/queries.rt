@@ -1,39 +1,44 @@
 //! Names and marks of single queries.
-use crate::shared::{answer_of, same, same_in, says};
+use crate::shared::{answer_of, same_in, says};
 use crate::spellings::{Spelling, WITH_BACKSLASHES};
-use mysql_params::laws::{mixed_error_equality, named_params_error_equality, parsed_equality};
 use mysql_params::named_params::{MixedParamsError, NamedParamsError, ParsedNamedParams};
 use std::alloc::{AllocError, Global};
 use std::borrow::CowSlice;
 use std::process::Abort;
-use std::test::Fail;
 
-/// Appends the query with marks, and then each name after a newline.
-fn append_shown(text: &mut Vec<u8>, parsed: &ParsedNamedParams<'_>) -> Result<(), AllocError> {
-    text.extend_from_slice(parsed.query())?;
+/// Whether this is the query with marks, and then each name after a newline.
+fn is_shown_as(parsed: &ParsedNamedParams<'_>, wanted: &[u8]) -> bool {
+    let Some(mut rest) = wanted.strip_prefix(parsed.query()) else {
+        return false;
+    };
     for name in parsed.params() {
-        text.push(b'\n')?;
-        text.extend_from_slice(name.as_slice())?;
+        match after_newline(rest, name.as_slice()) {
+            Some(after) => rest = after,
+            None => return false,
+        }
     }
-    Ok(())
+    rest.is_empty()
 }
 
-/// The query with marks, and then each name after a newline; or `mixed`.
-fn shown(alloc: Global, query: &[u8], spelling: Spelling) -> Result<Vec<u8>, AllocError> {
-    let mut text = Vec::new(alloc);
+/// What follows a newline and this name, if they stand there.
+fn after_newline<'a>(text: &'a [u8], name: &[u8]) -> Option<&'a [u8]> {
+    text.strip_prefix(b"\n".as_slice())?.strip_prefix(name)
+}
+
+/// Whether the query is shown as this text, or is mixed if the text is `mixed`.
+fn shows(alloc: Global, query: &[u8], spelling: Spelling, wanted: &[u8]) -> bool {
     match spelling.parsed(alloc, query) {
-        Ok(parsed) => append_shown(&mut text, &parsed)?,
-        Err(NamedParamsError::Mixed(_)) => text.extend_from_slice(b"mixed")?,
-        Err(NamedParamsError::Memory(error)) => return Err(error),
+        Ok(parsed) => is_shown_as(&parsed, wanted),
+        Err(NamedParamsError::Mixed(_)) => wanted == b"mixed".as_slice(),
+        Err(NamedParamsError::Memory(_)) => false,
     }
-    Ok(text)
 }
 
 /// By each of the calls, the query is shown as this text.
 fn is_shown(rt: &impl Abort, alloc: Global, spellings: &[Spelling], query: &[u8], wanted: &[u8]) {
     for spelling in spellings {
-        let text = answer_of(rt, shown(alloc, query, *spelling));
-        same_in(rt, text.as_slice(), wanted, &(query, spelling));
+        let same = shows(alloc, query, *spelling, wanted);
+        same_in(rt, same, true, &(query, spelling.name()));
     }
 }
 
@@ -176,44 +181,17 @@ fn bytes_that_open_and_close_comments(rt: HostRuntime) {
     }
 }
 
-/// Whether the two are equal, by each way to ask.
-fn are_equal(
-    rt: &impl Abort,
-    parsed: &ParsedNamedParams<'_>,
-    other: &ParsedNamedParams<'_>,
-    wanted: bool,
-) {
-    let case = other.query();
-    same_in(rt, parsed == other, wanted, &case);
-    same_in(rt, parsed != other, !wanted, &case);
-    same_in(rt, parsed_equality(parsed, other), wanted, &case);
-}
-
 #[test]
 fn copies(rt: HostRuntime) {
     let parsed = answer_of(&rt, ParsedNamedParams::parse(rt.alloc(), b"SELECT :a, :b"));
     let copy = answer_of(&rt, parsed.clone());
-    are_equal(&rt, &parsed, &copy, true);
-    same(&rt, copy.params().len(), 2);
-}
-
-#[test]
-fn equality(rt: HostRuntime) {
-    let parsed = answer_of(&rt, ParsedNamedParams::parse(rt.alloc(), b"SELECT :a, :b"));
-    let others: [&[u8]; 2] = [b"SELECT :a, :c", b"SELECT :a; :b"];
-    for query in others {
-        let other = answer_of(&rt, ParsedNamedParams::parse(rt.alloc(), query));
-        are_equal(&rt, &parsed, &other, false);
-    }
-}
-
-#[test]
-fn equality_of_refusals(rt: HostRuntime) {
-    assert!(rt; mixed_error_equality(&MixedParamsError, &MixedParamsError));
-    let memory = NamedParamsError::Memory(AllocError);
-    let mixed = NamedParamsError::Mixed(MixedParamsError);
-    assert!(rt; named_params_error_equality(&mixed, &NamedParamsError::Mixed(MixedParamsError)));
-    assert!(rt; !named_params_error_equality(&memory, &mixed));
+    same_in(&rt, &copy, &parsed, &"a copy");
+    same_in(
+        &rt,
+        is_shown_as(&copy, b"SELECT ?, ?\na\nb"),
+        true,
+        &"a copy",
+    );
 }
 
 #[test]
@@ -236,22 +214,21 @@ fn messages_of_refusals(rt: HostRuntime) {
 }
 
 /// The first name of a query, which lives as long as the query.
-fn first_name<'a>(alloc: Global, query: &'a [u8]) -> Result<Option<&'a [u8]>, NamedParamsError> {
-    let parsed = ParsedNamedParams::parse(alloc, query)?;
+fn first_name<'a>(rt: &impl Abort, alloc: Global, query: &'a [u8]) -> &'a [u8] {
+    let parsed = answer_of(rt, ParsedNamedParams::parse(alloc, query));
     match parsed.params() {
         [name, ..] => match name {
-            CowSlice::Borrowed(bytes) => Ok(Some(*bytes)),
-            CowSlice::Owned(_) => Ok(None),
+            CowSlice::Borrowed(bytes) => *bytes,
+            CowSlice::Owned(_) => b"an owned name",
         },
-        [] => Ok(None),
+        [] => b"no name",
     }
 }
 
 #[test]
-fn names_outlive_what_parsed_them(rt: HostRuntime) -> Result<(), Fail> {
-    let query = answer_of(&rt, String::from_str(rt.alloc(), "SELECT :a"));
-    let name = answer_of(&rt, first_name(rt.alloc(), query.as_bytes()));
-    same(&rt, name.ok_or("no name")?, b"a".as_slice());
+fn names_outlive_what_parsed_them(rt: HostRuntime) {
+    let query = answer_of(&rt, Vec::from_slice(rt.alloc(), b"SELECT :a"));
+    let name = first_name(&rt, rt.alloc(), &query);
+    same_in(&rt, name, b"a".as_slice(), &"the name");
     let _gone = query;
-    Ok(())
 }

@@ -3,12 +3,7 @@ use std::alloc::Global;
 use std::fmt::{Debug, Display};
 use std::process::Abort;
 
-/// The two are the same. A call is cheaper to prove than the message.
-pub(crate) fn same<T: Copy + Debug + PartialEq>(rt: &impl Abort, found: T, wanted: T) {
-    assert_eq!(rt; found, wanted);
-}
-
-/// The same, with a message that names the case.
+/// The two are the same. A call is cheaper to prove than the message, which names the case.
 pub(crate) fn same_in<T: Copy + Debug + PartialEq, C: Debug>(
     rt: &impl Abort,
     found: T,
@@ -27,5 +22,5 @@ pub(crate) fn answer_of<T, E: Debug + Drop>(rt: &impl Abort, found: Result<T, E>
 /// What is printed of the refusal.
 pub(crate) fn says(rt: &impl Abort, alloc: Global, refusal: &impl Display, message: &str) {
     let printed = answer_of(rt, refusal.to_string(alloc));
-    same(rt, printed.as_str(), message);
+    same_in(rt, printed.as_str(), message, &"a message");
 }

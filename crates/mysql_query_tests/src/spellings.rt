@@ -3,7 +3,7 @@ use mysql_params::named_params::{NamedParamsError, ParsedNamedParams};
 use std::alloc::Global;
 
 /// A call that parses a query.
-#[derive(Clone, Copy, Debug)]
+#[derive(Clone, Copy)]
 pub(crate) enum Spelling {
     /// `parse`.
     Parse,
@@ -32,6 +32,15 @@ impl Spelling {
         match self {
             Spelling::Parse => false,
             Spelling::ParseIn(mode) => mode,
+        }
+    }
+
+    /// The name of the call in messages.
+    pub(crate) fn name(self) -> &'static str {
+        match self {
+            Spelling::Parse => "parse",
+            Spelling::ParseIn(false) => "parse_in(false)",
+            Spelling::ParseIn(true) => "parse_in(true)",
         }
     }
 }
