@@ -4,7 +4,7 @@ ghost use Rattle.mysql_sql_text.specs.StringUnits.{with_backslashes};
 ghost use Rattle.mysql_named_params.specs.Tokens.{OnTokens, Token};
 ghost use Rattle.mysql_named_params.specs.Places.{names, HasName, HasMark};
 ghost use Rattle.mysql_params_core.specs.Errors.{lookup_refusal};
-ghost use Rattle.mysql_params_core.specs.Given.{given};
+ghost use Rattle.mysql_params_core.specs.Given.{given, given_by_borrowed};
 ghost use Rattle.mysql_params_core.specs.Lookup.{lookup};
 ghost use Rattle.mysql_params_core.specs.Referents.{referents};
 ghost use Rattle.mysql_binding.specs.BindErrors.{IsCauseOrMemory, cause_of};
@@ -29,7 +29,7 @@ pub use crate::binding::parsed_query::ParsedQuery;
 pub use crate::binding::survey::{Survey, place_survey};
 use crate::binding::text::written_text;
 use mysql_named_params::places::{FoundPlace, PlaceKind};
-use mysql_params_core::params::{Params, ParamsError, place_values};
+use mysql_params_core::params::{BorrowedParams, Params, ParamsError, place_values};
 use mysql_values::value::Value;
 use std::alloc::Global;
 
@@ -69,16 +69,7 @@ pub fn bind_text_in(
     ensures mixed { OnTokens no_backslash_escape query.now (λ ts.
         HasName ts × HasMark ts → IsErrOf result BindError.Mixed) }
 {
-    let mut first = [NO_PLACE; KEPT_PLACES];
-    let (survey, kept) = place_survey(query, &mut first, no_backslash_escape);
-    bind_surveyed(
-        alloc,
-        query,
-        survey,
-        &first[..kept],
-        &params,
-        no_backslash_escape,
-    )
+    bind_borrowed_in(alloc, query, params.borrowed(), no_backslash_escape)
 }
 
 /// The query with the literal of a value in the place of each name and mark, in the mode in which a
@@ -112,6 +103,35 @@ const NO_PLACE: FoundPlace = FoundPlace {
     len: 0,
 };
 
+/// [`bind_text_in`] with borrowed parameters, lent to the crate above.
+pub fn bind_borrowed_in(
+    alloc: Global,
+    query: &[u8],
+    params: BorrowedParams<'_>,
+    no_backslash_escape: bool,
+) -> Result<Vec<u8>, BindError>
+    ensures bound { OnTokens no_backslash_escape query.now (λ ts. IfOk result (λ text.
+        IsBoundText no_backslash_escape ts (given_by_borrowed params.entry) text.items)) }
+    ensures refused { OnTokens no_backslash_escape query.now (λ ts. IfErr result
+        (IsCauseOrMemory (first_cause ts (given_by_borrowed params.entry)))) }
+    ensures bound_again { IfOk result (λ text. IsSameBoundAgain no_backslash_escape text.items) }
+    ensures by_position { OnTokens no_backslash_escape query.now (λ ts. IfOk result (λ text.
+        IsSameByPosition no_backslash_escape ts (given_by_borrowed params.entry) text.items)) }
+    ensures mixed { OnTokens no_backslash_escape query.now (λ ts.
+        HasName ts × HasMark ts → IsErrOf result BindError.Mixed) }
+{
+    let mut first = [NO_PLACE; KEPT_PLACES];
+    let (survey, kept) = place_survey(query, &mut first, no_backslash_escape);
+    bind_surveyed(
+        alloc,
+        query,
+        survey,
+        &first[..kept],
+        params,
+        no_backslash_escape,
+    )
+}
+
 /// The text of a query with this survey and these first places: the body of [`bind_text_in`] and of
 /// [`ParsedQuery::bind`], lent to the crate above, which keeps a survey in another form. It refuses
 /// what these refuse.
@@ -120,18 +140,18 @@ pub fn bind_surveyed(
     query: &[u8],
     survey: Survey,
     known: &[FoundPlace],
-    params: &Params,
+    params: BorrowedParams<'_>,
     no_backslash_escape: bool,
 ) -> Result<Vec<u8>, BindError>
     requires survey { OnTokens no_backslash_escape query.now (IsSurvey survey) }
     requires known { OnTokens no_backslash_escape query.now (BeginWithPlaces known.now) }
     ensures bound { OnTokens no_backslash_escape query.now (λ ts. IfOk result (λ text.
-        IsBoundText no_backslash_escape ts (given params.now) text.items)) }
+        IsBoundText no_backslash_escape ts (given_by_borrowed params.entry) text.items)) }
     ensures refused { OnTokens no_backslash_escape query.now (λ ts. IfErr result
-        (IsCauseOrMemory (first_cause ts (given params.now)))) }
+        (IsCauseOrMemory (first_cause ts (given_by_borrowed params.entry)))) }
     ensures bound_again { IfOk result (λ text. IsSameBoundAgain no_backslash_escape text.items) }
     ensures by_position { OnTokens no_backslash_escape query.now (λ ts. IfOk result (λ text.
-        IsSameByPosition no_backslash_escape ts (given params.now) text.items)) }
+        IsSameByPosition no_backslash_escape ts (given_by_borrowed params.entry) text.items)) }
     ensures mixed { OnTokens no_backslash_escape query.now (λ ts.
         HasName ts × HasMark ts → IsErrOf result BindError.Mixed) }
 {
@@ -169,16 +189,16 @@ fn values_of_places<'p>(
     query: &[u8],
     known: &[FoundPlace],
     name_count: usize,
-    params: &'p Params,
+    params: BorrowedParams<'p>,
     no_backslash_escape: bool,
 ) -> Result<Vec<&'p Value>, BindError>
     requires known { OnTokens no_backslash_escape query.now (BeginWithPlaces known.now) }
     requires names { OnTokens no_backslash_escape query.now (λ ts.
         (name_count ≡ length (names ts)) × (mixed_cause ts ≡ None)) }
     ensures values { IfOk result (λ values. OnTokens no_backslash_escape query.now (λ ts.
-        lookup (given params.now) (names ts) ≡ Ok (referents values.items))) }
+        lookup (given_by_borrowed params.entry) (names ts) ≡ Ok (referents values.items))) }
     ensures refused { IfErr result (λ error. OnTokens no_backslash_escape query.now (λ ts.
-        IsCauseOrMemory (first_cause ts (given params.now)) error)) }
+        IsCauseOrMemory (first_cause ts (given_by_borrowed params.entry)) error)) }
 {
     let names = match query_names(alloc, query, known, name_count, no_backslash_escape) {
         Ok(names) => names,

@@ -11,4 +11,6 @@ mod binding;
 pub mod laws;
 
 pub use bind_error::BindError;
-pub use binding::{ParsedQuery, Survey, bind_surveyed, bind_text, bind_text_in, place_survey};
+pub use binding::{
+    ParsedQuery, Survey, bind_borrowed_in, bind_surveyed, bind_text, bind_text_in, place_survey,
+};

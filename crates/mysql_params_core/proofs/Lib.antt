@@ -1,6 +1,7 @@
 pub mod MapLemmas
 pub mod EqualityLemmas
 pub mod InsertLemmas
+pub mod SortedMapLemmas
 pub mod PrefixLemmas
 pub mod MissingLemmas
 pub mod WalkLemmas

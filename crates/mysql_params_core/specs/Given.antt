@@ -8,6 +8,8 @@ use Rattle.std.specs.FinMap.{FinMap, from_entries}
 use Rattle.mysql_value_core.specs.declared.value.Value.{Value}
 use Rattle.mysql_params_core.specs.declared.params.Params.{Params}
 use Rattle.mysql_params_core.specs.declared.params.Params.TheVariants.{Empty, Named, Positional}
+use Rattle.mysql_params_core.specs.declared.params.borrowed.BorrowedParams.{BorrowedParams}
+use Rattle.mysql_params_core.specs.declared.params.borrowed.BorrowedParams.TheVariants as borrowed
 
 -- a finite map from names, which are bytes, to values
 abbrev pub ValueMap : Type 0
@@ -35,3 +37,10 @@ abbrev pub given : Params → Given
 given Empty = empty
 given (Named entries) = named (value_map entries.entries)
 given (Positional values) = positional values.items
+
+-- what these borrowed parameters give
+abbrev pub given_by_borrowed : BorrowedParams → Given
+given_by_borrowed borrowed.Empty = empty
+given_by_borrowed (borrowed.Named entries) = named (value_map entries.now.entries)
+given_by_borrowed (borrowed.Sorted entries) = named (value_map entries.now.entries)
+given_by_borrowed (borrowed.Positional values) = positional values.now

@@ -13,7 +13,8 @@ mod shown;
 mod to_params;
 mod tuples;
 
-pub use borrowed::place_values;
+pub use borrowed::{BorrowedParams, place_values};
+pub use entries::{NameMap, has_name};
 pub use errors::{
     IntoPositionalError, MissingNamedParameterError, ParamsConfusionError, ParamsError,
     ToParamsError,

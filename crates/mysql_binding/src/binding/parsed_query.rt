@@ -135,7 +135,7 @@ impl<'q> ParsedQuery<'q> {
             self.query.as_slice(),
             self.survey,
             self.places.as_slice(),
-            &params,
+            params.borrowed(),
             self.no_backslash_escape,
         )
     }

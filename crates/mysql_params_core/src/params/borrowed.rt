@@ -1,16 +1,44 @@
-//! The values of the names of a query, borrowed and not copied.
+//! The values of the names of a query, borrowed and not copied, from parameters that are borrowed.
 ghost use Rattle.std.specs.Prelude.{◌≡◌, ◌<◌, IfOk, IsErrOf, OnErr, alloc_error, length, ⊤};
 ghost use Rattle.mysql_wire_part.specs.Answer.{IsAnswer};
 ghost use Rattle.mysql_params_core.specs.Errors.{lookup_refusal};
-ghost use Rattle.mysql_params_core.specs.Given.{given, value_map, named};
+ghost use Rattle.mysql_params_core.specs.Given.{ValueMap, given, given_by_borrowed, named};
 ghost use Rattle.mysql_params_core.specs.Lookup.{lookup, PlaceValuesTakeMemory};
 ghost use Rattle.mysql_params_core.specs.Referents.{referents};
 
+use crate::params::entries::NameMap;
 use crate::params::lookup::{missing_params_error, reported_name};
 use crate::params::{Params, ParamsConfusionError, ParamsError};
 use mysql_values::value::Value;
 use std::alloc::{AllocError, Global};
-use std::collections::HashMap;
+use std::collections::{BTreeMap, HashMap};
+
+/// Borrowed parameters: those of [`Params`], or named ones in a sorted map. The crates above bind
+/// by these; no user needs them.
+#[derive(Clone, Copy)]
+pub enum BorrowedParams<'p> {
+    /// Nothing.
+    Empty,
+    /// Values by name.
+    Named(&'p HashMap<Vec<u8>, Value>),
+    /// Values by name, in the order of the names.
+    Sorted(&'p BTreeMap<Vec<u8>, Value>),
+    /// Values by position.
+    Positional(&'p [Value]),
+}
+
+impl Params {
+    /// The same parameters, borrowed.
+    pub fn borrowed(&self) -> BorrowedParams<'_>
+        ensures { given_by_borrowed result ≡ given self.now }
+    {
+        match self {
+            Params::Empty => BorrowedParams::Empty,
+            Params::Named(entries) => BorrowedParams::Named(entries),
+            Params::Positional(values) => BorrowedParams::Positional(values.as_slice()),
+        }
+    }
+}
 
 /// The values for the names of a query, as [`Params::into_values`] gives them, where they stand in
 /// the parameters: no value is copied, and of the names only one that is missing. An empty list
@@ -21,33 +49,28 @@ use std::collections::HashMap;
 /// The crates above bind by this; no user needs it.
 pub fn place_values<'p>(
     alloc: Global,
-    params: &'p Params,
+    params: BorrowedParams<'p>,
     names: &[&[u8]],
 ) -> Result<Vec<&'p Value>, ParamsError>
     ensures values { IsAnswer (λ values. referents values.items) lookup_refusal
-        (lookup (given params.now) (referents names.now)) ⊤ result }
+        (lookup (given_by_borrowed params.entry) (referents names.now)) ⊤ result }
     ensures memory { IsErrOf result (ParamsError.Memory alloc_error) →
-        PlaceValuesTakeMemory (given params.now) (referents names.now) }
+        PlaceValuesTakeMemory (given_by_borrowed params.entry) (referents names.now) }
 {
     match params {
-        Params::Empty => match names.first() {
+        BorrowedParams::Empty => match names.first() {
             None => Ok(Vec::new(alloc)),
             Some(name) => Err(missing_params_error(alloc, name)),
         },
-        Params::Positional(values) => {
+        BorrowedParams::Positional(values) => {
             if names.is_empty() {
-                borrowed_values(alloc, values.as_slice()).map_err(ParamsError::Memory)
+                borrowed_values(alloc, values).map_err(ParamsError::Memory)
             } else {
                 Err(ParamsError::Confusion(ParamsConfusionError::PositionalParamsForNamedQuery))
             }
         }
-        Params::Named(entries) => {
-            if names.is_empty() {
-                Err(ParamsError::Confusion(ParamsConfusionError::NamedParamsForPositionalQuery))
-            } else {
-                named_place_values(alloc, entries, names)
-            }
-        }
+        BorrowedParams::Named(entries) => named_place_values(alloc, entries, names),
+        BorrowedParams::Sorted(entries) => named_place_values(alloc, entries, names),
     }
 }
 
@@ -63,19 +86,22 @@ fn borrowed_values<'v>(alloc: Global, values: &'v [Value]) -> Result<Vec<&'v Val
     Ok(references)
 }
 
-// What named parameters give to a list with names. Each name is looked up once.
-fn named_place_values<'p>(
+// What named parameters give to a list of names. Each name is looked up once.
+fn named_place_values<'p, M: NameMap>(
     alloc: Global,
-    entries: &'p HashMap<Vec<u8>, Value>,
+    entries: &'p M,
     names: &[&[u8]],
 ) -> Result<Vec<&'p Value>, ParamsError>
-    requires { 0 < length names.now }
-    ensures { IsAnswer (λ values. referents values.items) lookup_refusal
-        (lookup (named (value_map entries.now.entries)) (referents names.now)) ⊤ result }
+    ensures values { IsAnswer (λ values. referents values.items) lookup_refusal
+        (lookup (named (M.values entries.now)) (referents names.now)) ⊤ result }
+    ensures memory { IsErrOf result (ParamsError.Memory alloc_error) → 0 < length names.now }
 {
+    if names.is_empty() {
+        return Err(ParamsError::Confusion(ParamsConfusionError::NamedParamsForPositionalQuery));
+    }
     let mut values = Vec::with_capacity(alloc, names.len()).map_err(ParamsError::Memory)?;
     for (i, name) in names.iter().enumerate() {
-        match entries.get(*name) {
+        match entries.value_of(*name) {
             Some(value) => match values.push(value) {
                 Ok(()) => {}
                 Err(_) => return Err(ParamsError::Memory(AllocError)),

@@ -9,7 +9,7 @@ ghost use Rattle.mysql_params_core.specs.Given.{given, value_map, named};
 ghost use Rattle.mysql_params_core.specs.Lookup.{lookup, missing, positional_of, values_at, LookupTakesMemory, PositionTakesMemory};
 ghost use Rattle.mysql_params_core.specs.Names.{names_of, listed_names, missing_name};
 
-use crate::params::entries::has_name;
+use crate::params::entries::{NameMap, has_name};
 use crate::params::{
     IntoPositionalError, MissingNamedParameterError, Params, ParamsConfusionError, ParamsError,
     ToName,
@@ -136,13 +136,13 @@ fn first_absent(entries: &HashMap<Vec<u8>, Value>, names: &[Vec<u8>]) -> Option<
 
 // The name that is reported as missing. `first` is the index of the first name that is not in the
 // map.
-pub(crate) fn reported_name<'n, N: ToName>(
-    entries: &HashMap<Vec<u8>, Value>,
+pub(crate) fn reported_name<'n, M: NameMap, N: ToName>(
+    entries: &M,
     names: &'n [N],
     first: usize,
 ) -> &'n [u8]
-    requires { IsFirstAbsent (value_map entries.now.entries) (map N.name names.now) (Some first) }
-    ensures { result.now ≡ missing_name (value_map entries.now.entries) (map N.name names.now) }
+    requires { IsFirstAbsent (M.values entries.now) (map N.name names.now) (Some first) }
+    ensures { result.now ≡ missing_name (M.values entries.now) (map N.name names.now) }
 {
     if has_any(entries, &names[first + 1..]) {
         names[first].name_bytes()
@@ -152,9 +152,9 @@ pub(crate) fn reported_name<'n, N: ToName>(
 }
 
 // Whether any of the names is in the map.
-fn has_any<N: ToName>(entries: &HashMap<Vec<u8>, Value>, names: &[N]) -> bool
+fn has_any<M: NameMap, N: ToName>(entries: &M, names: &[N]) -> bool
     ensures { result
-        ≡ list_any (λ name. contains_key (value_map entries.now.entries) (N.name name)) names.now }
+        ≡ list_any (λ name. contains_key (M.values entries.now) (N.name name)) names.now }
 {
     names
         .iter()

@@ -1,6 +1,6 @@
 use Rattle.std.proofs.Common.{ap, sym, ◌∙◌, inl, inr}
 use Rattle.std.specs.Prelude.{option_map}
-use Rattle.mysql_params_core.specs.Given.{given}
+use Rattle.mysql_params_core.specs.Given.{given_by_borrowed}
 use Rattle.mysql_params_core.specs.Lookup.{lookup}
 use Rattle.mysql_params_core.specs.Referents.{referents}
 use Rattle.mysql_binding.specs.FirstCause.{refused_params}
@@ -9,7 +9,7 @@ use Rattle.mysql_binding.proofs.binding.values_of_places.Goals as goal
 
 pub returns-clause-refused : goal.returns-clause-refused
 returns-clause-refused c =
-    let params = given c.args.params.now in
+    let params = given_by_borrowed c.args.params in
     elim (no_refusal_or_expected _ _ _ c.in-Err-place_values.ensures.values) [
       | inl e ↦ (c.requires.names.0, c.requires.names.1, inl (c.bind_error_of.ensures.memory e))
       | inr r ↦

@@ -13,7 +13,7 @@ use Rattle.mysql_binding.proofs.binding.parsed_query.ParsedQuery.bind.Goals as g
 pub returns-clause-refused : goal.returns-clause-refused
 returns-clause-refused c =
     subst (λ (v : QueryInMode). OnTokens v.mode v.query (λ ts. IfErr c.bind_surveyed.result (IsCauseOrMemory (first_cause ts (given c.args.params)))))
-    c.self.view_is (rw c.as_slice.ensures.value at c.bind_surveyed.ensures.refused)
+    c.self.view_is (rw (c.as_slice.ensures.value, c.borrowed.ensures) at c.bind_surveyed.ensures.refused)
 
 pub returns-clause-bound_again : goal.returns-clause-bound_again
 returns-clause-bound_again c =
@@ -22,7 +22,7 @@ returns-clause-bound_again c =
 pub returns-clause-by_position : goal.returns-clause-by_position
 returns-clause-by_position c =
     subst (λ (v : QueryInMode). OnTokens v.mode v.query (λ ts. IfOk c.bind_surveyed.result (λ text. IsSameByPosition v.mode ts (given c.args.params) text.items)))
-    c.self.view_is (rw c.as_slice.ensures.value at c.bind_surveyed.ensures.by_position)
+    c.self.view_is (rw (c.as_slice.ensures.value, c.borrowed.ensures) at c.bind_surveyed.ensures.by_position)
 
 pub returns-clause-mixed : goal.returns-clause-mixed
 returns-clause-mixed c =
