@@ -3,8 +3,7 @@ use Rattle.std.specs.Prelude.{Result, Ok, Err, ⊤, IsOk, alloc_error, IfOk, IfE
 use Rattle.std.specs.FinMap as finite
 use Rattle.std.proofs.Common.{◌≡◌, ◌≢◌, ℕ, zero, suc, ◌+◌, ◌-◌, ◌<◌, ◌≤◌, List, [], ◌∷◌, length, inl, inr, true, false, refl, sym, ap, ◌∙◌, subst, arith}
 use Rattle.mysql_value_core.specs.declared.value.Value.{Value}
-use Rattle.mysql_params_core.specs.Given.{Given, empty, named, positional, given}
-use Rattle.mysql_params_core.specs.declared.params.Params.{Params}
+use Rattle.mysql_params_core.specs.Given.{Given, empty, named, positional}
 use Rattle.mysql_flat_params.specs.FlatForm.{FormRefusal, FormReading, read_name, read_value, with_parameter, after_value, after_name, read_parameter, IsReadFrom, IsFormReading, read_to_end, refused_at, read_on}
 use Rattle.std.proofs.lemmas.Bool.{eqb-true}
 use Rattle.mysql_wire_part.specs.Answer.{IsExpectedRefusal}
@@ -157,14 +156,14 @@ module _ (form : List ℕ) where
           (first_parameter (Ok (name, rest)) is ∙ ap (after_value empty name) value_is) refl).0
 
       -- what follows it gives the parameters, or refuses them
-      pub params_after_first : (first : Given) → with_parameter empty name value ≡ first → (result : Result Params FormError) →
-          IfOk result (λ params. IsReadFrom (length form) 1 first next (Ok (given params))) →
-          IfOk result (λ params. IsFormReading form (Ok (given params)))
-      params_after_first first same (Ok params) h =
-          first_read _ (subst (λ g. IsReadFrom (length form) 1 g next (Ok (given params))) (sym same) h)
-      params_after_first first same (Err error) h = h
+      pub params_after_first : {X : Type 0} (seen : X → Given) (first : Given) → with_parameter empty name value ≡ first → (result : Result X FormError) →
+          IfOk result (λ params. IsReadFrom (length form) 1 first next (Ok (seen params))) →
+          IfOk result (λ params. IsFormReading form (Ok (seen params)))
+      params_after_first seen first same (Ok params) h =
+          first_read _ (subst (λ g. IsReadFrom (length form) 1 g next (Ok (seen params))) (sym same) h)
+      params_after_first seen first same (Err error) h = h
 
-      pub refused_after_first : (first : Given) → with_parameter empty name value ≡ first → (result : Result Params FormError) →
+      pub refused_after_first : {X : Type 0} (first : Given) → with_parameter empty name value ≡ first → (result : Result X FormError) →
           IfErr result (IsRefusalFrom (length form) 1 first next) → IfErr result (IsFormRefusal form)
       refused_after_first first same (Ok params) h = h
       refused_after_first first same (Err error) (inl memory) = inl memory

@@ -21,7 +21,6 @@ use Rattle.mysql_flat_params.specs.FormErrors.{IsFormRefusal}
 use Rattle.mysql_flat_params.specs.declared.form_error.FormError.{FormError}
 use Rattle.mysql_flat_params.specs.declared.form_error.FormError.TheVariants.{Memory}
 use Rattle.mysql_flat_params.proofs.FormLemmas.{one_reading}
-use Rattle.mysql_params_core.specs.declared.params.Params.{Params}
 use Rattle.mysql_flat_params.specs.IntoRoom.{IsBindOutcome, IsInRoom, IsMissingName, IsNamesAnswer, IsNamesOutcome, IsRefusedFor}
 use Rattle.mysql_flat_params.specs.NamesAnswer.{names_answer}
 use Rattle.mysql_flat_params.specs.Outcomes.{IfDone}
@@ -69,8 +68,8 @@ missing_told mode query form name (Missing place position len) refused told = (n
 missing_told mode query form name outcome refused told = absurd told
 
 -- the empty form is not refused
-pub empty_not_refused : (form : List ℕ) (error : FormError) → form ≡ [] → IsFormRefusal form error →
-    (◌≡◌ {A = Result Params FormError} (Err error) (Err (Memory alloc_error)) → IsOk (read_parameter (length form) 0 empty form)) → ⊥
+pub empty_not_refused : {X : Type 0} (form : List ℕ) (error : FormError) → form ≡ [] → IsFormRefusal form error →
+    (◌≡◌ {A = Result X FormError} (Err error) (Err (Memory alloc_error)) → IsOk (read_parameter (length form) 0 empty form)) → ⊥
 empty_not_refused [] error none (inl memory) allocates =
     let never : IsOk (read_parameter 0 0 empty []) = allocates (ap (λ e. Err e) memory) in
     cc

@@ -1,6 +1,7 @@
 pub mod ColumnNumbers
 pub mod FlatForm
 pub mod FormErrors
+pub mod FormParams
 pub mod Outcomes
 pub mod NamePlace
 pub mod NamesAnswer

@@ -4,14 +4,15 @@ ghost use Rattle.std.specs.FinMap as finite;
 ghost use Rattle.mysql_wire_part.specs.Answer.{IsAnswer};
 ghost use Rattle.mysql_wire_part.specs.Column.{is_unsigned};
 ghost use Rattle.mysql_wire_part.specs.ParseBuf.{left, read_refusal};
-ghost use Rattle.mysql_params_core.specs.Given.{empty, given, named, positional, value_map};
+ghost use Rattle.mysql_params_core.specs.Given.{empty, given, named, positional};
 ghost use Rattle.mysql_flat_params.specs.ColumnNumbers.{is_unsigned_parameter};
 ghost use Rattle.mysql_flat_params.specs.FlatForm.{HasFirstParameter, IsFormReading, IsReadFrom, name_refusal, refused_in, read_name, read_parameter, read_value};
 ghost use Rattle.mysql_flat_params.specs.FormErrors.{IsFormRefusal, IsRefusalFrom, form_refusal};
+ghost use Rattle.mysql_flat_params.specs.FormParams.{given_in_form};
 
 use crate::column_number::column_type;
 use crate::form_error::FormError;
-use mysql_params_core::params::Params;
+use mysql_params_core::params::{NameMap, Params, has_name};
 use mysql_values::value::{BinValue, Value, ValueDeserializer};
 use mysql_wire_part::{ColumnFlags, Flags, MyDeserialize, ParseBuf, WireError};
 use std::alloc::{AllocError, Global};
@@ -51,9 +52,36 @@ pub fn params_of_form(alloc: Global, form: &[u8]) -> Result<Params, FormError>
     ensures memory { IsErrOf result (FormError.Memory alloc_error) →
         HasFirstParameter form.now }
 {
+    match form_params::<HashMap<Vec<u8>, Value>>(alloc, form) {
+        Ok(FormParams::Empty) => Ok(Params::Empty),
+        Ok(FormParams::Named(entries)) => Ok(Params::Named(entries)),
+        Ok(FormParams::Positional(values)) => Ok(Params::Positional(values)),
+        Err(error) => Err(error),
+    }
+}
+
+/// What a form says, with names in a map of either kind.
+#[derive(Drop)]
+pub(crate) enum FormParams<M: Drop> {
+    Empty,
+    Named(M),
+    Positional(Vec<Value>),
+}
+
+/// The parameters that a form says, as [`params_of_form`] gives them.
+pub(crate) fn form_params<M: NameMap>(
+    alloc: Global,
+    form: &[u8],
+) -> Result<FormParams<M>, FormError>
+    ensures params { IfOk result (λ params.
+        IsFormReading form.now (Ok (given_in_form M.values params))) }
+    ensures refused { IfErr result (IsFormRefusal form.now) }
+    ensures memory { IsErrOf result (FormError.Memory alloc_error) →
+        HasFirstParameter form.now }
+{
     let mut rest = ParseBuf(form);
     if rest.is_empty() {
-        return Ok(Params::Empty);
+        return Ok(FormParams::Empty);
     }
     let spot = Spot {
         place: 0,
@@ -69,15 +97,16 @@ pub fn params_of_form(alloc: Global, form: &[u8]) -> Result<Params, FormError>
 }
 
 // The parameters by position that begin with this value and go on with the rest.
-fn positional_params(
+fn positional_params<M: NameMap>(
     alloc: Global,
     total: usize,
     first: Value,
     rest: ParseBuf<'_>,
-) -> Result<Params, FormError>
+) -> Result<FormParams<M>, FormError>
     requires { length (left rest) < total }
     ensures params { IfOk result (λ params.
-        IsReadFrom total 1 (positional (first ∷ [])) (left rest.entry) (Ok (given params))) }
+        IsReadFrom total 1 (positional (first ∷ [])) (left rest.entry)
+        (Ok (given_in_form M.values params))) }
     ensures refused { IfErr result
         (IsRefusalFrom total 1 (positional (first ∷ [])) (left rest.entry)) }
 {
@@ -90,7 +119,7 @@ fn positional_params(
     while !rest.is_empty() {
         append_parameter(alloc, total, &mut values, &mut rest)?;
     }
-    Ok(Params::Positional(values))
+    Ok(FormParams::Positional(values))
 }
 
 // Appends the value of the next parameter by position.
@@ -125,23 +154,23 @@ fn append_parameter(
 }
 
 // The parameters by name that begin with this one and go on with the rest.
-fn named_params(
+fn named_params<M: NameMap>(
     alloc: Global,
     total: usize,
     name: &[u8],
     first: Value,
     rest: ParseBuf<'_>,
-) -> Result<Params, FormError>
+) -> Result<FormParams<M>, FormError>
     requires { length (left rest) < total }
     ensures params { IfOk result (λ params.
         IsReadFrom total 1 (named (finite.insert finite.empty name.now first)) (left rest.entry)
-        (Ok (given params))) }
+        (Ok (given_in_form M.values params))) }
     ensures refused { IfErr result
         (IsRefusalFrom total 1 (named (finite.insert finite.empty name.now first))
         (left rest.entry)) }
 {
-    let mut entries = HashMap::new(alloc);
-    match insert_value(alloc, &mut entries, name, first) {
+    let mut entries = M::without_names(alloc);
+    match entries.insert_value(alloc, name, first) {
         Ok(()) => {}
         Err(error) => return Err(FormError::Memory(error)),
     }
@@ -151,21 +180,20 @@ fn named_params(
         insert_parameter(alloc, total, place, &mut entries, &mut rest)?;
         place += 1;
     }
-    Ok(Params::Named(entries))
+    Ok(FormParams::Named(entries))
 }
 
 // Inserts the value of the next parameter by name under its name.
-fn insert_parameter(
+fn insert_parameter<M: NameMap>(
     alloc: Global,
     total: usize,
     place: usize,
-    entries: &mut HashMap<Vec<u8>, Value>,
+    entries: &mut M,
     rest: &mut ParseBuf<'_>,
 ) -> Result<(), FormError>
     requires { length (left rest.old) ≤ total }
-    ensures { IsAnswer (λ _. (named (value_map entries.new.entries), left rest.new)) form_refusal
-        (read_parameter total place (named (value_map entries.old.entries)) (left rest.old))
-        ⊤ result }
+    ensures { IsAnswer (λ _. (named (M.values entries.new), left rest.new)) form_refusal
+        (read_parameter total place (named (M.values entries.old)) (left rest.old)) ⊤ result }
 {
     let spot = Spot {
         place,
@@ -177,22 +205,17 @@ fn insert_parameter(
         return Err(error);
     }
     let value = eat_value(alloc, spot, rest)?;
-    match insert_value(alloc, entries, name, value) {
+    match entries.insert_value(alloc, name, value) {
         Ok(()) => Ok(()),
         Err(error) => Err(FormError::Memory(error)),
     }
 }
 
 // Why a name, which stands at this index, is refused after parameters by name.
-fn name_error(
-    spot: Spot,
-    at: usize,
-    entries: &HashMap<Vec<u8>, Value>,
-    name: &[u8],
-) -> Option<FormError>
+fn name_error<M: NameMap>(spot: Spot, at: usize, entries: &M, name: &[u8]) -> Option<FormError>
     ensures refusal { option_and_then form_refusal result
         ≡ name_refusal spot.place spot.position at
-        (named (value_map entries.now.entries)) name.now }
+        (named (M.values entries.now)) name.now }
     ensures no_memory { IfSome result (λ error. is_some (form_refusal error) ≡ true) }
 {
     let Spot { place, position } = spot;
@@ -207,30 +230,6 @@ fn name_error(
         });
     }
     None
-}
-
-// Whether the name is in the map.
-fn has_name(entries: &HashMap<Vec<u8>, Value>, name: &[u8]) -> bool
-    ensures { result ≡ finite.contains_key (value_map entries.now.entries) name.now }
-{
-    entries.contains_key(name)
-}
-
-// Inserts a value under a copy of a new name.
-fn insert_value(
-    alloc: Global,
-    entries: &mut HashMap<Vec<u8>, Value>,
-    name: &[u8],
-    value: Value,
-) -> Result<(), AllocError>
-    ensures { OnOk result (value_map entries.new.entries
-        ≡ finite.insert (value_map entries.old.entries) name.now value) }
-{
-    let name = Vec::from_slice(alloc, name)?;
-    match entries.insert(name, value) {
-        Ok(_) => Ok(()),
-        Err(_) => Err(AllocError),
-    }
 }
 
 // The name at the front of a parameter.

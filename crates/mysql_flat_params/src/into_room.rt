@@ -1,32 +1,37 @@
 //! The bound text, in a room that the caller lends.
-ghost use Rattle.std.specs.Prelude.{◌≡◌, ◌≢◌, ◌⊎◌, ◌+◌, ◌≤◌, ◌<◌, ◌++◌, ℕ, Bool, List, [], ◌∷◌, None, Ok, length, take, drop, map, IfSome, alloc_error};
+ghost use Rattle.std.specs.Prelude.{◌≡◌, ◌≢◌, ◌⊎◌, ◌+◌, ◌≤◌, ◌<◌, ◌++◌, ℕ, Bool, List, [], ◌∷◌, None, Ok, length, take, drop, map, IfErr, IfOk, IfSome, IsErrOf, alloc_error};
 ghost use Rattle.std.specs.List.{Contains};
 ghost use Rattle.mysql_named_params.specs.Tokens.{OnTokens};
-ghost use Rattle.mysql_named_params.specs.Places.{names};
-ghost use Rattle.mysql_params_core.specs.Given.{Given};
+ghost use Rattle.mysql_named_params.specs.Places.{HasMark, HasName, names};
+ghost use Rattle.mysql_params_core.specs.Given.{Given, given_by_borrowed};
 ghost use Rattle.mysql_binding.specs.BindErrors.{IsCauseOrMemory};
 ghost use Rattle.mysql_binding.specs.FirstCause.{first_cause};
+ghost use Rattle.mysql_binding.specs.Isolation.{IsBoundText};
 ghost use Rattle.mysql_flat_params.specs.FlatForm.{HasFirstParameter, IsFormReading};
 ghost use Rattle.mysql_flat_params.specs.FormErrors.{IsFormRefusal};
+ghost use Rattle.mysql_flat_params.specs.FormParams.{given_by_sorted};
 ghost use Rattle.mysql_flat_params.specs.IntoRoom.{IfMixed, IsBindOutcome, IsBoundForm, IsInRoom, IsMissingName};
 ghost use Rattle.mysql_flat_params.specs.Outcomes.{HasNoAnswer, IfDone, IfTooLong, UnlessDone};
 
-use crate::form::params_of_form;
+use crate::form::{FormParams, form_params};
 use crate::form_error::FormError;
 use crate::missing_place::name_place;
 use crate::outcome::Outcome;
-use mysql_binding::{BindError, bind_text_in};
-use mysql_params_core::params::{ParamsConfusionError, ParamsError};
+use mysql_binding::{BindError, bind_borrowed_in};
+use mysql_params_core::params::{BorrowedParams, ParamsConfusionError, ParamsError};
+use mysql_values::value::Value;
 use std::alloc::Global;
+use std::collections::BTreeMap;
 
-/// Binds into a query what a form says, as [`bind_text_in`] binds the form's parameters in a mode,
-/// and writes the text to the front of the room. The form is that of [`params_of_form`].
+/// Binds into a query what a form says, as [`bind_text_in`](mysql_binding::bind_text_in) binds the
+/// form's parameters in a mode, and writes the text to the front of the room. The form is that of
+/// [`params_of_form`](crate::params_of_form).
 ///
 /// `Done` has the length of the text; the rest of the room is unchanged. `Room` has the length that
 /// the room would need. A form is refused before the query; then the first of the causes of
-/// [`bind_text_in`] refuses it. `Missing` tells the first place that has the missing name. The
-/// empty form over a query with names and marks is `Mixed` without allocating, and a form that is
-/// refused for its first parameter is refused without allocating too. Any other outcome may be
+/// `bind_text_in` refuses it. `Missing` tells the first place that has the missing name. The empty
+/// form over a query with names and marks is `Mixed` without allocating, and a form that is refused
+/// for its first parameter is refused without allocating too. Any other outcome may be
 /// `OutOfMemory` instead, which also comes where the text would be longer than `isize::MAX` bytes.
 /// After every outcome but `Done` the room is as before.
 pub fn bind_into(
@@ -52,13 +57,41 @@ pub fn bind_into(
     ensures too_long { IfTooLong result (λ len. length room.old < len) }
     ensures unchanged { UnlessDone result (room.new ≡ room.old) }
 {
-    let params = match params_of_form(alloc, form) {
+    let params = match form_params::<BTreeMap<Vec<u8>, Value>>(alloc, form) {
         Ok(params) => params,
         Err(error) => return form_outcome(error),
     };
-    match bind_text_in(alloc, query, params, no_backslash_escape) {
+    match bind_params(alloc, query, params, no_backslash_escape) {
         Ok(text) => fill_front(room, text.as_slice()),
         Err(error) => bind_outcome(query, error, no_backslash_escape),
+    }
+}
+
+// The text of a query with what a form says.
+fn bind_params(
+    alloc: Global,
+    query: &[u8],
+    params: FormParams<BTreeMap<Vec<u8>, Value>>,
+    no_backslash_escape: bool,
+) -> Result<Vec<u8>, BindError>
+    ensures bound { OnTokens no_backslash_escape query.now (λ ts. IfOk result (λ text.
+        IsBoundText no_backslash_escape ts (given_by_sorted params) text.items)) }
+    ensures refused { OnTokens no_backslash_escape query.now (λ ts. IfErr result
+        (IsCauseOrMemory (first_cause ts (given_by_sorted params)))) }
+    ensures mixed { OnTokens no_backslash_escape query.now (λ ts.
+        HasName ts × HasMark ts → IsErrOf result BindError.Mixed) }
+{
+    bind_borrowed_in(alloc, query, borrowed_params(&params), no_backslash_escape)
+}
+
+// The same parameters, borrowed.
+fn borrowed_params(params: &FormParams<BTreeMap<Vec<u8>, Value>>) -> BorrowedParams<'_>
+    ensures { given_by_borrowed result ≡ given_by_sorted params.now }
+{
+    match params {
+        FormParams::Empty => BorrowedParams::Empty,
+        FormParams::Named(entries) => BorrowedParams::Sorted(entries),
+        FormParams::Positional(values) => BorrowedParams::Positional(values.as_slice()),
     }
 }
 

@@ -3,21 +3,21 @@ use Rattle.mysql_flat_params.proofs.FormLemmas.{handed_on, not_empty, parameter_
 use Rattle.mysql_flat_params.proofs.form.positional_params.Goals as goal
 
 pub loop-rest-smaller : goal.loop-rest-smaller
-loop-rest-smaller c =
+loop-rest-smaller g c =
     (parameter_read _ _ _ _ _ _ _ _ _ _ c.loop-rest.invariant.0 (not_empty _ c.loop-rest-test.ensures.empty.1)
     c.in_ok-append_parameter.ensures.parameter c.in_ok-append_parameter.ensures.one_more).1
 
 pub loop-rest-preserved : goal.loop-rest-preserved
-loop-rest-preserved c =
+loop-rest-preserved g c =
     let next = parameter_read _ _ _ _ _ _ _ _ _ _ c.loop-rest.invariant.0 (not_empty _ c.loop-rest-test.ensures.empty.1)
     c.in_ok-append_parameter.ensures.parameter c.in_ok-append_parameter.ensures.one_more in
     (next.0, omega (arith, next.1, c.loop-rest.invariant.1))
 
 pub returns-clause-params : goal.returns-clause-params
-returns-clause-params c = whole_read _ _ _ _ _ _ _ c.loop-rest.invariant.0 (c.loop-rest-test.ensures.empty.0 refl)
+returns-clause-params g c = whole_read _ _ _ _ _ _ _ c.loop-rest.invariant.0 (c.loop-rest-test.ensures.empty.0 refl)
 
 pub returns-in_err-append_parameter-clause-refused :
     goal.returns-in_err-append_parameter-clause-refused
-returns-in_err-append_parameter-clause-refused c =
+returns-in_err-append_parameter-clause-refused g c =
     handed_on _ c.from_residual.result c.in_err-append_parameter.field-0.0 c.from_residual.ensures.1
     (parameter_refused _ _ _ _ _ _ _ _ c.loop-rest.invariant.0 (not_empty _ c.loop-rest-test.ensures.empty.1) c.in_err-append_parameter.ensures.parameter)

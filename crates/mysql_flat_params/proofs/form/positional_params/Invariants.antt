@@ -5,9 +5,9 @@ use Rattle.mysql_flat_params.proofs.FormLemmas.{LeadsTo}
 use Rattle.mysql_flat_params.proofs.form.positional_params.Given as goal
 
 abbrev pub invariant-loop-rest : goal.invariant-loop-rest
-invariant-loop-rest l =
+invariant-loop-rest g l =
     LeadsTo l.total 1 (positional (l.fn.first ∷ [])) l.fn.rest.0.now (length l.values.items) (positional l.values.items) l.rest.0.now
     × (length l.rest.0.now < l.total)
 
 abbrev pub decreases-loop-rest : goal.decreases-loop-rest
-decreases-loop-rest l = length l.rest.0.now
+decreases-loop-rest g l = length l.rest.0.now

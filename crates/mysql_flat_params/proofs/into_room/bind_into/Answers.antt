@@ -14,5 +14,5 @@ returns-in-Err-clause-mixed c = λ none.
 pub returns-in-Err-clause-memory : goal.returns-in-Err-clause-memory
 returns-in-Err-clause-memory c = λ is. inr (c.in-Err.ensures.memory (ap (λ e. Err e) (c.form_outcome.ensures.memory is)))
 
-pub returns-in-Err-bind_text_in-clause-memory : goal.returns-in-Err-bind_text_in-clause-memory
-returns-in-Err-bind_text_in-clause-memory c = λ is. first_stands _ _ c.in-Ok.ensures.params
+pub returns-in-Err-bind_params-clause-memory : goal.returns-in-Err-bind_params-clause-memory
+returns-in-Err-bind_params-clause-memory c = λ is. first_stands _ _ c.in-Ok.ensures.params
