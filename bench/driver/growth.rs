@@ -29,7 +29,7 @@ pub fn measure(report: &mut Report) {
     rows_of_both(report, "names", NAMES, inputs::many_names);
     rows_of_both(
         report,
-        "names that collide in the archive's hash",
+        "names that collide in std's hash map",
         NAMES,
         inputs::colliding_names,
     );

@@ -132,8 +132,8 @@ pub fn many_names(count: usize) -> Binding {
     named_by(count, |at| format!("name{at:012}").into_bytes())
 }
 
-/// The same, with names that lie close together in a hash map whose seed is fixed, as anyone can
-/// find them: among the names of hexadecimal digits those whose hash ends in a small number.
+/// The same, with names that lie close together in std's hash map, which has a fixed seed, as anyone
+/// can find them: among the names of hexadecimal digits those whose hash ends in a small number.
 pub fn colliding_names(count: usize) -> Binding {
     let names: Vec<Vec<u8>> = (0u64..)
         .map(|at| format!("c{at:x}").into_bytes())
@@ -143,7 +143,7 @@ pub fn colliding_names(count: usize) -> Binding {
     named_by(count, |at| names[at].clone())
 }
 
-/// The hash by which the map of the archive's standard library finds a name.
+/// The hash by which the hash map of the archive's standard library finds a name.
 fn hash(name: &[u8]) -> u32 {
     const SEED: u64 = 0x243f_6a88_85a3_08d3;
     const MULTIPLIER: u64 = 0x9e37_79b9_7f4a_7c15;
