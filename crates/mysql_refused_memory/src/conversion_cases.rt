@@ -5,7 +5,7 @@ use mysql_values::value::Value;
 use mysql_values::value::convert::{
     FromValue, IntoValue, OptionIr2, ParseIr, ParseIrOpt, ValueIr, from_value, from_value_opt,
 };
-use std::alloc::Global;
+use std::alloc::{AllocError, Global};
 use std::borrow::{CowSlice, CowStr};
 use std::time::Duration;
 
@@ -121,8 +121,8 @@ fn handed_back(alloc: Global, source: Source) -> Case {
         Source::BorrowedText => Ok(gives(alloc, CowStr::Borrowed("abc"), ABC)),
         Source::Present => Ok(gives(alloc, OptionIr2::<[u8; 3]>::Some(*b"abc"), ABC)),
         // What keeps its bytes is handed back without memory.
-        Source::String => text_given(alloc),
-        Source::Vector => vector_given(alloc),
+        Source::String => given(alloc, String::from_str(alloc, "abc")),
+        Source::Vector => given(alloc, Vec::from_slice(alloc, b"abc")),
         Source::OwnedText => owned_text_given(alloc),
         Source::OwnedSlice => owned_slice_given(alloc),
         Source::Intermediate => value_given(alloc),
@@ -135,14 +135,9 @@ fn handed_back(alloc: Global, source: Source) -> Case {
     }
 }
 
-fn text_given(alloc: Global) -> Case {
-    let text = String::from_str(alloc, "abc")?;
-    Ok(gives(alloc, text, ABC).without_memory())
-}
-
-fn vector_given(alloc: Global) -> Case {
-    let text = Vec::from_slice(alloc, b"abc")?;
-    Ok(gives(alloc, text, ABC).without_memory())
+/// The source, once it is there, is handed back as `abc`.
+fn given<T: IntoValue>(alloc: Global, source: Result<T, AllocError>) -> Case {
+    Ok(gives(alloc, source?, ABC).without_memory())
 }
 
 fn owned_text_given(alloc: Global) -> Case {
@@ -182,11 +177,11 @@ fn converted(alloc: Global, target: Target) -> Case {
         Target::Duration => converts(alloc, b"12:34:56", &Duration::from_secs(45296)),
         Target::Array => converts_one_way(alloc, b"ab", b"ab"),
         Target::Optional => converts(alloc, b"+7", &Some(7u8)),
-        Target::String => text_converted(alloc),
+        Target::String => converts_to(alloc, b"abc", String::from_str(alloc, "abc")),
         Target::CowText => cow_text_converted(alloc),
-        Target::Vector => bytes_converted(alloc),
+        Target::Vector => converts_to(alloc, b"\xC3\x28", Vec::from_slice(alloc, b"\xC3\x28")),
         Target::CowSlice => cow_bytes_converted(alloc),
-        Target::Value => value_converted(alloc),
+        Target::Value => converts_to(alloc, b"abc", bytes(alloc, b"abc")),
         Target::WhatConverts => holds(are_converted()),
         Target::Nothing => holds(are_refused()),
     }
@@ -233,8 +228,13 @@ fn goes_back<T: FromValue>(alloc: Global, text: &[u8]) -> Case {
     }
 }
 
-fn text_converted(alloc: Global) -> Case {
-    converts(alloc, b"abc", &String::from_str(alloc, "abc")?)
+/// The same, of a target that is made first.
+fn converts_to<T: FromValue + PartialEq + Drop>(
+    alloc: Global,
+    text: &[u8],
+    target: Result<T, AllocError>,
+) -> Case {
+    converts(alloc, text, &target?)
 }
 
 fn cow_text_converted(alloc: Global) -> Case {
@@ -253,20 +253,12 @@ fn back_if<T: FromValue>(alloc: Global, holds: bool, text: &[u8]) -> Case {
     }
 }
 
-fn bytes_converted(alloc: Global) -> Case {
-    converts(alloc, b"\xC3\x28", &Vec::from_slice(alloc, b"\xC3\x28")?)
-}
-
 fn cow_bytes_converted(alloc: Global) -> Case {
     let text = b"\xC3\x28".as_slice();
     match from_value_opt::<CowSlice<'static, u8>>(bytes(alloc, text)?) {
         Ok(found) => back_if::<CowSlice<'static, u8>>(alloc, found.as_slice() == text, text),
         Err(_error) => holds(false),
     }
-}
-
-fn value_converted(alloc: Global) -> Case {
-    converts(alloc, b"abc", &bytes(alloc, b"abc")?)
 }
 
 fn are_converted() -> bool {

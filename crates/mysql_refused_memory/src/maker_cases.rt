@@ -3,7 +3,7 @@ use crate::inputs::{Given, Plain};
 use crate::outcome::{Case, Outcome, cases, holds, judged, row};
 use mysql_params::params::{Params, ToPairs, ToParams, ToParamsError};
 use mysql_values::value::convert::ToValue;
-use std::alloc::Global;
+use std::alloc::{AllocError, Global};
 use std::time::Duration;
 
 /// A duration of more days than a `Time` has, in seconds.
@@ -65,7 +65,7 @@ fn made(alloc: Global, maker: Maker) -> Outcome {
         Maker::RepeatedObject => repeated_object(alloc),
         Maker::LongObject => long_object_by_name(alloc),
         Maker::TupleOfPairs => is_made(ONE_AND_TEXT.to_named(alloc), ONE_AND_X),
-        Maker::TwelvePairs => is_made(TWELVE_PAIRS.to_named(alloc), TWELVE_NAMES),
+        Maker::TwelvePairs => twelve_pairs(alloc),
         Maker::RepeatedPair => is_made(TWO_OF_A.to_named(alloc), REPEATED),
         Maker::LongPairOfTuple => long_pair_of_tuple(alloc),
     }
@@ -170,11 +170,11 @@ fn counts<T: ToParams>(alloc: Global, arguments: &T, last: usize) -> Outcome {
 
 fn params_made(alloc: Global, arguments: Arguments) -> Case {
     match arguments {
-        Arguments::Numbers => vector(alloc),
-        Arguments::Texts => vector_of_texts(alloc),
+        Arguments::Numbers => of(alloc, Vec::from_slice(alloc, ONE_TWO), COUNTED_TWO),
+        Arguments::Texts => of(alloc, Vec::from_slice(alloc, TEXTS), Ok(ABC)),
         Arguments::Reference => reference(alloc),
         Arguments::Objects => Ok(objects(alloc)),
-        Arguments::Copied(given) => copied(alloc, given),
+        Arguments::Copied(given) => of(alloc, given.params(alloc), Ok(given)),
         Arguments::Text => Ok(makes(alloc, &TEXT, Ok(ABC))),
         Arguments::Nothing => holds(nothing(alloc)),
         Arguments::LongDurations => long_vector(alloc),
@@ -228,12 +228,20 @@ fn tuple(alloc: Global, len: usize) -> Outcome {
     }
 }
 
-fn vector(alloc: Global) -> Case {
-    Ok(counts(alloc, &Vec::from_slice(alloc, &[1u64, 2])?, 2))
+/// The arguments, once they are there, make these parameters, or are refused so.
+fn of<T: ToParams + Drop>(alloc: Global, arguments: Result<T, AllocError>, wanted: Wanted) -> Case {
+    Ok(makes(alloc, &arguments?, wanted))
 }
 
-fn vector_of_texts(alloc: Global) -> Case {
-    Ok(makes(alloc, &Vec::from_slice(alloc, &["abc"])?, Ok(ABC)))
+const ONE_TWO: &[u64] = &[1, 2];
+
+const COUNTED_TWO: Wanted = Ok(Given::Positional(&[Plain::UInt(1), Plain::UInt(2)]));
+
+const TEXTS: &[&str] = &["abc"];
+
+fn long_vector(alloc: Global) -> Case {
+    let durations = [Duration::from_secs(1), Duration::from_secs(TOO_LONG)];
+    of(alloc, Vec::from_slice(alloc, &durations), REFUSED)
 }
 
 fn reference(alloc: Global) -> Case {
@@ -247,21 +255,12 @@ fn objects(alloc: Global) -> Outcome {
     is_made(objects.as_slice().to_params(alloc), Ok(OF_OBJECTS))
 }
 
-fn copied(alloc: Global, given: Given<'static>) -> Case {
-    Ok(makes(alloc, &given.params(alloc)?, Ok(given)))
-}
-
 fn nothing(alloc: Global) -> bool {
     let objects: [&dyn ToValue; 0] = [];
     makes(alloc, &(), EMPTY).is_right()
         && makes(alloc, &Vec::<u8>::new(alloc), EMPTY).is_right()
         && is_made(objects.as_slice().to_params(alloc), EMPTY).is_right()
         && makes(alloc, &Params::Empty, EMPTY).is_right()
-}
-
-fn long_vector(alloc: Global) -> Case {
-    let durations = [Duration::from_secs(1), Duration::from_secs(TOO_LONG)];
-    Ok(makes(alloc, &Vec::from_slice(alloc, &durations)?, REFUSED))
 }
 
 fn long_object(alloc: Global) -> Outcome {
@@ -343,6 +342,10 @@ const TWELVE_PAIRS: (
     ("k", 11),
     ("l", 12),
 );
+
+fn twelve_pairs(alloc: Global) -> Outcome {
+    is_made(TWELVE_PAIRS.to_named(alloc), TWELVE_NAMES)
+}
 
 fn long_pair_of_tuple(alloc: Global) -> Outcome {
     let pairs = (("a", 1u8), ("b", Duration::from_secs(TOO_LONG)));

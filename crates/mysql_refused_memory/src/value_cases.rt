@@ -2,7 +2,7 @@
 use crate::inputs::{Plain, bytes};
 use crate::outcome::{Case, Outcome, cases, holds, judged, row};
 use mysql_values::value::convert::ToValue;
-use std::alloc::Global;
+use std::alloc::{AllocError, Global};
 use std::borrow::{CowSlice, CowStr};
 use std::time::Duration;
 
@@ -55,11 +55,11 @@ const ARGUMENTS: &[(&str, Argument)] = cases! {
 /// How the call of this name went, if it stands here.
 pub(crate) fn case(alloc: Global, name: &str) -> Option<Case> {
     let case = match row(ARGUMENTS, name)? {
-        Argument::Vector => vector(alloc),
+        Argument::Vector => of(alloc, Vec::from_slice(alloc, SLICE)),
         Argument::OwnedSlice => owned_slice(alloc),
-        Argument::String => string(alloc),
+        Argument::String => of(alloc, String::from_str(alloc, TEXT)),
         Argument::OwnedText => owned_text(alloc),
-        Argument::Value => value_of_bytes(alloc),
+        Argument::Value => of(alloc, bytes(alloc, SLICE)),
         Argument::Numbers => {
             holds(signed_numbers(alloc) && unsigned_numbers(alloc) && others(alloc))
         }
@@ -112,8 +112,9 @@ fn object(alloc: Global) -> Outcome {
     judged(object.to_value(alloc), Ok(ABC))
 }
 
-fn vector(alloc: Global) -> Case {
-    Ok(makes(alloc, &Vec::from_slice(alloc, b"abc")?, ABC))
+/// The argument, once it is there, has the value of `abc`.
+fn of<T: ToValue + Drop>(alloc: Global, argument: Result<T, AllocError>) -> Case {
+    Ok(makes(alloc, &argument?, ABC))
 }
 
 fn owned_slice(alloc: Global) -> Case {
@@ -121,17 +122,9 @@ fn owned_slice(alloc: Global) -> Case {
     Ok(makes(alloc, &argument, ABC))
 }
 
-fn string(alloc: Global) -> Case {
-    Ok(makes(alloc, &String::from_str(alloc, "abc")?, ABC))
-}
-
 fn owned_text(alloc: Global) -> Case {
     let argument = CowStr::Owned(String::from_str(alloc, "abc")?);
     Ok(makes(alloc, &argument, ABC))
-}
-
-fn value_of_bytes(alloc: Global) -> Case {
-    Ok(makes(alloc, &bytes(alloc, b"abc")?, ABC))
 }
 
 /// Whether the argument has this value, which is no bytes.

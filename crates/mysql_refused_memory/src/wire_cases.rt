@@ -33,8 +33,8 @@ pub(crate) fn case(alloc: Global, name: &str) -> Option<Case> {
         Call::PutShort => string_appended(alloc, b"abc", b"\x03"),
         Call::PutLong => string_appended(alloc, LONG, b"\xFC\xFB\x00"),
         Call::Length => holds(lenenc_str_len(LONG) == 254),
-        Call::EatAll => holds(short_integers_eaten() && long_integers_eaten() && bytes_eaten()),
-        Call::EatTooFew => holds(too_few_for_short() && too_few_for_long()),
+        Call::EatAll => holds(integers(BYTES) == INTEGERS && bytes_eaten()),
+        Call::EatTooFew => holds(integers(&[]) == [None; 8] && are_too_few()),
         Call::EatString => holds(string_eaten()),
         Call::EatNoString => holds(strings_refused()),
     };
@@ -70,18 +70,30 @@ fn string_appended(alloc: Global, text: &[u8], head: &[u8]) -> Case {
 /// The first bytes of 2^63 - 2, least first.
 const BYTES: &[u8] = &[0xFE, 0xFF, 0xFF, 0xFF, 0xFF, 0xFF, 0xFF, 0x7F];
 
-fn short_integers_eaten() -> bool {
-    ParseBuf(BYTES).checked_eat_u8() == Some(254)
-        && ParseBuf(BYTES).checked_eat_i8() == Some(-2)
-        && ParseBuf(BYTES).checked_eat_u16_le() == Some(65534)
-        && ParseBuf(BYTES).checked_eat_i16_le() == Some(-2)
-}
+/// What they begin with, by each width.
+const INTEGERS: [Option<i128>; 8] = [
+    Some(254),
+    Some(-2),
+    Some(65534),
+    Some(-2),
+    Some(4294967294),
+    Some(-2),
+    Some(9223372036854775806),
+    Some(9223372036854775806),
+];
 
-fn long_integers_eaten() -> bool {
-    ParseBuf(BYTES).checked_eat_u32_le() == Some(4294967294)
-        && ParseBuf(BYTES).checked_eat_i32_le() == Some(-2)
-        && ParseBuf(BYTES).checked_eat_u64_le() == Some(9223372036854775806)
-        && ParseBuf(BYTES).checked_eat_i64_le() == Some(9223372036854775806)
+/// What each of the eight calls answers for the bytes, widened.
+fn integers(bytes: &[u8]) -> [Option<i128>; 8] {
+    [
+        ParseBuf(bytes).checked_eat_u8().map(i128::from),
+        ParseBuf(bytes).checked_eat_i8().map(i128::from),
+        ParseBuf(bytes).checked_eat_u16_le().map(i128::from),
+        ParseBuf(bytes).checked_eat_i16_le().map(i128::from),
+        ParseBuf(bytes).checked_eat_u32_le().map(i128::from),
+        ParseBuf(bytes).checked_eat_i32_le().map(i128::from),
+        ParseBuf(bytes).checked_eat_u64_le().map(i128::from),
+        ParseBuf(bytes).checked_eat_i64_le().map(i128::from),
+    ]
 }
 
 fn bytes_eaten() -> bool {
@@ -92,27 +104,40 @@ fn bytes_eaten() -> bool {
     }
 }
 
-fn too_few_for_short() -> bool {
-    let mut none = ParseBuf(&[]);
-    let mut one = ParseBuf(&BYTES[..1]);
-    none.checked_eat_u8().is_none()
-        && none.checked_eat_i8().is_none()
-        && one.checked_eat_u16_le().is_none()
-        && one.checked_eat_i16_le().is_none()
-        && one.len() == 1
-}
-
-fn too_few_for_long() -> bool {
-    let mut three = ParseBuf(&BYTES[..3]);
+/// Whether one byte fewer than is asked for is refused, and stays.
+fn are_too_few() -> bool {
     let mut seven = ParseBuf(&BYTES[..7]);
-    three.checked_eat_u32_le().is_none()
-        && three.checked_eat_i32_le().is_none()
-        && three.checked_eat_buf(4).is_none()
-        && three.len() == 3
+    integers(&BYTES[..1]) == ONE_BYTE
+        && integers(&BYTES[..3]) == THREE_BYTES
+        && integers(&BYTES[..7]) == SEVEN_BYTES
+        && seven.checked_eat_buf(8).is_none()
         && seven.checked_eat_u64_le().is_none()
-        && seven.checked_eat_i64_le().is_none()
         && seven.len() == 7
 }
+
+const ONE_BYTE: [Option<i128>; 8] = [Some(254), Some(-2), None, None, None, None, None, None];
+
+const THREE_BYTES: [Option<i128>; 8] = [
+    Some(254),
+    Some(-2),
+    Some(65534),
+    Some(-2),
+    None,
+    None,
+    None,
+    None,
+];
+
+const SEVEN_BYTES: [Option<i128>; 8] = [
+    Some(254),
+    Some(-2),
+    Some(65534),
+    Some(-2),
+    Some(4294967294),
+    Some(-2),
+    None,
+    None,
+];
 
 fn string_eaten() -> bool {
     let mut buf = ParseBuf(b"\x03abc*");
