@@ -1,8 +1,8 @@
 //! Conversions to Booleans, texts, bytes and optional things, and their way back.
 use crate::shared::{
-    answer_of, bytes, comes_back, commits, converts, converts_by_std_traits, gives, gives_back,
-    hands_back, has_value, keeps_both, refused, refused_by_std_trait, refused_bytes,
-    refuses_other_variants, rolls_back, same, same_in, text_converts,
+    NO_BYTES, OTHER_VARIANTS, Plain, answer_of, bytes, comes_back, commits, converts,
+    converts_by_std_traits, gives, gives_back, hands_back, keeps_both, read_as,
+    refused_by_std_trait, refuses, rolls_back, same, value,
 };
 use mysql_values::value::convert::{
     FromValue, FromValueError, IntoValue, OptionIr2, ParseIr, ParseIrOpt, ToValue, ToValueError,
@@ -15,32 +15,28 @@ use std::fmt::{Debug, Display};
 use std::process::Abort;
 use std::time::Duration;
 
-// The value converts to the Boolean, whose own value is 0 or 1.
-fn reads_boolean(rt: &impl Abort, alloc: Global, value: Value, boolean: bool) {
-    let kept = answer_of(rt, value.clone());
-    let read: bool = answer_of(rt, from_value_opt(value));
-    same_in(rt, read, boolean, &kept);
-    has_value(rt, alloc, &read, &Value::Int(i64::from(boolean)), &kept);
-}
+// Values, and the value of the Boolean that they convert to.
+const BOOLEANS: &[(Plain, Plain)] = &[
+    (Plain::UInt(0), Plain::Int(0)),
+    (Plain::Int(0), Plain::Int(0)),
+    (Plain::Int(-1), Plain::Int(1)),
+    (Plain::UInt(2), Plain::Int(1)),
+    (Plain::Bytes(b"0"), Plain::Int(0)),
+    (Plain::Bytes(b"1"), Plain::Int(1)),
+];
 
-fn bytes_read_boolean(rt: &impl Abort, alloc: Global, text: &[u8], boolean: bool) {
-    reads_boolean(rt, alloc, bytes(rt, alloc, text), boolean);
-}
+const NO_BOOLEANS: &[Plain] = &[
+    Plain::Bytes(b"2"),
+    Plain::Bytes(b""),
+    Plain::Bytes(b"01"),
+    Plain::Float(1065353216),
+];
 
 #[test]
 fn booleans(rt: HostRuntime) {
-    let alloc = rt.alloc();
-    reads_boolean(&rt, alloc, Value::UInt(0), false);
-    reads_boolean(&rt, alloc, Value::Int(0), false);
-    reads_boolean(&rt, alloc, Value::Int(-1), true);
-    reads_boolean(&rt, alloc, Value::UInt(2), true);
-    bytes_read_boolean(&rt, alloc, b"0", false);
-    bytes_read_boolean(&rt, alloc, b"1", true);
-    refused_bytes::<bool>(&rt, alloc, b"2");
-    refused_bytes::<bool>(&rt, alloc, b"");
-    refused_bytes::<bool>(&rt, alloc, b"01");
-    refused::<bool>(&rt, Value::NULL);
-    refused::<bool>(&rt, Value::Float(1065353216));
+    read_as::<bool>(&rt, rt.alloc(), BOOLEANS);
+    refuses::<bool>(&rt, rt.alloc(), NO_BOOLEANS);
+    refuses::<bool>(&rt, rt.alloc(), OTHER_VARIANTS);
 }
 
 #[test]
@@ -114,14 +110,12 @@ fn way_back_of_optional_things(rt: HostRuntime) {
 fn kept_values(rt: HostRuntime) {
     same(&rt, ParseIr(5, Value::Int(5)).commit(), 5);
     same(&rt, &ParseIr(5, Value::Int(6)).rollback(), &Value::Int(6));
-    let ir = ValueIr(bytes(&rt, rt.alloc(), b"ab"));
-    gives(&rt, ir.clone(), &ir, &ir);
 }
 
 fn intermediate_of_value(rt: &impl Abort, ir: ValueIr) {
     gives(rt, ir.clone(), &ir, &ir);
     assert!(rt; ValueIr(Value::NULL) < ir);
-    becomes_value(rt, ir, &Value::Float(7), &"ValueIr");
+    becomes_value(rt, ir, &Value::Float(7));
 }
 
 #[test]
@@ -190,24 +184,6 @@ fn out_of_memory_by_std_traits(rt: HostRuntime) {
     same(&rt, &AsSqlError::from(AllocError), &wanted);
 }
 
-#[test]
-fn other_variants_are_refused(rt: HostRuntime) {
-    refuses_other_variants::<u8>(&rt);
-    refuses_other_variants::<i128>(&rt);
-    refuses_other_variants::<bool>(&rt);
-    refuses_other_variants::<String>(&rt);
-    refuses_other_variants::<Vec<u8>>(&rt);
-    refuses_other_variants::<[u8; 0]>(&rt);
-}
-
-#[test]
-fn numbers_are_no_bytes(rt: HostRuntime) {
-    refused::<Vec<u8>>(&rt, Value::Int(97));
-    refused::<Vec<u8>>(&rt, Value::UInt(97));
-    refused::<[u8; 1]>(&rt, Value::Int(97));
-    refused::<[u8; 1]>(&rt, Value::UInt(97));
-}
-
 // The thing that bytes convert to, and its intermediate, are handed back as the same bytes.
 fn bytes_come_back<T: FromValue + IntoValue>(rt: &impl Abort, alloc: Global, text: &[u8]) {
     let value = bytes(rt, alloc, text);
@@ -232,13 +208,15 @@ fn all_come_back(rt: &impl Abort, alloc: Global, text: &[u8]) {
     bytes_come_back::<CowSlice<'static, u8>>(rt, alloc, text);
 }
 
+const ARRAY: &[(Plain, [u8; 2])] = &[(Plain::Bytes(b"ab"), [b'a', b'b'])];
+
 #[test]
 fn texts_and_bytes(rt: HostRuntime) {
     let alloc = rt.alloc();
     all_come_back(&rt, alloc, b"ab");
     all_come_back(&rt, alloc, b"");
     bytes_come_back::<[u8; 2]>(&rt, alloc, b"ab");
-    text_converts(&rt, alloc, "ab", b"ab");
+    converts(&rt, alloc, ARRAY);
 }
 
 #[test]
@@ -250,13 +228,18 @@ fn borrowed_texts_and_bytes(rt: HostRuntime) {
     hands_back(&rt, alloc, borrowed, &value, &"bytes");
 }
 
+const NO_TEXT: &[Plain] = &[Plain::Bytes(b"\xC3\x28")];
+
+const THREE_BYTES: &[Plain] = &[Plain::Bytes(b"abc")];
+
 #[test]
 fn refused_texts_and_bytes(rt: HostRuntime) {
-    let alloc = rt.alloc();
-    refused_bytes::<[u8; 2]>(&rt, alloc, b"abc");
-    refused_bytes::<String>(&rt, alloc, b"\xC3\x28");
-    refused::<String>(&rt, Value::Int(5));
-    refused::<Vec<u8>>(&rt, Value::NULL);
+    refuses::<String>(&rt, rt.alloc(), NO_TEXT);
+    refuses::<String>(&rt, rt.alloc(), NO_BYTES);
+    refuses::<Vec<u8>>(&rt, rt.alloc(), NO_BYTES);
+    refuses::<[u8; 2]>(&rt, rt.alloc(), THREE_BYTES);
+    refuses::<[u8; 0]>(&rt, rt.alloc(), NO_BYTES);
+    refuses::<[u8; 1]>(&rt, rt.alloc(), NO_BYTES);
 }
 
 // `refused` has no proof at the types of these two: its type parameter has the bound `Drop`.
@@ -279,31 +262,24 @@ fn refused_as_cow_bytes(rt: &impl Abort, value: &Value) {
 #[test]
 fn refused_cow_texts_and_bytes(rt: HostRuntime) {
     refused_as_cow_text(&rt, &bytes(&rt, rt.alloc(), b"\xC3\x28"));
-    refused_as_cow_bytes(&rt, &Value::UInt(1));
+    for plain in NO_BYTES {
+        let value = value(&rt, rt.alloc(), *plain);
+        refused_as_cow_text(&rt, &value);
+        refused_as_cow_bytes(&rt, &value);
+    }
 }
 
-fn refused_as_cow(rt: &impl Abort, value: Value) {
-    refused_as_cow_text(rt, &value);
-    refused_as_cow_bytes(rt, &value);
-}
+const OPTIONAL: &[(Plain, Option<Option<u8>>)] = &[
+    (Plain::Null, None),
+    (Plain::UInt(5), Some(Some(5))),
+];
 
-#[test]
-fn other_variants_are_no_cow(rt: HostRuntime) {
-    refused_as_cow(&rt, Value::NULL);
-    refused_as_cow(&rt, Value::Int(97));
-    refused_as_cow(&rt, Value::UInt(97));
-    refused_as_cow(&rt, Value::Float(0));
-    refused_as_cow(&rt, Value::Double(0));
-    refused_as_cow(&rt, Value::Date(0, 0, 0, 0, 0, 0, 0));
-    refused_as_cow(&rt, Value::Time(false, 0, 0, 0, 0, 0));
-}
+const NO_OPTION: &[Plain] = &[Plain::UInt(256), Plain::Time(false, 0, 0, 0, 0, 0)];
 
 #[test]
 fn optional_things(rt: HostRuntime) {
-    converts::<Option<Option<u8>>>(&rt, Value::NULL, &None);
-    converts::<Option<Option<u8>>>(&rt, Value::UInt(5), &Some(Some(5)));
-    refused::<Option<u8>>(&rt, Value::UInt(256));
-    refused::<Option<bool>>(&rt, Value::Time(false, 0, 0, 0, 0, 0));
+    converts(&rt, rt.alloc(), OPTIONAL);
+    refuses::<Option<u8>>(&rt, rt.alloc(), NO_OPTION);
 }
 
 #[test]
@@ -314,65 +290,57 @@ fn values_that_convert(rt: HostRuntime) {
 }
 
 // By std's trait the thing becomes the value.
-fn becomes_value<T: Into<Value>, C: Debug>(rt: &impl Abort, thing: T, wanted: &Value, case: &C) {
-    same_in(rt, &thing.into(), wanted, case);
+fn becomes_value<T: Into<Value>>(rt: &impl Abort, thing: T, wanted: &Value) {
+    same(rt, &thing.into(), wanted);
 }
 
 fn signed(rt: &impl Abort, wanted: &Value) {
-    becomes_value(rt, -3i8, wanted, &"i8");
-    becomes_value(rt, -3i16, wanted, &"i16");
-    becomes_value(rt, -3i32, wanted, &"i32");
-    becomes_value(rt, -3i64, wanted, &"i64");
-    becomes_value(rt, -3isize, wanted, &"isize");
+    becomes_value(rt, -3i8, wanted);
+    becomes_value(rt, -3i16, wanted);
+    becomes_value(rt, -3i32, wanted);
+    becomes_value(rt, -3i64, wanted);
+    becomes_value(rt, -3isize, wanted);
 }
 
 fn unsigned(rt: &impl Abort, wanted: &Value) {
-    becomes_value(rt, 3u8, wanted, &"u8");
-    becomes_value(rt, 3u16, wanted, &"u16");
-    becomes_value(rt, 3u32, wanted, &"u32");
-    becomes_value(rt, 3u64, wanted, &"u64");
-    becomes_value(rt, 3usize, wanted, &"usize");
+    becomes_value(rt, 3u8, wanted);
+    becomes_value(rt, 3u16, wanted);
+    becomes_value(rt, 3u32, wanted);
+    becomes_value(rt, 3u64, wanted);
+    becomes_value(rt, 3usize, wanted);
 }
 
 #[test]
 fn values_of_numbers(rt: HostRuntime) {
     signed(&rt, &Value::Int(-3));
     unsigned(&rt, &Value::UInt(3));
-    becomes_value(&rt, true, &Value::Int(1), &"bool");
+    becomes_value(&rt, true, &Value::Int(1));
 }
 
 // By std's trait the thing becomes the value of the bytes.
 fn becomes_bytes<T: Into<Value> + Drop>(rt: &impl Abort, alloc: Global, thing: T, text: &[u8]) {
     let wanted = bytes(rt, alloc, text);
-    becomes_value(rt, thing, &wanted, &text);
-}
-
-fn owned_become_value(rt: &impl Abort, alloc: Global, text: &str) {
-    let items = answer_of(rt, Vec::from_slice(alloc, text.as_bytes()));
-    becomes_bytes(rt, alloc, items, text.as_bytes());
-    becomes_bytes(
-        rt,
-        alloc,
-        answer_of(rt, String::from_str(alloc, text)),
-        text.as_bytes(),
-    );
+    becomes_value(rt, thing, &wanted);
 }
 
 #[test]
 fn values_of_texts_and_bytes(rt: HostRuntime) {
-    owned_become_value(&rt, rt.alloc(), "ab");
-    owned_become_value(&rt, rt.alloc(), "");
+    let alloc = rt.alloc();
+    becomes_bytes(
+        &rt,
+        alloc,
+        answer_of(&rt, Vec::from_slice(alloc, b"ab")),
+        b"ab",
+    );
+    becomes_bytes(&rt, alloc, answer_of(&rt, String::from_str(alloc, "")), b"");
 }
 
 #[test]
 fn values_through_dyn(rt: HostRuntime) {
-    let alloc = rt.alloc();
-    let objects: [(&dyn ToValue, i64); 2] = [(&-1i128, -1), (&false, 0)];
-    for (object, number) in objects {
-        gives(&rt, object.to_value(alloc), &Value::Int(number), &number);
-    }
+    let object: &dyn ToValue = &-1i128;
+    gives(&rt, object.to_value(rt.alloc()), &Value::Int(-1), &"i128");
     let object: &dyn ToValue = &1u8;
-    gives(&rt, object.to_value(alloc), &Value::UInt(1), &"u8");
+    gives(&rt, object.to_value(rt.alloc()), &Value::UInt(1), &"u8");
 }
 
 // What is printed of a refusal.

@@ -1,10 +1,10 @@
 //! Conversions of durations, both ways.
 use crate::shared::{
-    answer_of, bytes, commits, converts, converts_by_std_traits, has_value, keeps_both, refused,
-    refused_by_std_trait, same, same_in,
+    Plain, answer_of, bytes, commits, converts_by_std_traits, gives, has_value, keeps_both,
+    refused_by_std_trait, refuses, same, same_in, value,
 };
 use mysql_values::value::Value;
-use mysql_values::value::convert::{FromValue, ParseIrOpt, ToValue, ToValueError};
+use mysql_values::value::convert::{FromValue, ParseIrOpt, ToValue, ToValueError, from_value_opt};
 use std::alloc::Global;
 use std::process::Abort;
 use std::time::Duration;
@@ -18,79 +18,67 @@ fn reads_duration(rt: &impl Abort, alloc: Global, value: Value, duration: Durati
         Duration::get_intermediate(answer_of(rt, value.clone())),
         &duration,
     );
-    converts::<Duration>(rt, value, &duration);
+    gives(rt, from_value_opt::<Duration>(value), &duration, &duration);
 }
 
-const TEXTS: [(&[u8], u64, u32); 5] = [
-    (b"899:59:59.5", 3_239_999, 500_000_000),
-    (b"00:00:00.000001", 0, 1_000),
-    (b"12:34:56", 45_296, 0),
-    (b"00:00:00", 0, 0),
-    (b"099:00:00.25", 356_400, 250_000_000),
-];
-
-#[test]
-fn texts_to_durations(rt: HostRuntime) {
-    for (text, seconds, nanoseconds) in &TEXTS {
-        let value = bytes(&rt, rt.alloc(), *text);
-        let duration = Duration::new(*seconds, *nanoseconds);
-        reads_duration(&rt, rt.alloc(), value, duration);
-    }
-}
-
-const TEXTS_OF_NONE: [&[u8]; 10] = [
-    b"900:00:00",
-    b"-00:00:00",
-    b"-012:34:56.012345",
-    b"1:00:00",
-    b"00:60:00",
-    b"00:00:60",
-    b"00:00:00.",
-    b"00:00:00.1234567",
-    b"00:00:00.1\xC2\xB2",
-    b"",
-];
-
-#[test]
-fn texts_to_no_duration(rt: HostRuntime) {
-    for text in &TEXTS_OF_NONE {
-        refused::<Duration>(&rt, bytes(&rt, rt.alloc(), *text));
-    }
-}
-
-const TIMES: [(u32, u8, u8, u8, u32, u64, u32); 4] = [
-    (0, 0, 0, 0, 4_294_967_295, 4_294, 967_295_000),
-    (1, 2, 3, 4, 5, 93_784, 5_000),
-    (0, 255, 255, 255, 1_000_000, 933_556, 0),
+// Texts and times, and their seconds and nanoseconds.
+const READ: &[(Plain, u64, u32)] = &[
+    (Plain::Bytes(b"899:59:59.5"), 3_239_999, 500_000_000),
+    (Plain::Bytes(b"00:00:00.000001"), 0, 1_000),
+    (Plain::Bytes(b"12:34:56"), 45_296, 0),
+    (Plain::Bytes(b"00:00:00"), 0, 0),
+    (Plain::Bytes(b"099:00:00.25"), 356_400, 250_000_000),
     (
-        4_294_967_295,
-        23,
-        59,
-        59,
-        999_999,
+        Plain::Time(false, 0, 0, 0, 0, 4_294_967_295),
+        4_294,
+        967_295_000,
+    ),
+    (Plain::Time(false, 1, 2, 3, 4, 5), 93_784, 5_000),
+    (Plain::Time(false, 0, 255, 255, 255, 1_000_000), 933_556, 0),
+    (
+        Plain::Time(false, 4_294_967_295, 23, 59, 59, 999_999),
         371_085_174_374_399,
         999_999_000,
     ),
 ];
 
-fn times_that_are_durations(rt: &impl Abort, alloc: Global) {
-    for (days, hours, minutes, seconds, microseconds, whole, nanoseconds) in &TIMES {
-        let value = Value::Time(false, *days, *hours, *minutes, *seconds, *microseconds);
-        reads_duration(rt, alloc, value, Duration::new(*whole, *nanoseconds));
+#[test]
+fn texts_and_times_to_durations(rt: HostRuntime) {
+    for (plain, seconds, nanoseconds) in READ {
+        let value = value(&rt, rt.alloc(), *plain);
+        reads_duration(
+            &rt,
+            rt.alloc(),
+            value,
+            Duration::new(*seconds, *nanoseconds),
+        );
     }
 }
 
+const NO_DURATIONS: &[Plain] = &[
+    Plain::Bytes(b"900:00:00"),
+    Plain::Bytes(b"-00:00:00"),
+    Plain::Bytes(b"-012:34:56.012345"),
+    Plain::Bytes(b"1:00:00"),
+    Plain::Bytes(b"00:60:00"),
+    Plain::Bytes(b"00:00:60"),
+    Plain::Bytes(b"00:00:00."),
+    Plain::Bytes(b"00:00:00.1234567"),
+    Plain::Bytes(b"00:00:00.1\xC2\xB2"),
+    Plain::Bytes(b""),
+    Plain::Time(true, 0, 0, 0, 0, 0),
+    Plain::Time(true, 0, 1, 0, 0, 0),
+    Plain::Int(1),
+    Plain::UInt(1),
+    Plain::Float(0),
+    Plain::Double(0),
+    Plain::Date(0, 0, 0, 0, 0, 0, 0),
+    Plain::Null,
+];
+
 #[test]
-fn times_to_durations(rt: HostRuntime) {
-    times_that_are_durations(&rt, rt.alloc());
-    refused::<Duration>(&rt, Value::Time(true, 0, 0, 0, 0, 0));
-    refused::<Duration>(&rt, Value::Time(true, 0, 1, 0, 0, 0));
-    refused::<Duration>(&rt, Value::Int(1));
-    refused::<Duration>(&rt, Value::UInt(1));
-    refused::<Duration>(&rt, Value::Float(0));
-    refused::<Duration>(&rt, Value::Double(0));
-    refused::<Duration>(&rt, Value::Date(0, 0, 0, 0, 0, 0, 0));
-    refused::<Duration>(&rt, Value::NULL);
+fn values_of_no_duration(rt: HostRuntime) {
+    refuses::<Duration>(&rt, rt.alloc(), NO_DURATIONS);
 }
 
 const DURATIONS: [(u64, u32, u32, u8, u8, u8, u32); 7] = [

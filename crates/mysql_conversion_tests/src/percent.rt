@@ -65,14 +65,14 @@ impl FromValue for Percent {
 #[cfg(test)]
 mod tests {
     use super::*;
-    use crate::shared::{answer_of, converts, hands_back, refused, refused_bytes, same};
-    use mysql_values::value::convert::from_value;
+    use crate::shared::{Plain, answer_of, converts, gives, hands_back, refuses, same};
+    use mysql_values::value::convert::{from_value, from_value_opt};
     use std::process::Abort;
 
     fn is_forty_two(rt: &impl Abort, alloc: Global, value: Value) {
         let ir = answer_of(rt, Percent::get_intermediate(answer_of(rt, value.clone())));
         hands_back(rt, alloc, ir, &Value::UInt(42), &value);
-        converts(rt, value, &Percent(42));
+        gives(rt, from_value_opt::<Percent>(value), &Percent(42), &42);
     }
 
     #[test]
@@ -81,20 +81,33 @@ mod tests {
         is_forty_two(&rt, rt.alloc(), Value::UInt(42));
     }
 
+    const LEAST_AND_GREATEST: &[(Plain, Percent)] = &[
+        (Plain::Int(0), Percent(0)),
+        (Plain::UInt(100), Percent(100)),
+    ];
+
+    const NO_PERCENT: &[Plain] = &[
+        Plain::Int(-1),
+        Plain::Int(101),
+        Plain::UInt(101),
+        Plain::Null,
+        Plain::Bytes(b"42"),
+    ];
+
     #[test]
     fn least_and_greatest(rt: HostRuntime) {
         same(&rt, from_value::<Percent>(Value::Int(0)), Percent(0));
-        converts(&rt, Value::UInt(100), &Percent(100));
-        refused::<Percent>(&rt, Value::Int(-1));
-        refused::<Percent>(&rt, Value::Int(101));
-        refused::<Percent>(&rt, Value::UInt(101));
-        refused::<Percent>(&rt, Value::NULL);
-        refused_bytes::<Percent>(&rt, rt.alloc(), b"42");
+        converts(&rt, rt.alloc(), LEAST_AND_GREATEST);
+        refuses::<Percent>(&rt, rt.alloc(), NO_PERCENT);
     }
+
+    const OPTIONAL: &[(Plain, Option<Percent>)] = &[
+        (Plain::Null, None),
+        (Plain::Int(7), Some(Percent(7))),
+    ];
 
     #[test]
     fn optional(rt: HostRuntime) {
-        converts::<Option<Percent>>(&rt, Value::NULL, &None);
-        converts::<Option<Percent>>(&rt, Value::Int(7), &Some(Percent(7)));
+        converts(&rt, rt.alloc(), OPTIONAL);
     }
 }

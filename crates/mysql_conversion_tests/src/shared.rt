@@ -54,6 +54,32 @@ pub(crate) fn gives_back<T: Drop>(
     }
 }
 
+// A value as plain data: a table of these is cheaper to prove than one of values.
+#[derive(Clone, Copy)]
+pub(crate) enum Plain {
+    Null,
+    Bytes(&'static [u8]),
+    Int(i64),
+    UInt(u64),
+    Float(u32),
+    Double(u64),
+    Date(u16, u8, u8, u8, u8, u8, u32),
+    Time(bool, u32, u8, u8, u8, u32),
+}
+
+pub(crate) fn value(rt: &impl Abort, alloc: Global, plain: Plain) -> Value {
+    match plain {
+        Plain::Null => Value::NULL,
+        Plain::Bytes(text) => bytes(rt, alloc, text),
+        Plain::Int(number) => Value::Int(number),
+        Plain::UInt(number) => Value::UInt(number),
+        Plain::Float(bits) => Value::Float(bits),
+        Plain::Double(bits) => Value::Double(bits),
+        Plain::Date(y, m, d, h, min, s, micros) => Value::Date(y, m, d, h, min, s, micros),
+        Plain::Time(negative, d, h, min, s, micros) => Value::Time(negative, d, h, min, s, micros),
+    }
+}
+
 // The value that holds these bytes.
 pub(crate) fn bytes(rt: &impl Abort, alloc: Global, text: &[u8]) -> Value {
     Value::Bytes(Bytes::from(answer_of(rt, Vec::from_slice(alloc, text))))
@@ -76,25 +102,32 @@ pub(crate) fn has_bytes<T: ToValue>(rt: &impl Abort, alloc: Global, thing: &T, t
     has_value(rt, alloc, thing, &wanted, &text);
 }
 
-// The value converts to the thing.
+// Each value converts to the thing beside it.
 pub(crate) fn converts<T: FromValue + Debug + PartialEq + Drop>(
     rt: &impl Abort,
-    value: Value,
-    wanted: &T,
+    alloc: Global,
+    rows: &[(Plain, T)],
 ) {
-    let kept = answer_of(rt, value.clone());
-    gives(rt, from_value_opt::<T>(value), wanted, &kept);
+    for (plain, wanted) in rows {
+        gives(
+            rt,
+            from_value_opt::<T>(value(rt, alloc, *plain)),
+            wanted,
+            wanted,
+        );
+    }
 }
 
-// The bytes of the text convert to the thing.
-pub(crate) fn text_converts<T: FromValue + Debug + PartialEq + Drop>(
+// Each value converts to a thing whose own value is the one beside it.
+pub(crate) fn read_as<T: FromValue + ToValue + Drop>(
     rt: &impl Abort,
     alloc: Global,
-    text: &str,
-    wanted: &T,
+    rows: &[(Plain, Plain)],
 ) {
-    let value = bytes(rt, alloc, text.as_bytes());
-    gives(rt, from_value_opt::<T>(value), wanted, &text);
+    for (plain, wanted) in rows {
+        let wanted = value(rt, alloc, *wanted);
+        reads::<T>(rt, alloc, value(rt, alloc, *plain), &wanted);
+    }
 }
 
 // The value converts to a thing whose own value is the wanted one.
@@ -191,16 +224,29 @@ pub(crate) fn refused<T: FromValue + Drop>(rt: &impl Abort, value: Value) {
     gives_back(rt, from_value_opt::<T>(value), &kept);
 }
 
-// Bytes that don't convert are handed back.
-pub(crate) fn refused_bytes<T: FromValue + Drop>(rt: &impl Abort, alloc: Global, text: &[u8]) {
-    refused::<T>(rt, bytes(rt, alloc, text));
+// Values that don't convert are handed back.
+pub(crate) fn refuses<T: FromValue + Drop>(rt: &impl Abort, alloc: Global, rows: &[Plain]) {
+    for plain in rows {
+        refused::<T>(rt, value(rt, alloc, *plain));
+    }
 }
 
-// The values of no number, no text and no bytes are handed back.
-pub(crate) fn refuses_other_variants<T: FromValue + Drop>(rt: &impl Abort) {
-    refused::<T>(rt, Value::NULL);
-    refused::<T>(rt, Value::Float(0));
-    refused::<T>(rt, Value::Double(0));
-    refused::<T>(rt, Value::Date(0, 0, 0, 0, 0, 0, 0));
-    refused::<T>(rt, Value::Time(false, 0, 0, 0, 0, 0));
-}
+// Values of no number, no text and no bytes.
+pub(crate) const OTHER_VARIANTS: &[Plain] = &[
+    Plain::Null,
+    Plain::Float(0),
+    Plain::Double(0),
+    Plain::Date(0, 0, 0, 0, 0, 0, 0),
+    Plain::Time(false, 0, 0, 0, 0, 0),
+];
+
+// The same, and numbers.
+pub(crate) const NO_BYTES: &[Plain] = &[
+    Plain::Null,
+    Plain::Int(97),
+    Plain::UInt(97),
+    Plain::Float(0),
+    Plain::Double(0),
+    Plain::Date(0, 0, 0, 0, 0, 0, 0),
+    Plain::Time(false, 0, 0, 0, 0, 0),
+];

@@ -1,6 +1,6 @@
 //! Conversions to whole numbers, and back.
 use crate::shared::{
-    answer_of, bytes, has_value, reads, refused, refused_bytes, same, text_converts,
+    OTHER_VARIANTS, Plain, answer_of, bytes, converts, read_as, reads, refused, refuses, same,
 };
 use mysql_values::value::Value;
 use mysql_values::value::convert::{FromValue, ToValue, WholeNumber};
@@ -71,131 +71,130 @@ fn least_and_greatest(rt: HostRuntime) {
     unsigned::<usize>(&rt, alloc, 18446744073709551615);
 }
 
-// The text converts to a number whose value is that text.
-fn text_comes_back<T: FromValue + ToValue + Drop>(rt: &impl Abort, alloc: Global, text: &str) {
-    let value = bytes(rt, alloc, text.as_bytes());
-    reads::<T>(rt, alloc, answer_of(rt, value.clone()), &value);
-}
-
-// Beyond 64 bits, and within 127.
-const WIDE: &str = "169999999999999999999999999999999999999";
-
-const WIDE_SIGNED: [&str; 6] = [
-    WIDE,
-    "-169999999999999999999999999999999999999",
-    "-170141183460469231731687303715884105728",
-    "170141183460469231731687303715884105727",
-    "-9223372036854775809",
-    "18446744073709551616",
+// Numbers, and the value of what they convert to.
+const SIGNED: &[(Plain, Plain)] = &[
+    // Beyond 64 bits the value is the text.
+    (WIDE, WIDE),
+    (NEGATIVE, NEGATIVE),
+    (LEAST, LEAST),
+    (GREATEST, GREATEST),
+    (BELOW_64_BITS, BELOW_64_BITS),
+    (ABOVE_64_BITS, ABOVE_64_BITS),
+    (
+        Plain::UInt(9223372036854775808),
+        Plain::UInt(9223372036854775808),
+    ),
+    (Plain::Int(-1), Plain::Int(-1)),
 ];
+
+const WIDE: Plain = Plain::Bytes(b"169999999999999999999999999999999999999");
+
+const NEGATIVE: Plain = Plain::Bytes(b"-169999999999999999999999999999999999999");
+
+const LEAST: Plain = Plain::Bytes(b"-170141183460469231731687303715884105728");
+
+const GREATEST: Plain = Plain::Bytes(b"170141183460469231731687303715884105727");
+
+const BELOW_64_BITS: Plain = Plain::Bytes(b"-9223372036854775809");
+
+const ABOVE_64_BITS: Plain = Plain::Bytes(b"18446744073709551616");
+
+const UNSIGNED: &[(Plain, Plain)] = &[
+    (WIDE, WIDE),
+    (GREATEST_UNSIGNED, GREATEST_UNSIGNED),
+    (
+        Plain::UInt(18446744073709551615),
+        Plain::UInt(18446744073709551615),
+    ),
+    (Plain::Int(7), Plain::UInt(7)),
+];
+
+const GREATEST_UNSIGNED: Plain = Plain::Bytes(b"340282366920938463463374607431768211455");
 
 #[test]
 fn wide_numbers(rt: HostRuntime) {
-    let alloc = rt.alloc();
-    for text in &WIDE_SIGNED {
-        text_comes_back::<i128>(&rt, alloc, *text);
-    }
-    text_comes_back::<u128>(&rt, alloc, WIDE);
-    text_comes_back::<u128>(&rt, alloc, "340282366920938463463374607431768211455");
-    refused_bytes::<i128>(&rt, alloc, b"170141183460469231731687303715884105728");
+    read_as::<i128>(&rt, rt.alloc(), SIGNED);
+    read_as::<u128>(&rt, rt.alloc(), UNSIGNED);
 }
 
-fn reads_uint<T: FromValue + ToValue + Drop>(
-    rt: &impl Abort,
-    alloc: Global,
-    value: Value,
-    wanted: u64,
-) {
-    reads::<T>(rt, alloc, value, &Value::UInt(wanted));
-}
-
-#[test]
-fn wide_numbers_of_64_bits(rt: HostRuntime) {
-    let alloc = rt.alloc();
-    reads_uint::<i128>(
-        &rt,
-        alloc,
-        Value::UInt(9223372036854775808),
-        9223372036854775808,
-    );
-    reads::<i128>(&rt, alloc, Value::Int(-1), &Value::Int(-1));
-    reads_uint::<u128>(
-        &rt,
-        alloc,
-        Value::UInt(18446744073709551615),
-        18446744073709551615,
-    );
-    reads_uint::<u128>(&rt, alloc, Value::Int(7), 7);
-    let number = 9223372036854775808i128;
-    has_value(
-        &rt,
-        alloc,
-        &number,
-        &Value::UInt(9223372036854775808),
-        &number,
-    );
-}
-
-const TEXTS_OF_NO_NUMBER: [&str; 12] = [
-    "", "+", "-", "--1", "+-1", "256", "1a", " 1", "1 ", "0x1", "1.0", "\u{0661}",
+const TEXTS: &[(Plain, u8)] = &[
+    (Plain::Bytes(b"0000000255"), 255),
+    (Plain::Bytes(b"-0"), 0),
+    (Plain::Bytes(b"+7"), 7),
+    (Plain::Bytes(b"-000"), 0),
 ];
+
+// Texts of no number, texts of others, and values that a type doesn't hold.
+const NO_U8: &[Plain] = &[
+    Plain::Bytes(b""),
+    Plain::Bytes(b"+"),
+    Plain::Bytes(b"-"),
+    Plain::Bytes(b"--1"),
+    Plain::Bytes(b"+-1"),
+    Plain::Bytes(b"256"),
+    Plain::Bytes(b"1a"),
+    Plain::Bytes(b" 1"),
+    Plain::Bytes(b"1 "),
+    Plain::Bytes(b"0x1"),
+    Plain::Bytes(b"1.0"),
+    // An Arabic-Indic digit.
+    Plain::Bytes(b"\xD9\xA1"),
+    Plain::UInt(300),
+    Plain::Int(300),
+];
+
+const NO_I8: &[Plain] = &[Plain::Int(-129), Plain::UInt(128)];
+
+const NO_I64: &[Plain] = &[Plain::UInt(9223372036854775808)];
+
+const NO_U64: &[Plain] = &[Plain::Bytes(b"-1")];
+
+const NO_I128: &[Plain] = &[Plain::Bytes(b"170141183460469231731687303715884105728")];
+
+const NO_U128: &[Plain] = &[Plain::Int(-1)];
 
 #[test]
 fn texts(rt: HostRuntime) {
-    let alloc = rt.alloc();
-    text_converts::<u8>(&rt, alloc, "0000000255", &255);
-    text_converts::<u8>(&rt, alloc, "-0", &0);
-    text_converts::<u8>(&rt, alloc, "+7", &7);
-    text_converts::<u8>(&rt, alloc, "-000", &0);
-    for text in &TEXTS_OF_NO_NUMBER {
-        refused_bytes::<u8>(&rt, alloc, text.as_bytes());
-    }
-    refused_bytes::<u64>(&rt, alloc, b"-1");
+    converts(&rt, rt.alloc(), TEXTS);
 }
 
 #[test]
 fn values_that_a_type_does_not_hold(rt: HostRuntime) {
-    refused::<u8>(&rt, Value::NULL);
-    refused::<u8>(&rt, Value::UInt(300));
-    refused::<u8>(&rt, Value::Int(300));
-    refused::<i8>(&rt, Value::Int(-129));
-    refused::<i8>(&rt, Value::UInt(128));
-    refused::<u128>(&rt, Value::Int(-1));
-    refused::<u8>(&rt, Value::Float(0));
-    refused::<i64>(&rt, Value::UInt(9223372036854775808));
+    refuses::<u8>(&rt, rt.alloc(), NO_U8);
+    refuses::<u8>(&rt, rt.alloc(), OTHER_VARIANTS);
+    refuses::<i8>(&rt, rt.alloc(), NO_I8);
+    refuses::<i64>(&rt, rt.alloc(), NO_I64);
+    refuses::<u64>(&rt, rt.alloc(), NO_U64);
+    refuses::<i128>(&rt, rt.alloc(), NO_I128);
+    refuses::<i128>(&rt, rt.alloc(), OTHER_VARIANTS);
+    refuses::<u128>(&rt, rt.alloc(), NO_U128);
 }
 
-const TEXTS_THAT_NO_TYPE_HOLDS: [&[u8]; 4] = [
-    b"340282366920938463463374607431768211456",
-    b"-170141183460469231731687303715884105729",
-    b"-340282366920938463463374607431768211457",
-    b"9999999999999999999999999999999999999999999999999999",
+const TEXTS_THAT_NO_TYPE_HOLDS: &[Plain] = &[
+    Plain::Bytes(b"340282366920938463463374607431768211456"),
+    Plain::Bytes(b"-170141183460469231731687303715884105729"),
+    Plain::Bytes(b"-340282366920938463463374607431768211457"),
+    Plain::Bytes(b"9999999999999999999999999999999999999999999999999999"),
 ];
 
-fn refused_by_signed(rt: &impl Abort, alloc: Global, text: &[u8]) {
-    refused_bytes::<i8>(rt, alloc, text);
-    refused_bytes::<i16>(rt, alloc, text);
-    refused_bytes::<i32>(rt, alloc, text);
-    refused_bytes::<i64>(rt, alloc, text);
-    refused_bytes::<i128>(rt, alloc, text);
-    refused_bytes::<isize>(rt, alloc, text);
-}
-
-fn refused_by_unsigned(rt: &impl Abort, alloc: Global, text: &[u8]) {
-    refused_bytes::<u8>(rt, alloc, text);
-    refused_bytes::<u16>(rt, alloc, text);
-    refused_bytes::<u32>(rt, alloc, text);
-    refused_bytes::<u64>(rt, alloc, text);
-    refused_bytes::<u128>(rt, alloc, text);
-    refused_bytes::<usize>(rt, alloc, text);
+#[test]
+fn texts_that_no_signed_type_holds(rt: HostRuntime) {
+    refuses::<i8>(&rt, rt.alloc(), TEXTS_THAT_NO_TYPE_HOLDS);
+    refuses::<i16>(&rt, rt.alloc(), TEXTS_THAT_NO_TYPE_HOLDS);
+    refuses::<i32>(&rt, rt.alloc(), TEXTS_THAT_NO_TYPE_HOLDS);
+    refuses::<i64>(&rt, rt.alloc(), TEXTS_THAT_NO_TYPE_HOLDS);
+    refuses::<i128>(&rt, rt.alloc(), TEXTS_THAT_NO_TYPE_HOLDS);
+    refuses::<isize>(&rt, rt.alloc(), TEXTS_THAT_NO_TYPE_HOLDS);
 }
 
 #[test]
-fn texts_that_no_type_holds(rt: HostRuntime) {
-    for text in &TEXTS_THAT_NO_TYPE_HOLDS {
-        refused_by_signed(&rt, rt.alloc(), *text);
-        refused_by_unsigned(&rt, rt.alloc(), *text);
-    }
+fn texts_that_no_unsigned_type_holds(rt: HostRuntime) {
+    refuses::<u8>(&rt, rt.alloc(), TEXTS_THAT_NO_TYPE_HOLDS);
+    refuses::<u16>(&rt, rt.alloc(), TEXTS_THAT_NO_TYPE_HOLDS);
+    refuses::<u32>(&rt, rt.alloc(), TEXTS_THAT_NO_TYPE_HOLDS);
+    refuses::<u64>(&rt, rt.alloc(), TEXTS_THAT_NO_TYPE_HOLDS);
+    refuses::<u128>(&rt, rt.alloc(), TEXTS_THAT_NO_TYPE_HOLDS);
+    refuses::<usize>(&rt, rt.alloc(), TEXTS_THAT_NO_TYPE_HOLDS);
 }
 
 #[test]
