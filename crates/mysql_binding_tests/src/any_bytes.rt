@@ -1,5 +1,8 @@
 //! Any bytes: queries that end within a token, and every short query.
-use crate::shared::{EITHER_MODE, Given, Plain, Refused, is_bound, is_bound_by, is_refused_by};
+use crate::shared::{
+    EITHER_MODE, Given, Plain, Refused, are_bound_by, are_refused_by, is_bound, is_bound_by,
+    is_refused_by,
+};
 use std::alloc::Global;
 use std::process::Abort;
 
@@ -15,42 +18,41 @@ fn open_tokens_have_no_places(rt: HostRuntime) {
     }
 }
 
-/// Queries with one NULL, and the text.
-const AT_A_COMMENT: &[(&[u8], &[u8])] = &[(b"?/*x*/", b"NULL/*x*/"), (b"?--\n", b"NULL--\n")];
+/// One NULL.
+const NULL: Given<'_> = Given::Positional(&[Plain::Null]);
+
+/// Queries, what is given to them, and the text.
+const AT_A_COMMENT: &[(&[u8], Given<'_>, &[u8])] = &[
+    (b"?/*x*/", NULL, b"NULL/*x*/"),
+    (b"?--\n", NULL, b"NULL--\n"),
+];
 
 #[test]
 fn places_before_a_comment(rt: HostRuntime) {
-    for (query, wanted) in AT_A_COMMENT {
-        let one_null = Given::Positional(&[Plain::Null]);
-        is_bound_by(&rt, rt.alloc(), EITHER_MODE, *query, one_null, *wanted);
-    }
+    are_bound_by(&rt, rt.alloc(), EITHER_MODE, AT_A_COMMENT);
 }
 
 /// The names `a` and `b`, both NULL.
 const BOTH: Given<'_> = Given::Named(&[(b"a", Plain::Null), (b"b", Plain::Null)]);
 
 /// Queries with a place beside which something else stands: number and position of the first.
-const BESIDE: &[(&[u8], Given<'_>, usize, usize)] = &[
-    (b"x:a", BOTH, 0, 1),
-    (b"':b':a", BOTH, 0, 4),
-    (b"?'x'", Given::Positional(&[Plain::Null]), 0, 0),
-    (b"?\x00", Given::Positional(&[Plain::Null]), 0, 0),
-    (b"\x0b?", Given::Positional(&[Plain::Null]), 0, 1),
+const BESIDE: &[(&[u8], Given<'_>, Refused<'_>)] = &[
+    (b"x:a", BOTH, Refused::NotAlone(0, 1)),
+    (b"':b':a", BOTH, Refused::NotAlone(0, 4)),
+    (b"?'x'", NULL, Refused::NotAlone(0, 0)),
+    (b"?\x00", NULL, Refused::NotAlone(0, 0)),
+    (b"\x0b?", NULL, Refused::NotAlone(0, 1)),
     (
         b"? ?x",
         Given::Positional(&[Plain::Null, Plain::Null]),
-        1,
-        2,
+        Refused::NotAlone(1, 2),
     ),
-    (b":a:b", BOTH, 0, 0),
+    (b":a:b", BOTH, Refused::NotAlone(0, 0)),
 ];
 
 #[test]
 fn places_beside_other_bytes(rt: HostRuntime) {
-    for (query, given, place, at) in BESIDE {
-        let refused = Refused::NotAlone(*place, *at);
-        is_refused_by(&rt, rt.alloc(), EITHER_MODE, *query, *given, refused);
-    }
+    are_refused_by(&rt, rt.alloc(), EITHER_MODE, BESIDE);
 }
 
 /// Bytes that open a string, an identifier or a comment by themselves.

@@ -1,9 +1,8 @@
 //! Queries with values bound into them, and those that are refused.
 use crate::shared::{
-    EITHER_MODE, Given, Plain, Refused, WITH_BACKSLASHES, are_bound_by, is_refused_by, same_in,
-    says,
+    EITHER_MODE, Given, Plain, Refused, WITH_BACKSLASHES, answer_of, are_bound_by, are_refused_by,
+    same_in, says,
 };
-use mysql_params::laws::bind_error_equality;
 use mysql_params::{BindError, bind_text};
 use std::alloc::{AllocError, Global};
 use std::process::Abort;
@@ -41,6 +40,33 @@ const TEXTS: &[(&[u8], Given<'_>, &[u8])] = &[
         Given::Positional(&[Plain::Text(b""), Plain::Day(2019, 11, 27)]),
         b"VALUES ('','2019-11-27')",
     ),
+    // More places than are kept while a query is surveyed.
+    (
+        b"?,?,?,?,?,?,?,?,?,?,?,?,?,?,?,?,?,?,?,? -- ?",
+        Given::Positional(&[
+            Plain::UInt(1),
+            Plain::UInt(1),
+            Plain::UInt(1),
+            Plain::UInt(1),
+            Plain::UInt(1),
+            Plain::UInt(1),
+            Plain::UInt(1),
+            Plain::UInt(1),
+            Plain::UInt(1),
+            Plain::UInt(1),
+            Plain::UInt(1),
+            Plain::UInt(1),
+            Plain::UInt(1),
+            Plain::UInt(1),
+            Plain::UInt(1),
+            Plain::UInt(1),
+            Plain::UInt(2),
+            Plain::UInt(2),
+            Plain::UInt(2),
+            Plain::UInt(2),
+        ]),
+        b"1,1,1,1,1,1,1,1,1,1,1,1,1,1,1,1,2,2,2,2 -- ?",
+    ),
 ];
 
 #[test]
@@ -50,10 +76,8 @@ fn bound_texts(rt: HostRuntime) {
 
 /// The query is bound to a text whose vector has exactly this capacity.
 fn has_capacity(rt: &impl Abort, alloc: Global, query: &[u8], given: Given<'_>, wanted: usize) {
-    match bind_text(alloc, query, given.params(rt, alloc)) {
-        Ok(text) => same_in(rt, &text.capacity(), &wanted, &query),
-        Err(error) => same_in(rt, &Some(error), &None, &query),
-    }
+    let text = answer_of(rt, bind_text(alloc, query, given.params(rt, alloc)));
+    same_in(rt, text.capacity(), wanted, &query);
 }
 
 #[test]
@@ -159,9 +183,7 @@ const REFUSALS: &[(&[u8], Given<'_>, Refused<'_>)] = &[
 
 #[test]
 fn first_cause_of_refusal(rt: HostRuntime) {
-    for (query, given, refused) in REFUSALS {
-        is_refused_by(&rt, rt.alloc(), EITHER_MODE, *query, *given, *refused);
-    }
+    are_refused_by(&rt, rt.alloc(), EITHER_MODE, REFUSALS);
 }
 
 /// Refusals, and what they print.
@@ -194,24 +216,4 @@ fn messages(rt: HostRuntime) {
         says(&rt, alloc, refused.error(&rt, alloc), *message);
     }
     says(&rt, alloc, BindError::Memory(AllocError), "out of memory");
-}
-
-/// The two refusals are equal, or are not.
-fn are_equal(rt: &impl Abort, alloc: Global, a: Refused<'_>, b: Refused<'_>, equal: bool) {
-    let first = a.error(rt, alloc);
-    let second = b.error(rt, alloc);
-    same_in(
-        rt,
-        &bind_error_equality(&first, &second),
-        &equal,
-        &(&first, &second),
-    );
-}
-
-#[test]
-fn equality_of_refusals(rt: HostRuntime) {
-    let missing = Refused::Missing(b"a");
-    are_equal(&rt, rt.alloc(), missing, missing, true);
-    are_equal(&rt, rt.alloc(), missing, Refused::Missing(b"b"), false);
-    are_equal(&rt, rt.alloc(), missing, Refused::Mixed, false);
 }

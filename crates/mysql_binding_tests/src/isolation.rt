@@ -1,6 +1,6 @@
 //! Values that try to leave their literals.
 use crate::shared::{
-    Given, Plain, WITH_BACKSLASHES, WITHOUT_BACKSLASHES, answer_of, are_bound_by, is_bound,
+    Given, Plain, WITH_BACKSLASHES, WITHOUT_BACKSLASHES, answer_of, are_bound_by,
     string_is_bound_by,
 };
 use std::alloc::{AllocError, Global};
@@ -66,24 +66,24 @@ fn each_value_of_one_byte_without_backslashes(rt: HostRuntime) {
     }
 }
 
-/// Queries, and what is given to them: values that look like places.
-const LIKE_PLACES: &[(&[u8], Given<'_>)] = &[
+/// Queries, what is given to them, and the text: values that look like places.
+const LIKE_PLACES: &[(&[u8], Given<'_>, &[u8])] = &[
     (
         b"SELECT :a, :b",
         Given::Named(&[(b"a", Plain::Text(b":b")), (b"b", Plain::Text(b"?"))]),
+        b"SELECT ':b', '?'",
     ),
-    (b"SELECT ':b', '?'", Given::Nothing),
+    (b"SELECT ':b', '?'", Given::Nothing, b"SELECT ':b', '?'"),
     (
         b"SELECT ?, ?",
         Given::Positional(&[Plain::Text(b":b"), Plain::Text(b"?")]),
+        b"SELECT ':b', '?'",
     ),
 ];
 
 #[test]
 fn values_that_look_like_places(rt: HostRuntime) {
-    for (query, given) in LIKE_PLACES {
-        is_bound(&rt, rt.alloc(), *query, *given, b"SELECT ':b', '?'");
-    }
+    are_bound_by(&rt, rt.alloc(), WITH_BACKSLASHES, LIKE_PLACES);
 }
 
 /// Queries, what is given to them, and the text: values of two types that say the same.

@@ -142,7 +142,7 @@ pub use mysql_wire_part::put_lenenc_str;
 #[cfg(test)]
 mod tests {
     use super::*;
-    use crate::shared::{answer_of, same};
+    use crate::shared::{answer_of, same_in};
     use std::alloc::{AllocError, Global};
     use std::process::Abort;
 
@@ -169,7 +169,7 @@ mod tests {
     fn has_literal(rt: &impl Abort, alloc: Global, row: &[u8], wanted: &str) {
         let literal = answer_of(rt, literal_of_cell(alloc, row));
         let literal = answer_of(rt, literal.ok_or("no literal"));
-        same(rt, literal.as_str(), wanted);
+        same_in(rt, literal.as_str(), wanted, &row);
     }
 
     #[test]
@@ -180,6 +180,6 @@ mod tests {
             marks: 1,
             values: 0,
         };
-        same(&rt, &refusal, &Some(count));
+        same_in(&rt, &refusal, &Some(count), &"a mark");
     }
 }

@@ -33,79 +33,66 @@ pub fn customer_by_position(alloc: Global, id: u64, name: &str) -> Result<Vec<u8
 #[cfg(test)]
 mod tests {
     use super::*;
-    use std::fmt::Display;
     use std::process::Abort;
-    use std::test::Fail;
 
     const HOSTILE: &str = "x' OR '1'='1";
 
     const BOUND: &[u8] = b"SELECT 42, ':id', 'x\\' OR \\'1\\'=\\'1'";
 
     // The text is this.
-    fn is_text(rt: &impl Abort, text: Vec<u8>, wanted: &[u8]) {
+    fn gives(rt: &impl Abort, found: Result<Vec<u8>, QueryError>, wanted: &[u8]) {
+        let text = found.expect(rt, "an error in place of a text");
         assert_eq!(rt; text.as_slice(), wanted);
     }
 
     // The error prints the message.
-    fn says<E: Display + Drop>(
-        rt: &impl Abort,
-        alloc: Global,
-        error: E,
-        message: &str,
-    ) -> Result<(), Fail> {
-        let printed = error.to_string(alloc)?;
+    fn says(rt: &impl Abort, alloc: Global, error: QueryError, message: &str) {
+        let printed = error.to_string(alloc).expect(rt, "no memory");
         assert_eq!(rt; printed.as_str(), message);
-        Ok(())
     }
 
     #[test]
-    fn by_name(rt: HostRuntime) -> Result<(), Fail> {
-        is_text(&rt, customer(rt.alloc(), 42, HOSTILE)?, BOUND);
-        Ok(())
+    fn by_name(rt: HostRuntime) {
+        gives(&rt, customer(rt.alloc(), 42, HOSTILE), BOUND);
     }
 
     #[test]
-    fn by_position(rt: HostRuntime) -> Result<(), Fail> {
-        is_text(&rt, customer_by_position(rt.alloc(), 42, HOSTILE)?, BOUND);
-        Ok(())
+    fn by_position(rt: HostRuntime) {
+        gives(&rt, customer_by_position(rt.alloc(), 42, HOSTILE), BOUND);
     }
 
     // Of each type of error, one by `?`.
     #[test]
-    fn errors(rt: HostRuntime) -> Result<(), Fail> {
+    fn errors(rt: HostRuntime) {
         let refusal = QueryError::from(BindError::Float { place: 0 });
-        says(&rt, rt.alloc(), refusal, "Float at place 0")?;
-        let name = Vec::from_slice(rt.alloc(), b"id")?;
+        says(&rt, rt.alloc(), refusal, "Float at place 0");
+        let name = Vec::from_slice(rt.alloc(), b"id").expect(&rt, "no memory");
         let refusal = QueryError::from(ToParamsError::Redefined(name));
-        says(
-            &rt,
-            rt.alloc(),
-            refusal,
-            "Redefinition of named parameter `id'",
-        )
+        let message = "Redefinition of named parameter `id'";
+        says(&rt, rt.alloc(), refusal, message);
     }
 
-    #[test]
-    fn literals(rt: HostRuntime) -> Result<(), Fail> {
-        let alloc = rt.alloc();
+    // The same of literals.
+    fn literals_by_name(alloc: Global) -> Result<Vec<u8>, QueryError> {
         let pairs: [(&[u8], &dyn ToValue); 2] = [(b"id", &42u8), (b"name", &"it's")];
         let params = Params::from_objects(alloc, &pairs)?;
-        is_text(
-            &rt,
-            bind_text(alloc, b"SELECT :id, ':id', :name", params)?,
-            b"SELECT 42, ':id', 'it\\'s'",
-        );
-        Ok(())
+        Ok(bind_text(alloc, b"SELECT :id, ':id', :name", params)?)
     }
 
     #[test]
-    fn literals_by_position(rt: HostRuntime) -> Result<(), Fail> {
-        let params = (42u8, None::<i64>).to_params(rt.alloc())?;
-        is_text(
-            &rt,
-            bind_text(rt.alloc(), b"SELECT ?, ?", params)?,
-            b"SELECT 42, NULL",
-        );
-        Ok(())
+    fn literals(rt: HostRuntime) {
+        let bound = b"SELECT 42, ':id', 'it\\'s'";
+        gives(&rt, literals_by_name(rt.alloc()), bound);
+    }
+
+    // The same by position.
+    fn marked(alloc: Global) -> Result<Vec<u8>, QueryError> {
+        let params = (42u8, None::<i64>).to_params(alloc)?;
+        Ok(bind_text(alloc, b"SELECT ?, ?", params)?)
+    }
+
+    #[test]
+    fn literals_by_position(rt: HostRuntime) {
+        gives(&rt, marked(rt.alloc()), b"SELECT 42, NULL");
     }
 }

@@ -8,12 +8,7 @@ use std::collections::HashMap;
 use std::fmt::{Debug, Display};
 use std::process::Abort;
 
-/// The two are the same. A call is cheaper to prove than the message.
-pub(crate) fn same<T: Copy + Debug + PartialEq>(rt: &impl Abort, found: T, wanted: T) {
-    assert_eq!(rt; found, wanted);
-}
-
-/// The same, with a message that names the case.
+/// The two are the same. A call is cheaper to prove than the message, which names the case.
 pub(crate) fn same_in<T: Copy + Debug + PartialEq, C: Debug>(
     rt: &impl Abort,
     found: T,
@@ -31,17 +26,17 @@ pub(crate) fn answer_of<T, E: Debug + Drop>(rt: &impl Abort, found: Result<T, E>
 
 /// The text is this.
 pub(crate) fn is_text(rt: &impl Abort, text: Vec<u8>, wanted: &[u8]) {
-    same(rt, text.as_slice(), wanted);
+    same_in(rt, text.as_slice(), wanted, &"a text");
 }
 
 /// The error prints the message.
 pub(crate) fn says<E: Display + Drop>(rt: &impl Abort, alloc: Global, error: E, message: &str) {
     let printed = answer_of(rt, error.to_string(alloc));
-    same(rt, printed.as_str(), message);
+    same_in(rt, printed.as_str(), message, &"a message");
 }
 
 /// A value.
-#[derive(Clone, Copy, Debug)]
+#[derive(Clone, Copy)]
 pub(crate) enum Plain<'a> {
     Null,
     Int(i64),
@@ -53,7 +48,7 @@ pub(crate) enum Plain<'a> {
 }
 
 /// What is given to a query.
-#[derive(Clone, Copy, Debug)]
+#[derive(Clone, Copy)]
 pub(crate) enum Given<'a> {
     Nothing,
     Named(&'a [(&'a [u8], Plain<'a>)]),
@@ -143,7 +138,7 @@ impl Refused<'_> {
 }
 
 /// A call that binds.
-#[derive(Clone, Copy, Debug)]
+#[derive(Clone, Copy)]
 pub(crate) enum Spelling {
     /// `bind_text`.
     BindText,
@@ -176,6 +171,17 @@ pub(crate) const EITHER_MODE: &[Spelling] = &[
 ];
 
 impl Spelling {
+    /// The name of the call in messages.
+    fn name(self) -> &'static str {
+        match self {
+            Spelling::BindText => "bind_text",
+            Spelling::BindTextIn(false) => "bind_text_in(false)",
+            Spelling::BindTextIn(true) => "bind_text_in(true)",
+            Spelling::Parsed(false) => "parse_in(false)",
+            Spelling::Parsed(true) => "parse_in(true)",
+        }
+    }
+
     /// What the call gives.
     pub(crate) fn bound(
         self,
@@ -204,11 +210,9 @@ pub(crate) fn is_bound_by(
     wanted: &[u8],
 ) {
     for spelling in spellings {
-        let case = (query, given, spelling);
-        match spelling.bound(alloc, query, given.params(rt, alloc)) {
-            Ok(text) => same_in(rt, text.as_slice(), wanted, &case),
-            Err(error) => same_in(rt, &Some(error), &None, &case),
-        }
+        let params = given.params(rt, alloc);
+        let text = answer_of(rt, spelling.bound(alloc, query, params));
+        same_in(rt, text.as_slice(), wanted, &(query, spelling.name()));
     }
 }
 
@@ -265,9 +269,21 @@ pub(crate) fn is_refused_by(
     refused: Refused<'_>,
 ) {
     for spelling in spellings {
-        let case = (query, given, spelling);
+        let case = (query, spelling.name());
         let found = spelling.bound(alloc, query, given.params(rt, alloc)).err();
         let wanted = Some(refused.error(rt, alloc));
         same_in(rt, &found, &wanted, &case);
+    }
+}
+
+/// By each of the calls, each query is refused so.
+pub(crate) fn are_refused_by(
+    rt: &impl Abort,
+    alloc: Global,
+    spellings: &[Spelling],
+    rows: &[(&[u8], Given<'_>, Refused<'_>)],
+) {
+    for (query, given, refused) in rows {
+        is_refused_by(rt, alloc, spellings, *query, *given, *refused);
     }
 }

@@ -2,7 +2,7 @@
 //! in literals.
 use crate::isolation::HOSTILE;
 use crate::shared::{
-    Given, Plain, Refused, WITH_BACKSLASHES, WITHOUT_BACKSLASHES, are_bound_by, is_refused_by,
+    Given, Plain, Refused, WITH_BACKSLASHES, WITHOUT_BACKSLASHES, are_bound_by, are_refused_by,
     string_is_bound_by,
 };
 
@@ -61,32 +61,26 @@ const NULL_FOR_B: Given<'_> = Given::Named(&[(b"b", Plain::Null)]);
 
 const TEXT_FOR_B: Given<'_> = Given::Named(&[(b"b", Plain::Text(b"it's\\"))]);
 
+/// A name after a string with a backslash.
+const AFTER_A_STRING: &[(&[u8], Given<'_>, Refused<'_>)] = &[(
+    b"SELECT 'a\\':b",
+    NULL_FOR_B,
+    Refused::NotAlone(0, 11),
+)];
+
 #[test]
 fn a_name_after_a_string_with_a_backslash(rt: HostRuntime) {
-    is_refused_by(
-        &rt,
-        rt.alloc(),
-        WITHOUT_BACKSLASHES,
-        b"SELECT 'a\\':b",
-        NULL_FOR_B,
-        Refused::NotAlone(0, 11),
-    )
+    are_refused_by(&rt, rt.alloc(), WITHOUT_BACKSLASHES, AFTER_A_STRING);
 }
 
 /// Queries that have the name `b` where a backslash escapes nothing; else it stands in an open
 /// string.
-const NAMELESS_WITH_BACKSLASHES: &[&[u8]] = &[b"SELECT 'a\\':b", b"SELECT 'a\\', :b"];
+const NAMELESS_WITH_BACKSLASHES: &[(&[u8], Given<'_>, Refused<'_>)] = &[
+    (b"SELECT 'a\\':b", TEXT_FOR_B, Refused::NamedGiven),
+    (b"SELECT 'a\\', :b", TEXT_FOR_B, Refused::NamedGiven),
+];
 
 #[test]
 fn a_name_in_an_open_string(rt: HostRuntime) {
-    for query in NAMELESS_WITH_BACKSLASHES {
-        is_refused_by(
-            &rt,
-            rt.alloc(),
-            WITH_BACKSLASHES,
-            *query,
-            TEXT_FOR_B,
-            Refused::NamedGiven,
-        );
-    }
+    are_refused_by(&rt, rt.alloc(), WITH_BACKSLASHES, NAMELESS_WITH_BACKSLASHES);
 }
