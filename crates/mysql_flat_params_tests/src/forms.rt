@@ -1,6 +1,7 @@
 //! Forms and queries that are bound, and those that are refused.
-use crate::shared::{FORM, QUERY, TEXT, answer_of, binds, refuses, same};
-use mysql_flat_params::laws::form_error_equality;
+use crate::shared::{
+    FORM, QUERY, TEXT, WITH_BACKSLASHES, all_bind_in, all_refuse_in, answer_of, refuses, same_in,
+};
 use mysql_flat_params::{FormError, Outcome, params_of_form};
 use mysql_params_core::params::Params;
 use std::alloc::{AllocError, Global};
@@ -29,9 +30,7 @@ const TEXTS: &[(&[u8], &[u8], &[u8])] = &[
 
 #[test]
 fn bound_texts(rt: HostRuntime) {
-    for (query, form, text) in TEXTS {
-        binds(&rt, rt.alloc(), *query, *form, *text);
-    }
+    all_bind_in(&rt, rt.alloc(), WITH_BACKSLASHES, TEXTS);
 }
 
 /// Forms, and why they are refused.
@@ -244,34 +243,27 @@ const CAUSES: &[(&[u8], &[u8], Outcome)] = &[
 
 #[test]
 fn refused_queries(rt: HostRuntime) {
-    for (query, form, wanted) in CAUSES {
-        refuses(&rt, rt.alloc(), *query, *form, *wanted);
-    }
+    all_refuse_in(&rt, rt.alloc(), WITH_BACKSLASHES, CAUSES);
+}
+
+/// The form is read as this.
+fn reads(rt: &impl Abort, alloc: Global, form: &[u8], wanted: Result<Params, FormError>) {
+    same_in(rt, &params_of_form(alloc, form), &wanted, &form);
 }
 
 #[test]
 fn the_form_of_no_parameter(rt: HostRuntime) {
-    match params_of_form(rt.alloc(), b"") {
-        Ok(params) => assert!(rt; params == Params::Empty),
-        Err(error) => assert!(rt; false, "{error}"),
-    }
+    reads(&rt, rt.alloc(), b"", Ok(Params::Empty));
 }
 
 #[test]
 fn errors_of_forms(rt: HostRuntime) {
-    match params_of_form(rt.alloc(), b"\0\x06\0\xff") {
-        Ok(_) => assert!(rt; false),
-        Err(error) => {
-            let wanted = FormError::LengthLead {
-                place: 1,
-                position: 3,
-                lead: 255,
-            };
-            same(&rt, form_error_equality(&error, &wanted), true);
-            let memory = FormError::Memory(AllocError);
-            same(&rt, form_error_equality(&error, &memory), false);
-        }
-    }
+    let wanted = FormError::LengthLead {
+        place: 1,
+        position: 3,
+        lead: 255,
+    };
+    reads(&rt, rt.alloc(), b"\0\x06\0\xff", Err(wanted));
 }
 
 /// Errors and their messages.
@@ -319,7 +311,7 @@ const MESSAGES: &[(FormError, &str)] = &[
 /// What is printed of the error.
 fn says(rt: &impl Abort, alloc: Global, error: &FormError, message: &str) {
     let printed = answer_of(rt, error.to_string(alloc));
-    same(rt, printed.as_str(), message);
+    same_in(rt, printed.as_str(), message, &"a message");
 }
 
 #[test]

@@ -1,6 +1,5 @@
 //! Outcomes as numbers and fields.
-use crate::shared::{same, same_in};
-use mysql_flat_params::laws::{outcome_equality, report_equality};
+use crate::shared::same_in;
 use mysql_flat_params::{Outcome, Report};
 
 /// Outcomes, their numbers, and their fields: length, place, position, marks, values, byte.
@@ -93,20 +92,7 @@ fn numbers_and_fields(rt: HostRuntime) {
             values: *values,
             byte: *byte,
         };
-        same(&rt, outcome.number(), *number);
-        same_in(
-            &rt,
-            report_equality(&outcome.report(), &wanted),
-            true,
-            number,
-        );
+        same_in(&rt, outcome.number(), *number, outcome);
+        same_in(&rt, outcome.report(), wanted, outcome);
     }
-}
-
-#[test]
-fn equal_outcomes(rt: HostRuntime) {
-    let outcome = Outcome::Float { place: 1 };
-    assert!(rt; outcome_equality(&outcome, &Outcome::Float { place: 1 }));
-    assert!(rt; !outcome_equality(&outcome, &Outcome::Float { place: 2 }));
-    assert!(rt; !report_equality(&outcome.report(), &Outcome::Mixed.report()));
 }

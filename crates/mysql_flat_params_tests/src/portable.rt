@@ -41,20 +41,24 @@ const AFTER_A_BACKSLASH: &[(&[u8], (i32, usize), (i32, usize))] = &[
     (b"\"\\\\\" $:a", (7, 5), (7, 5)),
 ];
 
-/// In a mode the query is told by this number and this position, over a report that says
-/// something else.
-fn tells(rt: &impl Abort, query: &[u8], mode: bool, number: i32, position: usize) {
-    let mut report = Report {
-        len: 9,
-        place: 9,
-        position: 9,
-        marks: 9,
-        values: 9,
-        byte: 9,
-    };
-    let told = report_first_unportable(query, mode, &mut report);
-    let case = (query, mode);
-    same_in(rt, told, number, &case);
+/// A report that says something.
+const NINES: Report = Report {
+    len: 9,
+    place: 9,
+    position: 9,
+    marks: 9,
+    values: 9,
+    byte: 9,
+};
+
+/// The query is told by this number and this position, and by nothing else in the report.
+fn is_told(
+    rt: &impl Abort,
+    query: &[u8],
+    (told, report): (i32, Report),
+    number: i32,
+    position: usize,
+) {
     let wanted = Report {
         len: 0,
         place: 0,
@@ -63,7 +67,22 @@ fn tells(rt: &impl Abort, query: &[u8], mode: bool, number: i32, position: usize
         values: 0,
         byte: 0,
     };
-    same_in(rt, report, wanted, &case);
+    same_in(rt, told, number, &query);
+    same_in(rt, report, wanted, &query);
+}
+
+/// In a mode the query is told so.
+fn tells(rt: &impl Abort, query: &[u8], mode: bool, number: i32, position: usize) {
+    let mut report = NINES;
+    let told = report_first_unportable(query, mode, &mut report);
+    is_told(rt, query, (told, report), number, position);
+}
+
+/// In a mode the query is told so for a client.
+fn tells_in_client(rt: &impl Abort, query: &[u8], mode: bool, number: i32, position: usize) {
+    let mut report = NINES;
+    let told = report_first_unportable_in_client(query, mode, &mut report);
+    is_told(rt, query, (told, report), number, position);
 }
 
 #[test]
@@ -108,20 +127,7 @@ const IN_CLIENT: &[(&[u8], i32, usize)] = &[
 #[test]
 fn first_constructs_in_a_client(rt: HostRuntime) {
     for (query, number, position) in IN_CLIENT {
-        for mode in [false, true] {
-            let mut report = Report {
-                len: 9,
-                place: 9,
-                position: 9,
-                marks: 9,
-                values: 9,
-                byte: 9,
-            };
-            let told = report_first_unportable_in_client(*query, mode, &mut report);
-            let case = (*query, mode);
-            same_in(&rt, told, *number, &case);
-            same_in(&rt, report.position, *position, &case);
-            same_in(&rt, report.len, 0, &case);
-        }
+        tells_in_client(&rt, *query, false, *number, *position);
+        tells_in_client(&rt, *query, true, *number, *position);
     }
 }

@@ -1,42 +1,40 @@
 //! Rooms that are too short, of the right length, and longer; and the answer to a query's names.
-use crate::shared::{
-    FORM, QUERY, TEXT, WITH_BACKSLASHES, WITHOUT_BACKSLASHES, finds_in, same, same_in,
-};
+use crate::shared::{FORM, QUERY, TEXT, WITH_BACKSLASHES, WITHOUT_BACKSLASHES, finds_in, same_in};
 use mysql_flat_params::{Outcome, bind_into, names_into};
 
 #[test]
 fn bound_in_its_room(rt: HostRuntime) {
     let mut room = [b'#'; 36];
     let outcome = bind_into(rt.alloc(), QUERY, FORM, WITH_BACKSLASHES, &mut room);
-    same(&rt, outcome, Outcome::Done { len: 36 });
-    same(&rt, room.as_slice(), TEXT);
+    same_in(&rt, outcome, Outcome::Done { len: 36 }, &"the answer");
+    same_in(&rt, room.as_slice(), TEXT, &"the room");
 }
 
 #[test]
 fn room_too_short_by_one(rt: HostRuntime) {
     let mut room = [b'#'; 35];
     let outcome = bind_into(rt.alloc(), QUERY, FORM, WITH_BACKSLASHES, &mut room);
-    same(&rt, outcome, Outcome::Room { len: 36 });
-    same(&rt, room, [b'#'; 35]);
+    same_in(&rt, outcome, Outcome::Room { len: 36 }, &"the answer");
+    same_in(&rt, room, [b'#'; 35], &"the room");
 }
 
 #[test]
 fn room_too_short_for_names_by_one(rt: HostRuntime) {
     let mut room = [b'#'; 35];
     let outcome = names_into(rt.alloc(), QUERY, WITH_BACKSLASHES, &mut room[..26]);
-    same(&rt, outcome, Outcome::Room { len: 27 });
-    same(&rt, room, [b'#'; 35]);
+    same_in(&rt, outcome, Outcome::Room { len: 27 }, &"the answer");
+    same_in(&rt, room, [b'#'; 35], &"the room");
 }
 
 #[test]
 fn no_room(rt: HostRuntime) {
     let mut room = [0u8; 0];
     let outcome = bind_into(rt.alloc(), b"", b"", WITH_BACKSLASHES, &mut room);
-    same(&rt, outcome, Outcome::Done { len: 0 });
+    same_in(&rt, outcome, Outcome::Done { len: 0 }, &"the answer");
     let outcome = bind_into(rt.alloc(), b" ", b"", WITH_BACKSLASHES, &mut room);
-    same(&rt, outcome, Outcome::Room { len: 1 });
+    same_in(&rt, outcome, Outcome::Room { len: 1 }, &"the answer");
     let outcome = names_into(rt.alloc(), b"", WITH_BACKSLASHES, &mut room);
-    same(&rt, outcome, Outcome::Room { len: 1 });
+    same_in(&rt, outcome, Outcome::Room { len: 1 }, &"the answer");
 }
 
 /// Queries, and the answer to asking for their names.

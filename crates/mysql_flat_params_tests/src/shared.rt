@@ -14,12 +14,7 @@ pub(crate) const FORM: &[u8] = b"\x02id\x08\0\x2a\0\0\0\0\0\0\0\x04name\xfd\0\x0
 /// Its text, of 36 bytes.
 pub(crate) const TEXT: &[u8] = b"SELECT 42, ':id', 'x\\' OR \\'1\\'=\\'1'";
 
-/// The two are the same. A call is cheaper to prove than the message.
-pub(crate) fn same<T: Copy + Debug + PartialEq>(rt: &impl Abort, found: T, wanted: T) {
-    assert_eq!(rt; found, wanted);
-}
-
-/// The same, with a message that names the case.
+/// The two are the same. A call is cheaper to prove than the message, which names the case.
 pub(crate) fn same_in<T: Copy + Debug + PartialEq, C: Debug>(
     rt: &impl Abort,
     found: T,
@@ -98,6 +93,30 @@ pub(crate) fn refuses_in(
 /// The same in the mode in which a backslash escapes.
 pub(crate) fn refuses(rt: &impl Abort, alloc: Global, query: &[u8], form: &[u8], wanted: Outcome) {
     refuses_in(rt, alloc, WITH_BACKSLASHES, query, form, wanted);
+}
+
+/// In the mode, each query bound to its form is the text.
+pub(crate) fn all_bind_in(
+    rt: &impl Abort,
+    alloc: Global,
+    mode: bool,
+    rows: &[(&[u8], &[u8], &[u8])],
+) {
+    for (query, form, text) in rows {
+        binds_in(rt, alloc, mode, *query, *form, *text);
+    }
+}
+
+/// In the mode, this becomes of each query and its form, and the room is as before.
+pub(crate) fn all_refuse_in(
+    rt: &impl Abort,
+    alloc: Global,
+    mode: bool,
+    rows: &[(&[u8], &[u8], Outcome)],
+) {
+    for (query, form, wanted) in rows {
+        refuses_in(rt, alloc, mode, *query, *form, *wanted);
+    }
 }
 
 /// In the mode, the query is answered so if its names are asked for, in a room of 40 bytes, of

@@ -1,5 +1,5 @@
 //! A value of each column type, by its number.
-use crate::shared::{answer_of, binds, refuses};
+use crate::shared::{WITH_BACKSLASHES, all_refuse_in, answer_of, binds, refuses};
 use mysql_flat_params::Outcome;
 use std::alloc::{AllocError, Global};
 use std::process::Abort;
@@ -74,12 +74,19 @@ fn values_of_types(rt: HostRuntime) {
     }
 }
 
+/// Values that have no literal.
+const FLOATS: &[(&[u8], &[u8], Outcome)] = &[
+    (b"?", b"\0\x04\0\0\0\x80\x3f", Outcome::Float { place: 0 }),
+    (
+        b"?",
+        b"\0\x05\0\0\0\0\0\0\0\xf0\x3f",
+        Outcome::Float { place: 0 },
+    ),
+];
+
 #[test]
 fn floats(rt: HostRuntime) {
-    let alloc = rt.alloc();
-    let wanted = Outcome::Float { place: 0 };
-    refuses(&rt, alloc, b"?", b"\0\x04\0\0\0\x80\x3f", wanted);
-    refuses(&rt, alloc, b"?", b"\0\x05\0\0\0\0\0\0\0\xf0\x3f", wanted);
+    all_refuse_in(&rt, rt.alloc(), WITH_BACKSLASHES, FLOATS);
 }
 
 #[test]

@@ -1,5 +1,7 @@
 //! Forms bound, and names found, in the mode without backslash escapes.
-use crate::shared::{WITH_BACKSLASHES, WITHOUT_BACKSLASHES, binds_in, finds_in, refuses_in};
+use crate::shared::{
+    WITH_BACKSLASHES, WITHOUT_BACKSLASHES, all_bind_in, all_refuse_in, finds_in, refuses,
+};
 use mysql_flat_params::Outcome;
 
 /// Queries, forms, and the text.
@@ -21,9 +23,7 @@ const TEXTS: &[(&[u8], &[u8], &[u8])] = &[
 
 #[test]
 fn bound_texts(rt: HostRuntime) {
-    for (query, form, text) in TEXTS {
-        binds_in(&rt, rt.alloc(), WITHOUT_BACKSLASHES, *query, *form, *text);
-    }
+    all_bind_in(&rt, rt.alloc(), WITHOUT_BACKSLASHES, TEXTS);
 }
 
 /// A name, if a backslash escapes nothing: else it stands in an open string.
@@ -56,29 +56,13 @@ const REFUSALS: &[(&[u8], &[u8], Outcome)] = &[
 
 #[test]
 fn refusals(rt: HostRuntime) {
-    for (query, form, outcome) in REFUSALS {
-        refuses_in(
-            &rt,
-            rt.alloc(),
-            WITHOUT_BACKSLASHES,
-            *query,
-            *form,
-            *outcome,
-        );
-    }
+    all_refuse_in(&rt, rt.alloc(), WITHOUT_BACKSLASHES, REFUSALS);
 }
 
 #[test]
 fn a_name_in_an_open_string(rt: HostRuntime) {
     let refused = Outcome::NamedForPositional;
-    refuses_in(
-        &rt,
-        rt.alloc(),
-        WITH_BACKSLASHES,
-        AFTER_A_BACKSLASH,
-        NULL_FOR_B,
-        refused,
-    );
+    refuses(&rt, rt.alloc(), AFTER_A_BACKSLASH, NULL_FOR_B, refused);
 }
 
 #[test]
