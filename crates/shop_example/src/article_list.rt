@@ -19,19 +19,19 @@ pub fn articles_among(alloc: Global, count: usize) -> Result<String, AllocError>
 #[cfg(test)]
 mod tests {
     use super::*;
+    use crate::shared::{answer_of, gives};
     use mysql_params::bind_text;
     use mysql_params::params::ToParams;
-    use std::test::Fail;
 
     #[test]
-    fn among_three(rt: HostRuntime) -> Result<(), Fail> {
-        let ids = Vec::from_slice(rt.alloc(), &[7u64, 1, 42])?;
-        let query = articles_among(rt.alloc(), 3)?;
-        let text = bind_text(rt.alloc(), query.as_bytes(), ids.to_params(rt.alloc())?)?;
-        assert_eq!(rt;
-            text.as_slice(),
-            b"SELECT name FROM article WHERE id IN (7, 1, 42)".as_slice()
+    fn among_three(rt: HostRuntime) {
+        let ids = answer_of(&rt, Vec::from_slice(rt.alloc(), &[7u64, 1, 42]));
+        let params = answer_of(&rt, ids.to_params(rt.alloc()));
+        let query = answer_of(&rt, articles_among(rt.alloc(), 3));
+        gives(
+            &rt,
+            bind_text(rt.alloc(), query.as_bytes(), params),
+            b"SELECT name FROM article WHERE id IN (7, 1, 42)",
         );
-        Ok(())
     }
 }

@@ -20,15 +20,14 @@ pub fn article_in_stock(alloc: Global, sku: &str, count: u32) -> Result<Vec<u8>,
 #[cfg(test)]
 mod tests {
     use super::*;
-    use std::test::Fail;
+    use crate::shared::gives;
 
     #[test]
-    fn hostile_number(rt: HostRuntime) -> Result<(), Fail> {
-        let text = article_in_stock(rt.alloc(), "A'1", 3)?;
-        assert_eq!(rt;
-            text.as_slice(),
-            b"SELECT name FROM article WHERE sku = 'A\\'1' AND stock >= 3;".as_slice()
+    fn hostile_number(rt: HostRuntime) {
+        gives(
+            &rt,
+            article_in_stock(rt.alloc(), "A'1", 3),
+            b"SELECT name FROM article WHERE sku = 'A\\'1' AND stock >= 3;",
         );
-        Ok(())
     }
 }

@@ -17,15 +17,14 @@ pub fn change_balance(alloc: Global, id: u32, change: i64) -> Result<Vec<u8>, Al
 #[cfg(test)]
 mod tests {
     use super::*;
-    use std::test::Fail;
+    use crate::shared::gives;
 
     #[test]
-    fn negative_change(rt: HostRuntime) -> Result<(), Fail> {
-        let text = change_balance(rt.alloc(), 7, -5)?;
-        assert_eq!(rt;
-            text.as_slice(),
-            b"UPDATE account SET balance = balance + -5 WHERE id = 7".as_slice()
+    fn negative_change(rt: HostRuntime) {
+        gives(
+            &rt,
+            change_balance(rt.alloc(), 7, -5),
+            b"UPDATE account SET balance = balance + -5 WHERE id = 7",
         );
-        Ok(())
     }
 }

@@ -28,27 +28,37 @@ pub fn read_customer(alloc: Global, buf: &mut ParseBuf<'_>) -> Result<Customer, 
 #[cfg(test)]
 mod tests {
     use super::*;
+    use crate::shared::{answer_of, same};
     use crate::state::State;
     use mysql_wire_part::WireError;
-    use std::test::Fail;
 
     #[test]
-    fn a_row(rt: HostRuntime) -> Result<(), Fail> {
-        let mut buf = ParseBuf(b"\x0242\x03Ann\x012\xFB");
-        let customer = read_customer(rt.alloc(), &mut buf)?;
-        assert_eq!(rt; customer.id, 42);
-        assert_eq!(rt; customer.name.as_str(), "Ann");
-        assert_eq!(rt; cell::<State>(rt.alloc(), &mut buf)?, State::Sent);
-        assert_eq!(rt; cell::<Option<u8>>(rt.alloc(), &mut buf)?, None);
-        Ok(())
+    fn a_row(rt: HostRuntime) {
+        let mut buf = ParseBuf(b"\x0242\x03Ann\x012");
+        let customer = answer_of(&rt, read_customer(rt.alloc(), &mut buf));
+        same(&rt, (customer.id, customer.name.as_str()), (42, "Ann"));
+        same(&rt, buf.0, b"\x012".as_slice());
     }
 
     #[test]
-    fn refused(rt: HostRuntime) -> Result<(), Fail> {
+    fn cells_of_other_types(rt: HostRuntime) {
+        let mut buf = ParseBuf(b"\x012\xFB");
+        let state = answer_of(&rt, cell::<State>(rt.alloc(), &mut buf));
+        same(&rt, state, State::Sent);
+        let none = answer_of(&rt, cell::<Option<u8>>(rt.alloc(), &mut buf));
+        same(&rt, none, None);
+    }
+
+    #[test]
+    fn refused(rt: HostRuntime) {
         let refusal = read_customer(rt.alloc(), &mut ParseBuf(b"\x024x\x03Ann")).err();
-        assert!(rt; matches!(&refusal, Some(CellError::Value(_))));
+        same(&rt, matches!(&refusal, Some(CellError::Value(_))), true);
+    }
+
+    #[test]
+    fn refused_at_the_end(rt: HostRuntime) {
         let refusal = read_customer(rt.alloc(), &mut ParseBuf(b"\x0242\x03An")).err();
-        assert_eq!(rt; refusal, Some(CellError::Wire(WireError::UnexpectedEof)));
-        Ok(())
+        let wanted = Some(CellError::Wire(WireError::UnexpectedEof));
+        same(&rt, &refusal, &wanted);
     }
 }

@@ -8,4 +8,6 @@ pub mod cell;
 pub mod customer_row;
 pub mod day;
 pub mod order_query;
+#[cfg(test)]
+mod shared;
 pub mod state;

@@ -64,8 +64,8 @@ fn search_params(
 #[cfg(test)]
 mod tests {
     use super::*;
+    use crate::shared::{gives, same};
     use mysql_params::params::ParamsError;
-    use std::test::Fail;
 
     const SEARCH: &[u8] =
         b"SELECT id FROM orders WHERE customer = :customer AND day >= :from AND note = :text";
@@ -80,21 +80,21 @@ mod tests {
     };
 
     #[test]
-    fn by_name(rt: HostRuntime) -> Result<(), Fail> {
-        let text = search_orders(rt.alloc(), SEARCH, 42, NEW_YEAR, "A'1")?;
-        assert_eq!(rt; text.as_slice(), FOUND);
-        Ok(())
+    fn by_name(rt: HostRuntime) {
+        gives(
+            &rt,
+            search_orders(rt.alloc(), SEARCH, 42, NEW_YEAR, "A'1"),
+            FOUND,
+        );
     }
 
     #[test]
-    fn a_name_of_no_value(rt: HostRuntime) -> Result<(), Fail> {
+    fn a_name_of_no_value(rt: HostRuntime) {
         let refusal = search_orders(rt.alloc(), b"SELECT :costumer", 42, NEW_YEAR, "").err();
-        assert!(rt;
-            matches!(
-                &refusal,
-                Some(QueryError::Bind(BindError::Params(ParamsError::Missing(_))))
-            )
+        let is_missing = matches!(
+            &refusal,
+            Some(QueryError::Bind(BindError::Params(ParamsError::Missing(_))))
         );
-        Ok(())
+        same(&rt, is_missing, true);
     }
 }

@@ -109,27 +109,45 @@ impl FromValue for State {
 #[cfg(test)]
 mod tests {
     use super::*;
+    use crate::shared::{answer_of, same};
     use mysql_values::bytes::Bytes;
     use mysql_values::value::convert::from_value_opt;
-    use std::test::Fail;
+    use std::process::Abort;
 
-    #[test]
-    fn by_number(rt: HostRuntime) -> Result<(), Fail> {
-        assert_eq!(rt; from_value_opt::<State>(Value::Int(0)), Ok(State::Open));
-        assert_eq!(rt; from_value_opt::<State>(Value::UInt(1)), Ok(State::Paid));
-        let text = Vec::from_slice(rt.alloc(), b"2")?;
-        let text = Value::Bytes(Bytes::from(text));
-        assert_eq!(rt; from_value_opt::<State>(text), Ok(State::Sent));
-        Ok(())
+    // The value is the number of this state.
+    fn converts(rt: &impl Abort, value: Value, state: State) {
+        same(rt, &from_value_opt::<State>(value), &Ok(state));
     }
 
     #[test]
-    fn handed_back(rt: HostRuntime) -> Result<(), Fail> {
-        for value in [Value::Int(3), Value::UInt(3), Value::Int(-1), Value::NULL] {
-            let copy = value.clone()?;
-            assert_eq!(rt; from_value_opt::<State>(value), Err(FromValueError(copy)));
-        }
-        assert_eq!(rt; State::Sent.into_value(rt.alloc())?, Value::UInt(2));
-        Ok(())
+    fn by_number(rt: HostRuntime) {
+        converts(&rt, Value::Int(0), State::Open);
+        converts(&rt, Value::UInt(1), State::Paid);
+        let text = answer_of(&rt, Vec::from_slice(rt.alloc(), b"2"));
+        converts(&rt, Value::Bytes(Bytes::from(text)), State::Sent);
+    }
+
+    // The value is handed back.
+    fn is_handed_back(rt: &impl Abort, value: Value) {
+        let copy = answer_of(rt, value.clone());
+        same(
+            rt,
+            &from_value_opt::<State>(value),
+            &Err(FromValueError(copy)),
+        );
+    }
+
+    #[test]
+    fn handed_back(rt: HostRuntime) {
+        is_handed_back(&rt, Value::Int(3));
+        is_handed_back(&rt, Value::UInt(3));
+        is_handed_back(&rt, Value::Int(-1));
+        is_handed_back(&rt, Value::NULL);
+    }
+
+    #[test]
+    fn as_a_value(rt: HostRuntime) {
+        let value = answer_of(&rt, State::Sent.into_value(rt.alloc()));
+        same(&rt, &value, &Value::UInt(2));
     }
 }
