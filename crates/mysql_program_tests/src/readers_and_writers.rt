@@ -1,6 +1,6 @@
 //! Both commands over readers and writers that give and take little, and fail at a stated call: how
 //! often they are called, and what was written.
-use crate::shared::{Fault, SlowReader, SlowWriter, answer_of, run_over, same, same_in};
+use crate::shared::{Fault, SlowReader, SlowWriter, answer_of, leaves, run_over, same, same_in};
 use mysql_params::{BindError, RunError};
 use std::alloc::{AllocError, Global};
 use std::process::Abort;
@@ -13,15 +13,18 @@ const CASES: &[Case] = &[
     (&["bind", "a=i:-3", "b=s:it's"], b":a :b", b"-3 'it\\'s'"),
 ];
 
+/// A read for each byte and one for the end; a write for each byte.
+fn ends(rt: &impl Abort, alloc: Global, (texts, query, wanted): Case) {
+    let input = SlowReader::new(query, 1, 0);
+    let output = SlowWriter::new(alloc, 1, Fault::Fails, 0);
+    let calls = (query.len() + 1, wanted.len());
+    leaves(rt, alloc, texts, (input, output), Ok(()), calls, wanted);
+}
+
 #[test]
 fn nothing_is_read_after_the_end(rt: HostRuntime) {
-    for (texts, query, wanted) in CASES {
-        let input = SlowReader::new(*query, 1, 0);
-        let output = SlowWriter::new(rt.alloc(), 1, Fault::Fails, 0);
-        let ran = answer_of(&rt, run_over(rt.alloc(), *texts, input, output));
-        same_in(&rt, &ran.answer, &Ok(()), texts);
-        // A read for each byte and one for the end; a write for each byte.
-        same_in(&rt, &ran.calls, &(query.len() + 1, wanted.len()), texts);
+    for case in CASES {
+        ends(&rt, rt.alloc(), *case);
     }
 }
 
@@ -30,9 +33,8 @@ fn failed_read_is_told_and_not_repeated(rt: &impl Abort, alloc: Global, (texts, 
     for k in 1..=query.len() + 1 {
         let input = SlowReader::new(query, 1, k);
         let output = SlowWriter::new(alloc, 1, Fault::Fails, 0);
-        let ran = answer_of(rt, run_over(alloc, texts, input, output));
-        same_in(rt, &ran.answer, &Err(RunError::Read), &(texts, k));
-        same_in(rt, &ran.calls, &(k, 0), &(texts, k));
+        let told = Err(RunError::Read);
+        leaves(rt, alloc, texts, (input, output), told, (k, 0), b"");
     }
 }
 
@@ -53,10 +55,17 @@ fn is_told_and_not_repeated(
     for k in 1..=wanted.len() {
         let input = SlowReader::new(query, 1, 0);
         let output = SlowWriter::new(alloc, 1, fault, k);
-        let ran = answer_of(rt, run_over(alloc, texts, input, output));
-        same_in(rt, &ran.answer, &Err(RunError::Write), &(fault, k));
-        same_in(rt, ran.taken.as_slice(), &wanted[..k - 1], &(fault, k));
-        same_in(rt, &ran.calls, &(query.len() + 1, k), &(fault, k));
+        let told = Err(RunError::Write);
+        let calls = (query.len() + 1, k);
+        leaves(
+            rt,
+            alloc,
+            texts,
+            (input, output),
+            told,
+            calls,
+            &wanted[..k - 1],
+        );
     }
 }
 
@@ -119,9 +128,8 @@ fn refuses_in_pieces(
 ) {
     let input = SlowReader::new(query, 1, 0);
     let output = SlowWriter::new(alloc, 1, Fault::Fails, 1);
-    let ran = answer_of(rt, run_over(alloc, texts, input, output));
-    same_in(rt, &ran.answer, &Err(refusal), &texts);
-    same_in(rt, &ran.calls, &(query.len() + 1, 0), &texts);
+    let calls = (query.len() + 1, 0);
+    leaves(rt, alloc, texts, (input, output), Err(refusal), calls, b"");
 }
 
 #[test]

@@ -1,6 +1,5 @@
 //! What refusals of the program print, their statuses, and their equality.
 use crate::shared::{answer_of, same, same_in};
-use mysql_params::laws::run_error_equality;
 use mysql_params::{BindError, RunError};
 use std::alloc::{AllocError, Global};
 use std::process::Abort;
@@ -39,10 +38,4 @@ fn messages_that_tell_what_is_refused(rt: HostRuntime) {
         values: 0,
     });
     says(&rt, rt.alloc(), count, 1, "Query has 1 marks and 0 values");
-}
-
-#[test]
-fn equality_of_refusals(rt: HostRuntime) {
-    assert!(rt; run_error_equality(&RunError::Read, &RunError::Read));
-    assert!(rt; !run_error_equality(&RunError::Read, &RunError::Write));
 }

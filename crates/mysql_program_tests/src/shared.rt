@@ -143,6 +143,23 @@ pub(crate) fn run_over(
     })
 }
 
+/// The program over this reader and writer answers so, after so many reads and writes, and has
+/// written this.
+pub(crate) fn leaves(
+    rt: &impl Abort,
+    alloc: Global,
+    texts: &[&str],
+    (input, output): (SlowReader<'_>, SlowWriter),
+    answer: Result<(), RunError>,
+    calls: (usize, usize),
+    taken: &[u8],
+) {
+    let ran = answer_of(rt, run_over(alloc, texts, input, output));
+    same_in(rt, &ran.answer, &answer, &(texts, calls));
+    same_in(rt, ran.calls, calls, &texts);
+    same_in(rt, ran.taken.as_slice(), taken, &(texts, calls));
+}
+
 /// What a run over memory left: its answer, how many bytes were left to read, and what was written.
 #[derive(Drop)]
 pub(crate) struct RanOverMemory {

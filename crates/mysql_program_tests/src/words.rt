@@ -1,5 +1,5 @@
 //! Words that ask for nothing that the program does: they are refused before anything is read.
-use crate::shared::{Fault, SlowReader, SlowWriter, answer_of, run_over, same_in};
+use crate::shared::{Fault, SlowReader, SlowWriter, answer_of, leaves};
 use mysql_params::RunError;
 use std::alloc::Global;
 use std::process::Abort;
@@ -44,9 +44,7 @@ const USAGE: &[&[&str]] = &[
 fn is_refused_before_a_read(rt: &impl Abort, alloc: Global, texts: &[&str], refusal: RunError) {
     let input = SlowReader::new(b":a", 1, 1);
     let output = SlowWriter::new(alloc, 1, Fault::Fails, 1);
-    let ran = answer_of(rt, run_over(alloc, texts, input, output));
-    same_in(rt, &ran.answer, &Err(refusal), &texts);
-    same_in(rt, &ran.calls, &(0, 0), &texts);
+    leaves(rt, alloc, texts, (input, output), Err(refusal), (0, 0), b"");
 }
 
 #[test]
