@@ -1,60 +1,187 @@
 //! Tokens that end by jumps, and runs of plain bytes that are passed 16 at once, against the same
 //! found byte by byte: for each kind of token every length from 0 to 70 of its inside, closed and
 //! open, and with a backslash before each place of it, in both modes.
-use crate::plain_reading::{plain_token, split};
-use crate::shared::{answer_of, same_in};
+use crate::shared::same_in;
 use mysql_named_params::places::{FoundPlace, PlaceKind, first_place};
 use mysql_named_params::tokens::{TokenKind, first_token};
-use std::alloc::Global;
+use std::alloc::{AllocError, Global};
 use std::process::Abort;
 
-/// The place that a token of this kind is.
-fn place_kind(kind: TokenKind) -> Option<PlaceKind> {
-    match kind {
-        TokenKind::Name => Some(PlaceKind::Name),
-        TokenKind::Mark => Some(PlaceKind::Mark),
-        TokenKind::Other => None,
+// Down to `plain_first_place` these are the bodies that the crate had before its jumps. They have
+// no contract here: so their sums saturate, their slices begin at the end at the latest, an empty
+// text has a token of one byte, and the walk is a loop that ends. The table of plain bytes is a
+// test here.
+
+fn plain_is_white_space(byte: u8) -> bool {
+    byte.is_ascii_whitespace()
+}
+
+fn plain_is_start_byte(byte: u8) -> bool {
+    byte.is_ascii_lowercase() || byte == b'_'
+}
+
+fn plain_is_name_byte(byte: u8) -> bool {
+    plain_is_start_byte(byte) || byte.is_ascii_digit()
+}
+
+fn plain_is_escape(byte: u8, no_backslash_escape: bool) -> bool {
+    !no_backslash_escape && byte == b'\\'
+}
+
+/// What follows so many bytes.
+fn after(text: &[u8], count: usize) -> &[u8] {
+    &text[count.min(text.len())..]
+}
+
+/// How many bytes there are up to and with the first place of the word, or to the end.
+fn plain_len_up_to(text: &[u8], word: &[u8]) -> usize {
+    for i in 0..text.len() {
+        if text[i..].starts_with(word) {
+            return i.saturating_add(word.len());
+        }
     }
+    text.len()
+}
+
+/// How many bytes of a string there are after its opening quote.
+fn plain_string_len(text: &[u8], quote: u8, no_backslash_escape: bool) -> usize {
+    let mut escaped = false;
+    for (i, byte) in text.iter().enumerate() {
+        if escaped {
+            escaped = false;
+        } else if *byte == quote {
+            return i.saturating_add(1);
+        } else {
+            escaped = plain_is_escape(*byte, no_backslash_escape);
+        }
+    }
+    text.len()
+}
+
+/// How many name bytes the text begins with.
+fn plain_name_len(text: &[u8]) -> usize {
+    for (i, byte) in text.iter().enumerate() {
+        if !plain_is_name_byte(*byte) {
+            return i;
+        }
+    }
+    text.len()
+}
+
+/// Whether a `-` and then this text open a comment.
+fn plain_opens_dash_comment(text: &[u8]) -> bool {
+    match text {
+        [b'-', gap, ..] => plain_is_white_space(*gap) && *gap != b'\n',
+        _ => false,
+    }
+}
+
+/// Whether a `/` and then this text open a comment.
+fn plain_opens_block_comment(text: &[u8]) -> bool {
+    match text {
+        [b'*', b'!' | b'+', ..] => false,
+        [b'*', ..] => true,
+        _ => false,
+    }
+}
+
+/// Whether a `:` and then this text open a name.
+fn plain_opens_name(text: &[u8]) -> bool {
+    match text {
+        [first, ..] => plain_is_start_byte(*first),
+        [] => false,
+    }
+}
+
+/// The kind of the token at the front of the text, and its length.
+fn plain_first_token(text: &[u8], no_backslash_escape: bool) -> (TokenKind, usize) {
+    let (kind, opening, tail) = match text {
+        [b'?', ..] => (TokenKind::Mark, 1usize, 0),
+        [b':', rest @ ..] if plain_opens_name(rest) => {
+            (TokenKind::Name, 2, plain_name_len(after(rest, 1)))
+        }
+        [b':', ..] => (TokenKind::Other, 1, 0),
+        [quote @ (b'\'' | b'"'), rest @ ..] => (
+            TokenKind::Other,
+            1,
+            plain_string_len(rest, *quote, no_backslash_escape),
+        ),
+        [b'`', rest @ ..] => (TokenKind::Other, 1, plain_len_up_to(rest, b"`")),
+        [b'#', rest @ ..] => (TokenKind::Other, 1, plain_len_up_to(rest, b"\n")),
+        [b'-', rest @ ..] if plain_opens_dash_comment(rest) => {
+            (TokenKind::Other, 3, plain_len_up_to(after(rest, 2), b"\n"))
+        }
+        [b'-', ..] => (TokenKind::Other, 1, 0),
+        [b'/', rest @ ..] if plain_opens_block_comment(rest) => {
+            (TokenKind::Other, 2, plain_len_up_to(after(rest, 1), b"*/"))
+        }
+        [b'/', ..] => (TokenKind::Other, 1, 0),
+        _ => (TokenKind::Other, 1, 0),
+    };
+    (kind, opening.saturating_add(tail))
+}
+
+/// The index of the first byte from this one on with which another token than a plain one may
+/// begin, or the end.
+fn plain_run_end(text: &[u8], from: usize) -> usize {
+    for at in from..text.len() {
+        if matches!(
+            text[at],
+            b'\'' | b'"' | b'`' | b'#' | b'-' | b'/' | b':' | b'?'
+        ) {
+            return at;
+        }
+    }
+    text.len()
 }
 
 /// The first name or mark of a text.
 fn plain_first_place(text: &[u8], no_backslash_escape: bool) -> Option<FoundPlace> {
-    let mut before = 0usize;
+    let mut at = 0usize;
     for _ in 0..text.len() {
-        let (kind, len) = plain_token(split(text, before).1, no_backslash_escape);
-        match place_kind(kind) {
-            Some(kind) => return Some(FoundPlace { before, kind, len }),
-            None => before = before.saturating_add(len),
+        at = plain_run_end(text, at);
+        if at >= text.len() {
+            return None;
         }
+        let (kind, len) = plain_first_token(&text[at..], no_backslash_escape);
+        let kind = match kind {
+            TokenKind::Name => PlaceKind::Name,
+            TokenKind::Mark => PlaceKind::Mark,
+            TokenKind::Other => {
+                at = at.saturating_add(len);
+                continue;
+            }
+        };
+        return Some(FoundPlace {
+            before: at,
+            kind,
+            len,
+        });
     }
     None
 }
 
-/// Whether both find the same tokens one after another.
+/// Whether both find the same first place, and then the same tokens one after another.
 fn same_tokens(text: &[u8], no_backslash_escape: bool) -> bool {
+    if first_place(text, no_backslash_escape) != plain_first_place(text, no_backslash_escape) {
+        return false;
+    }
     let mut rest = text;
     for _ in 0..text.len() {
         if rest.is_empty() {
             return true;
         }
         let found = first_token(rest, no_backslash_escape);
-        if found != plain_token(rest, no_backslash_escape) {
+        if found != plain_first_token(rest, no_backslash_escape) {
             return false;
         }
-        rest = split(rest, found.1).1;
+        rest = &rest[found.1.min(rest.len())..];
     }
     true
 }
 
-/// Whether both find the same first place, and the same tokens.
-fn is_same(text: &[u8], no_backslash_escape: bool) -> bool {
-    first_place(text, no_backslash_escape) == plain_first_place(text, no_backslash_escape)
-        && same_tokens(text, no_backslash_escape)
-}
-
-/// So it is in both modes.
-fn is_same_in_both_modes(text: &[u8]) -> bool {
-    is_same(text, false) && is_same(text, true)
+fn same_in_both_modes(text: &[u8]) -> bool {
+    same_tokens(text, false) && same_tokens(text, true)
 }
 
 /// How a token opens, the byte of which its inside is made, and what closes it; then a place.
@@ -77,53 +204,56 @@ const KINDS: &[Kind] = &[
     (b"", b'\xff', b"?"),
 ];
 
-/// Appends the byte so often.
-fn append_times(rt: &impl Abort, text: &mut Vec<u8>, byte: u8, count: usize) {
-    for _ in 0..count {
-        answer_of(rt, text.push(byte));
+/// Appends an open token with so many bytes inside, and a backslash before one place of these,
+/// where there is one.
+fn append_open(
+    text: &mut Vec<u8>,
+    kind: &Kind,
+    inside: usize,
+    backslash: Option<usize>,
+) -> Result<(), AllocError> {
+    text.extend_from_slice(kind.0)?;
+    for at in 0..=inside {
+        if backslash == Some(at) {
+            text.push(b'\\')?;
+        }
+        if at < inside {
+            text.push(kind.1)?;
+        }
     }
+    Ok(())
 }
 
-/// All is the same of an open token and of the closed one, with so many bytes inside before this
-/// text, and so many after it.
-fn agrees(
-    rt: &impl Abort,
+/// Whether all is the same of such a token: open, and closed.
+fn agreement(
     alloc: Global,
-    (opening, inside, closing): Kind,
-    before: usize,
-    between: &[u8],
-    after: usize,
-) {
-    let mut text = answer_of(rt, Vec::from_slice(alloc, opening));
-    append_times(rt, &mut text, inside, before);
-    answer_of(rt, text.extend_from_slice(between));
-    append_times(rt, &mut text, inside, after);
-    same_in(rt, is_same_in_both_modes(&text), true, &(&text, "open"));
-    answer_of(rt, text.extend_from_slice(closing));
-    same_in(rt, is_same_in_both_modes(&text), true, &(&text, "closed"));
+    kind: &Kind,
+    inside: usize,
+    backslash: Option<usize>,
+) -> Result<(bool, bool), AllocError> {
+    let mut text = Vec::new(alloc);
+    append_open(&mut text, kind, inside, backslash)?;
+    let open = same_in_both_modes(&text);
+    text.extend_from_slice(kind.2)?;
+    Ok((open, same_in_both_modes(&text)))
 }
 
-/// All is the same of each token of a kind with so many bytes inside, with a backslash before none
-/// of these, and before each or the end.
-fn all_agree(rt: &impl Abort, alloc: Global, kind: Kind, inside: usize) {
-    agrees(rt, alloc, kind, inside, b"", 0);
-    for before in 0..=inside {
-        agrees(
-            rt,
-            alloc,
-            kind,
-            before,
-            b"\\",
-            inside.saturating_sub(before),
-        );
-    }
+/// All is the same of such a token. That there is no memory is no agreement: so callers have no
+/// error to meet.
+fn agrees(rt: &impl Abort, alloc: Global, kind: &Kind, inside: usize, backslash: Option<usize>) {
+    let case = (kind, inside, backslash);
+    let found = agreement(alloc, kind, inside, backslash);
+    same_in(rt, &found, &Ok((true, true)), &case);
 }
 
 #[test]
 fn tokens_end_where_a_plain_reading_ends_them(rt: HostRuntime) {
     for kind in KINDS {
         for inside in 0..=70 {
-            all_agree(&rt, rt.alloc(), *kind, inside);
+            agrees(&rt, rt.alloc(), kind, inside, None);
+            for place in 0..=inside {
+                agrees(&rt, rt.alloc(), kind, inside, Some(place));
+            }
         }
     }
 }
