@@ -34,9 +34,10 @@ const NO_BOOLEANS: &[Plain] = &[
 
 #[test]
 fn booleans(rt: HostRuntime) {
-    read_as::<bool>(&rt, rt.alloc(), BOOLEANS);
-    refuses::<bool>(&rt, rt.alloc(), NO_BOOLEANS);
-    refuses::<bool>(&rt, rt.alloc(), OTHER_VARIANTS);
+    let alloc = rt.alloc();
+    read_as::<bool>(&rt, alloc, BOOLEANS);
+    refuses::<bool>(&rt, alloc, NO_BOOLEANS);
+    refuses::<bool>(&rt, alloc, OTHER_VARIANTS);
 }
 
 #[test]
@@ -234,12 +235,13 @@ const THREE_BYTES: &[Plain] = &[Plain::Bytes(b"abc")];
 
 #[test]
 fn refused_texts_and_bytes(rt: HostRuntime) {
-    refuses::<String>(&rt, rt.alloc(), NO_TEXT);
-    refuses::<String>(&rt, rt.alloc(), NO_BYTES);
-    refuses::<Vec<u8>>(&rt, rt.alloc(), NO_BYTES);
-    refuses::<[u8; 2]>(&rt, rt.alloc(), THREE_BYTES);
-    refuses::<[u8; 0]>(&rt, rt.alloc(), NO_BYTES);
-    refuses::<[u8; 1]>(&rt, rt.alloc(), NO_BYTES);
+    let alloc = rt.alloc();
+    refuses::<String>(&rt, alloc, NO_TEXT);
+    refuses::<String>(&rt, alloc, NO_BYTES);
+    refuses::<Vec<u8>>(&rt, alloc, NO_BYTES);
+    refuses::<[u8; 2]>(&rt, alloc, THREE_BYTES);
+    refuses::<[u8; 0]>(&rt, alloc, NO_BYTES);
+    refuses::<[u8; 1]>(&rt, alloc, NO_BYTES);
 }
 
 // `refused` has no proof at the types of these two: its type parameter has the bound `Drop`.

@@ -160,14 +160,15 @@ fn texts(rt: HostRuntime) {
 
 #[test]
 fn values_that_a_type_does_not_hold(rt: HostRuntime) {
-    refuses::<u8>(&rt, rt.alloc(), NO_U8);
-    refuses::<u8>(&rt, rt.alloc(), OTHER_VARIANTS);
-    refuses::<i8>(&rt, rt.alloc(), NO_I8);
-    refuses::<i64>(&rt, rt.alloc(), NO_I64);
-    refuses::<u64>(&rt, rt.alloc(), NO_U64);
-    refuses::<i128>(&rt, rt.alloc(), NO_I128);
-    refuses::<i128>(&rt, rt.alloc(), OTHER_VARIANTS);
-    refuses::<u128>(&rt, rt.alloc(), NO_U128);
+    let alloc = rt.alloc();
+    refuses::<u8>(&rt, alloc, NO_U8);
+    refuses::<u8>(&rt, alloc, OTHER_VARIANTS);
+    refuses::<i8>(&rt, alloc, NO_I8);
+    refuses::<i64>(&rt, alloc, NO_I64);
+    refuses::<u64>(&rt, alloc, NO_U64);
+    refuses::<i128>(&rt, alloc, NO_I128);
+    refuses::<i128>(&rt, alloc, OTHER_VARIANTS);
+    refuses::<u128>(&rt, alloc, NO_U128);
 }
 
 const TEXTS_THAT_NO_TYPE_HOLDS: &[Plain] = &[
@@ -179,22 +180,24 @@ const TEXTS_THAT_NO_TYPE_HOLDS: &[Plain] = &[
 
 #[test]
 fn texts_that_no_signed_type_holds(rt: HostRuntime) {
-    refuses::<i8>(&rt, rt.alloc(), TEXTS_THAT_NO_TYPE_HOLDS);
-    refuses::<i16>(&rt, rt.alloc(), TEXTS_THAT_NO_TYPE_HOLDS);
-    refuses::<i32>(&rt, rt.alloc(), TEXTS_THAT_NO_TYPE_HOLDS);
-    refuses::<i64>(&rt, rt.alloc(), TEXTS_THAT_NO_TYPE_HOLDS);
-    refuses::<i128>(&rt, rt.alloc(), TEXTS_THAT_NO_TYPE_HOLDS);
-    refuses::<isize>(&rt, rt.alloc(), TEXTS_THAT_NO_TYPE_HOLDS);
+    let alloc = rt.alloc();
+    refuses::<i8>(&rt, alloc, TEXTS_THAT_NO_TYPE_HOLDS);
+    refuses::<i16>(&rt, alloc, TEXTS_THAT_NO_TYPE_HOLDS);
+    refuses::<i32>(&rt, alloc, TEXTS_THAT_NO_TYPE_HOLDS);
+    refuses::<i64>(&rt, alloc, TEXTS_THAT_NO_TYPE_HOLDS);
+    refuses::<i128>(&rt, alloc, TEXTS_THAT_NO_TYPE_HOLDS);
+    refuses::<isize>(&rt, alloc, TEXTS_THAT_NO_TYPE_HOLDS);
 }
 
 #[test]
 fn texts_that_no_unsigned_type_holds(rt: HostRuntime) {
-    refuses::<u8>(&rt, rt.alloc(), TEXTS_THAT_NO_TYPE_HOLDS);
-    refuses::<u16>(&rt, rt.alloc(), TEXTS_THAT_NO_TYPE_HOLDS);
-    refuses::<u32>(&rt, rt.alloc(), TEXTS_THAT_NO_TYPE_HOLDS);
-    refuses::<u64>(&rt, rt.alloc(), TEXTS_THAT_NO_TYPE_HOLDS);
-    refuses::<u128>(&rt, rt.alloc(), TEXTS_THAT_NO_TYPE_HOLDS);
-    refuses::<usize>(&rt, rt.alloc(), TEXTS_THAT_NO_TYPE_HOLDS);
+    let alloc = rt.alloc();
+    refuses::<u8>(&rt, alloc, TEXTS_THAT_NO_TYPE_HOLDS);
+    refuses::<u16>(&rt, alloc, TEXTS_THAT_NO_TYPE_HOLDS);
+    refuses::<u32>(&rt, alloc, TEXTS_THAT_NO_TYPE_HOLDS);
+    refuses::<u64>(&rt, alloc, TEXTS_THAT_NO_TYPE_HOLDS);
+    refuses::<u128>(&rt, alloc, TEXTS_THAT_NO_TYPE_HOLDS);
+    refuses::<usize>(&rt, alloc, TEXTS_THAT_NO_TYPE_HOLDS);
 }
 
 #[test]

@@ -1,13 +1,7 @@
 //! What parameters give to the names of a query.
-use crate::shared::{answer_of, bytes, named, names, positional, same, same_in};
-use mysql_params::laws::{
-    into_positional_error_equality, missing_named_parameter_error_equality,
-    params_confusion_error_equality, params_equality, params_error_equality,
-    to_params_error_equality,
-};
+use crate::shared::{Given, answer_of, bytes, named, names, params, positional, same, same_in};
 use mysql_params::params::{
     IntoPositionalError, MissingNamedParameterError, Params, ParamsConfusionError, ParamsError,
-    ToParamsError,
 };
 use mysql_values::value::Value;
 use std::alloc::{AllocError, Global};
@@ -179,26 +173,27 @@ fn is_copied(rt: &impl Abort, params: &Params) {
     same(rt, &answer_of(rt, params.clone()), params);
 }
 
-fn differ(rt: &impl Abort, first: Params, second: Params) {
-    assert!(rt; first != second, "{first:?} and {second:?} are equal");
-}
+// Parameters that differ.
+const DIFFERENT: &[(Given, Given)] = &[
+    (Given::Named(b"ab"), Given::Named(b"ba")),
+    (Given::Named(b"a"), Given::Named(b"ab")),
+    (Given::Named(b""), Given::Empty),
+    (Given::Positional(&[]), Given::Empty),
+    (Given::Positional(&[2, 1]), Given::Positional(&[1, 2])),
+];
 
 #[test]
 fn equality_and_copies(rt: HostRuntime) {
-    let alloc = rt.alloc();
-    is_copied(&rt, &Params::Empty);
-    is_copied(&rt, &named(&rt, alloc, b"ab"));
-    is_copied(&rt, &positional(&rt, alloc, &[1, 2]));
-    differ(&rt, named(&rt, alloc, b"ab"), named(&rt, alloc, b"ba"));
-    differ(&rt, named(&rt, alloc, b"a"), named(&rt, alloc, b"ab"));
-    differ(&rt, named(&rt, alloc, b""), Params::Empty);
-    differ(&rt, positional(&rt, alloc, &[]), Params::Empty);
-    differ(
-        &rt,
-        positional(&rt, alloc, &[2, 1]),
-        positional(&rt, alloc, &[1, 2]),
-    );
-    let missing = misses(&rt, alloc, b'a');
+    for (first, second) in DIFFERENT {
+        let first = params(&rt, rt.alloc(), *first);
+        is_copied(&rt, &first);
+        assert!(rt; first != params(&rt, rt.alloc(), *second), "{first:?}");
+    }
+}
+
+#[test]
+fn copies_of_errors(rt: HostRuntime) {
+    let missing = misses(&rt, rt.alloc(), b'a');
     same(&rt, &answer_of(&rt, missing.clone()), &missing);
     is_error_copied(&rt, &ParamsError::Missing(missing));
 }
@@ -213,44 +208,4 @@ fn copies_of_errors_without_a_name(rt: HostRuntime) {
     let error = ParamsConfusionError::PositionalParamsForNamedQuery;
     is_error_copied(&rt, &ParamsError::Confusion(error));
     is_error_copied(&rt, &ParamsError::Memory(AllocError));
-}
-
-#[test]
-fn equality_of_parameters(rt: HostRuntime) {
-    let alloc = rt.alloc();
-    let a = named(&rt, alloc, b"a");
-    assert!(rt; params_equality(&a, &named(&rt, alloc, b"a")));
-    assert!(rt; !params_equality(&a, &named(&rt, alloc, b"b")));
-}
-
-#[test]
-fn equality_of_missing_names(rt: HostRuntime) {
-    let alloc = rt.alloc();
-    let a = misses(&rt, alloc, b'a');
-    assert!(rt; missing_named_parameter_error_equality(&a, &misses(&rt, alloc, b'a')));
-    assert!(rt; !missing_named_parameter_error_equality(&a, &misses(&rt, alloc, b'b')));
-}
-
-#[test]
-fn equality_of_confusions(rt: HostRuntime) {
-    let by_name = ParamsConfusionError::NamedParamsForPositionalQuery;
-    let by_position = ParamsConfusionError::PositionalParamsForNamedQuery;
-    assert!(rt; params_confusion_error_equality(&by_name, &by_name));
-    assert!(rt; !params_confusion_error_equality(&by_name, &by_position));
-    let confused = ParamsError::Confusion(by_name);
-    assert!(rt; params_error_equality(&confused, &ParamsError::Confusion(by_name)));
-    assert!(rt; !params_error_equality(&confused, &ParamsError::Memory(AllocError)));
-}
-
-#[test]
-fn equality_of_refusals(rt: HostRuntime) {
-    let alloc = rt.alloc();
-    let missing = IntoPositionalError::Missing(misses(&rt, alloc, b'a'));
-    let other = IntoPositionalError::Missing(misses(&rt, alloc, b'b'));
-    assert!(rt; into_positional_error_equality(&missing, &missing));
-    assert!(rt; !into_positional_error_equality(&missing, &other));
-    let again = ToParamsError::Redefined(answer_of(&rt, Vec::from_slice(alloc, b"a")));
-    let other = ToParamsError::Redefined(answer_of(&rt, Vec::from_slice(alloc, b"b")));
-    assert!(rt; to_params_error_equality(&again, &again));
-    assert!(rt; !to_params_error_equality(&again, &other));
 }

@@ -99,23 +99,28 @@ fn tuples(rt: HostRuntime) {
     make_numbers(&rt, alloc, &(1u8, 2u8, 3u8, 4u8, 5u8, 6u8), &NUMBERS[..6]);
 }
 
+const SEVEN: (u8, u16, u32, u64, usize, u8, u8) = (1, 2, 3, 4, 5, 6, 7);
+
+const EIGHT: (u8, u8, u8, u8, u8, u8, u8, u8) = (1, 2, 3, 4, 5, 6, 7, 8);
+
+const NINE: (u8, u8, u8, u8, u8, u8, u8, u8, u8) = (1, 2, 3, 4, 5, 6, 7, 8, 9);
+
+const TEN: (u8, u8, u8, u8, u8, u8, u8, u8, u8, u8) = (1, 2, 3, 4, 5, 6, 7, 8, 9, 10);
+
+const ELEVEN: (u8, u8, u8, u8, u8, u8, u8, u8, u8, u8, u8) = (1, 2, 3, 4, 5, 6, 7, 8, 9, 10, 11);
+
+const TWELVE: (u8, u8, u8, u8, u8, u8, u8, u8, u8, u8, u8, u8) = (
+    1, 2, 3, 4, 5, 6, 7, 8, 9, 10, 11, 12,
+);
+
 #[test]
 fn long_tuples(rt: HostRuntime) {
-    let alloc = rt.alloc();
-    let seven = (1u8, 2u16, 3u32, 4u64, 5usize, 6u8, 7u8);
-    make_numbers(&rt, alloc, &seven, &NUMBERS[..7]);
-    let eight = (1u8, 2u8, 3u8, 4u8, 5u8, 6u8, 7u8, 8u8);
-    make_numbers(&rt, alloc, &eight, &NUMBERS[..8]);
-    let nine = (1u8, 2u8, 3u8, 4u8, 5u8, 6u8, 7u8, 8u8, 9u8);
-    make_numbers(&rt, alloc, &nine, &NUMBERS[..9]);
-    let ten = (1u8, 2u8, 3u8, 4u8, 5u8, 6u8, 7u8, 8u8, 9u8, 10u8);
-    make_numbers(&rt, alloc, &ten, &NUMBERS[..10]);
-    let eleven = (1u8, 2u8, 3u8, 4u8, 5u8, 6u8, 7u8, 8u8, 9u8, 10u8, 11u8);
-    make_numbers(&rt, alloc, &eleven, &NUMBERS[..11]);
-    let twelve = (
-        1u8, 2u8, 3u8, 4u8, 5u8, 6u8, 7u8, 8u8, 9u8, 10u8, 11u8, 12u8,
-    );
-    make_numbers(&rt, alloc, &twelve, &NUMBERS);
+    make_numbers(&rt, rt.alloc(), &SEVEN, &NUMBERS[..7]);
+    make_numbers(&rt, rt.alloc(), &EIGHT, &NUMBERS[..8]);
+    make_numbers(&rt, rt.alloc(), &NINE, &NUMBERS[..9]);
+    make_numbers(&rt, rt.alloc(), &TEN, &NUMBERS[..10]);
+    make_numbers(&rt, rt.alloc(), &ELEVEN, &NUMBERS[..11]);
+    make_numbers(&rt, rt.alloc(), &TWELVE, &NUMBERS);
 }
 
 #[test]

@@ -61,3 +61,20 @@ pub(crate) fn positional(rt: &impl Abort, alloc: Global, numbers: &[u64]) -> Par
     }
     Params::Positional(values)
 }
+
+// Parameters as plain data, for tables.
+#[derive(Clone, Copy)]
+pub(crate) enum Given {
+    Empty,
+    /// Each letter names the number of its place, from 1 on.
+    Named(&'static [u8]),
+    Positional(&'static [u64]),
+}
+
+pub(crate) fn params(rt: &impl Abort, alloc: Global, given: Given) -> Params {
+    match given {
+        Given::Empty => Params::Empty,
+        Given::Named(letters) => named(rt, alloc, letters),
+        Given::Positional(numbers) => positional(rt, alloc, numbers),
+    }
+}
