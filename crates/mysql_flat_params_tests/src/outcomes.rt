@@ -93,6 +93,6 @@ fn numbers_and_fields(rt: HostRuntime) {
             byte: *byte,
         };
         same_in(&rt, outcome.number(), *number, outcome);
-        same_in(&rt, outcome.report(), wanted, outcome);
+        same_in(&rt, Outcome::report(*outcome), wanted, outcome);
     }
 }

@@ -119,9 +119,8 @@ is_client_word letter rest =
     else if letter == byte "w" then begins_whole_word (codes "arnings") rest
     else false
 
--- This lower-case letter and then this text begin with a word that MySQL's client alone runs itself,
--- if it has the option `--commands`: `query_attributes`, `resetconnection`,
--- `ssl_session_data_print`.
+-- This lower-case letter and then this text begin with a word that MySQL's client alone runs itself
+-- with `--commands`: `query_attributes`, `resetconnection`, `ssl_session_data_print`.
 abbrev pub is_word_of_mysql : ℕ → List ℕ → Bool
 is_word_of_mysql letter rest =
     if letter == byte "q" then begins_whole_word (codes "uery_attributes") rest
