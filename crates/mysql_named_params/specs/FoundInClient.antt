@@ -119,15 +119,6 @@ is_client_word letter rest =
     else if letter == byte "w" then begins_whole_word (codes "arnings") rest
     else false
 
--- This lower-case letter and then this text begin with a word that MySQL's client alone runs itself
--- with `--commands`: `query_attributes`, `resetconnection`, `ssl_session_data_print`.
-abbrev pub is_word_of_mysql : ℕ → List ℕ → Bool
-is_word_of_mysql letter rest =
-    if letter == byte "q" then begins_whole_word (codes "uery_attributes") rest
-    else if letter == byte "r" then begins_whole_word (codes "esetconnection") rest
-    else if letter == byte "s" then begins_whole_word (codes "sl_session_data_print") rest
-    else false
-
 -- a byte that a client joins to what stands before a comment: from 128 on, or a backslash
 abbrev pub is_joined : ℕ → Bool
 is_joined b = nat_le 128 b || b == byte "\\"
@@ -205,7 +196,6 @@ found_word statement line letter rest =
     if line && (letter == byte "d" && begins_word (codes "elimiter") rest)
     then Some construct.Delimiter
     else if statement && is_client_word letter rest then Some construct.ClientWord
-    else if statement && is_word_of_mysql letter rest then Some construct.ClientWord
     else None
 
 -- at a plain byte before this text; the flags say whether a statement or a line may begin there

@@ -4,7 +4,7 @@ ghost use Rattle.std.specs.Prelude.{◌≡◌, ◌↔◌, ◌≤◌, ◌<◌, le
 ghost use Rattle.mysql_named_params.specs.Tokens.{OnTokens};
 ghost use Rattle.mysql_named_params.specs.Client.{begins_opener, begins_end, holds_opener};
 ghost use Rattle.mysql_named_params.specs.Server.{begins_special};
-ghost use Rattle.mysql_named_params.specs.FoundInClient.{begins_no_word, begins_delimiter_line, without_accent, letter_of, begins_word, ends_word, begins_whole_word, is_client_word, is_word_of_mysql, is_joined, closes_before_joined, drops_line, begins_comment, stand_before_comment, ends_line, escapes_newline, found_in_quotes, found_in_comment, found_word, found_at_byte};
+ghost use Rattle.mysql_named_params.specs.FoundInClient.{begins_no_word, begins_delimiter_line, without_accent, letter_of, begins_word, ends_word, begins_whole_word, is_client_word, is_joined, closes_before_joined, drops_line, begins_comment, stand_before_comment, ends_line, escapes_newline, found_in_quotes, found_in_comment, found_word, found_at_byte};
 ghost use Rattle.mysql_named_params.specs.FirstUnportableInClient.{first_unportable_in_client, IsPortableInClient};
 ghost use Rattle.mysql_named_params.specs.FrontInClient.{are_comment, statement_after, line_after, found_in_bytes, found_or_zero, found_in_front};
 
@@ -272,18 +272,6 @@ fn is_client_word(letter: u8, rest: &[u8]) -> bool
     }
 }
 
-// Whether the letter and then this text begin with a word that MySQL's client alone runs itself.
-fn is_word_of_mysql(letter: u8, rest: &[u8]) -> bool
-    ensures { result ≡ is_word_of_mysql letter rest.now }
-{
-    match letter {
-        b'q' => begins_whole_word(b"uery_attributes", rest),
-        b'r' => begins_whole_word(b"esetconnection", rest),
-        b's' => begins_whole_word(b"sl_session_data_print", rest),
-        _ => false,
-    }
-}
-
 // Whether a line of the text after the first begins with the word `delimiter`.
 fn begins_delimiter_line(text: &[u8]) -> bool
     ensures { result ≡ begins_delimiter_line text.now }
@@ -317,9 +305,6 @@ fn found_word(statement: bool, line: bool, letter: u8, rest: &[u8]) -> Option<Co
         return Some(Construct::Delimiter);
     }
     if statement && is_client_word(letter, rest) {
-        return Some(Construct::ClientWord);
-    }
-    if statement && is_word_of_mysql(letter, rest) {
         return Some(Construct::ClientWord);
     }
     None

@@ -81,14 +81,6 @@ const COMMANDS: &[(&[u8], Construct, usize)] = &[
     (b"use", Construct::ClientWord, 0),
     (b"system :a", Construct::ClientWord, 0),
     (b"SELECT 1;quit\n", Construct::ClientWord, 9),
-    // MySQL's alone, with `--commands`.
-    (b"resetconnection; SELECT :a", Construct::ClientWord, 0),
-    (
-        b"SELECT 1;\nQuery_Attributes n :a",
-        Construct::ClientWord,
-        10,
-    ),
-    (b"ssl_session_data_print :a", Construct::ClientWord, 0),
     (b"SELECT 1, 'a\\\nb'", Construct::EscapedNewline, 10),
     (b"SELECT `a\\\r\nb`", Construct::EscapedNewline, 7),
     (b"SELECT \"\\\n\"", Construct::EscapedNewline, 7),
