@@ -1,15 +1,22 @@
-//! Links the archive that the environment variable MYSQL_PARAMS_ARCHIVE names.
+//! Links the archive that the environment variable MYSQL_PARAMS_ARCHIVE names, else the one of a package.
 use std::path::{Path, PathBuf};
 use std::process::exit;
 
 const VARIABLE: &str = "MYSQL_PARAMS_ARCHIVE";
 
+/// The archive within this folder, as a package has it.
+fn packed() -> Option<PathBuf> {
+    let folder = PathBuf::from(std::env::var_os("CARGO_MANIFEST_DIR")?);
+    let path = folder.join("native/libmysql_params_c.a");
+    path.is_file().then_some(path)
+}
+
 /// Folder and name of the archive, or what is wrong with the variable.
 fn archive() -> Result<(String, String), String> {
-    let path = std::env::var_os(VARIABLE).ok_or(
+    let named = std::env::var_os(VARIABLE).map(PathBuf::from);
+    let path = named.or_else(packed).ok_or(
         "it isn't set. It is the path of libmysql_params_c.a, which `bindings/build FOLDER` makes",
     )?;
-    let path = PathBuf::from(path);
     // Cargo runs this in the crate's folder.
     let hint = if path.is_relative() {
         ". Give the whole path"
