@@ -108,8 +108,19 @@ fn values_in_place_without_names(rt: HostRuntime) {
         &[1, 2],
         b"",
     );
+}
+
+#[test]
+fn named_values_without_names(rt: HostRuntime) {
+    let alloc = rt.alloc();
     let error = ParamsError::Confusion(ParamsConfusionError::NamedParamsForPositionalQuery);
     is_refused(&rt, alloc, named(&rt, alloc, b"a").borrowed(), &[], &error);
+}
+
+#[test]
+fn sorted_values_without_names(rt: HostRuntime) {
+    let alloc = rt.alloc();
+    let error = ParamsError::Confusion(ParamsConfusionError::NamedParamsForPositionalQuery);
     let entries = sorted(&rt, alloc, b"a");
     is_refused(&rt, alloc, BorrowedParams::Sorted(&entries), &[], &error);
 }
