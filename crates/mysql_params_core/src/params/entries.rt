@@ -1,5 +1,5 @@
 //! The entries of named parameters.
-ghost use Rattle.std.specs.Prelude.{◌≡◌, OnOk, option_copied};
+ghost use Rattle.std.specs.Prelude.{◌≡◌, OnErr, OnOk, option_copied};
 ghost use Rattle.std.specs.FinMap.{contains_key, empty, get, insert};
 ghost use Rattle.mysql_params_core.specs.Given.{ValueMap, value_map};
 
@@ -21,9 +21,10 @@ pub trait NameMap: Drop {
     fn value_of(&self, name: &[u8]) -> Option<&Value>
         ensures { option_copied result ≡ get (values self.now) name.now };
 
-    /// Inserts a value under a copy of a name.
+    /// Inserts a value under a copy of a name. If memory is refused, the map stays as it was.
     fn insert_value(&mut self, alloc: Global, name: &[u8], value: Value) -> Result<(), AllocError>
-        ensures { OnOk result (values self.new ≡ insert (values self.old) name.now value) };
+        ensures inserted { OnOk result (values self.new ≡ insert (values self.old) name.now value) }
+        ensures refused { OnErr result (values self.new ≡ values self.old) };
 }
 
 impl NameMap for HashMap<Vec<u8>, Value> {
