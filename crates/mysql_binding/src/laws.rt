@@ -60,10 +60,20 @@ pub fn bound_texts_on_servers()
 
 /// A client that keeps comments cuts a text that is bound to a portable query, without `/*!`, `/*+`
 /// and `/*/` in a block comment, into as many statements as the query has, whatever stands in the
-/// values (`count`). If it decides about a quiet comment by the comment alone, it reads the tokens
-/// that it reads in the query, with those of one literal in place of each name and mark (`tokens`);
-/// its statements are then those of the query, with literals in their places (`statements`).
+/// values (`count`). The text has none of the three in a block comment either (`no_opener`), and
+/// the client reads it as the grammar does, except for `--` before a newline and for what stands in
+/// quiet comments (`read`). If it decides about a quiet comment by the comment alone, it reads the
+/// tokens that it reads in the query, with those of one literal in place of each name and mark
+/// (`tokens`); its statements are then those of the query, with literals in their places
+/// (`statements`).
 pub fn bound_texts_in_clients()
+    ensures no_opener { (mode : Bool) (text : List ℕ) (ts : List Token) (given : Given) →
+        (b : IsBoundText mode ts given text) → HoldNoOpener ts →
+        HoldNoOpener (with_literal_tokens ts b.literal_tokens) }
+    ensures read { (client : Client) (mode : Bool) (query text : List ℕ) (ts vs : List Token)
+        (given : Given) → IsHonest client.reader → IsTokens mode query ts →
+        (b : IsBoundText mode ts given text) → AreReadAlike ts → HoldNoOpener ts →
+        IsReadBy client mode text vs → IsReadAs (with_literal_tokens ts b.literal_tokens) vs }
     ensures count { (client : Client) (mode : Bool) (query text : List ℕ) (ts vs : List Token)
         (given : Given) → IsHonest client.reader → IsTokens mode query ts →
         IsBoundText mode ts given text → AreReadAlike ts → HoldNoOpener ts →

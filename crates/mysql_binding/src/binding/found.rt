@@ -1,5 +1,5 @@
 //! The places of a query that were found before, and those that are found now.
-ghost use Rattle.std.specs.Prelude.{◌≡◌, ◌+◌, ◌<◌, ◌≤◌, None, IfOk, IfSome, drop, length};
+ghost use Rattle.std.specs.Prelude.{◌≡◌, ◌≢◌, ◌+◌, ◌<◌, ◌≤◌, None, IfOk, IfSome, OnErr, drop, length};
 ghost use Rattle.mysql_named_params.specs.FirstPlace.{IsFirstPlace};
 ghost use Rattle.mysql_named_params.specs.Places.{place_count};
 ghost use Rattle.mysql_named_params.specs.Tokens.{OnTokens};
@@ -45,8 +45,9 @@ pub(super) fn all_places(
 ) -> Result<Vec<FoundPlace>, AllocError>
     requires known { OnTokens no_backslash_escape query.now (BeginWithPlaces known.now) }
     requires count { OnTokens no_backslash_escape query.now (λ ts. count ≡ place_count ts) }
-    ensures { IfOk result (λ places. OnTokens no_backslash_escape query.now (λ ts.
+    ensures places { IfOk result (λ places. OnTokens no_backslash_escape query.now (λ ts.
         places.items ≡ found_places ts)) }
+    ensures memory { OnErr result (count ≢ 0) }
 {
     let mut places = Vec::with_capacity(alloc, count)?;
     let mut rest = query;

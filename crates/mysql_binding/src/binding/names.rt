@@ -1,5 +1,5 @@
 //! The names of a query, as slices of it.
-ghost use Rattle.std.specs.Prelude.{◌≡◌, None, IfOk, length};
+ghost use Rattle.std.specs.Prelude.{◌≡◌, ◌≢◌, None, IfOk, OnErr, length};
 ghost use Rattle.mysql_named_params.specs.Tokens.{OnTokens};
 ghost use Rattle.mysql_named_params.specs.Places.{names};
 ghost use Rattle.mysql_params_core.specs.Referents.{referents};
@@ -22,8 +22,9 @@ pub(super) fn query_names<'q>(
     requires known { OnTokens no_backslash_escape query.now (BeginWithPlaces known.now) }
     requires names { OnTokens no_backslash_escape query.now (λ ts.
         (count ≡ length (names ts)) × (mixed_cause ts ≡ None)) }
-    ensures { IfOk result (λ list. OnTokens no_backslash_escape query.now (λ ts.
+    ensures names { IfOk result (λ list. OnTokens no_backslash_escape query.now (λ ts.
         referents list.items ≡ names ts)) }
+    ensures memory { OnErr result (count ≢ 0) }
 {
     let mut list = Vec::with_capacity(alloc, count)?;
     let mut rest = query;

@@ -1,10 +1,11 @@
 //! Queries that are parsed once and bound many times.
-ghost use Rattle.std.specs.Prelude.{◌≡◌, ◌↔◌, IfErr, IfOk, IsErrOf, IsTrue};
+ghost use Rattle.std.specs.Prelude.{◌≡◌, ◌≢◌, ◌↔◌, None, IfErr, IfOk, IsErrOf, IsTrue, OnErr, alloc_error};
 ghost use Rattle.std.specs.Cmp.{partial_equiv_from_equiv};
 ghost use Rattle.mysql_sql_text.specs.StringUnits.{with_backslashes};
 ghost use Rattle.mysql_named_params.specs.NamedParamsErrors.{mixed};
 ghost use Rattle.mysql_named_params.specs.Tokens.{OnTokens};
-ghost use Rattle.mysql_named_params.specs.Places.{HasName, HasMark, marks, names};
+ghost use Rattle.mysql_named_params.specs.Places.{HasName, HasMark, marks, names, place_count};
+ghost use Rattle.mysql_named_params.specs.Portable.{IsPortable};
 ghost use Rattle.mysql_named_params.specs.FirstUnportable.{first_unportable};
 ghost use Rattle.mysql_params_core.specs.Given.{given};
 ghost use Rattle.mysql_binding.specs.BindErrors.{IsCauseOrMemory};
@@ -64,8 +65,12 @@ impl<'q> ParsedQuery<'q> {
         query: &'q [u8],
         no_backslash_escape: bool,
     ) -> Result<ParsedQuery<'q>, AllocError>
-        ensures { IfOk result (λ p.
+        ensures parsed { IfOk result (λ p.
             p ≡ record { mode = no_backslash_escape; query = query.now }) }
+
+        // A query without names and marks is parsed without allocating.
+        ensures memory { OnErr result (OnTokens no_backslash_escape query.now (λ ts.
+            place_count ts ≢ 0)) }
     {
         let (survey, places) = survey_and_places(alloc, query, no_backslash_escape)?;
         Ok(ParsedQuery {
@@ -79,7 +84,12 @@ impl<'q> ParsedQuery<'q> {
     /// Finds the names and marks of a query in the mode in which a backslash escapes:
     /// [`parse_in`](ParsedQuery::parse_in) with `false`.
     pub fn parse(alloc: Global, query: &'q [u8]) -> Result<ParsedQuery<'q>, AllocError>
-        ensures { IfOk result (λ p. p ≡ record { mode = with_backslashes; query = query.now }) }
+        ensures parsed { IfOk result (λ p.
+            p ≡ record { mode = with_backslashes; query = query.now }) }
+
+        // A query without names and marks is parsed without allocating.
+        ensures memory { OnErr result (OnTokens with_backslashes query.now (λ ts.
+            place_count ts ≢ 0)) }
     {
         ParsedQuery::parse_in(alloc, query, false)
     }
@@ -163,6 +173,10 @@ impl<'q> ParsedQuery<'q> {
             referents list.items ≡ names ts)) }
         ensures mixed { OnTokens self.now.mode self.now.query (λ ts.
             IsErrOf result (NamedParamsError.Mixed mixed) ↔ (HasName ts × HasMark ts)) }
+
+        // Only a query with names and without marks allocates.
+        ensures memory { OnTokens self.now.mode self.now.query (λ ts.
+            IsErrOf result (NamedParamsError.Memory alloc_error) → HasName ts × (marks ts ≡ 0)) }
     {
         if self.survey.names > 0 && self.survey.marks > 0 {
             return Err(NamedParamsError::Mixed(MixedParamsError));
@@ -189,7 +203,10 @@ impl<'q> ParsedQuery<'q> {
     /// The first construct for which the query isn't portable. This walks the query: the walk for
     /// its places jumps over what has to be looked at here.
     pub fn first_unportable(&self) -> Option<Unportable>
-        ensures { OnTokens self.now.mode self.now.query (λ ts. result ≡ first_unportable ts) }
+        ensures first { OnTokens self.now.mode self.now.query (λ ts.
+            result ≡ first_unportable ts) }
+        ensures none { OnTokens self.now.mode self.now.query (λ ts.
+            (result ≡ None) ↔ IsPortable ts) }
     {
         first_unportable(self.query.as_slice(), self.no_backslash_escape)
     }
@@ -218,8 +235,10 @@ fn survey_and_places(
     query: &[u8],
     no_backslash_escape: bool,
 ) -> Result<(Survey, Vec<FoundPlace>), AllocError>
-    ensures { IfOk result (λ found.
+    ensures parsed { IfOk result (λ found.
         AreParsed found.0 found.1.items no_backslash_escape query.now) }
+    ensures memory { OnErr result (OnTokens no_backslash_escape query.now (λ ts.
+        place_count ts ≢ 0)) }
 {
     let mut first = [NO_PLACE; KEPT_PLACES];
     let (survey, kept) = place_survey(query, &mut first, no_backslash_escape);

@@ -13,6 +13,6 @@ returns-clause-refused c =
     elim (no_refusal_or_expected _ _ _ c.in-Err-place_values.ensures.values) [
       | inl e ↦ (c.requires.names.0, c.requires.names.1, inl (c.bind_error_of.ensures.memory e))
       | inr r ↦
-          refused_lookup _ _ params _ (referents c.in-Ok.names.items) c.bind_error_of.result c.requires.names c.in-Ok.ensures
+          refused_lookup _ _ params _ (referents c.in-Ok.names.items) c.bind_error_of.result c.requires.names c.in-Ok.ensures.names
           (r.0, ap (λ ns. lookup params (referents ns)) (sym c.as_slice.ensures.value) ∙ r.1, c.bind_error_of.ensures.cause ∙ ap (option_map refused_params) r.2)
     ]

@@ -9,6 +9,12 @@ use Rattle.mysql_binding.proofs.laws.bound_texts_in_clients.Goals as goal
 
 pub returns : goal.returns
 returns c = record {
+  no_opener = λ mode text ts given b o. replaced_no_opener ts b.literal_tokens (literals_within mode b.literals b.literal_tokens b.shapes b.tokens_of_literals) o;
+  read = λ client mode query text ts vs given honest h b p o v.
+      let inside = literals_within mode b.literals b.literal_tokens b.shapes b.tokens_of_literals in
+      let alike = bound_portable mode query text ts b.literals b.literal_tokens h p b.shapes b.tokens_of_literals b.text_is in
+      let on = read_as_server client mode text (with_literal_tokens ts b.literal_tokens) vs honest b.isolated alike (replaced_no_opener ts b.literal_tokens inside o) v in
+      bound_read mode query text ts b.literals b.literal_tokens h p b.shapes b.tokens_of_literals b.text_is client.reader vs honest on;
   count = λ client mode query text ts vs given honest h b p o v.
       let inside = literals_within mode b.literals b.literal_tokens b.shapes b.tokens_of_literals in
       let alike = bound_portable mode query text ts b.literals b.literal_tokens h p b.shapes b.tokens_of_literals b.text_is in

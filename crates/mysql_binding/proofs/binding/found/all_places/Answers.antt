@@ -10,8 +10,8 @@ unreachable-requires c =
     let o = c.in_default.ensures.none in
     place_left _ _ _ _ _ c.loop-rest.invariant.0 (omega arith) (o.0, o.1, o.2 refl)
 
-pub returns : goal.returns
-returns c = collected_all _ _ _ _ _ c.loop-rest.invariant.0 (omega arith)
+pub returns-clause-places : goal.returns-clause-places
+returns-clause-places c = collected_all _ _ _ _ _ c.loop-rest.invariant.0 (omega arith)
 
 pub loop-rest-preserved : goal.loop-rest-preserved
 loop-rest-preserved c = (

@@ -11,8 +11,8 @@ unreachable-requires c =
     let o = c.in_default.ensures.none in
     name_left _ _ _ _ _ c.loop-rest.invariant.0 (omega arith) (o.0, o.1, o.2 refl)
 
-pub returns : goal.returns
-returns c = listed_all _ _ _ _ _ c.loop-rest.invariant.0 (omega arith)
+pub returns-clause-names : goal.returns-clause-names
+returns-clause-names c = listed_all _ _ _ _ _ c.loop-rest.invariant.0 (omega arith)
 
 pub loop-rest-preserved : goal.loop-rest-preserved
 loop-rest-preserved c = (
