@@ -1,10 +1,9 @@
 -- What holds of a bound text: no place is left in it, bound again it stays as it is, bound by position
 -- it is the same, and equal texts say the same.
-use Rattle.std.specs.Prelude.{Ok}
-use Rattle.std.proofs.Common.{◌≡◌, Bool, ℕ, ◌+◌, List, [], ◌∷◌, ◌++◌, length, map, refl, sym, ap, ◌∙◌, subst, arith, Some, None}
+use Rattle.std.proofs.Common.{◌≡◌, Bool, ℕ, ◌+◌, List, [], ◌∷◌, ◌++◌, length, map, refl, sym, ap, ◌∙◌, subst, arith, Some}
 use Rattle.std.proofs.lemmas.List.{nil_from_length}
-use Rattle.mysql_values.specs.declared.value.Value.{Value}
 use Rattle.mysql_values.specs.Content.{content_of}
+use Rattle.mysql_sql_text.specs.ReadLiteral.{read_literal}
 use Rattle.mysql_named_params.specs.Tokens.{Token, IsTokens, OnTokens, bytes_of, Name, Mark}
 use Rattle.mysql_named_params.specs.Places.{names, marks, with_marks, place_count}
 use Rattle.mysql_named_params.proofs.TokenRowLemmas.{place_count-sum}
@@ -12,13 +11,12 @@ use Rattle.mysql_named_params.proofs.ReparsedLemmas.{IsTokens-with_marks, names-
 use Rattle.mysql_named_params.proofs.TokenListLemmas.{one_token_list}
 use Rattle.mysql_params_core.specs.Given.{Given, empty, positional}
 use Rattle.mysql_params_core.specs.Lookup.{lookup}
-use Rattle.mysql_binding.specs.FirstCause.{cause_after_lookup, first_cause, later_cause, mixed_cause}
 use Rattle.mysql_binding.specs.BoundAgain.{IsSameBoundAgain, IsSameByPosition}
 use Rattle.mysql_binding.specs.Isolation.{IsBoundText}
 use Rattle.mysql_binding.specs.Pieces.{pieces, pieces_from, joined_text}
 use Rattle.mysql_binding.specs.Contents.{contents_between, AreReadInPlace}
 use Rattle.mysql_binding.specs.Replaced.{AreTokensOf, with_literal_tokens}
-use Rattle.mysql_binding.proofs.CauseLemmas.{no_cause_left, no_cause_renamed, no_float_cause, no_place_out, or_none, value_each}
+use Rattle.mysql_binding.proofs.CauseLemmas.{no_cause_left, no_cause_renamed, no_cause_parts, no_float_cause, no_place_out, value_each}
 use Rattle.mysql_binding.proofs.ContentsLemmas as read
 use Rattle.mysql_binding.proofs.PieceLemmas.{bound_none, joined_text_count, joined_text-pieces_from}
 use Rattle.mysql_binding.proofs.RenamedPlaceLemmas.{no_place_alone}
@@ -63,7 +61,7 @@ nothing_bound mode us text is none =
       contents = [];
       contents_are = refl;
       reads_in_place = tt;
-      read_back = rw (← whole) (read.contents_of_bound mode us 0 [] [] [] [] alone tt (sym none));
+      read_back = rw (← whole) (read.contents_of_bound (read_literal mode) us 0 [] [] [] [] alone tt (sym none));
     }
 
 pub bound_again_is_the_same : (mode : Bool) (ts us : List Token) (given : Given) (text : List ℕ) →
@@ -73,14 +71,14 @@ bound_again_is_the_same mode ts us given text bound is =
 
 -- ---- by position
 
-pieces-with_marks : (piece : List ℕ) (ts : List Token) →
+pub pieces-with_marks : (piece : List ℕ) (ts : List Token) →
     pieces_from piece (with_marks ts) ≡ pieces_from piece ts
 pieces-with_marks piece [] = refl
 pieces-with_marks piece (Name name ∷ ts) = ap (λ ps. piece ∷ ps) (pieces-with_marks [] ts)
 pieces-with_marks piece (Mark ∷ ts) = ap (λ ps. piece ∷ ps) (pieces-with_marks [] ts)
 pieces-with_marks piece (t ∷ ts) = pieces-with_marks (piece ++ bytes_of t) ts
 
-with_literal_tokens-with_marks : (ts : List Token) (lists : List (List Token)) → length lists ≡ place_count ts →
+pub with_literal_tokens-with_marks : (ts : List Token) (lists : List (List Token)) → length lists ≡ place_count ts →
     with_literal_tokens (with_marks ts) lists ≡ with_literal_tokens ts lists
 with_literal_tokens-with_marks [] lists e = refl
 with_literal_tokens-with_marks (Name name ∷ ts) [] e = absurd (omega arith)
@@ -96,14 +94,6 @@ as_many_lists mode [] [] h = refl
 as_many_lists mode [] (list ∷ lists) h = absurd h
 as_many_lists mode (literal ∷ literals) [] h = absurd h
 as_many_lists mode (literal ∷ literals) (list ∷ lists) h = omega (arith, as_many_lists mode literals lists h.1)
-
--- where there is no cause and the values were looked up, there is no later cause
-no_cause_parts : (ts : List Token) (given : Given) (values : List Value) →
-    first_cause ts given ≡ None → lookup given (names ts) ≡ Ok values →
-    (mixed_cause ts ≡ None) × (later_cause ts values ≡ None)
-no_cause_parts ts given values none looked =
-    let parts = or_none (mixed_cause ts) (cause_after_lookup ts (lookup given (names ts))) none in
-    (parts.0, ap (cause_after_lookup ts) (sym looked) ∙ parts.1)
 
 pub by_position_is_the_same : (mode : Bool) (query text : List ℕ) (ts : List Token) (given : Given) →
     IsTokens mode query ts → (bound : IsBoundText mode ts given text) →

@@ -9,7 +9,7 @@ use Rattle.mysql_sql_text.specs.LiteralShape.{AreDigits, IsClosedString, closed_
 use Rattle.mysql_named_params.specs.Bytes.{dash, single_quote}
 use Rattle.mysql_named_params.specs.Tokens.{closed_string as closed_tail}
 use Rattle.mysql_named_params.proofs.TokenRowLemmas.{text_of-append, AreTokensBefore-append}
-use Rattle.mysql_named_params.specs.Tokens.{Token, text_of, AreTokensBefore, IsTokens, QuotedString, QuotedIdentifier, HashComment, DashComment, BlockComment, Name, Mark, Plain}
+use Rattle.mysql_named_params.specs.Tokens.{Token, text_of, AreTokensBefore, QuotedString, QuotedIdentifier, HashComment, DashComment, BlockComment, Name, Mark, Plain}
 use Rattle.mysql_named_params.specs.Places.{place_count}
 use Rattle.mysql_named_params.specs.Client.{HoldNoOpener}
 use Rattle.mysql_named_params.specs.Statements.{in_first, statements}

@@ -1,11 +1,12 @@
 -- The pieces of a query with the literals of values between them keep what is promised.
-use Rattle.std.specs.Prelude.{Result, Ok, Err, option_map, IsSomeAnd}
+use Rattle.std.specs.Prelude.{Result, Ok, Err, IfOk, option_map, IsSomeAnd}
 use Rattle.std.specs.Option.{option_or}
 use Rattle.std.proofs.Common.{◌≡◌, ◌⊎◌, inl, inr, Bool, ℕ, ◌<◌, List, [], ◌∷◌, length, map, refl, sym, ap, ◌∙◌, arith, Option, Some, None}
 use Rattle.mysql_values.specs.declared.value.Value.{Value}
 use Rattle.mysql_values.specs.Answer.{IsExpectedRefusal}
-use Rattle.mysql_sql_text.specs.ReadLiteral.{Content}
+use Rattle.mysql_sql_text.specs.ReadLiteral.{Content, read_literal}
 use Rattle.mysql_values.specs.Content.{content_of}
+use Rattle.mysql_values.specs.Literal.{literal_of}
 use Rattle.mysql_sql_text.specs.LiteralEnd.{ReadsBefore, continues_literal}
 use Rattle.mysql_named_params.specs.Tokens.{Token, IsTokens, OnTokens}
 use Rattle.mysql_named_params.specs.Places.{names, place_count}
@@ -16,31 +17,32 @@ use Rattle.mysql_binding.specs.declared.bind_error.BindError.{BindError}
 use Rattle.mysql_binding.specs.declared.bind_error.BindError.TheVariants.{Mixed}
 use Rattle.mysql_binding.specs.declared.binding.survey.Survey.{Survey}
 use Rattle.mysql_binding.specs.Survey.{IsSurvey}
-use Rattle.mysql_binding.specs.WrittenText.{AreReadAs, IsWrittenText}
+use Rattle.mysql_binding.specs.LiteralForm.{Literals, LiteralFacts, AreWrittenAs, IsPlainLiteral}
+use Rattle.mysql_binding.specs.WrittenText.{IsGivenText, IsWrittenText}
 use Rattle.mysql_binding.specs.BindErrors.{IsCauseOrMemory, cause_of}
 use Rattle.mysql_binding.specs.Isolation.{IsBoundText}
-use Rattle.mysql_binding.specs.Pieces.{pieces, joined_text}
 use Rattle.mysql_binding.specs.Replaced.{AreLiterals, with_literal_tokens}
-use Rattle.mysql_binding.specs.ValueLiterals.{AreLiteralsOf}
+use Rattle.mysql_binding.specs.BoundAgain.{IsSameBoundAgain, IsSameByPosition}
+use Rattle.mysql_binding.proofs.BoundAgainLemmas.{same_bound_again, same_by_position}
 use Rattle.mysql_binding.proofs.BoundText.{bound}
-use Rattle.mysql_binding.proofs.CauseLemmas.{first_by, mixed_some, mixed_none_of, no_float_cause, no_place_out, on_both, on_map, value_each}
+use Rattle.mysql_binding.proofs.CauseLemmas.{first_by, mixed_some, mixed_none_of, no_cause_parts, no_float_cause, no_place_out, on_both, on_map, value_each}
 use Rattle.mysql_binding.proofs.ContentsLemmas as read
-use Rattle.mysql_binding.proofs.PieceLemmas.{joined_text_is}
-use Rattle.mysql_binding.proofs.ValueLiteralLemmas.{as_many_texts}
+use Rattle.mysql_binding.proofs.PieceLemmas.{joined_text_count, joined_text_is}
+use Rattle.mysql_binding.proofs.ValueLiteralLemmas.{mapped_literals}
 use Rattle.mysql_binding.proofs.ReplacedLemmas.{isolated, literal_lists}
 
 -- the contents of the values, and that their literals read as these
 pub record HaveContents (mode : Bool) (values : List Value) (texts : List (List ℕ)) : Type 0 where
   pub contents : List Content
   pub contents_are : map content_of values ≡ map Some contents
-  pub reads : read.AreReadAs mode texts contents
+  pub reads : read.AreReadAs (read_literal mode) texts contents
 
 pub contents_of_all : (mode : Bool) (values : List Value) (texts : List (List ℕ)) →
-    AreReadAs mode values texts → HaveContents mode values texts
+    AreWrittenAs (literal_of mode) (IsPlainLiteral mode) values texts → HaveContents mode values texts
 contents_of_all mode [] [] h = record { contents = []; contents_are = refl; reads = tt }
 contents_of_all mode [] (text ∷ texts) h = absurd h
 contents_of_all mode (v ∷ values) [] h = absurd h
-contents_of_all mode (v ∷ values) (text ∷ texts) h = one (content_of v) refl h.0.content (contents_of_all mode values texts h.1)
+contents_of_all mode (v ∷ values) (text ∷ texts) h = one (content_of v) refl h.1.1.content (contents_of_all mode values texts h.2)
   where
     one : (c : Option Content) → content_of v ≡ c →
         IsSomeAnd c (ReadsBefore continues_literal mode text) → HaveContents mode values texts →
@@ -52,24 +54,34 @@ contents_of_all mode (v ∷ values) (text ∷ texts) h = one (content_of v) refl
       reads = (r, more.reads);
     }
 
-pub is_bound_text : (mode : Bool) (query : List ℕ) (ts : List Token) (given : Given) (values : List Value) (texts : List (List ℕ)) (text : List ℕ) →
-    IsTokens mode query ts → mixed_cause ts ≡ None → lookup given (names ts) ≡ Ok values →
-    later_cause ts values ≡ None → AreLiteralsOf mode values texts → AreLiterals mode texts →
-    AreReadAs mode values texts → joined_text (pieces ts) texts ≡ Some text → IsBoundText mode ts given text
-is_bound_text mode query ts given values texts text is mixed looked later written shapes reads exact =
-    let s = contents_of_all mode values texts reads in
+-- the shapes of plain literals
+plain_shapes : (mode : Bool) (values : List Value) (texts : List (List ℕ)) →
+    AreWrittenAs (literal_of mode) (IsPlainLiteral mode) values texts → AreLiterals mode texts
+plain_shapes mode [] [] h = tt
+plain_shapes mode [] (text ∷ texts) h = absurd h
+plain_shapes mode (v ∷ values) [] h = absurd h
+plain_shapes mode (v ∷ values) (text ∷ texts) h = (h.1.0, plain_shapes mode values texts h.2)
+
+is_bound_text : (mode : Bool) (query : List ℕ) (ts : List Token) (given : Given) (text : List ℕ) →
+    IsTokens mode query ts → IsGivenText (literal_of mode) (IsPlainLiteral mode) ts given text →
+    IsBoundText mode ts given text
+is_bound_text mode query ts given text is g =
+    let values = g.values in
+    let texts = g.written_text.literals in
+    let exact = g.written_text.text_is in
+    let shapes = plain_shapes mode values texts g.written_text.written in
+    let s = contents_of_all mode values texts g.written_text.written in
     let tokens = literal_lists mode texts shapes in
-    let room : length values ≡ place_count ts = value_each ts given values mixed looked later in
-    let room' : length texts ≡ place_count ts = as_many_texts mode values texts written ∙ room in
+    let room : length texts ≡ place_count ts = joined_text_count [] ts texts text exact in
     let tokens_are : IsTokens mode text (with_literal_tokens ts tokens.0) = isolated mode query text ts texts tokens.0 is shapes tokens.1 exact in
     let text_is : text ≡ bound ts texts = joined_text_is ts texts text exact in
-    let alone = no_place_out ts values later in
+    let alone = no_place_out ts values (no_cause_parts ts given values g.no_cause g.looked_up).1 in
     record {
-      no_cause = first_by ts given values None mixed looked later;
+      no_cause = g.no_cause;
       values = values;
-      looked_up = looked;
+      looked_up = g.looked_up;
       literals = texts;
-      written = written;
+      written = mapped_literals (literal_of mode) (IsPlainLiteral mode) values texts g.written_text.written;
       shapes = shapes;
       text_is = exact;
       literal_tokens = tokens.0;
@@ -77,8 +89,8 @@ is_bound_text mode query ts given values texts text is mixed looked later writte
       isolated = tokens_are;
       contents = s.contents;
       contents_are = s.contents_are;
-      reads_in_place = read.in_place mode ts 0 [] [] texts s.contents alone s.reads room';
-      read_back = rw text_is (read.contents_of_bound mode ts 0 [] [] texts s.contents alone s.reads room');
+      reads_in_place = read.in_place (read_literal mode) ts 0 [] [] texts s.contents alone s.reads room;
+      read_back = rw text_is (read.contents_of_bound (read_literal mode) ts 0 [] [] texts s.contents alone s.reads room);
     }
 
 -- what is known of the tokens when the values were looked up and there is no later cause
@@ -175,11 +187,44 @@ no_float_among mode query given values h = none_mapped (first_float values) (no_
     none_mapped None e = refl
     none_mapped (Some n) e = cc
 
-pub bound_on : (mode : Bool) (query : List ℕ) (given : Given) (values : List Value) (text : List ℕ) →
-    OnTokens mode query (λ ts. IsLookedUp ts given values) →
-    OnTokens mode query (λ ts. IsWrittenText mode ts values text) →
+-- ---- what is promised of a text
+
+pub given_on : (mode : Bool) (literal : Literals) (IsKnown : LiteralFacts) (query : List ℕ) (given : Given) (values : List Value)
+    (text : List ℕ) → OnTokens mode query (λ ts. IsLookedUp ts given values) →
+    OnTokens mode query (λ ts. IsWrittenText literal IsKnown ts values text) →
+    OnTokens mode query (λ ts. IsGivenText literal IsKnown ts given text)
+given_on mode literal IsKnown query given values text h written =
+    on_map mode query (λ ts. IsLookedUp ts given values × IsWrittenText literal IsKnown ts values text) (λ ts. IsGivenText literal IsKnown ts given text)
+    (λ ts is k. record {
+      no_cause = first_by ts given values None k.0.0 k.0.1 k.0.2;
+      values = values;
+      looked_up = k.0.1;
+      written_text = k.1;
+    })
+    (on_both mode query (λ ts. IsLookedUp ts given values) (λ ts. IsWrittenText literal IsKnown ts values text) h written)
+
+bound_on : (mode : Bool) (query : List ℕ) (given : Given) (text : List ℕ) →
+    OnTokens mode query (λ ts. IsGivenText (literal_of mode) (IsPlainLiteral mode) ts given text) →
     OnTokens mode query (λ ts. IsBoundText mode ts given text)
-bound_on mode query given values text h written =
-    on_map mode query (λ ts. IsLookedUp ts given values × IsWrittenText mode ts values text) (λ ts. IsBoundText mode ts given text)
-    (λ ts is k. is_bound_text mode query ts given values k.1.literals text is k.0.0 k.0.1 k.0.2 k.1.written k.1.shapes k.1.reads_back k.1.text_is)
-    (on_both mode query (λ ts. IsLookedUp ts given values) (λ ts. IsWrittenText mode ts values text) h written)
+bound_on mode query given text o =
+    on_map mode query (λ ts. IsGivenText (literal_of mode) (IsPlainLiteral mode) ts given text) (λ ts. IsBoundText mode ts given text)
+    (λ ts is g. is_bound_text mode query ts given text is g) o
+
+-- the promises of the calls that write the literals of a mode
+module _ {A E : Type 0} (items : A → List ℕ) (mode : Bool) (query : List ℕ) (given : Given) where
+  abbrev pub GivesText : Result A E → Type 0
+  GivesText r = OnTokens mode query (λ ts. IfOk r (λ text. IsGivenText (literal_of mode) (IsPlainLiteral mode) ts given (items text)))
+
+  pub answer_bound : (r : Result A E) → GivesText r →
+      OnTokens mode query (λ ts. IfOk r (λ text. IsBoundText mode ts given (items text)))
+  answer_bound (Ok text) o = bound_on mode query given (items text) o
+  answer_bound (Err e) o = o
+
+  pub answer_bound_again : (r : Result A E) → GivesText r → IfOk r (λ text. IsSameBoundAgain mode (items text))
+  answer_bound_again (Ok text) o = same_bound_again mode query (items text) given (bound_on mode query given (items text) o)
+  answer_bound_again (Err e) o = tt
+
+  pub answer_by_position : (r : Result A E) → GivesText r →
+      OnTokens mode query (λ ts. IfOk r (λ text. IsSameByPosition mode ts given (items text)))
+  answer_by_position (Ok text) o = same_by_position mode query (items text) given (bound_on mode query given (items text) o)
+  answer_by_position (Err e) o = o

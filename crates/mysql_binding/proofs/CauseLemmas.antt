@@ -163,6 +163,14 @@ no_later : (ts : List Token) (values : List Value) → count_cause ts values ≡
     first_not_alone ts ≡ None → float_cause values ≡ None → later_cause ts values ≡ None
 no_later ts values a b c = later_by ts values None None None a (ap (option_map (λ p. not_alone p.0 p.1)) b) c
 
+-- where there is no cause and the values were looked up, there is no later cause
+pub no_cause_parts : (ts : List Token) (given : Given) (values : List Value) →
+    first_cause ts given ≡ None → lookup given (names ts) ≡ Ok values →
+    (mixed_cause ts ≡ None) × (later_cause ts values ≡ None)
+no_cause_parts ts given values none looked =
+    let parts = or_none (mixed_cause ts) (cause_after_lookup ts (lookup given (names ts))) none in
+    (parts.0, ap (cause_after_lookup ts) (sym looked) ∙ parts.1)
+
 -- there is no cause to refuse a text without places
 pub no_cause_left : (us : List Token) → place_count us ≡ 0 → first_cause us empty ≡ None
 no_cause_left us h =

@@ -4,25 +4,23 @@ use Rattle.std.specs.Borrow.{Bor}
 use Rattle.std.proofs.Common.{◌≡◌, ℕ, ◌+◌, ◌<◌, ◌≤◌, false, List, ◌++◌, length, map, take, drop, get_or, Some, sym, ap, ◌∙◌, subst, arith, take_all}
 use Rattle.std.proofs.lemmas.List.{get_or-map, length-map, length-take-le}
 use Rattle.mysql_values.specs.declared.value.Value.{Value}
-use Rattle.mysql_values.specs.Literal.{is_float, literal_of, literal_text}
-use Rattle.mysql_values.specs.ReadBack.{ReadsAs}
-use Rattle.mysql_sql_text.specs.LiteralShape.{IsLiteral}
+use Rattle.mysql_values.specs.Literal.{is_float}
 use Rattle.mysql_named_params.specs.Tokens.{OnTokens}
 use Rattle.mysql_named_params.specs.Places.{place_count}
 use Rattle.mysql_named_params.specs.FirstPlace.{IsFirstPlace}
 use Rattle.mysql_named_params.specs.declared.places.FoundPlace.{FoundPlace}
 use Rattle.mysql_params_core.specs.Referents.{referents}
-use Rattle.mysql_binding.specs.TextLength.{literal_len}
+use Rattle.mysql_binding.specs.LiteralForm.{Literals, LiteralFacts, literal_len, written_literal}
 use Rattle.mysql_binding.specs.WrittenText.{IsWrittenText}
 use Rattle.mysql_binding.proofs.TextLengthLemmas.{len_at}
 use Rattle.mysql_binding.proofs.WrittenTextLemmas.{WrittenSoFar, place_left, value_is_no_float, next_fits, written_more, rest_fits, written_all}
 
 -- the text is written as far as the index, and has room for what is left
-pub record FilledSoFar (mode : Bool) (query rest : List ℕ) (values : List (Bor Value)) (i : ℕ) (text : List ℕ) (at : ℕ) : Type 0 where
-  pub so_far : WrittenSoFar mode query rest (referents values) i (take at text) (length text)
+pub record FilledSoFar (mode : Bool) (literal : Literals) (IsKnown : LiteralFacts) (query rest : List ℕ) (values : List (Bor Value)) (i : ℕ) (text : List ℕ) (at : ℕ) : Type 0 where
+  pub so_far : WrittenSoFar mode literal IsKnown query rest (referents values) i (take at text) (length text)
   pub in_range : at ≤ length text
 
-module _ (mode : Bool) (query rest : List ℕ) (values : List (Bor Value)) (i : ℕ) (text : List ℕ) (at : ℕ) (s : FilledSoFar mode query rest values i text at) where
+module _ (mode : Bool) (literal : Literals) (IsKnown : LiteralFacts) (query rest : List ℕ) (values : List (Bor Value)) (i : ℕ) (text : List ℕ) (at : ℕ) (s : FilledSoFar mode literal IsKnown query rest values i text at) where
   filled : length (take at text) ≡ at
   filled = length-take-le at text s.in_range
 
@@ -32,51 +30,51 @@ module _ (mode : Bool) (query rest : List ℕ) (values : List (Bor Value)) (i : 
 
     -- as long as values are left, a place is found
     pub fill_place_left : OnTokens mode rest (λ us. place_count us ≡ 0) → ⊥
-    fill_place_left o = place_left mode query rest (referents values) i (take at text) (length text) s.so_far below_referents o
+    fill_place_left o = place_left mode literal IsKnown query rest (referents values) i (take at text) (length text) s.so_far below_referents o
 
     module _ (v : Bor Value) (v_is : v ≡ get_or values i v) where
       value_is : v.now ≡ get_or (referents values) i v.now
       value_is = ap (λ r. r.now) v_is ∙ sym (get_or-map (λ r. r.now) values i v v.now below)
 
       pub fill_no_float : is_float v.now ≡ false
-      fill_no_float = value_is_no_float mode query rest (referents values) i (take at text) (length text) s.so_far v.now below_referents value_is
+      fill_no_float = value_is_no_float mode literal IsKnown query rest (referents values) i (take at text) (length text) s.so_far v.now below_referents value_is
 
-      pub fill_len : (lens : List ℕ) → lens ≡ map (literal_len mode) (referents values) →
-          get_or lens i 0 ≡ literal_len mode v.now
-      fill_len lens lens_are = len_at mode (referents values) lens i 0 v.now below_referents value_is lens_are
+      pub fill_len : (lens : List ℕ) → lens ≡ map (literal_len literal) (referents values) →
+          get_or lens i 0 ≡ literal_len literal v.now
+      fill_len lens lens_are = len_at literal (referents values) lens i 0 v.now below_referents value_is lens_are
 
       module _ (found : FoundPlace) (o : OnTokens mode rest (λ us. IsFirstPlace us found)) (run : List ℕ) (run_is : run ≡ take found.before rest) where
-        both_fit : at + (length run + literal_len mode v.now) ≤ length text
-        both_fit = omega (arith, filled, next_fits mode query rest (referents values) i (take at text) (length text) s.so_far run v.now found below_referents value_is o run_is)
+        both_fit : at + (length run + literal_len literal v.now) ≤ length text
+        both_fit = omega (arith, filled, next_fits mode literal IsKnown query rest (referents values) i (take at text) (length text) s.so_far run v.now found below_referents value_is o run_is)
 
         pub piece_fits : at + length run ≤ length text
         piece_fits = omega (arith, both_fit)
 
         module _ (text' : List ℕ) (at' : ℕ) (at'_is : at' ≡ at + length run) (same : length text' ≡ length text) (piece : take at' text' ≡ take at text ++ run) where
-          pub literal_fits : (len : ℕ) → len ≡ literal_len mode v.now → at' + len ≤ length text'
+          pub literal_fits : (len : ℕ) → len ≡ literal_len literal v.now → at' + len ≤ length text'
           literal_fits len len_is = omega (arith, both_fit, at'_is, same, len_is)
 
           pub filled_more : (after text'' : List ℕ) (len at'' : ℕ) →
-              after ≡ drop (found.before + found.len) rest → len ≡ literal_len mode v.now → at'' ≡ at' + len →
-              length text'' ≡ length text' → literal_of mode v.now ≡ Some (literal_text mode v.now) →
-              IsLiteral mode (literal_text mode v.now) → ReadsAs mode v.now (literal_text mode v.now) →
-              take at'' text'' ≡ take at' text' ++ literal_text mode v.now →
-              FilledSoFar mode query after values (i + 1) text'' at''
-          filled_more after text'' len at'' after_is len_is at''_is same' literal shape reads written = record {
-            so_far = subst (λ n. WrittenSoFar mode query after (referents values) (i + 1) (take at'' text'') n) (sym (same' ∙ same))
-                (written_more mode query rest (referents values) i (take at text) (length text) s.so_far run after (literal_text mode v.now)
-                (take at' text') (take at'' text'') v.now found below_referents value_is o run_is after_is literal shape reads piece written);
+              after ≡ drop (found.before + found.len) rest → len ≡ literal_len literal v.now → at'' ≡ at' + len →
+              length text'' ≡ length text' → literal v.now ≡ Some (written_literal literal v.now) →
+              IsKnown v.now (written_literal literal v.now) →
+              take at'' text'' ≡ take at' text' ++ written_literal literal v.now →
+              FilledSoFar mode literal IsKnown query after values (i + 1) text'' at''
+          filled_more after text'' len at'' after_is len_is at''_is same' literal_is known written = record {
+            so_far = subst (λ n. WrittenSoFar mode literal IsKnown query after (referents values) (i + 1) (take at'' text'') n) (sym (same' ∙ same))
+                (written_more mode literal IsKnown query rest (referents values) i (take at text) (length text) s.so_far run after (written_literal literal v.now)
+                (take at' text') (take at'' text'') v.now found below_referents value_is o run_is after_is literal_is known piece written);
             in_range = omega (arith, literal_fits len len_is, at''_is, same');
           }
 
   -- once all values are written, the rest has exactly its room
   pub last_fits : length values ≤ i → at + length rest ≡ length text
   last_fits done =
-      omega (arith, filled, rest_fits mode query rest (referents values) i (take at text) (length text) s.so_far (omega (arith, done, length-map values (λ r. r.now))))
+      omega (arith, filled, rest_fits mode literal IsKnown query rest (referents values) i (take at text) (length text) s.so_far (omega (arith, done, length-map values (λ r. r.now))))
 
   pub filled_all : length values ≤ i → (text' : List ℕ) (at' : ℕ) → at' ≡ at + length rest →
       length text' ≡ length text → take at' text' ≡ take at text ++ rest →
-      OnTokens mode query (λ ts. IsWrittenText mode ts (referents values) text')
+      OnTokens mode query (λ ts. IsWrittenText literal IsKnown ts (referents values) text')
   filled_all done text' at' at'_is same written =
-      written_all mode query rest (referents values) i (take at text) (length text) s.so_far text' (omega (arith, done, length-map values (λ r. r.now)))
+      written_all mode literal IsKnown query rest (referents values) i (take at text) (length text) s.so_far text' (omega (arith, done, length-map values (λ r. r.now)))
       (sym (take_all at' text' (omega (arith, last_fits done, at'_is, same))) ∙ written)

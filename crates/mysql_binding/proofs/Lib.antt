@@ -19,7 +19,7 @@ pub mod FoundPlacesLemmas
 pub mod NameListLemmas
 pub mod WrittenTextLemmas
 pub mod FilledTextLemmas
-pub mod BoundTextLemmas
 pub mod BoundAgainLemmas
+pub mod BoundTextLemmas
 pub mod BoundOnServerLemmas
 pub mod BoundStatementLemmas

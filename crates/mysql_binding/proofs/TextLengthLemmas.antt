@@ -1,17 +1,17 @@
 -- How many bytes the pieces of a query have, and the literals of values.
-use Rattle.std.specs.Prelude.{Bool, option_map, unwrap_or}
+use Rattle.std.specs.Prelude.{option_map, unwrap_or}
 use Rattle.std.specs.List.{sum_by}
 use Rattle.std.proofs.Common.{◌≡◌, ℕ, ◌+◌, ◌<◌, List, [], ◌∷◌, ◌++◌, map, length, drop, get_or, refl, sym, ap, ◌∙◌, arith, length-append, Option, Some, None}
 use Rattle.std.proofs.lemmas.List.{get_or-map}
 use Rattle.std.proofs.lemmas.List.Sums.{sum_by-cons, sum_by-drop_more}
 use Rattle.mysql_values.specs.declared.value.Value.{Value}
-use Rattle.mysql_values.specs.Literal.{literal_of}
 use Rattle.mysql_named_params.specs.Tokens.{Token, bytes_of, text_of, Name, Mark}
 use Rattle.mysql_named_params.specs.Places.{place_count}
 use Rattle.mysql_named_params.specs.FirstPlace.{place_kind}
 use Rattle.mysql_named_params.specs.declared.places.PlaceKind.{PlaceKind}
 use Rattle.mysql_binding.specs.Pieces.{pieces_from}
-use Rattle.mysql_binding.specs.TextLength.{pieces_len, literal_len}
+use Rattle.mysql_binding.specs.LiteralForm.{Literals, literal_len}
+use Rattle.mysql_binding.specs.TextLength.{pieces_len}
 
 -- ---- pieces
 
@@ -52,9 +52,9 @@ plain_len-no_place (t ∷ ts) e = omega (arith, plain_len-no_place ts e, length-
 
 -- ---- literals
 
-pub literal_len-literal_of : (mode : Bool) (v : Value) (text : List ℕ) → literal_of mode v ≡ Some text →
-    literal_len mode v ≡ length text
-literal_len-literal_of mode v text e = ap (λ o. length (unwrap_or o [])) e
+pub literal_len-literal : (literal : Literals) (v : Value) (text : List ℕ) → literal v ≡ Some text →
+    literal_len literal v ≡ length text
+literal_len-literal literal v text e = ap (λ o. length (unwrap_or o [])) e
 
 -- the length that is told of a literal
 pub length_or_zero : (o : Option (List ℕ)) →
@@ -63,15 +63,15 @@ length_or_zero None = refl
 length_or_zero (Some text) = refl
 
 -- the lengths that are left, from one value on
-pub lens_left : (mode : Bool) (values : List Value) (i : ℕ) (v : Value) → i < length values →
+pub lens_left : (literal : Literals) (values : List Value) (i : ℕ) (v : Value) → i < length values →
     v ≡ get_or values i v →
-    sum_by (literal_len mode) (drop i values) ≡ literal_len mode v + sum_by (literal_len mode) (drop (i + 1) values)
-lens_left mode values i v below v_is =
-    sum_by-drop_more (literal_len mode) values i v below
-    ∙ ap (λ x. literal_len mode x + sum_by (literal_len mode) (drop (i + 1) values)) (sym v_is)
+    sum_by (literal_len literal) (drop i values) ≡ literal_len literal v + sum_by (literal_len literal) (drop (i + 1) values)
+lens_left literal values i v below v_is =
+    sum_by-drop_more (literal_len literal) values i v below
+    ∙ ap (λ x. literal_len literal x + sum_by (literal_len literal) (drop (i + 1) values)) (sym v_is)
 
 -- the length at a place is that of its value
-pub len_at : (mode : Bool) (values : List Value) (lens : List ℕ) (i d : ℕ) (v : Value) → i < length values →
-    v ≡ get_or values i v → lens ≡ map (literal_len mode) values → get_or lens i d ≡ literal_len mode v
-len_at mode values lens i d v below v_is lens_are =
-    ap (λ x. get_or x i d) lens_are ∙ (get_or-map (literal_len mode) values i v d below ∙ ap (literal_len mode) (sym v_is))
+pub len_at : (literal : Literals) (values : List Value) (lens : List ℕ) (i d : ℕ) (v : Value) → i < length values →
+    v ≡ get_or values i v → lens ≡ map (literal_len literal) values → get_or lens i d ≡ literal_len literal v
+len_at literal values lens i d v below v_is lens_are =
+    ap (λ x. get_or x i d) lens_are ∙ (get_or-map (literal_len literal) values i v d below ∙ ap (literal_len literal) (sym v_is))

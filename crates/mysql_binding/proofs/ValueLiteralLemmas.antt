@@ -1,27 +1,44 @@
--- The literals of values, one after another.
-use Rattle.std.proofs.Common.{◌≡◌, Bool, true, false, ℕ, ◌+◌, ◌<◌, List, [], ◌∷◌, ◌++◌, map, drop, length, get_or, refl, sym, ap, ◌∙◌, cond, drop-cons, add-one, Option, Some, None}
-use Rattle.std.proofs.lemmas.List.{map-append, length-map}
+-- The literals of values in a form, one after another.
+use Rattle.std.specs.Prelude.{is_none, unwrap_or}
+use Rattle.std.proofs.Common.{◌≡◌, Bool, true, false, ℕ, ◌+◌, ◌<◌, List, [], ◌∷◌, ◌++◌, map, drop, length, get_or, refl, sym, ap, ◌∙◌, cond, arith, drop-cons, add-one, Option, Some, None}
 use Rattle.mysql_values.specs.declared.value.Value.{Value}
-use Rattle.mysql_values.specs.Literal.{is_float, literal_of}
-use Rattle.mysql_sql_text.specs.LiteralShape.{IsLiteral}
-use Rattle.mysql_values.specs.ReadBack.{ReadsAs}
+use Rattle.mysql_values.specs.Literal.{is_float}
 use Rattle.mysql_binding.specs.FirstCause.{first_float_from}
-use Rattle.mysql_binding.specs.Replaced.{AreLiterals}
-use Rattle.mysql_binding.specs.ValueLiterals.{AreLiteralsOf}
-use Rattle.mysql_binding.specs.WrittenText.{AreReadAs}
+use Rattle.mysql_binding.specs.LiteralForm.{Literals, LiteralFacts, LackFloats, AreWrittenAs, written_literal}
 
-pub AreReadAs-push : (mode : Bool) (values : List Value) (texts : List (List ℕ)) (v : Value) (text : List ℕ) →
-    AreReadAs mode values texts → ReadsAs mode v text →
-    AreReadAs mode (values ++ v ∷ []) (texts ++ text ∷ [])
-AreReadAs-push mode [] [] v text rs r = (r, tt)
-AreReadAs-push mode [] (t ∷ texts) v text rs r = absurd rs
-AreReadAs-push mode (w ∷ values) [] v text rs r = absurd rs
-AreReadAs-push mode (w ∷ values) (t ∷ texts) v text rs r = (rs.0, AreReadAs-push mode values texts v text rs.1 r)
+-- a value that is no float has a literal
+pub has_literal : (literal : Literals) → LackFloats literal → (v : Value) → is_float v ≡ false →
+    literal v ≡ Some (written_literal literal v)
+has_literal literal floats v e = some (literal v) (floats v ∙ e)
+  where
+    some : (o : Option (List ℕ)) → is_none o ≡ false → o ≡ Some (unwrap_or o [])
+    some None h = cc
+    some (Some text) h = refl
 
-pub AreLiterals-push : (mode : Bool) (texts : List (List ℕ)) (text : List ℕ) → AreLiterals mode texts →
-    IsLiteral mode text → AreLiterals mode (texts ++ text ∷ [])
-AreLiterals-push mode [] text hs h = (h, tt)
-AreLiterals-push mode (t ∷ texts) text hs h = (hs.0, AreLiterals-push mode texts text hs.1 h)
+module _ (literal : Literals) (IsKnown : LiteralFacts) where
+  pub AreWrittenAs-push : (values : List Value) (texts : List (List ℕ)) (v : Value) (text : List ℕ) →
+      AreWrittenAs literal IsKnown values texts → literal v ≡ Some text → IsKnown v text →
+      AreWrittenAs literal IsKnown (values ++ v ∷ []) (texts ++ text ∷ [])
+  AreWrittenAs-push [] [] v text hs e k = (e, k, tt)
+  AreWrittenAs-push [] (t ∷ texts) v text hs e k = absurd hs
+  AreWrittenAs-push (w ∷ values) [] v text hs e k = absurd hs
+  AreWrittenAs-push (w ∷ values) (t ∷ texts) v text hs e k = (hs.0, hs.1, AreWrittenAs-push values texts v text hs.2 e k)
+
+  pub as_many_texts : (values : List Value) (texts : List (List ℕ)) → AreWrittenAs literal IsKnown values texts →
+      length texts ≡ length values
+  as_many_texts [] [] h = refl
+  as_many_texts [] (t ∷ texts) h = absurd h
+  as_many_texts (v ∷ values) [] h = absurd h
+  as_many_texts (v ∷ values) (t ∷ texts) h = omega (arith, as_many_texts values texts h.2)
+
+  -- they are the literals of the values
+  pub mapped_literals : (values : List Value) (texts : List (List ℕ)) → AreWrittenAs literal IsKnown values texts →
+      map literal values ≡ map Some texts
+  mapped_literals [] [] h = refl
+  mapped_literals [] (t ∷ texts) h = absurd h
+  mapped_literals (v ∷ values) [] h = absurd h
+  mapped_literals (v ∷ values) (t ∷ texts) h =
+      ap (λ x. x ∷ map literal values) h.0 ∙ ap (λ xs. Some t ∷ xs) (mapped_literals values texts h.2)
 
 -- the next value is no float, where there is none from its place on
 float_step : (b : Bool) (place : ℕ) (rest : Option ℕ) → cond b (Some place) rest ≡ None →
@@ -36,16 +53,3 @@ no_float values i v h e none =
     let cut : drop i values ≡ get_or values i v ∷ drop (i + 1) values = rw add-one (drop-cons values i v h) in
     let same : drop i values ≡ v ∷ drop (i + 1) values = cut ∙ ap (λ x. x ∷ drop (i + 1) values) (sym e) in
     float_step (is_float v) i _ (sym (ap (λ x. first_float_from i x) same) ∙ none)
-
-pub AreLiteralsOf-push : (mode : Bool) (values : List Value) (texts : List (List ℕ)) (v : Value) (text : List ℕ) →
-    AreLiteralsOf mode values texts → literal_of mode v ≡ Some text →
-    AreLiteralsOf mode (values ++ v ∷ []) (texts ++ text ∷ [])
-AreLiteralsOf-push mode values texts v text written literal =
-    map-append (literal_of mode) values (v ∷ [])
-    ∙ (ap (λ x. x ++ literal_of mode v ∷ []) written
-    ∙ (ap (λ x. map Some texts ++ x ∷ []) literal ∙ sym (map-append Some texts (text ∷ []))))
-
-pub as_many_texts : (mode : Bool) (values : List Value) (texts : List (List ℕ)) →
-    AreLiteralsOf mode values texts → length texts ≡ length values
-as_many_texts mode values texts h =
-    sym (length-map texts Some) ∙ (ap length (sym h) ∙ length-map values (literal_of mode))

@@ -5,9 +5,7 @@ use Rattle.std.proofs.Common.{◌≡◌, ℕ, ◌+◌, ◌<◌, ◌≤◌, false
 use Rattle.std.proofs.lemmas.List.{take_more, drop_all}
 use Rattle.std.proofs.lemmas.List.Sums.{sum-map}
 use Rattle.mysql_values.specs.declared.value.Value.{Value}
-use Rattle.mysql_values.specs.Literal.{is_float, literal_of}
-use Rattle.mysql_values.specs.ReadBack.{ReadsAs}
-use Rattle.mysql_sql_text.specs.LiteralShape.{IsLiteral}
+use Rattle.mysql_values.specs.Literal.{is_float}
 use Rattle.mysql_named_params.specs.Tokens.{Token, IsTokens, OnTokens, bytes_of, text_of, Name, Mark}
 use Rattle.mysql_named_params.specs.Places.{place_count}
 use Rattle.mysql_named_params.specs.FirstPlace.{place_kind, IsFirstPlace}
@@ -17,18 +15,17 @@ use Rattle.mysql_named_params.proofs.TokenListLemmas.{one_token_list}
 use Rattle.mysql_named_params.proofs.TokenRowLemmas.{place_count-append}
 use Rattle.mysql_named_params.proofs.FoundPlaceLemmas.{parted}
 use Rattle.mysql_binding.specs.FirstCause.{first_float_from, first_float}
-use Rattle.mysql_binding.specs.Replaced.{AreLiterals}
-use Rattle.mysql_binding.specs.ValueLiterals.{AreLiteralsOf}
-use Rattle.mysql_binding.specs.TextLength.{pieces_len, literal_len}
-use Rattle.mysql_binding.specs.WrittenText.{AreReadAs, IsWrittenText}
+use Rattle.mysql_binding.specs.LiteralForm.{Literals, LiteralFacts, AreWrittenAs, literal_len}
+use Rattle.mysql_binding.specs.TextLength.{pieces_len}
+use Rattle.mysql_binding.specs.WrittenText.{IsWrittenText}
 use Rattle.mysql_binding.proofs.BoundText.{bound}
 use Rattle.mysql_binding.proofs.PieceLemmas.{bound_none, joined_text-pieces_from}
-use Rattle.mysql_binding.proofs.TextLengthLemmas.{plain_len, plain_len-place, plain_len-no_place, pieces_len-plain_len, lens_left, literal_len-literal_of}
-use Rattle.mysql_binding.proofs.ValueLiteralLemmas.{AreReadAs-push, AreLiterals-push, AreLiteralsOf-push, as_many_texts, no_float}
+use Rattle.mysql_binding.proofs.TextLengthLemmas.{plain_len, plain_len-place, plain_len-no_place, pieces_len-plain_len, lens_left, literal_len-literal}
+use Rattle.mysql_binding.proofs.ValueLiteralLemmas.{AreWrittenAs-push, as_many_texts, no_float}
 
 -- the literals of the first so many values stand in the text, and whatever stands in the places that
 -- are left, it will follow them
-pub record WrittenSoFar (mode : Bool) (query rest : List ℕ) (values : List Value) (i : ℕ) (text : List ℕ) (len : ℕ) : Type 0 where
+pub record WrittenSoFar (mode : Bool) (literal : Literals) (IsKnown : LiteralFacts) (query rest : List ℕ) (values : List Value) (i : ℕ) (text : List ℕ) (len : ℕ) : Type 0 where
   pub all : List Token
   pub tokens : IsTokens mode query all
   pub left : List Token
@@ -36,19 +33,17 @@ pub record WrittenSoFar (mode : Bool) (query rest : List ℕ) (values : List Val
   pub places_left : i + place_count left ≡ length values
   pub room : length values ≡ place_count all
   pub literals : List (List ℕ)
-  pub written : AreLiteralsOf mode (take i values) literals
-  pub shapes : AreLiterals mode literals
-  pub reads_back : AreReadAs mode (take i values) literals
+  pub written : AreWrittenAs literal IsKnown (take i values) literals
   pub no_float_left : first_float_from i (drop i values) ≡ None
   pub text_is : (more : List (List ℕ)) → text ++ bound left more ≡ bound all (literals ++ more)
   -- with what is left, the whole text has this length
-  pub len_is : length text + (plain_len left + sum_by (literal_len mode) (drop i values)) ≡ len
+  pub len_is : length text + (plain_len left + sum_by (literal_len literal) (drop i values)) ≡ len
 
-pub written_none : (mode : Bool) (query : List ℕ) (values : List Value) (lens text : List ℕ) (len : ℕ) →
+pub written_none : (mode : Bool) (literal : Literals) (IsKnown : LiteralFacts) (query : List ℕ) (values : List Value) (lens text : List ℕ) (len : ℕ) →
     OnTokens mode query (λ ts. length values ≡ place_count ts) → first_float values ≡ None →
-    lens ≡ map (literal_len mode) values → OnTokens mode query (λ ts. len ≡ pieces_len ts + sum lens) →
-    text ≡ [] → WrittenSoFar mode query query values 0 text len
-written_none mode query values lens text len o no_floats lens_are whole nil = record {
+    lens ≡ map (literal_len literal) values → OnTokens mode query (λ ts. len ≡ pieces_len ts + sum lens) →
+    text ≡ [] → WrittenSoFar mode literal IsKnown query query values 0 text len
+written_none mode literal IsKnown query values lens text len o no_floats lens_are whole nil = record {
   all = o.0;
   tokens = o.1;
   left = o.0;
@@ -56,16 +51,14 @@ written_none mode query values lens text len o no_floats lens_are whole nil = re
   places_left = omega (arith, o.2);
   room = o.2;
   literals = [];
-  written = refl;
-  shapes = tt;
-  reads_back = tt;
+  written = tt;
   no_float_left = no_floats;
   text_is = λ more. ap (λ x. x ++ bound o.0 more) nil;
   len_is =
       let same : whole.0 ≡ o.0 = one_token_list mode query whole.0 o.0 whole.1 o.1 in
       let all : len ≡ pieces_len o.0 + sum lens = subst (λ ts. len ≡ pieces_len ts + sum lens) same whole.2 in
       let pieces : pieces_len o.0 ≡ plain_len o.0 = pieces_len-plain_len o.0 in
-      let sums : sum lens ≡ sum_by (literal_len mode) values = ap sum lens_are ∙ sum-map (literal_len mode) values in
+      let sums : sum lens ≡ sum_by (literal_len literal) values = ap sum lens_are ∙ sum-map (literal_len literal) values in
       omega (arith, all, pieces, sums, ap length nil);
 }
 
@@ -87,7 +80,7 @@ place_count-place (Name name) k back e = refl
 place_count-place Mark k back e = refl
 place_count-place t k back e = cc
 
-module _ (mode : Bool) (query rest : List ℕ) (values : List Value) (i : ℕ) (text : List ℕ) (len : ℕ) (s : WrittenSoFar mode query rest values i text len) where
+module _ (mode : Bool) (literal : Literals) (IsKnown : LiteralFacts) (query rest : List ℕ) (values : List Value) (i : ℕ) (text : List ℕ) (len : ℕ) (s : WrittenSoFar mode literal IsKnown query rest values i text len) where
   -- as long as values are left, a place is found
   pub place_left : i < length values → OnTokens mode rest (λ us. place_count us ≡ 0) → ⊥
   place_left below o =
@@ -100,20 +93,20 @@ module _ (mode : Bool) (query rest : List ℕ) (values : List Value) (i : ℕ) (
   -- the piece before the next place, and the literal of its value, are within the whole text
   pub next_fits : (run : List ℕ) (v : Value) (found : FoundPlace) → i < length values → v ≡ get_or values i v →
       OnTokens mode rest (λ us. IsFirstPlace us found) → run ≡ take found.before rest →
-      length text + (length run + literal_len mode v) ≤ len
+      length text + (length run + literal_len literal v) ≤ len
   next_fits run v found below v_is o run_is =
       let p = parted mode rest s.left found s.rest_tokens o in
       let front : length (text_of p.front) ≡ length run = ap length p.front_text ∙ sym (ap length run_is) in
       let plain : plain_len s.left ≡ length (text_of p.front) + plain_len p.back = ap plain_len p.tokens_are ∙ plain_len-place p.front p.place found.kind p.back p.no_place p.kind_is in
-      omega (arith, s.len_is, front, plain, lens_left mode values i v below v_is)
+      omega (arith, s.len_is, front, plain, lens_left literal values i v below v_is)
 
   -- one value more: the bytes before its place, and its literal
   pub written_more : (run after sql text' text'' : List ℕ) (v : Value) (found : FoundPlace) →
       i < length values → v ≡ get_or values i v → OnTokens mode rest (λ us. IsFirstPlace us found) →
-      run ≡ take found.before rest → after ≡ drop (found.before + found.len) rest → literal_of mode v ≡ Some sql → IsLiteral mode sql →
-      ReadsAs mode v sql → text' ≡ text ++ run → text'' ≡ text' ++ sql →
-      WrittenSoFar mode query after values (i + 1) text'' len
-  written_more run after sql text' text'' v found below v_is o run_is after_is literal shape reads text_more text_more' =
+      run ≡ take found.before rest → after ≡ drop (found.before + found.len) rest → literal v ≡ Some sql → IsKnown v sql →
+      text' ≡ text ++ run → text'' ≡ text' ++ sql →
+      WrittenSoFar mode literal IsKnown query after values (i + 1) text'' len
+  written_more run after sql text' text'' v found below v_is o run_is after_is literal_is known text_more text_more' =
       let p = parted mode rest s.left found s.rest_tokens o in
       let taken : take (i + 1) values ≡ take i values ++ v ∷ [] = take_more values i v below ∙ ap (λ x. take i values ++ x ∷ []) (sym v_is) in
       let run_text : text_of p.front ≡ run = p.front_text ∙ sym run_is in
@@ -126,9 +119,7 @@ module _ (mode : Bool) (query rest : List ℕ) (values : List Value) (i : ℕ) (
         places_left = omega (arith, s.places_left, places);
         room = s.room;
         literals = s.literals ++ sql ∷ [];
-        written = subst (λ x. AreLiteralsOf mode x (s.literals ++ sql ∷ [])) (sym taken) (AreLiteralsOf-push mode (take i values) s.literals v sql s.written literal);
-        shapes = AreLiterals-push mode s.literals sql s.shapes shape;
-        reads_back = subst (λ x. AreReadAs mode x (s.literals ++ sql ∷ [])) (sym taken) (AreReadAs-push mode (take i values) s.literals v sql s.reads_back reads);
+        written = subst (λ x. AreWrittenAs literal IsKnown x (s.literals ++ sql ∷ [])) (sym taken) (AreWrittenAs-push literal IsKnown (take i values) s.literals v sql s.written literal_is known);
         no_float_left = (no_float values i v below v_is s.no_float_left).1;
         text_is = λ more.
             ap (λ x. x ++ bound p.back more) (text_more' ∙ ap (λ x. x ++ sql) text_more)
@@ -144,8 +135,8 @@ module _ (mode : Bool) (query rest : List ℕ) (values : List Value) (i : ℕ) (
               s.len_is,
               plain,
               ap length run_text,
-              lens_left mode values i v below v_is,
-              literal_len-literal_of mode v sql literal,
+              lens_left literal values i v below v_is,
+              literal_len-literal literal v sql literal_is,
               ap length text_more,
               length-append text run,
               ap length text_more',
@@ -158,25 +149,23 @@ module _ (mode : Bool) (query rest : List ℕ) (values : List Value) (i : ℕ) (
   rest_fits done =
       let none : place_count s.left ≡ 0 = omega (arith, s.places_left, done) in
       let plain : plain_len s.left ≡ length rest = plain_len-no_place s.left none ∙ ap length s.rest_tokens.text in
-      let no_lens : sum_by (literal_len mode) (drop i values) ≡ 0 = ap (sum_by (literal_len mode)) (drop_all i values done) in
+      let no_lens : sum_by (literal_len literal) (drop i values) ≡ 0 = ap (sum_by (literal_len literal)) (drop_all i values done) in
       omega (arith, s.len_is, plain, no_lens)
 
   -- once all values are written, the rest follows as it is
   pub written_all : (text' : List ℕ) → length values ≤ i → text' ≡ text ++ rest →
-      OnTokens mode query (λ ts. IsWrittenText mode ts values text')
+      OnTokens mode query (λ ts. IsWrittenText literal IsKnown ts values text')
   written_all text' done text_more =
       let all_taken : take i values ≡ values = take_all i values done in
       let none : place_count s.left ≡ 0 = omega (arith, s.places_left, done) in
       let rest_is : rest ≡ bound s.left [] = sym s.rest_tokens.text ∙ sym (bound_none s.left none) in
       let text_is : text' ≡ bound s.all s.literals = text_more ∙ (ap (λ x. text ++ x) rest_is ∙ (s.text_is [] ∙ ap (bound s.all) (append-nil s.literals))) in
-      let written : AreLiteralsOf mode values s.literals = subst (λ x. AreLiteralsOf mode x s.literals) all_taken s.written in (
+      let written : AreWrittenAs literal IsKnown values s.literals = subst (λ x. AreWrittenAs literal IsKnown x s.literals) all_taken s.written in (
         s.all,
         s.tokens,
         record {
           literals = s.literals;
           written = written;
-          shapes = s.shapes;
-          reads_back = subst (λ x. AreReadAs mode x s.literals) all_taken s.reads_back;
-          text_is = joined_text-pieces_from [] s.all s.literals (as_many_texts mode values s.literals written ∙ s.room) ∙ ap Some (sym text_is);
+          text_is = joined_text-pieces_from [] s.all s.literals (as_many_texts literal IsKnown values s.literals written ∙ s.room) ∙ ap Some (sym text_is);
         },
       )

@@ -10,6 +10,7 @@ pub mod Survey
 pub mod ParsedQuery
 pub mod SameQuery
 pub mod ValueLiterals
+pub mod LiteralForm
 pub mod WrittenText
 pub mod BindErrors
 pub mod Isolation

@@ -1,28 +1,31 @@
--- A query with the literal of a value in each of its places. For the private `written_text`; no
--- public contract cites it.
-use Rattle.std.specs.Prelude.{◌≡◌, ℕ, Bool, List, [], ◌∷◌, Some, ⊤}
+-- A query with the literals of values in its places, in any form of literals: for
+-- `bind_borrowed_as` and `bind_surveyed_as`, which are lent to the crate above.
+use Rattle.std.specs.Prelude.{◌≡◌, ℕ, List, Some, None, Ok}
 use Rattle.mysql_values.specs.declared.value.Value.{Value}
-use Rattle.mysql_values.specs.ReadBack.{ReadsAs}
 use Rattle.mysql_named_params.specs.Tokens.{Token}
+use Rattle.mysql_named_params.specs.Places.{names}
+use Rattle.mysql_params_core.specs.Given.{Given}
+use Rattle.mysql_params_core.specs.Lookup.{lookup}
+use Rattle.mysql_binding.specs.FirstCause.{first_cause}
+use Rattle.mysql_binding.specs.LiteralForm.{Literals, LiteralFacts, AreWrittenAs}
 use Rattle.mysql_binding.specs.Pieces.{pieces, joined_text}
-use Rattle.mysql_binding.specs.Replaced.{AreLiterals}
-use Rattle.mysql_binding.specs.ValueLiterals.{AreLiteralsOf}
-
--- as many texts as values, and each reads as the content of its value
-abbrev pub AreReadAs : Bool → List Value → List (List ℕ) → Type 0
-AreReadAs mode [] [] = ⊤
-AreReadAs mode [] (text ∷ texts) = ⊥
-AreReadAs mode (value ∷ values) [] = ⊥
-AreReadAs mode (value ∷ values) (text ∷ texts) =
-    ReadsAs mode value text × AreReadAs mode values texts
 
 -- the text is the pieces of these tokens with the literals of the values between them
-pub record IsWrittenText (mode : Bool) (ts : List Token) (values : List Value) (text : List ℕ)
-    : Type 0 where
-  -- the literals, each of the shape of one, and each read as its value
+pub record IsWrittenText (literal : Literals) (IsKnown : LiteralFacts) (ts : List Token)
+    (values : List Value) (text : List ℕ) : Type 0 where
+  -- the literals
   pub literals : List (List ℕ)
-  pub written : AreLiteralsOf mode values literals
-  pub shapes : AreLiterals mode literals
-  pub reads_back : AreReadAs mode values literals
+  pub written : AreWrittenAs literal IsKnown values literals
   -- the text is exactly these, between the pieces
   pub text_is : joined_text (pieces ts) literals ≡ Some text
+
+-- the text of a query with these tokens and what is given to it
+pub record IsGivenText (literal : Literals) (IsKnown : LiteralFacts) (ts : List Token)
+    (given : Given) (text : List ℕ) : Type 0 where
+  -- there is no cause to refuse
+  pub no_cause : first_cause ts given ≡ None
+  -- the values are those of the names, or, without names, the positional ones
+  pub values : List Value
+  pub looked_up : lookup given (names ts) ≡ Ok values
+  -- and their literals stand in the places
+  pub written_text : IsWrittenText literal IsKnown ts values text

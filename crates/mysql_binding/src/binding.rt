@@ -13,7 +13,9 @@ ghost use Rattle.mysql_binding.specs.FirstCause.{mark_count_differs, first_cause
 ghost use Rattle.mysql_binding.specs.FoundPlaces.{BeginWithPlaces};
 ghost use Rattle.mysql_binding.specs.Isolation.{IsBoundText};
 ghost use Rattle.mysql_binding.specs.Survey.{IsSurvey};
+ghost use Rattle.mysql_binding.specs.WrittenText.{IsGivenText};
 
+mod form;
 mod found;
 mod literals;
 mod names;
@@ -23,6 +25,7 @@ mod survey;
 mod text;
 
 use crate::bind_error::BindError;
+pub use crate::binding::form::{LiteralForm, PlainForm};
 use crate::binding::literals::first_float;
 use crate::binding::names::query_names;
 pub use crate::binding::parsed_query::ParsedQuery;
@@ -120,15 +123,39 @@ pub fn bind_borrowed_in(
     ensures mixed { OnTokens no_backslash_escape query.now (λ ts.
         HasName ts × HasMark ts → IsErrOf result BindError.Mixed) }
 {
+    let form = PlainForm {
+        no_backslash_escape,
+    };
+    bind_borrowed_as(alloc, query, params, no_backslash_escape, &form)
+}
+
+/// The text of a query in a mode, with the literals of the values in any form: the body of
+/// [`bind_borrowed_in`], lent to the crate above. It refuses what that refuses.
+pub fn bind_borrowed_as<F: LiteralForm>(
+    alloc: Global,
+    query: &[u8],
+    params: BorrowedParams<'_>,
+    no_backslash_escape: bool,
+    form: &F,
+) -> Result<Vec<u8>, BindError>
+    ensures text { OnTokens no_backslash_escape query.now (λ ts. IfOk result (λ text.
+        IsGivenText (F.literal form.now) (F.IsKnown form.now) ts (given_by_borrowed params.entry)
+        text.items)) }
+    ensures refused { OnTokens no_backslash_escape query.now (λ ts. IfErr result
+        (IsCauseOrMemory (first_cause ts (given_by_borrowed params.entry)))) }
+    ensures mixed { OnTokens no_backslash_escape query.now (λ ts.
+        HasName ts × HasMark ts → IsErrOf result BindError.Mixed) }
+{
     let mut first = [NO_PLACE; KEPT_PLACES];
     let (survey, kept) = place_survey(query, &mut first, no_backslash_escape);
-    bind_surveyed(
+    bind_surveyed_as(
         alloc,
         query,
         survey,
         &first[..kept],
         params,
         no_backslash_escape,
+        form,
     )
 }
 
@@ -155,6 +182,41 @@ pub fn bind_surveyed(
     ensures mixed { OnTokens no_backslash_escape query.now (λ ts.
         HasName ts × HasMark ts → IsErrOf result BindError.Mixed) }
 {
+    let form = PlainForm {
+        no_backslash_escape,
+    };
+    bind_surveyed_as(
+        alloc,
+        query,
+        survey,
+        known,
+        params,
+        no_backslash_escape,
+        &form,
+    )
+}
+
+/// [`bind_surveyed`] with the literals of the values in any form, lent to the crate above. It
+/// refuses what that refuses.
+pub fn bind_surveyed_as<F: LiteralForm>(
+    alloc: Global,
+    query: &[u8],
+    survey: Survey,
+    known: &[FoundPlace],
+    params: BorrowedParams<'_>,
+    no_backslash_escape: bool,
+    form: &F,
+) -> Result<Vec<u8>, BindError>
+    requires survey { OnTokens no_backslash_escape query.now (IsSurvey survey) }
+    requires known { OnTokens no_backslash_escape query.now (BeginWithPlaces known.now) }
+    ensures text { OnTokens no_backslash_escape query.now (λ ts. IfOk result (λ text.
+        IsGivenText (F.literal form.now) (F.IsKnown form.now) ts (given_by_borrowed params.entry)
+        text.items)) }
+    ensures refused { OnTokens no_backslash_escape query.now (λ ts. IfErr result
+        (IsCauseOrMemory (first_cause ts (given_by_borrowed params.entry)))) }
+    ensures mixed { OnTokens no_backslash_escape query.now (λ ts.
+        HasName ts × HasMark ts → IsErrOf result BindError.Mixed) }
+{
     if survey.names > 0 && survey.marks > 0 {
         return Err(BindError::Mixed);
     }
@@ -176,6 +238,7 @@ pub fn bind_surveyed(
         survey.piece_bytes,
         values.as_slice(),
         no_backslash_escape,
+        form,
     ) {
         Ok(text) => Ok(text),
         Err(error) => Err(BindError::Memory(error)),

@@ -12,5 +12,6 @@ pub mod laws;
 
 pub use bind_error::BindError;
 pub use binding::{
-    ParsedQuery, Survey, bind_borrowed_in, bind_surveyed, bind_text, bind_text_in, place_survey,
+    LiteralForm, ParsedQuery, PlainForm, Survey, bind_borrowed_as, bind_borrowed_in, bind_surveyed,
+    bind_surveyed_as, bind_text, bind_text_in, place_survey,
 };

@@ -6,9 +6,11 @@ ghost use Rattle.mysql_named_params.specs.Places.{place_count};
 ghost use Rattle.mysql_params_core.specs.Referents.{referents};
 ghost use Rattle.mysql_binding.specs.FirstCause.{first_float};
 ghost use Rattle.mysql_binding.specs.FoundPlaces.{BeginWithPlaces};
-ghost use Rattle.mysql_binding.specs.TextLength.{literal_len, pieces_len};
+ghost use Rattle.mysql_binding.specs.LiteralForm.{literal_len};
+ghost use Rattle.mysql_binding.specs.TextLength.{pieces_len};
 ghost use Rattle.mysql_binding.specs.WrittenText.{IsWrittenText};
 
+use crate::binding::form::LiteralForm;
 use crate::binding::found::place_after;
 use crate::binding::literals::{append_literal, literal_lens};
 use mysql_named_params::places::FoundPlace;
@@ -21,13 +23,14 @@ use std::alloc::{AllocError, Global};
 ///
 /// If the text would be longer than `isize::MAX`, out of memory is returned without asking for it.
 /// Once there is a vector for the text, nothing refuses.
-pub(super) fn written_text(
+pub(super) fn written_text<F: LiteralForm>(
     alloc: Global,
     query: &[u8],
     known: &[FoundPlace],
     piece_bytes: usize,
     values: &[&Value],
     no_backslash_escape: bool,
+    form: &F,
 ) -> Result<Vec<u8>, AllocError>
     requires known { OnTokens no_backslash_escape query.now (BeginWithPlaces known.now) }
     requires no_float { first_float (referents values.now) ≡ None }
@@ -35,9 +38,9 @@ pub(super) fn written_text(
         length (referents values.now) ≡ place_count ts) }
     requires pieces { OnTokens no_backslash_escape query.now (λ ts. piece_bytes ≡ pieces_len ts) }
     ensures { IfOk result (λ text. OnTokens no_backslash_escape query.now (λ ts.
-        IsWrittenText no_backslash_escape ts (referents values.now) text.items)) }
+        IsWrittenText (F.literal form.now) (F.IsKnown form.now) ts (referents values.now) text.items)) }
 {
-    let lens = literal_lens(alloc, values, no_backslash_escape)?;
+    let lens = literal_lens(alloc, values, form)?;
     let Some(len) = text_len(piece_bytes, lens.as_slice()) else {
         return Err(AllocError);
     };
@@ -49,6 +52,7 @@ pub(super) fn written_text(
         lens.as_slice(),
         text.as_mut_slice(),
         no_backslash_escape,
+        form,
     );
     Ok(text)
 }
@@ -71,23 +75,24 @@ fn text_len(piece_bytes: usize, lens: &[u128]) -> Option<usize>
 
 // Fills the text with the pieces of the query and, between them, the literals of the values, which
 // have these lengths.
-fn fill_text(
+fn fill_text<F: LiteralForm>(
     query: &[u8],
     known: &[FoundPlace],
     values: &[&Value],
     lens: &[u128],
     text: &mut [u8],
     no_backslash_escape: bool,
+    form: &F,
 )
     requires known { OnTokens no_backslash_escape query.now (BeginWithPlaces known.now) }
     requires no_float { first_float (referents values.now) ≡ None }
     requires places { OnTokens no_backslash_escape query.now (λ ts.
         length (referents values.now) ≡ place_count ts) }
-    requires lens { lens.now ≡ map (literal_len no_backslash_escape) (referents values.now) }
+    requires lens { lens.now ≡ map (literal_len (F.literal form.now)) (referents values.now) }
     requires room { OnTokens no_backslash_escape query.now (λ ts.
         length text.old ≡ pieces_len ts + sum lens.now) }
     ensures { OnTokens no_backslash_escape query.now (λ ts.
-        IsWrittenText no_backslash_escape ts (referents values.now) text.new) }
+        IsWrittenText (F.literal form.now) (F.IsKnown form.now) ts (referents values.now) text.new) }
 {
     let mut rest = query;
     let mut at = 0;
@@ -97,7 +102,7 @@ fn fill_text(
         };
         let (piece, _, after) = found.cut(rest);
         at = append_piece(text, at, piece);
-        at = append_literal(text, at, value, lens[i] as usize, no_backslash_escape);
+        at = append_literal(text, at, value, lens[i] as usize, form);
         rest = after;
     }
     append_piece(text, at, rest);

@@ -1,0 +1,41 @@
+use Rattle.std.proofs.Common.{arith}
+use Rattle.mysql_params_core.specs.Given.{given_by_borrowed}
+use Rattle.mysql_params_core.specs.Referents.{referents}
+use Rattle.mysql_binding.proofs.BoundTextLemmas.{refused_later, looked_up, value_for_each, given_on}
+use Rattle.mysql_binding.proofs.binding.bind_surveyed_as.Goals.{else-survey-gt0-via-then-survey-gt0+else-survey-gt0-2, else-survey-gt0-via-else-survey-gt0}
+use Rattle.mysql_binding.proofs.binding.bind_surveyed_as.Goals as goal
+
+pub returns-in-Some-clause-refused : goal.returns-in-Some-clause-refused
+returns-in-Some-clause-refused g c =
+    refused_later _ _ (given_by_borrowed c.args.params) c.args.survey (referents c.in_ok-values.values.items) c.requires.survey
+    (λ both. elim c.else-survey-gt0.branch [ else-survey-gt0-via-then-survey-gt0+else-survey-gt0-2 w ↦ omega (arith, both.1, w.if-survey-gt0-2.false) | else-survey-gt0-via-else-survey-gt0 w ↦ omega (arith, both.0, w.if-survey-gt0.false) ])
+    c.in_ok-values.ensures.values c.in-Some.error (rw c.as_slice.ensures.value at c.in-Some.ensures)
+
+pub returns-in-Some-clause-mixed : goal.returns-in-Some-clause-mixed
+returns-in-Some-clause-mixed g c =
+    let o = c.requires.survey in
+    (o.0, o.1, λ both. elim c.else-survey-gt0.branch [ else-survey-gt0-via-then-survey-gt0+else-survey-gt0-2 w ↦ absurd (omega (arith, both.1, o.2.1, w.if-survey-gt0-2.false)) | else-survey-gt0-via-else-survey-gt0 w ↦ absurd (omega (arith, both.0, o.2.0, w.if-survey-gt0.false)) ])
+
+pub written_text-requires-clause-places : goal.written_text-requires-clause-places
+written_text-requires-clause-places g c =
+    let known = looked_up _ _ (given_by_borrowed c.args.params) c.args.survey (referents c.in_ok-values.values.items) c.requires.survey
+    (λ both. elim c.else-survey-gt0.branch [ else-survey-gt0-via-then-survey-gt0+else-survey-gt0-2 w ↦ omega (arith, both.1, w.if-survey-gt0-2.false) | else-survey-gt0-via-else-survey-gt0 w ↦ omega (arith, both.0, w.if-survey-gt0.false) ])
+    c.in_ok-values.ensures.values (rw c.as_slice.ensures.value at c.in_default.ensures) in
+    rw c.as_slice-2.ensures.value (value_for_each _ _ (given_by_borrowed c.args.params) (referents c.in_ok-values.values.items) known)
+
+pub returns-in-Ok-clause-text : goal.returns-in-Ok-clause-text
+returns-in-Ok-clause-text g c =
+    let known = looked_up _ _ (given_by_borrowed c.args.params) c.args.survey (referents c.in_ok-values.values.items) c.requires.survey
+    (λ both. elim c.else-survey-gt0.branch [ else-survey-gt0-via-then-survey-gt0+else-survey-gt0-2 w ↦ omega (arith, both.1, w.if-survey-gt0-2.false) | else-survey-gt0-via-else-survey-gt0 w ↦ omega (arith, both.0, w.if-survey-gt0.false) ])
+    c.in_ok-values.ensures.values (rw c.as_slice.ensures.value at c.in_default.ensures) in
+    given_on _ (g.F.LiteralForm.literal c.args.form.now) (g.F.LiteralForm.IsKnown c.args.form.now) _ (given_by_borrowed c.args.params) (referents c.in_ok-values.values.items) _ known (rw c.as_slice-2.ensures.value at c.in-Ok.ensures)
+
+pub returns-in-Ok-clause-mixed : goal.returns-in-Ok-clause-mixed
+returns-in-Ok-clause-mixed g c =
+    let o = c.requires.survey in
+    (o.0, o.1, λ both. elim c.else-survey-gt0.branch [ else-survey-gt0-via-then-survey-gt0+else-survey-gt0-2 w ↦ absurd (omega (arith, both.1, o.2.1, w.if-survey-gt0-2.false)) | else-survey-gt0-via-else-survey-gt0 w ↦ absurd (omega (arith, both.0, o.2.0, w.if-survey-gt0.false)) ])
+
+pub returns-clause-mixed : goal.returns-clause-mixed
+returns-clause-mixed g c =
+    let o = c.requires.survey in
+    (o.0, o.1, λ both. elim c.else-survey-gt0.branch [ else-survey-gt0-via-then-survey-gt0+else-survey-gt0-2 w ↦ absurd (omega (arith, both.1, o.2.1, w.if-survey-gt0-2.false)) | else-survey-gt0-via-else-survey-gt0 w ↦ absurd (omega (arith, both.0, o.2.0, w.if-survey-gt0.false)) ])
