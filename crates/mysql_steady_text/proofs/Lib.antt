@@ -1,1 +1,3 @@
 pub mod SteadySpliceLemmas
+pub mod SteadyTextLemmas
+pub mod SteadyAgainLemmas

@@ -87,6 +87,15 @@ literal_tokens mode literal ts h s u =
     let d = cut_in mode literal c.0 s c.1 in
     subst (λ x. IsCutBefore mode literal x) (one_token_list mode literal c.0 ts (record { text = d.cut_text; each = d.cut_tokens [] }) u) d
 
+-- steady literals have tokens
+pub steady_lists : (literals : List (List ℕ)) → AreSteadyLiterals literals → (lists : List (List Token)) × AreTokensOf true literals lists
+unfolding HasCut
+steady_lists [] s = ([], tt)
+steady_lists (literal ∷ literals) s =
+    let c = IsSteadyLiteral-cut s.0 in
+    let more = steady_lists literals s.2 in
+    (c.0 ∷ more.0, (record { text = c.1.cut_text; each = c.1.cut_tokens [] }, more.1))
+
 -- ---- its first bytes
 
 introducer_opens_nothing : (before : ℕ) (bs : List ℕ) → may_stand_before before ≡ true →

@@ -1,1 +1,4 @@
 pub mod SteadyLiterals
+pub mod SteadyText
+pub mod SteadyAgain
+pub mod SteadyTextErrors

@@ -1,16 +1,22 @@
 //! Laws of the definitions. They do nothing: each is called for what it ensures.
-ghost use Rattle.std.specs.Prelude.{◌≡◌, ℕ, Bool, List, None, Some};
+ghost use Rattle.std.specs.Prelude.{◌≡◌, ◌↔◌, ℕ, Bool, List, None, Some, IsTrue, map};
+ghost use Rattle.mysql_values.specs.Content.{content_of};
 ghost use Rattle.mysql_named_params.specs.Tokens.{Token, IsTokens};
-ghost use Rattle.mysql_named_params.specs.Places.{place_count};
+ghost use Rattle.mysql_named_params.specs.Places.{place_count, with_marks};
 ghost use Rattle.mysql_named_params.specs.Portable.{AreReadAlike, IsReadAs};
 ghost use Rattle.mysql_named_params.specs.Server.{Server, IsReadOn};
 ghost use Rattle.mysql_named_params.specs.Quiet.{IsHonest, DecidesWithin};
 ghost use Rattle.mysql_named_params.specs.Steady.{IsSteady};
 ghost use Rattle.mysql_named_params.specs.CharacterSet.{CharacterSet, seen};
+ghost use Rattle.mysql_params_core.specs.Given.{Given, empty, positional};
 ghost use Rattle.mysql_binding.specs.Pieces.{pieces, joined_text};
 ghost use Rattle.mysql_binding.specs.Replaced.{AreTokensOf, with_literal_tokens};
 ghost use Rattle.mysql_binding.specs.StandsAlone.{first_not_alone};
 ghost use Rattle.mysql_steady_text.specs.SteadyLiterals.{AreSteadyLiterals};
+ghost use Rattle.mysql_steady_text.specs.SteadyText.{IsSteadyText};
+ghost use Rattle.mysql_steady_text.specs.SteadyTextErrors.{AreEqualSteadyTextErrors};
+
+use crate::steady_text_error::SteadyTextError;
 
 /// Whatever texts of the shape of steady literals stand in the places of a query, if these stand
 /// alone, then in either mode the tokens are the query's, with those of each text in place of its
@@ -60,3 +66,29 @@ pub fn steady_texts_on_servers()
         AreSteadyLiterals literals → joined_text (pieces ts) literals ≡ Some text →
         seen set text ≡ text }
 {}
+
+/// No name and no mark is left in a steady text (`none`), so bound again with no parameters it stays
+/// as it is (`same`). The query with a mark in place of each name, bound to the same values by
+/// position, gives the same text (`by_position`). If one query gives the same text for two sets of
+/// parameters, their values have the same contents at every place (`equal`).
+pub fn bound_steady_texts()
+    ensures none { (mode : Bool) (ts us : List Token) (given : Given) (text : List ℕ) →
+        IsSteadyText ts given text → IsTokens mode text us → place_count us ≡ 0 }
+    ensures same { (mode : Bool) (ts us : List Token) (given : Given) (text : List ℕ) →
+        IsSteadyText ts given text → IsTokens mode text us → IsSteadyText us empty text }
+    ensures by_position { (mode : Bool) (query text : List ℕ) (ts : List Token) (given : Given) →
+        IsTokens mode query ts → (bound : IsSteadyText ts given text) →
+        IsSteadyText (with_marks ts) (positional bound.values) text }
+    ensures equal { (mode : Bool) (query text : List ℕ) (ts us : List Token) (a b : Given) →
+        IsTokens mode query ts → IsTokens mode query us →
+        (x : IsSteadyText ts a text) → (y : IsSteadyText us b text) →
+        map content_of x.values ≡ map content_of y.values }
+{}
+
+/// Errors of binding to a steady text are equal if and only if variant and fields are.
+pub fn steady_text_error_equality(a: &SteadyTextError, b: &SteadyTextError) -> bool
+    ensures same { IsTrue result ↔ AreEqualSteadyTextErrors a.now b.now }
+    ensures member { result ≡ ⟦<SteadyTextError as PartialEq>⟧.eq a.now b.now }
+{
+    a == b
+}

@@ -1,5 +1,14 @@
-//! Texts with steady literals in the places of a query: what every server reads in them, in either
-//! mode and over every character set.
+//! Binding to texts that every server reads alike, in either mode and over every character set: the
+//! query with the steady literals of values in its places.
+//!
+//! [`bind_text_anywhere`] is the call for any server, and [`bind_text_in_any_mode`] for one.
+//! `specs/SteadyText.antt` says what they promise of the text.
 #![tactic(auto)]
 
 pub mod laws;
+mod steady_form;
+mod steady_text;
+mod steady_text_error;
+
+pub use steady_text::{bind_text_anywhere, bind_text_in_any_mode};
+pub use steady_text_error::SteadyTextError;

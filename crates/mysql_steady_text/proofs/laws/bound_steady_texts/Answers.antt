@@ -1,0 +1,10 @@
+use Rattle.mysql_steady_text.proofs.SteadyAgainLemmas as lemmas
+use Rattle.mysql_steady_text.proofs.laws.bound_steady_texts.Goals as goal
+
+pub returns : goal.returns
+returns c = record {
+  none = lemmas.no_place_is_left;
+  same = lemmas.bound_again_is_the_same;
+  by_position = lemmas.by_position_is_the_same;
+  equal = lemmas.equal_texts_say_the_same;
+}

@@ -1,0 +1,84 @@
+-- What binding promises of the text that it gives for any mode, and for any server: each value
+-- stands in one steady literal, and nothing else of the query changes. `bind_text_in_any_mode`
+-- promises the first record, and `bind_text_anywhere` the second, or else an error that says why
+-- not (SteadyTextErrors.antt). The law `bound_steady_texts` says more of such a text.
+use Rattle.std.specs.Prelude.{◌≡◌, ℕ, Bool, List, map, Some, None, Ok}
+use Rattle.mysql_values.specs.declared.value.Value.{Value}
+use Rattle.mysql_values.specs.Content.{content_of}
+use Rattle.mysql_sql_text.specs.ReadLiteral.{Content}
+use Rattle.mysql_named_params.specs.Tokens.{Token, IsTokens}
+use Rattle.mysql_named_params.specs.Places.{names}
+use Rattle.mysql_named_params.specs.Portable.{IsPortable, IsReadAs}
+use Rattle.mysql_named_params.specs.Server.{Server, IsReadOn}
+use Rattle.mysql_named_params.specs.Quiet.{IsHonest, DecidesWithin}
+use Rattle.mysql_named_params.specs.Steady.{IsSteady}
+use Rattle.mysql_named_params.specs.CharacterSet.{CharacterSet, seen}
+use Rattle.mysql_params_core.specs.Given.{Given}
+use Rattle.mysql_params_core.specs.Lookup.{lookup}
+use Rattle.mysql_binding.specs.FirstCause.{first_cause}
+use Rattle.mysql_binding.specs.Pieces.{pieces, joined_text}
+use Rattle.mysql_binding.specs.Contents.{contents_by, AreReadInPlaceBy}
+use Rattle.mysql_binding.specs.Replaced.{AreTokensOf, with_literal_tokens}
+use Rattle.mysql_steady_literal.specs.ReadSteadyLiteral.{read_steady_literal}
+use Rattle.mysql_steady_text.specs.SteadyLiterals.{AreSteadyLiterals, AreSteadyLiteralsOf}
+
+-- the text, for any mode, of a query with these tokens and what is given to it
+pub record IsSteadyText (ts : List Token) (given : Given) (text : List ℕ) : Type 0 where
+  -- There are the values that are given to the places, in order, the steady literal of each, the
+  -- tokens of each literal, and the content of each value,
+  pub values : List Value
+  pub literals : List (List ℕ)
+  pub literal_tokens : List (List Token)
+  pub contents : List Content
+  -- ISOLATION
+  -- so that in either mode the tokens of the text are those of the query, with those of one literal
+  -- in place of each name and mark,
+  pub isolated : (mode : Bool) → IsTokens mode text (with_literal_tokens ts literal_tokens)
+  -- and each literal, followed by the text after it, reads as the content of its value and leaves
+  -- exactly that text.
+  pub reads_in_place : (mode : Bool) →
+      AreReadInPlaceBy (read_steady_literal mode) (pieces ts) literals contents
+  -- The text is ASCII without a backslash.
+  pub steady : IsSteady text
+  -- THE VALUES
+  -- There is no cause to refuse,
+  pub no_cause : first_cause ts given ≡ None
+  -- and the values are those of the names, or, without names, the positional ones.
+  pub looked_up : lookup given (names ts) ≡ Ok values
+  -- WHAT IS WRITTEN
+  -- The literals are the steady ones of the values,
+  pub written : AreSteadyLiteralsOf values literals
+  -- each is steady and has the shape of a steady literal,
+  pub shapes : AreSteadyLiterals literals
+  -- and the text is exactly the pieces of the query with one literal between each and the next.
+  pub text_is : joined_text (pieces ts) literals ≡ Some text
+  -- The tokens of each literal are in either mode those that it has when it is read alone.
+  pub tokens_of_literals : (mode : Bool) → AreTokensOf mode literals literal_tokens
+  -- WHAT IT SAYS
+  -- The contents are those of the values,
+  pub contents_are : map content_of values ≡ map Some contents
+  -- and read in either mode between the pieces of the query, the text gives exactly these contents.
+  pub read_back : (mode : Bool) →
+      contents_by (read_steady_literal mode) (pieces ts) text ≡ Some contents
+
+-- The text, for any mode and any server, of this query, which has these tokens. A server sees a
+-- text through the character set of the connection.
+pub record IsAnywhereText (query : List ℕ) (ts : List Token) (given : Given) (text : List ℕ)
+    : Type 0 where
+  -- It is a text for any mode,
+  pub steady_text : IsSteadyText ts given text
+  -- the query is portable, and so is the text.
+  pub portable : IsPortable ts
+  pub portable_text : IsPortable (with_literal_tokens ts steady_text.literal_tokens)
+  -- On every honest server, in either mode and over every character set, its tokens are those of
+  -- the query, with those of one literal in place of each name and mark: those that the grammar
+  -- reads, except for `--` before a newline and for what stands in quiet comments;
+  pub read : (server : Server) (mode : Bool) (set : CharacterSet) (vs : List Token) →
+      IsHonest server → IsReadOn server mode (seen set text) vs →
+      IsReadAs (with_literal_tokens ts steady_text.literal_tokens) vs
+  -- and if the server decides about a quiet comment by its own text, exactly those that it reads in
+  -- the query.
+  pub tokens : (server : Server) (mode : Bool) (set : CharacterSet) (us : List Token) →
+      IsHonest server → DecidesWithin server → IsReadOn server mode (seen set query) us →
+      IsReadOn server mode (seen set text)
+      (with_literal_tokens us steady_text.literal_tokens)

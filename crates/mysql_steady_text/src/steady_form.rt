@@ -1,0 +1,40 @@
+//! Steady literals as a form in which the literals of values are written.
+ghost use Rattle.std.specs.Prelude.{refl};
+ghost use Rattle.mysql_values.specs.declared.value.Value.TheVariants.{NULL, Bytes, Int, UInt, Float, Double, Date, Time};
+ghost use Rattle.mysql_steady_literal.specs.SteadyLiteral.{steady_literal_of};
+ghost use Rattle.mysql_steady_text.specs.SteadyLiterals.{IsSteadyFor};
+
+use mysql_binding::LiteralForm;
+use mysql_steady_literal::laws::steady_literals;
+use mysql_steady_literal::steady_literal::{put_steady, steady_len};
+use mysql_values::value::Value;
+
+/// Steady literals.
+#[derive(Debug, Clone, Copy)]
+pub(crate) struct SteadyForm;
+
+impl LiteralForm for SteadyForm {
+    ghost literal = { λ _. steady_literal_of };
+
+    ghost IsKnown = { λ _. IsSteadyFor };
+
+    ghost floats = { λ _. elim [
+      | NULL ↦ refl
+      | Bytes bytes ↦ refl
+      | Int number ↦ refl
+      | UInt number ↦ refl
+      | Float bits ↦ refl
+      | Double bits ↦ refl
+      | Date year month day hour minute second microseconds ↦ refl
+      | Time negative days hours minutes seconds microseconds ↦ refl
+    ] };
+
+    fn len(&self, value: &Value) -> Option<u128> {
+        steady_len(value)
+    }
+
+    fn put(&self, value: &Value, room: &mut [u8]) {
+        steady_literals(value);
+        put_steady(value, room);
+    }
+}

@@ -1,0 +1,116 @@
+//! Queries with the steady literals of values in the places of names and marks.
+ghost use Rattle.std.specs.Prelude.{◌≡◌, ℕ, Bool, None, Some, IfErr, IfOk, IsErrOf};
+ghost use Rattle.mysql_named_params.specs.Tokens.{OnTokens};
+ghost use Rattle.mysql_named_params.specs.Places.{HasName, HasMark};
+ghost use Rattle.mysql_named_params.specs.FirstUnportable.{first_unportable};
+ghost use Rattle.mysql_named_params.specs.Steady.{first_unsteady, IsSteady};
+ghost use Rattle.mysql_named_params.specs.declared.portable.Unportable as unportable;
+ghost use Rattle.mysql_params_core.specs.Given.{given};
+ghost use Rattle.mysql_binding.specs.FirstCause.{first_cause};
+ghost use Rattle.mysql_steady_text.specs.SteadyAgain.{IsSteadyBoundAgain, IsSteadyByPosition};
+ghost use Rattle.mysql_steady_text.specs.SteadyText.{IsAnywhereText, IsSteadyText};
+ghost use Rattle.mysql_steady_text.specs.SteadyTextErrors.{IsBindRefusal, IsSteadyRefusal};
+
+use crate::steady_form::SteadyForm;
+use crate::steady_text_error::SteadyTextError;
+use mysql_binding::{BindError, bind_borrowed_as};
+use mysql_named_params::portable::first_unportable;
+use mysql_named_params::steady::first_unsteady;
+use mysql_params_core::params::Params;
+use std::alloc::Global;
+
+/// The query with the steady literal of a value in the place of each name and mark: SQL text that
+/// no `sql_mode` and no character set of a connection reads otherwise, on any server.
+///
+/// A text is written as `_utf8mb4'it''s'` if it is printable ASCII without a backslash, as
+/// `_utf8mb4 0xC3A9` if it is other UTF-8, and as `0xFF` if it isn't UTF-8; numbers, `NULL`, dates
+/// and times as [`bind_text`](mysql_binding::bind_text) writes them. So the text is ASCII without a
+/// backslash. Nothing else of the query changes.
+///
+/// The first of these causes refuses it: `Unsteady`, a backslash or a byte from 128 on anywhere in
+/// the query, also in a comment; `Unportable`, a construct that
+/// [`first_unportable`](mysql_named_params::portable::first_unportable) finds; `Bind`, what
+/// `bind_text` refuses, in its order. The parameters are consumed, even if the call refuses.
+///
+/// MariaDB stores an expression of `DEFAULT`, `AS` or `CHECK` as text in which the introducer of a
+/// steady literal isn't kept right. For the expressions of tables use `bind_text`.
+///
+/// Out of memory may come in place of any text or cause after `Unportable`, except for a query with
+/// names and marks.
+// A query has one token list in each mode (`mysql_named_params::laws::one_token_list`), and a steady
+// one the same in both (`steady_texts`), so the clauses speak of the same `ts`.
+pub fn bind_text_anywhere(
+    alloc: Global,
+    query: &[u8],
+    params: Params,
+) -> Result<Vec<u8>, SteadyTextError>
+    ensures bound { (mode : Bool) → OnTokens mode query.now (λ ts. IfOk result (λ text.
+        IsAnywhereText query.now ts (given params) text.items)) }
+    ensures refused { (mode : Bool) → OnTokens mode query.now (λ ts. IfErr result
+        (IsSteadyRefusal query.now (first_unportable ts) (first_cause ts (given params)))) }
+    ensures bound_again { IfOk result (λ text. IsSteadyBoundAgain text.items) }
+    ensures by_position { (mode : Bool) → OnTokens mode query.now (λ ts. IfOk result (λ text.
+        IsSteadyByPosition mode ts (given params) text.items)) }
+
+    // These are refused without allocating.
+    ensures unsteady { (at : ℕ) → first_unsteady query.now ≡ Some at →
+        IsErrOf result (SteadyTextError.Unsteady at) }
+    ensures unportable { (mode : Bool) → OnTokens mode query.now (λ ts. IsSteady query.now →
+        (found : unportable.Unportable) → first_unportable ts ≡ Some found →
+        IsErrOf result (SteadyTextError.Unportable found)) }
+    ensures mixed { (mode : Bool) → OnTokens mode query.now (λ ts. IsSteady query.now →
+        first_unportable ts ≡ None → HasName ts × HasMark ts →
+        IsErrOf result (SteadyTextError.Bind BindError.Mixed)) }
+{
+    if let Some(at) = first_unsteady(query) {
+        return Err(SteadyTextError::Unsteady { at });
+    }
+    if let Some(found) = first_unportable(query, false) {
+        return Err(SteadyTextError::Unportable(found));
+    }
+    bind_steady(alloc, query, params)
+}
+
+/// [`bind_text_anywhere`] for a query that is meant for one server: the text that no `sql_mode` and
+/// no character set reads otherwise. The query needn't be portable, so `Unportable` never comes; all
+/// else is as there.
+pub fn bind_text_in_any_mode(
+    alloc: Global,
+    query: &[u8],
+    params: Params,
+) -> Result<Vec<u8>, SteadyTextError>
+    ensures bound { (mode : Bool) → OnTokens mode query.now (λ ts. IfOk result (λ text.
+        IsSteadyText ts (given params) text.items)) }
+    ensures refused { (mode : Bool) → OnTokens mode query.now (λ ts. IfErr result
+        (IsSteadyRefusal query.now None (first_cause ts (given params)))) }
+    ensures bound_again { IfOk result (λ text. IsSteadyBoundAgain text.items) }
+    ensures by_position { (mode : Bool) → OnTokens mode query.now (λ ts. IfOk result (λ text.
+        IsSteadyByPosition mode ts (given params) text.items)) }
+
+    // These are refused without allocating.
+    ensures unsteady { (at : ℕ) → first_unsteady query.now ≡ Some at →
+        IsErrOf result (SteadyTextError.Unsteady at) }
+    ensures mixed { (mode : Bool) → OnTokens mode query.now (λ ts. IsSteady query.now →
+        HasName ts × HasMark ts → IsErrOf result (SteadyTextError.Bind BindError.Mixed)) }
+{
+    match first_unsteady(query) {
+        Some(at) => Err(SteadyTextError::Unsteady { at }),
+        None => bind_steady(alloc, query, params),
+    }
+}
+
+// The text of a steady query, which has the same tokens in both modes.
+fn bind_steady(alloc: Global, query: &[u8], params: Params) -> Result<Vec<u8>, SteadyTextError>
+    requires { IsSteady query.now }
+    ensures bound { (mode : Bool) → OnTokens mode query.now (λ ts. IfOk result (λ text.
+        IsSteadyText ts (given params) text.items)) }
+    ensures refused { (mode : Bool) → OnTokens mode query.now (λ ts. IfErr result
+        (IsBindRefusal (first_cause ts (given params)))) }
+    ensures mixed { (mode : Bool) → OnTokens mode query.now (λ ts. HasName ts × HasMark ts →
+        IsErrOf result (SteadyTextError.Bind BindError.Mixed)) }
+{
+    match bind_borrowed_as(alloc, query, params.borrowed(), false, &SteadyForm) {
+        Ok(text) => Ok(text),
+        Err(error) => Err(SteadyTextError::Bind(error)),
+    }
+}

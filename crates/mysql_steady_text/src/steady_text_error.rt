@@ -1,0 +1,24 @@
+//! Why a query and parameters give no steady text.
+use mysql_binding::BindError;
+use mysql_named_params::portable::Unportable;
+use thiserror::Error;
+
+/// Why [`bind_text_anywhere`](crate::bind_text_anywhere) or
+/// [`bind_text_in_any_mode`](crate::bind_text_in_any_mode) gave no text: the first cause, in this
+/// order.
+#[derive(Debug, PartialEq, Drop, Error)]
+pub enum SteadyTextError {
+    /// The query has a backslash or a byte from 128 on; the first is reported.
+    #[error("Backslash or byte that is not ASCII at byte {at} of the query")]
+    Unsteady {
+        /// Its index in the query.
+        at: usize,
+    },
+    /// The query isn't portable; the first construct is reported. It is never returned by
+    /// [`bind_text_in_any_mode`](crate::bind_text_in_any_mode).
+    #[error("Not portable at byte {} of the query: {}", .0.at, .0.construct)]
+    Unportable(Unportable),
+    /// What [`bind_text`](mysql_binding::bind_text) refuses, or out of memory.
+    #[error(transparent)]
+    Bind(BindError),
+}
