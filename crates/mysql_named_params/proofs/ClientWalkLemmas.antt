@@ -14,7 +14,7 @@ use Rattle.mysql_named_params.specs.Portable.{is_read_alike, joins_number, AreRe
 use Rattle.mysql_named_params.specs.Client.{holds_opener, HoldNoOpener}
 use Rattle.mysql_named_params.specs.FirstUnportable.{construct_at}
 use Rattle.mysql_named_params.specs.FrontConstruct.{front_construct}
-use Rattle.mysql_named_params.specs.FoundInClient.{is_comment, begins_no_word, begins_statement, begins_line, found_in_comment, found_in_token, found_in_client}
+use Rattle.mysql_named_params.specs.FoundInClient.{is_comment, begins_no_word, begins_statement, begins_line, is_client_word, found_in_comment, found_in_token, found_in_client}
 use Rattle.mysql_named_params.specs.FirstUnportableInClient.{found_or, found_at, first_in_client_from, first_unportable_in_client, AreSentAsTheyAreFrom, IsPortableInClient}
 use Rattle.mysql_named_params.specs.FrontInClient.{are_comment, statement_after, line_after, found_in_bytes, first_of, found_or_zero, found_in_front}
 use Rattle.mysql_named_params.specs.declared.portable.Construct.{Construct}
@@ -62,6 +62,7 @@ nothing true true = refl
 
 bytes_are : (s l : Bool) (mode : Bool) (t : Token) (rest : List ℕ) → IsToken mode t rest →
     found_in_bytes s l (bytes_of t) rest ≡ found_in_token s l t rest
+unfolding is_client_word
 bytes_are s l mode (QuotedString q []) rest h =
     of_quotes (λ x. found_in_bytes s l (x ∷ []) rest ≡ None) q h.0 (nothing s l) (nothing s l)
 bytes_are s l mode (QuotedString q (b ∷ bs)) rest h =

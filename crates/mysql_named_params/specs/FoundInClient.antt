@@ -86,8 +86,8 @@ begins_whole_word word text = begins_word word text && ends_word (drop (length w
 -- `charset`, `clear`, `connect`, `costs`, `edit`, `ego`, `exit`, `go`, `help`, `nopager`, `notee`,
 -- `nowarning`, `pager`, `print`, `prompt`, `quit`, `rehash`, `sandbox`, `source`, `status`,
 -- `system`, `tee`, `use`, `warnings`.
-abbrev pub is_client_word : ℕ → List ℕ → Bool
-is_client_word letter rest =
+abbrev pub is_word_of_mariadb : ℕ → List ℕ → Bool
+is_word_of_mariadb letter rest =
     if letter == byte "c"
     then begins_whole_word (codes "harset") rest
     || (begins_whole_word (codes "lear") rest
@@ -118,6 +118,19 @@ is_client_word letter rest =
     else if letter == byte "u" then begins_whole_word (codes "se") rest
     else if letter == byte "w" then begins_whole_word (codes "arnings") rest
     else false
+
+-- This lower-case letter and then this text begin with a word that MySQL's client alone runs itself
+-- with `--commands`: `query_attributes`, `resetconnection`, `ssl_session_data_print`.
+abbrev pub is_word_of_mysql : ℕ → List ℕ → Bool
+is_word_of_mysql letter rest =
+    if letter == byte "q" then begins_whole_word (codes "uery_attributes") rest
+    else if letter == byte "r" then begins_whole_word (codes "esetconnection") rest
+    else if letter == byte "s" then begins_whole_word (codes "sl_session_data_print") rest
+    else false
+
+-- this lower-case letter and then this text begin with a word of one of the clients
+unfoldable pub is_client_word : ℕ → List ℕ → Bool
+is_client_word letter rest = is_word_of_mariadb letter rest || is_word_of_mysql letter rest
 
 -- a byte that a client joins to what stands before a comment: from 128 on, or a backslash
 abbrev pub is_joined : ℕ → Bool

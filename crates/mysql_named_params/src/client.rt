@@ -4,7 +4,7 @@ ghost use Rattle.std.specs.Prelude.{◌≡◌, ◌↔◌, ◌≤◌, ◌<◌, le
 ghost use Rattle.mysql_named_params.specs.Tokens.{OnTokens};
 ghost use Rattle.mysql_named_params.specs.Client.{begins_opener, begins_end, holds_opener};
 ghost use Rattle.mysql_named_params.specs.Server.{begins_special};
-ghost use Rattle.mysql_named_params.specs.FoundInClient.{begins_no_word, begins_delimiter_line, without_accent, letter_of, begins_word, ends_word, begins_whole_word, is_client_word, is_joined, closes_before_joined, drops_line, begins_comment, stand_before_comment, ends_line, escapes_newline, found_in_quotes, found_in_comment, found_word, found_at_byte};
+ghost use Rattle.mysql_named_params.specs.FoundInClient.{begins_no_word, begins_delimiter_line, without_accent, letter_of, begins_word, ends_word, begins_whole_word, is_word_of_mariadb, is_word_of_mysql, is_client_word, is_joined, closes_before_joined, drops_line, begins_comment, stand_before_comment, ends_line, escapes_newline, found_in_quotes, found_in_comment, found_word, found_at_byte};
 ghost use Rattle.mysql_named_params.specs.FirstUnportableInClient.{first_unportable_in_client, IsPortableInClient};
 ghost use Rattle.mysql_named_params.specs.FrontInClient.{are_comment, statement_after, line_after, found_in_bytes, found_or_zero, found_in_front};
 
@@ -230,8 +230,8 @@ fn escapes_newline(text: &[u8]) -> bool
 }
 
 // Whether the letter and then this text begin with a word that MariaDB's client runs itself.
-fn is_client_word(letter: u8, rest: &[u8]) -> bool
-    ensures { result ≡ is_client_word letter rest.now }
+fn is_word_of_mariadb(letter: u8, rest: &[u8]) -> bool
+    ensures { result ≡ is_word_of_mariadb letter rest.now }
 {
     match letter {
         b'c' => {
@@ -270,6 +270,26 @@ fn is_client_word(letter: u8, rest: &[u8]) -> bool
         b'w' => begins_whole_word(b"arnings", rest),
         _ => false,
     }
+}
+
+// Whether the letter and then this text begin with a word that MySQL's client alone runs itself.
+fn is_word_of_mysql(letter: u8, rest: &[u8]) -> bool
+    ensures { result ≡ is_word_of_mysql letter rest.now }
+{
+    match letter {
+        b'q' => begins_whole_word(b"uery_attributes", rest),
+        b'r' => begins_whole_word(b"esetconnection", rest),
+        b's' => begins_whole_word(b"sl_session_data_print", rest),
+        _ => false,
+    }
+}
+
+// Whether the letter and then this text begin with a word of one of the clients.
+#[tactic(auto, unfolding(crate::specs::FoundInClient::is_client_word))]
+fn is_client_word(letter: u8, rest: &[u8]) -> bool
+    ensures { result ≡ is_client_word letter rest.now }
+{
+    is_word_of_mariadb(letter, rest) || is_word_of_mysql(letter, rest)
 }
 
 // Whether a line of the text after the first begins with the word `delimiter`.
