@@ -40,12 +40,13 @@ const CLIENT_PIECES: &[&[u8]] = &[
     b"SELECT ", b"user", b"=", b"(", b"5",
 ];
 
-/// Words of MariaDB's client, and others.
+/// Words of the clients, and others.
 const WORDS: &[&[u8]] = &[
     b"charset", b"clear", b"connect", b"costs", b"edit", b"ego", b"exit", b"go", b"help",
     b"nopager", b"notee", b"nowarning", b"pager", b"print", b"prompt", b"quit", b"rehash",
-    b"sandbox", b"source", b"status", b"system", b"tee", b"use", b"warnings", b"delimiter",
-    b"begin", b"do", b"select",
+    b"sandbox", b"source", b"status", b"system", b"tee", b"use", b"warnings",
+    b"query_attributes", b"resetconnection", b"ssl_session_data_print", b"delimiter", b"begin",
+    b"do", b"select",
 ];
 
 /// Bytes that latin1 has for a letter.

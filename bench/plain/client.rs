@@ -26,11 +26,13 @@ pub const CLIENT_CONSTRUCTS: [&str; 9] = [
     "ZERO_BYTE",
 ];
 
-/// The words that MariaDB's client takes for commands at the front of a statement.
-const CLIENT_WORDS: [&[u8]; 24] = [
+/// The words that MariaDB's client takes for commands at the front of a statement, and then those
+/// that MySQL's alone does.
+const CLIENT_WORDS: [&[u8]; 27] = [
     b"charset", b"clear", b"connect", b"costs", b"edit", b"ego", b"exit", b"go", b"help",
     b"nopager", b"notee", b"nowarning", b"pager", b"print", b"prompt", b"quit", b"rehash",
     b"sandbox", b"source", b"status", b"system", b"tee", b"use", b"warnings",
+    b"query_attributes", b"resetconnection", b"ssl_session_data_print",
 ];
 
 #[derive(Clone, Copy, PartialEq)]
@@ -183,7 +185,7 @@ fn has_delimiter_line(text: &[u8]) -> bool {
     text.split(|byte| *byte == b'\n').skip(1).any(|line| begins_with_word(line, b"delimiter"))
 }
 
-/// Whether the text begins with a word of the client that ends as such.
+/// Whether the text begins with a word of a client that ends as such.
 fn is_client_word(text: &[u8]) -> bool {
     let ends = |after: Option<&u8>| after.is_none_or(|byte| *byte <= b' ' || *byte == b';');
     CLIENT_WORDS.iter().any(|word| begins_with_word(text, word) && ends(text.get(word.len())))
