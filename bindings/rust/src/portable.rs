@@ -37,7 +37,7 @@ pub enum Construct {
     DashInFront,
     /// A word that begins with `delimiter` at the front of a line or a statement.
     Delimiter,
-    /// A statement that begins with a word of MariaDB's client, as `use`, `source` or `system`.
+    /// A statement that begins with a word of a client, as `use`, `source` or `system`.
     ClientWord,
     /// A backslash at the end of a line, in quotes or backquotes.
     EscapedNewline,
