@@ -14,6 +14,7 @@ import client
 import leaks
 import limits
 import literals
+import others
 import pipes
 import program
 import rows
@@ -42,6 +43,7 @@ def main(path: str, mysql_query: str, folder: str) -> int:
     limits.run(tests, path, folder)
     search.run(tests, path)
     signs.run(tests, path)
+    others.run(tests, path, mysql_query, folder)
     print(f"{version}: {tests.passed} passed, {tests.failed} failed", flush=True)
     with open(os.path.join(folder, "counts"), "w", encoding="utf-8") as counts:
         counts.write(f"{tests.passed} {tests.failed}\n")

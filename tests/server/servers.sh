@@ -162,7 +162,7 @@ start_servers() {
     case $1 in
     mysql)
         shift
-        start_server "$@" --skip-log-bin
+        start_server "$@" --skip-log-bin --federated
         ;;
     *)
         shift
