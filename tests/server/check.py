@@ -19,6 +19,7 @@ import pipes
 import program
 import rows
 import search
+import sent
 import signs
 from harness import Tests
 from protocol import Connection
@@ -38,6 +39,7 @@ def main(path: str, mysql_query: str, folder: str) -> int:
     program.run(tests, path, mysql_query, folder)
     rows.run(tests, path, folder)
     client.run(tests, path, folder)
+    sent.run(tests, folder, is_mysql)
     pipes.run(tests, folder, is_mysql)
     leaks.run(tests, path)
     limits.run(tests, path, folder)
