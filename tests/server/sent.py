@@ -49,7 +49,7 @@ _CASES = [
     Case("a byte 0 in a later line", b"SELECT :a;\nSELECT HEX('a\0b')", {"a": 1}, [b"SELECT 1"], [b"SELECT 1"]),
     Case("a byte 0 in a later statement of the line", b"SELECT :a; SELECT HEX('a\0b')", {"a": 1}, [], []),
     Case("a UTF-8 mark", b"\xef\xbb\xbfSELECT :a", {"a": 1}, [b"SELECT 1"], [b"SELECT 1"], found=False),
-    Case("a comment after 1.e;", b"SELECT 1.e;-- 2\n", None, [b"SELECT 1.e-- 2"], [b"SELECT 1.e"]),
+    Case("a comment after 1.e;", b"SELECT 1.e;-- 2\n", None, [b"SELECT 1.e-- 2"], [b"SELECT 1.e"], found=False),
     Case("a dash and a negative number", b"SELECT 1;\n-:a\n; SELECT 2", {"a": -5},
          [b"SELECT 1", b"--5", b"SELECT 2"], [b"SELECT 1", b"SELECT 2"], ([b"SELECT 1", b"--5", b"SELECT 2"],) * 2),
     Case("a hint after a comment", "SELECT 1 AS/**/é/*+ x */, :a".encode(), {"a": 2},
