@@ -117,8 +117,8 @@ by_position_is_the_same mode query text ts given is bound =
       isolated = subst (IsTokens mode text) (sym (with_literal_tokens-with_marks ts bound.literal_tokens lists)) bound.isolated;
       contents = bound.contents;
       contents_are = bound.contents_are;
-      reads_in_place = subst (λ ps. AreReadInPlace mode ps bound.literals bound.contents) (sym same) bound.reads_in_place;
-      read_back = ap (λ ps. contents_between mode ps text) same ∙ bound.read_back;
+      reads_in_place = subst (λ ps. AreReadInPlace (read_literal mode) ps bound.literals bound.contents) (sym same) bound.reads_in_place;
+      read_back = ap (λ ps. contents_between (read_literal mode) ps text) same ∙ bound.read_back;
     }
 
 -- ---- as the calls that bind promise it
@@ -145,6 +145,6 @@ pub equal_texts_say_the_same : (mode : Bool) (query text : List ℕ) (ts us : Li
     map content_of x.values ≡ map content_of y.values
 equal_texts_say_the_same mode query text ts us a b is is' x y =
     let tokens : ts ≡ us = one_token_list mode query ts us is is' in
-    let same : Some x.contents ≡ Some y.contents = sym x.read_back ∙ (ap (λ l. contents_between mode (pieces l) text) tokens ∙ y.read_back) in
+    let same : Some x.contents ≡ Some y.contents = sym x.read_back ∙ (ap (λ l. contents_between (read_literal mode) (pieces l) text) tokens ∙ y.read_back) in
     let said : x.contents ≡ y.contents = cc in
     x.contents_are ∙ (ap (map Some) said ∙ sym y.contents_are)

@@ -9,7 +9,7 @@ use Rattle.mysql_named_params.specs.Tokens.{Token, text_of, bytes_of, QuotedStri
 use Rattle.mysql_named_params.specs.Places.{place_count}
 use Rattle.mysql_binding.specs.StandsAlone.{may_stand_before, may_stand_after, none_or_first, none_or_last, stands_alone, first_not_alone_from}
 use Rattle.mysql_binding.specs.Pieces.{pieces_from}
-use Rattle.mysql_binding.specs.Contents.{LiteralReader, contents_before, contents_by, AreReadInPlaceBy}
+use Rattle.mysql_binding.specs.Contents.{LiteralReader, contents_before, contents_between, AreReadInPlace}
 use Rattle.mysql_binding.proofs.BoundText.{bound}
 use Rattle.mysql_binding.proofs.ByteTestLemmas.{behind_ends, piece_ends, last_piece_ends}
 use Rattle.mysql_binding.proofs.PieceLemmas.{joined_text-pieces_from}
@@ -62,15 +62,15 @@ module _ (reader : LiteralReader) where
   -- the first literal, and those after it
   in_place_more : (ts : List Token) (piece literal : List ℕ) (literals : List (List ℕ)) (c : Content) (cs : List Content) →
       Reads reader literal c → none_or_first may_stand_after (text_of ts) ≡ true →
-      length literals ≡ place_count ts → AreReadInPlaceBy reader (pieces_from [] ts) literals cs →
-      AreReadInPlaceBy reader (piece ∷ pieces_from [] ts) (literal ∷ literals) (c ∷ cs)
+      length literals ≡ place_count ts → AreReadInPlace reader (pieces_from [] ts) literals cs →
+      AreReadInPlace reader (piece ∷ pieces_from [] ts) (literal ∷ literals) (c ∷ cs)
   in_place_more ts piece literal literals c cs r n l more =
       ((bound ts literals, joined_text-pieces_from [] ts literals l, r (bound ts literals) (ends_before ts literals n)), more)
 
   -- each literal reads in its place
   pub in_place : (ts : List Token) (place : ℕ) (before piece : List ℕ) (literals : List (List ℕ)) (cs : List Content) →
       first_not_alone_from place before ts ≡ None → AreReadAs reader literals cs → length literals ≡ place_count ts →
-      AreReadInPlaceBy reader (pieces_from piece ts) literals cs
+      AreReadInPlace reader (pieces_from piece ts) literals cs
   in_place [] place before piece [] [] a rs l = tt
   in_place [] place before piece [] (c ∷ cs) a rs l = absurd rs
   in_place [] place before piece (literal ∷ literals) cs a rs l = absurd (omega arith)
@@ -137,14 +137,14 @@ module _ (reader : LiteralReader) where
       Goal-other ts piece (bytes_of t) literals cs (then_law ts place (before ++ bytes_of t) (piece ++ bytes_of t) literals cs a rs l) literal c r n
 
   contents-other : (ts : List Token) (piece bytes : List ℕ) (literals : List (List ℕ)) (cs : List Content) →
-      contents_by reader (pieces_from (piece ++ bytes) ts) ((piece ++ bytes) ++ bound ts literals) ≡ Some cs →
-      contents_by reader (pieces_from (piece ++ bytes) ts) (piece ++ (bytes ++ bound ts literals)) ≡ Some cs
+      contents_between reader (pieces_from (piece ++ bytes) ts) ((piece ++ bytes) ++ bound ts literals) ≡ Some cs →
+      contents_between reader (pieces_from (piece ++ bytes) ts) (piece ++ (bytes ++ bound ts literals)) ≡ Some cs
   contents-other ts piece bytes literals cs h = rw (← append_assoc piece bytes (bound ts literals)) h
 
   -- the contents of the text are those of the literals
   pub contents_of_bound : (ts : List Token) (place : ℕ) (before piece : List ℕ) (literals : List (List ℕ)) (cs : List Content) →
       first_not_alone_from place before ts ≡ None → AreReadAs reader literals cs → length literals ≡ place_count ts →
-      contents_by reader (pieces_from piece ts) (piece ++ bound ts literals) ≡ Some cs
+      contents_between reader (pieces_from piece ts) (piece ++ bound ts literals) ≡ Some cs
   unfolding Goal
   contents_of_bound [] place before piece [] [] a rs l = rw (after-append piece []) refl
   contents_of_bound [] place before piece [] (c' ∷ cs) a rs l = absurd rs

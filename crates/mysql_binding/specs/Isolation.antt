@@ -1,14 +1,12 @@
 -- What binding promises of the text that it gives: each value stands in one literal, and nothing
--- else of the query changes. `bind_text_in` promises this record in the mode that its flag names,
--- `bind_text` in the mode with backslashes, and `ParsedQuery::bind` in the parsed query's, or else
--- an error that is the first cause or out of memory (BindErrors.antt). The laws of src/laws.rt say
--- more of such a text: `isolation`, `bound_texts_on_servers`, `bound_texts_in_clients`,
--- `no_place_is_left`, `bound_again_is_the_same`, `by_position_is_the_same` and
--- `equal_texts_say_the_same`.
+-- else of the query changes. A call that binds promises this record in its mode, or else an error
+-- that is the first cause or out of memory (BindErrors.antt). The laws of src/laws.rt say more of
+-- such a text: `isolation`, `bound_texts_on_servers`, `bound_texts_in_clients`, `no_place_is_left`,
+-- `bound_again_is_the_same`, `by_position_is_the_same` and `equal_texts_say_the_same`.
 use Rattle.std.specs.Prelude.{◌≡◌, ℕ, Bool, List, map, Some, None, Ok}
 use Rattle.mysql_values.specs.declared.value.Value.{Value}
 use Rattle.mysql_values.specs.Content.{content_of}
-use Rattle.mysql_sql_text.specs.ReadLiteral.{Content}
+use Rattle.mysql_sql_text.specs.ReadLiteral.{Content, read_literal}
 use Rattle.mysql_named_params.specs.Tokens.{Token, IsTokens}
 use Rattle.mysql_named_params.specs.Places.{names}
 use Rattle.mysql_params_core.specs.Given.{Given}
@@ -34,7 +32,7 @@ pub record IsBoundText (mode : Bool) (ts : List Token) (given : Given) (text : L
   pub isolated : IsTokens mode text (with_literal_tokens ts literal_tokens)
   -- and each literal, followed by the text after it, reads as the content of its value and leaves
   -- exactly that text.
-  pub reads_in_place : AreReadInPlace mode (pieces ts) literals contents
+  pub reads_in_place : AreReadInPlace (read_literal mode) (pieces ts) literals contents
   -- THE VALUES
   -- There is no cause to refuse,
   pub no_cause : first_cause ts given ≡ None
@@ -53,4 +51,4 @@ pub record IsBoundText (mode : Bool) (ts : List Token) (given : Given) (text : L
   -- The contents are those of the values,
   pub contents_are : map content_of values ≡ map Some contents
   -- and read between the pieces of the query, the text gives exactly these contents.
-  pub read_back : contents_between mode (pieces ts) text ≡ Some contents
+  pub read_back : contents_between (read_literal mode) (pieces ts) text ≡ Some contents

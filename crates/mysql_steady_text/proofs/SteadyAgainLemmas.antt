@@ -13,7 +13,7 @@ use Rattle.mysql_named_params.proofs.SteadyLemmas.{steady_other}
 use Rattle.mysql_named_params.proofs.TokenListLemmas.{one_token_list}
 use Rattle.mysql_params_core.specs.Given.{Given, empty, positional}
 use Rattle.mysql_params_core.specs.Lookup.{lookup}
-use Rattle.mysql_binding.specs.Contents.{contents_by, AreReadInPlaceBy}
+use Rattle.mysql_binding.specs.Contents.{contents_between, AreReadInPlace}
 use Rattle.mysql_binding.specs.Pieces.{pieces, joined_text}
 use Rattle.mysql_binding.specs.Replaced.{with_literal_tokens}
 use Rattle.mysql_binding.proofs.BoundAgainLemmas.{pieces-with_marks, with_literal_tokens-with_marks}
@@ -78,7 +78,7 @@ by_position_is_the_same mode query text ts given is t =
       literal_tokens = t.literal_tokens;
       contents = t.contents;
       isolated = λ other. subst (IsTokens other text) (sym (with_literal_tokens-with_marks ts t.literal_tokens lists)) (t.isolated other);
-      reads_in_place = λ other. subst (λ ps. AreReadInPlaceBy (read_steady_literal other) ps t.literals t.contents) (sym same) (t.reads_in_place other);
+      reads_in_place = λ other. subst (λ ps. AreReadInPlace (read_steady_literal other) ps t.literals t.contents) (sym same) (t.reads_in_place other);
       steady = t.steady;
       no_cause = no_cause_renamed mode ts t.values is.each room (no_place_out ts t.values parts.1) (no_float_cause ts t.values parts.1);
       looked_up = ap (lookup (positional t.values)) (names-with_marks ts);
@@ -87,7 +87,7 @@ by_position_is_the_same mode query text ts given is t =
       text_is = ap (λ ps. joined_text ps t.literals) same ∙ t.text_is;
       tokens_of_literals = t.tokens_of_literals;
       contents_are = t.contents_are;
-      read_back = λ other. ap (λ ps. contents_by (read_steady_literal other) ps text) same ∙ t.read_back other;
+      read_back = λ other. ap (λ ps. contents_between (read_steady_literal other) ps text) same ∙ t.read_back other;
     }
 
 -- ---- equal texts
@@ -97,7 +97,7 @@ pub equal_texts_say_the_same : (mode : Bool) (query text : List ℕ) (ts us : Li
     map content_of x.values ≡ map content_of y.values
 equal_texts_say_the_same mode query text ts us a b is is' x y =
     let tokens : ts ≡ us = one_token_list mode query ts us is is' in
-    let same : Some x.contents ≡ Some y.contents = sym (x.read_back true) ∙ (ap (λ l. contents_by (read_steady_literal true) (pieces l) text) tokens ∙ y.read_back true) in
+    let same : Some x.contents ≡ Some y.contents = sym (x.read_back true) ∙ (ap (λ l. contents_between (read_steady_literal true) (pieces l) text) tokens ∙ y.read_back true) in
     let said : x.contents ≡ y.contents = cc in
     x.contents_are ∙ (ap (map Some) said ∙ sym y.contents_are)
 

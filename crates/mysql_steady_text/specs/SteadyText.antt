@@ -17,7 +17,7 @@ use Rattle.mysql_params_core.specs.Given.{Given}
 use Rattle.mysql_params_core.specs.Lookup.{lookup}
 use Rattle.mysql_binding.specs.FirstCause.{first_cause}
 use Rattle.mysql_binding.specs.Pieces.{pieces, joined_text}
-use Rattle.mysql_binding.specs.Contents.{contents_by, AreReadInPlaceBy}
+use Rattle.mysql_binding.specs.Contents.{contents_between, AreReadInPlace}
 use Rattle.mysql_binding.specs.Replaced.{AreTokensOf, with_literal_tokens}
 use Rattle.mysql_steady_literal.specs.ReadSteadyLiteral.{read_steady_literal}
 use Rattle.mysql_steady_text.specs.SteadyLiterals.{AreSteadyLiterals, AreSteadyLiteralsOf}
@@ -37,7 +37,7 @@ pub record IsSteadyText (ts : List Token) (given : Given) (text : List ℕ) : Ty
   -- and each literal, followed by the text after it, reads as the content of its value and leaves
   -- exactly that text.
   pub reads_in_place : (mode : Bool) →
-      AreReadInPlaceBy (read_steady_literal mode) (pieces ts) literals contents
+      AreReadInPlace (read_steady_literal mode) (pieces ts) literals contents
   -- The text is ASCII without a backslash.
   pub steady : IsSteady text
   -- THE VALUES
@@ -59,7 +59,7 @@ pub record IsSteadyText (ts : List Token) (given : Given) (text : List ℕ) : Ty
   pub contents_are : map content_of values ≡ map Some contents
   -- and read in either mode between the pieces of the query, the text gives exactly these contents.
   pub read_back : (mode : Bool) →
-      contents_by (read_steady_literal mode) (pieces ts) text ≡ Some contents
+      contents_between (read_steady_literal mode) (pieces ts) text ≡ Some contents
 
 -- The text, for any mode and any server, of this query, which has these tokens. A server sees a
 -- text through the character set of the connection.

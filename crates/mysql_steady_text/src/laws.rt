@@ -67,10 +67,10 @@ pub fn steady_texts_on_servers()
         seen set text ≡ text }
 {}
 
-/// No name and no mark is left in a steady text (`none`), so bound again with no parameters it stays
-/// as it is (`same`). The query with a mark in place of each name, bound to the same values by
-/// position, gives the same text (`by_position`). If one query gives the same text for two sets of
-/// parameters, their values have the same contents at every place (`equal`).
+/// No name and no mark is left in a steady text (`none`), so bound again with no parameters it
+/// stays as it is (`same`). The query with a mark in place of each name, bound to the same values
+/// by position, gives the same text (`by_position`). If one query gives the same text for two sets
+/// of parameters, their values have the same contents at every place (`equal`).
 pub fn bound_steady_texts()
     ensures none { (mode : Bool) (ts us : List Token) (given : Given) (text : List ℕ) →
         IsSteadyText ts given text → IsTokens mode text us → place_count us ≡ 0 }

@@ -37,8 +37,8 @@ use std::alloc::Global;
 ///
 /// Out of memory may come in place of any text or cause after `Unportable`, except for a query with
 /// names and marks.
-// A query has one token list in each mode (`mysql_named_params::laws::one_token_list`), and a steady
-// one the same in both (`steady_texts`), so the clauses speak of the same `ts`.
+// A query has one token list in each mode (`mysql_named_params::laws::one_token_list`), and a
+// steady one the same in both (`steady_texts`), so the clauses speak of the same `ts`.
 pub fn bind_text_anywhere(
     alloc: Global,
     query: &[u8],
@@ -72,8 +72,8 @@ pub fn bind_text_anywhere(
 }
 
 /// [`bind_text_anywhere`] for a query that is meant for one server: the text that no `sql_mode` and
-/// no character set reads otherwise. The query needn't be portable, so `Unportable` never comes; all
-/// else is as there.
+/// no character set reads otherwise. The query needn't be portable, so `Unportable` never comes;
+/// all else is as there.
 pub fn bind_text_in_any_mode(
     alloc: Global,
     query: &[u8],

@@ -38,7 +38,8 @@ pub(super) fn written_text<F: LiteralForm>(
         length (referents values.now) ≡ place_count ts) }
     requires pieces { OnTokens no_backslash_escape query.now (λ ts. piece_bytes ≡ pieces_len ts) }
     ensures { IfOk result (λ text. OnTokens no_backslash_escape query.now (λ ts.
-        IsWrittenText (F.literal form.now) (F.IsKnown form.now) ts (referents values.now) text.items)) }
+        IsWrittenText (F.literal form.now) (F.IsKnown form.now) ts (referents values.now)
+        text.items)) }
 {
     let lens = literal_lens(alloc, values, form)?;
     let Some(len) = text_len(piece_bytes, lens.as_slice()) else {
@@ -92,7 +93,8 @@ fn fill_text<F: LiteralForm>(
     requires room { OnTokens no_backslash_escape query.now (λ ts.
         length text.old ≡ pieces_len ts + sum lens.now) }
     ensures { OnTokens no_backslash_escape query.now (λ ts.
-        IsWrittenText (F.literal form.now) (F.IsKnown form.now) ts (referents values.now) text.new) }
+        IsWrittenText (F.literal form.now) (F.IsKnown form.now) ts (referents values.now)
+        text.new) }
 {
     let mut rest = query;
     let mut at = 0;
