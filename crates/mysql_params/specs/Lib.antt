@@ -33,6 +33,13 @@ pub use Rattle.mysql_binding.specs.FirstCause
 pub use Rattle.mysql_binding.specs.ValueLiterals
 pub use Rattle.mysql_binding.specs.BindErrors
 pub use Rattle.mysql_binding.specs.Isolation
+pub use Rattle.mysql_steady_literal.specs.SteadyLiteral
+pub use Rattle.mysql_steady_literal.specs.SteadyShape
+pub use Rattle.mysql_steady_literal.specs.ReadSteadyLiteral
+pub use Rattle.mysql_steady_text.specs.SteadyLiterals
+pub use Rattle.mysql_steady_text.specs.SteadyText
+pub use Rattle.mysql_steady_text.specs.SteadyAgain
+pub use Rattle.mysql_steady_text.specs.SteadyTextErrors
 pub use Rattle.mysql_fixed_query.specs.Bindable
 pub use Rattle.mysql_fixed_query.specs.FixedText
 pub use Rattle.mysql_program.specs.Words

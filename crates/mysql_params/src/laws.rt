@@ -18,3 +18,7 @@ pub use mysql_params_core::laws::{
     to_params_error_equality,
 };
 pub use mysql_program::laws::run_error_equality;
+pub use mysql_steady_literal::laws::steady_literals;
+pub use mysql_steady_text::laws::{
+    bound_steady_texts, steady_isolation, steady_text_error_equality, steady_texts_on_servers,
+};
