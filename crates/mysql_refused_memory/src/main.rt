@@ -15,6 +15,7 @@ mod parsed_query_cases;
 mod program_cases;
 mod query_cases;
 mod read_cases;
+mod steady_cases;
 mod value_cases;
 mod wire_cases;
 mod written_cases;
@@ -67,6 +68,9 @@ fn query_case(alloc: Global, name: &str) -> Option<Case> {
         return Some(case);
     }
     if let Some(case) = binding_cases::case(alloc, name) {
+        return Some(case);
+    }
+    if let Some(case) = steady_cases::case(alloc, name) {
         return Some(case);
     }
     if let Some(case) = fixed_query_cases::case(alloc, name) {
