@@ -1,11 +1,9 @@
 //! Queries with values bound into them, and those that are refused.
 use crate::shared::{
-    EITHER_MODE, Given, Plain, Refused, WITH_BACKSLASHES, answer_of, are_bound_by, are_refused_by,
-    same_in, says,
+    EITHER_MODE, Given, Plain, Refused, WITH_BACKSLASHES, are_bound_by, are_refused_by, says,
 };
-use mysql_params::{BindError, bind_text};
-use std::alloc::{AllocError, Global};
-use std::process::Abort;
+use mysql_params::BindError;
+use std::alloc::AllocError;
 
 /// Queries, what is given to them, and the text.
 const TEXTS: &[(&[u8], Given<'_>, &[u8])] = &[
@@ -40,6 +38,16 @@ const TEXTS: &[(&[u8], Given<'_>, &[u8])] = &[
         Given::Positional(&[Plain::Text(b""), Plain::Day(2019, 11, 27)]),
         b"VALUES ('','2019-11-27')",
     ),
+    // What looks like a place stands in an open token.
+    (b"'a :a", Given::Nothing, b"'a :a"),
+    (b"\"a :a", Given::Nothing, b"\"a :a"),
+    (b"`a :a", Given::Nothing, b"`a :a"),
+    (b"/*a :a", Given::Nothing, b"/*a :a"),
+    (b"#a :a", Given::Nothing, b"#a :a"),
+    (b"-- a :a", Given::Nothing, b"-- a :a"),
+    (b"'\\':a", Given::Nothing, b"'\\':a"),
+    (b"'a\\", Given::Nothing, b"'a\\"),
+    (b"*/*?", Given::Nothing, b"*/*?"),
     // More places than are kept while a query is surveyed.
     (
         b"?,?,?,?,?,?,?,?,?,?,?,?,?,?,?,?,?,?,?,? -- ?",
@@ -72,19 +80,6 @@ const TEXTS: &[(&[u8], Given<'_>, &[u8])] = &[
 #[test]
 fn bound_texts(rt: HostRuntime) {
     are_bound_by(&rt, rt.alloc(), WITH_BACKSLASHES, TEXTS);
-}
-
-/// The query is bound to a text whose vector has exactly this capacity.
-fn has_capacity(rt: &impl Abort, alloc: Global, query: &[u8], given: Given<'_>, wanted: usize) {
-    let text = answer_of(rt, bind_text(alloc, query, given.params(rt, alloc)));
-    same_in(rt, text.capacity(), wanted, &query);
-}
-
-#[test]
-fn vectors_of_exactly_the_length(rt: HostRuntime) {
-    for (query, given, wanted) in TEXTS {
-        has_capacity(&rt, rt.alloc(), *query, *given, wanted.len());
-    }
 }
 
 /// Queries, what is given to them, and why they are refused. None has a backslash, so in either
@@ -156,6 +151,41 @@ const REFUSALS: &[(&[u8], Given<'_>, Refused<'_>)] = &[
         b"::b",
         Given::Named(&[(b"b", Plain::Null)]),
         Refused::NotAlone(0, 1),
+    ),
+    (
+        b"x:a",
+        Given::Named(&[(b"a", Plain::Null)]),
+        Refused::NotAlone(0, 1),
+    ),
+    (
+        b":a:b",
+        Given::Named(&[(b"a", Plain::Null), (b"b", Plain::Null)]),
+        Refused::NotAlone(0, 0),
+    ),
+    (
+        b"':b':a",
+        Given::Named(&[(b"a", Plain::Null)]),
+        Refused::NotAlone(0, 4),
+    ),
+    (
+        b"?'x'",
+        Given::Positional(&[Plain::Null]),
+        Refused::NotAlone(0, 0),
+    ),
+    (
+        b"?\x00",
+        Given::Positional(&[Plain::Null]),
+        Refused::NotAlone(0, 0),
+    ),
+    (
+        b"\x0b?",
+        Given::Positional(&[Plain::Null]),
+        Refused::NotAlone(0, 1),
+    ),
+    (
+        b"? ?x",
+        Given::Positional(&[Plain::Null, Plain::Null]),
+        Refused::NotAlone(1, 2),
     ),
     (
         b"? ?x",

@@ -47,16 +47,6 @@ pub fn path(alloc: Global, folder: &str) -> Result<Vec<u8>, AllocError> {
     bind_positional_in(alloc, PATH, &(folder,), true)
 }
 
-/// A name that stands twice.
-pub fn twice(alloc: Global, a: u8) -> Result<Vec<u8>, AllocError> {
-    bind_named(alloc, b"SELECT :a*:a", &(("a", a),))
-}
-
-/// A query without places.
-pub fn nothing(alloc: Global) -> Result<Vec<u8>, AllocError> {
-    bind_positional(alloc, b"SELECT ':a', '?'", &())
-}
-
 #[cfg(test)]
 mod tests {
     use super::*;
@@ -75,7 +65,6 @@ mod tests {
             answer_of(&rt, customer(rt.alloc(), 42, HOSTILE)),
             wanted,
         );
-        is_text(&rt, answer_of(&rt, twice(rt.alloc(), 7)), b"SELECT 7*7");
     }
 
     #[test]
@@ -109,15 +98,6 @@ mod tests {
             &rt,
             answer_of(&rt, path(rt.alloc(), "D:\\it's")),
             b"SELECT 'C:\\', 'D:\\it''s'",
-        );
-    }
-
-    #[test]
-    fn without_places(rt: HostRuntime) {
-        is_text(
-            &rt,
-            answer_of(&rt, nothing(rt.alloc())),
-            b"SELECT ':a', '?'",
         );
     }
 }

@@ -4,6 +4,7 @@ use crate::shared::{
     string_is_bound_by,
 };
 use std::alloc::{AllocError, Global};
+use std::process::Abort;
 
 /// With backslash escapes: what stands after the backslash for a byte between quotes, where it
 /// isn't the byte itself.
@@ -50,24 +51,24 @@ fn literal_without_backslashes(alloc: Global, byte: u8) -> Result<Vec<u8>, Alloc
     Vec::from_slice(alloc, &[b'\'', byte, b'\''])
 }
 
+/// In either mode the value of this byte is bound as its literal.
+fn is_literal(rt: &impl Abort, alloc: Global, byte: u8) {
+    let wanted = answer_of(rt, literal(alloc, byte));
+    string_is_bound_by(rt, alloc, WITH_BACKSLASHES, b"?", &[byte], &wanted);
+    let wanted = answer_of(rt, literal_without_backslashes(alloc, byte));
+    string_is_bound_by(rt, alloc, WITHOUT_BACKSLASHES, b"?", &[byte], &wanted);
+}
+
 #[test]
 fn each_value_of_one_byte(rt: HostRuntime) {
     for byte in 0..=255u8 {
-        let wanted = answer_of(&rt, literal(rt.alloc(), byte));
-        string_is_bound_by(&rt, rt.alloc(), WITH_BACKSLASHES, b"?", &[byte], &wanted);
+        is_literal(&rt, rt.alloc(), byte);
     }
 }
 
-#[test]
-fn each_value_of_one_byte_without_backslashes(rt: HostRuntime) {
-    for byte in 0..=255u8 {
-        let wanted = answer_of(&rt, literal_without_backslashes(rt.alloc(), byte));
-        string_is_bound_by(&rt, rt.alloc(), WITHOUT_BACKSLASHES, b"?", &[byte], &wanted);
-    }
-}
-
-/// Queries, what is given to them, and the text: values that look like places.
-const LIKE_PLACES: &[(&[u8], Given<'_>, &[u8])] = &[
+/// Queries, what is given to them, and the text: values that look like places, and values of two
+/// types that say the same.
+const VALUES: &[(&[u8], Given<'_>, &[u8])] = &[
     (
         b"SELECT :a, :b",
         Given::Named(&[(b"a", Plain::Text(b":b")), (b"b", Plain::Text(b"?"))]),
@@ -79,15 +80,6 @@ const LIKE_PLACES: &[(&[u8], Given<'_>, &[u8])] = &[
         Given::Positional(&[Plain::Text(b":b"), Plain::Text(b"?")]),
         b"SELECT ':b', '?'",
     ),
-];
-
-#[test]
-fn values_that_look_like_places(rt: HostRuntime) {
-    are_bound_by(&rt, rt.alloc(), WITH_BACKSLASHES, LIKE_PLACES);
-}
-
-/// Queries, what is given to them, and the text: values of two types that say the same.
-const SAME: &[(&[u8], Given<'_>, &[u8])] = &[
     (b":a", Given::Named(&[(b"a", Plain::Int(5))]), b"5"),
     (b":a", Given::Named(&[(b"a", Plain::UInt(5))]), b"5"),
     (
@@ -103,13 +95,15 @@ const SAME: &[(&[u8], Given<'_>, &[u8])] = &[
 ];
 
 #[test]
-fn values_that_say_the_same(rt: HostRuntime) {
-    are_bound_by(&rt, rt.alloc(), WITH_BACKSLASHES, SAME);
+fn values_like_places_and_of_two_types(rt: HostRuntime) {
+    are_bound_by(&rt, rt.alloc(), WITH_BACKSLASHES, VALUES);
 }
 
-/// Values that end a string, a comment or a statement elsewhere, and each bound: with backslash
-/// escapes, and without.
-pub(crate) const HOSTILE: &[(&[u8], &[u8], &[u8])] = &[
+/// A value, and the text to which it is bound: with backslash escapes, and without.
+type Hostile = (&'static [u8], &'static [u8], &'static [u8]);
+
+/// Values that end a string, a comment or a statement elsewhere.
+const HOSTILE: &[Hostile] = &[
     (b"'", b"SELECT '\\'', 1", b"SELECT '''', 1"),
     (b"\\", b"SELECT '\\\\', 1", b"SELECT '\\', 1"),
     (b"\\'", b"SELECT '\\\\\\'', 1", b"SELECT '\\''', 1"),
@@ -132,10 +126,16 @@ pub(crate) const HOSTILE: &[(&[u8], &[u8], &[u8])] = &[
     ),
 ];
 
+/// In either mode the value is bound to its text.
+fn is_bound(rt: &impl Abort, alloc: Global, (value, wanted, without): Hostile) {
+    let query = b"SELECT ?, 1";
+    string_is_bound_by(rt, alloc, WITH_BACKSLASHES, query, value, wanted);
+    string_is_bound_by(rt, alloc, WITHOUT_BACKSLASHES, query, value, without);
+}
+
 #[test]
 fn hostile_values(rt: HostRuntime) {
-    for (value, wanted, _) in HOSTILE {
-        let query = b"SELECT ?, 1";
-        string_is_bound_by(&rt, rt.alloc(), WITH_BACKSLASHES, query, *value, *wanted);
+    for hostile in HOSTILE {
+        is_bound(&rt, rt.alloc(), *hostile);
     }
 }

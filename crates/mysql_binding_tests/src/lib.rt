@@ -3,8 +3,6 @@
 #![tactic(auto)]
 
 #[cfg(test)]
-mod any_bytes;
-#[cfg(test)]
 mod binding;
 #[cfg(test)]
 mod fixed_query;
@@ -20,5 +18,7 @@ mod readme;
 mod shared;
 #[cfg(test)]
 mod stands_alone;
+#[cfg(test)]
+mod steady_text;
 #[cfg(test)]
 mod without_backslashes;

@@ -1,7 +1,7 @@
 //! Queries that are parsed once and bound many times. The tables of the other modules show that
 //! each is bound as `bind_text_in` binds it (`Spelling::Parsed`).
 use crate::shared::{Given, Plain, answer_of, is_text, same_in};
-use mysql_params::named_params::{MixedParamsError, NamedParamsError};
+use mysql_params::named_params::NamedParamsError;
 use mysql_params::{Construct, ParsedQuery, Unportable};
 use std::alloc::Global;
 use std::process::Abort;
@@ -18,43 +18,42 @@ fn binds(
     is_text(rt, text, wanted);
 }
 
-/// What is given to one query in turn, and the text.
-const IN_TURN: &[(Given<'_>, &[u8])] = &[
-    (
-        Given::Named(&[(b"a", Plain::Int(-3)), (b"b", Plain::Text(b"it's"))]),
-        b"SELECT -3, ':a', 'it\\'s'",
-    ),
-    (
-        Given::Named(&[(b"b", Plain::Null), (b"a", Plain::UInt(5))]),
-        b"SELECT 5, ':a', NULL",
-    ),
-    (
-        Given::Named(&[(b"a", Plain::UInt(5)), (b"b", Plain::Null)]),
-        b"SELECT 5, ':a', NULL",
-    ),
-];
+/// The names `a` and `b`.
+const NAMED: Given<'_> = Given::Named(&[(b"a", Plain::Int(-3)), (b"b", Plain::Text(b"it's"))]);
+
+/// The same in the other order, with other values.
+const REVERSED: Given<'_> = Given::Named(&[(b"b", Plain::Null), (b"a", Plain::UInt(5))]);
 
 #[test]
 fn one_query_with_many_values(rt: HostRuntime) {
     let parsed = answer_of(&rt, ParsedQuery::parse(rt.alloc(), b"SELECT :a, ':a', :b"));
-    for (given, wanted) in IN_TURN {
-        binds(&rt, rt.alloc(), &parsed, *given, *wanted);
-    }
+    binds(
+        &rt,
+        rt.alloc(),
+        &parsed,
+        NAMED,
+        b"SELECT -3, ':a', 'it\\'s'",
+    );
+    binds(&rt, rt.alloc(), &parsed, REVERSED, b"SELECT 5, ':a', NULL");
 }
 
-/// Queries, the mode, and the names without a colon.
-const NAMES: &[(&[u8], bool, &[&[u8]])] = &[
-    (b":a, :b_1 :a", false, &[b"a", b"b_1", b"a"]),
-    (b"'\\' :a' :b", false, &[b"b"]),
-    (b"'\\' :a' :b", true, &[b"a"]),
-    (b"?, ?", false, &[]),
+/// Queries, the mode, and the names without a colon, or none for a query that is mixed.
+const NAMES: &[(&[u8], bool, Option<&[&[u8]]>)] = &[
+    (b":a, :b_1 :a", false, Some(&[b"a", b"b_1", b"a"])),
+    (b"'\\' :a' :b", false, Some(&[b"b"])),
+    (b"'\\' :a' :b", true, Some(&[b"a"])),
+    (b"?, ?", false, Some(&[])),
+    (b":a ?", false, None),
 ];
 
 /// The query has these names.
-fn has_names(rt: &impl Abort, alloc: Global, query: &[u8], mode: bool, wanted: &[&[u8]]) {
+fn has_names(rt: &impl Abort, alloc: Global, query: &[u8], mode: bool, wanted: Option<&[&[u8]]>) {
     let parsed = answer_of(rt, ParsedQuery::parse_in(alloc, query, mode));
-    let names = answer_of(rt, parsed.names(alloc));
-    same_in(rt, names.as_slice(), wanted, &query);
+    match parsed.names(alloc) {
+        Ok(names) => same_in(rt, Some(names.as_slice()), wanted, &query),
+        Err(NamedParamsError::Mixed(_)) => same_in(rt, None, wanted, &query),
+        Err(NamedParamsError::Memory(_)) => same_in(rt, "no memory", "names", &query),
+    }
 }
 
 #[test]
@@ -62,14 +61,6 @@ fn names_in_either_mode(rt: HostRuntime) {
     for (query, mode, names) in NAMES {
         has_names(&rt, rt.alloc(), *query, *mode, *names);
     }
-}
-
-#[test]
-fn no_names_beside_marks(rt: HostRuntime) {
-    let mixed = answer_of(&rt, ParsedQuery::parse(rt.alloc(), b":a ?"));
-    let found = mixed.names(rt.alloc()).err();
-    let wanted = Some(NamedParamsError::Mixed(MixedParamsError));
-    same_in(&rt, &found, &wanted, &"a mixed query");
 }
 
 /// A query, its mode, how many marks it has, and what is unportable in it.
@@ -97,12 +88,16 @@ const TOLD: &[Told] = &[
 ];
 
 /// The parsed query tells all of this.
-fn tells(rt: &impl Abort, alloc: Global, (query, mode, marks, unportable): Told) {
-    let parsed = answer_of(rt, ParsedQuery::parse_in(alloc, query, mode));
-    let told = (parsed.no_backslash_escape(), parsed.marks());
-    same_in(rt, parsed.query(), query, &query);
-    same_in(rt, told, (mode, marks), &query);
-    same_in(rt, parsed.first_unportable(), unportable, &query);
+fn tells(rt: &impl Abort, alloc: Global, told: Told) {
+    let parsed = answer_of(rt, ParsedQuery::parse_in(alloc, told.0, told.1));
+    let mode = parsed.no_backslash_escape();
+    let found = (
+        parsed.query(),
+        mode,
+        parsed.marks(),
+        parsed.first_unportable(),
+    );
+    same_in(rt, found, told, &"a parsed query");
 }
 
 #[test]
@@ -112,36 +107,22 @@ fn query_mode_and_what_is_unportable(rt: HostRuntime) {
     }
 }
 
-/// A parsed query that owns its query, whose bytes are gone.
-fn owned(rt: &impl Abort, alloc: Global) -> ParsedQuery<'static> {
+/// A copy of a parsed query that owns its query. What it was made of is gone.
+fn copy(rt: &impl Abort, alloc: Global) -> ParsedQuery<'static> {
     let query = answer_of(rt, Vec::from_slice(alloc, b"SELECT ?"));
     let parsed = answer_of(rt, ParsedQuery::parse(alloc, query.as_slice()));
-    answer_of(rt, parsed.into_owned(alloc))
+    let owned = answer_of(rt, parsed.into_owned(alloc));
+    answer_of(rt, owned.clone())
 }
-
-/// A copy of it, which is gone too.
-fn copy(rt: &impl Abort, alloc: Global) -> ParsedQuery<'static> {
-    let parsed = owned(rt, alloc);
-    answer_of(rt, parsed.clone())
-}
-
-/// One NULL.
-const NULL: Given<'_> = Given::Positional(&[Plain::Null]);
 
 #[test]
 fn owned_queries_and_copies(rt: HostRuntime) {
-    binds(
-        &rt,
-        rt.alloc(),
-        &owned(&rt, rt.alloc()),
-        NULL,
-        b"SELECT NULL",
-    );
+    let given = Given::Positional(&[Plain::Null]);
     binds(
         &rt,
         rt.alloc(),
         &copy(&rt, rt.alloc()),
-        NULL,
+        given,
         b"SELECT NULL",
     );
 }

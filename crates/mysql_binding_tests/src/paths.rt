@@ -5,9 +5,12 @@ pub use mysql_params::BindError;
 pub use mysql_params::Construct;
 pub use mysql_params::ParsedQuery;
 pub use mysql_params::RunError;
+pub use mysql_params::SteadyTextError;
 pub use mysql_params::Unportable;
 pub use mysql_params::bind_text;
+pub use mysql_params::bind_text_anywhere;
 pub use mysql_params::bind_text_in;
+pub use mysql_params::bind_text_in_any_mode;
 pub use mysql_params::first_unportable;
 pub use mysql_params::first_unportable_in_client;
 pub use mysql_params::first_unsteady;
@@ -17,6 +20,7 @@ pub use mysql_params::fixed_query::bind_positional;
 pub use mysql_params::fixed_query::bind_positional_in;
 pub use mysql_params::laws::bind_error_equality;
 pub use mysql_params::laws::bound_again_is_the_same;
+pub use mysql_params::laws::bound_steady_texts;
 pub use mysql_params::laws::bound_texts_in_clients;
 pub use mysql_params::laws::bound_texts_on_servers;
 pub use mysql_params::laws::by_position_is_the_same;
@@ -50,7 +54,11 @@ pub use mysql_params::laws::renaming_undone;
 pub use mysql_params::laws::run_error_equality;
 pub use mysql_params::laws::same_places;
 pub use mysql_params::laws::same_statements;
+pub use mysql_params::laws::steady_isolation;
+pub use mysql_params::laws::steady_literals;
+pub use mysql_params::laws::steady_text_error_equality;
 pub use mysql_params::laws::steady_texts;
+pub use mysql_params::laws::steady_texts_on_servers;
 pub use mysql_params::laws::to_params_error_equality;
 pub use mysql_params::laws::tokens_exist;
 pub use mysql_params::laws::unportable_equality;
@@ -138,48 +146,3 @@ pub use mysql_wire_part::laws::parse_buf_equality;
 pub use mysql_wire_part::laws::wire_error_equality;
 pub use mysql_wire_part::lenenc_str_len;
 pub use mysql_wire_part::put_lenenc_str;
-
-#[cfg(test)]
-mod tests {
-    use super::*;
-    use crate::shared::{answer_of, same_in};
-    use std::alloc::{AllocError, Global};
-    use std::process::Abort;
-
-    // By the paths above alone: the literal of a value that a text row holds, as text.
-    fn literal_of_cell(alloc: Global, row: &[u8]) -> Result<Option<String>, AllocError> {
-        let mut buf = ParseBuf(row);
-        let Ok(cells) = read_text_cells(alloc, &mut buf, 1) else {
-            return Ok(None);
-        };
-        match cells.as_slice() {
-            [cell, ..] => literal_of(alloc, cell),
-            [] => Ok(None),
-        }
-    }
-
-    fn literal_of(alloc: Global, cell: &Value) -> Result<Option<String>, AllocError> {
-        match cell.as_sql(alloc, false) {
-            Ok(literal) => Ok(Some(literal)),
-            Err(AsSqlError::Memory(error)) => Err(error),
-            Err(AsSqlError::Float) => Ok(None),
-        }
-    }
-
-    fn has_literal(rt: &impl Abort, alloc: Global, row: &[u8], wanted: &str) {
-        let literal = answer_of(rt, literal_of_cell(alloc, row));
-        let literal = answer_of(rt, literal.ok_or("no literal"));
-        same_in(rt, literal.as_str(), wanted, &row);
-    }
-
-    #[test]
-    fn paths_are_those_of_the_types_that_calls_name(rt: HostRuntime) {
-        has_literal(&rt, rt.alloc(), b"\x04it's", "'it\\'s'");
-        let refusal: Option<BindError> = bind_text(rt.alloc(), b"?", Params::Empty).err();
-        let count = BindError::MarkCount {
-            marks: 1,
-            values: 0,
-        };
-        same_in(&rt, &refusal, &Some(count), &"a mark");
-    }
-}

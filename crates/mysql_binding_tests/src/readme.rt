@@ -1,5 +1,5 @@
 //! The first call, to which README links: a query of texts that come as arguments, by name and by
-//! position, and the same of literals.
+//! position.
 use mysql_params::params::{Params, ToParams, ToParamsError};
 use mysql_params::{BindError, bind_text};
 use mysql_values::value::convert::{ToValue, ToValueError};
@@ -42,13 +42,7 @@ mod tests {
     // The text is this.
     fn gives(rt: &impl Abort, found: Result<Vec<u8>, QueryError>, wanted: &[u8]) {
         let text = found.expect(rt, "an error in place of a text");
-        assert_eq!(rt; text.as_slice(), wanted);
-    }
-
-    // The error prints the message.
-    fn says(rt: &impl Abort, alloc: Global, error: QueryError, message: &str) {
-        let printed = error.to_string(alloc).expect(rt, "no memory");
-        assert_eq!(rt; printed.as_str(), message);
+        assert!(rt; text.as_slice() == wanted);
     }
 
     #[test]
@@ -59,40 +53,5 @@ mod tests {
     #[test]
     fn by_position(rt: HostRuntime) {
         gives(&rt, customer_by_position(rt.alloc(), 42, HOSTILE), BOUND);
-    }
-
-    // Of each type of error, one by `?`.
-    #[test]
-    fn errors(rt: HostRuntime) {
-        let refusal = QueryError::from(BindError::Float { place: 0 });
-        says(&rt, rt.alloc(), refusal, "Float at place 0");
-        let name = Vec::from_slice(rt.alloc(), b"id").expect(&rt, "no memory");
-        let refusal = QueryError::from(ToParamsError::Redefined(name));
-        let message = "Redefinition of named parameter `id'";
-        says(&rt, rt.alloc(), refusal, message);
-    }
-
-    // The same of literals.
-    fn literals_by_name(alloc: Global) -> Result<Vec<u8>, QueryError> {
-        let pairs: [(&[u8], &dyn ToValue); 2] = [(b"id", &42u8), (b"name", &"it's")];
-        let params = Params::from_objects(alloc, &pairs)?;
-        Ok(bind_text(alloc, b"SELECT :id, ':id', :name", params)?)
-    }
-
-    #[test]
-    fn literals(rt: HostRuntime) {
-        let bound = b"SELECT 42, ':id', 'it\\'s'";
-        gives(&rt, literals_by_name(rt.alloc()), bound);
-    }
-
-    // The same by position.
-    fn marked(alloc: Global) -> Result<Vec<u8>, QueryError> {
-        let params = (42u8, None::<i64>).to_params(alloc)?;
-        Ok(bind_text(alloc, b"SELECT ?, ?", params)?)
-    }
-
-    #[test]
-    fn literals_by_position(rt: HostRuntime) {
-        gives(&rt, marked(rt.alloc()), b"SELECT 42, NULL");
     }
 }

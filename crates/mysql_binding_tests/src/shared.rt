@@ -200,7 +200,7 @@ impl Spelling {
     }
 }
 
-/// By each of the calls, the query is bound to the text.
+/// By each of the calls, the query is bound to the text, in a vector of exactly its length.
 pub(crate) fn is_bound_by(
     rt: &impl Abort,
     alloc: Global,
@@ -212,7 +212,8 @@ pub(crate) fn is_bound_by(
     for spelling in spellings {
         let params = given.params(rt, alloc);
         let text = answer_of(rt, spelling.bound(alloc, query, params));
-        same_in(rt, text.as_slice(), wanted, &(query, spelling.name()));
+        let found = (text.as_slice(), text.capacity());
+        same_in(rt, found, (wanted, wanted.len()), &(query, spelling.name()));
     }
 }
 
@@ -226,17 +227,6 @@ pub(crate) fn are_bound_by(
     for (query, given, wanted) in rows {
         is_bound_by(rt, alloc, spellings, *query, *given, *wanted);
     }
-}
-
-/// In the mode in which a backslash escapes, the query is bound to the text.
-pub(crate) fn is_bound(
-    rt: &impl Abort,
-    alloc: Global,
-    query: &[u8],
-    given: Given<'_>,
-    wanted: &[u8],
-) {
-    is_bound_by(rt, alloc, WITH_BACKSLASHES, query, given, wanted);
 }
 
 /// By each of the calls, the query is bound to the text where its one mark stands for this string.

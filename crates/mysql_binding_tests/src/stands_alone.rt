@@ -57,8 +57,10 @@ fn each_byte_before_a_place(rt: HostRuntime) {
 /// The name `a` with this value.
 const MINUS_THREE: Given<'_> = Given::Named(&[(b"a", Plain::Int(-3))]);
 
-/// Queries with a place after `-` or `/`, what is given to them, and the text.
-const AFTER_A_SIGN: &[(&[u8], Given<'_>, &[u8])] = &[
+/// Queries with a place beside `-`, `/` or a comment, what is given to them, and the text.
+const AT_A_SIGN: &[(&[u8], Given<'_>, &[u8])] = &[
+    (b"?/*x*/", NULL, b"NULL/*x*/"),
+    (b"?--\n", NULL, b"NULL--\n"),
     (b"1-:a", MINUS_THREE, b"1--3"),
     (b"--:a", MINUS_THREE, b"---3"),
     (b"/:a", MINUS_THREE, b"/-3"),
@@ -81,8 +83,8 @@ const AFTER_A_SIGN: &[(&[u8], Given<'_>, &[u8])] = &[
 ];
 
 #[test]
-fn places_after_a_sign(rt: HostRuntime) {
-    are_bound_by(&rt, rt.alloc(), EITHER_MODE, AFTER_A_SIGN);
+fn places_at_a_sign(rt: HostRuntime) {
+    are_bound_by(&rt, rt.alloc(), EITHER_MODE, AT_A_SIGN);
 }
 
 #[test]

@@ -1,9 +1,7 @@
 //! The mode without backslash escapes: there a backslash is a byte like any other, in queries and
 //! in literals.
-use crate::isolation::HOSTILE;
 use crate::shared::{
     Given, Plain, Refused, WITH_BACKSLASHES, WITHOUT_BACKSLASHES, are_bound_by, are_refused_by,
-    string_is_bound_by,
 };
 
 /// Queries, what is given to them, and the text.
@@ -47,14 +45,6 @@ const TEXTS: &[(&[u8], Given<'_>, &[u8])] = &[
 #[test]
 fn bound_texts(rt: HostRuntime) {
     are_bound_by(&rt, rt.alloc(), WITHOUT_BACKSLASHES, TEXTS);
-}
-
-#[test]
-fn hostile_values(rt: HostRuntime) {
-    for (value, _, wanted) in HOSTILE {
-        let query = b"SELECT ?, 1";
-        string_is_bound_by(&rt, rt.alloc(), WITHOUT_BACKSLASHES, query, *value, *wanted);
-    }
 }
 
 const NULL_FOR_B: Given<'_> = Given::Named(&[(b"b", Plain::Null)]);

@@ -1,22 +1,22 @@
 //! The first construct for which a query isn't portable, as a number and a report.
-use crate::shared::same_in;
+use crate::shared::{WITH_BACKSLASHES, WITHOUT_BACKSLASHES, same_in};
 use mysql_flat_params::{Report, report_first_unportable, report_first_unportable_in_client};
-use std::process::Abort;
 
-/// Queries that are portable in either mode.
-const PORTABLE: &[&[u8]] = &[
-    b"",
-    b"SELECT :id, ':id', :name",
-    b"SELECT '/*! [ $$ 1e+?', `--\x01 \"\\\"\"`, ? /* [ */ # $$\n -- [",
-    b"SELECT /*+ x */ /*!80000 1 + */ 2 /*M! + 3 */",
-    b"5--1, a--\n?, a---",
-    b"\"a\\n\"",
-    b"x.5e--2, 1e-- x",
-    b"1e+ ?, 1e+5",
-];
-
-/// Queries, and in either mode the number and the position of their first construct.
+/// Queries, and in either mode the number and the position of their first construct: none is 0.
+/// `bindings/cases/portable.txt` has more, which run through the archive.
 const CONSTRUCTS: &[(&[u8], i32, usize)] = &[
+    (b"", 0, 0),
+    (b"SELECT :id, ':id', :name", 0, 0),
+    (
+        b"SELECT '/*! [ $$ 1e+?', `--\x01 \"\\\"\"`, ? /* [ */ # $$\n -- [",
+        0,
+        0,
+    ),
+    (b"SELECT /*+ x */ /*!80000 1 + */ 2 /*M! + 3 */", 0, 0),
+    (b"5--1, a--\n?, a---", 0, 0),
+    (b"\"a\\n\"", 0, 0),
+    (b"x.5e--2, 1e-- x", 0, 0),
+    (b"1e+ ?, 1e+5", 0, 0),
     (b"SELECT /*!80000 ? */", 1, 7),
     (b"SELECT /*+ 'x' */ 1", 2, 7),
     (b"1 /*M! 2; */", 3, 2),
@@ -27,18 +27,22 @@ const CONSTRUCTS: &[(&[u8], i32, usize)] = &[
     (b"12.75E-:a", 9, 4),
     // Of several the first.
     (b"'[', $$, [", 7, 5),
+    (b"\"\\\\\" $:a", 7, 5),
 ];
 
-/// Queries with a backslash before a quote, and number and position: with backslash escapes, and
-/// without.
-const AFTER_A_BACKSLASH: &[(&[u8], (i32, usize), (i32, usize))] = &[
-    (b"1, \"a\\\" :b", (5, 3), (0, 0)),
-    (b"1, \"a\\\" [", (5, 3), (6, 8)),
+/// Queries with a backslash before a quote, whether without backslash escapes, number and position.
+const AFTER_A_BACKSLASH: &[(&[u8], bool, i32, usize)] = &[
+    (b"1, \"a\\\" :b", WITH_BACKSLASHES, 5, 3),
+    (b"1, \"a\\\" :b", WITHOUT_BACKSLASHES, 0, 0),
+    (b"1, \"a\\\" [", WITH_BACKSLASHES, 5, 3),
+    (b"1, \"a\\\" [", WITHOUT_BACKSLASHES, 6, 8),
     // The last quote is the last byte, so that both readings end there.
-    (b"1, \"a\\\"", (0, 0), (0, 0)),
-    (b"'a\\' [", (0, 0), (6, 5)),
-    (b"'a\\', '[', :a", (6, 7), (0, 0)),
-    (b"\"\\\\\" $:a", (7, 5), (7, 5)),
+    (b"1, \"a\\\"", WITH_BACKSLASHES, 0, 0),
+    (b"1, \"a\\\"", WITHOUT_BACKSLASHES, 0, 0),
+    (b"'a\\' [", WITH_BACKSLASHES, 0, 0),
+    (b"'a\\' [", WITHOUT_BACKSLASHES, 6, 5),
+    (b"'a\\', '[', :a", WITH_BACKSLASHES, 6, 7),
+    (b"'a\\', '[', :a", WITHOUT_BACKSLASHES, 0, 0),
 ];
 
 /// A report that says something.
@@ -51,61 +55,37 @@ const NINES: Report = Report {
     byte: 9,
 };
 
-/// The query is told by this number and this position, and by nothing else in the report.
-fn is_told(
-    rt: &impl Abort,
-    query: &[u8],
-    (told, report): (i32, Report),
-    number: i32,
-    position: usize,
-) {
-    let wanted = Report {
+/// The report that says this position, and nothing else.
+fn report_of(position: usize) -> Report {
+    Report {
         len: 0,
         place: 0,
         position,
         marks: 0,
         values: 0,
         byte: 0,
-    };
-    same_in(rt, told, number, &query);
-    same_in(rt, report, wanted, &query);
-}
-
-/// In a mode the query is told so.
-fn tells(rt: &impl Abort, query: &[u8], mode: bool, number: i32, position: usize) {
-    let mut report = NINES;
-    let told = report_first_unportable(query, mode, &mut report);
-    is_told(rt, query, (told, report), number, position);
-}
-
-/// In a mode the query is told so for a client.
-fn tells_in_client(rt: &impl Abort, query: &[u8], mode: bool, number: i32, position: usize) {
-    let mut report = NINES;
-    let told = report_first_unportable_in_client(query, mode, &mut report);
-    is_told(rt, query, (told, report), number, position);
-}
-
-#[test]
-fn portable_queries(rt: HostRuntime) {
-    for query in PORTABLE {
-        tells(&rt, *query, false, 0, 0);
-        tells(&rt, *query, true, 0, 0);
     }
 }
 
 #[test]
 fn first_constructs(rt: HostRuntime) {
     for (query, number, position) in CONSTRUCTS {
-        tells(&rt, *query, false, *number, *position);
-        tells(&rt, *query, true, *number, *position);
+        for mode in [WITH_BACKSLASHES, WITHOUT_BACKSLASHES] {
+            let mut report = NINES;
+            let told = report_first_unportable(*query, mode, &mut report);
+            let wanted = (*number, report_of(*position));
+            same_in(&rt, (told, report), wanted, &(query, mode));
+        }
     }
 }
 
 #[test]
 fn quotes_after_a_backslash(rt: HostRuntime) {
-    for (query, (number, position), (without, at)) in AFTER_A_BACKSLASH {
-        tells(&rt, *query, false, *number, *position);
-        tells(&rt, *query, true, *without, *at);
+    for (query, mode, number, position) in AFTER_A_BACKSLASH {
+        let mut report = NINES;
+        let told = report_first_unportable(*query, *mode, &mut report);
+        let wanted = (*number, report_of(*position));
+        same_in(&rt, (told, report), wanted, &(query, mode));
     }
 }
 
@@ -127,7 +107,11 @@ const IN_CLIENT: &[(&[u8], i32, usize)] = &[
 #[test]
 fn first_constructs_in_a_client(rt: HostRuntime) {
     for (query, number, position) in IN_CLIENT {
-        tells_in_client(&rt, *query, false, *number, *position);
-        tells_in_client(&rt, *query, true, *number, *position);
+        for mode in [WITH_BACKSLASHES, WITHOUT_BACKSLASHES] {
+            let mut report = NINES;
+            let told = report_first_unportable_in_client(*query, mode, &mut report);
+            let wanted = (*number, report_of(*position));
+            same_in(&rt, (told, report), wanted, &(query, mode));
+        }
     }
 }

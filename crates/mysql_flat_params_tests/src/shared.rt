@@ -29,13 +29,6 @@ pub(crate) fn answer_of<T, E: Debug + Drop>(rt: &impl Abort, found: Result<T, E>
     found.expect(rt, "an error in place of an answer")
 }
 
-/// The room begins with this text, and all of it after that is as before.
-pub(crate) fn holds_alone<C: Debug>(rt: &impl Abort, room: &[u8], text: &[u8], case: &C) {
-    same_in(rt, room.starts_with(text), true, case);
-    let kept = room.iter().skip(text.len()).all(|byte| *byte == b'#');
-    same_in(rt, kept, true, case);
-}
-
 /// The text was written to the front of the room, and alone there.
 pub(crate) fn wrote<C: Debug>(
     rt: &impl Abort,
@@ -44,8 +37,14 @@ pub(crate) fn wrote<C: Debug>(
     text: &[u8],
     case: &C,
 ) {
-    same_in(rt, outcome, Outcome::Done { len: text.len() }, case);
-    holds_alone(rt, room, text, case);
+    let kept = room.iter().skip(text.len()).all(|byte| *byte == b'#');
+    let found = (outcome, room.starts_with(text), kept);
+    same_in(
+        rt,
+        found,
+        (Outcome::Done { len: text.len() }, true, true),
+        case,
+    );
 }
 
 /// The flag of the mode in which a backslash escapes.

@@ -114,27 +114,25 @@ fn nothing_is_asked_after_a_refused_thing(rt: HostRuntime) {
     }
 }
 
-/// The pairs are refused for the name `a`, and so often the things were asked.
-fn is_redefined(rt: &impl Abort, alloc: Global, names: &[u8; 3], wanted: [u32; 3]) {
+/// The pairs were refused for the name `a`.
+fn is_redefined(rt: &impl Abort, alloc: Global, found: Result<Params, ToParamsError>) {
     let error = ToParamsError::Redefined(answer_of(rt, Vec::from_slice(alloc, b"a")));
+    same_in(rt, &found.err(), &Some(error), &"a redefined name");
+}
+
+/// The pairs are refused for the name `a`, and so often the things are asked.
+fn are_redefined(rt: &impl Abort, alloc: Global, names: &[u8; 3], wanted: [u32; 3]) {
     let things = three_things(Duration::from_secs(2));
-    same_in(
-        rt,
-        &pairs(alloc, names, &things).err(),
-        &Some(error),
-        &names,
-    );
+    is_redefined(rt, alloc, pairs(alloc, names, &things));
     same_in(rt, &times_asked(&things), &wanted, &names);
-    let error = ToParamsError::Redefined(answer_of(rt, Vec::from_slice(alloc, b"a")));
     let things = three_things(Duration::from_secs(2));
-    let refusal = pairs_of_objects(alloc, names, &things).err();
-    same_in(rt, &refusal, &Some(error), &(names, "of objects"));
+    is_redefined(rt, alloc, pairs_of_objects(alloc, names, &things));
     same_in(rt, &times_asked(&things), &wanted, &(names, "of objects"));
 }
 
 #[test]
 fn nothing_is_asked_from_a_redefined_name_on(rt: HostRuntime) {
-    is_redefined(&rt, rt.alloc(), b"aab", [1, 0, 0]);
-    is_redefined(&rt, rt.alloc(), b"aba", [1, 1, 0]);
-    is_redefined(&rt, rt.alloc(), b"aaa", [1, 0, 0]);
+    are_redefined(&rt, rt.alloc(), b"aab", [1, 0, 0]);
+    are_redefined(&rt, rt.alloc(), b"aba", [1, 1, 0]);
+    are_redefined(&rt, rt.alloc(), b"aaa", [1, 0, 0]);
 }

@@ -4,8 +4,6 @@
 #[cfg(test)]
 mod asked;
 #[cfg(test)]
-mod borrowed;
-#[cfg(test)]
 mod lookups;
 #[cfg(test)]
 mod makers;

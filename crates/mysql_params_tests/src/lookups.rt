@@ -1,176 +1,186 @@
 //! What parameters give to the names of a query.
-use crate::shared::{Given, answer_of, bytes, named, names, params, positional, same, same_in};
+use crate::shared::{Given, answer_of, names, params, same, same_in, values};
 use mysql_params::params::{
     IntoPositionalError, MissingNamedParameterError, Params, ParamsConfusionError, ParamsError,
 };
+use mysql_params_core::params::{BorrowedParams, NameMap, place_values};
 use mysql_values::value::Value;
 use std::alloc::{AllocError, Global};
+use std::collections::BTreeMap;
 use std::process::Abort;
 
-/// The names that are given, those of the query, and the numbers of these names; or, if one is
-/// missing, which `into_values` and which `into_positional` reports.
-pub(crate) const LOOKUPS: &[(&[u8], &[u8], &[u64], Option<(u8, u8)>)] = &[
+// Why parameters give no values.
+#[derive(Clone, Copy, Debug)]
+enum Refused {
+    // The name of one byte is missing.
+    Missing(u8),
+    Confusion(ParamsConfusionError),
+}
+
+const NAMED: Refused = Refused::Confusion(ParamsConfusionError::NamedParamsForPositionalQuery);
+
+const POSITIONAL: Refused = Refused::Confusion(ParamsConfusionError::PositionalParamsForNamedQuery);
+
+// What is given, the names of a query, if it has a list of them, and the numbers of these names.
+type Lookup = (
+    Given,
+    Option<&'static [u8]>,
+    Result<&'static [u64], Refused>,
+);
+
+const VALUES: &[Lookup] = &[
     // The names that are there are exactly a prefix: the last of the list is reported.
-    (b"a", b"abc", &[], Some((b'c', b'b'))),
-    (b"", b"ab", &[], Some((b'b', b'a'))),
-    (b"ab", b"abc", &[], Some((b'c', b'c'))),
+    (
+        Given::Named(b"a"),
+        Some(b"abc"),
+        Err(Refused::Missing(b'c')),
+    ),
+    (Given::Named(b""), Some(b"ab"), Err(Refused::Missing(b'b'))),
+    (
+        Given::Named(b"ab"),
+        Some(b"abc"),
+        Err(Refused::Missing(b'c')),
+    ),
     // They are not: it is the first that is missing.
-    (b"a", b"aba", &[], Some((b'b', b'b'))),
-    (b"b", b"abc", &[], Some((b'a', b'a'))),
+    (
+        Given::Named(b"a"),
+        Some(b"aba"),
+        Err(Refused::Missing(b'b')),
+    ),
+    (
+        Given::Named(b"b"),
+        Some(b"abc"),
+        Err(Refused::Missing(b'a')),
+    ),
+    (Given::Empty, Some(b"ab"), Err(Refused::Missing(b'a'))),
     // A repeated name has its value at each place; names that are not listed are ignored.
-    (b"a", b"aa", &[1, 1], None),
-    (b"abc", b"cac", &[3, 1, 3], None),
+    (Given::Named(b"a"), Some(b"aa"), Ok(&[1, 1])),
+    (Given::Named(b"abc"), Some(b"cac"), Ok(&[3, 1, 3])),
+    (Given::Positional(&[1, 2]), Some(b"ab"), Err(POSITIONAL)),
+    // No names.
+    (Given::Empty, None, Ok(&[])),
+    (Given::Empty, Some(b""), Ok(&[])),
+    (Given::Positional(&[1, 2]), None, Ok(&[1, 2])),
+    (Given::Positional(&[1, 2]), Some(b""), Ok(&[1, 2])),
+    (Given::Named(b"a"), None, Err(NAMED)),
+    (Given::Named(b"a"), Some(b""), Err(NAMED)),
+    (Given::Named(b""), None, Err(NAMED)),
+    (Given::Named(b""), Some(b""), Err(NAMED)),
 ];
 
-pub(crate) fn misses(rt: &impl Abort, alloc: Global, letter: u8) -> MissingNamedParameterError {
+fn misses(rt: &impl Abort, alloc: Global, letter: u8) -> MissingNamedParameterError {
     let name = answer_of(rt, Vec::from_slice(alloc, &[letter]));
     MissingNamedParameterError(name)
 }
 
-#[test]
-fn named_parameters(rt: HostRuntime) {
-    let alloc = rt.alloc();
-    for (given, case, numbers, missing) in LOOKUPS {
-        let list = names(&rt, alloc, *case);
-        let list = list.as_slice();
-        match missing {
-            None => {
-                gives(&rt, alloc, named(&rt, alloc, *given), Some(list), *numbers);
-                let wanted = positional(&rt, alloc, *numbers);
-                gives_by_position(&rt, alloc, named(&rt, alloc, *given), list, &wanted);
-            }
-            Some((by_values, first)) => {
-                let error = ParamsError::Missing(misses(&rt, alloc, *by_values));
-                is_refused(&rt, alloc, named(&rt, alloc, *given), Some(list), error);
-                let error = IntoPositionalError::Missing(misses(&rt, alloc, *first));
-                let refusal = named(&rt, alloc, *given).into_positional(alloc, list).err();
-                same_in(&rt, &refusal, &Some(error), case);
-            }
-        }
+fn error(rt: &impl Abort, alloc: Global, refused: Refused) -> ParamsError {
+    match refused {
+        Refused::Missing(letter) => ParamsError::from(misses(rt, alloc, letter)),
+        Refused::Confusion(confusion) => ParamsError::from(confusion),
     }
 }
 
-// The values that the parameters give to the names are these numbers.
-fn gives(
+// What the parameters give to the names.
+fn values_for(
     rt: &impl Abort,
     alloc: Global,
-    params: Params,
-    list: Option<&[Vec<u8>]>,
-    numbers: &[u64],
-) {
-    let values = Params::Positional(answer_of(rt, params.into_values(alloc, list)));
-    same_in(rt, &values, &positional(rt, alloc, numbers), &numbers);
-}
-
-// The parameters give no values to the names, for this reason.
-fn is_refused(
-    rt: &impl Abort,
-    alloc: Global,
-    params: Params,
-    list: Option<&[Vec<u8>]>,
-    error: ParamsError,
-) {
-    same_in(
-        rt,
-        &params.into_values(alloc, list).err(),
-        &Some(error),
-        &list,
-    );
-}
-
-// By position the parameters are these.
-fn gives_by_position(
-    rt: &impl Abort,
-    alloc: Global,
-    params: Params,
-    list: &[Vec<u8>],
-    wanted: &Params,
-) {
-    let found = answer_of(rt, params.into_positional(alloc, list));
-    same_in(rt, &found, wanted, &list);
-}
-
-#[test]
-fn without_names(rt: HostRuntime) {
-    let alloc = rt.alloc();
-    let none = names(&rt, alloc, b"");
-    for list in [None, Some(none.as_slice())] {
-        gives(&rt, alloc, Params::Empty, list, &[]);
-        gives(&rt, alloc, positional(&rt, alloc, &[1, 2]), list, &[1, 2]);
-        let error = ParamsConfusionError::NamedParamsForPositionalQuery;
-        is_refused(
-            &rt,
-            alloc,
-            named(&rt, alloc, b"a"),
-            list,
-            ParamsError::Confusion(error),
-        );
-        is_refused(
-            &rt,
-            alloc,
-            named(&rt, alloc, b""),
-            list,
-            ParamsError::Confusion(error),
-        );
+    given: Given,
+    letters: Option<&[u8]>,
+) -> Result<Vec<Value>, ParamsError> {
+    let params = params(rt, alloc, given);
+    match letters {
+        None => params.into_values(alloc, None),
+        Some(letters) => params.into_values(alloc, Some(names(rt, alloc, letters).as_slice())),
     }
-    let wanted = positional(&rt, alloc, &[]);
-    gives_by_position(
-        &rt,
-        alloc,
-        named(&rt, alloc, b"a"),
-        none.as_slice(),
-        &wanted,
-    );
+}
+
+// The parameters give this to the names.
+fn gives(rt: &impl Abort, alloc: Global, (given, letters, wanted): Lookup) {
+    let wanted = match wanted {
+        Ok(numbers) => Ok(values(rt, alloc, numbers)),
+        Err(refused) => Err(error(rt, alloc, refused)),
+    };
+    let found = values_for(rt, alloc, given, letters);
+    same_in(rt, &found, &wanted, &(given, letters));
 }
 
 #[test]
-fn other_parameters(rt: HostRuntime) {
-    let alloc = rt.alloc();
-    let list = names(&rt, alloc, b"ab");
-    let list = list.as_slice();
-    let error = ParamsError::from(misses(&rt, alloc, b'a'));
-    is_refused(&rt, alloc, Params::Empty, Some(list), error);
-    let error = ParamsError::from(ParamsConfusionError::PositionalParamsForNamedQuery);
-    is_refused(
-        &rt,
-        alloc,
-        positional(&rt, alloc, &[1, 2]),
-        Some(list),
-        error,
-    );
-    gives_by_position(&rt, alloc, Params::Empty, list, &Params::Empty);
-    let kept = positional(&rt, alloc, &[1]);
-    gives_by_position(&rt, alloc, answer_of(&rt, kept.clone()), list, &kept);
+fn values_for_names(rt: HostRuntime) {
+    for lookup in VALUES {
+        gives(&rt, rt.alloc(), *lookup);
+    }
 }
 
 #[test]
 fn a_value_given_twice(rt: HostRuntime) {
-    let alloc = rt.alloc();
-    let params = answer_of(&rt, Params::from_pairs(alloc, &[("a", Value::Int(1))]));
-    let list = names(&rt, alloc, b"aa");
-    let values = answer_of(&rt, params.into_values(alloc, Some(list.as_slice())));
+    let params = Params::from_pairs(rt.alloc(), &[("a", Value::Int(1))]);
+    let list = names(&rt, rt.alloc(), b"aa");
+    let values = answer_of(&rt, params).into_values(rt.alloc(), Some(list.as_slice()));
     let wanted = [Value::Int(1), Value::Int(1)];
-    same(&rt, values.as_slice(), wanted.as_slice());
+    same(&rt, answer_of(&rt, values).as_slice(), wanted.as_slice());
+}
+
+// What is given, the names of a query, and what they are by position, or the name that is missing.
+type Ordered = (Given, &'static [u8], Result<Given, u8>);
+
+const BY_POSITION: &[Ordered] = &[
+    // The first that is missing is reported.
+    (Given::Named(b"a"), b"abc", Err(b'b')),
+    (Given::Named(b""), b"ab", Err(b'a')),
+    (Given::Named(b"b"), b"abc", Err(b'a')),
+    (Given::Named(b"a"), b"aa", Ok(Given::Positional(&[1, 1]))),
+    (
+        Given::Named(b"abc"),
+        b"cac",
+        Ok(Given::Positional(&[3, 1, 3])),
+    ),
+    (Given::Named(b"a"), b"", Ok(Given::Positional(&[]))),
+    // Others stay as they are.
+    (Given::Empty, b"ab", Ok(Given::Empty)),
+    (Given::Positional(&[1]), b"ab", Ok(Given::Positional(&[1]))),
+];
+
+// The parameters are these by position.
+fn gives_by_position(rt: &impl Abort, alloc: Global, (given, letters, wanted): Ordered) {
+    let wanted = match wanted {
+        Ok(wanted) => Ok(params(rt, alloc, wanted)),
+        Err(letter) => Err(IntoPositionalError::Missing(misses(rt, alloc, letter))),
+    };
+    let list = names(rt, alloc, letters);
+    let found = params(rt, alloc, given).into_positional(alloc, list.as_slice());
+    same_in(rt, &found, &wanted, &(given, letters));
 }
 
 #[test]
-fn values_of_bytes(rt: HostRuntime) {
-    let alloc = rt.alloc();
-    let pairs = [(b"a".as_slice(), "x"), (b"b".as_slice(), "y")];
-    let params = answer_of(&rt, Params::from_pairs(alloc, &pairs));
-    let list = names(&rt, alloc, b"bab");
-    let values = answer_of(&rt, params.into_values(alloc, Some(list.as_slice())));
-    let wanted = [
-        bytes(&rt, alloc, b"y"),
-        bytes(&rt, alloc, b"x"),
-        bytes(&rt, alloc, b"y"),
-    ];
-    same(&rt, values.as_slice(), wanted.as_slice());
+fn parameters_by_position(rt: HostRuntime) {
+    for ordered in BY_POSITION {
+        gives_by_position(&rt, rt.alloc(), *ordered);
+    }
 }
 
-// A copy of the parameters is the same.
-fn is_copied(rt: &impl Abort, params: &Params) {
-    same(rt, &answer_of(rt, params.clone()), params);
+#[test]
+fn values_where_they_stand(rt: HostRuntime) {
+    let params = params(&rt, rt.alloc(), Given::Named(b"ab"));
+    let found = answer_of(&rt, place_values(rt.alloc(), params.borrowed(), &[b"b"]));
+    let wanted = [&Value::UInt(2)];
+    same(&rt, found.as_slice(), wanted.as_slice());
+}
+
+#[test]
+fn values_of_a_sorted_map(rt: HostRuntime) {
+    let mut entries = BTreeMap::<Vec<u8>, Value>::without_names(rt.alloc());
+    answer_of(&rt, entries.insert_value(rt.alloc(), b"b", Value::UInt(2)));
+    answer_of(&rt, entries.insert_value(rt.alloc(), b"a", Value::UInt(1)));
+    let params = BorrowedParams::Sorted(&entries);
+    let found = answer_of(&rt, place_values(rt.alloc(), params, &[b"a"]));
+    let wanted = [&Value::UInt(1)];
+    same(&rt, found.as_slice(), wanted.as_slice());
+}
+
+// Both differ, and a copy of the first is the same.
+fn differ(rt: &impl Abort, first: Params, second: Params) {
+    same(rt, &answer_of(rt, first.clone()), &first);
+    assert!(rt; first != second, "{first:?}");
 }
 
 // Parameters that differ.
@@ -186,26 +196,25 @@ const DIFFERENT: &[(Given, Given)] = &[
 fn equality_and_copies(rt: HostRuntime) {
     for (first, second) in DIFFERENT {
         let first = params(&rt, rt.alloc(), *first);
-        is_copied(&rt, &first);
-        assert!(rt; first != params(&rt, rt.alloc(), *second), "{first:?}");
+        differ(&rt, first, params(&rt, rt.alloc(), *second));
     }
+}
+
+// A copy of the error is the same.
+fn is_error_copied(rt: &impl Abort, error: ParamsError) {
+    same(rt, &answer_of(rt, error.clone()), &error);
 }
 
 #[test]
 fn copies_of_errors(rt: HostRuntime) {
     let missing = misses(&rt, rt.alloc(), b'a');
-    same(&rt, &answer_of(&rt, missing.clone()), &missing);
-    is_error_copied(&rt, &ParamsError::Missing(missing));
-}
-
-// A copy of the error is the same.
-fn is_error_copied(rt: &impl Abort, error: &ParamsError) {
-    same(rt, &answer_of(rt, error.clone()), error);
+    is_error_copied(&rt, ParamsError::Missing(missing));
+    is_error_copied(&rt, error(&rt, rt.alloc(), POSITIONAL));
+    is_error_copied(&rt, ParamsError::Memory(AllocError));
 }
 
 #[test]
-fn copies_of_errors_without_a_name(rt: HostRuntime) {
-    let error = ParamsConfusionError::PositionalParamsForNamedQuery;
-    is_error_copied(&rt, &ParamsError::Confusion(error));
-    is_error_copied(&rt, &ParamsError::Memory(AllocError));
+fn copies_of_missing_names(rt: HostRuntime) {
+    let missing = misses(&rt, rt.alloc(), b'a');
+    same(&rt, &answer_of(&rt, missing.clone()), &missing);
 }

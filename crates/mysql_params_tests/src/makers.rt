@@ -3,7 +3,7 @@ use crate::own_type::Counted;
 use crate::shared::{answer_of, bytes, named, positional, same};
 use mysql_params::params::{Params, ToName, ToParams, ToParamsError};
 use mysql_values::value::Value;
-use mysql_values::value::convert::{ToValue, ToValueError};
+use mysql_values::value::convert::ToValue;
 use std::alloc::Global;
 use std::process::Abort;
 use std::time::Duration;
@@ -13,14 +13,14 @@ fn params_of<T: ToParams>(alloc: Global, things: &T) -> Result<Params, ToParamsE
     things.to_params(alloc)
 }
 
-// The things make these parameters.
-fn make<T: ToParams>(rt: &impl Abort, alloc: Global, things: &T, wanted: &Params) {
-    same(rt, &answer_of(rt, params_of(alloc, things)), wanted);
+// The things make these parameters, which are given away, so that callers have none to let go.
+fn make<T: ToParams>(rt: &impl Abort, alloc: Global, things: &T, wanted: Params) {
+    same(rt, &answer_of(rt, params_of(alloc, things)), &wanted);
 }
 
 // The things make positional parameters of these numbers.
 fn make_numbers<T: ToParams>(rt: &impl Abort, alloc: Global, things: &T, numbers: &[u64]) {
-    make(rt, alloc, things, &positional(rt, alloc, numbers));
+    make(rt, alloc, things, positional(rt, alloc, numbers));
 }
 
 // The pairs make these parameters.
@@ -28,46 +28,54 @@ fn pairs_make<N: ToName, T: ToValue>(
     rt: &impl Abort,
     alloc: Global,
     pairs: &[(N, T)],
-    wanted: &Params,
+    wanted: Params,
 ) {
-    same(rt, &answer_of(rt, Params::from_pairs(alloc, pairs)), wanted);
+    same(
+        rt,
+        &answer_of(rt, Params::from_pairs(alloc, pairs)),
+        &wanted,
+    );
+}
+
+// The pairs of a name and an object make these parameters.
+fn objects_make(rt: &impl Abort, alloc: Global, pairs: &[(&[u8], &dyn ToValue)], wanted: Params) {
+    same(
+        rt,
+        &answer_of(rt, Params::from_objects(alloc, pairs)),
+        &wanted,
+    );
 }
 
 // The value of the thing is the wanted one.
-fn has_value<T: ToValue>(rt: &impl Abort, alloc: Global, thing: &T, wanted: &Value) {
-    same(rt, &answer_of(rt, thing.to_value(alloc)), wanted);
+fn has_value<T: ToValue>(rt: &impl Abort, alloc: Global, thing: &T, wanted: Value) {
+    same(rt, &answer_of(rt, thing.to_value(alloc)), &wanted);
 }
 
-// Through the bound alone.
-fn has_bytes<N: ToName>(name: &N, wanted: &[u8]) -> bool {
-    name.name_bytes() == wanted
+// Through the bound alone: the bytes of the name.
+fn has_bytes<N: ToName + Drop>(rt: &impl Abort, name: N, wanted: &[u8]) {
+    same(rt, name.name_bytes(), wanted);
 }
 
 #[test]
 fn nested_values(rt: HostRuntime) {
     let alloc = rt.alloc();
-    has_value(&rt, alloc, &&5u8, &Value::UInt(5));
-    has_value(&rt, alloc, &Some(-5i64), &Value::Int(-5));
-    has_value(&rt, alloc, &None::<i64>, &Value::NULL);
-    has_value(&rt, alloc, &Some(Some(true)), &Value::Int(1));
-    for like in [Value::NULL, Value::Float(1), bytes(&rt, alloc, b"ab")] {
-        has_value(&rt, alloc, &like, &like);
-    }
+    has_value(&rt, alloc, &&5u8, Value::UInt(5));
+    has_value(&rt, alloc, &Some(-5i64), Value::Int(-5));
+    has_value(&rt, alloc, &None::<i64>, Value::NULL);
+    has_value(&rt, alloc, &Some(Some(true)), Value::Int(1));
+    has_value(&rt, alloc, &Value::Float(1), Value::Float(1));
 }
 
 #[test]
 fn no_things(rt: HostRuntime) {
     let alloc = rt.alloc();
-    make(&rt, alloc, &(), &Params::Empty);
-    make(&rt, alloc, &Vec::<u8>::new(alloc), &Params::Empty);
+    make(&rt, alloc, &(), Params::Empty);
+    make(&rt, alloc, &Vec::<u8>::new(alloc), Params::Empty);
     let objects: [&dyn ToValue; 0] = [];
-    make(&rt, alloc, &objects.as_slice(), &Params::Empty);
-    let none = named(&rt, alloc, b"");
+    make(&rt, alloc, &objects.as_slice(), Params::Empty);
     let pairs: [(&[u8], u8); 0] = [];
-    pairs_make(&rt, alloc, &pairs, &none);
-    let pairs: [(&[u8], &dyn ToValue); 0] = [];
-    let params = answer_of(&rt, Params::from_objects(alloc, &pairs));
-    same(&rt, &params, &none);
+    pairs_make(&rt, alloc, &pairs, named(&rt, alloc, b""));
+    objects_make(&rt, alloc, &[], named(&rt, alloc, b""));
 }
 
 #[test]
@@ -76,14 +84,19 @@ fn lists(rt: HostRuntime) {
     let list = answer_of(&rt, Vec::from_slice(alloc, &[1u64, 2, 2]));
     make_numbers(&rt, alloc, &list, &[1, 2, 2]);
     make_numbers(&rt, alloc, &&list, &[1, 2, 2]);
+}
+
+#[test]
+fn parameters(rt: HostRuntime) {
+    let alloc = rt.alloc();
+    make(&rt, alloc, &Params::Empty, Params::Empty);
+    make_numbers(&rt, alloc, &positional(&rt, alloc, &[1, 2]), &[1, 2]);
     make(
         &rt,
         alloc,
         &named(&rt, alloc, b"ab"),
-        &named(&rt, alloc, b"ab"),
+        named(&rt, alloc, b"ab"),
     );
-    make_numbers(&rt, alloc, &positional(&rt, alloc, &[1, 2]), &[1, 2]);
-    make(&rt, alloc, &Params::Empty, &Params::Empty);
 }
 
 const NUMBERS: [u64; 12] = [1, 2, 3, 4, 5, 6, 7, 8, 9, 10, 11, 12];
@@ -135,65 +148,38 @@ fn objects(rt: HostRuntime) {
         Value::Time(false, 0, 0, 0, 7, 0),
     ];
     let wanted = answer_of(&rt, Vec::from_array(alloc, values));
-    make(&rt, alloc, &objects.as_slice(), &Params::Positional(wanted));
-    same(&rt, own.times_asked(), 1);
-    let twice: [&dyn ToValue; 2] = [&2u8, &2u8];
-    make_numbers(&rt, alloc, &twice.as_slice(), &[2, 2]);
-}
-
-// The pairs are refused for the name `a`.
-fn is_redefined(rt: &impl Abort, alloc: Global, pairs: &[(&str, u8)]) {
-    let error = ToParamsError::Redefined(answer_of(rt, Vec::from_slice(alloc, b"a")));
-    same(rt, &Params::from_pairs(alloc, pairs).err(), &Some(error));
+    make(&rt, alloc, &objects.as_slice(), Params::Positional(wanted));
 }
 
 #[test]
 fn pairs(rt: HostRuntime) {
     let alloc = rt.alloc();
-    pairs_make(
-        &rt,
-        alloc,
-        &[("a", 1u8), ("b", 2u8)],
-        &named(&rt, alloc, b"ab"),
-    );
-    is_redefined(&rt, alloc, &[("a", 1), ("a", 2)]);
-    is_redefined(&rt, alloc, &[("a", 1), ("b", 2), ("a", 3)]);
-
-    let pairs: [(&[u8], &dyn ToValue); 2] = [(b"a", &1u8), (b"b", &"x")];
-    let params = answer_of(&rt, Params::from_objects(alloc, &pairs));
-    let values = [("a", Value::UInt(1)), ("b", bytes(&rt, alloc, b"x"))];
-    pairs_make(&rt, alloc, &values, &params);
+    let pairs = [("a", 1u8), ("b", 2u8)];
+    pairs_make(&rt, alloc, &pairs, named(&rt, alloc, b"ab"));
 }
 
-// The things are refused, since one has too many days.
-fn is_too_long(rt: &impl Abort, found: Result<Params, ToParamsError>, long: Duration) {
-    let error = ToParamsError::Value(ToValueError::DurationTooLong(long));
-    same(rt, &found.err(), &Some(error));
-}
-
-// The first thing that has no value decides.
 #[test]
-fn refused_things(rt: HostRuntime) {
+fn pairs_of_objects(rt: HostRuntime) {
     let alloc = rt.alloc();
-    // One second more than a `Time` has days for, and two.
-    let long = Duration::from_secs(371085174374400);
-    let longer = Duration::from_secs(371085174374401);
-    is_too_long(&rt, params_of(alloc, &(1u8, long, longer)), long);
-    let list = answer_of(&rt, Vec::from_array(alloc, [long, longer]));
-    is_too_long(&rt, params_of(alloc, &list), long);
-    let objects: [&dyn ToValue; 3] = [&1u8, &long, &longer];
-    is_too_long(&rt, params_of(alloc, &objects.as_slice()), long);
-    let pairs = [("a", long), ("a", longer)];
-    is_too_long(&rt, Params::from_pairs(alloc, &pairs), long);
-    let pairs: [(&[u8], &dyn ToValue); 3] = [(b"a", &1u8), (b"b", &long), (b"a", &1u8)];
-    is_too_long(&rt, Params::from_objects(alloc, &pairs), long);
+    let values = [("a", Value::UInt(1)), ("b", bytes(&rt, alloc, b"x"))];
+    let wanted = answer_of(&rt, Params::from_pairs(alloc, &values));
+    let pairs: [(&[u8], &dyn ToValue); 2] = [(b"a", &1u8), (b"b", &"x")];
+    objects_make(&rt, alloc, &pairs, wanted);
+}
+
+#[test]
+fn a_name_that_stands_twice(rt: HostRuntime) {
+    let pairs = [("a", 1u8), ("a", 2u8)];
+    let error = ToParamsError::Redefined(answer_of(&rt, Vec::from_slice(rt.alloc(), b"a")));
+    let found = Params::from_pairs(rt.alloc(), &pairs).err();
+    same(&rt, &found, &Some(error));
 }
 
 #[test]
 fn names_of_every_kind(rt: HostRuntime) {
     let alloc = rt.alloc();
-    assert!(rt; has_bytes(&b"ab".as_slice(), b"ab"));
-    assert!(rt; has_bytes(&answer_of(&rt, Vec::from_slice(alloc, b"ab")), b"ab"));
-    assert!(rt; has_bytes(&"ab", b"ab"));
-    assert!(rt; has_bytes(&answer_of(&rt, String::from_str(alloc, "ab")), b"ab"));
+    has_bytes(&rt, b"ab".as_slice(), b"ab");
+    has_bytes(&rt, answer_of(&rt, Vec::from_slice(alloc, b"ab")), b"ab");
+    has_bytes(&rt, "ab", b"ab");
+    has_bytes(&rt, answer_of(&rt, String::from_str(alloc, "ab")), b"ab");
 }

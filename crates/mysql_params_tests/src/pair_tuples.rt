@@ -1,10 +1,8 @@
 //! Tuples of pairs of a name and a thing.
 use crate::shared::{answer_of, named, same, same_in};
 use mysql_params::params::{Params, ToPairs, ToParamsError};
-use mysql_values::value::convert::ToValueError;
 use std::alloc::Global;
 use std::process::Abort;
-use std::time::Duration;
 
 // Through the bound alone.
 fn params_of<P: ToPairs>(alloc: Global, pairs: &P) -> Result<Params, ToParamsError> {
@@ -23,81 +21,106 @@ fn is_redefined<P: ToPairs>(rt: &impl Abort, alloc: Global, pairs: &P, name: &[u
     same_in(rt, &params_of(alloc, pairs).err(), &Some(refusal), &name);
 }
 
+// A name and a number.
+type Pair = (&'static str, u8);
+
+const A: Pair = ("a", 1);
+
+const B: Pair = ("b", 2);
+
+const C: Pair = ("c", 3);
+
+const D: Pair = ("d", 4);
+
+const E: Pair = ("e", 5);
+
+const F: Pair = ("f", 6);
+
+const G: Pair = ("g", 7);
+
+const H: Pair = ("h", 8);
+
+const I: Pair = ("i", 9);
+
+const J: Pair = ("j", 10);
+
+const K: Pair = ("k", 11);
+
+const L: Pair = ("l", 12);
+
+const FIVE: (Pair, Pair, Pair, Pair, Pair) = (A, B, C, D, E);
+
+const SIX: (Pair, Pair, Pair, Pair, Pair, Pair) = (A, B, C, D, E, F);
+
+const SEVEN: (Pair, Pair, Pair, Pair, Pair, Pair, Pair) = (A, B, C, D, E, F, G);
+
+const EIGHT: (Pair, Pair, Pair, Pair, Pair, Pair, Pair, Pair) = (A, B, C, D, E, F, G, H);
+
+const NINE: (Pair, Pair, Pair, Pair, Pair, Pair, Pair, Pair, Pair) = (A, B, C, D, E, F, G, H, I);
+
+const TEN: (Pair, Pair, Pair, Pair, Pair, Pair, Pair, Pair, Pair, Pair) = (
+    A, B, C, D, E, F, G, H, I, J,
+);
+
+const ELEVEN: (
+    Pair,
+    Pair,
+    Pair,
+    Pair,
+    Pair,
+    Pair,
+    Pair,
+    Pair,
+    Pair,
+    Pair,
+    Pair,
+) = (A, B, C, D, E, F, G, H, I, J, K);
+
+const TWELVE: (
+    Pair,
+    Pair,
+    Pair,
+    Pair,
+    Pair,
+    Pair,
+    Pair,
+    Pair,
+    Pair,
+    Pair,
+    Pair,
+    Pair,
+) = (A, B, C, D, E, F, G, H, I, J, K, L);
+
 #[test]
 fn up_to_four_pairs(rt: HostRuntime) {
-    makes(&rt, rt.alloc(), &(("a", 1u8),), b"a");
-    makes(&rt, rt.alloc(), &(("a", 1u8), ("b", 2u64)), b"ab");
-    makes(
-        &rt,
-        rt.alloc(),
-        &(("a", 1u8), ("b", 2u64), ("c", 3u8)),
-        b"abc",
-    );
-    makes(
-        &rt,
-        rt.alloc(),
-        &(("a", 1u8), ("b", 2u64), ("c", 3u8), ("d", 4u8)),
-        b"abcd",
-    );
+    makes(&rt, rt.alloc(), &(A,), b"a");
+    makes(&rt, rt.alloc(), &(A, ("b", 2u64)), b"ab");
+    makes(&rt, rt.alloc(), &(A, B, C), b"abc");
+    makes(&rt, rt.alloc(), &(A, B, C, D), b"abcd");
 }
 
 #[test]
 fn five_to_eight_pairs(rt: HostRuntime) {
-    let (a, b, c, d) = (("a", 1u8), ("b", 2u8), ("c", 3u8), ("d", 4u8));
-    let (e, f, g, h) = (("e", 5u8), ("f", 6u16), ("g", 7u8), ("h", 8u32));
-    makes(&rt, rt.alloc(), &(a, b, c, d, e), b"abcde");
-    makes(&rt, rt.alloc(), &(a, b, c, d, e, f), b"abcdef");
-    makes(&rt, rt.alloc(), &(a, b, c, d, e, f, g), b"abcdefg");
-    makes(&rt, rt.alloc(), &(a, b, c, d, e, f, g, h), b"abcdefgh");
+    makes(&rt, rt.alloc(), &FIVE, b"abcde");
+    makes(&rt, rt.alloc(), &SIX, b"abcdef");
+    makes(&rt, rt.alloc(), &SEVEN, b"abcdefg");
+    makes(&rt, rt.alloc(), &EIGHT, b"abcdefgh");
 }
 
 #[test]
 fn nine_to_twelve_pairs(rt: HostRuntime) {
-    let (a, b, c, d) = (("a", 1u8), ("b", 2u8), ("c", 3u8), ("d", 4u8));
-    let (e, f, g, h) = (("e", 5u8), ("f", 6u16), ("g", 7u8), ("h", 8u32));
-    let (i, j, k, l) = (("i", 9u8), ("j", 10u8), ("k", 11u8), ("l", 12u8));
-    makes(&rt, rt.alloc(), &(a, b, c, d, e, f, g, h, i), b"abcdefghi");
-    makes(
-        &rt,
-        rt.alloc(),
-        &(a, b, c, d, e, f, g, h, i, j),
-        b"abcdefghij",
-    );
-    makes(
-        &rt,
-        rt.alloc(),
-        &(a, b, c, d, e, f, g, h, i, j, k),
-        b"abcdefghijk",
-    );
-    makes(
-        &rt,
-        rt.alloc(),
-        &(a, b, c, d, e, f, g, h, i, j, k, l),
-        b"abcdefghijkl",
-    );
+    makes(&rt, rt.alloc(), &NINE, b"abcdefghi");
+    makes(&rt, rt.alloc(), &TEN, b"abcdefghij");
+    makes(&rt, rt.alloc(), &ELEVEN, b"abcdefghijk");
+    makes(&rt, rt.alloc(), &TWELVE, b"abcdefghijkl");
 }
 
 #[test]
 fn repeated_names(rt: HostRuntime) {
-    let (a, b, c) = (("a", 1u8), ("b", 2u8), ("c", 3u8));
-    is_redefined(&rt, rt.alloc(), &(a, a), b"a");
-    is_redefined(&rt, rt.alloc(), &(a, b, b), b"b");
-    is_redefined(&rt, rt.alloc(), &(a, b, c, b, a), b"b");
+    is_redefined(&rt, rt.alloc(), &(A, A), b"a");
+    is_redefined(&rt, rt.alloc(), &(A, B, B), b"b");
+    is_redefined(&rt, rt.alloc(), &(A, B, C, B, A), b"b");
     is_redefined(&rt, rt.alloc(), &(("", 1u8), ("", 2u8)), b"");
-}
-
-// The first thing that has no value decides, and so does the first repeated name.
-#[test]
-fn first_refusal(rt: HostRuntime) {
-    // One second more than a `Time` has days for, and two.
-    let long = Duration::from_secs(371085174374400);
-    let longer = Duration::from_secs(371085174374401);
-    let too_long = Some(ToParamsError::Value(ToValueError::DurationTooLong(long)));
-    let pairs = (("a", 1u8), ("b", long), ("a", longer));
-    same(&rt, &params_of(rt.alloc(), &pairs).err(), &too_long);
-    let pairs = (("a", 1u8), ("b", long), ("c", longer));
-    same(&rt, &params_of(rt.alloc(), &pairs).err(), &too_long);
-    is_redefined(&rt, rt.alloc(), &(("a", 1u8), ("a", long)), b"a");
 }
 
 // A function's own text is lent to the pairs.

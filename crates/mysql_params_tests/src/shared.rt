@@ -53,17 +53,22 @@ pub(crate) fn named(rt: &impl Abort, alloc: Global, letters: &[u8]) -> Params {
     Params::Named(entries)
 }
 
-// Positional parameters: these numbers.
-pub(crate) fn positional(rt: &impl Abort, alloc: Global, numbers: &[u64]) -> Params {
+// The values of these numbers.
+pub(crate) fn values(rt: &impl Abort, alloc: Global, numbers: &[u64]) -> Vec<Value> {
     let mut values = Vec::new(alloc);
     for number in numbers {
         answer_of(rt, values.push(Value::UInt(*number)));
     }
-    Params::Positional(values)
+    values
+}
+
+// Positional parameters: these numbers.
+pub(crate) fn positional(rt: &impl Abort, alloc: Global, numbers: &[u64]) -> Params {
+    Params::Positional(values(rt, alloc, numbers))
 }
 
 // Parameters as plain data, for tables.
-#[derive(Clone, Copy)]
+#[derive(Clone, Copy, Debug)]
 pub(crate) enum Given {
     Empty,
     /// Each letter names the number of its place, from 1 on.

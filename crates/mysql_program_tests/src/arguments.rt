@@ -1,6 +1,6 @@
 //! The words of the program, of arguments that a test gives.
-use crate::shared::{answer_of, same, same_in};
-use mysql_params::{RunError, words_of};
+use crate::shared::{answer_of, same_in, words};
+use mysql_params::words_of;
 use std::alloc::Global;
 use std::env::{Env, FillError};
 use std::process::Abort;
@@ -48,11 +48,8 @@ const CASES: &[Case] = &[
 ];
 
 fn gives(rt: &impl Abort, alloc: Global, (texts, wanted): Case) {
-    let words = answer_of(rt, words_of(alloc, &Arguments { texts }));
-    same_in(rt, &words.len(), &wanted.len(), &wanted);
-    for (word, text) in words.iter().zip(wanted) {
-        same_in(rt, word.as_str(), *text, &wanted);
-    }
+    let found = answer_of(rt, words_of(alloc, &Arguments { texts }));
+    same_in(rt, &found, &words(rt, alloc, wanted), &wanted);
 }
 
 #[test]
@@ -60,11 +57,4 @@ fn words_are_the_arguments_without_the_name(rt: HostRuntime) {
     for case in CASES {
         gives(&rt, rt.alloc(), *case);
     }
-}
-
-#[test]
-fn arguments_that_are_no_text_are_usage(rt: HostRuntime) {
-    let texts: &[&[u8]] = &[b"mysql_query", b"bind", b"a=s:\xff"];
-    let refused = words_of(rt.alloc(), &Arguments { texts });
-    same(&rt, &refused, &Err(RunError::Usage));
 }

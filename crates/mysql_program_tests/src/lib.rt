@@ -4,14 +4,8 @@
 #[cfg(test)]
 mod arguments;
 #[cfg(test)]
-mod bind;
-#[cfg(test)]
-mod names;
-#[cfg(test)]
 mod readers_and_writers;
 #[cfg(test)]
 mod refusals;
 #[cfg(test)]
 mod shared;
-#[cfg(test)]
-mod words;

@@ -1,41 +1,34 @@
-//! What refusals of the program print, their statuses, and their equality.
-use crate::shared::{answer_of, same, same_in};
+//! What refusals of the program print, and their statuses. How a run ends with them is in
+//! `tests/program`.
+use crate::shared::{answer_of, same_in};
 use mysql_params::{BindError, RunError};
 use std::alloc::{AllocError, Global};
 use std::process::Abort;
 
-/// The refusal has the status and prints the message.
-fn says(rt: &impl Abort, alloc: Global, refusal: RunError, status: u8, message: &str) {
-    same_in(rt, &refusal.status(), &status, &message);
+/// The refusal prints the message and has the status.
+fn says(rt: &impl Abort, alloc: Global, refusal: RunError, message: &str, status: u8) {
     let printed = answer_of(rt, refusal.to_string(alloc));
-    same(rt, printed.as_str(), message);
+    let found = (printed.as_str(), refusal.status());
+    same_in(rt, found, (message, status), &"a refusal");
 }
 
 #[test]
-fn statuses_and_messages(rt: HostRuntime) {
+fn messages_and_statuses(rt: HostRuntime) {
+    let alloc = rt.alloc();
     let usage = "usage: names, or bind NAME=VALUE..";
-    says(&rt, rt.alloc(), RunError::Usage, 2, usage);
+    says(&rt, alloc, RunError::Usage, usage, 2);
     let mixed = "Named and positional params in one query";
-    says(&rt, rt.alloc(), RunError::Mixed, 1, mixed);
-    says(&rt, rt.alloc(), RunError::Read, 2, "cannot read");
-    says(&rt, rt.alloc(), RunError::Write, 2, "cannot write");
-    says(
-        &rt,
-        rt.alloc(),
-        RunError::Memory(AllocError),
-        2,
-        "out of memory",
-    );
+    says(&rt, alloc, RunError::Mixed, mixed, 1);
+    says(&rt, alloc, RunError::Bind(BindError::Mixed), mixed, 1);
+    says(&rt, alloc, RunError::Read, "cannot read", 2);
+    says(&rt, alloc, RunError::Write, "cannot write", 2);
+    let memory = RunError::Memory(AllocError);
+    says(&rt, alloc, memory, "out of memory", 2);
 }
 
 #[test]
-fn messages_that_tell_what_is_refused(rt: HostRuntime) {
+fn a_redefined_name(rt: HostRuntime) {
     let name = answer_of(&rt, Vec::from_slice(rt.alloc(), b"a\n"));
-    let redefined = "Redefinition of named parameter `a\\x0a'";
-    says(&rt, rt.alloc(), RunError::Redefined(name), 1, redefined);
-    let count = RunError::Bind(BindError::MarkCount {
-        marks: 1,
-        values: 0,
-    });
-    says(&rt, rt.alloc(), count, 1, "Query has 1 marks and 0 values");
+    let message = "Redefinition of named parameter `a\\x0a'";
+    says(&rt, rt.alloc(), RunError::Redefined(name), message, 1);
 }

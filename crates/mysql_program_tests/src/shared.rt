@@ -1,18 +1,13 @@
 //! Readers and writers that give and take little and fail at a stated call, and what a run of the
 //! program over them leaves.
 use mysql_params::{RunError, run};
-use std::alloc::{AllocError, Global};
+use std::alloc::Global;
 use std::fmt::Debug;
 use std::io;
 use std::io::{ErrorKind, Read, Write};
 use std::process::Abort;
 
-/// The two are the same. A call is cheaper to prove than the message.
-pub(crate) fn same<T: Copy + Debug + PartialEq>(rt: &impl Abort, found: T, wanted: T) {
-    assert_eq!(rt; found, wanted);
-}
-
-/// The same, with a message that names the case.
+/// The two are the same. A call is cheaper to prove than the message, which names the case.
 pub(crate) fn same_in<T: Copy + Debug + PartialEq, C: Debug>(
     rt: &impl Abort,
     found: T,
@@ -28,24 +23,22 @@ pub(crate) fn answer_of<T, E: Debug + Drop>(rt: &impl Abort, found: Result<T, E>
     found.expect(rt, "an error in place of an answer")
 }
 
-/// Gives its bytes in pieces of at most `step`, and fails at call `fails_at`, counted from 1.
-#[derive(Drop)]
-pub(crate) struct SlowReader<'a> {
-    rest: &'a [u8],
-    step: usize,
-    fails_at: usize,
-    calls: usize,
+/// The words of a command line.
+pub(crate) fn words(rt: &impl Abort, alloc: Global, texts: &[&str]) -> Vec<String> {
+    let mut words = Vec::new(alloc);
+    for text in texts {
+        let word = answer_of(rt, String::from_str(alloc, *text));
+        answer_of(rt, words.push(word));
+    }
+    words
 }
 
-impl<'a> SlowReader<'a> {
-    pub(crate) fn new(bytes: &'a [u8], step: usize, fails_at: usize) -> Self {
-        SlowReader {
-            rest: bytes,
-            step,
-            fails_at,
-            calls: 0,
-        }
-    }
+/// Gives its bytes one a call, and fails at call `fails_at`, counted from 1.
+#[derive(Drop)]
+struct SlowReader<'a> {
+    rest: &'a [u8],
+    fails_at: usize,
+    calls: usize,
 }
 
 impl Read for SlowReader<'_> {
@@ -54,11 +47,14 @@ impl Read for SlowReader<'_> {
         if self.calls == self.fails_at {
             return Err(ErrorKind::Interrupted.into());
         }
-        let n = self.rest.len().min(buf.len()).min(self.step);
-        let (front, rest) = self.rest.split_at(n);
-        buf[..n].copy_from_slice(front);
-        self.rest = rest;
-        Ok(n)
+        match (self.rest, buf) {
+            ([first, rest @ ..], [place, ..]) => {
+                *place = *first;
+                self.rest = rest;
+                Ok(1)
+            }
+            _ => Ok(0),
+        }
     }
 }
 
@@ -69,26 +65,13 @@ pub(crate) enum Fault {
     TakesNothing,
 }
 
-/// Takes at most `step` bytes a call, and has its fault at call `fault_at`, counted from 1.
+/// Takes one byte a call, and has its fault at call `fault_at`, counted from 1.
 #[derive(Drop)]
-pub(crate) struct SlowWriter {
+struct SlowWriter {
     taken: Vec<u8>,
-    step: usize,
     fault: Fault,
     fault_at: usize,
     calls: usize,
-}
-
-impl SlowWriter {
-    pub(crate) fn new(alloc: Global, step: usize, fault: Fault, fault_at: usize) -> Self {
-        SlowWriter {
-            taken: Vec::new(alloc),
-            step,
-            fault,
-            fault_at,
-            calls: 0,
-        }
-    }
 }
 
 impl Write for SlowWriter {
@@ -100,9 +83,11 @@ impl Write for SlowWriter {
                 Fault::TakesNothing => Ok(0),
             };
         }
-        let n = buf.len().min(self.step);
-        self.taken.extend_from_slice(&buf[..n])?;
-        Ok(n)
+        let Some(first) = buf.first() else {
+            return Ok(0);
+        };
+        self.taken.push(*first)?;
+        Ok(1)
     }
 
     fn flush(&mut self) -> io::Result<()> {
@@ -110,100 +95,62 @@ impl Write for SlowWriter {
     }
 }
 
-/// What a run left: its answer, how many reads and writes there were, and what was written.
-#[derive(Drop)]
-pub(crate) struct Ran {
-    pub(crate) answer: Result<(), RunError>,
-    pub(crate) calls: (usize, usize),
-    pub(crate) taken: Vec<u8>,
+/// The calls, counted from 1, at which the reader fails and the writer has its fault; 0 for none.
+#[derive(Clone, Copy, Debug)]
+pub(crate) struct Faults {
+    pub(crate) read: usize,
+    pub(crate) write: usize,
+    pub(crate) fault: Fault,
 }
 
-/// The words of a command line.
-fn words(alloc: Global, texts: &[&str]) -> Result<Vec<String>, AllocError> {
-    let mut words = Vec::new(alloc);
-    for text in texts {
-        words.push(String::from_str(alloc, *text)?)?;
+/// What a run told.
+#[derive(Clone, Copy, PartialEq, Eq, Debug)]
+pub(crate) enum Told {
+    Nothing,
+    Usage,
+    Redefined,
+    Mixed,
+    Bind,
+    Read,
+    Write,
+    Memory,
+}
+
+fn told_by(answer: Result<(), RunError>) -> Told {
+    match answer {
+        Ok(()) => Told::Nothing,
+        Err(RunError::Usage) => Told::Usage,
+        Err(RunError::Redefined(_)) => Told::Redefined,
+        Err(RunError::Mixed) => Told::Mixed,
+        Err(RunError::Bind(_)) => Told::Bind,
+        Err(RunError::Read) => Told::Read,
+        Err(RunError::Write) => Told::Write,
+        Err(RunError::Memory(_)) => Told::Memory,
     }
-    Ok(words)
 }
 
-/// Runs the program over a reader and a writer.
-pub(crate) fn run_over(
-    alloc: Global,
-    texts: &[&str],
-    mut input: SlowReader<'_>,
-    mut output: SlowWriter,
-) -> Result<Ran, AllocError> {
-    let words = words(alloc, texts)?;
-    let answer = run(alloc, &words, &mut input, &mut output);
-    Ok(Ran {
-        answer,
-        calls: (input.calls, output.calls),
-        taken: output.taken,
-    })
-}
-
-/// The program over this reader and writer answers so, after so many reads and writes, and has
-/// written this.
+/// The program with these words over a query, read and written byte by byte with these faults,
+/// tells this, after so many reads and writes, and has written this.
 pub(crate) fn leaves(
     rt: &impl Abort,
     alloc: Global,
-    texts: &[&str],
-    (input, output): (SlowReader<'_>, SlowWriter),
-    answer: Result<(), RunError>,
-    calls: (usize, usize),
-    taken: &[u8],
+    (texts, query): (&[&str], &[u8]),
+    faults: Faults,
+    wanted: (Told, usize, usize, &[u8]),
 ) {
-    let ran = answer_of(rt, run_over(alloc, texts, input, output));
-    same_in(rt, &ran.answer, &answer, &(texts, calls));
-    same_in(rt, ran.calls, calls, &texts);
-    same_in(rt, ran.taken.as_slice(), taken, &(texts, calls));
-}
-
-/// What a run over memory left: its answer, how many bytes were left to read, and what was written.
-#[derive(Drop)]
-pub(crate) struct RanOverMemory {
-    pub(crate) answer: Result<(), RunError>,
-    pub(crate) left: usize,
-    pub(crate) written: Vec<u8>,
-}
-
-/// Runs the program over a query and a vector.
-pub(crate) fn run_over_memory(
-    alloc: Global,
-    texts: &[&str],
-    query: &[u8],
-) -> Result<RanOverMemory, AllocError> {
-    let words = words(alloc, texts)?;
-    let mut input = query;
-    let mut written = Vec::new(alloc);
-    let answer = run(alloc, &words, &mut input, &mut written);
-    Ok(RanOverMemory {
-        answer,
-        left: input.len(),
-        written,
-    })
-}
-
-/// The program reads the query to its end, and writes this.
-pub(crate) fn writes(rt: &impl Abort, alloc: Global, texts: &[&str], query: &[u8], wanted: &[u8]) {
-    let case = (texts, query);
-    let ran = answer_of(rt, run_over_memory(alloc, texts, query));
-    same_in(rt, &ran.answer, &Ok(()), &case);
-    same_in(rt, ran.written.as_slice(), wanted, &case);
-    same_in(rt, &ran.left, &0, &case);
-}
-
-/// The program reads the query to its end, and refuses it so; nothing is written.
-pub(crate) fn refuses(
-    rt: &impl Abort,
-    alloc: Global,
-    texts: &[&str],
-    query: &[u8],
-    refusal: RunError,
-) {
-    let case = (texts, query);
-    let ran = answer_of(rt, run_over_memory(alloc, texts, query));
-    same_in(rt, &ran.answer, &Err(refusal), &case);
-    same_in(rt, &(ran.left, ran.written.len()), &(0, 0), &case);
+    let words = words(rt, alloc, texts);
+    let mut input = SlowReader {
+        rest: query,
+        fails_at: faults.read,
+        calls: 0,
+    };
+    let mut output = SlowWriter {
+        taken: Vec::new(alloc),
+        fault: faults.fault,
+        fault_at: faults.write,
+        calls: 0,
+    };
+    let told = told_by(run(alloc, &words, &mut input, &mut output));
+    let found = (told, input.calls, output.calls, output.taken.as_slice());
+    same_in(rt, found, wanted, &(texts, faults));
 }

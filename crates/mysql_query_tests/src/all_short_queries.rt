@@ -25,66 +25,44 @@ fn has(query: &[u8], no_backslash_escape: bool, wanted: TokenKind) -> bool {
     false
 }
 
-/// A token as it stands in the query with marks.
-fn marked<'a>(kind: TokenKind, token: &'a [u8]) -> &'a [u8] {
-    match kind {
-        TokenKind::Name => b"?",
-        _ => token,
+/// What a query with marks, and names, have after what this token becomes, if they begin with it.
+fn after_token<'a, 'n>(
+    kind: TokenKind,
+    token: &[u8],
+    marked: &'a [u8],
+    names: &'a [CowSlice<'n, u8>],
+) -> Option<(&'a [u8], &'a [CowSlice<'n, u8>])> {
+    if kind != TokenKind::Name {
+        return Some((marked.strip_prefix(token)?, names));
+    }
+    match (token, names) {
+        ([b':', wanted @ ..], [name, names @ ..]) if name.as_slice() == wanted => {
+            Some((marked.strip_prefix(b"?".as_slice())?, names))
+        }
+        _ => None,
     }
 }
 
-/// Whether this is the query with a mark for each of its names.
-fn is_marked(query: &[u8], no_backslash_escape: bool, wanted: &[u8]) -> bool {
+/// Whether the query with marks and the names are what was parsed.
+fn is_parsed(query: &[u8], no_backslash_escape: bool, parsed: &ParsedNamedParams<'_>) -> bool {
     let mut rest = query;
-    let mut left = wanted;
+    let mut left = (parsed.query(), parsed.params());
     for _ in 0..query.len() {
         let (kind, len) = plain_token(rest, no_backslash_escape);
         let (token, after) = split(rest, len);
-        match left.strip_prefix(marked(kind, token)) {
-            Some(tail) => left = tail,
+        match after_token(kind, token, left.0, left.1) {
+            Some(after) => left = after,
             None => return false,
         }
         rest = after;
     }
-    left.is_empty()
-}
-
-/// Whether at this place of the names the one of this token stands.
-fn stands_at(names: &[CowSlice<'_, u8>], at: usize, token: &[u8]) -> bool {
-    match (names.get(at), token) {
-        (Some(name), [b':', wanted @ ..]) => name.as_slice() == wanted,
-        _ => false,
-    }
-}
-
-/// Whether these are the names of the query.
-fn are_names(query: &[u8], no_backslash_escape: bool, names: &[CowSlice<'_, u8>]) -> bool {
-    let mut rest = query;
-    let mut at = 0usize;
-    for _ in 0..query.len() {
-        let (kind, len) = plain_token(rest, no_backslash_escape);
-        let (token, after) = split(rest, len);
-        if kind == TokenKind::Name {
-            if !stands_at(names, at, token) {
-                return false;
-            }
-            at = at.saturating_add(1);
-        }
-        rest = after;
-    }
-    at == names.len()
+    left.0.is_empty() && left.1.is_empty()
 }
 
 /// Whether the query has names and marks.
 fn is_mixed(query: &[u8], no_backslash_escape: bool) -> bool {
     has(query, no_backslash_escape, TokenKind::Name)
         && has(query, no_backslash_escape, TokenKind::Mark)
-}
-
-/// Whether the query with marks and the names are what was parsed.
-fn is_parsed(query: &[u8], no_backslash_escape: bool, parsed: &ParsedNamedParams<'_>) -> bool {
-    is_marked(query, no_backslash_escape, parsed.query())
-        && are_names(query, no_backslash_escape, parsed.params())
 }
 
 /// Whether the call answers as the plain reading. That there is no memory is no answer: so callers

@@ -27,23 +27,16 @@ fn are_found(rt: &impl Abort, rows: &[(&[u8], Construct, usize)]) {
     }
 }
 
-// In these a client ends a comment elsewhere.
-const OPENERS: &[(&[u8], Construct, usize)] = &[
+// Queries that the client reads or sends otherwise, and the first construct.
+const OTHERWISE: &[(&[u8], Construct, usize)] = &[
+    // In these a client ends a comment elsewhere.
     (b"SELECT 1 /*//*/, :a", Construct::OpenerInComment, 9),
     (b"SELECT 1 /* /*! */, :a", Construct::OpenerInComment, 9),
     (b"SELECT 1 /* /*+ */, :a", Construct::OpenerInComment, 9),
     (b"/* a\n/*/ SELECT ?", Construct::OpenerInComment, 0),
     // Of several the first.
     (b"/**/ /*/*!*/ /*/*!*/", Construct::OpenerInComment, 5),
-];
-
-#[test]
-fn openers(rt: HostRuntime) {
-    are_found(&rt, OPENERS);
-}
-
-// What the client does beside reading: commands, dropped lines, changed bytes.
-const COMMANDS: &[(&[u8], Construct, usize)] = &[
+    // What the client does beside reading: commands, dropped lines, changed bytes.
     (b"SELECT $/**/\xc3\xa9$x", Construct::JoiningComment, 8),
     (b"SELECT 5/**/\\N", Construct::JoiningComment, 8),
     (b"SELECT 5/*+*/\xc3\xa9", Construct::JoiningComment, 11),
@@ -81,6 +74,15 @@ const COMMANDS: &[(&[u8], Construct, usize)] = &[
     (b"use", Construct::ClientWord, 0),
     (b"system :a", Construct::ClientWord, 0),
     (b"SELECT 1;quit\n", Construct::ClientWord, 9),
+    // MySQL's client alone, with `--commands`.
+    (b"resetconnection", Construct::ClientWord, 0),
+    (
+        b"SELECT 1; Query_Attributes n :a",
+        Construct::ClientWord,
+        10,
+    ),
+    (b"r\xe9setconnection\n", Construct::ClientWord, 0),
+    (b"ssl_session_data_print;", Construct::ClientWord, 0),
     (b"SELECT 1, 'a\\\nb'", Construct::EscapedNewline, 10),
     (b"SELECT `a\\\r\nb`", Construct::EscapedNewline, 7),
     (b"SELECT \"\\\n\"", Construct::EscapedNewline, 7),
@@ -90,8 +92,8 @@ const COMMANDS: &[(&[u8], Construct, usize)] = &[
 ];
 
 #[test]
-fn commands_and_changed_bytes(rt: HostRuntime) {
-    are_found(&rt, COMMANDS);
+fn constructs_of_the_client(rt: HostRuntime) {
+    are_found(&rt, OTHERWISE);
 }
 
 // A client sends these as they are, or a comment in front of a statement apart.
@@ -112,6 +114,8 @@ const SENT: &[&[u8]] = &[
     b"SELECT 1 AS delimiter, 2 AS a_delimiter",
     b"SELECT 1 FROM t\nUSE INDEX (a)",
     b"SELECT 1; user",
+    b"resetconnections; query_attribute; ssl_session_data",
+    b"SELECT 1 resetconnection",
     // To no client are these letters of a word: y of the Swedish order for u, UTF-8.
     b"\xfcse a",
     b"syst\xc3\xa9m :a",

@@ -1,40 +1,39 @@
 //! Tokens that end by jumps, and runs of plain bytes that are passed 16 at once, against the same
 //! found byte by byte: for each kind of token every length from 0 to 70 of its inside, closed and
 //! open, and with a backslash before each place of it, in both modes.
+use crate::plain_reading::split;
 use crate::shared::same_in;
 use mysql_named_params::places::{FoundPlace, PlaceKind, first_place};
 use mysql_named_params::tokens::{TokenKind, first_token};
 use std::alloc::{AllocError, Global};
 use std::process::Abort;
 
-// Down to `plain_first_place` these are the bodies that the crate had before its jumps. They have
-// no contract here: so their sums saturate, their slices begin at the end at the latest, an empty
-// text has a token of one byte, and the walk is a loop that ends. The table of plain bytes is a
-// test here.
+// Down to `old_token` these are the bodies that the crate had before its jumps. They have no
+// contract here: so their sums saturate, they split texts at the end at the latest, and an empty
+// text has a token of one byte.
 
-fn plain_is_white_space(byte: u8) -> bool {
+/// Whether the byte is white space.
+fn is_white_space(byte: u8) -> bool {
     byte.is_ascii_whitespace()
 }
 
-fn plain_is_start_byte(byte: u8) -> bool {
+/// Whether a name may begin with the byte.
+fn is_start_byte(byte: u8) -> bool {
     byte.is_ascii_lowercase() || byte == b'_'
 }
 
-fn plain_is_name_byte(byte: u8) -> bool {
-    plain_is_start_byte(byte) || byte.is_ascii_digit()
+/// Whether a name may go on with the byte.
+fn is_name_byte(byte: u8) -> bool {
+    is_start_byte(byte) || byte.is_ascii_digit()
 }
 
-fn plain_is_escape(byte: u8, no_backslash_escape: bool) -> bool {
+/// Whether the byte escapes the next one.
+fn is_escape(byte: u8, no_backslash_escape: bool) -> bool {
     !no_backslash_escape && byte == b'\\'
 }
 
-/// What follows so many bytes.
-fn after(text: &[u8], count: usize) -> &[u8] {
-    &text[count.min(text.len())..]
-}
-
 /// How many bytes there are up to and with the first place of the word, or to the end.
-fn plain_len_up_to(text: &[u8], word: &[u8]) -> usize {
+fn len_up_to(text: &[u8], word: &[u8]) -> usize {
     for i in 0..text.len() {
         if text[i..].starts_with(word) {
             return i.saturating_add(word.len());
@@ -44,7 +43,7 @@ fn plain_len_up_to(text: &[u8], word: &[u8]) -> usize {
 }
 
 /// How many bytes of a string there are after its opening quote.
-fn plain_string_len(text: &[u8], quote: u8, no_backslash_escape: bool) -> usize {
+fn string_len(text: &[u8], quote: u8, no_backslash_escape: bool) -> usize {
     let mut escaped = false;
     for (i, byte) in text.iter().enumerate() {
         if escaped {
@@ -52,16 +51,16 @@ fn plain_string_len(text: &[u8], quote: u8, no_backslash_escape: bool) -> usize 
         } else if *byte == quote {
             return i.saturating_add(1);
         } else {
-            escaped = plain_is_escape(*byte, no_backslash_escape);
+            escaped = is_escape(*byte, no_backslash_escape);
         }
     }
     text.len()
 }
 
 /// How many name bytes the text begins with.
-fn plain_name_len(text: &[u8]) -> usize {
+fn name_len(text: &[u8]) -> usize {
     for (i, byte) in text.iter().enumerate() {
-        if !plain_is_name_byte(*byte) {
+        if !is_name_byte(*byte) {
             return i;
         }
     }
@@ -69,15 +68,15 @@ fn plain_name_len(text: &[u8]) -> usize {
 }
 
 /// Whether a `-` and then this text open a comment.
-fn plain_opens_dash_comment(text: &[u8]) -> bool {
+fn opens_dash_comment(text: &[u8]) -> bool {
     match text {
-        [b'-', gap, ..] => plain_is_white_space(*gap) && *gap != b'\n',
+        [b'-', gap, ..] => is_white_space(*gap) && *gap != b'\n',
         _ => false,
     }
 }
 
 /// Whether a `/` and then this text open a comment.
-fn plain_opens_block_comment(text: &[u8]) -> bool {
+fn opens_block_comment(text: &[u8]) -> bool {
     match text {
         [b'*', b'!' | b'+', ..] => false,
         [b'*', ..] => true,
@@ -86,34 +85,34 @@ fn plain_opens_block_comment(text: &[u8]) -> bool {
 }
 
 /// Whether a `:` and then this text open a name.
-fn plain_opens_name(text: &[u8]) -> bool {
+fn opens_name(text: &[u8]) -> bool {
     match text {
-        [first, ..] => plain_is_start_byte(*first),
+        [first, ..] => is_start_byte(*first),
         [] => false,
     }
 }
 
 /// The kind of the token at the front of the text, and its length.
-fn plain_first_token(text: &[u8], no_backslash_escape: bool) -> (TokenKind, usize) {
+fn old_token(text: &[u8], no_backslash_escape: bool) -> (TokenKind, usize) {
     let (kind, opening, tail) = match text {
         [b'?', ..] => (TokenKind::Mark, 1usize, 0),
-        [b':', rest @ ..] if plain_opens_name(rest) => {
-            (TokenKind::Name, 2, plain_name_len(after(rest, 1)))
+        [b':', rest @ ..] if opens_name(rest) => {
+            (TokenKind::Name, 2, name_len(split(rest, 1).1))
         }
         [b':', ..] => (TokenKind::Other, 1, 0),
         [quote @ (b'\'' | b'"'), rest @ ..] => (
             TokenKind::Other,
             1,
-            plain_string_len(rest, *quote, no_backslash_escape),
+            string_len(rest, *quote, no_backslash_escape),
         ),
-        [b'`', rest @ ..] => (TokenKind::Other, 1, plain_len_up_to(rest, b"`")),
-        [b'#', rest @ ..] => (TokenKind::Other, 1, plain_len_up_to(rest, b"\n")),
-        [b'-', rest @ ..] if plain_opens_dash_comment(rest) => {
-            (TokenKind::Other, 3, plain_len_up_to(after(rest, 2), b"\n"))
+        [b'`', rest @ ..] => (TokenKind::Other, 1, len_up_to(rest, b"`")),
+        [b'#', rest @ ..] => (TokenKind::Other, 1, len_up_to(rest, b"\n")),
+        [b'-', rest @ ..] if opens_dash_comment(rest) => {
+            (TokenKind::Other, 3, len_up_to(split(rest, 2).1, b"\n"))
         }
         [b'-', ..] => (TokenKind::Other, 1, 0),
-        [b'/', rest @ ..] if plain_opens_block_comment(rest) => {
-            (TokenKind::Other, 2, plain_len_up_to(after(rest, 1), b"*/"))
+        [b'/', rest @ ..] if opens_block_comment(rest) => {
+            (TokenKind::Other, 2, len_up_to(split(rest, 1).1, b"*/"))
         }
         [b'/', ..] => (TokenKind::Other, 1, 0),
         _ => (TokenKind::Other, 1, 0),
@@ -121,42 +120,20 @@ fn plain_first_token(text: &[u8], no_backslash_escape: bool) -> (TokenKind, usiz
     (kind, opening.saturating_add(tail))
 }
 
-/// The index of the first byte from this one on with which another token than a plain one may
-/// begin, or the end.
-fn plain_run_end(text: &[u8], from: usize) -> usize {
-    for at in from..text.len() {
-        if matches!(
-            text[at],
-            b'\'' | b'"' | b'`' | b'#' | b'-' | b'/' | b':' | b'?'
-        ) {
-            return at;
-        }
-    }
-    text.len()
-}
-
 /// The first name or mark of a text.
 fn plain_first_place(text: &[u8], no_backslash_escape: bool) -> Option<FoundPlace> {
-    let mut at = 0usize;
+    let mut before = 0usize;
     for _ in 0..text.len() {
-        at = plain_run_end(text, at);
-        if at >= text.len() {
-            return None;
-        }
-        let (kind, len) = plain_first_token(&text[at..], no_backslash_escape);
+        let (kind, len) = old_token(split(text, before).1, no_backslash_escape);
         let kind = match kind {
             TokenKind::Name => PlaceKind::Name,
             TokenKind::Mark => PlaceKind::Mark,
             TokenKind::Other => {
-                at = at.saturating_add(len);
+                before = before.saturating_add(len);
                 continue;
             }
         };
-        return Some(FoundPlace {
-            before: at,
-            kind,
-            len,
-        });
+        return Some(FoundPlace { before, kind, len });
     }
     None
 }
@@ -172,10 +149,10 @@ fn same_tokens(text: &[u8], no_backslash_escape: bool) -> bool {
             return true;
         }
         let found = first_token(rest, no_backslash_escape);
-        if found != plain_first_token(rest, no_backslash_escape) {
+        if found != old_token(rest, no_backslash_escape) {
             return false;
         }
-        rest = &rest[found.1.min(rest.len())..];
+        rest = split(rest, found.1).1;
     }
     true
 }

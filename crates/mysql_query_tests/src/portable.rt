@@ -38,8 +38,8 @@ fn are_portable(rt: &impl Abort, modes: &[bool], queries: &[&[u8]]) {
     }
 }
 
-// Queries with which a value left its literal on some server.
-const LEAKS: &[(&[u8], Construct, usize)] = &[
+// Queries, and their first construct: those with which a value left its literal on some server.
+const FOUND: &[(&[u8], Construct, usize)] = &[
     (b"SELECT /*+ ? */ 1", Construct::Hint, 7),
     (b"SELECT /*+ ' */ ' :a '", Construct::Hint, 7),
     (
@@ -61,15 +61,7 @@ const LEAKS: &[(&[u8], Construct, usize)] = &[
     (b"SELECT $js$ :a $js$", Construct::DollarQuote, 7),
     (b"SELECT 2 1.e-- :a", Construct::DashesAfterExponent, 10),
     (b"SELECT 1.5e+?", Construct::PlaceAfterExponent, 9),
-];
-
-#[test]
-fn leaks(rt: HostRuntime) {
-    are_found(&rt, BOTH, LEAKS);
-}
-
-// Each construct in other forms, and where it stands.
-const FORMS: &[(&[u8], Construct, usize)] = &[
+    // Each construct in other forms, and where it stands.
     (b"/*!", Construct::ExecutableComment, 0),
     (b"*/*! ; */", Construct::ExecutableComment, 1),
     (b"1 /* a *//*!;*/", Construct::ExecutableComment, 9),
@@ -110,48 +102,8 @@ const FORMS: &[(&[u8], Construct, usize)] = &[
     (b"[ /*!", Construct::Bracket, 0),
     (b"' [ ' $$ [", Construct::DollarQuote, 6),
     (b"-- [\n/*+ [ */", Construct::Hint, 5),
-];
-
-#[test]
-fn forms(rt: HostRuntime) {
-    are_found(&rt, BOTH, FORMS);
-}
-
-// Hints and executable comments in which nothing begins or ends: MySQL 9.7 and MariaDB 11.8, with
-// versions below and above the server's, answered such queries alike for each of two values. The
-// first three are examples of the MySQL Reference Manual ("Optimizer Hints", "Comments") with a
-// place.
-const QUIET: &[&[u8]] = &[
-    b"SELECT /*+ MAX_EXECUTION_TIME(1000) */ * FROM t1 WHERE a = :a",
-    b"SELECT /*! STRAIGHT_JOIN */ col1 FROM table1, table2 WHERE b = ?",
-    b"CREATE TABLE t1(a INT DEFAULT ?, KEY (a)) /*!50110 KEY_BLOCK_SIZE=1024 */;",
-    b"SELECT :a /*M! + 1 */, 2 /*M!100100 + 1 */",
-    b"SELECT 1 /*!99999 + 1 */, 2 /*!80000 + 1 */, :a",
-    b"/*!*/",
-    b"/*+*/",
-    b"/*M!*/",
-    b"/*!**/",
-    b"*/*! */",
-    b"//*+*/",
-    b"1 /* a *//*!*/",
-    b"/**//*M!100100 a */",
-    b"/*! a - b / c * d : e */",
-    b"/*! a$b $ . 1.5e-3 x.e5 */",
-    b"/*! SET @a:=1, @b:= 2 */",
-    b"/*! (] ,=<>~^&|%@ \x01\xc3 */",
-    b"/*!\n*/",
-    b"/*!*/ *",
-    b"/*!*/:a/*+*/?/*M!*/;",
-    b"/*+ a *//*! b */",
-];
-
-#[test]
-fn quiet_comments_are_portable(rt: HostRuntime) {
-    are_portable(&rt, BOTH, QUIET);
-}
-
-// What makes them differ: each of these in one of the three, and no end.
-const LOUD: &[(&[u8], Construct, usize)] = &[
+    // What makes hints and executable comments differ: each of these in one of the three, and no
+    // end.
     (b"/*!'*/", Construct::ExecutableComment, 0),
     (b"1 /*+\"*/", Construct::Hint, 2),
     (b"/*M!`*/", Construct::MariaDbComment, 0),
@@ -177,27 +129,45 @@ const LOUD: &[(&[u8], Construct, usize)] = &[
 ];
 
 #[test]
-fn loud_comments_are_found(rt: HostRuntime) {
-    are_found(&rt, BOTH, LOUD);
+fn constructs_are_found(rt: HostRuntime) {
+    are_found(&rt, BOTH, FOUND);
 }
 
-// In strings, identifiers and comments.
-const INSIDE: &[&[u8]] = &[
+// Portable queries.
+const PORTABLE: &[&[u8]] = &[
+    // Hints and executable comments in which nothing begins or ends: MySQL 9.7 and MariaDB 11.8,
+    // with versions below and above the server's, answered such queries alike for each of two
+    // values. The first three are examples of the MySQL Reference Manual ("Optimizer Hints",
+    // "Comments") with a place.
+    b"SELECT /*+ MAX_EXECUTION_TIME(1000) */ * FROM t1 WHERE a = :a",
+    b"SELECT /*! STRAIGHT_JOIN */ col1 FROM table1, table2 WHERE b = ?",
+    b"CREATE TABLE t1(a INT DEFAULT ?, KEY (a)) /*!50110 KEY_BLOCK_SIZE=1024 */;",
+    b"SELECT :a /*M! + 1 */, 2 /*M!100100 + 1 */",
+    b"SELECT 1 /*!99999 + 1 */, 2 /*!80000 + 1 */, :a",
+    b"/*!*/",
+    b"/*+*/",
+    b"/*M!*/",
+    b"/*!**/",
+    b"*/*! */",
+    b"//*+*/",
+    b"1 /* a *//*!*/",
+    b"/**//*M!100100 a */",
+    b"/*! a - b / c * d : e */",
+    b"/*! a$b $ . 1.5e-3 x.e5 */",
+    b"/*! SET @a:=1, @b:= 2 */",
+    b"/*! (] ,=<>~^&|%@ \x01\xc3 */",
+    b"/*!\n*/",
+    b"/*!*/ *",
+    b"/*!*/:a/*+*/?/*M!*/;",
+    b"/*+ a *//*! b */",
+    // Constructs in strings, identifiers and comments.
     b"SELECT '/*! /*+ /*M! --\x01 [ $$ .e-- 1e+? '",
     b"SELECT \"/*! /*+ /*M! --\x01 [ $$ .e-- 1e+? \"",
     b"SELECT `/*! /*+ /*M! --\x01 [ $$ .e-- 1e+? `",
     b"SELECT 1 # /*! /*+ /*M! --\x01 [ $$ .e-- 1e+? \" '",
     b"SELECT 1 -- /*! /*+ /*M! --\x01 [ $$ .e-- 1e+? \" '",
     b"SELECT 1 /* /*! /*+ /*M! --\x01 [ $$ .e-- 1e+? \" ' */",
-];
-
-#[test]
-fn constructs_inside_are_portable(rt: HostRuntime) {
-    are_portable(&rt, BOTH, INSIDE);
-}
-
-// What is near a construct.
-const NEAR: &[&[u8]] = &[
+    // What is near a construct.
     b"SELECT 7 --\n-?",
     b"SELECT 7 --",
     b"--",
@@ -249,8 +219,8 @@ const NEAR: &[&[u8]] = &[
 ];
 
 #[test]
-fn what_is_near_a_construct_is_portable(rt: HostRuntime) {
-    are_portable(&rt, BOTH, NEAR);
+fn others_are_portable(rt: HostRuntime) {
+    are_portable(&rt, BOTH, PORTABLE);
 }
 
 // A quote after a backslash, in a text in `"`: with backslash escapes it stands inside.

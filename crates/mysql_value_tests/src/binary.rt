@@ -1,20 +1,11 @@
 //! Values in binary form: as they are written.
-use crate::shared::{Plain, answer_of, same, same_in, value};
+use crate::shared::{Plain, answer_of, bytes, same_in, value};
 use mysql_values::value::{
-    BinValue, ClientSide, SerializationSide, ServerSide, TextValue, Value, ValueDeserializer,
+    BinValue, ClientSide, SerializationSide, ServerSide, TextValue, ValueDeserializer,
 };
 use mysql_wire_part::{MyDeserialize, MySerialize};
-use std::alloc::Global;
-use std::process::Abort;
 
-// The value is written after what stands in the buffer, as the form, whose length it knows.
-fn is_written(rt: &impl Abort, alloc: Global, value: &Value, form: &[u8]) {
-    let mut buf = answer_of(rt, vec![in alloc; 7]);
-    answer_of(rt, value.serialize(&mut buf));
-    same_in(rt, buf.strip_prefix(&[7]), Some(form), value);
-    same_in(rt, value.bin_len(), form.len() as u64, value);
-}
-
+// Values, and the bytes that they are written as.
 const FORMS: &[(Plain, &[u8])] = &[
     (Plain::Null, &[]),
     (Plain::Bytes(b""), &[0]),
@@ -74,14 +65,40 @@ const FORMS: &[(Plain, &[u8])] = &[
 #[test]
 fn written_values(rt: HostRuntime) {
     for (plain, form) in FORMS {
-        is_written(&rt, rt.alloc(), &value(&rt, rt.alloc(), *plain), *form);
+        let value = value(&rt, rt.alloc(), *plain);
+        let mut buf = answer_of(&rt, vec![in rt.alloc(); 7]);
+        answer_of(&rt, value.serialize(&mut buf));
+        let found = (buf.strip_prefix(&[7]), value.bin_len());
+        same_in(&rt, found, (Some(*form), form.len() as u64), &value);
+    }
+}
+
+// Lengths of bytes, what their form begins with, and its length.
+const LONG: &[(usize, &[u8], u64)] = &[
+    (251, &[0xFC, 0xFB, 0], 254),
+    (65535, &[0xFC, 0xFF, 0xFF], 65538),
+    (65536, &[0xFD, 0, 0, 1], 65540),
+];
+
+#[test]
+fn long_bytes(rt: HostRuntime) {
+    for (len, head, form_len) in LONG {
+        let text = answer_of(&rt, vec![in rt.alloc(); b'a'; *len]);
+        let value = bytes(&rt, rt.alloc(), &text);
+        let mut buf = Vec::new(rt.alloc());
+        answer_of(&rt, value.serialize(&mut buf));
+        let found = (buf.strip_prefix(*head), value.bin_len());
+        same_in(&rt, found, (Some(text.as_slice()), *form_len), len);
     }
 }
 
 #[test]
 fn constants(rt: HostRuntime) {
-    same(&rt, &ValueDeserializer::<BinValue>::SIZE, &None);
-    same(&rt, &ValueDeserializer::<TextValue>::SIZE, &None);
-    same(&rt, &ServerSide::BIT_OFFSET, &2);
-    same(&rt, &ClientSide::BIT_OFFSET, &0);
+    let sizes = (
+        ValueDeserializer::<BinValue>::SIZE,
+        ValueDeserializer::<TextValue>::SIZE,
+    );
+    same_in(&rt, sizes, (None, None), &"sizes");
+    let offsets = (ServerSide::BIT_OFFSET, ClientSide::BIT_OFFSET);
+    same_in(&rt, offsets, (2, 0), &"the sides");
 }

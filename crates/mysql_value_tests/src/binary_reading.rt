@@ -5,7 +5,6 @@ use mysql_values::value::{BinValue, Value, ValueDeserializer};
 use mysql_wire_part::WireError::{BadLengthLead, UnexpectedEof, UnsupportedColumn};
 use mysql_wire_part::{ColumnFlags, ColumnType, Flags, MyDeserialize, ParseBuf, WireError};
 use std::alloc::Global;
-use std::process::Abort;
 
 const SIGNED: u16 = 0;
 
@@ -28,14 +27,6 @@ fn read(
         Ok(read) => Ok(read.0),
         Err(error) => Err(error),
     }
-}
-
-// The column reads the value at the front of the bytes, and leaves the byte 42.
-fn reads(rt: &impl Abort, alloc: Global, column: (ColumnType, u16), input: &[u8], value: &Value) {
-    let mut buf = ParseBuf(input);
-    let found = answer_of(rt, read(alloc, column, &mut buf));
-    same_in(rt, &found, value, &column);
-    same_in(rt, buf.0, b"*".as_slice(), &input);
 }
 
 // Columns and their flags, bytes, and the value that they begin with.
@@ -110,20 +101,15 @@ const READ: &[(ColumnType, u16, &[u8], Plain)] = columns! {
     MYSQL_TYPE_NEWDECIMAL, SIGNED, &[3, 0x31, 0x2E, 0x35, 0x2A], Bytes(b"1.5");
 };
 
+// The byte 42 is left.
 #[test]
 fn values_that_are_read(rt: HostRuntime) {
     for (column, flags, input, plain) in READ {
         let value = value(&rt, rt.alloc(), *plain);
-        reads(&rt, rt.alloc(), (*column, *flags), *input, &value);
+        let mut buf = ParseBuf(*input);
+        let found = answer_of(&rt, read(rt.alloc(), (*column, *flags), &mut buf));
+        same_in(&rt, (&found, buf.0), (&value, b"*"), &(column, input));
     }
-}
-
-// The column refuses the bytes, and leaves them.
-fn refuses(rt: &impl Abort, alloc: Global, column: ColumnType, input: &[u8], error: &WireError) {
-    let mut buf = ParseBuf(input);
-    let refusal = read(alloc, (column, SIGNED), &mut buf).err();
-    same_in(rt, refusal.as_ref(), Some(error), &column);
-    same_in(rt, buf.0, input, &column);
 }
 
 // Values that end too early, lengths whose first byte begins none, and types that are not read.
@@ -156,6 +142,13 @@ const REFUSED: &[(ColumnType, &[u8], WireError)] = columns! {
 #[test]
 fn refused_values_leave_the_buffer(rt: HostRuntime) {
     for (column, input, error) in REFUSED {
-        refuses(&rt, rt.alloc(), *column, *input, error);
+        let mut buf = ParseBuf(*input);
+        let refusal = read(rt.alloc(), (*column, SIGNED), &mut buf).err();
+        same_in(
+            &rt,
+            (refusal.as_ref(), buf.0),
+            (Some(error), *input),
+            column,
+        );
     }
 }

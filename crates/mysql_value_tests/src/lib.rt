@@ -1,10 +1,18 @@
-//! Tests of the wire part, values and literals, through public calls alone.
+//! Tests of the wire part, values, literals and conversions, through public calls alone.
 #![tactic(auto)]
 
+#[cfg(test)]
+mod any_bytes;
 #[cfg(test)]
 mod binary;
 #[cfg(test)]
 mod binary_reading;
+#[cfg(test)]
+mod conversions;
+#[cfg(test)]
+mod durations;
+#[cfg(test)]
+mod messages;
 #[cfg(test)]
 mod shared;
 #[cfg(test)]
@@ -18,6 +26,9 @@ mod time_texts;
 #[cfg(test)]
 mod values;
 #[cfg(test)]
+mod whole_numbers;
+#[cfg(test)]
 mod wire;
 #[cfg(test)]
 mod wire_types;
+pub mod zero;

@@ -1,21 +1,7 @@
 //! Steady literals: how long they are, and how they fill a slice.
-use crate::shared::{Plain, same, same_in, value};
+use crate::shared::{Plain, same_in, value};
 use mysql_steady_literal::steady_literal::{put_steady, steady_len};
 use mysql_values::value::Value;
-use std::alloc::Global;
-use std::process::Abort;
-
-// The value has this steady literal.
-fn has_steady_literal(rt: &impl Abort, alloc: Global, value: &Value, literal: &[u8]) {
-    // The call below needs this fact, which no call hands on.
-    assert!(rt;
-        steady_len(value) == Some(literal.len() as u128),
-        "{value:?}"
-    );
-    let mut room = vec![in alloc; 0xFFu8; literal.len()].expect(rt, "no memory");
-    put_steady(value, room.as_mut_slice());
-    same_in(rt, room.as_slice(), literal, value);
-}
 
 // Values, and their steady literals. MySQL 9.7 and MariaDB 11.8 read literals of bytes of these
 // forms as these bytes, in both modes and over every character set that they have.
@@ -52,12 +38,19 @@ const LITERALS: &[(Plain, &[u8])] = &[
 fn literals(rt: HostRuntime) {
     for (plain, literal) in LITERALS {
         let value = value(&rt, rt.alloc(), *plain);
-        has_steady_literal(&rt, rt.alloc(), &value, *literal);
+        // The call below needs this fact, which no call hands on.
+        assert!(rt;
+            steady_len(&value) == Some(literal.len() as u128),
+            "{value:?}"
+        );
+        let mut room = vec![in rt.alloc(); 0xFFu8; literal.len()].expect(&rt, "no memory");
+        put_steady(&value, room.as_mut_slice());
+        same_in(&rt, room.as_slice(), *literal, &value);
     }
 }
 
 #[test]
 fn floats_have_none(rt: HostRuntime) {
-    same(&rt, steady_len(&Value::Float(0)), None);
-    same(&rt, steady_len(&Value::Double(0)), None);
+    let found = (steady_len(&Value::Float(0)), steady_len(&Value::Double(0)));
+    same_in(&rt, found, (None, None), &"floats");
 }

@@ -1,8 +1,9 @@
 //! The reader of time texts.
-use crate::shared::each;
+use crate::shared::same_in;
 use mysql_sql_text::time_text::read_time_text;
 
-const READ: &[(&[u8], Option<(bool, u64)>)] = &[
+// Texts, whether each is negative, and its microseconds.
+const TEXTS: &[(&[u8], Option<(bool, u64)>)] = &[
     (b"00:00:00", Some((false, 0))),
     (b"-00:00:00", Some((true, 0))),
     (b"00:00:00.000001", Some((false, 1))),
@@ -16,14 +17,7 @@ const READ: &[(&[u8], Option<(bool, u64)>)] = &[
     (b"099:58:58.000001", Some((false, 359_938_000_001))),
     (b"899:59:59.5", Some((false, 3_239_999_500_000))),
     (b"-899:58:58.999999", Some((true, 3_239_938_999_999))),
-];
-
-#[test]
-fn time_texts_are_read(rt: HostRuntime) {
-    each(&rt, READ, read_time_text);
-}
-
-const NOT_READ: &[(&[u8], Option<(bool, u64)>)] = &[
+    // Others are not read.
     (b"", None),
     (b"-", None),
     (b":", None),
@@ -58,6 +52,8 @@ const NOT_READ: &[(&[u8], Option<(bool, u64)>)] = &[
 ];
 
 #[test]
-fn other_texts_are_not_read(rt: HostRuntime) {
-    each(&rt, NOT_READ, read_time_text);
+fn time_texts(rt: HostRuntime) {
+    for (text, wanted) in TEXTS {
+        same_in(&rt, read_time_text(*text), *wanted, text);
+    }
 }

@@ -1,18 +1,11 @@
 //! Values: how they are shown, compared and copied.
-use crate::shared::{Plain, answer_of, same, same_in, value};
+use crate::shared::{Plain, answer_of, same_in, value, values};
 use mysql_values::bytes::Bytes;
-use mysql_values::value::Value;
-use std::alloc::Global;
 use std::cmp::Ordering;
 use std::fmt::Debug;
 use std::process::Abort;
 
-// The value is shown as the text.
-fn is_shown<T: Debug + Drop>(rt: &impl Abort, alloc: Global, value: T, text: &str) {
-    let shown = answer_of(rt, format!(in alloc; "{value:?}"));
-    same(rt, shown.as_str(), text);
-}
-
+// Values, and how they are shown.
 const SHOWN: &[(Plain, &str)] = &[
     (Plain::Bytes(b""), "Bytes(\"\")"),
     (Plain::Bytes(b"it's ok!"), "Bytes(\"it's ok!\")"),
@@ -56,7 +49,9 @@ const SHOWN: &[(Plain, &str)] = &[
 #[test]
 fn debug_texts(rt: HostRuntime) {
     for (plain, text) in SHOWN {
-        is_shown(&rt, rt.alloc(), value(&rt, rt.alloc(), *plain), *text);
+        let value = value(&rt, rt.alloc(), *plain);
+        let shown = answer_of(&rt, format!(in rt.alloc(); "{value:?}"));
+        same_in(&rt, shown.as_str(), *text, &"a value");
     }
 }
 
@@ -85,51 +80,28 @@ const ASCENDING: &[Plain] = &[
     Plain::Time(true, 1, 0, 0, 0, 0),
 ];
 
-fn ascending(rt: &impl Abort, alloc: Global) -> Vec<Value> {
-    let mut values = Vec::new(alloc);
-    for plain in ASCENDING {
-        answer_of(rt, values.push(value(rt, alloc, *plain)));
-    }
-    values
-}
-
 // Two values stand in this order, and are equal if it says so.
 fn are_in_order<T: Debug + Ord>(rt: &impl Abort, a: &T, b: &T, order: Ordering) {
-    same_in(rt, a.cmp(b), order, &(a, b));
-    same_in(rt, a == b, order == Ordering::Equal, &(a, b));
+    let found = (a.cmp(b), a.partial_cmp(b), a == b);
+    let wanted = (order, Some(order), order == Ordering::Equal);
+    same_in(rt, found, wanted, &(a, b));
 }
 
 #[test]
 fn equality_and_order(rt: HostRuntime) {
-    let values = ascending(&rt, rt.alloc());
+    let values = values(&rt, rt.alloc(), ASCENDING);
+    // The copy of a vector goes by the trait.
+    let copies = answer_of(&rt, values.clone());
     for (i, a) in values.iter().enumerate() {
-        for (j, b) in values.iter().enumerate() {
+        for (j, b) in copies.iter().enumerate() {
             are_in_order(&rt, a, b, i.cmp(&j));
         }
     }
-    let last = values.last();
-    same(
-        &rt,
-        last.partial_cmp(&values.first()),
-        Some(Ordering::Greater),
-    );
-}
-
-#[test]
-fn copies(rt: HostRuntime) {
-    // The copy of a vector goes by the trait.
-    let held = ascending(&rt, rt.alloc());
-    same(
-        &rt,
-        answer_of(&rt, held.clone()).as_slice(),
-        held.as_slice(),
-    );
 }
 
 #[test]
 fn bytes_and_vectors(rt: HostRuntime) {
     let text = Bytes::from(answer_of(&rt, Vec::from_slice(rt.alloc(), b"text")));
-    let copy = answer_of(&rt, text.clone());
-    same(&rt, copy.as_slice(), text.as_slice());
-    same(&rt, Vec::<u8>::from(text).as_slice(), b"text".as_slice());
+    let copy = Vec::<u8>::from(answer_of(&rt, text.clone()));
+    same_in(&rt, copy.as_slice(), b"text", &"a copy");
 }

@@ -1,8 +1,7 @@
 //! The buffer: integers of each width, and length-encoded strings.
-use crate::shared::{answer_of, each, same, same_in};
+use crate::shared::{answer_of, same_in};
+use mysql_wire_part::WireError::{BadLengthLead, UnexpectedEof};
 use mysql_wire_part::{ParseBuf, WireError, fill_lenenc_str, lenenc_str_len, put_lenenc_str};
-use std::alloc::Global;
-use std::process::Abort;
 
 // What the eight calls answer one after another, widened.
 fn integers(bytes: &[u8]) -> [Option<i128>; 8] {
@@ -79,7 +78,9 @@ const INTEGERS: &[(&[u8], [Option<i128>; 8])] = &[
 
 #[test]
 fn integers_of_each_width(rt: HostRuntime) {
-    each(&rt, INTEGERS, integers);
+    for (bytes, wanted) in INTEGERS {
+        same_in(&rt, integers(*bytes), *wanted, bytes);
+    }
 }
 
 // So many bytes are wanted of seven, these are handed out, and so many are left.
@@ -91,18 +92,14 @@ const STRETCHES: &[(usize, (Option<&[u8]>, usize))] = &[
     (0, (Some(&[]), 7)),
 ];
 
-// What is handed out of the front of seven bytes, and how many are left.
-fn stretch(count: usize) -> (Option<&'static [u8]>, usize) {
-    let mut buf = ParseBuf(&[1, 2, 3, 4, 5, 6, 7]);
-    match buf.checked_eat_buf(count) {
-        Some(front) => (Some(front.0), buf.len()),
-        None => (None, buf.len()),
-    }
-}
-
 #[test]
 fn stretches_of_bytes(rt: HostRuntime) {
-    each(&rt, STRETCHES, stretch);
+    for (count, wanted) in STRETCHES {
+        let mut buf = ParseBuf(&[1, 2, 3, 4, 5, 6, 7]);
+        let front = buf.checked_eat_buf(*count).map(|front| front.0);
+        let found = ((front, buf.len()), buf.is_empty());
+        same_in(&rt, found, (*wanted, wanted.1 == 0), count);
+    }
 }
 
 // Lengths of strings, and how they are written.
@@ -117,29 +114,14 @@ const LENGTHS: &[(usize, &[u8])] = &[
     (16777216, &[0xFE, 0, 0, 0, 1, 0, 0, 0, 0]),
 ];
 
-// The string is written after what stands in the buffer, with this head, and read from there.
-fn is_written(rt: &impl Abort, alloc: Global, text: &[u8], head: &[u8]) {
-    let mut buf = answer_of(rt, Vec::from_slice(alloc, head));
-    answer_of(rt, put_lenenc_str(&mut buf, text));
-    let mut rest = ParseBuf(buf.as_slice());
-    let is_front = rest.checked_eat_buf(head.len()).is_some();
-    let form = rest.0;
-    let is_read = rest.eat_lenenc_str() == Ok(text);
-    let is_form = form.strip_prefix(head) == Some(text);
-    let len = form.len() as u64;
-    same_in(
-        rt,
-        (is_front, is_form, is_read, lenenc_str_len(text)),
-        (true, true, true, len),
-        &head,
-    );
-}
-
 #[test]
 fn lengths(rt: HostRuntime) {
     for (len, head) in LENGTHS {
         let text = answer_of(&rt, vec![in rt.alloc(); b'a'; *len]);
-        is_written(&rt, rt.alloc(), text.as_slice(), *head);
+        let mut buf = Vec::new(rt.alloc());
+        answer_of(&rt, put_lenenc_str(&mut buf, &text));
+        let found = (buf.strip_prefix(*head), lenenc_str_len(&text));
+        same_in(&rt, found, (Some(text.as_slice()), buf.len() as u64), len);
     }
 }
 
@@ -150,58 +132,48 @@ fn a_string_in_a_room(rt: HostRuntime) {
     put_lenenc_str(&mut room, b"abc").expect(&rt, "no memory");
     room.fill(0);
     fill_lenenc_str(&mut room, b"abc");
-    same(&rt, room.as_slice(), b"\x03abc".as_slice());
-}
-
-// What is read of the front of the bytes, and what is left.
-fn eaten(bytes: &'static [u8]) -> (Option<&'static [u8]>, &'static [u8]) {
-    let mut buf = ParseBuf(bytes);
-    let read = buf.eat_lenenc_str().ok();
-    (read, buf.0)
+    same_in(&rt, room.as_slice(), b"\x03abc", &"a room");
 }
 
 // Bytes, the string in front of them, and what is left.
-const STRINGS: &[(&[u8], (Option<&[u8]>, &[u8]))] = &[
+const STRINGS: &[(&[u8], Result<&[u8], WireError>, &[u8])] = &[
     // Longer spellings than needed.
-    (&[0xFC, 1, 0, b'A', 0x2A], (Some(b"A"), b"*")),
-    (&[0xFD, 1, 0, 0, b'A', 0x2A], (Some(b"A"), b"*")),
-    (
-        &[0xFE, 1, 0, 0, 0, 0, 0, 0, 0, b'A', 0x2A],
-        (Some(b"A"), b"*"),
-    ),
-    (&[1, b'A', 0x2A], (Some(b"A"), b"*")),
-    (&[], (None, &[])),
-    (&[1], (None, &[1])),
-    (&[0xFA, 1, 2], (None, &[0xFA, 1, 2])),
-    (&[0xFC, 0], (None, &[0xFC, 0])),
-    (&[0xFC, 1, 0], (None, &[0xFC, 1, 0])),
-    (&[0xFD, 0, 0], (None, &[0xFD, 0, 0])),
-    (&[0xFD, 2, 0, 0, 1], (None, &[0xFD, 2, 0, 0, 1])),
+    (&[0xFC, 1, 0, b'A', 0x2A], Ok(b"A"), b"*"),
+    (&[0xFD, 1, 0, 0, b'A', 0x2A], Ok(b"A"), b"*"),
+    (&[0xFE, 1, 0, 0, 0, 0, 0, 0, 0, b'A', 0x2A], Ok(b"A"), b"*"),
+    (&[1, b'A', 0x2A], Ok(b"A"), b"*"),
+    (&[], Err(UnexpectedEof), &[]),
+    (&[1], Err(UnexpectedEof), &[1]),
+    (&[0xFA, 1, 2], Err(UnexpectedEof), &[0xFA, 1, 2]),
+    (&[0xFC, 0], Err(UnexpectedEof), &[0xFC, 0]),
+    (&[0xFC, 1, 0], Err(UnexpectedEof), &[0xFC, 1, 0]),
+    (&[0xFD, 0, 0], Err(UnexpectedEof), &[0xFD, 0, 0]),
+    (&[0xFD, 2, 0, 0, 1], Err(UnexpectedEof), &[0xFD, 2, 0, 0, 1]),
     (
         &[0xFE, 0, 0, 0, 0, 0, 0, 0],
-        (None, &[0xFE, 0, 0, 0, 0, 0, 0, 0]),
+        Err(UnexpectedEof),
+        &[0xFE, 0, 0, 0, 0, 0, 0, 0],
     ),
     (
         &[0xFE, 0, 0, 0, 0, 0, 0, 0, 0x80, 1],
-        (None, &[0xFE, 0, 0, 0, 0, 0, 0, 0, 0x80, 1]),
+        Err(UnexpectedEof),
+        &[0xFE, 0, 0, 0, 0, 0, 0, 0, 0x80, 1],
     ),
     (
         &[0xFE, 255, 255, 255, 255, 255, 255, 255, 255, 1],
-        (None, &[0xFE, 255, 255, 255, 255, 255, 255, 255, 255, 1]),
+        Err(UnexpectedEof),
+        &[0xFE, 255, 255, 255, 255, 255, 255, 255, 255, 1],
     ),
+    // No string begins so.
+    (&[0xFB, 1, 2], Err(BadLengthLead(0xFB)), &[0xFB, 1, 2]),
+    (&[0xFF, 1, 2], Err(BadLengthLead(0xFF)), &[0xFF, 1, 2]),
 ];
 
 #[test]
 fn strings(rt: HostRuntime) {
-    each(&rt, STRINGS, eaten);
-}
-
-// No string begins so.
-#[test]
-fn refused_leads(rt: HostRuntime) {
-    for lead in [0xFB, 0xFF] {
-        let bytes = [lead, 1, 2];
-        let refusal = ParseBuf(&bytes).eat_lenenc_str();
-        same(&rt, &refusal, &Err(WireError::BadLengthLead(lead)));
+    for (bytes, wanted, left) in STRINGS {
+        let mut buf = ParseBuf(*bytes);
+        let found = buf.eat_lenenc_str();
+        same_in(&rt, (&found, buf.0), (wanted, *left), bytes);
     }
 }

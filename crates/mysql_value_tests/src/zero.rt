@@ -1,6 +1,6 @@
 //! A type of a user's own that values convert to, of which contracts see nothing.
 ghost use Rattle.std.specs.Prelude.{⊤};
-ghost use Rattle.mysql_conversion_tests.specs.Zero.{zero_conversion};
+ghost use Rattle.mysql_value_tests.specs.Zero.{zero_conversion};
 
 use mysql_values::value::Value;
 use mysql_values::value::convert::{FromValue, FromValueError, ValueIr};
@@ -46,33 +46,18 @@ impl FromValue for Zero {
 #[cfg(test)]
 mod tests {
     use super::*;
-    use crate::shared::{answer_of, comes_back, refused};
+    use crate::shared::{answer_of, same_in};
     use mysql_values::value::convert::from_value_opt;
-    use std::alloc::Global;
-    use std::process::Abort;
-
-    fn zero_comes_back(rt: &impl Abort, alloc: Global, value: Value) {
-        comes_back(
-            rt,
-            alloc,
-            Zero::get_intermediate(answer_of(rt, value.clone())),
-            &value,
-        );
-    }
-
-    #[test]
-    fn handed_back(rt: HostRuntime) {
-        zero_comes_back(&rt, rt.alloc(), Value::Int(0));
-        zero_comes_back(&rt, rt.alloc(), Value::NULL);
-    }
 
     #[test]
     fn converted(rt: HostRuntime) {
-        let _zero: Zero = answer_of(&rt, from_value_opt(Value::Int(0)));
-        let optional: Option<Zero> = answer_of(&rt, from_value_opt(Value::Int(0)));
-        assert!(rt; optional.is_some());
-        let optional: Option<Zero> = answer_of(&rt, from_value_opt(Value::NULL));
-        assert!(rt; optional.is_none());
-        refused::<Zero>(&rt, Value::Int(1));
+        let zero: Option<Zero> = answer_of(&rt, from_value_opt(Value::Int(0)));
+        let none: Option<Zero> = answer_of(&rt, from_value_opt(Value::NULL));
+        same_in(
+            &rt,
+            (zero.is_some(), none.is_some()),
+            (true, false),
+            &"Zero",
+        );
     }
 }

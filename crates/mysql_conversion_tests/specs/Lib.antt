@@ -1,2 +1,0 @@
-pub mod Percent
-pub mod Zero
