@@ -9,6 +9,7 @@ import sys
 
 sys.path.insert(0, os.path.join(os.path.dirname(os.path.abspath(__file__)), "..", "..", "bindings", "python"))
 
+import again
 import beside
 import client
 import leaks
@@ -21,6 +22,7 @@ import rows
 import search
 import sent
 import signs
+import steady
 from harness import Tests
 from protocol import Connection
 
@@ -45,6 +47,9 @@ def main(path: str, mysql_query: str, folder: str) -> int:
     limits.run(tests, path, folder)
     search.run(tests, path)
     signs.run(tests, path)
+    steady.run(tests, path, folder)
+    again.run(tests, path, folder)
+    # It ends the second server.
     others.run(tests, path, mysql_query, folder)
     print(f"{version}: {tests.passed} passed, {tests.failed} failed", flush=True)
     with open(os.path.join(folder, "counts"), "w", encoding="utf-8") as counts:

@@ -88,6 +88,8 @@ have_server() {
     mysql)
         make_root mysql-sid mysql-server-core,mysql-client-core &&
             write_rooted mysql bin/mysql &&
+            write_rooted mysqlbinlog bin/mysqlbinlog &&
+            write_rooted mysqldump bin/mysqldump &&
             write_rooted server sbin/mysqld --no-defaults "--basedir=$root/usr" --mysqlx=OFF --secure-file-priv=
         ;;
     mariadb-sid)
@@ -156,13 +158,14 @@ start_server() {
 }
 
 # Starts both: the first has a performance_schema, where tests ask what it was sent. The second has a binary log and
-# ignores the client's character set. MySQL has no option for the latter, and no second one.
+# ignores the client's character set, for which MySQL has no option.
 start_servers() {
     set -- "$1" server --character-set-server=utf8mb4 --performance-schema=ON
     case $1 in
     mysql)
         shift
-        start_server "$@" --skip-log-bin --federated
+        start_server "$@" --skip-log-bin --federated "--innodb-directories=$place/server" &&
+            start_server second --log-bin=log --binlog-format=STATEMENT --server-id=1
         ;;
     *)
         shift
