@@ -10,5 +10,7 @@ mod steady_form;
 mod steady_text;
 mod steady_text_error;
 
-pub use steady_text::{bind_text_anywhere, bind_text_in_any_mode};
+pub use steady_text::{
+    bind_borrowed_anywhere, bind_steady, bind_text_anywhere, bind_text_in_any_mode,
+};
 pub use steady_text_error::SteadyTextError;

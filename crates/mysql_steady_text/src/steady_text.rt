@@ -5,7 +5,7 @@ ghost use Rattle.mysql_named_params.specs.Places.{HasName, HasMark};
 ghost use Rattle.mysql_named_params.specs.FirstUnportable.{first_unportable};
 ghost use Rattle.mysql_named_params.specs.Steady.{first_unsteady, IsSteady};
 ghost use Rattle.mysql_named_params.specs.declared.portable.Unportable as unportable;
-ghost use Rattle.mysql_params_core.specs.Given.{given};
+ghost use Rattle.mysql_params_core.specs.Given.{given, given_by_borrowed};
 ghost use Rattle.mysql_binding.specs.FirstCause.{first_cause};
 ghost use Rattle.mysql_steady_text.specs.SteadyAgain.{IsSteadyBoundAgain, IsSteadyByPosition};
 ghost use Rattle.mysql_steady_text.specs.SteadyText.{IsAnywhereText, IsSteadyText};
@@ -16,7 +16,7 @@ use crate::steady_text_error::SteadyTextError;
 use mysql_binding::{BindError, bind_borrowed_as};
 use mysql_named_params::portable::first_unportable;
 use mysql_named_params::steady::first_unsteady;
-use mysql_params_core::params::Params;
+use mysql_params_core::params::{BorrowedParams, Params};
 use std::alloc::Global;
 
 /// The query with the steady literal of a value in the place of each name and mark: SQL text that
@@ -62,13 +62,7 @@ pub fn bind_text_anywhere(
         first_unportable ts ≡ None → HasName ts × HasMark ts →
         IsErrOf result (SteadyTextError.Bind BindError.Mixed)) }
 {
-    if let Some(at) = first_unsteady(query) {
-        return Err(SteadyTextError::Unsteady { at });
-    }
-    if let Some(found) = first_unportable(query, false) {
-        return Err(SteadyTextError::Unportable(found));
-    }
-    bind_steady(alloc, query, params)
+    bind_borrowed_anywhere(alloc, query, params.borrowed())
 }
 
 /// [`bind_text_anywhere`] for a query that is meant for one server: the text that no `sql_mode` and
@@ -95,21 +89,58 @@ pub fn bind_text_in_any_mode(
 {
     match first_unsteady(query) {
         Some(at) => Err(SteadyTextError::Unsteady { at }),
-        None => bind_steady(alloc, query, params),
+        None => bind_steady(alloc, query, params.borrowed()),
     }
 }
 
-// The text of a steady query, which has the same tokens in both modes.
-fn bind_steady(alloc: Global, query: &[u8], params: Params) -> Result<Vec<u8>, SteadyTextError>
+/// [`bind_text_anywhere`] with borrowed parameters, lent to the crate above.
+pub fn bind_borrowed_anywhere(
+    alloc: Global,
+    query: &[u8],
+    params: BorrowedParams<'_>,
+) -> Result<Vec<u8>, SteadyTextError>
+    ensures bound { (mode : Bool) → OnTokens mode query.now (λ ts. IfOk result (λ text.
+        IsAnywhereText query.now ts (given_by_borrowed params.entry) text.items)) }
+    ensures refused { (mode : Bool) → OnTokens mode query.now (λ ts. IfErr result
+        (IsSteadyRefusal query.now (first_unportable ts)
+        (first_cause ts (given_by_borrowed params.entry)))) }
+    ensures bound_again { IfOk result (λ text. IsSteadyBoundAgain text.items) }
+    ensures by_position { (mode : Bool) → OnTokens mode query.now (λ ts. IfOk result (λ text.
+        IsSteadyByPosition mode ts (given_by_borrowed params.entry) text.items)) }
+    ensures unsteady { (at : ℕ) → first_unsteady query.now ≡ Some at →
+        IsErrOf result (SteadyTextError.Unsteady at) }
+    ensures unportable { (mode : Bool) → OnTokens mode query.now (λ ts. IsSteady query.now →
+        (found : unportable.Unportable) → first_unportable ts ≡ Some found →
+        IsErrOf result (SteadyTextError.Unportable found)) }
+    ensures mixed { (mode : Bool) → OnTokens mode query.now (λ ts. IsSteady query.now →
+        first_unportable ts ≡ None → HasName ts × HasMark ts →
+        IsErrOf result (SteadyTextError.Bind BindError.Mixed)) }
+{
+    if let Some(at) = first_unsteady(query) {
+        return Err(SteadyTextError::Unsteady { at });
+    }
+    if let Some(found) = first_unportable(query, false) {
+        return Err(SteadyTextError::Unportable(found));
+    }
+    bind_steady(alloc, query, params)
+}
+
+/// The text of a steady query, which has the same tokens in both modes: the body of
+/// [`bind_borrowed_anywhere`], lent to the crate above. Its only errors are `Bind`.
+pub fn bind_steady(
+    alloc: Global,
+    query: &[u8],
+    params: BorrowedParams<'_>,
+) -> Result<Vec<u8>, SteadyTextError>
     requires { IsSteady query.now }
     ensures bound { (mode : Bool) → OnTokens mode query.now (λ ts. IfOk result (λ text.
-        IsSteadyText ts (given params) text.items)) }
+        IsSteadyText ts (given_by_borrowed params.entry) text.items)) }
     ensures refused { (mode : Bool) → OnTokens mode query.now (λ ts. IfErr result
-        (IsBindRefusal (first_cause ts (given params)))) }
+        (IsBindRefusal (first_cause ts (given_by_borrowed params.entry)))) }
     ensures mixed { (mode : Bool) → OnTokens mode query.now (λ ts. HasName ts × HasMark ts →
         IsErrOf result (SteadyTextError.Bind BindError.Mixed)) }
 {
-    match bind_borrowed_as(alloc, query, params.borrowed(), false, &SteadyForm) {
+    match bind_borrowed_as(alloc, query, params, false, &SteadyForm) {
         Ok(text) => Ok(text),
         Err(error) => Err(SteadyTextError::Bind(error)),
     }
