@@ -7,4 +7,5 @@ pub mod NamePlace
 pub mod NamesAnswer
 pub mod NamesSurvey
 pub mod IntoRoom
+pub mod AnywhereIntoRoom
 pub mod UnportableReport

@@ -1,7 +1,7 @@
 -- What became of a call that writes into a caller's room, as a number and fields.
 use Rattle.std.specs.Prelude.{◌≡◌, ℕ, ℤ, pos, ⊤}
 use Rattle.mysql_flat_params.specs.declared.outcome.Outcome.{Outcome}
-use Rattle.mysql_flat_params.specs.declared.outcome.Outcome.TheVariants.{Done, OutOfMemory, Room, FormEnd, FormLengthLead, FormType, FormMixed, FormRepeated, Mixed, Missing, NamedForPositional, PositionalForNamed, MarkCount, NotAlone, Float}
+use Rattle.mysql_flat_params.specs.declared.outcome.Outcome.TheVariants.{Done, OutOfMemory, Room, FormEnd, FormLengthLead, FormType, FormMixed, FormRepeated, Mixed, Missing, NamedForPositional, PositionalForNamed, MarkCount, NotAlone, Float, Unsteady, Unportable}
 use Rattle.mysql_flat_params.specs.declared.outcome.Report.{Report}
 
 -- the number of an outcome
@@ -21,6 +21,8 @@ number_of PositionalForNamed = 11
 number_of (MarkCount marks values) = 12
 number_of (NotAlone place position) = 13
 number_of (Float place) = 14
+number_of (Unsteady position) = 15
+number_of (Unportable number position) = 16
 
 -- no field
 abbrev pub no_fields : Report
@@ -47,6 +49,9 @@ report_of PositionalForNamed = no_fields
 report_of (MarkCount marks values) = record no_fields { marks = marks; values = values }
 report_of (NotAlone place position) = record no_fields { place = place; position = position }
 report_of (Float place) = record no_fields { place = place }
+report_of (Unsteady position) = record no_fields { position = position }
+report_of (Unportable number position) =
+    record no_fields { position = position; byte = number }
 
 -- there is no answer, or none is told
 abbrev pub HasNoAnswer : Outcome → Type 0

@@ -1,24 +1,33 @@
 //! The bound text, in a room that the caller lends.
-ghost use Rattle.std.specs.Prelude.{◌≡◌, ◌≢◌, ◌⊎◌, ◌+◌, ◌≤◌, ◌<◌, ◌++◌, ℕ, Bool, List, [], ◌∷◌, None, Ok, length, take, drop, map, IfErr, IfOk, IfSome, IsErrOf, alloc_error};
+ghost use Rattle.std.specs.Prelude.{◌≡◌, ◌≢◌, ◌⊎◌, ◌+◌, ◌≤◌, ◌<◌, ◌++◌, ℕ, Bool, List, [], ◌∷◌, None, Some, Ok, length, take, drop, map, IfErr, IfOk, IfSome, IsErrOf, alloc_error};
 ghost use Rattle.std.specs.List.{Contains};
 ghost use Rattle.mysql_named_params.specs.Tokens.{OnTokens};
 ghost use Rattle.mysql_named_params.specs.Places.{HasMark, HasName, names};
+ghost use Rattle.mysql_named_params.specs.FirstUnportable.{first_unportable};
+ghost use Rattle.mysql_named_params.specs.Steady.{first_unsteady, IsSteady};
+ghost use Rattle.mysql_named_params.specs.declared.portable.Unportable as unportable;
 ghost use Rattle.mysql_params_core.specs.Given.{Given, given_by_borrowed};
 ghost use Rattle.mysql_binding.specs.BindErrors.{IsCauseOrMemory};
 ghost use Rattle.mysql_binding.specs.FirstCause.{first_cause};
 ghost use Rattle.mysql_binding.specs.Isolation.{IsBoundText};
+ghost use Rattle.mysql_steady_text.specs.SteadyText.{IsAnywhereText};
+ghost use Rattle.mysql_steady_text.specs.SteadyTextErrors.{IsSteadyRefusal};
+ghost use Rattle.mysql_flat_params.specs.AnywhereIntoRoom.{IsAnywhereForm, IsAnywhereOutcome};
 ghost use Rattle.mysql_flat_params.specs.FlatForm.{HasFirstParameter, IsFormReading};
 ghost use Rattle.mysql_flat_params.specs.FormErrors.{IsFormRefusal};
 ghost use Rattle.mysql_flat_params.specs.FormParams.{given_by_sorted};
 ghost use Rattle.mysql_flat_params.specs.IntoRoom.{IfMixed, IsBindOutcome, IsBoundForm, IsInRoom, IsMissingName};
 ghost use Rattle.mysql_flat_params.specs.Outcomes.{HasNoAnswer, IfDone, IfTooLong, UnlessDone};
+ghost use Rattle.mysql_flat_params.specs.UnportableReport.{construct_number};
 
 use crate::form::{FormParams, form_params};
 use crate::form_error::FormError;
 use crate::missing_place::name_place;
 use crate::outcome::Outcome;
+use crate::unportable::construct_number;
 use mysql_binding::{BindError, bind_borrowed_in};
 use mysql_params_core::params::{BorrowedParams, ParamsConfusionError, ParamsError};
+use mysql_steady_text::{SteadyTextError, bind_borrowed_anywhere};
 use mysql_values::value::Value;
 use std::alloc::Global;
 use std::collections::BTreeMap;
@@ -67,6 +76,51 @@ pub fn bind_into(
     }
 }
 
+/// Binds into a query what a form says, as
+/// [`bind_text_anywhere`](mysql_steady_text::bind_text_anywhere) binds the form's parameters, and
+/// writes the text to the front of the room: SQL text that no `sql_mode` and no character set of a
+/// connection reads otherwise, on any server.
+///
+/// Form, room, `Done` and `Room` are as for [`bind_into`]. A form is refused before the query; then
+/// come `Unsteady` and `Unportable`, and then the causes of `bind_into`. Over the empty form
+/// `Unsteady`, `Unportable` and `Mixed` come without allocating, and a form that is refused for its
+/// first parameter is refused without allocating too. Any other outcome may be `OutOfMemory`
+/// instead. After every outcome but `Done` the room is as before.
+// A steady query has the same tokens in both modes (`mysql_named_params::laws::steady_texts`).
+pub fn bind_anywhere_into(alloc: Global, query: &[u8], form: &[u8], room: &mut [u8]) -> Outcome
+    ensures outcome { IsAnywhereOutcome query.now form.now result }
+    ensures written { IfDone result (λ len.
+        IsAnywhereForm query.now form.now (take len room.new)) }
+
+    // Over the empty form these are refused without allocating.
+    ensures unsteady { (at : ℕ) → form.now ≡ [] → first_unsteady query.now ≡ Some at →
+        result ≡ Outcome.Unsteady at }
+    ensures unportable { (mode : Bool) → OnTokens mode query.now (λ ts. form.now ≡ [] →
+        first_unsteady query.now ≡ None →
+        (found : unportable.Unportable) → first_unportable ts ≡ Some found →
+        result ≡ Outcome.Unportable (construct_number found.construct) found.at) }
+    ensures mixed { (mode : Bool) → OnTokens mode query.now (λ ts. form.now ≡ [] →
+        first_unsteady query.now ≡ None → first_unportable ts ≡ None →
+        HasName ts × HasMark ts → result ≡ Outcome.Mixed) }
+
+    // A form that is refused for its first parameter is refused without allocating.
+    ensures memory { result ≡ Outcome.OutOfMemory →
+        (form.now ≡ []) ⊎ HasFirstParameter form.now }
+    ensures rest { IfDone result (λ len.
+        (len ≤ length room.old) × (drop len room.new ≡ drop len room.old)) }
+    ensures too_long { IfTooLong result (λ len. length room.old < len) }
+    ensures unchanged { UnlessDone result (room.new ≡ room.old) }
+{
+    let given = match form_params::<BTreeMap<Vec<u8>, Value>>(alloc, form) {
+        Ok(params) => params,
+        Err(error) => return form_outcome(error),
+    };
+    match bind_params_anywhere(alloc, query, given) {
+        Ok(text) => fill_front(room, text.as_slice()),
+        Err(error) => anywhere_outcome(query, error),
+    }
+}
+
 // The text of a query with what a form says.
 fn bind_params(
     alloc: Global,
@@ -82,6 +136,29 @@ fn bind_params(
         HasName ts × HasMark ts → IsErrOf result BindError.Mixed) }
 {
     bind_borrowed_in(alloc, query, borrowed_params(&params), no_backslash_escape)
+}
+
+// The text of a query with what a form says, for any server.
+fn bind_params_anywhere(
+    alloc: Global,
+    query: &[u8],
+    params: FormParams<BTreeMap<Vec<u8>, Value>>,
+) -> Result<Vec<u8>, SteadyTextError>
+    ensures bound { (mode : Bool) → OnTokens mode query.now (λ ts. IfOk result (λ text.
+        IsAnywhereText query.now ts (given_by_sorted params) text.items)) }
+    ensures refused { (mode : Bool) → OnTokens mode query.now (λ ts. IfErr result
+        (IsSteadyRefusal query.now (first_unportable ts)
+        (first_cause ts (given_by_sorted params)))) }
+    ensures unsteady { (at : ℕ) → first_unsteady query.now ≡ Some at →
+        IsErrOf result (SteadyTextError.Unsteady at) }
+    ensures unportable { (mode : Bool) → OnTokens mode query.now (λ ts. IsSteady query.now →
+        (found : unportable.Unportable) → first_unportable ts ≡ Some found →
+        IsErrOf result (SteadyTextError.Unportable found)) }
+    ensures mixed { (mode : Bool) → OnTokens mode query.now (λ ts. IsSteady query.now →
+        first_unportable ts ≡ None → HasName ts × HasMark ts →
+        IsErrOf result (SteadyTextError.Bind BindError.Mixed)) }
+{
+    bind_borrowed_anywhere(alloc, query, borrowed_params(&params))
 }
 
 // The same parameters, borrowed.
@@ -110,6 +187,8 @@ fn fill_front(room: &mut [u8], answer: &[u8]) -> Outcome
 fn form_outcome(error: FormError) -> Outcome
     ensures outcome { (mode : Bool) (query form : List ℕ) → IsFormRefusal form error →
         IsBindOutcome mode query form result }
+    ensures anywhere { (query form : List ℕ) → IsFormRefusal form error →
+        IsAnywhereOutcome query form result }
     ensures memory { result ≡ Outcome.OutOfMemory → error ≡ FormError.Memory alloc_error }
     ensures no_answer { HasNoAnswer result }
 {
@@ -144,6 +223,32 @@ fn form_outcome(error: FormError) -> Outcome
             len,
         },
         FormError::Memory(_) => Outcome::OutOfMemory,
+    }
+}
+
+// A refusal of binding to this query for any server.
+fn anywhere_outcome(query: &[u8], error: SteadyTextError) -> Outcome
+    requires { (given : Given) × ((mode : Bool) → OnTokens mode query.now (λ ts.
+        IsSteadyRefusal query.now (first_unportable ts) (first_cause ts given) error)) }
+    ensures outcome { (form : List ℕ) (given : Given) → IsFormReading form (Ok given) →
+        ((mode : Bool) → OnTokens mode query.now (λ ts.
+        IsSteadyRefusal query.now (first_unportable ts) (first_cause ts given) error)) →
+        IsAnywhereOutcome query.now form result }
+    ensures unsteady { (at : ℕ) → error ≡ SteadyTextError.Unsteady at →
+        result ≡ Outcome.Unsteady at }
+    ensures unportable { (found : unportable.Unportable) →
+        error ≡ SteadyTextError.Unportable found →
+        result ≡ Outcome.Unportable (construct_number found.construct) found.at }
+    ensures mixed { error ≡ SteadyTextError.Bind BindError.Mixed → result ≡ Outcome.Mixed }
+    ensures no_answer { HasNoAnswer result }
+{
+    match error {
+        SteadyTextError::Unsteady { at } => Outcome::Unsteady { position: at },
+        SteadyTextError::Unportable(found) => Outcome::Unportable {
+            number: construct_number(found.construct),
+            position: found.at,
+        },
+        SteadyTextError::Bind(error) => bind_outcome(query, error, false),
     }
 }
 

@@ -93,6 +93,21 @@ pub enum Outcome {
         /// The number of its place, from 0.
         place: usize,
     },
+    /// The query has a backslash or a byte from 128 on; the first is reported. Only
+    /// [`bind_anywhere_into`](crate::bind_anywhere_into) refuses it.
+    Unsteady {
+        /// Its index in the query.
+        position: usize,
+    },
+    /// The query isn't portable; the first construct is reported. Only
+    /// [`bind_anywhere_into`](crate::bind_anywhere_into) refuses it.
+    Unportable {
+        /// The number of the construct, as
+        /// [`report_first_unportable`](crate::report_first_unportable) gives it.
+        number: u8,
+        /// The index of its first byte in the query.
+        position: usize,
+    },
 }
 
 /// The fields of an outcome as numbers. Those that an outcome doesn't have are 0.
@@ -109,7 +124,7 @@ pub struct Report {
     pub marks: usize,
     /// The values given.
     pub values: usize,
-    /// The byte that begins no length, or the number of a type.
+    /// The byte that begins no length, or the number of a type or of a construct.
     pub byte: usize,
 }
 
@@ -162,6 +177,8 @@ impl Outcome {
             Outcome::MarkCount { .. } => 12,
             Outcome::NotAlone { .. } => 13,
             Outcome::Float { .. } => 14,
+            Outcome::Unsteady { .. } => 15,
+            Outcome::Unportable { .. } => 16,
         }
     }
 
@@ -200,6 +217,8 @@ impl Outcome {
                 ..NO_FIELDS
             },
             Outcome::Float { place } => Report { place, ..NO_FIELDS },
+            Outcome::Unsteady { position } => spot_fields(0, 0, position, 0),
+            Outcome::Unportable { number, position } => spot_fields(0, 0, position, number),
             Outcome::OutOfMemory
             | Outcome::Mixed
             | Outcome::NamedForPositional

@@ -67,14 +67,14 @@ fn number_and_report(found: Option<Unportable>, report: &mut Report) -> i32
                 position: found.at,
                 ..NO_FIELDS
             };
-            construct_number(found.construct)
+            construct_number(found.construct) as i32
         }
     }
 }
 
 // The number of a construct.
-fn construct_number(construct: Construct) -> i32
-    ensures { result ≡ pos (construct_number construct) }
+pub(crate) fn construct_number(construct: Construct) -> u8
+    ensures { result ≡ construct_number construct }
 {
     match construct {
         Construct::ExecutableComment => 1,

@@ -79,6 +79,15 @@ const OUTCOMES: &[(Outcome, i32, [usize; 6])] = &[
         [0, 1, 2, 0, 0, 0],
     ),
     (Outcome::Float { place: 1 }, 14, [0, 1, 0, 0, 0, 0]),
+    (Outcome::Unsteady { position: 2 }, 15, [0, 0, 2, 0, 0, 0]),
+    (
+        Outcome::Unportable {
+            number: 6,
+            position: 2,
+        },
+        16,
+        [0, 0, 2, 0, 0, 6],
+    ),
 ];
 
 #[test]
