@@ -12,19 +12,23 @@
 //! overlap neither each other nor what is read, and their bytes have values before the call.
 #![tactic(auto)]
 
-ghost use Rattle.std.specs.Prelude.{◌≡◌, ◌≢◌, ◌⊎◌, ◌↔◌, ◌≤◌, ◌<◌, [], length, take, drop, pos};
+ghost use Rattle.std.specs.Prelude.{◌≡◌, ◌≢◌, ◌⊎◌, ◌↔◌, ◌≤◌, ◌<◌, ℕ, Bool, [], Some, None, length, take, drop, pos};
+ghost use Rattle.mysql_flat_params.specs.AnywhereIntoRoom.{IsAnywhereForm, IsAnywhereOutcome};
 ghost use Rattle.mysql_flat_params.specs.FlatForm.{HasFirstParameter};
 ghost use Rattle.mysql_flat_params.specs.IntoRoom.{IfMixed, IsBindOutcome, IsBoundForm, IsNamesAnswer, IsNamesOutcome};
 ghost use Rattle.mysql_flat_params.specs.Outcomes.{IsTold};
 ghost use Rattle.mysql_flat_params.specs.UnportableReport.{unportable_number, unportable_report};
 ghost use Rattle.mysql_named_params.specs.FirstUnportable.{first_unportable};
 ghost use Rattle.mysql_named_params.specs.FirstUnportableInClient.{first_unportable_in_client, IsPortableInClient};
-ghost use Rattle.mysql_named_params.specs.Places.{marks, HasName};
+ghost use Rattle.mysql_named_params.specs.Places.{marks, HasMark, HasName};
 ghost use Rattle.mysql_named_params.specs.Portable.{IsPortable};
+ghost use Rattle.mysql_named_params.specs.Steady.{first_unsteady};
 ghost use Rattle.mysql_named_params.specs.Tokens.{OnTokens};
+ghost use Rattle.mysql_named_params.specs.declared.portable.Unportable as unportable;
 
 use mysql_flat_params::{
-    Report, bind_into, names_into, report_first_unportable, report_first_unportable_in_client,
+    Report, bind_anywhere_into, bind_into, names_into, report_first_unportable,
+    report_first_unportable_in_client,
 };
 use std::alloc::Global;
 
@@ -101,6 +105,50 @@ pub extern "C" fn mysql_params_bind(
     ensures unchanged { result ≢ pos 0 → room.new ≡ room.old }
 {
     let outcome = bind_into(alloc, query, form, no_backslash_escape, room);
+    *report = outcome.report();
+    outcome.number()
+}
+
+/// Binds into the query what the form says, and writes to the front of the room a text that no
+/// `sql_mode` and no character set of a connection reads otherwise, on any server:
+/// [`bind_anywhere_into`](mysql_flat_params::bind_anywhere_into).
+///
+/// It returns the numbers of [`mysql_params_bind`], and after those for a form and before those for
+/// a query 15 (`Unsteady`) for a query with a backslash or a byte from 128 on, whose position is in
+/// the report, and 16 (`Unportable`) for one that isn't portable, with the position and, in `byte`,
+/// the number of the construct that [`mysql_params_first_unportable`] returns. The empty form over
+/// such a query, or over one with names and marks, never gives 1 (`OutOfMemory`), nor does a form
+/// that is refused for its first parameter. At each number but 0 the room is as before.
+#[unsafe(no_mangle)]
+pub extern "C" fn mysql_params_bind_anywhere(
+    alloc: Global,
+    query: &[u8],
+    form: &[u8],
+    room: &mut [u8],
+    report: &mut Report,
+) -> i32
+    ensures outcome { IsTold result report.new (IsAnywhereOutcome query.now form.now) }
+    ensures written { result ≡ pos 0 →
+        IsAnywhereForm query.now form.now (take report.new.len room.new) }
+
+    // Over the empty form these are refused without allocating.
+    ensures unsteady { (at : ℕ) → form.now ≡ [] → first_unsteady query.now ≡ Some at →
+        result ≡ pos 15 }
+    ensures unportable { (mode : Bool) → OnTokens mode query.now (λ ts. form.now ≡ [] →
+        first_unsteady query.now ≡ None →
+        (found : unportable.Unportable) → first_unportable ts ≡ Some found → result ≡ pos 16) }
+    ensures mixed { (mode : Bool) → OnTokens mode query.now (λ ts. form.now ≡ [] →
+        first_unsteady query.now ≡ None → first_unportable ts ≡ None →
+        HasName ts × HasMark ts → result ≡ pos 8) }
+
+    // A form that is refused for its first parameter is refused without allocating.
+    ensures memory { result ≡ pos 1 → (form.now ≡ []) ⊎ HasFirstParameter form.now }
+    ensures rest { result ≡ pos 0 → (report.new.len ≤ length room.old)
+        × (drop report.new.len room.new ≡ drop report.new.len room.old) }
+    ensures too_long { result ≡ pos 2 → length room.old < report.new.len }
+    ensures unchanged { result ≢ pos 0 → room.new ≡ room.old }
+{
+    let outcome = bind_anywhere_into(alloc, query, form, room);
     *report = outcome.report();
     outcome.number()
 }
