@@ -2,3 +2,4 @@ pub mod GivenLemmas
 pub mod CauseLemmas
 pub mod TextLemmas
 pub mod AnswerLemmas
+pub mod AnywhereLemmas

@@ -8,19 +8,21 @@ use Rattle.mysql_named_params.specs.Places.{names}
 use Rattle.mysql_params_core.specs.Given.{Given}
 use Rattle.mysql_params_core.specs.Lookup.{lookup}
 use Rattle.mysql_binding.specs.Isolation.{IsBoundText}
+use Rattle.mysql_binding.specs.LiteralForm.{Literals, written_literal}
 use Rattle.mysql_binding.specs.Pieces.{pieces, joined_text}
 use Rattle.mysql_fixed_query.specs.FixedText.{bound_text}
 
-map-literal_text : (mode : Bool) (values : List Value) (literals : List (List ℕ)) →
-    map (literal_of mode) values ≡ map Some literals → map (literal_text mode) values ≡ literals
-map-literal_text mode [] [] e = refl
-map-literal_text mode [] (literal ∷ literals) e = cc
-map-literal_text mode (value ∷ values) [] e = cc
-map-literal_text mode (value ∷ values) (literal ∷ literals) e =
-    let here : literal_of mode value ≡ Some literal = cc in
-    let later : map (literal_of mode) values ≡ map Some literals = cc in
-    ap (λ x. x ∷ map (literal_text mode) values) (ap (λ o. unwrap_or o []) here)
-    ∙ ap (λ x. literal ∷ x) (map-literal_text mode values literals later)
+-- in any form of literals
+pub map-written_literal : (literal : Literals) (values : List Value) (literals : List (List ℕ)) →
+    map literal values ≡ map Some literals → map (written_literal literal) values ≡ literals
+map-written_literal literal [] [] e = refl
+map-written_literal literal [] (text ∷ texts) e = cc
+map-written_literal literal (value ∷ values) [] e = cc
+map-written_literal literal (value ∷ values) (text ∷ texts) e =
+    let here : literal value ≡ Some text = cc in
+    let later : map literal values ≡ map Some texts = cc in
+    ap (λ x. x ∷ map (written_literal literal) values) (ap (λ o. unwrap_or o []) here)
+    ∙ ap (λ x. text ∷ x) (map-written_literal literal values texts later)
 
 text_is_computed : (mode : Bool) (query : List ℕ) (g : Given) (values : List Value)
     (text : List ℕ) → lookup g (names (tokens_of mode query)) ≡ Ok values →
@@ -30,7 +32,7 @@ text_is_computed mode query g values text looked_up bound =
     let same : bound.values ≡ values = cc in
     let literals : map (literal_text mode) values ≡ bound.literals =
     ap (map (literal_text mode)) (sym same)
-    ∙ map-literal_text mode bound.values bound.literals bound.written in
+    ∙ map-written_literal (literal_of mode) bound.values bound.literals bound.written in
     sym (ap (λ o. unwrap_or o [])
     (ap (joined_text (pieces (tokens_of mode query))) literals ∙ bound.text_is))
 

@@ -1,2 +1,3 @@
 pub mod Bindable
 pub mod FixedText
+pub mod BindableAnywhere

@@ -2,12 +2,15 @@
 //! computes of such a query stands in `specs/Bindable.antt`; only memory then refuses to bind it.
 //!
 //! [`bind_named`] takes values by name, [`bind_positional`] by position, in the mode in which a
-//! backslash escapes; [`bind_named_in`] and [`bind_positional_in`] take the mode.
+//! backslash escapes; [`bind_named_in`] and [`bind_positional_in`] take the mode;
+//! [`bind_named_anywhere`] and [`bind_positional_anywhere`] give text for any mode and any server.
 #![tactic(auto)]
 
+mod anywhere;
 mod by_name;
 mod by_position;
 mod made;
 
+pub use anywhere::{bind_named_anywhere, bind_positional_anywhere};
 pub use by_name::{bind_named, bind_named_in};
 pub use by_position::{bind_positional, bind_positional_in};

@@ -1,0 +1,51 @@
+//! Fixed queries, bound to text for any mode and any server.
+ghost use Rattle.std.specs.Prelude.{◌≡◌, Bool, IfOk};
+ghost use Rattle.mysql_sql_text.specs.StringUnits.{with_backslashes};
+ghost use Rattle.mysql_named_params.specs.TokensOf.{tokens_of};
+ghost use Rattle.mysql_steady_text.specs.SteadyText.{IsAnywhereText};
+ghost use Rattle.mysql_fixed_query.specs.Bindable.{given_by, valued, values_of};
+ghost use Rattle.mysql_fixed_query.specs.BindableAnywhere.{IsBindableAnywhere, IsBindableAnywhereByPosition, steady_bound_text};
+ghost use Rattle.mysql_fixed_query.specs.FixedText.{values_named};
+
+use crate::made::bind_made_anywhere;
+use mysql_params_core::params::{ToPairs, ToParams};
+use std::alloc::{AllocError, Global};
+
+/// The query with the steady literals of the values in the places of its names, as
+/// [`bind_text_anywhere`](mysql_steady_text::bind_text_anywhere) gives it: text that no `sql_mode`
+/// and no character set of a connection reads otherwise, on any server.
+///
+/// The caller proves that nothing refuses it: the query is ASCII without a backslash, and portable,
+/// and what [`bind_named`](crate::bind_named) asks for. For a constant query the prover computes
+/// that by itself. So the only error is out of memory. For example
+/// `bind_named_anywhere(alloc, b"SELECT a FROM t WHERE b = :b", &(("b", "x"),))`.
+pub fn bind_named_anywhere<P: ToPairs>(
+    alloc: Global,
+    query: &[u8],
+    pairs: &P,
+) -> Result<Vec<u8>, AllocError>
+    requires { IsBindableAnywhere query.now (P.pairs pairs.now) }
+    ensures bound { (mode : Bool) → IfOk result (λ text. IsAnywhereText query.now
+        (tokens_of mode query.now) (given_by (valued (P.pairs pairs.now))) text.items) }
+    ensures text { IfOk result (λ text. text.items ≡ steady_bound_text query.now
+        (values_named with_backslashes query.now (valued (P.pairs pairs.now)))) }
+{
+    bind_made_anywhere(alloc, query, pairs.to_named(alloc))
+}
+
+/// The query with the steady literals of the values in the places of its marks, in order: as
+/// [`bind_named_anywhere`], with what [`bind_positional`](crate::bind_positional) asks for. For
+/// example `bind_positional_anywhere(alloc, b"SELECT a FROM t WHERE b = ?", &("x",))`.
+pub fn bind_positional_anywhere<P: ToParams>(
+    alloc: Global,
+    query: &[u8],
+    things: &P,
+) -> Result<Vec<u8>, AllocError>
+    requires { IsBindableAnywhereByPosition query.now (P.made things.now) }
+    ensures bound { (mode : Bool) → IfOk (P.made things.now) (λ given. IfOk result (λ text.
+        IsAnywhereText query.now (tokens_of mode query.now) given text.items)) }
+    ensures text { IfOk result (λ text. text.items ≡ steady_bound_text query.now
+        (values_of (P.made things.now))) }
+{
+    bind_made_anywhere(alloc, query, things.to_params(alloc))
+}
