@@ -341,9 +341,20 @@ static void append_of_numbers(line *to, int32_t number, const mysql_params_repor
     case MYSQL_PARAMS_FLOAT:
         append_text(to, "Float at place %zu", report->place);
         return;
+    case MYSQL_PARAMS_UNSTEADY:
+        append_text(to, "Backslash or byte that is not ASCII at byte %zu of the query", report->position);
+        return;
     default:
         append_text(to, "Unknown number %ld", (long)number);
     }
+}
+
+/* Appends the message of a query that isn't portable. */
+static void append_unportable(line *to, const mysql_params_report *report)
+{
+    const char *construct = report->byte <= INT32_MAX ? mysql_params_construct_message((int32_t)report->byte) : NULL;
+    append_text(to, "Not portable at byte %zu of the query: ", report->position);
+    append_text(to, "%s", construct == NULL ? "unknown construct" : construct);
 }
 
 /* Appends the message of any number. */
@@ -360,6 +371,8 @@ static void append_message(line *to, int32_t number, const mysql_params_report *
         append_of_name(to, number, report, source, source_len);
     } else if (fixed != NULL) {
         append_text(to, "%s", fixed);
+    } else if (number == MYSQL_PARAMS_UNPORTABLE) {
+        append_unportable(to, report);
     } else {
         append_of_numbers(to, number, report);
     }

@@ -100,8 +100,8 @@ typedef struct outcome {
     size_t room_len;
 } outcome;
 
-/* Whether the call to try is that of names, and not that of binding. */
-static bool of_names;
+/* The call to try: of names, of binding in a mode, or of binding for any server. */
+static enum { NAMES, BIND, BIND_ANYWHERE } tried;
 
 /* How many allocations of a call succeed: all of them. */
 enum { ALL = -1 };
@@ -119,8 +119,10 @@ static outcome call(const test_case *it, size_t room_len, long allocations)
     allocation_refused = false;
     allocations_left = allocations;
     bool mode = it->no_backslash_escape;
-    if (of_names)
+    if (tried == NAMES)
         is.number = mysql_params_names(query, it->query.len, mode, is.room, room_len, &is.report);
+    else if (tried == BIND_ANYWHERE)
+        is.number = mysql_params_bind_anywhere(query, it->query.len, form, it->form.len, is.room, room_len, &is.report);
     else
         is.number = mysql_params_bind(query, it->query.len, form, it->form.len, mode, is.room, room_len, &is.report);
     allocations_left = ALL;
@@ -183,19 +185,25 @@ static const char *folder;
 
 static void table_of_binding(void)
 {
-    of_names = false;
+    tried = BIND;
     each_case(folder, "bind.txt", try_rooms);
+}
+
+static void table_of_steady_binding(void)
+{
+    tried = BIND_ANYWHERE;
+    each_case(folder, "anywhere.txt", try_rooms);
 }
 
 static void flat_forms(void)
 {
-    of_names = false;
+    tried = BIND;
     each_case(folder, "forms.txt", try_rooms);
 }
 
 static void names_of_queries(void)
 {
-    of_names = true;
+    tried = NAMES;
     each_case(folder, "names.txt", try_rooms);
 }
 
@@ -280,7 +288,7 @@ static void try_long_names(size_t len)
 static void names_of_long_queries(void)
 {
     static const size_t lengths[] = {250, 251, 252, 65535, 65536, 65537};
-    of_names = true;
+    tried = NAMES;
     for (size_t i = 0; i < sizeof lengths / sizeof lengths[0]; i++)
         try_long_names(lengths[i]);
 }
@@ -308,7 +316,7 @@ static void append_literal(bytes *to, uint8_t byte)
 
 static void each_value_of_one_byte(void)
 {
-    of_names = false;
+    tried = BIND;
     for (int value = 0; value < 256; value++) {
         uint8_t byte = (uint8_t)value, room[16];
         mysql_params_form form = mysql_params_form_in(room, sizeof room);
@@ -357,7 +365,7 @@ static void try_length(size_t len)
 static void values_of_each_length(void)
 {
     static const size_t lengths[] = {1, 250, 251, 65535, 65536, 16777215, 16777216};
-    of_names = false;
+    tried = BIND;
     for (size_t i = 0; i < sizeof lengths / sizeof lengths[0]; i++)
         try_length(lengths[i]);
 }
@@ -452,7 +460,8 @@ static void other_messages(void)
         {MYSQL_PARAMS_OUT_OF_MEMORY, "out of memory"},
         {MYSQL_PARAMS_ROOM, "The answer needs room for 7 bytes"},
         {MYSQL_PARAMS_MISSING, "Missing named parameter `` for statement"},
-        {MYSQL_PARAMS_FLOAT + 1, "Unknown number 15"},
+        {MYSQL_PARAMS_UNPORTABLE, "Not portable at byte 0 of the query: unknown construct"},
+        {MYSQL_PARAMS_UNPORTABLE + 1, "Unknown number 17"},
         {-1, "Unknown number -1"},
     };
     mysql_params_report report = {0};
@@ -518,17 +527,19 @@ static void try_without_memory(const test_case *it)
 
 static void out_of_memory(void)
 {
-    of_names = false;
+    tried = BIND;
     each_case(folder, "bind.txt", try_without_memory);
     each_case(folder, "forms.txt", try_without_memory);
-    of_names = true;
+    tried = BIND_ANYWHERE;
+    each_case(folder, "anywhere.txt", try_without_memory);
+    tried = NAMES;
     each_case(folder, "names.txt", try_without_memory);
     /* No text is written without any memory. */
     uint8_t form[] = {0, 0xFD, 0, 1, 'x'}, query[] = {'?'};
     test_case it = {0};
     it.query = (bytes){query, sizeof query};
     it.form = (bytes){form, sizeof form};
-    of_names = false;
+    tried = BIND;
     outcome is = call(&it, 16, 0);
     expect(is.number == MYSQL_PARAMS_OUT_OF_MEMORY, &it, "a text is bound without memory");
     free(is.room);
@@ -551,6 +562,7 @@ int main(int count, char **words)
     }
     folder = words[1];
     bool all = passed("table_of_binding", table_of_binding);
+    all &= passed("table_of_steady_binding", table_of_steady_binding);
     all &= passed("flat_forms", flat_forms);
     all &= passed("names_of_queries", names_of_queries);
     all &= passed("portable_queries", portable_queries);

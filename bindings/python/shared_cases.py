@@ -21,6 +21,8 @@ ERRORS = {
     "MARK_COUNT": mysql_params.MarkCountError,
     "NOT_ALONE": mysql_params.NotAloneError,
     "FLOAT": mysql_params.FloatError,
+    "UNSTEADY": mysql_params.UnsteadyError,
+    "UNPORTABLE": mysql_params.UnportableError,
 }
 
 FIELDS = {
@@ -33,11 +35,13 @@ FIELDS = {
     "MARK_COUNT": ("marks", "values"),
     "NOT_ALONE": ("place", "position"),
     "FLOAT": ("place",),
+    "UNSTEADY": ("position",),
+    "UNPORTABLE": ("position", "construct"),
 }
 
 NUMBERS = {"FORM_END": 3, "FORM_LENGTH_LEAD": 4, "FORM_TYPE": 5, "FORM_MIXED": 6, "FORM_REPEATED": 7, "MIXED": 8}
 NUMBERS.update({"MISSING": 9, "NAMED_FOR_POSITIONAL": 10, "POSITIONAL_FOR_NAMED": 11, "MARK_COUNT": 12})
-NUMBERS.update({"NOT_ALONE": 13, "FLOAT": 14})
+NUMBERS.update({"NOT_ALONE": 13, "FLOAT": 14, "UNSTEADY": 15, "UNPORTABLE": 16})
 
 CONSTRUCTS = ["EXECUTABLE_COMMENT", "HINT", "MARIADB_COMMENT", "DASHES", "ESCAPED_QUOTE", "BRACKET", "DOLLAR_QUOTE"]
 CONSTRUCTS += ["DASHES_AFTER_EXPONENT", "PLACE_AFTER_EXPONENT", "OPENER_IN_COMMENT", "JOINING_COMMENT"]
@@ -45,7 +49,7 @@ CONSTRUCTS += ["DASHES_BEFORE_COMMENT", "CLIENT_COMMAND", "DASH_IN_FRONT", "DELI
 CONSTRUCTS += ["ESCAPED_NEWLINE", "ZERO_BYTE"]
 """Names of the constructs in cases, in the order of their numbers from 1 on."""
 
-FIELDS_OF_CASES = {"parameter": "place", "column_type": "byte"}
+FIELDS_OF_CASES = {"parameter": "place", "column_type": "byte", "construct": "byte"}
 """What cases call the fields that errors have by other names."""
 
 

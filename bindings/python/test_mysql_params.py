@@ -15,7 +15,8 @@ import unittest
 from unittest import mock
 
 import mysql_params
-from mysql_params import Construct, _archive, bind, bind_form, first_unportable, first_unportable_in_client, names
+from mysql_params import Construct, _archive, bind, bind_anywhere, bind_form, bind_form_anywhere, first_unportable
+from mysql_params import first_unportable_in_client, names
 from shared_cases import CASES, CONSTRUCTS, FIELDS, NUMBERS, cases, text_of
 
 UNTOUCHED = 0xA5
@@ -39,7 +40,7 @@ def literal(byte):
 
 def library_of(suffices: bool, *more: str) -> mock.Mock:
     """Return a library with the functions of the archive and more, on a processor that suffices or doesn't."""
-    names = ("names", "bind", "first_unportable", "first_unportable_in_client", "processor_suffices")
+    names = ("names", "bind", "bind_anywhere", "first_unportable", "first_unportable_in_client", "processor_suffices")
     library = mock.Mock(spec=[*(f"mysql_params_{name}" for name in names), *more])
     library.mysql_params_processor_suffices.return_value = suffices
     return library
@@ -75,6 +76,13 @@ class Test(unittest.TestCase):
             self.expect(case, lambda: bind(case.query, case.given(), case.no_backslash_escape))
             if not case.no_backslash_escape:
                 self.expect(case, lambda: bind(case.query, case.given()))
+
+    def test_table_of_steady_binding(self):
+        for case in cases("anywhere.txt"):
+            if case.form:
+                self.expect(case, lambda: bind_form_anywhere(case.query, case.form))
+            else:
+                self.expect(case, lambda: bind_anywhere(case.query, case.given()))
 
     def test_flat_forms(self):
         for case in cases("forms.txt"):
@@ -497,13 +505,16 @@ class Test(unittest.TestCase):
         self.assertIsInstance(error, mysql_params.OutOfMemoryError)
         self.assertIsInstance(error, MemoryError)
         self.assertEqual((str(error), error.args), ("out of memory", ()))
-        for number in (-1, 0, 2, 15):
+        for number in (-1, 0, 2, 17):
             self.assertIs(type(_archive.error(number, report, b"", b"")), RuntimeError)
+        with self.assertRaises(RuntimeError):  # a construct of no number
+            _archive.error(16, report, b"", b"")
 
     def test_errors_are_pickled(self):
         word, place = mysql_params.MissingError(1, 5, b"b"), mysql_params.FloatError(1)
         word.word, place.name = b"bA", "b"
-        for error in (mysql_params.MissingError(1, 5, b"b"), mysql_params.MixedError(), word, place):
+        unportable = mysql_params.UnportableError(7, Construct.HINT)
+        for error in (mysql_params.MissingError(1, 5, b"b"), mysql_params.MixedError(), word, place, unportable):
             copy = pickle.loads(pickle.dumps(error))
             self.assertEqual((type(copy), copy.args, str(copy)), (type(error), error.args, str(error)))
 
@@ -524,7 +535,7 @@ class Test(unittest.TestCase):
         self.assertEqual(wrong, [])
 
     def test_examples_of_the_documentation(self):
-        self.assertEqual(doctest.testmod(mysql_params), (0, 5))
+        self.assertEqual(doctest.testmod(mysql_params), (0, 6))
 
 
 class Result(unittest.TestResult):

@@ -7,7 +7,7 @@ from collections import OrderedDict
 from typing import Any, Optional, Union
 
 import mysql_params
-from mysql_params import Params, Value, bind, bind_form, first_unportable, names
+from mysql_params import Params, Value, bind, bind_anywhere, bind_form, first_unportable, names
 
 QUERY = "SELECT * FROM t WHERE id = :id AND name = :name"
 
@@ -44,6 +44,7 @@ def by_position(ident: int, name: str, given: Params) -> bytes:
     bind("?, ?", (ident, name))
     bind("?", range(1))
     bind(b"?", given)
+    bind_anywhere("?", given)
     return bind_form("?", b"\x00\x06\x00")
 
 

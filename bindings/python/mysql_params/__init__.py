@@ -40,6 +40,8 @@ from .errors import (
     OutOfMemoryError,
     PositionalForNamedError,
     RepeatedNameError,
+    UnportableError,
+    UnsteadyError,
 )
 from .portable import Construct, Unportable
 
@@ -65,10 +67,14 @@ __all__ = [
     "PositionalForNamedError",
     "RepeatedNameError",
     "Unportable",
+    "UnportableError",
+    "UnsteadyError",
     "Value",
     "__version__",
     "bind",
+    "bind_anywhere",
     "bind_form",
+    "bind_form_anywhere",
     "first_unportable",
     "first_unportable_in_client",
     "names",
@@ -166,5 +172,33 @@ def bind_form(query: Union[str, bytes], form: bytes, no_backslash_escape: bool =
     Raise a FormError for the first parameter that can't be taken; then as bind.
     """
     query, form = _form.bytes_of(query), _form.copy(form)
-    # A literal of bytes has at most twice their number, and quotes.
-    return _archive.whole_answer(query, form, no_backslash_escape, len(query) + 2 * len(form) + 64)
+    return _archive.whole_answer(query, form, no_backslash_escape, _guess(query, form))
+
+
+def bind_anywhere(query: Union[str, bytes], params: Params = None) -> bytes:
+    """Return the query with literals that depend on no connection: no sql_mode and no character set reads it otherwise.
+
+    It is a text for MySQL and MariaDB. The query has to be ASCII without a backslash, also in its comments, and portable.
+
+    A text of printable ASCII without a backslash is written as ``_utf8mb4'it''s'``, other UTF-8 as ``_utf8mb4 0xC3A9``,
+    and bytes that aren't UTF-8 as ``0xFF``; all else as by bind. "Steady texts" in docs/LIMITS.md says where a server
+    takes no such literal.
+
+    Of the parameters it raises what bind raises. Then, of the query, the first that holds: UnsteadyError;
+    UnportableError; those of bind from MixedError on. In place of any of them, and of a text, OutOfMemoryError.
+
+    >>> bind_anywhere("SELECT ?, ?", ["it's", "\u00e9"])
+    b"SELECT _utf8mb4'it''s', _utf8mb4 0xC3A9"
+    """
+    return bind_form_anywhere(query, _form.form_of(params))
+
+
+def bind_form_anywhere(query: Union[str, bytes], form: bytes) -> bytes:
+    """Bind parameters that stand in their flat form already, as for bind_form, to a text as of bind_anywhere."""
+    query, form = _form.bytes_of(query), _form.copy(form)
+    return _archive.whole_answer(query, form, _archive.ANYWHERE, _guess(query, form))
+
+
+def _guess(query: bytes, form: bytes) -> int:
+    """Return the room of a first call that binds: a literal of bytes has at most twice their number, and quotes."""
+    return len(query) + 2 * len(form) + 64

@@ -3,6 +3,7 @@
 from __future__ import annotations
 
 import ctypes
+import enum
 import os
 import pathlib
 from typing import Optional, Union
@@ -11,6 +12,15 @@ from .errors import _ERRORS, FloatError, OutOfMemoryError, RepeatedNameError
 from .portable import Construct, Unportable
 
 DONE, ROOM, PORTABLE = 0, 2, 0
+
+
+class Anywhere(enum.Enum):
+    """What stands in place of a mode to bind for any server."""
+
+    ANYWHERE = "anywhere"
+
+
+ANYWHERE = Anywhere.ANYWHERE
 
 
 class Report(ctypes.Structure):
@@ -41,6 +51,8 @@ def load() -> ctypes.CDLL:
         library.mysql_params_names.restype = ctypes.c_int32
         library.mysql_params_bind.argtypes = (*string, *string, ctypes.c_bool, *answer)
         library.mysql_params_bind.restype = ctypes.c_int32
+        library.mysql_params_bind_anywhere.argtypes = (*string, *string, *answer)
+        library.mysql_params_bind_anywhere.restype = ctypes.c_int32
         library.mysql_params_first_unportable.argtypes = (*string, ctypes.c_bool, ctypes.POINTER(Report))
         library.mysql_params_first_unportable.restype = ctypes.c_int32
         library.mysql_params_first_unportable_in_client.argtypes = library.mysql_params_first_unportable.argtypes
@@ -65,17 +77,20 @@ def load() -> ctypes.CDLL:
 LIBRARY = load()
 
 
-def flag(mode: bool) -> bool:
+def flag(mode: Union[bool, Anywhere]) -> bool:
     """Return the mode of a call. ctypes would take the truth of any object, and so the wrong mode without a word."""
     if mode is True or mode is False:
         return mode
     raise TypeError(f"no_backslash_escape is True or False, and not {mode!r}")
 
 
-def call(query: bytes, form: Optional[bytes], mode: bool, room: bytearray, room_len: int) -> tuple[int, Report]:
+def call(
+    query: bytes, form: Optional[bytes], mode: Union[bool, Anywhere], room: bytearray, room_len: int
+) -> tuple[int, Report]:
     """Bind the form, or take the names if it is None, into the room. Return the number and the report.
 
-    The mode is True without backslash escapes. The room is longer than `room_len`, so that it has a first byte.
+    The mode is True without backslash escapes, and ANYWHERE to bind for any server. The room is longer than `room_len`,
+    so that it has a first byte.
 
     A pointer is never null: that of a bytes object isn't, also of an empty one.
     """
@@ -84,6 +99,8 @@ def call(query: bytes, form: Optional[bytes], mode: bool, room: bytearray, room_
     answer = (ctypes.addressof(first), room_len, ctypes.byref(report))
     if form is None:
         number = LIBRARY.mysql_params_names(query, len(query), flag(mode), *answer)
+    elif mode is ANYWHERE:
+        number = LIBRARY.mysql_params_bind_anywhere(query, len(query), form, len(form), *answer)
     else:
         number = LIBRARY.mysql_params_bind(query, len(query), form, len(form), flag(mode), *answer)
     return int(number), report
@@ -100,7 +117,7 @@ def new_room(length: int) -> bytearray:
         raise OutOfMemoryError() from None
 
 
-def whole_answer(query: bytes, form: Optional[bytes], mode: bool, guess: int) -> bytes:
+def whole_answer(query: bytes, form: Optional[bytes], mode: Union[bool, Anywhere], guess: int) -> bytes:
     """Return the whole answer: asked for in a room of a guessed length, and again in one of the length needed."""
     try:
         room = new_room(guess)
@@ -113,12 +130,20 @@ def whole_answer(query: bytes, form: Optional[bytes], mode: bool, guess: int) ->
     if number != DONE:
         found = error(number, report, query, form or b"")
         if isinstance(found, FloatError):
-            names = names_of(query, mode)[1]
+            names = names_of(query, mode is True)[1]
             found.name = names[found.place] if names else None
         raise found
     if report.len > guess:
         raise RuntimeError(f"the archive says that it wrote {report.len} bytes, and had room for {guess}")
     return bytes(memoryview(room)[: report.len])
+
+
+def construct_of(number: int) -> Construct:
+    """Return the construct of a number."""
+    try:
+        return Construct(number)
+    except ValueError:
+        raise RuntimeError(f"Unknown answer {number} of the archive") from None
 
 
 # The fields of a report that errors have by other names.
@@ -129,6 +154,8 @@ def _field(report: Report, source: bytes, field: str) -> Union[int, bytes]:
     """Return the value of a field of an error; a name stands in the source."""
     if field == "name":
         return source[report.position : report.position + report.len]
+    if field == "construct":
+        return construct_of(report.byte)
     return int(getattr(report, _FIELDS_OF_REPORT.get(field, field)))
 
 
@@ -159,13 +186,7 @@ def first_unportable_in_client(query: bytes, mode: bool) -> tuple[int, Report]:
 
 def unportable(number: int, report: Report) -> Optional[Unportable]:
     """Return what such a number with its report says."""
-    if number == PORTABLE:
-        return None
-    try:
-        construct = Construct(number)
-    except ValueError:
-        raise RuntimeError(f"Unknown answer {number} of the archive") from None
-    return Unportable(construct, report.position)
+    return None if number == PORTABLE else Unportable(construct_of(number), report.position)
 
 
 def next_string(answer: bytes, begin: int) -> tuple[bytes, int]:

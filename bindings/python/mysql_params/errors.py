@@ -5,6 +5,8 @@ from __future__ import annotations
 import re
 from typing import Optional, Union
 
+from .portable import Construct
+
 
 def _show(name: bytes) -> str:
     """Return a name as messages show it: other than printable ASCII, ``"`` and ``\\`` as ``\\x`` and two digits."""
@@ -212,6 +214,28 @@ class FloatError(Error):
         return "" if self.name is None else f": the value of `:{self.name}`"
 
 
+class UnsteadyError(Error):
+    """The query has a backslash or a byte from 128 on: `position` is the first. It is of bind_anywhere alone."""
+
+    number = 15
+    position: int
+    _fields: tuple[str, ...] = ("position",)
+    _text = "Backslash or byte that is not ASCII at byte {position} of the query"
+
+
+class UnportableError(Error):
+    """The query isn't portable: `construct` is the first, and begins at `position`. It is of bind_anywhere alone."""
+
+    number = 16
+    position: int
+    construct: Construct
+    _fields: tuple[str, ...] = ("position", "construct")
+    _text = "Not portable at byte {position} of the query"
+
+    def _more(self) -> str:
+        return f": {self.construct.message}"
+
+
 _ERRORS: dict[int, type[Error]] = {
     error.number: error
     for error in (
@@ -228,5 +252,7 @@ _ERRORS: dict[int, type[Error]] = {
         MarkCountError,
         NotAloneError,
         FloatError,
+        UnsteadyError,
+        UnportableError,
     )
 }

@@ -36,6 +36,16 @@ unsafe extern "C" {
         report: *mut Report,
     ) -> i32;
 
+    fn mysql_params_bind_anywhere(
+        query: *const u8,
+        query_len: usize,
+        form: *const u8,
+        form_len: usize,
+        room: *mut u8,
+        room_len: usize,
+        report: *mut Report,
+    ) -> i32;
+
     fn mysql_params_first_unportable(
         query: *const u8,
         query_len: usize,
@@ -74,6 +84,8 @@ pub(crate) enum Call<'a> {
     Names { query: &'a [u8] },
     /// A query and the form of its parameters.
     Bind { query: &'a [u8], form: &'a [u8] },
+    /// The same, for any server. It has no mode.
+    BindAnywhere { query: &'a [u8], form: &'a [u8] },
 }
 
 impl Call<'_> {
@@ -106,6 +118,18 @@ impl Call<'_> {
                     &mut report,
                 )
             },
+            // SAFETY: the same.
+            Call::BindAnywhere { query, form } => unsafe {
+                mysql_params_bind_anywhere(
+                    query.as_ptr(),
+                    query.len(),
+                    form.as_ptr(),
+                    form.len(),
+                    room.as_mut_ptr(),
+                    room.len(),
+                    &mut report,
+                )
+            },
         };
         (number, report)
     }
@@ -113,15 +137,17 @@ impl Call<'_> {
     /// The query.
     fn query(&self) -> &[u8] {
         match self {
-            Call::Names { query } | Call::Bind { query, .. } => query,
+            Call::Names { query } | Call::Bind { query, .. } | Call::BindAnywhere { query, .. } => {
+                query
+            }
         }
     }
 
     /// The bytes of the query or the form that a report tells.
     fn name(self, number: i32, report: &Report) -> Result<Vec<u8>, Error> {
         let source = match self {
-            Call::Bind { form, .. } if number == 7 => form,
-            Call::Bind { query, .. } | Call::Names { query } => query,
+            Call::Bind { form, .. } | Call::BindAnywhere { form, .. } if number == 7 => form,
+            _ => self.query(),
         };
         let end = report.position.checked_add(report.len);
         let name = end.and_then(|end| source.get(report.position..end));
@@ -187,6 +213,14 @@ impl Call<'_> {
                 word: copy_of_any(words::word_of_place(self.query(), position))?,
             },
             14 => Error::Float { place, name: None },
+            15 => Error::Unsteady { position },
+            16 => {
+                let construct = Construct::of_number(i32::from(byte()?));
+                Error::Unportable(Unportable {
+                    construct: construct.ok_or(Error::UnknownAnswer { number })?,
+                    position,
+                })
+            }
             _ => return Err(Error::UnknownAnswer { number }),
         })
     }

@@ -1,5 +1,5 @@
 //! Refusals, and their messages.
-use crate::words;
+use crate::{Unportable, words};
 use std::fmt;
 
 /// Why a query is refused. Numbers of places, parameters and bytes begin at 0.
@@ -104,6 +104,14 @@ pub enum Error {
         /// The name that stands in that place; none for a `?`.
         name: Option<String>,
     },
+    /// The query has a backslash or a byte from 128 on. This and the next are of
+    /// [`bind_anywhere`](crate::bind_anywhere) alone.
+    Unsteady {
+        /// The first such byte of the query.
+        position: usize,
+    },
+    /// The query isn't portable; told is the first construct.
+    Unportable(Unportable),
     /// The archive answered what this crate doesn't know: it is not the archive that this crate was written for.
     UnknownAnswer {
         /// The number that it returned.
@@ -163,6 +171,8 @@ impl Error {
             Error::MarkCount { .. } => 12,
             Error::NotAlone { .. } => 13,
             Error::Float { .. } => 14,
+            Error::Unsteady { .. } => 15,
+            Error::Unportable(_) => 16,
             Error::UnknownAnswer { number } => *number,
         })
     }
@@ -245,6 +255,20 @@ impl fmt::Display for Error {
                 place,
                 name: Some(name),
             } => write!(f, "Float at place {place}: the value of `:{name}`"),
+            Error::Unsteady { position } => write!(
+                f,
+                "Backslash or byte that is not ASCII at byte {position} of the query"
+            ),
+            Error::Unportable(found) => {
+                let Unportable {
+                    construct,
+                    position,
+                } = found;
+                write!(
+                    f,
+                    "Not portable at byte {position} of the query: {construct}"
+                )
+            }
             Error::UnknownAnswer { number } => write!(f, "Unknown answer {number} of the archive"),
         }
     }

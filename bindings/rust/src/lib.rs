@@ -195,6 +195,28 @@ pub fn bind_in(
     bind_form_in(query, &form::form_of(params)?, no_backslash_escape)
 }
 
+/// As [`bind`], with a text that depends on no connection: no `sql_mode` and no character set reads it otherwise, on MySQL
+/// or MariaDB. The query has to be ASCII without a backslash, also in its comments, and portable.
+///
+/// A text of printable ASCII without a backslash is written as `_utf8mb4'it''s'`, other UTF-8 as `_utf8mb4 0xC3A9`, and
+/// bytes that aren't UTF-8 as `0xFF`. "Steady texts" in docs/LIMITS.md says where a server takes no such literal.
+///
+/// ```
+/// use mysql_params::{Params, bind_anywhere};
+///
+/// let text = bind_anywhere(b"SELECT ?, ?", &Params::Positional(&["it's".into(), "é".into()]))?;
+/// assert_eq!(text, b"SELECT _utf8mb4'it''s', _utf8mb4 0xC3A9");
+/// # Ok::<(), mysql_params::Error>(())
+/// ```
+///
+/// # Errors
+///
+/// The first that holds: [`Error::EmptyName`]; [`Error::RepeatedName`]; then, of the query, [`Error::Unsteady`];
+/// [`Error::Unportable`]; those of [`bind`] from [`Error::Mixed`] on. Out of memory and the processor are as there.
+pub fn bind_anywhere(query: &[u8], params: &Params<'_>) -> Result<Vec<u8>, Error> {
+    bind_form_anywhere(query, &form::form_of(params)?)
+}
+
 /// As [`bind`], of a query that is a `str`: then the text is UTF-8 too, since a literal is, whatever its value holds.
 /// Bytes that aren't UTF-8 have a hexadecimal one.
 ///
@@ -252,11 +274,25 @@ pub fn bind_form_in(
     form: &[u8],
     no_backslash_escape: bool,
 ) -> Result<Vec<u8>, Error> {
-    // A literal of bytes has at most twice their number, and quotes.
+    Call::Bind { query, form }.whole_answer(no_backslash_escape, bound_guess(query, form))
+}
+
+/// As [`bind_anywhere`], of parameters that stand in their flat form already, as for [`bind_form`].
+///
+/// # Errors
+///
+/// The errors that begin with `Form`, and [`Error::RepeatedName`], for the first parameter that can't be taken; then
+/// those of [`bind_anywhere`].
+pub fn bind_form_anywhere(query: &[u8], form: &[u8]) -> Result<Vec<u8>, Error> {
+    // The query is steady once its names are asked for, so it has the same in both modes.
+    Call::BindAnywhere { query, form }.whole_answer(false, bound_guess(query, form))
+}
+
+/// The room of a first call that binds: a literal of bytes has at most twice their number, and quotes.
+fn bound_guess(query: &[u8], form: &[u8]) -> usize {
     let literals = form.len().saturating_mul(2);
-    let guess = query
+    query
         .len()
         .saturating_add(literals)
-        .saturating_add(SPARE_ROOM);
-    Call::Bind { query, form }.whole_answer(no_backslash_escape, guess)
+        .saturating_add(SPARE_ROOM)
 }

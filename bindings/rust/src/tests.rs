@@ -152,18 +152,19 @@ fn numbers_that_come_by_fault_alone() {
     assert_eq!(call.error(1, &none), Error::OutOfMemory);
     assert_eq!(call.error(1, &none).to_string(), "out of memory");
     assert_eq!(call.error(1, &none).number(), Some(1));
-    assert_eq!(call.error(15, &none).number(), Some(15));
+    assert_eq!(call.error(17, &none).number(), Some(17));
     assert_eq!(Error::Processor.number(), None);
     assert_eq!(
         Error::Processor.to_string(),
         "the processor lacks a feature of x86-64-v2"
     );
-    for number in [-1, 0, 2, 15, i32::MAX, i32::MIN] {
+    // 16 tells a construct, and 0 is the number of none.
+    for number in [-1, 0, 2, 16, 17, i32::MAX, i32::MIN] {
         assert_eq!(call.error(number, &none), Error::UnknownAnswer { number });
     }
     assert_eq!(
-        call.error(15, &none).to_string(),
-        "Unknown answer 15 of the archive"
+        call.error(17, &none).to_string(),
+        "Unknown answer 17 of the archive"
     );
     // A name outside the query, and bytes that are none.
     for (len, position) in [(3, 0), (1, 2), (usize::MAX, 1), (1, usize::MAX)] {

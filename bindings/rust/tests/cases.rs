@@ -1,8 +1,9 @@
 //! The cases of bindings/cases, which say what they are in README.md there, and every value of one byte.
 use mysql_params::{
-    Construct, Date, Error, Names, Params, Time, Unportable, Value, bind, bind_form, bind_form_in,
-    bind_in, bind_str, bind_str_in, first_unportable, first_unportable_in,
-    first_unportable_in_client, first_unportable_in_client_in, names, names_in,
+    Construct, Date, Error, Names, Params, Time, Unportable, Value, bind, bind_anywhere, bind_form,
+    bind_form_anywhere, bind_form_in, bind_in, bind_str, bind_str_in, first_unportable,
+    first_unportable_in, first_unportable_in_client, first_unportable_in_client_in, names,
+    names_in,
 };
 use std::collections::HashMap;
 use std::path::Path;
@@ -162,7 +163,7 @@ fn cases(file: &str) -> Vec<Case> {
 }
 
 /// Names of the refusals in cases, in the order of their numbers from 3 on.
-const NUMBERS: [&str; 12] = [
+const NUMBERS: [&str; 14] = [
     "FORM_END",
     "FORM_LENGTH_LEAD",
     "FORM_TYPE",
@@ -175,6 +176,8 @@ const NUMBERS: [&str; 12] = [
     "MARK_COUNT",
     "NOT_ALONE",
     "FLOAT",
+    "UNSTEADY",
+    "UNPORTABLE",
 ];
 
 /// The error that a case wants.
@@ -234,6 +237,11 @@ fn wanted_error(case: &Case) -> Error {
             place,
             name: fields.get("of").cloned(),
         },
+        "UNSTEADY" => Error::Unsteady { position },
+        "UNPORTABLE" => Error::Unportable(Unportable {
+            construct: CONSTRUCTS[usize::from(byte) - 1].1,
+            position,
+        }),
         _ => panic!("{}: {name} is no refusal", case.at),
     }
 }
@@ -256,22 +264,39 @@ fn expect(case: &Case, result: Result<Vec<u8>, Error>) {
     }
 }
 
+/// What a call gives for the parameters of a case.
+fn with_params<R>(case: &Case, call: impl Fn(&Params<'_>) -> R) -> R {
+    let values: Vec<Value<'_>> = case.params.iter().map(|(_, value)| value.value()).collect();
+    let names = case.params.iter().map(|(name, _)| name.as_str());
+    let pairs: Vec<(&str, Value<'_>)> = names.zip(values.iter().copied()).collect();
+    call(&match pairs.first() {
+        None => Params::Empty,
+        Some(("", _)) => Params::Positional(&values),
+        Some(_) => Params::Named(&pairs),
+    })
+}
+
 #[test]
 fn table_of_binding() {
     for case in cases("bind.txt") {
-        let values: Vec<Value<'_>> = case.params.iter().map(|(_, value)| value.value()).collect();
-        let names = case.params.iter().map(|(name, _)| name.as_str());
-        let pairs: Vec<(&str, Value<'_>)> = names.zip(values.iter().copied()).collect();
-        let params = match pairs.first() {
-            None => Params::Empty,
-            Some(("", _)) => Params::Positional(&values),
-            Some(_) => Params::Named(&pairs),
-        };
         let mode = case.no_backslash_escape;
-        expect(&case, bind_in(&case.query, &params, mode));
+        let result = with_params(&case, |params| bind_in(&case.query, params, mode));
+        expect(&case, result);
         if !mode {
-            expect(&case, bind(&case.query, &params));
+            let result = with_params(&case, |params| bind(&case.query, params));
+            expect(&case, result);
         }
+    }
+}
+
+#[test]
+fn table_of_steady_binding() {
+    for case in cases("anywhere.txt") {
+        let result = match case.form.is_empty() {
+            true => with_params(&case, |params| bind_anywhere(&case.query, params)),
+            false => bind_form_anywhere(&case.query, &case.form),
+        };
+        expect(&case, result);
     }
 }
 
@@ -312,30 +337,33 @@ fn names_of_queries() {
     }
 }
 
+/// The constructs, by their names in cases, in the order of their numbers from 1 on.
+const CONSTRUCTS: [(&str, Construct); 18] = [
+    ("EXECUTABLE_COMMENT", Construct::ExecutableComment),
+    ("HINT", Construct::Hint),
+    ("MARIADB_COMMENT", Construct::MariaDbComment),
+    ("DASHES", Construct::Dashes),
+    ("ESCAPED_QUOTE", Construct::EscapedQuote),
+    ("BRACKET", Construct::Bracket),
+    ("DOLLAR_QUOTE", Construct::DollarQuote),
+    ("DASHES_AFTER_EXPONENT", Construct::DashesAfterExponent),
+    ("PLACE_AFTER_EXPONENT", Construct::PlaceAfterExponent),
+    ("OPENER_IN_COMMENT", Construct::OpenerInComment),
+    ("JOINING_COMMENT", Construct::JoiningComment),
+    ("DASHES_BEFORE_COMMENT", Construct::DashesBeforeComment),
+    ("CLIENT_COMMAND", Construct::ClientCommand),
+    ("DASH_IN_FRONT", Construct::DashInFront),
+    ("DELIMITER", Construct::Delimiter),
+    ("CLIENT_WORD", Construct::ClientWord),
+    ("ESCAPED_NEWLINE", Construct::EscapedNewline),
+    ("ZERO_BYTE", Construct::ZeroByte),
+];
+
 /// The construct that a case wants.
 fn wanted_construct(case: &Case) -> Option<Unportable> {
     let (name, fields) = case.unportable.as_ref()?;
-    let construct = match name.as_str() {
-        "EXECUTABLE_COMMENT" => Construct::ExecutableComment,
-        "HINT" => Construct::Hint,
-        "MARIADB_COMMENT" => Construct::MariaDbComment,
-        "DASHES" => Construct::Dashes,
-        "ESCAPED_QUOTE" => Construct::EscapedQuote,
-        "BRACKET" => Construct::Bracket,
-        "DOLLAR_QUOTE" => Construct::DollarQuote,
-        "DASHES_AFTER_EXPONENT" => Construct::DashesAfterExponent,
-        "PLACE_AFTER_EXPONENT" => Construct::PlaceAfterExponent,
-        "OPENER_IN_COMMENT" => Construct::OpenerInComment,
-        "JOINING_COMMENT" => Construct::JoiningComment,
-        "DASHES_BEFORE_COMMENT" => Construct::DashesBeforeComment,
-        "CLIENT_COMMAND" => Construct::ClientCommand,
-        "DASH_IN_FRONT" => Construct::DashInFront,
-        "DELIMITER" => Construct::Delimiter,
-        "CLIENT_WORD" => Construct::ClientWord,
-        "ESCAPED_NEWLINE" => Construct::EscapedNewline,
-        "ZERO_BYTE" => Construct::ZeroByte,
-        _ => panic!("{}: {name} is no construct", case.at),
-    };
+    let known = CONSTRUCTS.iter().find(|(known, _)| known == name);
+    let (_, construct) = *known.unwrap_or_else(|| panic!("{}: {name} is no construct", case.at));
     Some(Unportable {
         construct,
         position: number(&fields["position"]),
