@@ -22,6 +22,15 @@ unsafe extern "C" {
         room_len: usize,
         report: *mut Report,
     ) -> i32;
+    fn mysql_params_bind_anywhere(
+        query: *const u8,
+        query_len: usize,
+        form: *const u8,
+        form_len: usize,
+        room: *mut u8,
+        room_len: usize,
+        report: *mut Report,
+    ) -> i32;
     fn mysql_params_first_unportable(
         query: *const u8,
         query_len: usize,
@@ -62,6 +71,17 @@ pub fn names(query: &[u8], room: &mut [u8]) -> (i32, Report) {
 
 pub fn bind(query: &[u8], form: &[u8], room: &mut [u8]) -> (i32, Report) {
     bind_in(query, form, false, room)
+}
+
+/// `bind` for any mode and any server.
+pub fn bind_anywhere(query: &[u8], form: &[u8], room: &mut [u8]) -> (i32, Report) {
+    let (query_at, form_at, room_at) = (query.as_ptr(), form.as_ptr(), room.as_mut_ptr());
+    let (query_len, form_len, room_len) = (query.len(), form.len(), room.len());
+    number_and_report(|report| unsafe {
+        mysql_params_bind_anywhere(
+            query_at, query_len, form_at, form_len, room_at, room_len, report,
+        )
+    })
 }
 
 /// `names` in the mode without backslash escapes.

@@ -57,7 +57,7 @@ const OPEN: [&[u8]; 12] =
 const NAMES: [&[u8]; 8] =
     [b"a", b"b", b"ab", b"a1", b"_", b"_x9", b"name", b"a_long_name_of_28_bytes_in_all"];
 
-/// Compares so many calls of `names`, and as many of `bind`, each in both modes.
+/// Compares so many calls of `names`, and as many of `bind`, each in both modes, and of binding for any server.
 pub fn compare(count: u64, differences: &mut Differences) {
     let mut random = Random(20_261_122);
     for _ in 0..count {
@@ -77,6 +77,8 @@ pub fn compare(count: u64, differences: &mut Differences) {
         for mode in [Mode::WithBackslashes, Mode::WithoutBackslashes] {
             differences.compare_bind(mode, &query, &form, room);
         }
+        // Steady literals are longer: the room may have them all, or miss some.
+        differences.compare_bind(Mode::Anywhere, &query, &form, room + random.below(256));
         let room = query.len() + random.below(query.len() + 2);
         for mode in [Mode::WithBackslashes, Mode::WithoutBackslashes] {
             differences.compare_names(mode, &query, room);

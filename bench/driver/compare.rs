@@ -78,6 +78,7 @@ fn short_query_in<S: Search>(
     differences.compare_names(mode, query, SHORT_ROOM);
     for form in [&[], one_name, one_value.as_slice()] {
         differences.compare_bind(mode, query, form, SHORT_ROOM);
+        differences.compare_bind(Mode::Anywhere, query, form, SHORT_ROOM);
     }
     let (mut names, mut marks) = (Vec::new(), 0);
     let mut at = 0;

@@ -17,6 +17,8 @@ const MARGIN: usize = 16;
 pub enum Mode {
     WithBackslashes,
     WithoutBackslashes,
+    /// Binding for any mode; names are asked for with backslash escapes.
+    Anywhere,
 }
 
 /// A call: of `names` where there is no form.
@@ -60,6 +62,9 @@ const BINDS_WITHOUT: [BindForm; SIDES.len()] = [
     #[cfg(templates)]
     archive::bind_by_template_without_backslashes,
 ];
+/// The first sides for any mode and any server.
+const BINDS_ANYWHERE: [BindForm; 3] =
+    [archive::bind_anywhere, TABLE.bind_form_anywhere, WIDE.bind_form_anywhere];
 const SIDES: &[&str] = &[
     "archive",
     "plain Rust by a table",
@@ -103,9 +108,10 @@ impl Differences {
         form: Option<&[u8]>,
         room: usize,
     ) -> Vec<(i32, Report)> {
-        let (names, binds) = match mode {
+        let (names, binds): (_, &[BindForm]) = match mode {
             Mode::WithBackslashes => (&NAMES, &BINDS),
             Mode::WithoutBackslashes => (&NAMES_WITHOUT, &BINDS_WITHOUT),
+            Mode::Anywhere => (&NAMES, &BINDS_ANYWHERE),
         };
         let sides = if form.is_some() { binds.len() } else { names.len() };
         let rooms = self.rooms[..sides].iter_mut().enumerate();

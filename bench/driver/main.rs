@@ -65,6 +65,7 @@ fn measured() -> Report {
     let tables = [
         (&sides::PARSING[..], sides::parsing(&queries, &rooms)),
         (&sides::BINDING, sides::binding(&bindings, &rooms)),
+        (&sides::ANYWHERE, sides::anywhere(&bindings, &rooms)),
         #[cfg(templates)]
         (&sides::BY_TEMPLATE, sides::by_template(&bindings, &rooms)),
     ];

@@ -24,6 +24,10 @@ pub const PARSING: [&str; 4] = ["`names`", "table", "16 bytes", "upstream"];
 pub const BINDING: [&str; 5] =
     ["`bind`", "table", "16 bytes", "table, behind the calls", "16 bytes, behind the calls"];
 
+/// The same of binding for any mode and any server, beside the archive's binding in a mode.
+pub const ANYWHERE: [&str; 4] =
+    ["`bind_anywhere`", "table", "table, behind the calls", "the archive's `bind`"];
+
 /// The same of binding by a template that was made before.
 #[cfg(templates)]
 pub const BY_TEMPLATE: [&str; 6] = [
@@ -120,6 +124,30 @@ fn binding_input<'a>(binding: &'a Binding, rooms: &'a [RefCell<Vec<u8>>]) -> Inp
         Box::new(|| black_box(plain(WIDE, binding)).len()),
         Box::new(|| behind_calls(TABLE.bind_form, binding, &rooms[1])),
         Box::new(|| behind_calls(WIDE.bind_form, binding, &rooms[2])),
+    ];
+    Input { name: binding.name, sides, last_differs: false }
+}
+
+pub fn anywhere<'a>(bindings: &'a [Binding], rooms: &'a [RefCell<Vec<u8>>]) -> Vec<Input<'a>> {
+    bindings.iter().map(|binding| anywhere_input(binding, rooms)).collect()
+}
+
+fn anywhere_input<'a>(binding: &'a Binding, rooms: &'a [RefCell<Vec<u8>>]) -> Input<'a> {
+    let plain = || {
+        let params = params_of(black_box(&binding.given));
+        let text = (TABLE.bind_anywhere)(black_box(&binding.query), &params);
+        text.expect("a query that can be bound")
+    };
+    let text = plain();
+    for (call, room) in [archive::bind_anywhere, TABLE.bind_form_anywhere].into_iter().zip(rooms) {
+        let len = behind_calls(call, binding, room);
+        assert!(room.borrow()[..len] == text[..], "another text of {}", binding.name);
+    }
+    let sides: Vec<Side> = vec![
+        Box::new(|| behind_calls(archive::bind_anywhere, binding, &rooms[0])),
+        Box::new(move || black_box(plain()).len()),
+        Box::new(|| behind_calls(TABLE.bind_form_anywhere, binding, &rooms[1])),
+        Box::new(|| behind_calls(archive::bind, binding, &rooms[2])),
     ];
     Input { name: binding.name, sides, last_differs: false }
 }

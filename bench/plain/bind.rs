@@ -1,8 +1,9 @@
 //! Binding in one scan into one vector, after docs/RULES.md.
 
+use crate::portable::first_unportable;
 use crate::query::next_place;
 use crate::search::{Search, set};
-use crate::value::{Params, Value, append_literal};
+use crate::value::{Params, Value, append_literal, append_steady_literal};
 
 #[derive(Debug)]
 pub enum BindError {
@@ -21,6 +22,13 @@ pub enum BindError {
     },
     Float {
         place: usize,
+    },
+    Unsteady {
+        position: usize,
+    },
+    Unportable {
+        number: i32,
+        position: usize,
     },
 }
 
@@ -55,6 +63,27 @@ struct Met {
 }
 
 pub fn bind<S: Search>(query: &[u8], params: &Params) -> Result<Vec<u8>, BindError> {
+    bind_with::<S>(query, params, append_literal::<S>)
+}
+
+/// Binds with steady literals, a query that is steady and portable.
+pub fn bind_anywhere<S: Search>(query: &[u8], params: &Params) -> Result<Vec<u8>, BindError> {
+    if let Some(position) = query.iter().position(|byte| *byte >= 128 || *byte == b'\\') {
+        return Err(BindError::Unsteady { position });
+    }
+    match first_unportable(query, false) {
+        (0, _) => bind_with::<S>(query, params, append_steady_literal::<S>),
+        (number, position) => Err(BindError::Unportable { number, position }),
+    }
+}
+
+/// Binds with literals that are appended so; a float has none.
+#[inline(always)]
+fn bind_with<S: Search>(
+    query: &[u8],
+    params: &Params,
+    append: impl Fn(&mut Vec<u8>, &Value) -> bool,
+) -> Result<Vec<u8>, BindError> {
     let mut text = Vec::with_capacity(query.len() + params.literal_room());
     let mut met = Met::default();
     let (mut at, mut copied) = (0, 0);
@@ -66,7 +95,7 @@ pub fn bind<S: Search>(query: &[u8], params: &Params) -> Result<Vec<u8>, BindErr
         }
         let Some(value) = value_at(query, start, end, params, &mut met) else { continue };
         text.extend_from_slice(&query[copied..start]);
-        if !append_literal::<S>(&mut text, value) && met.float.is_none() {
+        if !append(&mut text, value) && met.float.is_none() {
             met.float = Some(place);
         }
         copied = end;

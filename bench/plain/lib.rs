@@ -37,6 +37,9 @@ pub struct Kind {
     pub names: Names,
     pub bind_form: BindForm,
     pub bind: Bind,
+    /// The same two with steady literals.
+    pub bind_form_anywhere: BindForm,
+    pub bind_anywhere: Bind,
     pub template: MakeTemplate,
     pub bind_template_form: BindTemplateForm,
     pub bind_template: BindTemplate,
@@ -54,6 +57,12 @@ macro_rules! kind {
         fn bind(query: &[u8], params: &Params) -> Result<Vec<u8>, BindError> {
             bind::bind::<$search>(query, params)
         }
+        fn bind_form_anywhere(query: &[u8], form: &[u8], room: &mut [u8]) -> (i32, Report) {
+            room::bind_form(form, room, |params| bind_anywhere(query, params))
+        }
+        fn bind_anywhere(query: &[u8], params: &Params) -> Result<Vec<u8>, BindError> {
+            bind::bind_anywhere::<$search>(query, params)
+        }
         fn template(query: &[u8]) -> Template<'_> {
             Template::new::<$search>(query)
         }
@@ -63,7 +72,16 @@ macro_rules! kind {
         fn bind_template_form(template: &Template, form: &[u8], room: &mut [u8]) -> (i32, Report) {
             room::bind_form(form, room, |params| bind_template(template, params))
         }
-        Kind { names, bind_form, bind, template, bind_template_form, bind_template }
+        Kind {
+            names,
+            bind_form,
+            bind,
+            bind_form_anywhere,
+            bind_anywhere,
+            template,
+            bind_template_form,
+            bind_template,
+        }
     }};
 }
 

@@ -1,4 +1,4 @@
-//! Plain Rust behind the archive's two calls: the answer goes into room that the caller lends.
+//! Plain Rust behind the archive's calls: the answer goes into room that the caller lends.
 
 use crate::bind::BindError;
 use crate::form::{self, FormError};
@@ -32,9 +32,11 @@ const POSITIONAL_FOR_NAMED: i32 = 11;
 const MARK_COUNT: i32 = 12;
 const NOT_ALONE: i32 = 13;
 const FLOAT: i32 = 14;
+const UNSTEADY: i32 = 15;
+const UNPORTABLE: i32 = 16;
 
 /// The names of the numbers, from 0.
-pub const NUMBERS: [&str; 15] = [
+pub const NUMBERS: [&str; 17] = [
     "DONE",
     "OUT_OF_MEMORY",
     "ROOM",
@@ -50,6 +52,8 @@ pub const NUMBERS: [&str; 15] = [
     "MARK_COUNT",
     "NOT_ALONE",
     "FLOAT",
+    "UNSTEADY",
+    "UNPORTABLE",
 ];
 
 #[inline(always)]
@@ -150,5 +154,9 @@ fn bind_answer(error: &BindError) -> (i32, Report) {
         BindError::MarkCount { marks, values } => (MARK_COUNT, Report { marks, values, ..none }),
         BindError::NotAlone { place, position } => (NOT_ALONE, Report { place, position, ..none }),
         BindError::Float { place } => (FLOAT, Report { place, ..none }),
+        BindError::Unsteady { position } => (UNSTEADY, Report { position, ..none }),
+        BindError::Unportable { number, position } => {
+            (UNPORTABLE, Report { position, byte: number as usize, ..none })
+        }
     }
 }

@@ -37,10 +37,10 @@ impl Params {
     }
 }
 
-/// No literal of the value is longer.
+/// No literal of the value is longer, steady or not.
 pub fn literal_room(value: &Value) -> usize {
     match value {
-        Value::Bytes(bytes) => 2 * bytes.len() + 2,
+        Value::Bytes(bytes) => 2 * bytes.len() + 11,
         _ => 40,
     }
 }
@@ -71,6 +71,30 @@ pub fn append_literal<S: Search>(text: &mut Vec<u8>, value: &Value) -> bool {
         Value::Float(_) | Value::Double(_) => return false,
         Value::Date(..) => append_date(text, value),
         Value::Time(..) => append_time(text, value),
+    }
+    true
+}
+
+/// Appends the steady literal of a value; a float has none.
+#[inline(always)]
+pub fn append_steady_literal<S: Search>(text: &mut Vec<u8>, value: &Value) -> bool {
+    let Value::Bytes(bytes) = value else {
+        return append_literal::<S>(text, value);
+    };
+    if bytes.iter().all(|byte| matches!(byte, 32..=126) && *byte != b'\\') {
+        text.extend_from_slice(b"_utf8mb4'");
+        for byte in bytes {
+            text.push(*byte);
+            if *byte == b'\'' {
+                text.push(b'\'');
+            }
+        }
+        text.push(b'\'');
+    } else {
+        if std::str::from_utf8(bytes).is_ok() {
+            text.extend_from_slice(b"_utf8mb4 ");
+        }
+        append_hexadecimal(text, bytes);
     }
     true
 }
