@@ -42,6 +42,7 @@ pub use Rattle.mysql_steady_text.specs.SteadyAgain
 pub use Rattle.mysql_steady_text.specs.SteadyTextErrors
 pub use Rattle.mysql_fixed_query.specs.Bindable
 pub use Rattle.mysql_fixed_query.specs.FixedText
+pub use Rattle.mysql_fixed_query.specs.BindableAnywhere
 pub use Rattle.mysql_program.specs.Words
 pub use Rattle.mysql_program.specs.WordErrors
 pub use Rattle.mysql_program.specs.Program

@@ -1,2 +1,5 @@
 //! Queries that are constants and proved bindable: all of `mysql_fixed_query`, handed on by name.
-pub use mysql_fixed_query::{bind_named, bind_named_in, bind_positional, bind_positional_in};
+pub use mysql_fixed_query::{
+    bind_named, bind_named_anywhere, bind_named_in, bind_positional, bind_positional_anywhere,
+    bind_positional_in,
+};

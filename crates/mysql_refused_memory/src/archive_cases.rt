@@ -4,13 +4,18 @@ use crate::inputs::Plain::Bytes;
 use crate::inputs::{Given, Plain};
 use crate::outcome::Memory::{Asked, Never};
 use crate::outcome::{Case, Memory, Outcome, cases, judged, row};
-use mysql_flat_params::{Outcome as Told, bind_into, names_into, params_of_form};
+use mysql_flat_params::{
+    Outcome as Told, bind_anywhere_into, bind_into, names_into, params_of_form,
+};
 use std::alloc::Global;
 
 /// How the call of this name went, if it stands here.
 pub(crate) fn case(alloc: Global, name: &str) -> Option<Case> {
     if let Some(row) = row(BOUND, name) {
         return Some(Ok(bound(alloc, row)));
+    }
+    if let Some(row) = row(ANYWHERE, name) {
+        return Some(Ok(bound_anywhere(alloc, row)));
     }
     if let Some(row) = row(NAMES, name) {
         return Some(Ok(names_written(alloc, row)));
@@ -131,4 +136,31 @@ fn bound(alloc: Global, (query, form, wanted): BoundRow) -> Outcome {
     let mut room = *ROOM;
     let told = bind_into(alloc, query, form, false, &mut room);
     written(told, &room, wanted)
+}
+
+/// A query, a form, the answer or refusal for any server, and whether the call asks for memory.
+type AnywhereRow = (&'static [u8], &'static [u8], Wanted, Memory);
+
+const ANYWHERE: &[(&str, AnywhereRow)] = cases! {
+    "bind_anywhere_into of a text" =>
+        b"= ?", b"\x00\xFC\x00\x04it's", Ok(b"= _utf8mb4'it''s'"), Asked;
+    "bind_anywhere_into of a room that is too short" =>
+        LONG_QUERY, NUMBER_OF_A, Err(Told::Room { len: 41 }), Asked;
+    "bind_anywhere_into of a cut form" =>
+        b":a ?", b"\x01a\x01\x00", Err(Told::FormEnd { place: 0, position: 0, }), Never;
+    "bind_anywhere_into of an unsteady query" =>
+        b"\\:a ?", b"", Err(Told::Unsteady { position: 0 }), Never;
+    "bind_anywhere_into of a query that is not portable" =>
+        b"[:a ?", b"", Err(Told::Unportable { number: 6, position: 0, }), Never;
+    "bind_anywhere_into of names and marks" => b":a ?", b"", Err(Told::Mixed), Never;
+    "bind_anywhere_into of parameters for an unsteady query" =>
+        b"\\:a", NUMBER_OF_A, Err(Told::Unsteady { position: 0 }), Asked;
+    "bind_anywhere_into of a missing name" =>
+        b":b", NUMBER_OF_A, Err(Told::Missing { place: 0, position: 1, len: 1, }), Asked;
+};
+
+fn bound_anywhere(alloc: Global, (query, form, wanted, memory): AnywhereRow) -> Outcome {
+    let mut room = *ROOM;
+    let told = bind_anywhere_into(alloc, query, form, &mut room);
+    written(told, &room, wanted).with(memory)
 }

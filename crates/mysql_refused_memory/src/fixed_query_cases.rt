@@ -1,6 +1,9 @@
-//! Fixed queries: `bind_named`, `bind_positional`, and both in a mode.
+//! Fixed queries: `bind_named`, `bind_positional`, and both in a mode and for any server.
 use crate::outcome::{Case, Outcome, cases, judged, row};
-use mysql_params::fixed_query::{bind_named, bind_named_in, bind_positional, bind_positional_in};
+use mysql_params::fixed_query::{
+    bind_named, bind_named_anywhere, bind_named_in, bind_positional, bind_positional_anywhere,
+    bind_positional_in,
+};
 use std::alloc::{AllocError, Global};
 
 /// A call that binds a fixed query.
@@ -8,17 +11,21 @@ use std::alloc::{AllocError, Global};
 enum Call {
     ByName,
     ByNameIn,
+    ByNameAnywhere,
     ByPosition,
     WithoutPlaces,
     ByPositionIn,
+    ByPositionAnywhere,
 }
 
 const CALLS: &[(&str, Call)] = cases! {
     "bind_named of a text and a number" => Call::ByName;
     "bind_named_in of a text without backslash escapes" => Call::ByNameIn;
+    "bind_named_anywhere of a text and a number" => Call::ByNameAnywhere;
     "bind_positional of a text and a number" => Call::ByPosition;
     "bind_positional of a query without places" => Call::WithoutPlaces;
     "bind_positional_in of a text without backslash escapes" => Call::ByPositionIn;
+    "bind_positional_anywhere of texts" => Call::ByPositionAnywhere;
 };
 
 /// How the call of this name went, if it stands here.
@@ -26,11 +33,13 @@ pub(crate) fn case(alloc: Global, name: &str) -> Option<Case> {
     let outcome = match row(CALLS, name)? {
         Call::ByName => by_name(alloc),
         Call::ByNameIn => by_name_in(alloc),
+        Call::ByNameAnywhere => by_name_anywhere(alloc),
         Call::ByPosition => by_position(alloc),
         Call::WithoutPlaces => {
             is_bound(bind_positional(alloc, b"SELECT '?'", &()), b"SELECT '?'")
         }
         Call::ByPositionIn => by_position_in(alloc),
+        Call::ByPositionAnywhere => by_position_anywhere(alloc),
     };
     Some(Ok(outcome))
 }
@@ -51,6 +60,12 @@ fn by_name_in(alloc: Global) -> Outcome {
     is_bound(answer, b"SELECT 'a\\', 'it''s\\'")
 }
 
+fn by_name_anywhere(alloc: Global) -> Outcome {
+    let pairs = (("id", 42u8), ("name", "it's"));
+    let answer = bind_named_anywhere(alloc, b"SELECT :name, :id", &pairs);
+    is_bound(answer, b"SELECT _utf8mb4'it''s', 42")
+}
+
 fn by_position(alloc: Global) -> Outcome {
     let answer = bind_positional(alloc, b"SELECT ?, ?", &("it's", 42u8));
     is_bound(answer, b"SELECT 'it\\'s', 42")
@@ -59,4 +74,9 @@ fn by_position(alloc: Global) -> Outcome {
 fn by_position_in(alloc: Global) -> Outcome {
     let answer = bind_positional_in(alloc, b"SELECT 'a\\', ?", &("it's\\",), true);
     is_bound(answer, b"SELECT 'a\\', 'it''s\\'")
+}
+
+fn by_position_anywhere(alloc: Global) -> Outcome {
+    let answer = bind_positional_anywhere(alloc, b"SELECT ?, ?", &("it's\\", "x"));
+    is_bound(answer, b"SELECT _utf8mb4 0x697427735C, _utf8mb4'x'")
 }
