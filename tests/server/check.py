@@ -18,6 +18,7 @@ import literals
 import others
 import pipes
 import program
+import rewritten
 import rows
 import search
 import sent
@@ -49,6 +50,7 @@ def main(path: str, mysql_query: str, folder: str) -> int:
     signs.run(tests, path)
     steady.run(tests, path, folder)
     again.run(tests, path, folder)
+    rewritten.run(tests, path, folder)
     # It ends the second server.
     others.run(tests, path, mysql_query, folder)
     print(f"{version}: {tests.passed} passed, {tests.failed} failed", flush=True)

@@ -165,7 +165,7 @@ start_servers() {
     mysql)
         shift
         start_server "$@" --skip-log-bin --federated "--innodb-directories=$place/server" &&
-            start_server second --log-bin=log --binlog-format=STATEMENT --server-id=1
+            start_server second --log-bin=log --binlog-format=STATEMENT --server-id=1 "--innodb-directories=$place/second"
         ;;
     *)
         shift
