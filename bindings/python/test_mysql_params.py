@@ -350,7 +350,7 @@ class Test(unittest.TestCase):
             (1 << 64, OverflowError, wide + double),
             (-(1 << 63) - 1, OverflowError, wide + double),
             (decimal.Decimal("0.01"), TypeError, price + double),
-            (aware, TypeError, "a datetime with a time zone: convert it to a naive one"),
+            (aware, TypeError, "a datetime with a time zone: convert it to a naive one, or hand in zone=.., the session's"),
         ):
             for params, place in (({"a": None, "ids": value}, ":ids"), ([None, value], "?")):
                 with self.subTest(value=value, place=place), self.assertRaises(kind) as raised:

@@ -20,10 +20,22 @@ of x86-64-v2, the import is an ImportError.
 from __future__ import annotations
 
 import datetime
-from collections.abc import Mapping, Sequence
+import enum
+import uuid
+from collections.abc import Iterator, Mapping, Sequence, ValuesView
 from typing import NamedTuple, Optional, Union
 
 from . import _archive, _form
+from ._sending import (
+    PacketError,
+    SessionError,
+    UnportableError,
+    ask_again,
+    exec_driver_sql,
+    execute,
+    executemany,
+)
+from ._values import decimal_text, register
 from .errors import (
     Error,
     FloatError,
@@ -63,39 +75,67 @@ __all__ = [
     "Names",
     "NotAloneError",
     "OutOfMemoryError",
+    "PacketError",
     "Params",
     "PositionalForNamedError",
     "RepeatedNameError",
+    "SessionError",
     "Unportable",
     "UnportableError",
     "UnsteadyError",
     "Value",
     "__version__",
+    "ask_again",
     "bind",
     "bind_anywhere",
     "bind_form",
     "bind_form_anywhere",
+    "decimal_text",
+    "exec_driver_sql",
+    "execute",
+    "executemany",
     "first_unportable",
     "first_unportable_in_client",
     "names",
+    "register",
 ]
 
 Value = Union[
-    None, bool, int, float, bytes, bytearray, memoryview, str, datetime.date, datetime.datetime, datetime.timedelta
+    None,
+    bool,
+    int,
+    float,
+    bytes,
+    bytearray,
+    memoryview,
+    str,
+    datetime.date,
+    datetime.datetime,
+    datetime.time,
+    datetime.timedelta,
+    enum.Enum,
+    uuid.UUID,
 ]
-"""What a value may be. A float has no literal, and is refused if the query has a place for it."""
+"""What a value may be, beside those of types that are registered, and the whole numbers and truth values of numpy.
+
+A float has no literal, and is refused if the query has a place for it. An Enum is bound as its value, a UUID as its
+text, a time of day as the span since midnight.
+"""
 
 Params = Union[
     None,
     Sequence[object],
+    Iterator[object],
+    ValuesView[object],
     Mapping[str, object],
     Mapping[bytes, object],
     Mapping[Union[str, bytes], object],
 ]
-"""Nothing, values by position, or values by name. An empty sequence or mapping is as nothing.
+"""Nothing, values in order, or values by name. No values are as nothing.
 
-A value is a Value; anything else is a TypeError of the call. The annotation says less, since to mypy
-``{"id": 42, "name": "x"}`` is a ``dict[str, object]``. Annotate your own by Value: ``params: dict[str, Value] = {}``.
+A value is a Value, or of a type that is registered; anything else is a TypeError of the call. The annotation says less,
+since to mypy ``{"id": 42, "name": "x"}`` is a ``dict[str, object]``. Annotate your own by Value:
+``params: dict[str, Value] = {}``.
 """
 
 
@@ -144,7 +184,13 @@ def first_unportable_in_client(query: Union[str, bytes], no_backslash_escape: bo
     return _archive.unportable(*_archive.first_unportable_in_client(_form.bytes_of(query), no_backslash_escape))
 
 
-def bind(query: Union[str, bytes], params: Params = None, no_backslash_escape: bool = False) -> bytes:
+def bind(
+    query: Union[str, bytes],
+    params: Params = None,
+    no_backslash_escape: bool = False,
+    *,
+    zone: Optional[datetime.tzinfo] = None,
+) -> bytes:
     """Return the query with the SQL literals of the values in its places: the text to send.
 
     Ask first_unportable of the query before. A str is taken as its UTF-8. A bool is 1 or 0. A datetime at midnight has
@@ -155,7 +201,10 @@ def bind(query: Union[str, bytes], params: Params = None, no_backslash_escape: b
     a value can leave its literal. The flag is True or False: anything else, also the sql_mode itself, is a TypeError.
 
     For a decimal give its str, and write ``CAST(:p AS DECIMAL(20,2))`` in the query: a text in arithmetic is computed
-    as a double. For IN write a place for each value.
+    as a double; decimal_text says how to have each Decimal bound so. For IN write a place for each value.
+
+    A datetime with a time zone is refused, unless zone is given, which is that of the connection (@@time_zone): then it
+    is bound as the clocks there show it. One without a zone is bound as it is.
 
     Of the parameters: raise TypeError for what has no literal, OverflowError for a whole number of more than 64 bits,
     ValueError for an empty name, UnicodeEncodeError for a str with a lone surrogate (also for a query that is one),
@@ -163,7 +212,7 @@ def bind(query: Union[str, bytes], params: Params = None, no_backslash_escape: b
     MissingError, NamedForPositionalError or PositionalForNamedError; MarkCountError; NotAloneError; FloatError. In place
     of any of them, and of a text, OutOfMemoryError.
     """
-    return bind_form(query, _form.form_of(params), no_backslash_escape)
+    return bind_form(query, _form.form_of(params, zone), no_backslash_escape)
 
 
 def bind_form(query: Union[str, bytes], form: bytes, no_backslash_escape: bool = False) -> bytes:

@@ -5,9 +5,10 @@ from __future__ import annotations
 import datetime
 import decimal
 import struct
-from collections.abc import Mapping, Sequence
-from typing import Union
+from collections.abc import Iterable, Mapping
+from typing import Optional, Union
 
+from ._values import in_zone, plain, zone_of
 from .errors import _show
 
 # Numbers of column types in the protocol, and the flag that says unsigned.
@@ -63,12 +64,15 @@ def _int_form(number: int, which: Union[bytes, int]) -> bytes:
     raise OverflowError(f"{_place(which)} is a whole number of more than 64 bits: {_cast(which, '65,0')}")
 
 
-def _date_form(date: datetime.date, which: Union[bytes, int]) -> bytes:
-    """Return type, flags and value of a date, or of a naive date with its time of day."""
+def _date_form(date: datetime.date, which: Union[bytes, int], zone: Optional[datetime.tzinfo]) -> bytes:
+    """Return type, flags and value of a date, or of a date with its time of day."""
     clock = (0, 0, 0, 0)
     if isinstance(date, datetime.datetime):
-        if date.tzinfo is not None:
-            raise TypeError(f"{_place(which)} is a datetime with a time zone: convert it to a naive one")
+        naive = in_zone(date, zone)
+        if naive is None:
+            to_do = "convert it to a naive one, or hand in zone=.., the session's"
+            raise TypeError(f"{_place(which)} is a datetime with a time zone: {to_do}")
+        date = naive
         clock = (date.hour, date.minute, date.second, date.microsecond)
     return struct.pack("<BBBHBBBBBI", _DATETIME, 0, 11, date.year, date.month, date.day, *clock)
 
@@ -93,7 +97,7 @@ def _text_form(text: str, which: Union[bytes, int]) -> bytes:
         ) from None
 
 
-def _known_form(value: object, which: Union[bytes, int]) -> Union[bytes, None]:
+def _known_form(value: object, which: Union[bytes, int], zone: Optional[datetime.tzinfo]) -> Union[bytes, None]:
     """Return type, flags and value; or None of what has no literal."""
     if value is None:
         return bytes([_NULL, 0])
@@ -108,16 +112,17 @@ def _known_form(value: object, which: Union[bytes, int]) -> Union[bytes, None]:
     if isinstance(value, (bytes, bytearray, memoryview)):
         return bytes([_VAR_STRING, 0]) + _string_form(copy(value))
     if isinstance(value, datetime.date):
-        return _date_form(value, which)
+        return _date_form(value, which, zone)
     if isinstance(value, datetime.timedelta):
         return _time_form(value)
     return None
 
 
-def _value_form(value: object, which: Union[bytes, int]) -> bytes:
-    """Return type, flags and value."""
+def _value_form(value: object, which: Union[bytes, int], zone: Optional[datetime.tzinfo] = None) -> bytes:
+    """Return type, flags and value. A datetime with a time zone is as the clocks of the zone handed in show it."""
+    value = plain(value)
     try:
-        form = _known_form(value, which)
+        form = _known_form(value, which, zone)
     except (struct.error, AttributeError):
         form = None  # A subclass has fields that no date and no span has.
     if form is not None:
@@ -127,6 +132,8 @@ def _value_form(value: object, which: Union[bytes, int]) -> bytes:
         raise TypeError(f"{_place(which)} is a {kind}, which has no literal: {_cast(which, '20,2')}")
     if isinstance(value, (list, tuple, set, frozenset)):
         raise TypeError(f"{_place(which)} is a {kind}, which has no literal: write a place for each of its values")
+    if isinstance(value, datetime.time):
+        raise TypeError(f"{_place(which)} is a {kind} with a time zone, which has no literal")
     raise TypeError(f"{_place(which)} is of type {kind}, which has no literal")
 
 
@@ -140,18 +147,19 @@ def _name(name: object, number: int) -> bytes:
     return own
 
 
-def _named(number: int, name: object, value: object) -> bytes:
+def _named(number: int, name: object, value: object, zone: Optional[datetime.tzinfo] = None) -> bytes:
     """Return the flat form of a parameter with a name."""
     own = _name(name, number)
-    return _string_form(own) + _value_form(value, own)
+    return _string_form(own) + _value_form(value, own, zone)
 
 
-def form_of(params: object) -> bytes:
-    """Return the flat form of parameters."""
+def form_of(params: object, zone: Optional[datetime.tzinfo] = None) -> bytes:
+    """Return the flat form of parameters; the zone is as for _value_form."""
+    zone = zone_of(zone)
     if params is None:
         return b""
     if isinstance(params, Mapping):
-        return b"".join(_named(number, *pair) for number, pair in enumerate(params.items()))
-    if isinstance(params, Sequence) and not isinstance(params, (str, bytes, bytearray, memoryview)):
-        return b"".join(_string_form(b"") + _value_form(value, at) for at, value in enumerate(params))
-    raise TypeError(f"parameters are None, a sequence or a mapping, and not {type(params).__name__}")
+        return b"".join(_named(number, *pair, zone) for number, pair in enumerate(params.items()))
+    if isinstance(params, Iterable) and not isinstance(params, (str, bytes, bytearray, memoryview, set, frozenset)):
+        return b"".join(_string_form(b"") + _value_form(value, at, zone) for at, value in enumerate(params))
+    raise TypeError(f"parameters are None, values in order or a mapping, and not {type(params).__name__}")

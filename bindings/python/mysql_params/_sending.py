@@ -1,0 +1,253 @@
+"""Bound texts sent by a driver: PyMySQL, mysqlclient, MySQL Connector/Python, SQLAlchemy over one of them, and the like."""
+
+from __future__ import annotations
+
+import datetime
+import functools
+from collections.abc import Iterable, Mapping
+from typing import Any, NamedTuple, Optional, Union
+
+from . import _archive, _form
+from .errors import Error
+from .portable import Construct, Unportable
+
+_QUESTION = (
+    "SELECT @@sql_mode AS m, @@character_set_client AS c, @@character_set_connection AS n, @@max_allowed_packet AS p"
+)
+"""What is asked of a connection."""
+
+_KEPT = "_mysql_params_told"
+"""The attribute of a connection that keeps what it answered, with the driver's own signs of that moment."""
+
+_NO_BACKSLASH_ESCAPES = 512
+"""The bit of the server's status that says that its mode has no backslash escapes, in the protocol."""
+
+
+class UnportableError(Error):
+    """The query has a construct that servers read in different ways, at the byte `position`."""
+
+    construct: Construct
+    position: int
+    _fields: tuple[str, ...] = ("construct", "position")
+
+    def __init__(self, construct: Construct, position: int) -> None:
+        """Take which it is, and where it begins."""
+        super().__init__(construct, position)
+
+    def __str__(self) -> str:
+        return f"The query isn't portable at byte {self.position}: {self.construct.message}"
+
+
+class SessionError(Error):
+    """The connection isn't one that a bound text is for: its `variable` has the value `value`."""
+
+    variable: str
+    value: str
+
+    def __init__(self, variable: str, value: str) -> None:
+        """Take the variable of the session, and what it is."""
+        Exception.__init__(self, variable, value)
+        self.variable, self.value = variable, value
+
+    def __str__(self) -> str:
+        return f"The connection's {self.variable} is {self.value}, and has to be utf8mb4: connect with charset='utf8mb4'"
+
+
+class PacketError(Error):
+    """The text has `length` bytes, and the server takes `most`: it would end the connection."""
+
+    length: int
+    most: int
+    _fields: tuple[str, ...] = ("length", "most")
+    _text = "The text has {length} bytes, and the connection's max_allowed_packet lets {most} through"
+
+
+class _Told(NamedTuple):
+    """What a connection answered."""
+
+    no_backslash_escape: bool
+    most: int
+
+
+_Signs = tuple[bool, tuple[object, ...]]
+"""A driver's own idea of the mode, and what changes if it connects anew."""
+
+
+class _Kept(NamedTuple):
+    """What is kept of a connection: the signs of the driver with which the answer holds; None if it never does."""
+
+    signs: Optional[_Signs]
+    told: _Told
+
+
+def _signs(connection: Any) -> Optional[_Signs]:
+    """Return a driver's own idea of the mode, and what changes if the driver connects anew; None of another driver.
+
+    Nothing is sent. The mode is what the server said beside its last answer.
+    """
+    makers = {kind.__module__.partition(".")[0] for kind in type(connection).__mro__}
+    if "pymysql" in makers:
+        mode = bool(connection.server_status & _NO_BACKSLASH_ESCAPES)
+        return mode, (connection._sock, connection.thread_id(), connection.charset)
+    if "MySQLdb" in makers:
+        mode = len(connection.escape_string(b"\\")) == 1
+        return mode, (connection.thread_id(), connection.character_set_name())
+    return None
+
+
+def _text_of(cell: object) -> str:
+    """Return a cell of the answer as a text."""
+    return cell.decode() if isinstance(cell, (bytes, bytearray)) else str(cell)
+
+
+def _ask(connection: Any) -> _Told:
+    """Ask a connection, and return its answer. Raise SessionError for one that no bound text is for."""
+    cursor = connection.cursor()
+    try:
+        cursor.execute(_QUESTION)
+        row = cursor.fetchone()
+        while cursor.fetchone() is not None:
+            pass  # An unbuffered cursor has to be read to its end.
+    finally:
+        cursor.close()
+    sql_mode, client, own, most = map(_text_of, row.values() if isinstance(row, Mapping) else row)
+    for variable, value in (("character_set_client", client), ("character_set_connection", own)):
+        if value != "utf8mb4":
+            raise SessionError(variable, value)
+    return _Told("NO_BACKSLASH_ESCAPES" in sql_mode.upper().split(","), int(most))
+
+
+def _told(connection: Any, always_ask: bool) -> _Told:
+    """Return what a connection answered, now or before.
+
+    An answer is kept until a sign of the driver changes. A connection whose driver once had another idea of the mode
+    than the server, as after a statement with a mode of its own, is asked each time from then on.
+    """
+    signs = _signs(connection)
+    kept: Optional[_Kept] = getattr(connection, _KEPT, None)
+    if not always_ask and signs is not None and kept is not None and kept.signs == signs:
+        return kept.told
+    told = _ask(connection)
+    signs = _signs(connection)
+    if signs is not None:
+        agrees = signs[0] == told.no_backslash_escape and (kept is None or kept.signs is not None)
+        setattr(connection, _KEPT, _Kept(signs if agrees else None, told))
+    return told
+
+
+def ask_again(connection: Any) -> None:
+    """Have the connection of a driver asked anew before its next text.
+
+    Call it after a ``SET`` of sql_mode or of a character set. What a driver does itself is seen: connecting anew, and
+    its own calls for a character set, a mode or a user.
+    """
+    kept: Optional[_Kept] = getattr(connection, _KEPT, None)
+    if kept is not None and kept.signs is not None:
+        setattr(connection, _KEPT, None)
+
+
+@functools.lru_cache(maxsize=1024)
+def _unportable(query: bytes, mode: bool) -> Optional[Unportable]:
+    """Return the first construct of a query, as first_unportable."""
+    return _archive.unportable(*_archive.first_unportable(query, mode))
+
+
+def _bound(
+    connection: Any, query: bytes, params: object, zone: Optional[datetime.tzinfo], always_ask: bool
+) -> bytes:
+    """Return the text to send over a connection of a driver."""
+    form = _form.form_of(params, zone)
+    told = _told(connection, always_ask)
+    found = _unportable(query, told.no_backslash_escape)
+    if found is not None:
+        raise UnportableError(*found)
+    text = _archive.whole_answer(query, form, told.no_backslash_escape, len(query) + 2 * len(form) + 64)
+    if len(text) >= told.most:
+        raise PacketError(len(text), told.most - 1)
+    return text
+
+
+def _connection_of(cursor: Any) -> Any:
+    """Return the connection of a driver's cursor. Raise TypeError for a cursor that would prepare the text."""
+    if "Prepared" in type(cursor).__name__:
+        raise TypeError("a cursor that prepares looks for places itself: take connection.cursor()")
+    for name in ("connection", "_connection", "_cnx"):
+        connection = getattr(cursor, name, None)
+        if connection is not None:
+            return connection
+    raise TypeError(f"a cursor with an open connection is wanted, and not {type(cursor).__name__}")
+
+
+def execute(
+    cursor: Any,
+    query: Union[str, bytes],
+    params: object = None,
+    *,
+    zone: Optional[datetime.tzinfo] = None,
+    always_ask: bool = False,
+) -> Any:
+    """Bind a query, and have a driver's cursor send the text. Return what its execute returns.
+
+        import pymysql, mysql_params
+        connection = pymysql.connect(charset="utf8mb4", ..)
+        with connection.cursor() as cursor:
+            mysql_params.execute(cursor, "SELECT * FROM t WHERE id = :id", {"id": 42})
+            rows = cursor.fetchall()
+
+    The mode, the character sets and the longest text are asked of the connection before its first text, and anew once
+    it was made anew or its driver tells of another mode. With MySQL Connector and other drivers they are asked before
+    each text; so they are with always_ask, as over a proxy. The text goes out without parameters, so a ``%`` in it
+    stays one.
+
+    Raise as bind; UnportableError; SessionError for a connection that isn't utf8mb4; PacketError for a text that is too
+    long; and what the driver raises, whose message may show the text. After a ``SET`` of the mode or a character set
+    call ask_again.
+    """
+    text = _bound(_connection_of(cursor), _form.bytes_of(query), params, zone, always_ask)
+    return cursor.execute(text)
+
+
+def executemany(
+    cursor: Any,
+    query: Union[str, bytes],
+    rows: Iterable[object],
+    *,
+    zone: Optional[datetime.tzinfo] = None,
+    always_ask: bool = False,
+) -> int:
+    """Bind a query to the parameters of each row, then send the texts one after another. Return the sum of their rows.
+
+    All are bound before the first is sent: if one is refused, nothing was sent. Raise as execute.
+    """
+    connection, query = _connection_of(cursor), _form.bytes_of(query)
+    texts: list[bytes] = []
+    for row in rows:
+        texts.append(_bound(connection, query, row, zone, always_ask and not texts))
+    total = 0
+    for text in texts:
+        cursor.execute(text)
+        total += max(cursor.rowcount, 0)
+    return total
+
+
+def exec_driver_sql(
+    connection: Any,
+    query: Union[str, bytes],
+    params: object = None,
+    *,
+    zone: Optional[datetime.tzinfo] = None,
+    always_ask: bool = False,
+) -> Any:
+    """Bind a query, and have SQLAlchemy's connection send the text. Return its result.
+
+        engine = sqlalchemy.create_engine("mysql+pymysql://..?charset=utf8mb4")
+        with engine.connect() as connection:
+            rows = mysql_params.exec_driver_sql(connection, "SELECT :a", {"a": "100%"}).all()
+
+    It is `exec_driver_sql` of SQLAlchemy without parameters and with `no_parameters`: else a ``%`` in a value would be
+    read as a format. A query of bytes is UTF-8. Everything else is as of execute.
+    """
+    pooled = connection.connection
+    own = getattr(pooled, "dbapi_connection", None)
+    text = _bound(pooled.connection if own is None else own, _form.bytes_of(query), params, zone, always_ask)
+    return connection.exec_driver_sql(text.decode(), execution_options={"no_parameters": True})

@@ -1,0 +1,276 @@
+"""Tests of texts sent by drivers, over a server and a driver that are played here. tests/server has real ones."""
+
+import datetime
+import pickle
+import sys
+import unittest
+
+import mysql_params
+from mysql_params import Construct, ask_again, exec_driver_sql, execute, executemany
+from test_mysql_params import Result
+
+STRICT = "STRICT_TRANS_TABLES"
+NONE = "STRICT_TRANS_TABLES,NO_BACKSLASH_ESCAPES"
+HOSTILE = "\\' , 7 -- %s %"
+WITH_BACKSLASHES = b"SELECT '\\\\\\' , 7 -- %s %'"
+WITHOUT = b"SELECT '\\'' , 7 -- %s %'"
+
+
+class Connection:
+    """A connection of no driver that is known, to a session that is played."""
+
+    def __init__(self, sql_mode=STRICT, client="utf8mb4", own="utf8mb4", packet=1 << 20, as_row=tuple):
+        self.session = {"sql_mode": sql_mode, "client": client, "own": own, "packet": packet}
+        self.as_row = as_row
+        self.asked = 0
+        self.sent = []
+        self.server_status = 512 if "NO_BACKSLASH_ESCAPES" in sql_mode else 2
+        self.charset = client
+        self.thread = 1
+        self._sock = object()
+
+    def cursor(self):
+        return Cursor(self)
+
+    def thread_id(self):
+        return self.thread
+
+    def set_mode(self, sql_mode, told=True):
+        """Change the mode of the session, with a word of the server to the driver or without."""
+        self.session["sql_mode"] = sql_mode
+        if told:
+            self.server_status = 512 if "NO_BACKSLASH_ESCAPES" in sql_mode else 2
+
+
+class PyMySQL(Connection):
+    """A connection as of PyMySQL, whose types say where they are from."""
+
+
+PyMySQL.__module__ = "pymysql.connections"
+
+
+class MySQLdb(Connection):
+    """A connection as of mysqlclient."""
+
+    def escape_string(self, text):
+        return text if self.server_status & 512 else text * 2
+
+    def character_set_name(self):
+        return self.charset
+
+
+MySQLdb.__module__ = "MySQLdb.connections"
+
+
+class Cursor:
+    """A cursor: it takes bytes alone, and no parameters."""
+
+    def __init__(self, connection):
+        self.connection = connection
+        self.rows = []
+        self.rowcount = -1
+
+    def execute(self, text, *parameters):
+        assert parameters == ()
+        connection = self.connection
+        if "@@sql_mode" in str(text):
+            connection.asked += 1
+            session = connection.session
+            self.rows = [connection.as_row(session.values())]
+            return 1
+        connection.sent.append(text)
+        self.rowcount = 3
+        return 3
+
+    def fetchone(self):
+        return self.rows.pop(0) if self.rows else None
+
+    def close(self):
+        self.connection = None
+
+
+class MySQLCursorPrepared(Cursor):
+    """A cursor that prepares."""
+
+
+class Pooled:
+    """SQLAlchemy's connection of its pool, and its own."""
+
+    def __init__(self, own):
+        self.dbapi_connection = own
+        self.connection = self
+        self.calls = []
+
+    def exec_driver_sql(self, *arguments, **options):
+        self.calls.append((arguments, options))
+        return "result"
+
+
+def dictionary(values):
+    return dict(zip("mcnp", values))
+
+
+def texts(values):
+    return tuple(str(value).encode() for value in values)
+
+
+class Test(unittest.TestCase):
+    """All tests."""
+
+    def send(self, connection, query="SELECT :a", params=None, **options):
+        """Send, and return the text that the driver got."""
+        returned = execute(connection.cursor(), query, {"a": HOSTILE} if params is None else params, **options)
+        self.assertEqual(returned, 3)
+        return connection.sent[-1]
+
+    def test_asked_once(self):
+        for kind in (PyMySQL, MySQLdb):
+            connection = kind()
+            for _ in range(3):
+                self.assertEqual(self.send(connection), WITH_BACKSLASHES)
+            self.assertEqual(connection.asked, 1)
+            self.send(connection, always_ask=True)
+            self.assertEqual(connection.asked, 2)
+            ask_again(connection)
+            self.send(connection)
+            self.assertEqual(connection.asked, 3)
+
+    def test_other_drivers_are_asked_each_time(self):
+        connection = Connection()
+        self.send(connection)
+        connection.set_mode(NONE, told=False)
+        self.assertEqual(self.send(connection), WITHOUT)
+        self.assertEqual(connection.asked, 2)
+
+    def test_another_mode_is_seen(self):
+        for kind in (PyMySQL, MySQLdb):
+            connection = kind()
+            for sql_mode, wanted in ((STRICT, WITH_BACKSLASHES), (NONE, WITHOUT), ("", WITH_BACKSLASHES), (NONE.lower(), WITHOUT)):
+                connection.set_mode(sql_mode)
+                connection.server_status = 512 if wanted is WITHOUT else 2
+                for _ in range(2):
+                    self.assertEqual(self.send(connection), wanted)
+            self.assertEqual(connection.asked, 4)
+
+    def test_a_driver_with_another_idea_of_the_mode(self):
+        # As after MariaDB's SET STATEMENT: the driver was told of a mode that held for one statement.
+        for kind in (PyMySQL, MySQLdb):
+            connection = kind(NONE)
+            connection.server_status = 2
+            self.assertEqual(self.send(connection), WITHOUT)
+            connection.set_mode(STRICT, told=False)
+            self.assertEqual(self.send(connection), WITH_BACKSLASHES)
+            connection.set_mode(NONE, told=False)
+            self.assertEqual(self.send(connection), WITHOUT)
+            self.assertEqual(connection.asked, 3)
+
+    def test_a_connection_that_is_made_anew(self):
+        for kind, change in (
+            (PyMySQL, lambda connection: setattr(connection, "_sock", object())),
+            (PyMySQL, lambda connection: setattr(connection, "thread", 2)),
+            (PyMySQL, lambda connection: setattr(connection, "charset", "latin1")),
+            (MySQLdb, lambda connection: setattr(connection, "thread", 2)),
+            (MySQLdb, lambda connection: setattr(connection, "charset", "latin1")),
+        ):
+            connection = kind()
+            self.send(connection)
+            change(connection)
+            self.send(connection)
+            self.assertEqual(connection.asked, 2)
+
+    def test_character_sets(self):
+        for own in ({"client": "latin1"}, {"own": "latin1"}, {"client": "gbk"}, {"client": "utf8mb3"}):
+            connection = PyMySQL(**own)
+            with self.subTest(own=own), self.assertRaises(mysql_params.SessionError) as raised:
+                self.send(connection)
+            variable = "character_set_client" if "client" in own else "character_set_connection"
+            self.assertEqual((raised.exception.variable, raised.exception.value), (variable, *own.values()))
+            self.assertIn("has to be utf8mb4", str(raised.exception))
+            self.assertEqual(connection.sent, [])
+            with self.assertRaises(mysql_params.SessionError):
+                self.send(connection)
+
+    def test_rows_of_each_kind(self):
+        for as_row in (tuple, list, dictionary, texts):
+            self.assertEqual(self.send(PyMySQL(NONE, as_row=as_row)), WITHOUT)
+
+    def test_unportable_queries(self):
+        for kind in (Connection, PyMySQL):
+            connection = kind()
+            with self.assertRaises(mysql_params.UnportableError) as raised:
+                self.send(connection, "SELECT /*! :a */ 1")
+            self.assertEqual(raised.exception.args, (Construct.EXECUTABLE_COMMENT, 7))
+            self.assertTrue(str(raised.exception).startswith("The query isn't portable at byte 7: `/*!` is executed"))
+            self.assertEqual(connection.sent, [])
+        # Which it is depends on the mode.
+        query = "SELECT 'a\\', [1], '"
+        self.assertEqual(self.send(PyMySQL(), query, []), query.encode())
+        with self.assertRaises(mysql_params.UnportableError):
+            self.send(PyMySQL(NONE), query, [])
+
+    def test_long_texts(self):
+        for length, most in ((20, 21), (20, 20)):
+            connection = PyMySQL(packet=most)
+            text = "SELECT '" + "x" * (length - 9) + "'"
+            if length < most:
+                self.assertEqual(len(self.send(connection, text, [])), length)
+                continue
+            with self.assertRaises(mysql_params.PacketError) as raised:
+                self.send(connection, text, [])
+            self.assertEqual(str(raised.exception), "The text has 20 bytes, and the connection's max_allowed_packet lets 19 through")
+            self.assertEqual(connection.sent, [])
+
+    def test_what_is_refused_before_the_connection_is_asked(self):
+        connection = PyMySQL()
+        with self.assertRaises(TypeError):
+            self.send(connection, params={"a": [1]})
+        self.assertEqual(connection.asked, 0)
+        with self.assertRaises(mysql_params.MissingError):
+            self.send(connection, params={"b": 1})
+        self.assertEqual(connection.sent, [])
+
+    def test_zones(self):
+        moment = datetime.datetime(2019, 11, 27, 23, 30, tzinfo=datetime.timezone.utc)
+        self.assertEqual(self.send(PyMySQL(), params={"a": moment}, zone=datetime.timezone.utc), b"SELECT '2019-11-27 23:30:00'")
+        with self.assertRaises(TypeError):
+            self.send(PyMySQL(), params={"a": moment})
+
+    def test_cursors_that_cannot_be_used(self):
+        closed = PyMySQL().cursor()
+        closed.close()
+        for cursor in (closed, MySQLCursorPrepared(PyMySQL()), None, object()):
+            with self.subTest(type=type(cursor).__name__), self.assertRaises(TypeError):
+                execute(cursor, "SELECT 1")
+
+    def test_many_rows(self):
+        connection = PyMySQL()
+        self.assertEqual(executemany(connection.cursor(), "INSERT INTO t VALUES (?, ?)", [(1, "a"), (2, "%")]), 6)
+        self.assertEqual(connection.sent, [b"INSERT INTO t VALUES (1, 'a')", b"INSERT INTO t VALUES (2, '%')"])
+        self.assertEqual(connection.asked, 1)
+        with self.assertRaises(mysql_params.MarkCountError):
+            executemany(connection.cursor(), "INSERT INTO t VALUES (?, ?)", [(1, "a"), (2,)])
+        self.assertEqual(len(connection.sent), 2)
+        self.assertEqual(executemany(connection.cursor(), "INSERT INTO t VALUES (?)", iter(())), 0)
+
+    def test_sqlalchemy(self):
+        pooled = Pooled(PyMySQL(NONE))
+        self.assertEqual(exec_driver_sql(pooled, "SELECT :a", {"a": HOSTILE}), "result")
+        self.assertEqual(pooled.calls, [((WITHOUT.decode(),), {"execution_options": {"no_parameters": True}})])
+        with self.assertRaises(UnicodeDecodeError):
+            exec_driver_sql(pooled, b"SELECT '\xff'")
+
+    def test_errors_are_pickled(self):
+        for error in (
+            mysql_params.UnportableError(Construct.BRACKET, 3),
+            mysql_params.SessionError("character_set_client", "gbk"),
+            mysql_params.PacketError(5, 4),
+        ):
+            copy = pickle.loads(pickle.dumps(error))
+            self.assertIsInstance(copy, mysql_params.Error)
+            self.assertEqual((type(copy), copy.args, str(copy)), (type(error), error.args, str(error)))
+
+
+if __name__ == "__main__":
+    result = Result()
+    unittest.defaultTestLoader.loadTestsFromTestCase(Test).run(result)
+    sys.exit(0 if result.wasSuccessful() and result.testsRun else 1)

@@ -1,0 +1,190 @@
+"""Tests of the further types of values: how each is bound, what is registered, zones, and parameters in order."""
+
+import datetime
+import decimal
+import doctest
+import enum
+import fractions
+import numbers
+import sys
+import unittest
+import uuid
+from unittest import mock
+
+import mysql_params
+from mysql_params import _values, bind, decimal_text, register
+from test_mysql_params import Result
+
+try:
+    import numpy
+except ImportError:
+    numpy = None
+
+UTC = datetime.timezone.utc
+MADRID = datetime.timezone(datetime.timedelta(hours=1))
+MOMENT = datetime.datetime(2019, 11, 27, 23, 30, tzinfo=UTC)
+
+
+class Color(enum.Enum):
+    """Values of several types."""
+
+    RED = 7
+    NAMED = "it's"
+    NOTHING = None
+    PRICE = decimal.Decimal("0.01")
+
+
+class Wide:
+    """A whole number of another library."""
+
+    def __init__(self, number):
+        self.number = number
+
+    def __index__(self):
+        return self.number
+
+
+numbers.Integral.register(Wide)
+
+
+class Test(unittest.TestCase):
+    """All tests."""
+
+    def setUp(self):
+        registered = mock.patch.dict(_values._REGISTERED, clear=True)
+        registered.start()
+        self.addCleanup(registered.stop)
+
+    def test_further_types(self):
+        for value, wanted in (
+            (Color.RED, b"7"),
+            (Color.NAMED, b"'it\\'s'"),
+            (Color.NOTHING, b"NULL"),
+            (enum.Enum("Day", {"FIRST": datetime.date(2019, 11, 27)}).FIRST, b"'2019-11-27'"),
+            (uuid.UUID("12345678123456781234567812345678"), b"'12345678-1234-5678-1234-567812345678'"),
+            (datetime.time(12, 30), b"'012:30:00'"),
+            (datetime.time(23, 59, 59, 5), b"'023:59:59.000005'"),
+            (datetime.time(0), b"'000:00:00'"),
+            (Wide(-3), b"-3"),
+            (Wide((1 << 64) - 1), b"18446744073709551615"),
+        ):
+            with self.subTest(value=value):
+                self.assertEqual(bind("?", [value]), wanted)
+                self.assertEqual(bind(":a", {"a": value}), wanted)
+
+    def test_types_that_stay_refused(self):
+        for value, kind, message in (
+            (Color.PRICE, TypeError, "the value for place 0 is a Decimal, which has no literal: give str"),
+            (datetime.time(1, tzinfo=UTC), TypeError, "is a time with a time zone, which has no literal"),
+            (Wide(1 << 64), OverflowError, "is a whole number of more than 64 bits"),
+            (fractions.Fraction(1, 3), TypeError, "is of type Fraction, which has no literal"),
+            ({1, 2}, TypeError, "is a set, which has no literal"),
+        ):
+            with self.subTest(value=value), self.assertRaises(kind) as raised:
+                bind("?", [value])
+            self.assertIn(message, str(raised.exception))
+
+    def test_numpy(self):
+        for value, wanted in (
+            (numpy.int64(-1), b"-1"),
+            (numpy.uint64((1 << 64) - 1), b"18446744073709551615"),
+            (numpy.int8(-128), b"-128"),
+            (numpy.bool_(True), b"1"),
+            (numpy.bool_(False), b"0"),
+            (numpy.str_("a'"), b"'a\\''"),
+        ):
+            with self.subTest(value=repr(value)):
+                self.assertEqual(bind("?", [value]), wanted)
+        self.assertEqual(bind("?, ?", numpy.array([1, 2])), b"1, 2")
+        for value in (numpy.float64(1.5), numpy.float32(1.5), numpy.datetime64("2019-11-27"), numpy.array([1])):
+            with self.subTest(value=repr(value)), self.assertRaises((TypeError, mysql_params.FloatError)):
+                bind("?", [value])
+
+    def test_decimals_only_if_told(self):
+        with self.assertRaises(TypeError):
+            bind("?", [decimal.Decimal("0.01")])
+        register(decimal.Decimal, decimal_text)
+        for value, wanted in (("0.01", b"'0.01'"), ("1E+3", b"'1000'"), ("-1.50", b"'-1.50'"), ("1E-7", b"'0.0000001'")):
+            self.assertEqual(bind("CAST(? AS DECIMAL(20,2))", [decimal.Decimal(value)]), b"CAST(" + wanted + b" AS DECIMAL(20,2))")
+        for value in ("NaN", "sNaN", "Infinity", "-Infinity"):
+            with self.subTest(value=value), self.assertRaises(ValueError):
+                bind("?", [decimal.Decimal(value)])
+
+    def test_registered_types(self):
+        class Point:
+            def __init__(self, x):
+                self.x = x
+
+        class Near(Point):
+            pass
+
+        class Number(int):
+            pass
+
+        register(Point, lambda point: f"POINT({point.x})")
+        self.assertEqual(bind("?, ?", [Point(1), Near(2)]), b"'POINT(1)', 'POINT(2)'")
+        register(Near, lambda point: point.x)
+        self.assertEqual(bind("?, ?", [Point(1), Near(2)]), b"'POINT(1)', 2")
+        # A function may give what is registered itself; one for a subclass of int goes before int.
+        register(Number, lambda number: Near(number + 1))
+        self.assertEqual(bind("?", [Number(4)]), b"5")
+        register(Color, lambda color: color.name)
+        self.assertEqual(bind("?", [Color.RED]), b"'RED'")
+        # Its result is judged as any value.
+        register(Point, lambda point: 1.5)
+        with self.assertRaises(mysql_params.FloatError):
+            bind("?", [Point(1)])
+        register(Point, lambda point: [1])
+        with self.assertRaisesRegex(TypeError, "^the value of `:a` is a list, which has no literal"):
+            bind(":a", {"a": Point(1)})
+        register(Point, lambda point: point)
+        with self.assertRaisesRegex(TypeError, "the functions that are registered for a Point make no end"):
+            bind("?", [Point(1)])
+
+    def test_types_that_cannot_be_registered(self):
+        for kind in (int, str, bool, type(None), bytes, datetime.datetime, object):
+            with self.subTest(kind=kind), self.assertRaises(ValueError):
+                register(kind, str)
+        for kind, function in (("int", str), (Color, "text"), (None, str)):
+            with self.subTest(kind=kind), self.assertRaises(TypeError):
+                register(kind, function)
+
+    def test_zones(self):
+        with self.assertRaisesRegex(TypeError, "a datetime with a time zone: .* hand in zone"):
+            bind("?", [MOMENT])
+        self.assertEqual(bind("?", [MOMENT], zone=UTC), b"'2019-11-27 23:30:00'")
+        self.assertEqual(bind(":a", {"a": MOMENT}, zone=MADRID), b"'2019-11-28 00:30:00'")
+        naive = datetime.datetime(2019, 11, 27, 12)
+        self.assertEqual(bind("?, ?", [naive, datetime.date(2019, 1, 2)], zone=MADRID), b"'2019-11-27 12:00:00', '2019-01-02'")
+
+        class Unknown(datetime.tzinfo):
+            def utcoffset(self, moment):
+                return None
+
+        with self.assertRaises(TypeError):
+            bind("?", [datetime.datetime(2019, 11, 27, tzinfo=Unknown())], zone=UTC)
+        for zone in ("UTC", 0, True):
+            with self.subTest(zone=zone), self.assertRaisesRegex(TypeError, "^zone is a datetime.tzinfo"):
+                bind("SELECT 1", zone=zone)
+
+    def test_parameters_in_order(self):
+        ids = {"a": 1, "b": 2}
+        for given in ((number for number in (1, 2)), ids.values(), map(int, "12"), iter([1, 2]), range(1, 3)):
+            with self.subTest(type=type(given).__name__):
+                self.assertEqual(bind("?, ?", given), b"1, 2")
+        self.assertEqual(bind("SELECT 1", iter(())), b"SELECT 1")
+        for given in ({1, 2}, frozenset((1, 2)), "12", b"12", 12, 1.5):
+            with self.subTest(given=given), self.assertRaisesRegex(TypeError, "^parameters are None, values in order"):
+                bind("?, ?", given)
+
+    def test_examples_of_the_documentation(self):
+        self.assertEqual(doctest.testmod(_values)[0], 0)
+
+
+if __name__ == "__main__":
+    if numpy is None:
+        print("numpy: skipped: it is missing")
+        del Test.test_numpy
+    result = Result()
+    unittest.defaultTestLoader.loadTestsFromTestCase(Test).run(result)
+    sys.exit(0 if result.wasSuccessful() and result.testsRun else 1)
