@@ -209,10 +209,10 @@ class Test(unittest.TestCase):
             self.send(PyMySQL(NONE), query, [])
 
     def test_long_texts(self):
-        for length, most in ((20, 21), (20, 20)):
-            connection = PyMySQL(packet=most)
+        for length, most in ((20, 20), (20, 19)):
+            connection = PyMySQL(packet=most + 2)
             text = "SELECT '" + "x" * (length - 9) + "'"
-            if length < most:
+            if length <= most:
                 self.assertEqual(len(self.send(connection, text, [])), length)
                 continue
             with self.assertRaises(mysql_params.PacketError) as raised:

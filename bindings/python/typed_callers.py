@@ -3,6 +3,9 @@
 from __future__ import annotations
 
 import datetime
+import decimal
+import enum
+import uuid
 from collections import OrderedDict
 from typing import Any, Optional, Union
 
@@ -48,6 +51,34 @@ def by_position(ident: int, name: str, given: Params) -> bytes:
     return bind_form("?", b"\x00\x06\x00")
 
 
+class Color(enum.Enum):
+    """A type of values, and one that is registered."""
+
+    RED = 1
+
+
+def sent(cursor: Any, connection: Any, day: datetime.datetime) -> None:
+    """Send by drivers, and register types."""
+    mysql_params.register(decimal.Decimal, mysql_params.decimal_text)
+    mysql_params.register(Color, lambda color: color.name)
+    values: dict[str, Value] = {"c": Color.RED, "u": uuid.uuid4(), "t": datetime.time(12)}
+    bind("?, ?", (number for number in (1, 2)))
+    bind("?, ?", {"a": 1, "b": 2}.values())
+    bind("?", [day], zone=datetime.timezone.utc)
+    mysql_params.execute(cursor, QUERY, values, zone=datetime.timezone.utc, always_ask=True)
+    total: int = mysql_params.executemany(cursor, "?", ([number] for number in range(3)))
+    mysql_params.exec_driver_sql(connection, QUERY, {"id": total}).all()
+    mysql_params.ask_again(connection)
+    try:
+        mysql_params.execute(cursor, QUERY)
+    except mysql_params.UnportableError as error:
+        print(error.construct.message, error.position + 1)
+    except mysql_params.SessionError as error:
+        print(error.variable + error.value)
+    except mysql_params.PacketError as error:
+        print(error.length - error.most)
+
+
 def answers() -> None:
     """Take what comes back."""
     version: str = mysql_params.__version__
@@ -77,6 +108,10 @@ def refused(ident: int) -> None:
     bind("?", {ident})  # type: ignore[arg-type]
     bind(":a", {ident: ident})  # type: ignore[arg-type]
     bind("?", [ident], "ANSI_QUOTES")  # type: ignore[arg-type]
+    bind("?", [1], zone="UTC")  # type: ignore[arg-type]
+    bind("?", [1], False, datetime.timezone.utc)  # type: ignore[misc]
+    mysql_params.register("Color", str)  # type: ignore[arg-type]
+    mysql_params.decimal_text(0.01)  # type: ignore[arg-type]
     bind_form("?", "x")  # type: ignore[arg-type]
     names(5)  # type: ignore[arg-type]
     text: str = bind("?", [ident])  # type: ignore[assignment]

@@ -12,6 +12,7 @@ sys.path.insert(0, os.path.join(os.path.dirname(os.path.abspath(__file__)), ".."
 import again
 import beside
 import client
+import drivers
 import leaks
 import limits
 import literals
@@ -41,6 +42,7 @@ def main(path: str, mysql_query: str, folder: str) -> int:
     beside.run(tests, path)
     program.run(tests, path, mysql_query, folder)
     rows.run(tests, path, folder)
+    drivers.run(tests, path)
     client.run(tests, path, folder)
     sent.run(tests, folder, is_mysql)
     pipes.run(tests, folder, is_mysql)

@@ -63,7 +63,7 @@ class PacketError(Error):
 
 
 class _Told(NamedTuple):
-    """What a connection answered."""
+    """What a connection answered: its mode, and the length of the longest text."""
 
     no_backslash_escape: bool
     most: int
@@ -114,7 +114,8 @@ def _ask(connection: Any) -> _Told:
     for variable, value in (("character_set_client", client), ("character_set_connection", own)):
         if value != "utf8mb4":
             raise SessionError(variable, value)
-    return _Told("NO_BACKSLASH_ESCAPES" in sql_mode.upper().split(","), int(most))
+    # A packet is shorter than the variable says, and has a byte beside the text.
+    return _Told("NO_BACKSLASH_ESCAPES" in sql_mode.upper().split(","), int(most) - 2)
 
 
 def _told(connection: Any, always_ask: bool) -> _Told:
@@ -162,8 +163,8 @@ def _bound(
     if found is not None:
         raise UnportableError(*found)
     text = _archive.whole_answer(query, form, told.no_backslash_escape, len(query) + 2 * len(form) + 64)
-    if len(text) >= told.most:
-        raise PacketError(len(text), told.most - 1)
+    if len(text) > told.most:
+        raise PacketError(len(text), told.most)
     return text
 
 

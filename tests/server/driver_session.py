@@ -1,0 +1,211 @@
+"""Sends hostile values by a driver of Python, and reads them back: driver_session.py DRIVER SOCKET
+
+DRIVER is pymysql, MySQLdb (mysqlclient), or one of them over SQLAlchemy, as sqlalchemy+pymysql. Its last line is how many
+questions were asked. It stops at the first fault.
+"""
+
+import datetime
+import decimal
+import enum
+import importlib
+import os
+import sys
+import uuid
+
+sys.path.insert(0, os.path.join(os.path.dirname(os.path.abspath(__file__)), "..", "..", "bindings", "python"))
+
+import mysql_params
+
+NONE = "NO_BACKSLASH_ESCAPES"
+HOSTILE = ["' , 7 -- ", "\\' , 7 -- ", "100%", "%s %(a)s %%", "", "\0\n\r\x1a\"`", "\U0001f600 é", "?:a", "/* # */ ;"]
+COLOR = enum.Enum("COLOR", {"RED": "r'ed", "TWO": 2})
+MOMENT = datetime.datetime(2019, 11, 27, 23, 30, 0, 5, tzinfo=datetime.timezone.utc)
+
+
+class Session:
+    """A connection of a driver, by itself or over SQLAlchemy."""
+
+    def __init__(self, driver, path, **options):
+        alchemy, _, name = driver.rpartition("+")
+        self.path, self.module = path, importlib.import_module(name)
+        self.alchemy = None
+        if alchemy:
+            import sqlalchemy
+
+            url = f"mysql+{name.lower()}://root@/?unix_socket={path}&charset={options.get('charset', 'utf8mb4')}"
+            self.alchemy = sqlalchemy.create_engine(url).connect()
+            pooled = self.alchemy.connection
+            self.own = getattr(pooled, "dbapi_connection", None) or pooled.connection
+        else:
+            self.own = self.module.connect(user="root", unix_socket=path, **{"charset": "utf8mb4", **options})
+
+    def run(self, sql):
+        """Send a statement of the driver's own, and return its rows."""
+        cursor = self.own.cursor()
+        cursor.execute(sql)
+        rows = cursor.fetchall()
+        cursor.close()
+        return rows
+
+    def rows(self, query, params=None, **options):
+        """Send a bound text, and return its rows."""
+        if self.alchemy is not None:
+            return [tuple(row) for row in mysql_params.exec_driver_sql(self.alchemy, query, params, **options)]
+        cursor = self.own.cursor()
+        mysql_params.execute(cursor, query, params, **options)
+        rows = [tuple(row.values()) if isinstance(row, dict) else tuple(row) for row in cursor.fetchall()]
+        cursor.close()
+        return rows
+
+    def asked(self):
+        """Return how many SELECTs the session has sent."""
+        return int(self.run("SHOW SESSION STATUS LIKE 'Com_select'")[0][1])
+
+
+def same(got, wanted):
+    if got != wanted:
+        raise AssertionError(f"got {got!r}, wanted {wanted!r}")
+
+
+def refused(kind, call, *arguments, **options):
+    try:
+        call(*arguments, **options)
+    except kind as error:
+        return error
+    raise AssertionError(f"{kind.__name__} is wanted")
+
+
+def come_back(session):
+    """The hostile values come back as they are, each alone and all at once."""
+    for value in HOSTILE:
+        same(session.rows("SELECT :a, ':a'", {"a": value}), [(value, ":a")])
+    same(session.rows("SELECT " + ", ".join("?" * len(HOSTILE)), iter(HOSTILE)), [tuple(HOSTILE)])
+
+
+def types(session):
+    """Values of further types reach the server as what they say."""
+    mysql_params.register(decimal.Decimal, mysql_params.decimal_text)
+    price = decimal.Decimal("9007199254740993.01")
+    names = uuid.UUID("12345678123456781234567812345678")
+    query = "SELECT :color, :two, :id, CAST(:p AS DECIMAL(20,2)), TIME_TO_SEC(:t), CAST(:m AS DATETIME(6)), :none, :yes"
+    params = {"color": COLOR.RED, "two": COLOR.TWO, "id": names, "p": price, "t": datetime.time(1, 2, 3)}
+    params.update(m=MOMENT, none=None, yes=True)
+    (row,) = session.rows(query, params, zone=datetime.timezone(datetime.timedelta(hours=1)))
+    moment = datetime.datetime(2019, 11, 28, 0, 30, 0, 5)
+    same(tuple(row[:4]) + (int(row[4]),) + tuple(row[5:]), ("r'ed", 2, str(names), price, 3723, moment, None, 1))
+
+
+def modes(session):
+    """A mode that the session is set to is seen without a word, in each direction."""
+    for sql_mode in (NONE, "", f"ANSI_QUOTES,{NONE}", "ANSI_QUOTES"):
+        session.run(f"SET sql_mode = '{sql_mode}'")
+        come_back(session)
+    session.run("SET sql_mode = DEFAULT")
+
+
+def statements(session):
+    """After a statement with a mode of its own, which the driver is told without the end, values come back too."""
+    if "MariaDB" not in session.run("SELECT VERSION()")[0][0]:
+        return
+    for sql_mode, other in (("", NONE), (NONE, "")):
+        session.run(f"SET sql_mode = '{sql_mode}'")
+        come_back(session)
+        session.run(f"SET STATEMENT sql_mode = '{other}' FOR DO 1")
+        come_back(session)
+        for again in (NONE, "", NONE):
+            session.run(f"SET sql_mode = '{again}'")
+            come_back(session)
+    session.run("SET sql_mode = ''")
+
+
+def made_anew(session, driver):
+    """A session that was made anew has another mode."""
+    session.run(f"SET sql_mode = '{NONE}'")
+    come_back(session)
+    if driver == "pymysql":
+        (number,) = session.run("SELECT CONNECTION_ID()")[0]
+        Session(driver, session.path).run(f"KILL {number}")
+        session.own.ping(reconnect=True)
+        come_back(session)
+        session.run(f"SET sql_mode = '{NONE}'")
+        come_back(session)
+        session.own.close()
+        session.own.connect()
+    elif driver == "MySQLdb":
+        session.own.change_user(user="root", passwd="", db="mysql")
+    come_back(session)
+
+
+def character_sets(session, driver):
+    """Another character set is refused: that of the connection, one of the driver's call, and one that is told."""
+    other = Session(driver, session.path, charset="latin1")
+    same(refused(mysql_params.SessionError, other.rows, "SELECT 1").args, ("character_set_client", "latin1"))
+    come_back(session)
+    set_charset = getattr(session.own, "set_charset", None) or session.own.set_character_set
+    set_charset("latin1")
+    refused(mysql_params.SessionError, session.rows, "SELECT 1")
+    set_charset("utf8mb4")
+    come_back(session)
+    session.run("SET NAMES gbk")
+    mysql_params.ask_again(session.own)
+    refused(mysql_params.SessionError, session.rows, "SELECT 1")
+    session.run("SET NAMES utf8mb4")
+    come_back(session)
+
+
+def long_texts(session):
+    """A text as long as the server takes is answered; one byte more is refused, and the connection stands."""
+    most = int(session.run("SELECT @@max_allowed_packet")[0][0]) - 2
+    text = "SELECT LENGTH(?)"
+    for more in (0, 1):
+        value = "x" * (most - len("SELECT LENGTH('')") + more)
+        if more:
+            refused(mysql_params.PacketError, session.rows, text, [value])
+        else:
+            same(session.rows(text, [value]), [(len(value),)])
+    come_back(session)
+
+
+def unportable(session):
+    refused(mysql_params.UnportableError, session.rows, "SELECT /*! :a */ 1", {"a": 1})
+
+
+def asked_once(session):
+    """The connection is asked once, not before each text; and before each if that is wanted."""
+    come_back(session)
+    before = session.asked()
+    come_back(session)
+    same(session.asked() - before, len(HOSTILE) + 1)
+    before = session.asked()
+    session.rows("SELECT 1", always_ask=True)
+    same(session.asked() - before, 2)
+
+
+def many(session):
+    cursor = session.own.cursor()
+    session.run("CREATE TEMPORARY TABLE strings.many (i INT, v VARCHAR(20)) CHARACTER SET utf8mb4")
+    same(mysql_params.executemany(cursor, "INSERT INTO strings.many VALUES (?, ?)", enumerate(HOSTILE)), len(HOSTILE))
+    same([row[0] for row in session.run("SELECT v FROM strings.many ORDER BY i")], HOSTILE)
+
+
+def main(driver, path):
+    session = Session(driver, path)
+    asked_once(session)
+    come_back(session)
+    types(session)
+    modes(session)
+    unportable(session)
+    many(session)
+    long_texts(session)
+    if session.alchemy is None:
+        cursors = session.module.cursors if driver == "pymysql" else importlib.import_module("MySQLdb.cursors")
+        for kind in (cursors.DictCursor, cursors.SSCursor):
+            other = Session(driver, path, cursorclass=kind)
+            same(other.rows("SELECT :a AS a, 1", {"a": HOSTILE[1]}), [(HOSTILE[1], 1)])
+        character_sets(session, driver)
+        made_anew(session, driver)
+    statements(session)
+    print(f"{driver} {getattr(session.module, '__version__', '')}: {session.asked()} statements read")
+
+
+main(*sys.argv[1:])
