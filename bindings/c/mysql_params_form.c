@@ -1,9 +1,10 @@
-/* The flat form written, answers taken apart, refusals and constructs told, the processor asked: see
+/* The flat form written, a text in memory of malloc, answers taken apart, refusals and constructs told, the processor asked: see
  * mysql_params_form.h. It is C and C++. */
 #include "mysql_params_form.h"
 
 #include <stdarg.h>
 #include <stdio.h>
+#include <stdlib.h>
 #include <string.h>
 #if defined(__x86_64__) && defined(__GNUC__)
 #include <cpuid.h>
@@ -32,8 +33,24 @@ mysql_params_form mysql_params_form_in(uint8_t *room, size_t room_len)
 {
     /* Lent if no memory is given, since mysql_params_bind takes no null. Its length is 0, so it is never written. */
     static uint8_t nothing;
-    mysql_params_form form = {room == NULL ? &nothing : room, room == NULL ? 0 : room_len, 0, 0};
+    mysql_params_form form = {room == NULL ? &nothing : room, room == NULL ? 0 : room_len, 0, 0, false};
     return form;
+}
+
+mysql_params_form mysql_params_form_growing(void)
+{
+    mysql_params_form form = mysql_params_form_in(NULL, 0);
+    form.grows = true;
+    return form;
+}
+
+void mysql_params_form_free(mysql_params_form *form)
+{
+    if (!form->grows)
+        return;
+    if (form->room_len > 0)
+        free(form->room);
+    *form = mysql_params_form_growing();
 }
 
 /* Writes the number into `count` bytes, least byte first. */
@@ -62,6 +79,20 @@ static size_t sum(size_t a, size_t b)
     return a > SIZE_MAX - b ? SIZE_MAX : a + b;
 }
 
+/* Makes room for so many bytes more in a form that grows, if there is memory. */
+static void grow(mysql_params_form *form, size_t more)
+{
+    size_t wanted = sum(form->len, more);
+    size_t twice = sum(form->room_len, form->room_len);
+    if (wanted < twice)
+        wanted = twice;
+    void *room = wanted > PTRDIFF_MAX ? NULL : realloc(form->room_len > 0 ? form->room : NULL, wanted);
+    if (room == NULL)
+        return;
+    form->room = (uint8_t *)room;
+    form->room_len = wanted;
+}
+
 /* Appends bytes for which there is room. */
 static void append(mysql_params_form *form, const void *bytes, size_t len)
 {
@@ -78,6 +109,8 @@ static bool append_parameter(mysql_params_form *form, const char *name, uint8_t 
     size_t name_len = name == NULL ? 0 : strlen(name);
     size_t length_len = fill_length(length, name_len);
     size_t needed = sum(sum(length_len + 2 + head_len, name_len), tail_len);
+    if (form->grows && form->needed == form->len && needed > form->room_len - form->len)
+        grow(form, needed);
     bool fits = form->needed == form->len && needed <= form->room_len - form->len;
     form->needed = sum(form->needed, needed);
     if (!fits)
@@ -431,6 +464,35 @@ const char *mysql_params_construct_message(int32_t construct)
         return "the client sends nothing from this line on: write `\\0` in a string, or hexadecimal";
     default:
         return NULL;
+    }
+}
+
+int32_t mysql_params_bind_form(const uint8_t *query, size_t query_len, const mysql_params_form *form,
+                               bool no_backslash_escape, char **text, mysql_params_report *report)
+{
+    mysql_params_report nothing = {0, 0, 0, 0, 0, 0};
+    /* A literal of bytes has at most twice their number, and quotes; and the zero byte. */
+    size_t room_len = sum(sum(query_len, sum(form->len, form->len)), 64);
+    *text = NULL;
+    *report = nothing;
+    if (form->needed != form->len)
+        return MYSQL_PARAMS_OUT_OF_MEMORY;
+    for (;;) {
+        uint8_t *room = room_len > PTRDIFF_MAX ? NULL : (uint8_t *)malloc(room_len);
+        if (room == NULL)
+            return MYSQL_PARAMS_OUT_OF_MEMORY;
+        memset(room, 0, room_len);
+        int32_t number = mysql_params_bind(query, query_len, form->room, form->len, no_backslash_escape, room,
+                                           room_len - 1, report);
+        if (number == MYSQL_PARAMS_DONE) {
+            *text = (char *)room;
+            return number;
+        }
+        free(room);
+        if (number != MYSQL_PARAMS_ROOM)
+            return number;
+        room_len = sum(report->len, 1);
+        *report = nothing;
     }
 }
 

@@ -1,5 +1,5 @@
-/* mysql_params_form.h: parameters written as the flat form that mysql_params_bind reads, answers taken apart, refusals
- * and constructs told in a line, and the processor asked. Plain C and C++, without memory of its own: compile
+/* mysql_params_form.h: parameters written as the flat form that mysql_params_bind reads, a text in memory of `malloc`,
+ * answers taken apart, refusals and constructs told in a line, and the processor asked. Plain C and C++: compile
  * mysql_params_form.c with your program. It is tested, not proved. */
 #ifndef MYSQL_PARAMS_FORM_H
 #define MYSQL_PARAMS_FORM_H
@@ -11,9 +11,9 @@
 extern "C" {
 #endif
 
-/* A form that is being written into memory of the caller's. Set it up with mysql_params_form_in. */
+/* A form that is being written. Set it up with mysql_params_form_growing, or with mysql_params_form_in. */
 typedef struct mysql_params_form {
-    /* The caller's memory. It is never null, also if none was given. */
+    /* The form's memory, or the caller's. It is never null, also if none was given. */
     uint8_t *room;
     /* Bytes of that memory. */
     size_t room_len;
@@ -22,6 +22,8 @@ typedef struct mysql_params_form {
     /* Bytes that all appended parameters need; SIZE_MAX if that is too many to count. It is greater than `len` once a
      * parameter did not fit. */
     size_t needed;
+    /* Whether the memory is the form's own, of `malloc`, and grows. */
+    bool grows;
 } mysql_params_form;
 
 /* A date with its time of day. Fields stand in the literal as they are, also a month 0 or 255; a time of day that is all
@@ -49,6 +51,13 @@ typedef struct mysql_params_time {
 /* Returns an empty form in the memory given. With no memory (null and 0) appending only counts `needed`; a form that
  * stays empty can be handed to mysql_params_bind as any other. */
 mysql_params_form mysql_params_form_in(uint8_t *room, size_t room_len);
+
+/* Returns an empty form with memory of its own, which grows by `realloc` as parameters are appended. Give it back by
+ * mysql_params_form_free. If there is no memory, a parameter doesn't fit. */
+mysql_params_form mysql_params_form_growing(void);
+
+/* Gives back the memory of a form that grows, and leaves it empty. Does nothing to another form. */
+void mysql_params_form_free(mysql_params_form *form);
 
 /* The functions below append one parameter. `name` is the name without a colon, ended by a zero byte; null or "" gives
  * the parameter by position. Each returns true if this and all earlier parameters stand in the room. Else it has
@@ -82,6 +91,14 @@ bool mysql_params_append_time(mysql_params_form *form, const char *name, mysql_p
  * decimal append its text, and write CAST(:p AS DECIMAL(20,2)) in the query: a text in arithmetic is computed as a
  * double. */
 bool mysql_params_append_double(mysql_params_form *form, const char *name, double number);
+
+/* Binds as mysql_params_bind, into memory of `malloc`: `*text` gets the text, `report->len` bytes and a zero byte after
+ * them, which the caller gives back by `free`; null unless the number is MYSQL_PARAMS_DONE. It never returns
+ * MYSQL_PARAMS_ROOM. It returns MYSQL_PARAMS_OUT_OF_MEMORY also if a parameter didn't fit the form, so that what the
+ * appending functions return needn't be looked at. A text may hold zero bytes without backslash escapes: go by the
+ * length. */
+int32_t mysql_params_bind_form(const uint8_t *query, size_t query_len, const mysql_params_form *form,
+                               bool no_backslash_escape, char **text, mysql_params_report *report);
 
 /* Bytes within an answer of mysql_params_names. */
 typedef struct mysql_params_string {

@@ -413,6 +413,82 @@ static void forms_without_memory(void)
     expect(form.len == 0 && form.needed == 3, &it, "another need is wanted");
 }
 
+/* Appends a number and a text of a length to a form, binds it into memory of malloc, and returns the number. */
+static int32_t bind_grown(mysql_params_form *form, const char *value, char **text, mysql_params_report *report)
+{
+    static const uint8_t query[] = "SELECT :id, :a";
+    mysql_params_append_int(form, "id", 42);
+    mysql_params_append_text(form, "a", value);
+    return mysql_params_bind_form(query, sizeof query - 1, form, false, text, report);
+}
+
+/* A form that grows holds what a form in room does, and its text stands in memory of malloc with a zero byte after it. Each
+ * request for memory is refused once, and all memory is given back. */
+static void forms_that_grow(void)
+{
+    static const size_t lengths[] = {0, 1, 100, 250, 70000};
+    test_case it = {0};
+    long before = blocks;
+    for (size_t i = 0; i < sizeof lengths / sizeof lengths[0]; i++) {
+        size_t len = lengths[i];
+        bytes value = {NULL, 0}, wanted = {NULL, 0};
+        append_bytes(&wanted, "SELECT 42, '", 12);
+        for (size_t j = 0; j < len; j++)
+            append_bytes(&wanted, "\\'", 2);
+        append_bytes(&wanted, "'", 2); /* with the zero byte */
+        append_run(&value, '\\', len);
+        append_bytes(&value, "", 1);
+        it.line = (int)len;
+        for (long allowed = 0;; allowed++) {
+            char *text = (char *)value.at;
+            mysql_params_report report = {9, 9, 9, 9, 9, 9};
+            mysql_params_form form = mysql_params_form_growing();
+            long held = blocks;
+            allocations_left = allowed;
+            allocation_refused = false;
+            int32_t number = bind_grown(&form, (const char *)value.at, &text, &report);
+            allocations_left = -1;
+            mysql_params_form_free(&form);
+            expect(form.len == 0 && form.needed == 0 && form.grows, &it, "the form isn't empty");
+            if (!allocation_refused) {
+                expect(number == MYSQL_PARAMS_DONE && report.len + 1 == wanted.len, &it, "a text is wanted");
+                expect(memcmp(text, wanted.at, wanted.len) == 0, &it, "another text is wanted");
+                free(text);
+                expect(blocks == held && allowed > 2, &it, "memory is kept");
+                break;
+            }
+            expect(number == MYSQL_PARAMS_OUT_OF_MEMORY && text == NULL, &it, "out of memory is wanted");
+            expect(report.len == 0 && report.byte == 0, &it, "an empty report is wanted");
+            expect(blocks == held, &it, "memory is kept");
+        }
+        clear_bytes(&value);
+        clear_bytes(&wanted);
+    }
+    expect(blocks == before, &it, "memory is kept");
+}
+
+/* What mysql_params_bind_form is refused for, and a form in room, which it leaves. */
+static void texts_that_are_refused(void)
+{
+    test_case it = {0};
+    uint8_t room[8];
+    char *text = NULL;
+    mysql_params_report report = {0};
+    mysql_params_form form = mysql_params_form_in(room, sizeof room);
+    expect(bind_grown(&form, "x", &text, &report) == MYSQL_PARAMS_OUT_OF_MEMORY, &it, "a cut form is bound");
+    mysql_params_form_free(&form);
+    expect(form.needed == 19 && form.room == room, &it, "the form in room is changed");
+    form = mysql_params_form_growing();
+    const uint8_t query[] = "SELECT :id";
+    int32_t number = mysql_params_bind_form(query, sizeof query - 1, &form, false, &text, &report);
+    expect(number == MYSQL_PARAMS_MISSING && report.position == 8 && report.len == 2, &it, "a name is missing");
+    expect(text == NULL, &it, "a refusal has a text");
+    mysql_params_append_double(&form, "id", 1.5);
+    number = mysql_params_bind_form(query, sizeof query - 1, &form, true, &text, &report);
+    expect(number == MYSQL_PARAMS_FLOAT && text == NULL, &it, "a float is bound");
+    mysql_params_form_free(&form);
+}
+
 /* Answers that end within a string, or begin with no length. */
 static void broken_answers(void)
 {
@@ -571,6 +647,8 @@ int main(int count, char **words)
     all &= passed("values_of_each_length", values_of_each_length);
     all &= passed("rooms_of_forms", rooms_of_forms);
     all &= passed("forms_without_memory", forms_without_memory);
+    all &= passed("forms_that_grow", forms_that_grow);
+    all &= passed("texts_that_are_refused", texts_that_are_refused);
     all &= passed("broken_answers", broken_answers);
     all &= passed("cut_messages", cut_messages);
     all &= passed("other_messages", other_messages);

@@ -1,0 +1,308 @@
+/* mysql_params.hpp: values bound into SQL queries from C++17, over mysql_params.h and mysql_params_form.h.
+ *
+ *     std::string text = mysql_params::bind("SELECT * FROM t WHERE id = :id AND name = :name", {{"id", 42}, {"name", name}});
+ *     std::string text = mysql_params::bind("VALUES (?, ?)", {42, nullptr});
+ *
+ * All memory is owned by what is returned. Each call may throw std::bad_alloc; a refusal is thrown as mysql_params::Error.
+ * It is tested, not proved. Read "Limits that matter for security" in README.md first. */
+#ifndef MYSQL_PARAMS_HPP
+#define MYSQL_PARAMS_HPP
+
+#include "mysql_params_form.h"
+
+#include <cstring>
+#include <initializer_list>
+#include <limits>
+#include <new>
+#include <optional>
+#include <stdexcept>
+#include <string>
+#include <string_view>
+#include <type_traits>
+#include <utility>
+#include <variant>
+#include <vector>
+
+namespace mysql_params {
+
+/* Whether a backslash escapes on the connection: `no_backslash_escapes` if SELECT @@sql_mode, asked on it, has
+ * NO_BACKSLASH_ESCAPES. If mode and connection differ, a value can leave its literal. */
+enum class Mode : bool { backslash_escapes = false, no_backslash_escapes = true };
+
+/* A refusal: its number is one of enum mysql_params_number, what() its message. */
+class Error : public std::runtime_error {
+public:
+    Error(std::int32_t number, const mysql_params_report &report, const std::string &message)
+        : std::runtime_error(message), number_(number), report_(report)
+    {
+    }
+    /* The number. */
+    std::int32_t number() const noexcept { return number_; }
+    /* The fields that belong to the number, as mysql_params.h says. */
+    const mysql_params_report &report() const noexcept { return report_; }
+
+private:
+    std::int32_t number_;
+    mysql_params_report report_;
+};
+
+/* A construct that servers read in different ways, and the byte of the query at which it begins. */
+struct Unportable {
+    std::int32_t construct;
+    std::size_t position;
+    /* What it is, with what to write instead. */
+    const char *message() const noexcept { return mysql_params_construct_message(construct); }
+};
+
+/* The query with `?` in the place of each name, and the names without their colons, in order, with repeats. */
+struct Names {
+    std::string query;
+    std::vector<std::string> names;
+};
+
+namespace detail {
+
+template <typename T>
+inline constexpr bool is_character = std::is_same_v<T, char> || std::is_same_v<T, wchar_t> ||
+                                     std::is_same_v<T, char16_t> || std::is_same_v<T, char32_t>;
+
+template <typename T>
+inline constexpr bool is_number = std::is_integral_v<T> && !is_character<T> && sizeof(T) <= 8;
+
+} // namespace detail
+
+/* A value for a place, made of a whole number, a bool (1 or 0), a text or bytes, nullptr or an empty std::optional (NULL),
+ * a date or a time. It borrows its bytes: use it within the call that takes it. A floating-point number or a character
+ * doesn't compile; for a decimal give its text, and write CAST(:p AS DECIMAL(20,2)) in the query. */
+class Value {
+public:
+    Value(std::nullptr_t) noexcept {}
+    template <typename T, std::enable_if_t<detail::is_number<T>, int> = 0>
+    Value(T number) noexcept
+    {
+        if constexpr (std::is_signed_v<T> || std::is_same_v<T, bool>)
+            held_ = static_cast<std::int64_t>(number);
+        else
+            held_ = static_cast<std::uint64_t>(number);
+    }
+    template <typename T, std::enable_if_t<std::is_floating_point_v<T> || detail::is_character<T>, int> = 0>
+    Value(T) = delete;
+    Value(std::string_view text) noexcept : held_(text) {}
+    Value(const std::string &text) noexcept : held_(std::string_view(text)) {}
+    /* A text that a zero byte ends. Throws std::invalid_argument if the pointer is null. */
+    Value(const char *text) : held_(text == nullptr ? refuse_null() : std::string_view(text)) {}
+    Value(const std::vector<std::uint8_t> &bytes) noexcept
+        : held_(std::string_view(reinterpret_cast<const char *>(bytes.data()), bytes.size()))
+    {
+    }
+    Value(const mysql_params_date &date) noexcept : held_(date) {}
+    Value(const mysql_params_time &time) noexcept : held_(time) {}
+    template <typename T>
+    Value(const std::optional<T> &thing) : Value(thing ? Value(*thing) : Value(nullptr))
+    {
+    }
+
+private:
+    friend class Form;
+    [[noreturn]] static std::string_view refuse_null()
+    {
+        throw std::invalid_argument("mysql_params: a text is a null pointer: nullptr itself is NULL");
+    }
+    std::variant<std::monostate, std::int64_t, std::uint64_t, std::string_view, mysql_params_date, mysql_params_time>
+        held_;
+};
+
+/* Parameters, by name or in order. It owns all that was appended. */
+class Form {
+public:
+    Form() noexcept : form_(mysql_params_form_growing()) {}
+    /* Parameters by name: {{"id", 42}, {"name", name}}. */
+    Form(std::initializer_list<std::pair<std::string_view, Value>> named) : Form()
+    {
+        for (const auto &[name, value] : named)
+            append(name, value);
+    }
+    /* Parameters in order: {42, name}. */
+    Form(std::initializer_list<Value> values) : Form()
+    {
+        for (const Value &value : values)
+            append(value);
+    }
+    Form(Form &&other) noexcept : Form() { std::swap(form_, other.form_); }
+    Form &operator=(Form &&other) noexcept
+    {
+        std::swap(form_, other.form_);
+        return *this;
+    }
+    Form(const Form &) = delete;
+    Form &operator=(const Form &) = delete;
+    ~Form() { mysql_params_form_free(&form_); }
+
+    /* Appends a parameter by name. Throws std::invalid_argument for an empty name, or one with a zero byte. */
+    Form &append(std::string_view name, const Value &value)
+    {
+        if (name.empty() || name.find('\0') != name.npos)
+            throw std::invalid_argument("mysql_params: a name is empty, or holds a zero byte");
+        return append_as(std::string(name).c_str(), value);
+    }
+    /* Appends a parameter in order. */
+    Form &append(const Value &value) { return append_as(nullptr, value); }
+    /* The flat form, as mysql_params_bind takes it. */
+    const mysql_params_form &get() const noexcept { return form_; }
+
+private:
+    Form &append_as(const char *name, const Value &value)
+    {
+        const bool fits = std::visit(
+            [&](const auto &held) {
+                using T = std::decay_t<decltype(held)>;
+                if constexpr (std::is_same_v<T, std::monostate>)
+                    return mysql_params_append_null(&form_, name);
+                else if constexpr (std::is_same_v<T, std::int64_t>)
+                    return mysql_params_append_int(&form_, name, held);
+                else if constexpr (std::is_same_v<T, std::uint64_t>)
+                    return mysql_params_append_uint(&form_, name, held);
+                else if constexpr (std::is_same_v<T, std::string_view>)
+                    return mysql_params_append_bytes(&form_, name, held.data(), held.size());
+                else if constexpr (std::is_same_v<T, mysql_params_date>)
+                    return mysql_params_append_date(&form_, name, held);
+                else
+                    return mysql_params_append_time(&form_, name, held);
+            },
+            value.held_);
+        if (!fits)
+            throw std::bad_alloc();
+        return *this;
+    }
+
+    mysql_params_form form_;
+};
+
+namespace detail {
+
+inline const std::uint8_t *bytes_of(std::string_view text) noexcept
+{
+    return reinterpret_cast<const std::uint8_t *>(text.empty() ? "" : text.data());
+}
+
+/* Throws std::runtime_error if the processor lacks a feature of x86-64-v2. */
+inline void need_processor()
+{
+    static const bool suffices = mysql_params_processor_suffices();
+    if (!suffices)
+        throw std::runtime_error("mysql_params: the processor lacks a feature of x86-64-v2");
+}
+
+/* What a number other than MYSQL_PARAMS_DONE is thrown as. */
+[[noreturn]] inline void refuse(std::int32_t number, const mysql_params_report &report, std::string_view source)
+{
+    if (number == MYSQL_PARAMS_OUT_OF_MEMORY)
+        throw std::bad_alloc();
+    std::string line(mysql_params_message(number, &report, bytes_of(source), source.size(), nullptr, 0) + 1, '\0');
+    line.resize(mysql_params_message(number, &report, bytes_of(source), source.size(), line.data(), line.size()));
+    throw Error(number, report, line);
+}
+
+/* The whole answer of a call: in a room of a guessed length, and again in one of the length that it needs. */
+template <typename Call> std::string whole_answer(std::size_t guess, Call call)
+{
+    need_processor();
+    std::string room(guess, '\0');
+    for (;;) {
+        mysql_params_report report{};
+        const std::int32_t number = call(reinterpret_cast<std::uint8_t *>(room.data()), room.size(), &report);
+        if (number == MYSQL_PARAMS_DONE) {
+            room.resize(report.len);
+            return room;
+        }
+        if (number != MYSQL_PARAMS_ROOM)
+            call.refuse(number, report);
+        room.assign(report.len, '\0');
+    }
+}
+
+struct Bind {
+    std::string_view query;
+    const mysql_params_form &form;
+    bool no_backslash_escape;
+    std::int32_t operator()(std::uint8_t *room, std::size_t room_len, mysql_params_report *report) const
+    {
+        return mysql_params_bind(bytes_of(query), query.size(), form.room, form.len, no_backslash_escape, room, room_len,
+                                 report);
+    }
+    [[noreturn]] void refuse(std::int32_t number, const mysql_params_report &report) const
+    {
+        const std::string_view whole(reinterpret_cast<const char *>(form.room), form.len);
+        detail::refuse(number, report, number == MYSQL_PARAMS_FORM_REPEATED ? whole : query);
+    }
+};
+
+struct NamesOf {
+    std::string_view query;
+    bool no_backslash_escape;
+    std::int32_t operator()(std::uint8_t *room, std::size_t room_len, mysql_params_report *report) const
+    {
+        return mysql_params_names(bytes_of(query), query.size(), no_backslash_escape, room, room_len, report);
+    }
+    [[noreturn]] void refuse(std::int32_t number, const mysql_params_report &report) const
+    {
+        detail::refuse(number, report, query);
+    }
+};
+
+template <typename Find> std::optional<Unportable> found(Find find, std::string_view query, Mode mode)
+{
+    need_processor();
+    mysql_params_report report{};
+    const std::int32_t construct =
+        find(bytes_of(query), query.size(), mode == Mode::no_backslash_escapes, &report);
+    if (construct == MYSQL_PARAMS_PORTABLE)
+        return std::nullopt;
+    return Unportable{construct, report.position};
+}
+
+} // namespace detail
+
+/* The query with the SQL literals of the values in its places: the text to send. Ask first_unportable of the query, once,
+ * before. Throws Error. */
+inline std::string bind(std::string_view query, const Form &form = {}, Mode mode = Mode::backslash_escapes)
+{
+    const mysql_params_form &flat = form.get();
+    return detail::whole_answer(query.size() + 2 * flat.len + 64,
+                                detail::Bind{query, flat, mode == Mode::no_backslash_escapes});
+}
+
+/* The names of a query. Throws Error for one with names and marks. */
+inline Names names(std::string_view query, Mode mode = Mode::backslash_escapes)
+{
+    const std::string answer =
+        detail::whole_answer(query.size() + 64, detail::NamesOf{query, mode == Mode::no_backslash_escapes});
+    const std::uint8_t *rest = detail::bytes_of(answer);
+    std::size_t left = answer.size();
+    mysql_params_string string{};
+    const auto next = [&] {
+        if (!mysql_params_next_string(&rest, &left, &string))
+            throw std::runtime_error("mysql_params: the answer is no row of strings");
+        return std::string(reinterpret_cast<const char *>(string.bytes), string.len);
+    };
+    Names found{next(), {}};
+    while (left > 0)
+        found.names.push_back(next());
+    return found;
+}
+
+/* The first construct of a query that servers read in different ways; nothing if the query is portable. */
+inline std::optional<Unportable> first_unportable(std::string_view query, Mode mode = Mode::backslash_escapes)
+{
+    return detail::found(mysql_params_first_unportable, query, mode);
+}
+
+/* The same, also of what the clients `mysql` and `mariadb` with `--comments` read or send otherwise. */
+inline std::optional<Unportable> first_unportable_in_client(std::string_view query, Mode mode = Mode::backslash_escapes)
+{
+    return detail::found(mysql_params_first_unportable_in_client, query, mode);
+}
+
+} // namespace mysql_params
+
+#endif

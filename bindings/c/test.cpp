@@ -1,0 +1,140 @@
+/* Tests of mysql_params.hpp: what each value is bound as, what is thrown, who owns what. */
+#include "mysql_params.hpp"
+
+#include <cstdio>
+#include <string>
+
+using namespace std::literals;
+using mysql_params::bind;
+using mysql_params::Error;
+using mysql_params::Form;
+using mysql_params::Mode;
+using mysql_params::Value;
+
+static int failures;
+
+static void same(const std::string &got, std::string_view wanted)
+{
+    if (got == wanted)
+        return;
+    std::printf("    got %s, wanted %.*s\n", got.c_str(), static_cast<int>(wanted.size()), wanted.data());
+    failures++;
+}
+
+static void expect(bool holds, const char *what)
+{
+    if (holds)
+        return;
+    std::printf("    not so: %s\n", what);
+    failures++;
+}
+
+/* What a call throws, as text: of a refusal its number and its message. */
+template <typename Call> static std::string thrown(Call call)
+{
+    try {
+        call();
+    } catch (const Error &error) {
+        return std::to_string(error.number()) + " " + error.what();
+    } catch (const std::invalid_argument &) {
+        return "invalid argument";
+    }
+    return "nothing";
+}
+
+static_assert(!std::is_constructible_v<Value, double> && !std::is_constructible_v<Value, float>);
+static_assert(!std::is_constructible_v<Value, char> && !std::is_constructible_v<Value, void *>);
+static_assert(!std::is_copy_constructible_v<Form> && std::is_nothrow_move_constructible_v<Form>);
+
+static void values()
+{
+    same(bind("?, ?, ?", {42, -1, true}), "42, -1, 1");
+    same(bind("?, ?", {std::numeric_limits<std::int64_t>::min(), std::numeric_limits<std::uint64_t>::max()}),
+         "-9223372036854775808, 18446744073709551615");
+    same(bind("?, ?, ?", {"it's", "a\0b"sv, std::string("\\")}), "'it\\'s', 'a\\0b', '\\\\'");
+    same(bind("?, ?", {nullptr, std::optional<int>()}), "NULL, NULL");
+    same(bind("?, ?", {std::optional<std::string>("x"), std::optional<unsigned>(7U)}), "'x', 7");
+    same(bind("?", {std::vector<std::uint8_t>{0xFF, 0}}), "0xFF00");
+    same(bind("?", {mysql_params_date{2019, 11, 27, 12, 30, 0, 5}}), "'2019-11-27 12:30:00.000005'");
+    same(bind("?", {mysql_params_time{true, 1, 2, 3, 4, 0}}), "'-026:03:04'");
+}
+
+static void named_and_without()
+{
+    const std::string name = "x' OR '1'='1";
+    same(bind("SELECT * FROM t WHERE id = :id AND name = :name", {{"id", 42}, {"name", name}}),
+         "SELECT * FROM t WHERE id = 42 AND name = 'x\\' OR \\'1\\'=\\'1'");
+    same(bind(":a", {{"a", "b"}}), "'b'");
+    same(bind(":a, :b", {{"a", "b"}, {"b", "d"}}), "'b', 'd'");
+    same(bind("SELECT 1"), "SELECT 1");
+    same(bind(""), "");
+    same(bind(":a", {{"a", "\\'"}}, Mode::no_backslash_escapes), "'\\'''");
+}
+
+static void forms()
+{
+    Form form;
+    for (int i = 0; i < 1000; i++)
+        form.append("n" + std::to_string(i), std::string(100, 'x'));
+    Form other(std::move(form));
+    expect(form.get().len == 0, "what was moved is empty");
+    expect(bind(":n999", other).size() == 102, "the name is bound");
+    form.append("a", 1);
+    same(bind(":a", form), "1");
+    form = std::move(other);
+    expect(bind(":n0", form).size() == 102, "the name is bound after a move");
+    const std::string quotes(100000, '\'');
+    expect(bind("?", {quotes}).size() == 200002, "a long text is bound");
+}
+
+static void refusals()
+{
+    same(thrown([] { bind(":a ?"); }), "8 Named and positional params in one query");
+    same(thrown([] { bind("SELECT :userId", {{"userId", 1}}); }),
+         "9 Missing named parameter `user` for statement: names are of a to z, 0 to 9 and _, so `:userId` ends after `user`");
+    same(thrown([] { bind(":a", {{"a", 1}, {"a", 2}}); }), "7 Redefinition of named parameter `a'");
+    same(thrown([] { bind("?", {1, 2}); }), "12 Query has 1 marks and 2 values");
+    same(thrown([] { bind(":a", {{"", 1}}); }), "invalid argument");
+    same(thrown([] { bind(":a", {{"a\0"sv, 1}}); }), "invalid argument");
+    same(thrown([] { bind("?", {static_cast<const char *>(nullptr)}); }), "invalid argument");
+    try {
+        bind("1, :ab", {{"b", 1}});
+        expect(false, "a name is missing");
+    } catch (const Error &error) {
+        expect(error.report().position == 4 && error.report().len == 2, "the report is handed on");
+    }
+}
+
+static void queries()
+{
+    const mysql_params::Names found = mysql_params::names(":a + :b + ':c' + :a");
+    same(found.query, "? + ? + ':c' + ?");
+    expect(found.names == std::vector<std::string>{"a", "b", "a"}, "the names are a, b, a");
+    same(mysql_params::names("SELECT 1").query, "SELECT 1");
+    expect(!mysql_params::first_unportable("SELECT :a"), "it is portable");
+    const auto construct = mysql_params::first_unportable("SELECT /*! :a */ 1");
+    expect(construct && construct->construct == MYSQL_PARAMS_EXECUTABLE_COMMENT && construct->position == 7,
+           "a comment is executed");
+    expect(construct && construct->message() != nullptr, "the construct has a message");
+    const auto in_client = mysql_params::first_unportable_in_client("SELECT 1 /*//*/, :a");
+    expect(in_client && in_client->construct == MYSQL_PARAMS_OPENER_IN_COMMENT, "a client reads it otherwise");
+    expect(mysql_params::first_unportable("'a\\' [", Mode::no_backslash_escapes).has_value(), "the mode counts");
+}
+
+static bool passed(const char *name, void test())
+{
+    failures = 0;
+    test();
+    std::printf("test %s ... %s\n", name, failures == 0 ? "ok" : "FAILED");
+    return failures == 0;
+}
+
+int main()
+{
+    bool all = passed("values", values);
+    all &= passed("named_and_without", named_and_without);
+    all &= passed("forms", forms);
+    all &= passed("refusals", refusals);
+    all &= passed("queries", queries);
+    return all ? 0 : 1;
+}
