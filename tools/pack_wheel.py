@@ -38,7 +38,7 @@ Classifier: Typing :: Typed
 Classifier: Operating System :: POSIX :: Linux
 Description-Content-Type: text/markdown
 
-{(TREE / "bindings/README.md").read_text()}"""
+{(TREE / "packages/python.md").read_text()}"""
 
 
 def digest(data):
