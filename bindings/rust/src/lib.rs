@@ -25,14 +25,17 @@
 #![deny(unsafe_op_in_unsafe_fn, missing_docs)]
 
 mod archive;
+mod duration;
 mod error;
 mod form;
+mod macros;
 mod portable;
 #[cfg(test)]
 mod tests;
 mod value;
 mod words;
 
+pub use duration::DurationTooLong;
 pub use error::Error;
 pub use portable::{Construct, Unportable};
 pub use value::{Date, Params, Time, Value};
