@@ -436,7 +436,7 @@ static void forms_that_grow(void)
         for (size_t j = 0; j < len; j++)
             append_bytes(&wanted, "\\'", 2);
         append_bytes(&wanted, "'", 2); /* with the zero byte */
-        append_run(&value, '\\', len);
+        append_run(&value, '\'', len);
         append_bytes(&value, "", 1);
         it.line = (int)len;
         for (long allowed = 0;; allowed++) {
