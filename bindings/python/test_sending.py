@@ -4,6 +4,7 @@ import datetime
 import pickle
 import sys
 import unittest
+import unittest.mock
 
 import mysql_params
 from mysql_params import Construct, ask_again, exec_driver_sql, execute, executemany
@@ -242,6 +243,17 @@ class Test(unittest.TestCase):
             with self.subTest(type=type(cursor).__name__), self.assertRaises(TypeError):
                 execute(cursor, "SELECT 1")
 
+    def test_places_of_other_libraries(self):
+        for query, params, message in (
+            ("SELECT %s", [1], "Query has 0 marks and 1 values: a mark is `?`, and not `%s`"),
+            ("SELECT ?, '%s'", [1, 2], "Query has 1 marks and 2 values"),
+            ("SELECT %(a)s", {"a": 1}, "Named params given where positional params are expected: a place is `:name`, and not `%(name)s`"),
+        ):
+            with self.subTest(query=query), self.assertRaises(mysql_params.Error) as raised:
+                self.send(PyMySQL(), query, params)
+            self.assertEqual(str(raised.exception), message)
+            self.assertEqual(str(pickle.loads(pickle.dumps(raised.exception))), message)
+
     def test_many_rows(self):
         connection = PyMySQL()
         self.assertEqual(executemany(connection.cursor(), "INSERT INTO t VALUES (?, ?)", [(1, "a"), (2, "%")]), 6)
@@ -256,6 +268,9 @@ class Test(unittest.TestCase):
         pooled = Pooled(PyMySQL(NONE))
         self.assertEqual(exec_driver_sql(pooled, "SELECT :a", {"a": HOSTILE}), "result")
         self.assertEqual(pooled.calls, [((WITHOUT.decode(),), {"execution_options": {"no_parameters": True}})])
+        for wrong in (object(), unittest.mock.Mock(connection=lambda: pooled)):
+            with self.assertRaisesRegex(TypeError, "^SQLAlchemy's Connection is wanted, and not (object|Mock): take engine"):
+                exec_driver_sql(wrong, "SELECT 1")
         with self.assertRaises(UnicodeDecodeError):
             exec_driver_sql(pooled, b"SELECT '\xff'")
 

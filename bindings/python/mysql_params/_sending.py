@@ -248,7 +248,10 @@ def exec_driver_sql(
     It is `exec_driver_sql` of SQLAlchemy without parameters and with `no_parameters`: else a ``%`` in a value would be
     read as a format. A query of bytes is UTF-8. Everything else is as of execute.
     """
-    pooled = connection.connection
+    pooled = getattr(connection, "connection", None)
+    if pooled is None or callable(pooled):
+        to_do = "take engine.connect() or session.connection()"
+        raise TypeError(f"SQLAlchemy's Connection is wanted, and not {type(connection).__name__}: {to_do}")
     own = getattr(pooled, "dbapi_connection", None)
     text = _bound(pooled.connection if own is None else own, _form.bytes_of(query), params, zone, always_ask)
     return connection.exec_driver_sql(text.decode(), execution_options={"no_parameters": True})

@@ -158,10 +158,16 @@ class NamedForPositionalError(_WordError):
 
     number = 10
     _text = "Named params given where positional params are expected"
+    _hint: str = ""
 
     def _look_at(self, query: bytes) -> None:
         """Take the first word after a colon that begins no name."""
         self._take(_WORD_WITHOUT_NAME.search(query))
+        if self.word is None and b"%(" in query:
+            self._hint = ": a place is `:name`, and not `%(name)s`"
+
+    def _more(self) -> str:
+        return super()._more() + self._hint
 
 
 class PositionalForNamedError(Error):
@@ -179,6 +185,15 @@ class MarkCountError(Error):
     values: int
     _fields: tuple[str, ...] = ("marks", "values")
     _text = "Query has {marks} marks and {values} values"
+    _hint: str = ""
+
+    def _look_at(self, query: bytes) -> None:
+        """See whether the query has what other libraries take for a mark."""
+        if self.marks == 0 and b"%s" in query:
+            self._hint = ": a mark is `?`, and not `%s`"
+
+    def _more(self) -> str:
+        return self._hint
 
 
 class NotAloneError(_WordError):
