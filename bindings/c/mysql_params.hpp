@@ -1,6 +1,6 @@
 /* mysql_params.hpp: values bound into SQL queries from C++17, over mysql_params.h and mysql_params_form.h.
  *
- *     std::string text = mysql_params::bind("SELECT * FROM t WHERE id = :id AND name = :name", {{"id", 42}, {"name", name}});
+ *     std::string text = mysql_params::bind("id = :id AND name = :name", {{"id", 42}, {"name", name}});
  *     std::string text = mysql_params::bind("VALUES (?, ?)", {42, nullptr});
  *
  * All memory is owned by what is returned. Each call may throw std::bad_alloc; a refusal is thrown as mysql_params::Error.

@@ -91,7 +91,8 @@ static void refusals()
 {
     same(thrown([] { bind(":a ?"); }), "8 Named and positional params in one query");
     same(thrown([] { bind("SELECT :userId", {{"userId", 1}}); }),
-         "9 Missing named parameter `user` for statement: names are of a to z, 0 to 9 and _, so `:userId` ends after `user`");
+         "9 Missing named parameter `user` for statement: names are of a to z, 0 to 9 and _, so `:userId` ends after "
+         "`user`");
     same(thrown([] { bind(":a", {{"a", 1}, {"a", 2}}); }), "7 Redefinition of named parameter `a'");
     same(thrown([] { bind("?", {1, 2}); }), "12 Query has 1 marks and 2 values");
     same(thrown([] { bind(":a", {{"", 1}}); }), "invalid argument");

@@ -344,13 +344,14 @@ class Test(unittest.TestCase):
         wide = "a whole number of more than 64 bits: give str(..) of it, and write CAST({} AS DECIMAL(65,0))"
         price = "a Decimal, which has no literal: give str(..) of it, and write CAST({} AS DECIMAL(20,2))"
         double = ": a text in arithmetic is a double"
+        a_zone = "a datetime with a time zone: convert it to a naive one, or hand in zone=.., the session's"
         for value, kind, message in (
             ([1, 2], TypeError, a_list),
             (1j, TypeError, "of type complex, which has no literal"),
             (1 << 64, OverflowError, wide + double),
             (-(1 << 63) - 1, OverflowError, wide + double),
             (decimal.Decimal("0.01"), TypeError, price + double),
-            (aware, TypeError, "a datetime with a time zone: convert it to a naive one, or hand in zone=.., the session's"),
+            (aware, TypeError, a_zone),
         ):
             for params, place in (({"a": None, "ids": value}, ":ids"), ([None, value], "?")):
                 with self.subTest(value=value, place=place), self.assertRaises(kind) as raised:

@@ -146,7 +146,8 @@ class Test(unittest.TestCase):
     def test_another_mode_is_seen(self):
         for kind in (PyMySQL, MySQLdb):
             connection = kind()
-            for sql_mode, wanted in ((STRICT, WITH_BACKSLASHES), (NONE, WITHOUT), ("", WITH_BACKSLASHES), (NONE.lower(), WITHOUT)):
+            modes = ((STRICT, WITH_BACKSLASHES), (NONE, WITHOUT), ("", WITH_BACKSLASHES), (NONE.lower(), WITHOUT))
+            for sql_mode, wanted in modes:
                 connection.set_mode(sql_mode)
                 connection.server_status = 512 if wanted is WITHOUT else 2
                 for _ in range(2):
@@ -203,6 +204,9 @@ class Test(unittest.TestCase):
             self.assertEqual(raised.exception.args, (Construct.EXECUTABLE_COMMENT, 7))
             self.assertTrue(str(raised.exception).startswith("The query isn't portable at byte 7: `/*!` is executed"))
             self.assertEqual(connection.sent, [])
+        for _ in range(2):
+            with self.assertRaises(mysql_params.UnportableError):
+                self.send(PyMySQL(), "SELECT " + "x, " * 2000 + "[:a")
         # Which it is depends on the mode.
         query = "SELECT 'a\\', [1], '"
         self.assertEqual(self.send(PyMySQL(), query, []), query.encode())
@@ -218,7 +222,8 @@ class Test(unittest.TestCase):
                 continue
             with self.assertRaises(mysql_params.PacketError) as raised:
                 self.send(connection, text, [])
-            self.assertEqual(str(raised.exception), "The text has 20 bytes, and the connection's max_allowed_packet lets 19 through")
+            message = "The text has 20 bytes, and the connection's max_allowed_packet lets 19 through"
+            self.assertEqual(str(raised.exception), message)
             self.assertEqual(connection.sent, [])
 
     def test_what_is_refused_before_the_connection_is_asked(self):
@@ -232,7 +237,8 @@ class Test(unittest.TestCase):
 
     def test_zones(self):
         moment = datetime.datetime(2019, 11, 27, 23, 30, tzinfo=datetime.timezone.utc)
-        self.assertEqual(self.send(PyMySQL(), params={"a": moment}, zone=datetime.timezone.utc), b"SELECT '2019-11-27 23:30:00'")
+        sent = self.send(PyMySQL(), params={"a": moment}, zone=datetime.timezone.utc)
+        self.assertEqual(sent, b"SELECT '2019-11-27 23:30:00'")
         with self.assertRaises(TypeError):
             self.send(PyMySQL(), params={"a": moment})
 
@@ -244,10 +250,11 @@ class Test(unittest.TestCase):
                 execute(cursor, "SELECT 1")
 
     def test_places_of_other_libraries(self):
+        named = "Named params given where positional params are expected"
         for query, params, message in (
             ("SELECT %s", [1], "Query has 0 marks and 1 values: a mark is `?`, and not `%s`"),
             ("SELECT ?, '%s'", [1, 2], "Query has 1 marks and 2 values"),
-            ("SELECT %(a)s", {"a": 1}, "Named params given where positional params are expected: a place is `:name`, and not `%(name)s`"),
+            ("SELECT %(a)s", {"a": 1}, named + ": a place is `:name`, and not `%(name)s`"),
         ):
             with self.subTest(query=query), self.assertRaises(mysql_params.Error) as raised:
                 self.send(PyMySQL(), query, params)
@@ -269,7 +276,7 @@ class Test(unittest.TestCase):
         self.assertEqual(exec_driver_sql(pooled, "SELECT :a", {"a": HOSTILE}), "result")
         self.assertEqual(pooled.calls, [((WITHOUT.decode(),), {"execution_options": {"no_parameters": True}})])
         for wrong in (object(), unittest.mock.Mock(connection=lambda: pooled)):
-            with self.assertRaisesRegex(TypeError, "^SQLAlchemy's Connection is wanted, and not (object|Mock): take engine"):
+            with self.assertRaisesRegex(TypeError, "^SQLAlchemy's Connection is wanted, and not (object|Mock): take"):
                 exec_driver_sql(wrong, "SELECT 1")
         with self.assertRaises(UnicodeDecodeError):
             exec_driver_sql(pooled, b"SELECT '\xff'")

@@ -1,4 +1,4 @@
-"""Bound texts sent by a driver: PyMySQL, mysqlclient, MySQL Connector/Python, SQLAlchemy over one of them, and the like."""
+"""Bound texts sent by a driver: PyMySQL, mysqlclient, one like them, or SQLAlchemy over one."""
 
 from __future__ import annotations
 
@@ -50,7 +50,8 @@ class SessionError(Error):
         self.variable, self.value = variable, value
 
     def __str__(self) -> str:
-        return f"The connection's {self.variable} is {self.value}, and has to be utf8mb4: connect with charset='utf8mb4'"
+        to_do = "and has to be utf8mb4: connect with charset='utf8mb4'"
+        return f"The connection's {self.variable} is {self.value}, {to_do}"
 
 
 class PacketError(Error):
@@ -147,10 +148,19 @@ def ask_again(connection: Any) -> None:
         setattr(connection, _KEPT, None)
 
 
-@functools.lru_cache(maxsize=1024)
 def _unportable(query: bytes, mode: bool) -> Optional[Unportable]:
     """Return the first construct of a query, as first_unportable."""
     return _archive.unportable(*_archive.first_unportable(query, mode))
+
+
+_LONGEST_KEPT = 4096
+"""The longest query whose construct is kept."""
+
+
+@functools.lru_cache(maxsize=1024)
+def _kept_unportable(query: bytes, mode: bool) -> Optional[Unportable]:
+    """Return the same, and keep it."""
+    return _unportable(query, mode)
 
 
 def _bound(
@@ -159,10 +169,11 @@ def _bound(
     """Return the text to send over a connection of a driver."""
     form = _form.form_of(params, zone)
     told = _told(connection, always_ask)
-    found = _unportable(query, told.no_backslash_escape)
+    mode = told.no_backslash_escape
+    found = _kept_unportable(query, mode) if len(query) <= _LONGEST_KEPT else _unportable(query, mode)
     if found is not None:
         raise UnportableError(*found)
-    text = _archive.whole_answer(query, form, told.no_backslash_escape, len(query) + 2 * len(form) + 64)
+    text = _archive.whole_answer(query, form, mode, len(query) + 2 * len(form) + 64)
     if len(text) > told.most:
         raise PacketError(len(text), told.most)
     return text
