@@ -201,8 +201,8 @@ class Test(unittest.TestCase):
             connection = kind()
             with self.assertRaises(mysql_params.UnportableError) as raised:
                 self.send(connection, "SELECT /*! :a */ 1")
-            self.assertEqual(raised.exception.args, (Construct.EXECUTABLE_COMMENT, 7))
-            self.assertTrue(str(raised.exception).startswith("The query isn't portable at byte 7: `/*!` is executed"))
+            self.assertEqual(raised.exception.args, (7, Construct.EXECUTABLE_COMMENT))
+            self.assertTrue(str(raised.exception).startswith("Not portable at byte 7 of the query: `/*!` is executed"))
             self.assertEqual(connection.sent, [])
         for _ in range(2):
             with self.assertRaises(mysql_params.UnportableError):
@@ -283,7 +283,7 @@ class Test(unittest.TestCase):
 
     def test_errors_are_pickled(self):
         for error in (
-            mysql_params.UnportableError(Construct.BRACKET, 3),
+            mysql_params.UnportableError(3, Construct.BRACKET),
             mysql_params.SessionError("character_set_client", "gbk"),
             mysql_params.PacketError(5, 4),
         ):

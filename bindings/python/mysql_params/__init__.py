@@ -29,7 +29,6 @@ from . import _archive, _form
 from ._sending import (
     PacketError,
     SessionError,
-    UnportableError,
     ask_again,
     exec_driver_sql,
     execute,
@@ -224,14 +223,16 @@ def bind_form(query: Union[str, bytes], form: bytes, no_backslash_escape: bool =
     return _archive.whole_answer(query, form, no_backslash_escape, _guess(query, form))
 
 
-def bind_anywhere(query: Union[str, bytes], params: Params = None) -> bytes:
+def bind_anywhere(
+    query: Union[str, bytes], params: Params = None, *, zone: Optional[datetime.tzinfo] = None
+) -> bytes:
     """Return the query with literals that depend on no connection: no sql_mode and no character set reads it otherwise.
 
     It is a text for MySQL and MariaDB. The query has to be ASCII without a backslash, also in its comments, and portable.
 
     A text of printable ASCII without a backslash is written as ``_utf8mb4'it''s'``, other UTF-8 as ``_utf8mb4 0xC3A9``,
     and bytes that aren't UTF-8 as ``0xFF``; all else as by bind. "Steady texts" in docs/LIMITS.md says where a server
-    takes no such literal.
+    takes no such literal. The zone is as for bind.
 
     Of the parameters it raises what bind raises. Then, of the query, the first that holds: UnsteadyError;
     UnportableError; those of bind from MixedError on. In place of any of them, and of a text, OutOfMemoryError.
@@ -239,7 +240,7 @@ def bind_anywhere(query: Union[str, bytes], params: Params = None) -> bytes:
     >>> bind_anywhere("SELECT ?, ?", ["it's", "\u00e9"])
     b"SELECT _utf8mb4'it''s', _utf8mb4 0xC3A9"
     """
-    return bind_form_anywhere(query, _form.form_of(params))
+    return bind_form_anywhere(query, _form.form_of(params, zone))
 
 
 def bind_form_anywhere(query: Union[str, bytes], form: bytes) -> bytes:

@@ -8,8 +8,8 @@ from collections.abc import Iterable, Mapping
 from typing import Any, NamedTuple, Optional, Union
 
 from . import _archive, _form
-from .errors import Error
-from .portable import Construct, Unportable
+from .errors import Error, UnportableError
+from .portable import Unportable
 
 _QUESTION = (
     "SELECT @@sql_mode AS m, @@character_set_client AS c, @@character_set_connection AS n, @@max_allowed_packet AS p"
@@ -21,21 +21,6 @@ _KEPT = "_mysql_params_told"
 
 _NO_BACKSLASH_ESCAPES = 512
 """The bit of the server's status that says that its mode has no backslash escapes, in the protocol."""
-
-
-class UnportableError(Error):
-    """The query has a construct that servers read in different ways, at the byte `position`."""
-
-    construct: Construct
-    position: int
-    _fields: tuple[str, ...] = ("construct", "position")
-
-    def __init__(self, construct: Construct, position: int) -> None:
-        """Take which it is, and where it begins."""
-        super().__init__(construct, position)
-
-    def __str__(self) -> str:
-        return f"The query isn't portable at byte {self.position}: {self.construct.message}"
 
 
 class SessionError(Error):
@@ -172,7 +157,7 @@ def _bound(
     mode = told.no_backslash_escape
     found = _kept_unportable(query, mode) if len(query) <= _LONGEST_KEPT else _unportable(query, mode)
     if found is not None:
-        raise UnportableError(*found)
+        raise UnportableError(found.position, found.construct)
     text = _archive.whole_answer(query, form, mode, len(query) + 2 * len(form) + 64)
     if len(text) > told.most:
         raise PacketError(len(text), told.most)

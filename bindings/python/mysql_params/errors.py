@@ -239,7 +239,10 @@ class UnsteadyError(Error):
 
 
 class UnportableError(Error):
-    """The query isn't portable: `construct` is the first, and begins at `position`. It is of bind_anywhere alone."""
+    """The query isn't portable: `construct` is the first, and begins at `position`.
+
+    It is of bind_anywhere, and of the calls that send by a driver.
+    """
 
     number = 16
     position: int
