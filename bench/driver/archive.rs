@@ -31,6 +31,17 @@ unsafe extern "C" {
         room_len: usize,
         report: *mut Report,
     ) -> i32;
+    fn mysql_params_bind_rows(
+        query: *const u8,
+        query_len: usize,
+        forms: *const u8,
+        forms_len: usize,
+        no_backslash_escape: bool,
+        room: *mut u8,
+        room_len: usize,
+        rows: *mut Rows,
+        report: *mut Report,
+    ) -> i32;
     fn mysql_params_first_unportable(
         query: *const u8,
         query_len: usize,
@@ -43,6 +54,14 @@ unsafe extern "C" {
         no_backslash_escape: bool,
         report: *mut Report,
     ) -> i32;
+}
+
+/// How far rows are bound.
+#[repr(C)]
+pub struct Rows {
+    pub count: usize,
+    pub read: usize,
+    pub written: usize,
 }
 
 /// A report that no call gives: the archive has to write each field.
@@ -118,6 +137,19 @@ fn bind_in(query: &[u8], form: &[u8], no_backslash_escape: bool, room: &mut [u8]
             report,
         )
     })
+}
+
+/// Rows, whose forms are length-encoded strings.
+pub fn bind_rows(query: &[u8], forms: &[u8], room: &mut [u8]) -> (i32, Rows, Report) {
+    let mut rows = Rows { count: usize::MAX, read: usize::MAX, written: usize::MAX };
+    let (query_at, forms_at, room_at) = (query.as_ptr(), forms.as_ptr(), room.as_mut_ptr());
+    let (query_len, forms_len, room_len) = (query.len(), forms.len(), room.len());
+    let (number, report) = number_and_report(|report| unsafe {
+        mysql_params_bind_rows(
+            query_at, query_len, forms_at, forms_len, false, room_at, room_len, &mut rows, report,
+        )
+    });
+    (number, rows, report)
 }
 
 /// The first construct for which the query isn't portable.

@@ -105,6 +105,32 @@ pub fn bindings() -> Vec<Binding> {
     ]
 }
 
+/// A query and the rows that are bound to it. Each text is shorter than 251 bytes.
+pub struct RowsInput {
+    pub name: &'static str,
+    pub query: Vec<u8>,
+    pub rows: Vec<Vec<Given>>,
+}
+
+/// A thousand rows of each.
+pub fn rows_inputs() -> Vec<RowsInput> {
+    let names: [&[u8]; 3] = [b"id", b"name", b"owner"];
+    let by_position = |at| vec![number(b"", at), text(b"", b"it's a name")];
+    let by_name = |at| vec![number(names[0], at), text(names[1], b"it's"), text(names[2], b"ann")];
+    vec![
+        RowsInput {
+            name: "1000 rows of two values",
+            query: b"INSERT INTO t VALUES (?, ?)".to_vec(),
+            rows: (0..1000).map(by_position).collect(),
+        },
+        RowsInput {
+            name: "1000 rows of three names",
+            query: b"UPDATE t SET name = :name /* 'x' */ WHERE id = :id AND owner = :owner".to_vec(),
+            rows: (0..1000).map(by_name).collect(),
+        },
+    ]
+}
+
 /// An insert of about so many bytes, with a mark in its last row.
 pub fn insert_with_one_mark(len: usize) -> Binding {
     let rows = rows_of(len, b"(12345, 'some text here', 3.25, NULL), ");

@@ -13,6 +13,7 @@ mod other_mode;
 mod portable;
 mod random;
 mod report;
+mod rows;
 mod sides;
 mod time;
 
@@ -62,10 +63,12 @@ fn measured() -> Report {
     let mut report = Report::new();
     memory::keep_freed();
     let (queries, bindings, rooms) = (inputs::queries(), inputs::bindings(), sides::rooms());
+    let rows = inputs::rows_inputs();
     let tables = [
         (&sides::PARSING[..], sides::parsing(&queries, &rooms)),
         (&sides::BINDING, sides::binding(&bindings, &rooms)),
         (&sides::ANYWHERE, sides::anywhere(&bindings, &rooms)),
+        (&rows::ROWS, rows::rows(&rows, &rooms)),
         #[cfg(templates)]
         (&sides::BY_TEMPLATE, sides::by_template(&bindings, &rooms)),
     ];

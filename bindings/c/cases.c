@@ -218,6 +218,27 @@ static void read_named(test_case *it, char *text, int32_t (*known)(const char *)
         read_field(it, word);
 }
 
+/* Appends the form of the last row to those of all rows. */
+static void end_row(test_case *it)
+{
+    if (it->rows == 0)
+        return;
+    append_string(&it->forms, it->form.at, it->form.len);
+    clear_bytes(&it->form);
+}
+
+/* Sets how many bytes of the forms the rows take that have a text. */
+static void set_read(test_case *it)
+{
+    const uint8_t *rest = it->forms.at;
+    size_t left = it->forms.len;
+    mysql_params_string form;
+    for (size_t row = 0; row < it->texts; row++)
+        if (!mysql_params_next_string(&rest, &left, &form))
+            stop("a text without a row");
+    it->read = it->forms.len - left;
+}
+
 /* Reads a line of a case: its first word, and the text after one space. */
 static void read_line(test_case *it, const char *word, char *text)
 {
@@ -226,7 +247,14 @@ static void read_line(test_case *it, const char *word, char *text)
         append_text(&it->query, text);
     else if (strcmp(word, "param") == 0)
         append_param(&it->form, text);
-    else if (strcmp(word, "form") == 0)
+    else if (strcmp(word, "row") == 0) {
+        end_row(it);
+        it->rows++;
+    } else if (strcmp(word, "text") == 0 && it->rows > 0) {
+        append_text(&whole, text);
+        append_string(&it->answer, whole.at, whole.len);
+        it->texts++;
+    } else if (strcmp(word, "form") == 0)
         append_digits(&it->form, text);
     else if (strcmp(word, "no_backslash_escape") == 0)
         it->no_backslash_escape = true;
@@ -254,14 +282,18 @@ static void read_line(test_case *it, const char *word, char *text)
 /* Hands a case on and lets go of its memory. */
 static void end_case(test_case *it, void (*use)(const test_case *))
 {
+    end_row(it);
+    set_read(it);
     append_bytes(&it->query, "", 0);
     append_bytes(&it->form, "", 0);
+    append_bytes(&it->forms, "", 0);
     append_bytes(&it->answer, "", 0);
     if (it->number == MYSQL_PARAMS_DONE)
         it->report.len = it->answer.len;
     use(it);
     clear_bytes(&it->query);
     clear_bytes(&it->form);
+    clear_bytes(&it->forms);
     clear_bytes(&it->answer);
     clear_bytes(&it->name);
     clear_bytes(&it->message);

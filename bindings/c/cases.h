@@ -14,9 +14,13 @@ typedef struct bytes {
 typedef struct test_case {
     int line;                   /* the line of the file in which it begins */
     bytes query;                /* the query */
-    bytes form;                 /* the parameters, as a flat form */
+    bytes form;                 /* the parameters, as a flat form; those of the last row */
+    size_t rows;                /* how many rows there are */
+    bytes forms;                /* the forms of the rows, as length-encoded strings */
+    size_t texts;               /* how many rows have a text */
+    size_t read;                /* the bytes of these rows' forms */
     bool no_backslash_escape;   /* the mode */
-    bytes answer;               /* the text, or the answer of names as length-encoded strings */
+    bytes answer;               /* the text, or as length-encoded strings the answer of names or the texts of rows */
     int32_t number;             /* the number that is wanted: of a call's end, or of a construct */
     bool portable;              /* whether it says that the query is portable */
     mysql_params_report report; /* the report that is wanted */

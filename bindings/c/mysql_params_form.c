@@ -194,6 +194,70 @@ bool mysql_params_append_double(mysql_params_form *form, const char *name, doubl
     return append_parameter(form, name, TYPE_DOUBLE, 0, value, 8, NULL, 0);
 }
 
+bool mysql_params_append_row(mysql_params_form *forms, const mysql_params_form *row)
+{
+    uint8_t length[LENGTH_ROOM];
+    size_t length_len = fill_length(length, row->len);
+    size_t needed = sum(length_len, row->len);
+    bool fits = forms->needed == forms->len && needed <= forms->room_len - forms->len;
+    forms->needed = sum(forms->needed, needed);
+    if (!fits)
+        return false;
+    append(forms, length, length_len);
+    append(forms, row->room, row->len);
+    return true;
+}
+
+/* The least memory that texts ask for. */
+enum { LEAST_TEXTS = 4096 };
+
+/* Makes room for `more` bytes behind the texts, and at least for twice as many as before. All bytes have a value. */
+static bool grow(mysql_params_texts *texts, size_t more)
+{
+    size_t room_len = sum(texts->len, more);
+    if (room_len < LEAST_TEXTS)
+        room_len = LEAST_TEXTS;
+    if (texts->room_len <= PTRDIFF_MAX / 2 && room_len < 2 * texts->room_len)
+        room_len = 2 * texts->room_len;
+    if (room_len > PTRDIFF_MAX)
+        return false;
+    uint8_t *at = (uint8_t *)realloc(texts->at, room_len);
+    if (at == NULL)
+        return false;
+    memset(at + texts->room_len, 0, room_len - texts->room_len);
+    texts->at = at;
+    texts->room_len = room_len;
+    return true;
+}
+
+int32_t mysql_params_bind_all_rows(const uint8_t *query, size_t query_len, const uint8_t *forms, size_t forms_len,
+                                   bool no_backslash_escape, mysql_params_texts *texts, mysql_params_rows *rows,
+                                   mysql_params_report *report)
+{
+    const mysql_params_report nothing = {0, 0, 0, 0, 0, 0};
+    const mysql_params_rows none = {0, 0, 0};
+    uint8_t lent = 0; /* where the archive finds a room of no bytes, since it takes no null */
+    *rows = none;
+    for (;;) {
+        mysql_params_rows some = none;
+        uint8_t *room = texts->at == NULL ? &lent : texts->at + texts->len;
+        int32_t number = mysql_params_bind_rows(query, query_len, forms + rows->read, forms_len - rows->read,
+                                                no_backslash_escape, room, texts->room_len - texts->len, &some, report);
+        rows->count += some.count;
+        rows->read += some.read;
+        rows->written += some.written;
+        texts->len += some.written;
+        if (number == MYSQL_PARAMS_DONE)
+            report->len = rows->written;
+        if (number != MYSQL_PARAMS_ROOM)
+            return number;
+        if (!grow(texts, report->len)) {
+            *report = nothing;
+            return MYSQL_PARAMS_OUT_OF_MEMORY;
+        }
+    }
+}
+
 bool mysql_params_next_string(const uint8_t **answer, size_t *len, mysql_params_string *string)
 {
     if (*len == 0)

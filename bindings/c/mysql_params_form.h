@@ -1,6 +1,6 @@
 /* mysql_params_form.h: parameters written as the flat form that mysql_params_bind reads, a text in memory of `malloc`,
- * answers taken apart, refusals and constructs told in a line, and the processor asked. Plain C and C++: compile
- * mysql_params_form.c with your program. It is tested, not proved. */
+ * rows bound into memory that grows, answers taken apart, refusals and constructs told in a line, and the processor
+ * asked. Plain C and C++: compile mysql_params_form.c with your program. It is tested, not proved. */
 #ifndef MYSQL_PARAMS_FORM_H
 #define MYSQL_PARAMS_FORM_H
 
@@ -100,14 +100,37 @@ bool mysql_params_append_double(mysql_params_form *form, const char *name, doubl
 int32_t mysql_params_bind_form(const uint8_t *query, size_t query_len, const mysql_params_form *form,
                                bool no_backslash_escape, char **text, mysql_params_report *report);
 
-/* Bytes within an answer of mysql_params_names. */
+/* Appends a row to the forms of mysql_params_bind_rows: a form as a length-encoded string. `forms` is set up by
+ * mysql_params_form_in, and has nothing else appended. The row's own `needed` has to be its `len`. Returns as the functions
+ * above; the row doesn't overlap the room. */
+bool mysql_params_append_row(mysql_params_form *forms, const mysql_params_form *row);
+
+/* Texts in memory that grows, one after another, each as a length-encoded string. Begin with `= {0}`, and end with
+ * `free(texts.at)`; set `len` to 0 to use the memory again. */
+typedef struct mysql_params_texts {
+    uint8_t *at;     /* the memory, of `malloc`; null before the first row */
+    size_t len;      /* bytes of the texts */
+    size_t room_len; /* bytes of the memory */
+} mysql_params_texts;
+
+/* Calls mysql_params_bind_rows, with more memory as long as a text needs it, and appends the texts. It returns what that
+ * returns, with MYSQL_PARAMS_OUT_OF_MEMORY in place of MYSQL_PARAMS_ROOM; `rows` tells how far it has come, and the texts
+ * of these rows are kept. After MYSQL_PARAMS_OUT_OF_MEMORY it can go on from `forms + rows->read`. */
+int32_t mysql_params_bind_all_rows(const uint8_t *query, size_t query_len,
+                                   const uint8_t *forms, size_t forms_len,
+                                   bool no_backslash_escape,
+                                   mysql_params_texts *texts,
+                                   mysql_params_rows *rows,
+                                   mysql_params_report *report);
+
+/* Bytes within an answer of mysql_params_names or mysql_params_bind_rows. */
 typedef struct mysql_params_string {
     const uint8_t *bytes; /* the first byte */
     size_t len;           /* how many */
 } mysql_params_string;
 
-/* Takes the next length-encoded string off the front of an answer: the query with marks first, then each name. It moves
- * `*answer` and `*len` after it. Returns false, and changes nothing, if no whole string stands there. */
+/* Takes the next length-encoded string off the front of an answer: of mysql_params_names the query with marks first, then
+ * each name; of mysql_params_bind_rows each text. It moves `*answer` and `*len` after it. Returns false, and changes nothing, if no whole string stands there. */
 bool mysql_params_next_string(const uint8_t **answer, size_t *len, mysql_params_string *string);
 
 /* Writes what a number and its report say into `line`: one line of printable ASCII, ended by a zero byte, cut to

@@ -207,6 +207,73 @@ static void names_of_queries(void)
     each_case(folder, "names.txt", try_rooms);
 }
 
+/* Binds the rows of a case with a room of a length, and refuses memory after some allocations: the texts before the row at
+ * which it ends are kept, and the rest of the room is as before. Returns whether an allocation was refused. */
+static bool try_rows_in(const test_case *it, size_t room_len, long allocations)
+{
+    mysql_params_rows rows = {9, 9, 9};
+    mysql_params_report report = {9, 9, 9, 9, 9, 9}, wanted = it->report;
+    uint8_t *room = malloc(room_len > 0 ? room_len : 1), *query = exact_copy(it->query), *forms = exact_copy(it->forms);
+    if (room == NULL)
+        exit(2);
+    memset(room, UNTOUCHED, room_len > 0 ? room_len : 1);
+    long before = blocks;
+    allocation_refused = false;
+    allocations_left = allocations;
+    int32_t number = mysql_params_bind_rows(query, it->query.len, forms, it->forms.len, it->no_backslash_escape, room,
+                                            room_len, &rows, &report);
+    allocations_left = ALL;
+    expect(blocks == before, it, "memory isn't given back");
+    expect(rows.written <= room_len && rows.written <= it->answer.len && rows.read <= it->read && rows.count <= it->texts,
+           it, "more rows are bound than there are");
+    expect(memcmp(room, it->answer.at, rows.written) == 0, it, "other texts are wanted");
+    expect(is_untouched(room, rows.written, room_len), it, "the room is written after the texts");
+    if (number == MYSQL_PARAMS_OUT_OF_MEMORY) {
+        mysql_params_report none = {0};
+        expect(allocation_refused && same_report(&report, &none), it, "out of memory where none was refused");
+    } else if (number == MYSQL_PARAMS_ROOM) {
+        expect(rows.written + report.len > room_len && room_len < it->answer.len, it, "the room isn't too short");
+    } else {
+        expect(rows.count == it->texts && rows.read == it->read && rows.written == it->answer.len, it,
+               "other rows are wanted");
+        expect(number == it->number && same_report(&report, &wanted), it, "another number or report is wanted");
+    }
+    if (number != MYSQL_PARAMS_OUT_OF_MEMORY)
+        expect(!allocation_refused, it, "a refused allocation is hidden");
+    free(room);
+    free(query);
+    free(forms);
+    return allocation_refused;
+}
+
+/* The same in rooms of all lengths up to one that is long enough, without memory, and in memory that grows. */
+static void try_rows(const test_case *it)
+{
+    for (size_t room_len = 0; room_len <= it->answer.len + 3; room_len++)
+        try_rows_in(it, room_len, ALL);
+    for (long allocations = 0; try_rows_in(it, it->answer.len, allocations); allocations++)
+        continue;
+    mysql_params_texts texts = {0};
+    mysql_params_rows rows = {9, 9, 9};
+    mysql_params_report report = {9, 9, 9, 9, 9, 9};
+    for (int round = 1; round <= 2; round++) {
+        int32_t number = mysql_params_bind_all_rows(it->query.at, it->query.len, it->forms.at, it->forms.len,
+                                                    it->no_backslash_escape, &texts, &rows, &report);
+        expect(number == it->number && same_report(&report, &it->report), it, "another end of all rows is wanted");
+        expect(rows.count == it->texts && rows.read == it->read && rows.written == it->answer.len, it,
+               "another number of all rows is wanted");
+        expect(texts.len == (size_t)round * it->answer.len && texts.len <= texts.room_len, it, "other texts are appended");
+        expect(it->answer.len == 0 || memcmp(texts.at + texts.len - it->answer.len, it->answer.at, it->answer.len) == 0, it,
+               "another text of all rows is wanted");
+    }
+    free(texts.at);
+}
+
+static void rows_of_queries(void)
+{
+    each_case(folder, "rows.txt", try_rows);
+}
+
 /* The call of the archive by which cases of constructs are tried. */
 static int32_t (*first_of_case)(const uint8_t *, size_t, bool, mysql_params_report *);
 
@@ -252,6 +319,54 @@ static void append_run(bytes *to, char byte, size_t len)
     memset(run, byte, len);
     append_bytes(to, run, len);
     free(run);
+}
+
+/* Rows of which each text is longer than the memory that texts begin with. */
+static void rows_in_growing_memory(void)
+{
+    enum { ROWS = 40, LENGTH = 9000 };
+    test_case it = {0};
+    bytes text = {NULL, 0}, string = {NULL, 0};
+    append_run(&string, 'x', LENGTH);
+    append_bytes(&text, "'", 1);
+    append_bytes(&text, string.at, LENGTH);
+    append_bytes(&text, "'", 1);
+    mysql_params_form row = mysql_params_form_in(malloc(LENGTH + 16), LENGTH + 16);
+    expect(mysql_params_append_bytes(&row, NULL, string.at, LENGTH), &it, "the row doesn't fit");
+    mysql_params_form forms = mysql_params_form_in(NULL, 0);
+    for (int i = 0; i < ROWS; i++)
+        expect(!mysql_params_append_row(&forms, &row), &it, "a row without room is appended");
+    size_t needed = forms.needed;
+    forms = mysql_params_form_in(malloc(needed), needed);
+    for (int i = 0; i < ROWS; i++)
+        expect(mysql_params_append_row(&forms, &row), &it, "the row isn't appended");
+    expect(forms.len == needed && forms.needed == needed, &it, "another need is wanted");
+    expect(!mysql_params_append_row(&forms, &row) && forms.len == needed, &it, "a row is appended behind the room");
+    for (long allocations = 0; allocations < 2; allocations++) {
+        mysql_params_texts texts = {0};
+        mysql_params_rows rows = {0};
+        mysql_params_report report = {0};
+        allocations_left = allocations == 0 ? ALL : 30;
+        int32_t number = mysql_params_bind_all_rows((const uint8_t *)"?", 1, forms.room, forms.len, false, &texts, &rows, &report);
+        allocations_left = ALL;
+        expect(number == (allocations == 0 ? MYSQL_PARAMS_DONE : MYSQL_PARAMS_OUT_OF_MEMORY), &it, "another end is wanted");
+        if (number != MYSQL_PARAMS_DONE) /* it goes on where it ended */
+            number = mysql_params_bind_all_rows((const uint8_t *)"?", 1, forms.room + rows.read, forms.len - rows.read, false,
+                                                &texts, &rows, &report);
+        expect(number == MYSQL_PARAMS_DONE, &it, "the rows aren't bound");
+        const uint8_t *rest = texts.at;
+        size_t left = texts.len;
+        mysql_params_string one = {NULL, 0};
+        for (int i = 0; i < ROWS; i++)
+            expect(mysql_params_next_string(&rest, &left, &one) && one.len == text.len && memcmp(one.bytes, text.at, one.len) == 0,
+                   &it, "another text is wanted");
+        expect(left == 0, &it, "there are more texts");
+        free(texts.at);
+    }
+    free(row.room);
+    free(forms.room);
+    clear_bytes(&text);
+    clear_bytes(&string);
 }
 
 /* A query that is `len` bytes long once it is renamed: `'xx..' :a`. */
@@ -641,6 +756,8 @@ int main(int count, char **words)
     all &= passed("table_of_steady_binding", table_of_steady_binding);
     all &= passed("flat_forms", flat_forms);
     all &= passed("names_of_queries", names_of_queries);
+    all &= passed("rows_of_queries", rows_of_queries);
+    all &= passed("rows_in_growing_memory", rows_in_growing_memory);
     all &= passed("portable_queries", portable_queries);
     all &= passed("names_of_long_queries", names_of_long_queries);
     all &= passed("each_value_of_one_byte", each_value_of_one_byte);

@@ -83,12 +83,18 @@ class Case:
         self.lines, self.query, self.params, self.form = lines, b"", [], b""
         self.text, self.renamed, self.names, self.refusal, self.message = None, None, [], None, None
         self.no_backslash_escape, self.portable, self.construct = False, False, None
+        self.rows, self.texts = [], []
         for line in lines:
             word, _, rest = line.partition(" ")
             self.read(word, rest)
 
     def read(self, word, rest):
-        if word in ("query", "text", "renamed"):
+        if word == "row":
+            self.params = []
+            self.rows.append(self.params)
+        elif word == "text" and self.rows:
+            self.texts.append(text_of(rest))
+        elif word in ("query", "text", "renamed"):
             setattr(self, word, text_of(rest))
         elif word == "param":
             name, _, value = rest.partition("=")
@@ -116,10 +122,15 @@ class Case:
 
     def given(self):
         """Return the parameters as a list or a dict; a name that stands twice is given as str and as bytes."""
-        if not self.params or not self.params[0][0]:
-            return [value for _, value in self.params] or None
+        return self.given_of(self.params)
+
+    @staticmethod
+    def given_of(params):
+        """Return these parameters so."""
+        if not params or not params[0][0]:
+            return [value for _, value in params] or None
         given = {}
-        for name, value in self.params:
+        for name, value in params:
             given[name.encode() if name in given else name] = value
         return given
 

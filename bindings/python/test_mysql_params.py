@@ -15,8 +15,8 @@ import unittest
 from unittest import mock
 
 import mysql_params
-from mysql_params import Construct, _archive, bind, bind_anywhere, bind_form, bind_form_anywhere, first_unportable
-from mysql_params import first_unportable_in_client, names
+from mysql_params import Construct, _archive, _form, bind, bind_anywhere, bind_form, bind_form_anywhere, bind_rows
+from mysql_params import first_unportable, first_unportable_in_client, names
 from shared_cases import CASES, CONSTRUCTS, FIELDS, NUMBERS, cases, text_of
 
 UNTOUCHED = 0xA5
@@ -40,7 +40,8 @@ def literal(byte):
 
 def library_of(suffices: bool, *more: str) -> mock.Mock:
     """Return a library with the functions of the archive and more, on a processor that suffices or doesn't."""
-    names = ("names", "bind", "bind_anywhere", "first_unportable", "first_unportable_in_client", "processor_suffices")
+    names = ("names", "bind", "bind_anywhere", "bind_rows", "first_unportable", "first_unportable_in_client")
+    names += ("processor_suffices",)
     library = mock.Mock(spec=[*(f"mysql_params_{name}" for name in names), *more])
     library.mysql_params_processor_suffices.return_value = suffices
     return library
@@ -87,6 +88,81 @@ class Test(unittest.TestCase):
     def test_flat_forms(self):
         for case in cases("forms.txt"):
             self.expect(case, lambda: bind_form(case.query, case.form, case.no_backslash_escape))
+
+    def expect_rows(self, case, rows, *mode):
+        """The rows have the texts that the case wants, each as by itself; or are refused after them."""
+        with self.subTest(case=case.lines):
+            if case.refusal is None:
+                texts = bind_rows(case.query, iter(rows), *mode)
+                self.assertEqual(texts, case.texts)
+                self.assertEqual(texts, [bind(case.query, row, *mode) for row in rows])
+                return
+            with self.assertRaises(mysql_params.Error) as raised:
+                bind_rows(case.query, iter(rows), *mode)
+            error, row = raised.exception, len(case.texts)
+            self.assertEqual((error.row, error.texts), (row, case.texts))
+            self.assertTrue(str(error).startswith(f"row {row}: "))
+            error.row = None
+
+            def again():
+                raise error
+
+            self.expect(case, again)
+
+    def test_rows_of_queries(self):
+        for case in cases("rows.txt"):
+            rows = [case.given_of(params) for params in case.rows]
+            self.expect_rows(case, rows, case.no_backslash_escape)
+            if not case.no_backslash_escape:
+                self.expect_rows(case, rows)
+
+    def test_many_rows(self):
+        for length, count in ((1, 100_000), (251, 2000), (70_000, 20)):
+            wanted = [b"SELECT '%s'" % (b"%0*d" % (length, row)) for row in range(count)]
+            texts = bind_rows("SELECT ?", ([f"{row:0{length}}"] for row in range(count)))
+            self.assertTrue(texts == wanted, f"texts of {length} bytes")
+        # A query that is longer than a batch.
+        query = "SELECT ? /*" + "x" * 300_000 + "*/"
+        self.assertTrue(bind_rows(query, [(1,), (2,)]) == [bind(query, [1]), bind(query, [2])])
+        self.assertEqual(bind_rows(":a ?", []), [])
+
+    def test_forms_of_rows(self):
+        class Number(int):
+            pass
+
+        strings = ["", "it's", "\u20ac", "x" * 250, "x" * 251, "\u20ac" * 84, "x" * 65536]
+        values = [None, True, False, 0, -1, (1 << 63) - 1, -(1 << 63), 1 << 63, (1 << 64) - 1, 0.5, Number(7)]
+        values += strings + [string.encode() for string in strings] + [bytearray(b"x"), datetime.date(2019, 11, 27)]
+        for value in values:
+            for row in ([value], (value, None), [1, value, "x"]):
+                form = _form.form_of(row)
+                self.assertEqual(_archive.next_string(_form.row_form(row), 0), (form, len(_form.row_form(row))))
+        self.assertEqual(_form.row_form({"a": None}), b"\4\1a\6\0")
+        self.assertEqual(_form.row_form(None), b"\0")
+
+    def test_rows_of_use(self):
+        for error, row in (
+            (OverflowError, [1 << 64]),
+            (TypeError, [object()]),
+            (TypeError, "x"),
+            (TypeError, 5),
+            (ValueError, {"": 1}),
+            (UnicodeEncodeError, ["\ud800"]),
+        ):
+            with self.subTest(row=row), self.assertRaises(error) as raised:
+                bind_rows("?", [["x"], row, ["y"]])
+            self.assertEqual((raised.exception.row, raised.exception.texts), (1, [b"'x'"]))
+            # An earlier row is refused first.
+            with self.subTest(row=row), self.assertRaises(mysql_params.MarkCountError) as raised:
+                bind_rows("?", [["x"], [], row])
+            self.assertEqual(raised.exception.row, 1)
+        with self.assertRaises(TypeError):
+            bind_rows("?", 5)
+        with self.assertRaises(TypeError):
+            bind_rows("?", [], "ANSI_QUOTES")
+        with self.assertRaises(mysql_params.FloatError) as raised:
+            bind_rows(":a", [{"a": 1}, {"a": 0.5}])
+        self.assertEqual((raised.exception.name, raised.exception.row), ("a", 1))
 
     def test_names_of_queries(self):
         for case in cases("names.txt"):

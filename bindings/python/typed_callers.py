@@ -10,7 +10,7 @@ from collections import OrderedDict
 from typing import Any, Optional, Union
 
 import mysql_params
-from mysql_params import Params, Value, bind, bind_anywhere, bind_form, first_unportable, names
+from mysql_params import Params, Value, bind, bind_anywhere, bind_form, bind_rows, first_unportable, names
 
 QUERY = "SELECT * FROM t WHERE id = :id AND name = :name"
 
@@ -35,6 +35,14 @@ def by_name(ident: int, name: str, born: Optional[datetime.date], anything: Any)
     bind(QUERY, OrderedDict(id=ident))
     bind(QUERY, anything)
     return bind(QUERY, dict(id=ident), no_backslash_escape=True)
+
+
+def rows(idents: list[int], name: str) -> list[bytes]:
+    """Give rows of all kinds."""
+    bind_rows("?, ?", [(ident, name) for ident in idents])
+    bind_rows("?, ?", ((ident, name) for ident in idents))
+    bind_rows(QUERY, [{"id": ident, "name": name} for ident in idents])
+    return bind_rows("SELECT 1", [None, None], no_backslash_escape=True)
 
 
 def by_position(ident: int, name: str, given: Params) -> bytes:

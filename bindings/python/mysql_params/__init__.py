@@ -22,7 +22,7 @@ from __future__ import annotations
 import datetime
 import enum
 import uuid
-from collections.abc import Iterator, Mapping, Sequence, ValuesView
+from collections.abc import Iterable, Iterator, Mapping, Sequence, ValuesView
 from typing import NamedTuple, Optional, Union
 
 from . import _archive, _form
@@ -89,6 +89,7 @@ __all__ = [
     "bind_anywhere",
     "bind_form",
     "bind_form_anywhere",
+    "bind_rows",
     "decimal_text",
     "exec_driver_sql",
     "execute",
@@ -252,3 +253,17 @@ def bind_form_anywhere(query: Union[str, bytes], form: bytes) -> bytes:
 def _guess(query: bytes, form: bytes) -> int:
     """Return the room of a first call that binds: a literal of bytes has at most twice their number, and quotes."""
     return len(query) + 2 * len(form) + 64
+
+
+def bind_rows(query: Union[str, bytes], rows: Iterable[Params], no_backslash_escape: bool = False) -> list[bytes]:
+    """Return the text of each row: what bind returns for the query and the row's parameters.
+
+    The query is parsed once for many rows, which are taken in batches. Ask first_unportable of it before.
+
+    >>> bind_rows("INSERT INTO t VALUES (?, ?)", [(1, "it's"), (2, None)])
+    [b"INSERT INTO t VALUES (1, 'it\\\\'s')", b'INSERT INTO t VALUES (2, NULL)']
+
+    For the first row that is refused raise what bind raises for it, with two attributes more: `row`, the number of the
+    row from 0, and `texts`, the texts of the rows before it. An Error's message begins with the row.
+    """
+    return _archive.bind_rows(_form.bytes_of(query), rows, no_backslash_escape)

@@ -6,9 +6,11 @@ import ctypes
 import enum
 import os
 import pathlib
+from collections.abc import Iterable
 from typing import Optional, Union
 
-from .errors import _ERRORS, FloatError, OutOfMemoryError, RepeatedNameError
+from . import _form
+from .errors import _ERRORS, Error, FloatError, OutOfMemoryError, RepeatedNameError
 from .portable import Construct, Unportable
 
 DONE, ROOM, PORTABLE = 0, 2, 0
@@ -36,6 +38,16 @@ class Report(ctypes.Structure):
     byte: int
 
 
+class Rows(ctypes.Structure):
+    """How far binding of rows has come: mysql_params_rows of mysql_params.h."""
+
+    _fields_ = [(name, ctypes.c_size_t) for name in ("count", "read", "written")]
+
+    count: int
+    read: int
+    written: int
+
+
 def load() -> ctypes.CDLL:
     """Load the library, with the types of its functions. Raise ImportError if it can't be used."""
     beside = pathlib.Path(__file__).resolve().parent / "libmysql_params_c.so"
@@ -53,6 +65,9 @@ def load() -> ctypes.CDLL:
         library.mysql_params_bind.restype = ctypes.c_int32
         library.mysql_params_bind_anywhere.argtypes = (*string, *string, *answer)
         library.mysql_params_bind_anywhere.restype = ctypes.c_int32
+        rows = (ctypes.c_void_p, ctypes.c_size_t, ctypes.POINTER(Rows), ctypes.POINTER(Report))
+        library.mysql_params_bind_rows.argtypes = (*string, *string, ctypes.c_bool, *rows)
+        library.mysql_params_bind_rows.restype = ctypes.c_int32
         library.mysql_params_first_unportable.argtypes = (*string, ctypes.c_bool, ctypes.POINTER(Report))
         library.mysql_params_first_unportable.restype = ctypes.c_int32
         library.mysql_params_first_unportable_in_client.argtypes = library.mysql_params_first_unportable.argtypes
@@ -128,11 +143,7 @@ def whole_answer(query: bytes, form: Optional[bytes], mode: Union[bool, Anywhere
         guess, room = report.len, new_room(report.len)
         number, report = call(query, form, mode, room, guess)
     if number != DONE:
-        found = error(number, report, query, form or b"")
-        if isinstance(found, FloatError):
-            names = names_of(query, mode is True)[1]
-            found.name = names[found.place] if names else None
-        raise found
+        raise refusal(number, report, query, form or b"", mode)
     if report.len > guess:
         raise RuntimeError(f"the archive says that it wrote {report.len} bytes, and had room for {guess}")
     return bytes(memoryview(room)[: report.len])
@@ -170,6 +181,88 @@ def error(number: int, report: Report, query: bytes, form: bytes) -> Exception:
     return made
 
 
+def refusal(number: int, report: Report, query: bytes, form: bytes, mode: Union[bool, Anywhere]) -> Exception:
+    """Return what to raise for a number other than done, with the name of a float's place."""
+    found = error(number, report, query, form)
+    if isinstance(found, FloatError):
+        names = names_of(query, mode is True)[1]
+        found.name = names[found.place] if names else None
+    return found
+
+
+# Once the forms of rows, or their texts by a guess, have so many bytes, the rows are bound.
+_BATCH = 1 << 18
+
+
+class _Binder:
+    """Rows that are bound to a query, batch after batch."""
+
+    def __init__(self, query: bytes, mode: bool) -> None:
+        self.query, self.mode = query, flag(mode)
+        self.texts: list[bytes] = []
+        self.room = bytearray()
+
+    def bind(self, forms: bytes, guess: int) -> None:
+        """Append the texts of rows whose forms stand one after another, each as a length-encoded string.
+
+        Raise what the first row that is refused is refused for; the texts of the rows before it are appended.
+        """
+        while True:
+            if len(self.room) <= guess:
+                self.room = new_room(guess)
+            rows, report = Rows(), Report()
+            first, room_len = ctypes.c_char.from_buffer(self.room), len(self.room) - 1
+            answer = (ctypes.addressof(first), room_len, ctypes.byref(rows), ctypes.byref(report))
+            number = LIBRARY.mysql_params_bind_rows(
+                self.query, len(self.query), forms, len(forms), self.mode, *answer
+            )
+            del first
+            if rows.written > room_len or rows.read > len(forms):
+                raise RuntimeError(f"the archive says that it wrote {rows.written} bytes, and had room for {room_len}")
+            append_strings(self.texts, bytes(memoryview(self.room)[: rows.written]))
+            if number == DONE:
+                return
+            forms = forms[rows.read :]
+            if number != ROOM:
+                raise refusal(number, report, self.query, next_string(forms, 0)[0], self.mode)
+            guess = max(2 * room_len, report.len)
+
+    def bind_batch(self, forms: list[bytes], size: int) -> None:
+        """Do so of rows whose forms have this size. A literal of bytes has at most twice their number, and quotes."""
+        self.bind(b"".join(forms), 2 * size + len(forms) * (len(self.query) + 9))
+
+    def bind_all(self, rows: Iterable[object]) -> None:
+        """Append the texts of all rows, batch after batch, or raise for the first that is refused."""
+        forms: list[bytes] = []
+        size, most = 0, 1 + _BATCH // (len(self.query) + 1)
+        row_form = _form.row_form
+        for params in rows:
+            try:
+                form = row_form(params)
+            except (TypeError, ValueError, OverflowError) as fault:
+                self.bind_batch(forms, size)  # It may refuse an earlier row.
+                setattr(fault, "row", len(self.texts))
+                setattr(fault, "texts", self.texts)
+                raise
+            forms.append(form)
+            size += len(form)
+            if size >= _BATCH or len(forms) >= most:
+                self.bind_batch(forms, size)
+                forms, size = [], 0
+        self.bind_batch(forms, size)
+
+
+def bind_rows(query: bytes, rows: Iterable[object], mode: bool) -> list[bytes]:
+    """Return the text of each row. What a row is refused for tells its number and the texts of the rows before it."""
+    binder = _Binder(query, mode)
+    try:
+        binder.bind_all(rows)
+    except Error as fault:
+        fault.row, fault.texts = len(binder.texts), binder.texts
+        raise
+    return binder.texts
+
+
 def first_unportable(query: bytes, mode: bool) -> tuple[int, Report]:
     """Return the number and the report of the first construct of a query. The mode is as for call."""
     report = Report()
@@ -198,6 +291,22 @@ def next_string(answer: bytes, begin: int) -> tuple[bytes, int]:
     if lead in (0xFB, 0xFF) or end > len(answer):
         raise RuntimeError("the answer of the archive is no row of strings")
     return answer[first:end], end
+
+
+def append_strings(to: list[bytes], answer: bytes) -> None:
+    """Append the length-encoded strings of which an answer is a row."""
+    at, end = 0, len(answer)
+    while at < end:
+        length = answer[at]
+        if length > 250:
+            string, at = next_string(answer, at)
+            to.append(string)
+            continue
+        begin = at + 1
+        at = begin + length
+        if at > end:
+            raise RuntimeError("the answer of the archive is no row of strings")
+        to.append(answer[begin:at])
 
 
 def names_of(query: bytes, mode: bool) -> tuple[bytes, list[str]]:

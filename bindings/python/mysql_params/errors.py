@@ -25,6 +25,10 @@ class Error(Exception):
     number: int = -1
     _fields: tuple[str, ...] = ()
     _text: str = ""
+    row: Optional[int] = None
+    """Of bind_rows: the number of the row that is refused, from 0. Else None."""
+    texts: Optional[list[bytes]] = None
+    """Of bind_rows: the texts of the rows before it. Else None."""
 
     def __init__(self, *values: Union[int, bytes]) -> None:
         """Take the values of the fields, in order."""
@@ -37,7 +41,8 @@ class Error(Exception):
     def __str__(self) -> str:
         fields = {field: getattr(self, field) for field in self._fields}
         shown = {field: _show(value) if isinstance(value, bytes) else value for field, value in fields.items()}
-        return self._text.format(**shown) + self._more()
+        row = "" if self.row is None else f"row {self.row}: "
+        return row + self._text.format(**shown) + self._more()
 
     def _more(self) -> str:
         """Return what the message says after what the archive's documentation says."""

@@ -14,6 +14,15 @@ pub(crate) struct Report {
     pub(crate) byte: usize,
 }
 
+/// How far binding of rows has come: `mysql_params_rows` of mysql_params.h.
+#[repr(C)]
+#[derive(Clone, Copy, Debug, Default, PartialEq, Eq)]
+struct Rows {
+    count: usize,
+    read: usize,
+    written: usize,
+}
+
 // SAFETY: types and order of the parameters are those of mysql_params.h.
 unsafe extern "C" {
     fn mysql_params_names(
@@ -45,6 +54,17 @@ unsafe extern "C" {
         room_len: usize,
         report: *mut Report,
     ) -> i32;
+    fn mysql_params_bind_rows(
+        query: *const u8,
+        query_len: usize,
+        forms: *const u8,
+        forms_len: usize,
+        no_backslash_escape: bool,
+        room: *mut u8,
+        room_len: usize,
+        rows: *mut Rows,
+        report: *mut Report,
+    ) -> i32;
 
     fn mysql_params_first_unportable(
         query: *const u8,
@@ -65,6 +85,9 @@ unsafe extern "C" {
 pub(crate) const DONE: i32 = 0;
 /// The room is too short for the answer.
 pub(crate) const ROOM: i32 = 2;
+
+/// The least room for texts.
+const LEAST_TEXTS: usize = 4096;
 
 /// Whether the processor has what the archive is compiled for. Those of x86-64-v2 that aren't asked for came earlier.
 pub(crate) fn processor_suffices() -> bool {
@@ -260,6 +283,94 @@ pub(crate) fn written(mut room: Vec<u8>, report: &Report) -> Result<Vec<u8>, Err
     }
     room.truncate(report.len);
     Ok(room)
+}
+
+/// Texts, each as a length-encoded string, in a room that is longer.
+#[derive(Debug, Default)]
+pub(crate) struct TextRoom {
+    room: Vec<u8>,
+    len: usize,
+    count: usize,
+}
+
+impl TextRoom {
+    /// The texts, and how many there are.
+    pub(crate) fn into_texts(mut self) -> (Vec<u8>, usize) {
+        self.room.truncate(self.len);
+        (self.room, self.count)
+    }
+
+    /// The number of texts.
+    pub(crate) fn count(&self) -> usize {
+        self.count
+    }
+
+    /// Binds rows, whose forms stand one after another as length-encoded strings, to a query in a mode, and appends their
+    /// texts: of all rows, or of those before the first that is refused.
+    pub(crate) fn append_rows(
+        &mut self,
+        query: &[u8],
+        forms: &[u8],
+        no_backslash_escape: bool,
+    ) -> Result<(), Error> {
+        let mut forms = forms;
+        loop {
+            let (number, rows, report) = self.rows_of(query, forms, no_backslash_escape);
+            let unknown = Error::UnknownAnswer { number };
+            if rows.written > self.room.len() - self.len {
+                return Err(unknown);
+            }
+            self.len += rows.written;
+            self.count = self.count.saturating_add(rows.count);
+            forms = forms.get(rows.read..).ok_or(unknown)?;
+            match number {
+                DONE => return Ok(()),
+                ROOM => self.grow(report.len)?,
+                number => {
+                    let form = crate::form::next_string(forms).map_or(&[][..], |(form, _)| form);
+                    return Err(Call::Bind { query, form }.error(number, &report));
+                }
+            }
+        }
+    }
+
+    /// The number, the rows and the report of one call, whose texts are written behind those that stand.
+    fn rows_of(
+        &mut self,
+        query: &[u8],
+        forms: &[u8],
+        no_backslash_escape: bool,
+    ) -> (i32, Rows, Report) {
+        let (mut rows, mut report) = (Rows::default(), Report::default());
+        let room = &mut self.room[self.len..];
+        // SAFETY: each pointer is that of a slice with its length, and so not null, and all bytes have a value. The room,
+        // the rows and the report are borrowed for writing alone, and so overlap nothing. The call keeps no pointer.
+        let number = unsafe {
+            mysql_params_bind_rows(
+                query.as_ptr(),
+                query.len(),
+                forms.as_ptr(),
+                forms.len(),
+                no_backslash_escape,
+                room.as_mut_ptr(),
+                room.len(),
+                &mut rows,
+                &mut report,
+            )
+        };
+        (number, rows, report)
+    }
+
+    /// Makes room for so many more bytes, and at least for twice as many as before.
+    fn grow(&mut self, more: usize) -> Result<(), Error> {
+        let len = self.len.checked_add(more).ok_or(Error::OutOfMemory)?;
+        let len = len.max(self.room.len().saturating_mul(2)).max(LEAST_TEXTS);
+        self.room
+            .try_reserve_exact(len - self.room.len())
+            .map_err(|_| Error::OutOfMemory)?;
+        self.room.resize(len, 0);
+        Ok(())
+    }
 }
 
 /// The number and the report of the first construct of a query, in a mode.

@@ -22,7 +22,7 @@ fn append(to: &mut Vec<u8>, bytes: &[u8]) -> Result<(), Error> {
 }
 
 /// Appends a length-encoded string.
-fn append_string(to: &mut Vec<u8>, string: &[u8]) -> Result<(), Error> {
+pub(crate) fn append_string(to: &mut Vec<u8>, string: &[u8]) -> Result<(), Error> {
     let bytes = (string.len() as u64).to_le_bytes();
     match string.len() {
         0..=250 => append(to, &bytes[..1])?,

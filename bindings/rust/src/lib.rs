@@ -30,6 +30,7 @@ mod error;
 mod form;
 mod macros;
 mod portable;
+mod rows;
 #[cfg(test)]
 mod tests;
 mod value;
@@ -38,6 +39,7 @@ mod words;
 pub use duration::DurationTooLong;
 pub use error::Error;
 pub use portable::{Construct, Unportable};
+pub use rows::{RowError, Texts, TextsIter, bind_rows, bind_rows_in};
 pub use value::{Date, Params, Time, Value};
 
 use archive::{Call, copy_of};
@@ -45,7 +47,7 @@ use archive::{Call, copy_of};
 const _: () = {
     const fn is_send_and_sync<T: Send + Sync>() {}
     is_send_and_sync::<(Construct, Date, Error, Names, Params<'_>)>();
-    is_send_and_sync::<(Time, Unportable, Value<'_>)>();
+    is_send_and_sync::<(RowError, Texts, TextsIter<'_>, Time, Unportable, Value<'_>)>();
 };
 
 /// The names of a query.

@@ -1,7 +1,7 @@
 //! The cases of bindings/cases, which say what they are in README.md there, and every value of one byte.
 use mysql_params::{
-    Construct, Date, Error, Names, Params, Time, Unportable, Value, bind, bind_anywhere, bind_form,
-    bind_form_anywhere, bind_form_in, bind_in, bind_str, bind_str_in, first_unportable,
+    Construct, Date, Error, Names, Params, RowError, Texts, Time, Unportable, Value, bind, bind_anywhere, bind_form,
+    bind_form_anywhere, bind_form_in, bind_in, bind_rows, bind_rows_in, bind_str, bind_str_in, first_unportable,
     first_unportable_in, first_unportable_in_client, first_unportable_in_client_in, names,
     names_in,
 };
@@ -32,6 +32,8 @@ struct Case {
     form: Vec<u8>,
     no_backslash_escape: bool,
     text: Option<Vec<u8>>,
+    rows: Vec<Vec<(String, Owned)>>,
+    texts: Vec<Vec<u8>>,
     renamed: Vec<u8>,
     names: Vec<String>,
     refusal: Option<(String, HashMap<String, String>)>,
@@ -124,11 +126,14 @@ fn read_line(case: &mut Case, line: &str) {
         "query" => case.query = bytes(text),
         "param" => {
             let (name, plain) = text.split_once('=').expect("NAME=VALUE");
-            case.params.push((name.to_string(), value(plain)));
+            let params = case.rows.last_mut().unwrap_or(&mut case.params);
+            params.push((name.to_string(), value(plain)));
         }
+        "row" => case.rows.push(Vec::new()),
         "form" => case.form.extend(digits(text)),
         "no_backslash_escape" => case.no_backslash_escape = true,
-        "text" => case.text = Some(bytes(text)),
+        "text" if case.rows.is_empty() => case.text = Some(bytes(text)),
+        "text" => case.texts.push(bytes(text)),
         "renamed" => case.renamed = bytes(text),
         "name" => case.names.push(text.to_string()),
         "refused" => case.refusal = Some(named(text)),
@@ -287,6 +292,98 @@ fn table_of_binding() {
             expect(&case, result);
         }
     }
+}
+
+/// Values by position, or by name: what is in a row.
+type Row<'a> = (Vec<Value<'a>>, Vec<(&'a str, Value<'a>)>);
+
+fn params_of<'a>((values, pairs): &'a Row<'a>) -> Params<'a> {
+    match pairs.first() {
+        None => Params::Empty,
+        Some(("", _)) => Params::Positional(values),
+        Some(_) => Params::Named(pairs),
+    }
+}
+
+/// The texts of the rows are those of the case, or it is refused after them, for the row that each is bound for by itself.
+fn expect_rows(case: &Case, rows: &[Row<'_>], result: Result<Texts, RowError>) {
+    let texts = match result {
+        Ok(texts) => {
+            assert!(case.refusal.is_none(), "{}", case.at);
+            assert_eq!(texts.len(), rows.len(), "{}", case.at);
+            texts
+        }
+        Err(refused) => {
+            assert_eq!(refused.row, case.texts.len(), "{}", case.at);
+            assert_eq!(
+                refused.to_string(),
+                format!("row {}: {}", refused.row, refused.error)
+            );
+            expect(case, Err(refused.error));
+            refused.texts
+        }
+    };
+    assert_eq!(texts.len(), case.texts.len(), "{}", case.at);
+    assert_eq!(texts.is_empty(), case.texts.is_empty(), "{}", case.at);
+    assert!(texts.iter().eq(&case.texts), "{}", case.at);
+    for (text, row) in texts.iter().zip(rows) {
+        let alone = bind_in(&case.query, &params_of(row), case.no_backslash_escape);
+        assert_eq!(alone.as_deref(), Ok(text), "{}", case.at);
+    }
+}
+
+#[test]
+fn rows_of_queries() {
+    for case in cases("rows.txt") {
+        let rows = case.rows.iter().map(|row| {
+            let values: Vec<Value<'_>> = row.iter().map(|(_, value)| value.value()).collect();
+            let names = row.iter().map(|(name, _)| name.as_str());
+            let pairs = names.zip(values.iter().copied()).collect();
+            (values, pairs)
+        });
+        let rows: Vec<Row<'_>> = rows.collect();
+        let params = || rows.iter().map(params_of);
+        let mode = case.no_backslash_escape;
+        expect_rows(&case, &rows, bind_rows_in(&case.query, params(), mode));
+        if !mode {
+            expect_rows(&case, &rows, bind_rows(&case.query, params()));
+        }
+    }
+}
+
+/// More rows than stand in one batch, with texts whose lengths take one, three and four bytes.
+#[test]
+fn many_rows() {
+    for (len, count) in [(1, 40_000), (251, 2000), (70_000, 20)] {
+        let strings: Vec<String> = (0..count)
+            .map(|row| format!("{row}{}", "x".repeat(len)))
+            .collect();
+        let values: Vec<[Value<'_>; 1]> = strings.iter().map(|text| [text.into()]).collect();
+        let rows = values.iter().map(|row| Params::Positional(row));
+        let texts = bind_rows(b"SELECT ?", rows);
+        let texts = texts.expect("no row is refused");
+        let wanted = strings.iter().map(|text| format!("SELECT '{text}'"));
+        assert!(texts.iter().eq(wanted.map(String::into_bytes)), "{len}");
+        assert_eq!(texts.iter().len(), count);
+    }
+}
+
+#[test]
+fn rows_that_end_early() {
+    let empty = [("", Value::Null)];
+    let values = [Value::Null];
+    let rows = [
+        Params::Positional(&values),
+        Params::Named(&empty),
+        Params::Empty,
+    ];
+    let refused = bind_rows(b"?", rows).expect_err("an empty name");
+    assert_eq!(
+        (refused.row, refused.error),
+        (1, Error::EmptyName { parameter: 0 })
+    );
+    assert!((&refused.texts).into_iter().eq([b"NULL"]));
+    assert_eq!(bind_rows(b":a ?", []), Ok(Texts::default()));
 }
 
 #[test]

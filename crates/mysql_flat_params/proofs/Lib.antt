@@ -9,3 +9,4 @@ pub mod MarkedLemmas
 pub mod NamesSurveyLemmas
 pub mod NamesRoomLemmas
 pub mod OutcomeLemmas
+pub mod RowsLemmas

@@ -8,4 +8,6 @@ pub mod NamesAnswer
 pub mod NamesSurvey
 pub mod IntoRoom
 pub mod AnywhereIntoRoom
+pub mod BoundRows
+pub mod RowInRoom
 pub mod UnportableReport

@@ -162,7 +162,7 @@ fn bind_params_anywhere(
 }
 
 // The same parameters, borrowed.
-fn borrowed_params(params: &FormParams<BTreeMap<Vec<u8>, Value>>) -> BorrowedParams<'_>
+pub(crate) fn borrowed_params(params: &FormParams<BTreeMap<Vec<u8>, Value>>) -> BorrowedParams<'_>
     ensures { given_by_borrowed result ≡ given_by_sorted params.now }
 {
     match params {
@@ -184,7 +184,7 @@ fn fill_front(room: &mut [u8], answer: &[u8]) -> Outcome
 }
 
 // A refusal of a form.
-fn form_outcome(error: FormError) -> Outcome
+pub(crate) fn form_outcome(error: FormError) -> Outcome
     ensures outcome { (mode : Bool) (query form : List ℕ) → IsFormRefusal form error →
         IsBindOutcome mode query form result }
     ensures anywhere { (query form : List ℕ) → IsFormRefusal form error →
@@ -253,7 +253,7 @@ fn anywhere_outcome(query: &[u8], error: SteadyTextError) -> Outcome
 }
 
 // A refusal of binding to this query.
-fn bind_outcome(query: &[u8], error: BindError, no_backslash_escape: bool) -> Outcome
+pub(crate) fn bind_outcome(query: &[u8], error: BindError, no_backslash_escape: bool) -> Outcome
     requires { (given : Given) × OnTokens no_backslash_escape query.now (λ ts.
         IsCauseOrMemory (first_cause ts given) error) }
     ensures outcome { (form : List ℕ) (given : Given) → IsFormReading form (Ok given) →

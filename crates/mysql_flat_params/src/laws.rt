@@ -7,6 +7,7 @@ ghost use Rattle.mysql_flat_params.specs.declared.outcome.Outcome as outcome;
 
 use crate::form_error::FormError;
 use crate::outcome::{Outcome, Report};
+use crate::rows::Rows;
 
 /// Each form says parameters or is refused, and it has one such reading.
 pub fn one_form_reading()
@@ -42,6 +43,14 @@ pub fn outcome_equality(a: &Outcome, b: &Outcome) -> bool
 pub fn report_equality(a: &Report, b: &Report) -> bool
     ensures same { IsTrue result ↔ (a.now ≡ b.now) }
     ensures member { result ≡ ⟦<Report as PartialEq>⟧.eq a.now b.now }
+{
+    a == b
+}
+
+/// Equality of what tells how far rows are bound is of all fields.
+pub fn rows_equality(a: &Rows, b: &Rows) -> bool
+    ensures same { IsTrue result ↔ (a.now ≡ b.now) }
+    ensures member { result ≡ ⟦<Rows as PartialEq>⟧.eq a.now b.now }
 {
     a == b
 }

@@ -3,7 +3,8 @@
 //!
 //! [`params_of_form`] reads the form. [`bind_into`], [`bind_anywhere_into`] and [`names_into`]
 //! write their answer into the room, or leave it as it was and say by an [`Outcome`] why.
-//! [`report_first_unportable`] reports the first construct for which a query isn't portable, and
+//! [`bind_rows_into`] parses a query once and binds it to many forms. [`report_first_unportable`]
+//! reports the first construct for which a query isn't portable, and
 //! [`report_first_unportable_in_client`] also what a client reads or sends otherwise.
 #![tactic(auto)]
 
@@ -15,6 +16,7 @@ pub mod laws;
 mod missing_place;
 mod names_room;
 mod outcome;
+mod rows;
 mod unportable;
 
 pub use form::params_of_form;
@@ -22,4 +24,5 @@ pub use form_error::FormError;
 pub use into_room::{bind_anywhere_into, bind_into};
 pub use names_room::names_into;
 pub use outcome::{Outcome, Report};
+pub use rows::{Rows, bind_rows_into};
 pub use unportable::{report_first_unportable, report_first_unportable_in_client};

@@ -14,6 +14,8 @@ mod portable;
 #[cfg(test)]
 mod rooms;
 #[cfg(test)]
+mod rows;
+#[cfg(test)]
 mod shared;
 #[cfg(test)]
 mod types;

@@ -12,8 +12,9 @@
 //! overlap neither each other nor what is read, and their bytes have values before the call.
 #![tactic(auto)]
 
-ghost use Rattle.std.specs.Prelude.{◌≡◌, ◌≢◌, ◌⊎◌, ◌↔◌, ◌≤◌, ◌<◌, ℕ, Bool, [], Some, None, length, take, drop, pos};
+ghost use Rattle.std.specs.Prelude.{◌≡◌, ◌≢◌, ◌⊎◌, ◌↔◌, ◌+◌, ◌≤◌, ◌<◌, ℕ, Bool, [], Some, None, length, take, drop, pos};
 ghost use Rattle.mysql_flat_params.specs.AnywhereIntoRoom.{IsAnywhereForm, IsAnywhereOutcome};
+ghost use Rattle.mysql_flat_params.specs.BoundRows.{AreBoundRows, IsRowsOutcome};
 ghost use Rattle.mysql_flat_params.specs.FlatForm.{HasFirstParameter};
 ghost use Rattle.mysql_flat_params.specs.IntoRoom.{IfMixed, IsBindOutcome, IsBoundForm, IsNamesAnswer, IsNamesOutcome};
 ghost use Rattle.mysql_flat_params.specs.Outcomes.{IsTold};
@@ -27,8 +28,8 @@ ghost use Rattle.mysql_named_params.specs.Tokens.{OnTokens};
 ghost use Rattle.mysql_named_params.specs.declared.portable.Unportable as unportable;
 
 use mysql_flat_params::{
-    Report, bind_anywhere_into, bind_into, names_into, report_first_unportable,
-    report_first_unportable_in_client,
+    Report, Rows, bind_anywhere_into, bind_into, bind_rows_into, names_into,
+    report_first_unportable, report_first_unportable_in_client,
 };
 use std::alloc::Global;
 
@@ -149,6 +150,43 @@ pub extern "C" fn mysql_params_bind_anywhere(
     ensures unchanged { result ≢ pos 0 → room.new ≡ room.old }
 {
     let outcome = bind_anywhere_into(alloc, query, form, room);
+    *report = outcome.report();
+    outcome.number()
+}
+
+/// Binds the query, which is parsed once, to row after row, and writes the texts one after another,
+/// each as a length-encoded string, to the front of the room:
+/// [`bind_rows_into`](mysql_flat_params::bind_rows_into). The forms of the rows stand one after
+/// another, each as a length-encoded string.
+///
+/// Returns 0 (`Done`) if all rows are bound, with the bytes of all texts in the report's `len`.
+/// Else it returns the number of the [`Outcome`](mysql_flat_params::Outcome) of the row at which it
+/// ends, and the report has that outcome's fields: of 2 (`Room`) `len` is that of this row's text
+/// as a length-encoded string. Either way `rows` has the rows that are bound, and the bytes of
+/// their forms and of their texts; the room behind these is as before. The flag is true if the
+/// connection's `sql_mode` has `NO_BACKSLASH_ESCAPES`.
+#[unsafe(no_mangle)]
+pub extern "C" fn mysql_params_bind_rows(
+    alloc: Global,
+    query: &[u8],
+    forms: &[u8],
+    no_backslash_escape: bool,
+    room: &mut [u8],
+    rows: &mut Rows,
+    report: &mut Report,
+) -> i32
+    ensures rows { AreBoundRows no_backslash_escape query.now forms.now rows.new.count
+        (take rows.new.written room.new) (drop rows.new.read forms.now) }
+    ensures outcome { IsTold result report.new
+        (IsRowsOutcome no_backslash_escape query.now (drop rows.new.read forms.now)) }
+    ensures read { rows.new.read ≤ length forms.now }
+    ensures done { result ≡ pos 0 → report.new.len ≡ rows.new.written }
+    ensures too_long { result ≡ pos 2 → length room.old < rows.new.written + report.new.len }
+    ensures rest { (rows.new.written ≤ length room.old)
+        × (drop rows.new.written room.new ≡ drop rows.new.written room.old) }
+{
+    let (bound, outcome) = bind_rows_into(alloc, query, forms, no_backslash_escape, room);
+    *rows = bound;
     *report = outcome.report();
     outcome.number()
 }

@@ -15,6 +15,7 @@ mod parsed_query_cases;
 mod program_cases;
 mod query_cases;
 mod read_cases;
+mod rows_cases;
 mod steady_cases;
 mod value_cases;
 mod wire_cases;
@@ -80,6 +81,9 @@ fn query_case(alloc: Global, name: &str) -> Option<Case> {
         return Some(case);
     }
     if let Some(case) = argument_cases::case(alloc, name) {
+        return Some(case);
+    }
+    if let Some(case) = rows_cases::case(alloc, name) {
         return Some(case);
     }
     archive_cases::case(alloc, name)

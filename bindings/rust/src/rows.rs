@@ -1,0 +1,163 @@
+//! Rows: one query bound many times.
+use crate::archive::{TextRoom, processor_suffices};
+use crate::{Error, Params, form};
+use std::fmt;
+use std::iter::FusedIterator;
+
+/// The texts of rows, in one block of memory. They are taken out in order:
+///
+/// ```
+/// use mysql_params::{Params, bind_rows};
+///
+/// let rows = [1, 2].map(|id| [id.into()]);
+/// let texts = bind_rows(b"SELECT ?", rows.iter().map(|row| Params::Positional(row)))?;
+/// assert!(texts.iter().eq([b"SELECT 1", b"SELECT 2"]));
+/// # Ok::<(), mysql_params::RowError>(())
+/// ```
+#[derive(Clone, Debug, Default, PartialEq, Eq)]
+pub struct Texts {
+    /// Each as a length-encoded string.
+    strings: Vec<u8>,
+    count: usize,
+}
+
+impl Texts {
+    /// The number of texts.
+    #[must_use]
+    pub fn len(&self) -> usize {
+        self.count
+    }
+
+    /// Whether there is none.
+    #[must_use]
+    pub fn is_empty(&self) -> bool {
+        self.count == 0
+    }
+
+    /// The texts, in the order of the rows.
+    #[must_use]
+    pub fn iter(&self) -> TextsIter<'_> {
+        TextsIter {
+            rest: &self.strings,
+            count: self.count,
+        }
+    }
+}
+
+impl<'a> IntoIterator for &'a Texts {
+    type Item = &'a [u8];
+    type IntoIter = TextsIter<'a>;
+
+    fn into_iter(self) -> TextsIter<'a> {
+        self.iter()
+    }
+}
+
+/// The texts of rows, in order.
+#[derive(Clone, Debug)]
+pub struct TextsIter<'a> {
+    rest: &'a [u8],
+    count: usize,
+}
+
+impl<'a> Iterator for TextsIter<'a> {
+    type Item = &'a [u8];
+
+    fn next(&mut self) -> Option<&'a [u8]> {
+        let (text, rest) = form::next_string(self.rest)?;
+        self.rest = rest;
+        self.count = self.count.saturating_sub(1);
+        Some(text)
+    }
+
+    fn size_hint(&self) -> (usize, Option<usize>) {
+        (self.count, Some(self.count))
+    }
+}
+
+impl ExactSizeIterator for TextsIter<'_> {}
+
+impl FusedIterator for TextsIter<'_> {}
+
+/// A row that is refused. The texts of the rows before it are kept.
+#[derive(Clone, Debug, PartialEq, Eq)]
+pub struct RowError {
+    /// The number of the row, from 0.
+    pub row: usize,
+    /// Why it is refused. Places, positions and parameters are those of the row's own call of [`bind`](crate::bind).
+    pub error: Error,
+    /// The texts of the rows before it.
+    pub texts: Texts,
+}
+
+impl fmt::Display for RowError {
+    fn fmt(&self, f: &mut fmt::Formatter<'_>) -> fmt::Result {
+        write!(f, "row {}: {}", self.row, self.error)
+    }
+}
+
+impl std::error::Error for RowError {
+    fn source(&self) -> Option<&(dyn std::error::Error + 'static)> {
+        Some(&self.error)
+    }
+}
+
+/// Once the forms of rows have so many bytes, they are bound; so they take no more memory, however many rows there are.
+const BATCH: usize = 1 << 18;
+
+/// The text of each row: what [`bind`](crate::bind) gives for the query and the row's parameters. The query is parsed
+/// once for many rows. Ask [`first_unportable`](crate::first_unportable) of it before.
+///
+/// # Errors
+///
+/// For the first row that is refused: the error is that of [`bind`](crate::bind), and the rows before it are kept. Without
+/// rows nothing is refused.
+pub fn bind_rows<'p>(
+    query: &[u8],
+    rows: impl IntoIterator<Item = Params<'p>>,
+) -> Result<Texts, RowError> {
+    bind_rows_in(query, rows, false)
+}
+
+/// As [`bind_rows`], for a connection in either mode, as [`bind_in`](crate::bind_in).
+///
+/// # Errors
+///
+/// Those of [`bind_rows`].
+pub fn bind_rows_in<'p>(
+    query: &[u8],
+    rows: impl IntoIterator<Item = Params<'p>>,
+    no_backslash_escape: bool,
+) -> Result<Texts, RowError> {
+    let mut room = TextRoom::default();
+    let bound = append_rows(&mut room, query, rows, no_backslash_escape);
+    let row = room.count();
+    let (strings, count) = room.into_texts();
+    let texts = Texts { strings, count };
+    match bound {
+        Ok(()) => Ok(texts),
+        Err(error) => Err(RowError { row, error, texts }),
+    }
+}
+
+/// Appends the texts of all rows, or of those before the first that is refused.
+fn append_rows<'p>(
+    room: &mut TextRoom,
+    query: &[u8],
+    rows: impl IntoIterator<Item = Params<'p>>,
+    no_backslash_escape: bool,
+) -> Result<(), Error> {
+    if !processor_suffices() {
+        return Err(Error::Processor);
+    }
+    let mut forms = Vec::new();
+    for params in rows {
+        let form = form::form_of(&params).and_then(|form| form::append_string(&mut forms, &form));
+        if form.is_err() || forms.len() >= BATCH {
+            room.append_rows(query, &forms, no_backslash_escape)?;
+            forms.clear();
+        }
+        form?;
+    }
+    room.append_rows(query, &forms, no_backslash_escape)
+}

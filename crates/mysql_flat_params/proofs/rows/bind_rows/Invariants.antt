@@ -1,0 +1,10 @@
+use Rattle.std.proofs.Common.{length, ◌-◌}
+use Rattle.mysql_flat_params.proofs.RowsLemmas.{RowsSoFar}
+use Rattle.mysql_flat_params.proofs.rows.bind_rows.Given as goal
+
+abbrev pub invariant-loop-read : goal.invariant-loop-read
+invariant-loop-read l =
+    RowsSoFar l.no_backslash_escape l.query l.forms l.fn.room l.room l.count l.read l.written
+
+abbrev pub decreases-loop-read : goal.decreases-loop-read
+decreases-loop-read l = length l.forms - l.read

@@ -1,0 +1,8 @@
+use Rattle.mysql_flat_params.specs.BoundRows.{no_row}
+use Rattle.mysql_flat_params.proofs.rows.bind_rows_into.Goals as goal
+
+pub returns-then-is_empty-clause-rows : goal.returns-then-is_empty-clause-rows
+returns-then-is_empty-clause-rows c = no_row c.args.no_backslash_escape c.args.query.now c.args.forms.now
+
+pub returns-in-Err-clause-rows : goal.returns-in-Err-clause-rows
+returns-in-Err-clause-rows c = no_row c.args.no_backslash_escape c.args.query.now c.args.forms.now

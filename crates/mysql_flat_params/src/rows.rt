@@ -1,0 +1,260 @@
+//! Rows: one query, parsed once and bound to many forms, in a room that the caller lends.
+ghost use Rattle.std.specs.Prelude.{◌≡◌, ◌+◌, ◌≤◌, ◌<◌, length, take, drop, IfSome};
+ghost use Rattle.mysql_wire_part.specs.Lenenc.{lenenc_spelling};
+ghost use Rattle.mysql_wire_part.specs.ParseBuf.{read_refusal};
+ghost use Rattle.mysql_named_params.specs.Tokens.{OnTokens};
+ghost use Rattle.mysql_binding.specs.FoundPlaces.{BeginWithPlaces};
+ghost use Rattle.mysql_binding.specs.Survey.{IsSurvey};
+ghost use Rattle.mysql_flat_params.specs.BoundRows.{AreBoundRows, IsRowsOutcome, unread_row};
+ghost use Rattle.mysql_flat_params.specs.IntoRoom.{IsInRoom};
+ghost use Rattle.mysql_flat_params.specs.Outcomes.{IfDone, IfTooLong};
+ghost use Rattle.mysql_flat_params.specs.RowInRoom.{IsFormInRoom, IsRowInRoom};
+
+use crate::form::form_params;
+use crate::into_room::{bind_outcome, borrowed_params, form_outcome};
+use crate::outcome::Outcome;
+use mysql_binding::{Survey, bind_surveyed, place_survey};
+use mysql_named_params::places::{FoundPlace, PlaceKind};
+use mysql_values::value::Value;
+use mysql_wire_part::{ParseBuf, WireError, fill_lenenc_str, lenenc_str_len};
+use std::alloc::Global;
+use std::collections::BTreeMap;
+
+/// How far a call has come that binds row after row.
+#[derive(Clone, Copy, Debug, PartialEq, Eq)]
+#[repr(C)]
+pub struct Rows {
+    /// The rows that are bound, so the number, from 0, of the next one.
+    pub count: usize,
+    /// The bytes of the forms that they took: the form of the next row begins there.
+    pub read: usize,
+    /// The bytes of the room that their texts took: the text of the next row goes there.
+    pub written: usize,
+}
+
+// The number of places that are kept on the stack: a query with no more of them is walked once.
+const KEPT_PLACES: usize = 16;
+
+// What stands in an array before a place is kept.
+const NO_PLACE: FoundPlace = FoundPlace {
+    before: 0,
+    kind: PlaceKind::Mark,
+    len: 0,
+};
+
+// Before the first row.
+const NO_ROWS: Rows = Rows {
+    count: 0,
+    read: 0,
+    written: 0,
+};
+
+/// Binds a query, which is parsed once, to row after row, and writes the texts one after another to
+/// the front of the room, each as a length-encoded string.
+///
+/// The forms of the rows stand one after another, each as a length-encoded string. Each row gives
+/// the text, or the refusal, that [`bind_into`](crate::bind_into) gives for its form. `Done`, with
+/// the bytes of all texts, says that all rows are bound. Every other outcome is that of the row at
+/// which the call ends, and what stands before it is kept: of `Room` the length is that of this
+/// row's text as a length-encoded string, so that a caller goes on from there with a room of at
+/// least so many bytes. If the form of a row isn't a length-encoded string, it is `FormEnd` or
+/// `FormLengthLead` with place and position 0. `OutOfMemory` may come in place of any other
+/// outcome if a row is left. The room behind the texts is as before.
+pub fn bind_rows_into(
+    alloc: Global,
+    query: &[u8],
+    forms: &[u8],
+    no_backslash_escape: bool,
+    room: &mut [u8],
+) -> (Rows, Outcome)
+    ensures rows { AreBoundRows no_backslash_escape query.now forms.now result.0.count
+        (take result.0.written room.new) (drop result.0.read forms.now) }
+    ensures outcome { IsRowsOutcome no_backslash_escape query.now
+        (drop result.0.read forms.now) result.1 }
+    ensures read { result.0.read ≤ length forms.now }
+    ensures done { IfDone result.1 (λ len. len ≡ result.0.written) }
+    ensures too_long { IfTooLong result.1 (λ len. length room.old < result.0.written + len) }
+    ensures rest { (result.0.written ≤ length room.old)
+        × (drop result.0.written room.new ≡ drop result.0.written room.old) }
+{
+    if forms.is_empty() {
+        return (NO_ROWS, Outcome::Done { len: 0 });
+    }
+    let mut first = [NO_PLACE; KEPT_PLACES];
+    let (survey, kept) = place_survey(query, &mut first, no_backslash_escape);
+    let count = survey.names + survey.marks;
+    if count <= KEPT_PLACES {
+        let known = &first[..kept];
+        return bind_rows(
+            alloc,
+            query,
+            survey,
+            known,
+            forms,
+            no_backslash_escape,
+            room,
+        );
+    }
+    match vec![in alloc; NO_PLACE; count] {
+        Ok(places) => {
+            let mut places = places;
+            let (survey, kept) = place_survey(query, places.as_mut_slice(), no_backslash_escape);
+            let known = &places.as_slice()[..kept];
+            bind_rows(
+                alloc,
+                query,
+                survey,
+                known,
+                forms,
+                no_backslash_escape,
+                room,
+            )
+        }
+        Err(_) => (NO_ROWS, Outcome::OutOfMemory),
+    }
+}
+
+// Binds row after row to a query with this survey and these first places.
+fn bind_rows(
+    alloc: Global,
+    query: &[u8],
+    survey: Survey,
+    known: &[FoundPlace],
+    forms: &[u8],
+    no_backslash_escape: bool,
+    room: &mut [u8],
+) -> (Rows, Outcome)
+    requires survey { OnTokens no_backslash_escape query.now (IsSurvey survey) }
+    requires known { OnTokens no_backslash_escape query.now (BeginWithPlaces known.now) }
+    ensures rows { AreBoundRows no_backslash_escape query.now forms.now result.0.count
+        (take result.0.written room.new) (drop result.0.read forms.now) }
+    ensures outcome { IsRowsOutcome no_backslash_escape query.now
+        (drop result.0.read forms.now) result.1 }
+    ensures read { result.0.read ≤ length forms.now }
+    ensures done { IfDone result.1 (λ len. len ≡ result.0.written) }
+    ensures too_long { IfTooLong result.1 (λ len. length room.old < result.0.written + len) }
+    ensures rest { (result.0.written ≤ length room.old)
+        × (drop result.0.written room.new ≡ drop result.0.written room.old) }
+{
+    let mut count = 0;
+    let mut read = 0;
+    let mut written = 0;
+    while read < forms.len() {
+        let (outcome, taken) = bind_row(
+            alloc,
+            query,
+            survey,
+            known,
+            &forms[read..],
+            no_backslash_escape,
+            &mut room[written..],
+        );
+        let Outcome::Done { len } = outcome else {
+            return (
+                Rows {
+                    count,
+                    read,
+                    written,
+                },
+                outcome,
+            );
+        };
+        count += 1;
+        read += taken;
+        written += len;
+    }
+    (
+        Rows {
+            count,
+            read,
+            written,
+        },
+        Outcome::Done { len: written },
+    )
+}
+
+// Binds the row whose form is the string at the front of the forms, and writes its text to the
+// front of the room. The number is that of the form's bytes as a string, if the text is written.
+fn bind_row(
+    alloc: Global,
+    query: &[u8],
+    survey: Survey,
+    known: &[FoundPlace],
+    forms: &[u8],
+    no_backslash_escape: bool,
+    room: &mut [u8],
+) -> (Outcome, usize)
+    requires survey { OnTokens no_backslash_escape query.now (IsSurvey survey) }
+    requires known { OnTokens no_backslash_escape query.now (BeginWithPlaces known.now) }
+    requires some { 0 < length forms.now }
+    ensures { IsRowInRoom no_backslash_escape query.now forms.now room.old room.new
+        result.1 result.0 }
+{
+    let mut rest = ParseBuf(forms);
+    let form = match rest.eat_lenenc_str() {
+        Ok(form) => form,
+        Err(error) => return (unread_row(error), 0),
+    };
+    let outcome = bind_form(alloc, query, survey, known, form, no_backslash_escape, room);
+    (outcome, forms.len() - rest.len())
+}
+
+// Binds what a form says, and writes the text to the front of the room, as a length-encoded string.
+fn bind_form(
+    alloc: Global,
+    query: &[u8],
+    survey: Survey,
+    known: &[FoundPlace],
+    form: &[u8],
+    no_backslash_escape: bool,
+    room: &mut [u8],
+) -> Outcome
+    requires survey { OnTokens no_backslash_escape query.now (IsSurvey survey) }
+    requires known { OnTokens no_backslash_escape query.now (BeginWithPlaces known.now) }
+    ensures { IsFormInRoom no_backslash_escape query.now form.now room.old room.new result }
+{
+    let params = match form_params::<BTreeMap<Vec<u8>, Value>>(alloc, form) {
+        Ok(params) => params,
+        Err(error) => return form_outcome(error),
+    };
+    let borrowed = borrowed_params(&params);
+    match bind_surveyed(alloc, query, survey, known, borrowed, no_backslash_escape) {
+        Ok(text) => fill_string(room, text.as_slice()),
+        Err(error) => bind_outcome(query, error, no_backslash_escape),
+    }
+}
+
+// Writes the text as a length-encoded string to the front of the room, if the room is long enough.
+fn fill_string(room: &mut [u8], text: &[u8]) -> Outcome
+    ensures { IsInRoom (lenenc_spelling text.now) room.old room.new result }
+{
+    let len = lenenc_str_len(text) as usize;
+    if room.len() < len {
+        return Outcome::Room { len };
+    }
+    fill_lenenc_str(&mut room[..len], text);
+    Outcome::Done { len }
+}
+
+// What is told of a row whose form isn't a length-encoded string.
+fn unread_row(error: WireError) -> Outcome
+    ensures { IfSome (read_refusal error) (λ refusal. result ≡ unread_row refusal) }
+{
+    match error {
+        WireError::UnexpectedEof => Outcome::FormEnd {
+            place: 0,
+            position: 0,
+        },
+        WireError::BadLengthLead(lead) => Outcome::FormLengthLead {
+            place: 0,
+            position: 0,
+            lead,
+        },
+        WireError::UnsupportedColumn(_) => Outcome::FormType {
+            place: 0,
+            position: 0,
+            number: 0,
+        },
+        WireError::Memory(_) => Outcome::OutOfMemory,
+    }
+}
