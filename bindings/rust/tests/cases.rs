@@ -1,9 +1,9 @@
 //! The cases of bindings/cases, which say what they are in README.md there, and every value of one byte.
 use mysql_params::{
-    Construct, Date, Error, Names, Params, RowError, Texts, Time, Unportable, Value, bind, bind_anywhere, bind_form,
-    bind_form_anywhere, bind_form_in, bind_in, bind_rows, bind_rows_in, bind_str, bind_str_in, first_unportable,
-    first_unportable_in, first_unportable_in_client, first_unportable_in_client_in, names,
-    names_in,
+    Construct, Date, Error, Names, Params, RowError, Texts, Time, Unportable, Value, bind,
+    bind_anywhere, bind_form, bind_form_anywhere, bind_form_in, bind_in, bind_rows, bind_rows_in,
+    bind_str, bind_str_in, first_unportable, first_unportable_in, first_unportable_in_client,
+    first_unportable_in_client_in, names, names_in,
 };
 use std::collections::HashMap;
 use std::path::Path;
