@@ -1,0 +1,505 @@
+-- A fragment, known by its shape alone: its tokens end where it ends, in a place that stands alone its
+-- first bytes open nothing and its tokens are portable, and the places that it brings stand alone too.
+use Rattle.std.specs.Prelude.{Bool}
+use Rattle.std.proofs.Common.{◌≡◌, ◌+◌, ◌++◌, ◌==◌, ◌&&◌, ◌||◌, not, ℕ, true, false, List, [], ◌∷◌, if◌then◌else◌, Option, Some, None, arith, inl, inr, refl, ap, ◌∙◌, sym, subst, append-nil, append_assoc, true≢false}
+use Rattle.std.specs.Char.{is_ascii_alphabetic, is_ascii_digit}
+use Rattle.std.specs.List.{list_all}
+use Rattle.std.specs.Str.{byte}
+use Rattle.std.proofs.lemmas.Bool.{and_parts, and_from, cases_Bool, eqb-true, false_from_ne_true}
+use Rattle.std.proofs.lemmas.Bool.Decides.{nat_tests}
+use Rattle.std.proofs.lemmas.List.{nil_from_length}
+use Rattle.mysql_sql_text.specs.LiteralEnd.{continues_literal}
+use Rattle.mysql_sql_text.specs.LiteralShape.{AreDigits, IsLiteral}
+use Rattle.mysql_named_params.specs.Bytes.{backquote, colon, dash, point, question_mark, space, underscore, is_start_byte, HoldsOnlyAtEnd, IsUpTo, up_to_word}
+use Rattle.mysql_named_params.specs.Tokens.{Token, IsToken, AreTokensBefore, text_of, text_then, bytes_of, QuotedIdentifier, Name, Mark, Plain}
+use Rattle.mysql_named_params.specs.Places.{names, marks, place_count}
+use Rattle.mysql_named_params.specs.Server.{begins_fraction}
+use Rattle.mysql_named_params.proofs.PortableLemmas.{is_alike_on_all}
+use Rattle.mysql_named_params.proofs.TokenEnds.{plain_at}
+use Rattle.mysql_named_params.proofs.TokenRowLemmas.{text_then-append, text_then-text_of, text_of-append, AreTokensBefore-append, names-append, marks-append, place_count-append, place_count-sum}
+use Rattle.mysql_binding.specs.StandsAlone.{may_stand_before, may_stand_after, none_or_first, none_or_last, first_not_alone_from}
+use Rattle.mysql_binding.proofs.ByteTestLemmas.{behind_ends}
+use Rattle.mysql_binding.proofs.LiteralTokenLemmas.{AreSettledBefore, AreSettledBefore-append, no_double, plain_tokens, other, plain_text, plain_places, plain_before, plain_settled, is_alphanumeric-plain, alphanumeric_portable, alphanumeric_single, is_alphanumeric, AreDigits-alphanumeric, minus_plain, minus_portable, minus_single, digits_open_nothing, minus_opens_nothing, IsLiteral-cut, IsLiteral-opens_nothing}
+use Rattle.mysql_binding.proofs.UpToSpliceLemmas.{joins_nothing, opens_nothing_after}
+use Rattle.mysql_fragments.specs.FragmentFaults.{is_keyword, is_keyword_from}
+use Rattle.mysql_fragments.specs.FragmentShape.{IsIdentifier, one_name, more_names, IsFragment, mark_fragment, literal_fragment, decimal_fragment, negative_decimal_fragment, identifier_fragment, keyword_fragment, list_fragment, row_fragment}
+use Rattle.mysql_fragments.specs.FragmentText.{doubled, identifier_text}
+
+-- ---- texts that may stand before a place (these two stand in mysql_binding's RenamedPlaceLemmas too,
+-- which doesn't lend them)
+
+pub last-append : (test : ℕ → Bool) (xs : List ℕ) (b : ℕ) (ys : List ℕ) →
+    none_or_last test (xs ++ b ∷ ys) ≡ none_or_last test (b ∷ ys)
+last-append test [] b ys = refl
+last-append test (x ∷ []) b ys = refl
+last-append test (x ∷ x' ∷ xs) b ys = last-append test (x' ∷ xs) b ys
+
+if_alone : (b : Bool) (x : Option (ℕ × ℕ)) (p : ℕ × ℕ) → b ≡ true → x ≡ None →
+    (if b then x else Some p) ≡ None
+if_alone true x p e h = h
+if_alone false x p e h = absurd (true≢false (sym e))
+
+-- the places of the list stand alone where it does, before tokens whose places do
+abbrev pub StandAlone : List Token → Type 0
+StandAlone list = (more : List Token) → none_or_first may_stand_after (text_of more) ≡ true →
+    ((place : ℕ) (before : List ℕ) → first_not_alone_from place before more ≡ None) →
+    (place : ℕ) (before : List ℕ) → none_or_last may_stand_before before ≡ true →
+    first_not_alone_from place before (list ++ more) ≡ None
+
+-- what is known of the tokens of a fragment with this number of marks
+pub record IsFragmentList (mode : Bool) (n : ℕ) (text : List ℕ) (list : List Token) : Type 0 where
+  pub list_text : text_of list ≡ text
+  pub list_tokens : (rest : List ℕ) → AreTokensBefore mode rest list
+  pub list_opens : (before : ℕ) (rest : List ℕ) → may_stand_before before ≡ true →
+      opens_nothing_after before (text_then rest list) ≡ true
+  pub list_settled : (rest : List ℕ) → none_or_first may_stand_after rest ≡ true → AreSettledBefore rest list
+  pub list_alone : StandAlone list
+  pub list_names : names list ≡ []
+  pub list_marks : marks list ≡ n
+
+-- ---- without places
+
+placeless_alone : (list : List Token) → place_count list ≡ 0 → StandAlone list
+placeless_alone list none more first each place before last = go list none place before
+  where
+    go : (list : List Token) → place_count list ≡ 0 → (place : ℕ) (before : List ℕ) →
+        first_not_alone_from place before (list ++ more) ≡ None
+    go [] none place before = each place before
+    go (Name name ∷ list) none place before = absurd (omega arith)
+    go (Mark ∷ list) none place before = absurd (omega arith)
+    go (t ∷ list) none place before = go list none place (before ++ bytes_of t)
+
+no_names : (list : List Token) → place_count list ≡ 0 → names list ≡ []
+no_names list none = nil_from_length (names list) (omega (arith, none, place_count-sum list))
+
+no_marks : (list : List Token) → place_count list ≡ 0 → marks list ≡ 0
+no_marks list none = omega (arith, none, place_count-sum list)
+
+-- ---- a mark
+
+mark_list : (mode : Bool) → IsFragmentList mode 1 (question_mark ∷ []) (Mark ∷ [])
+mark_list mode = record {
+  list_text = refl;
+  list_tokens = λ rest. (tt, tt);
+  list_opens = λ before rest b. refl;
+  list_settled = λ rest h. (refl, refl, tt);
+  list_alone = λ more first each place before last. if_alone _ _ _ (and_from _ _ last first) (each _ _);
+  list_names = refl;
+  list_marks = refl;
+}
+
+-- ---- a literal
+
+literal_list : (mode : Bool) (literal : List ℕ) → IsLiteral mode literal →
+    (list : List Token) × IsFragmentList mode 0 literal list
+literal_list mode literal h =
+    let c = IsLiteral-cut mode h in (
+      c.0,
+      record {
+        list_text = c.1.cut_text;
+        list_tokens = c.1.cut_tokens;
+        list_opens = λ before rest b. rw (text_then-text_of c.0 rest, c.1.cut_text) (IsLiteral-opens_nothing mode h before rest);
+        list_settled = λ rest h. c.1.cut_settled rest;
+        list_alone = placeless_alone c.0 c.1.cut_places;
+        list_names = no_names c.0 c.1.cut_places;
+        list_marks = no_marks c.0 c.1.cut_places;
+      },
+    )
+
+-- ---- an exact number
+
+abbrev dot : ℕ
+dot = point
+
+-- what may stand after a place goes on with no fraction
+no_fraction : (rest : List ℕ) → none_or_first may_stand_after rest ≡ true → begins_fraction rest ≡ false
+no_fraction [] h = refl
+no_fraction (b ∷ rest) h =
+    let ends = behind_ends b h in
+    let no_digit : is_ascii_digit b ≡ false = false_from_ne_true _ (λ d. true≢false (sym (digit_continues b d) ∙ ends)) in
+    rw (other may_stand_after b question_mark h refl, other may_stand_after b colon h refl, no_digit, other may_stand_after b (byte "e") h refl, other may_stand_after b (byte "E") h refl) refl
+  where
+    or_true : (a : Bool) → (a || true) ≡ true
+    or_true true = refl
+    or_true false = refl
+
+    digit_continues : (b : ℕ) → is_ascii_digit b ≡ true → continues_literal b ≡ true
+    digit_continues b d = rw d (or_true _)
+
+fraction_ends : (digits : List ℕ) → list_all is_ascii_digit digits ≡ true → (rest : List ℕ) →
+    none_or_first may_stand_after rest ≡ true → begins_fraction (text_then rest (plain_tokens digits)) ≡ false
+fraction_ends [] all rest h = no_fraction rest h
+fraction_ends (d ∷ digits) all rest h =
+    let p = and_parts (is_ascii_digit d) (list_all is_ascii_digit digits) all in
+    rw (other is_ascii_digit d question_mark p.0 refl, other is_ascii_digit d colon p.0 refl, fraction_ends digits p.1 rest h, other is_ascii_digit d (byte "e") p.0 refl, other is_ascii_digit d (byte "E") p.0 refl, p.0) refl
+
+-- digits, a point and digits
+abbrev decimal_tokens : List ℕ → List ℕ → List Token
+decimal_tokens whole fraction = plain_tokens whole ++ (Plain dot ∷ plain_tokens fraction)
+
+module _ (whole fraction : List ℕ) (w : AreDigits whole) (f : AreDigits fraction) where
+  fraction_digits : (bytes : List ℕ) → AreDigits bytes → list_all is_ascii_digit bytes ≡ true
+  fraction_digits [] h = absurd h
+  fraction_digits (b ∷ bytes) h = and_from _ _ h.0 h.1
+
+  decimal_text : text_of (decimal_tokens whole fraction) ≡ whole ++ (dot ∷ fraction)
+  decimal_text = text_of-append (plain_tokens whole) (Plain dot ∷ plain_tokens fraction) ∙ (ap (λ x. x ++ text_of (Plain dot ∷ plain_tokens fraction)) (plain_text whole) ∙ ap (λ x. whole ++ (dot ∷ x)) (plain_text fraction))
+
+  decimal_before : (mode : Bool) (rest : List ℕ) → AreTokensBefore mode rest (decimal_tokens whole fraction)
+  decimal_before mode rest =
+      AreTokensBefore-append mode (plain_tokens whole) (Plain dot ∷ plain_tokens fraction) rest (plain_before mode whole (AreDigits-alphanumeric whole w) _)
+      (plain_at mode dot _ refl, plain_before mode fraction (AreDigits-alphanumeric fraction f) rest)
+
+  decimal_settled : (rest : List ℕ) → none_or_first may_stand_after rest ≡ true → AreSettledBefore rest (decimal_tokens whole fraction)
+  decimal_settled rest h =
+      AreSettledBefore-append (plain_tokens whole) (Plain dot ∷ plain_tokens fraction) rest (plain_settled whole (AreDigits-alphanumeric whole w) _)
+      (ap not (fraction_ends fraction (fraction_digits fraction f) rest h), refl, plain_settled fraction (AreDigits-alphanumeric fraction f) rest)
+
+  decimal_places : place_count (decimal_tokens whole fraction) ≡ 0
+  decimal_places = rw (place_count-append (plain_tokens whole) (Plain dot ∷ plain_tokens fraction), plain_places whole, plain_places fraction) refl
+
+  decimal_opens : (before : ℕ) (rest : List ℕ) → opens_nothing_after before (text_then rest (decimal_tokens whole fraction)) ≡ true
+  decimal_opens before rest = rw (text_then-text_of (decimal_tokens whole fraction) rest, decimal_text, append_assoc whole (dot ∷ fraction) rest) (digits_open_nothing whole w before _)
+
+  decimal_list : (mode : Bool) → IsFragmentList mode 0 (whole ++ (dot ∷ fraction)) (decimal_tokens whole fraction)
+  decimal_list mode = record {
+    list_text = decimal_text;
+    list_tokens = decimal_before mode;
+    list_opens = λ before rest b. decimal_opens before rest;
+    list_settled = decimal_settled;
+    list_alone = placeless_alone (decimal_tokens whole fraction) decimal_places;
+    list_names = no_names (decimal_tokens whole fraction) decimal_places;
+    list_marks = no_marks (decimal_tokens whole fraction) decimal_places;
+  }
+
+negative_opens : (whole fraction : List ℕ) → AreDigits whole → AreDigits fraction → (before : ℕ) (rest : List ℕ) →
+    opens_nothing_after before (dash ∷ text_then rest (decimal_tokens whole fraction)) ≡ true
+negative_opens whole fraction w f before rest =
+    let e : text_then rest (decimal_tokens whole fraction) ≡ whole ++ ((dot ∷ fraction) ++ rest) = text_then-text_of (decimal_tokens whole fraction) rest ∙ (ap (λ x. x ++ rest) (decimal_text whole fraction w f) ∙ append_assoc whole (dot ∷ fraction) rest) in
+    ap (λ x. opens_nothing_after before (dash ∷ x)) e ∙ minus_opens_nothing whole w before _
+
+negative_list : (mode : Bool) (whole fraction : List ℕ) → AreDigits whole → AreDigits fraction →
+    IsFragmentList mode 0 (dash ∷ (whole ++ (dot ∷ fraction))) (Plain dash ∷ decimal_tokens whole fraction)
+negative_list mode [] fraction w f = absurd w
+negative_list mode (d ∷ digits) fraction w f =
+    let whole : List ℕ = d ∷ digits in
+    let c = decimal_list whole fraction w f mode in
+    let places = decimal_places whole fraction w f in
+    record {
+      list_text = ap (λ x. dash ∷ x) (decimal_text whole fraction w f);
+      list_tokens = λ rest. (minus_plain mode d _ w.0, c.list_tokens rest);
+      list_opens = λ before rest b. negative_opens (d ∷ digits) fraction w f before rest;
+      list_settled = λ rest h. (minus_portable d (text_then rest (plain_tokens digits ++ (Plain dot ∷ plain_tokens fraction))) w.0, minus_single d (text_then rest (plain_tokens digits ++ (Plain dot ∷ plain_tokens fraction))) w.0, c.list_settled rest h);
+      list_alone = placeless_alone (Plain dash ∷ decimal_tokens whole fraction) places;
+      list_names = no_names (Plain dash ∷ decimal_tokens whole fraction) places;
+      list_marks = no_marks (Plain dash ∷ decimal_tokens whole fraction) places;
+    }
+
+-- ---- an identifier
+
+not_quote : ℕ → Bool
+not_quote b = not (b == backquote)
+
+-- a run without a backquote, and one after it
+run_ends : (run : List ℕ) → list_all not_quote run ≡ true → HoldsOnlyAtEnd (backquote ∷ []) (run ++ backquote ∷ [])
+unfolding not_quote
+run_ends [] all [] back e = cc
+run_ends [] all (c ∷ []) back e = cc
+run_ends [] all (c ∷ c' ∷ front) back e = cc
+run_ends (b ∷ run) all [] back e =
+    let p = and_parts (not_quote b) (list_all not_quote run) all in
+    let same : backquote ≡ b = cc in
+    absurd (true≢false (sym p.0 ∙ ap (λ x. not (x == backquote)) (sym same)))
+run_ends (b ∷ run) all (c ∷ front) back e =
+    let p = and_parts (not_quote b) (list_all not_quote run) all in
+    run_ends run p.1 front back cc
+
+-- the tokens of the text in backquotes, where this run stands before the name
+identifier_tokens : List ℕ → List ℕ → List Token
+identifier_tokens run [] = QuotedIdentifier (run ++ backquote ∷ []) ∷ []
+identifier_tokens run (b ∷ bs) =
+    if b == backquote
+    then QuotedIdentifier (run ++ backquote ∷ []) ∷ identifier_tokens [] bs
+    else identifier_tokens (run ++ b ∷ []) bs
+
+quoted_before : (mode : Bool) (run rest : List ℕ) → list_all not_quote run ≡ true →
+    IsUpTo (backquote ∷ []) (run ++ backquote ∷ []) rest
+quoted_before mode run rest all = up_to_word run refl (run_ends run all)
+
+run_more : (run : List ℕ) (b : ℕ) → list_all not_quote run ≡ true → (b == backquote) ≡ false →
+    list_all not_quote (run ++ b ∷ []) ≡ true
+unfolding not_quote
+run_more [] b all e = rw e refl
+run_more (c ∷ run) b all e = let p = and_parts (not_quote c) (list_all not_quote run) all in and_from _ _ p.0 (run_more run b p.1 e)
+
+-- all that is known of them, by induction
+record IsQuotedRun (mode : Bool) (run name : List ℕ) (list : List Token) : Type 0 where
+  run_text : text_of list ≡ backquote ∷ (run ++ (doubled name ++ backquote ∷ []))
+  run_tokens : (rest : List ℕ) → AreTokensBefore mode rest list
+  run_settled : (rest : List ℕ) → AreSettledBefore rest list
+  run_places : place_count list ≡ 0
+
+doubled_quote : (b : ℕ) (bs : List ℕ) → (b == backquote) ≡ true → doubled (b ∷ bs) ≡ b ∷ b ∷ doubled bs
+doubled_quote b bs e = rw e refl
+
+doubled_other : (b : ℕ) (bs : List ℕ) → (b == backquote) ≡ false → doubled (b ∷ bs) ≡ b ∷ doubled bs
+doubled_other b bs e = rw e refl
+
+quoted_run : (mode : Bool) (run name : List ℕ) → list_all not_quote run ≡ true →
+    IsQuotedRun mode run name (identifier_tokens run name)
+unfolding identifier_tokens
+quoted_run mode run [] all = record {
+  run_text = append-nil (backquote ∷ (run ++ backquote ∷ []));
+  run_tokens = λ rest. (quoted_before mode run rest all, tt);
+  run_settled = λ rest. (refl, refl, tt);
+  run_places = refl;
+}
+quoted_run mode run (b ∷ bs) all =
+    elim (cases_Bool (b == backquote)) [
+      | inl e ↦
+          let h = quoted_run mode [] bs refl in
+          rw e (record {
+            run_text = ap (λ x. backquote ∷ ((run ++ backquote ∷ []) ++ x)) h.run_text ∙ (ap (λ x. backquote ∷ x) (append_assoc run (backquote ∷ []) _) ∙ (ap (λ x. backquote ∷ (run ++ (x ∷ x ∷ (doubled bs ++ backquote ∷ [])))) (sym (eqb-true b backquote e)) ∙ ap (λ x. backquote ∷ (run ++ (x ++ backquote ∷ []))) (sym (doubled_quote b bs e))));
+            run_tokens = λ rest. (quoted_before mode run _ all, h.run_tokens rest);
+            run_settled = λ rest. (refl, refl, h.run_settled rest);
+            run_places = h.run_places;
+          })
+      | inr e ↦
+          let h = quoted_run mode (run ++ b ∷ []) bs (run_more run b all e) in
+          rw e (record {
+            run_text = h.run_text ∙ (ap (λ x. backquote ∷ x) (append_assoc run (b ∷ []) _) ∙ ap (λ x. backquote ∷ (run ++ (x ++ backquote ∷ []))) (sym (doubled_other b bs e)));
+            run_tokens = h.run_tokens;
+            run_settled = h.run_settled;
+            run_places = h.run_places;
+          })
+    ]
+
+-- the first byte of identifiers, and their tokens
+record IsIdentifierList (mode : Bool) (text : List ℕ) (list : List Token) : Type 0 where
+  path_text : text_of list ≡ text
+  path_tokens : (rest : List ℕ) → AreTokensBefore mode rest list
+  path_settled : (rest : List ℕ) → AreSettledBefore rest list
+  path_places : place_count list ≡ 0
+  path_more : List ℕ
+  path_begins : text ≡ backquote ∷ path_more
+
+name_list : (mode : Bool) (name : List ℕ) → IsIdentifierList mode (identifier_text name) (identifier_tokens [] name)
+name_list mode name =
+    let h = quoted_run mode [] name refl in
+    record {
+      path_text = h.run_text;
+      path_tokens = h.run_tokens;
+      path_settled = h.run_settled;
+      path_places = h.run_places;
+      path_more = doubled name ++ backquote ∷ [];
+      path_begins = refl;
+    }
+
+-- a point before a backquote begins no fraction
+point_settled : (text more : List ℕ) → text ≡ backquote ∷ more → is_alike_on_all (Plain point) text ≡ true
+point_settled text more e = rw e refl
+
+path_list : (mode : Bool) {text : List ℕ} → IsIdentifier text → (list : List Token) × IsIdentifierList mode text list
+path_list mode (one_name name) = (identifier_tokens [] name, name_list mode name)
+path_list mode (more_names name more h) =
+    let a = name_list mode name in
+    let b = path_list mode h in
+    let us : List Token = identifier_tokens [] name in
+    let vs : List Token = Plain point ∷ b.0 in (
+      us ++ vs,
+      record {
+        path_text = text_of-append us vs ∙ (ap (λ z. z ++ text_of vs) a.path_text ∙ ap (λ z. identifier_text name ++ (point ∷ z)) b.1.path_text);
+        path_tokens = λ rest. AreTokensBefore-append mode us vs rest (a.path_tokens _) (plain_at mode point _ refl, b.1.path_tokens rest);
+        path_settled = λ rest. AreSettledBefore-append us vs rest (a.path_settled _) (point_settled (text_then rest b.0) (b.1.path_more ++ rest) (text_then-text_of b.0 rest ∙ ap (λ z. z ++ rest) (b.1.path_text ∙ b.1.path_begins)), refl, b.1.path_settled rest);
+        path_places = rw (place_count-append us vs, a.path_places, b.1.path_places) refl;
+        path_more = (doubled name ++ backquote ∷ []) ++ (point ∷ more);
+        path_begins = refl;
+      },
+    )
+
+identifier_list : (mode : Bool) {text : List ℕ} → IsIdentifier text → (list : List Token) × IsFragmentList mode 0 text list
+identifier_list mode h =
+    let p = path_list mode h in (
+      p.0,
+      record {
+        list_text = p.1.path_text;
+        list_tokens = p.1.path_tokens;
+        list_opens = λ before rest b. rw (text_then-text_of p.0 rest, p.1.path_text, p.1.path_begins) refl;
+        list_settled = λ rest f. p.1.path_settled rest;
+        list_alone = placeless_alone p.0 p.1.path_places;
+        list_names = no_names p.0 p.1.path_places;
+        list_marks = no_marks p.0 p.1.path_places;
+      },
+    )
+
+-- ---- a keyword
+
+-- a byte of a keyword
+is_word_byte : ℕ → Bool
+is_word_byte b = is_alphanumeric b || (b == underscore || b == space)
+
+word_plain : (mode : Bool) (b : ℕ) → is_word_byte b ≡ true → (rest : List ℕ) → IsToken mode (Plain b) rest
+unfolding is_word_byte
+word_plain mode b h rest =
+    elim (cases_Bool (is_alphanumeric b)) [
+      | inl e ↦ is_alphanumeric-plain mode b e rest
+      | inr e ↦ elim (cases_Bool (b == underscore)) [
+        | inl f ↦ subst (λ x. IsToken mode (Plain x) rest) (sym (eqb-true b underscore f)) (plain_at mode underscore rest refl)
+        | inr f ↦ subst (λ x. IsToken mode (Plain x) rest) (sym (eqb-true b space (rw (e, f) at h))) (plain_at mode space rest refl)
+      ]
+    ]
+
+word_settled : (b : ℕ) → is_word_byte b ≡ true → (rest : List ℕ) →
+    (is_alike_on_all (Plain b) rest ≡ true) × (no_double (Plain b) rest ≡ true)
+unfolding is_word_byte
+word_settled b h rest =
+    elim (cases_Bool (is_alphanumeric b)) [
+      | inl e ↦ (alphanumeric_portable b e rest, alphanumeric_single b e rest)
+      | inr e ↦ elim (cases_Bool (b == underscore)) [
+        | inl f ↦ subst (λ x. (is_alike_on_all (Plain x) rest ≡ true) × (no_double (Plain x) rest ≡ true)) (sym (eqb-true b underscore f)) (refl, refl)
+        | inr f ↦ subst (λ x. (is_alike_on_all (Plain x) rest ≡ true) × (no_double (Plain x) rest ≡ true)) (sym (eqb-true b space (rw (e, f) at h))) (refl, refl)
+      ]
+    ]
+
+words_before : (mode : Bool) (bytes : List ℕ) → list_all is_word_byte bytes ≡ true → (rest : List ℕ) →
+    AreTokensBefore mode rest (plain_tokens bytes)
+words_before mode [] h rest = tt
+words_before mode (b ∷ bytes) h rest =
+    let p = and_parts (is_word_byte b) (list_all is_word_byte bytes) h in
+    (word_plain mode b p.0 _, words_before mode bytes p.1 rest)
+
+words_settled : (bytes : List ℕ) → list_all is_word_byte bytes ≡ true → (rest : List ℕ) →
+    AreSettledBefore rest (plain_tokens bytes)
+words_settled [] h rest = tt
+words_settled (b ∷ bytes) h rest =
+    let p = and_parts (is_word_byte b) (list_all is_word_byte bytes) h in
+    let s = word_settled b p.0 (text_then rest (plain_tokens bytes)) in
+    (s.0, s.1, words_settled bytes p.1 rest)
+
+-- a letter, by both tests
+letter_alphanumeric : (b : ℕ) → is_ascii_alphabetic b ≡ true → is_alphanumeric b ≡ true
+letter_alphanumeric b h = grind (arith, nat_tests)
+
+letter_joins_nothing : (b : ℕ) → is_ascii_alphabetic b ≡ true → joins_nothing b ≡ true
+letter_joins_nothing b h = grind (arith, nat_tests)
+
+or_left : (a b : Bool) → a ≡ true → (a || b) ≡ true
+or_left true b e = refl
+or_left false b e = absurd (true≢false (sym e))
+
+letter_word : (b : ℕ) → is_ascii_alphabetic b ≡ true → is_word_byte b ≡ true
+unfolding is_word_byte
+letter_word b h = or_left _ _ (letter_alphanumeric b h)
+
+keyword_bytes : (begun : Bool) (bytes : List ℕ) → is_keyword_from begun bytes ≡ true → list_all is_word_byte bytes ≡ true
+unfolding is_word_byte
+keyword_bytes begun [] h = refl
+keyword_bytes begun (b ∷ bytes) h =
+    elim (cases_Bool (is_ascii_alphabetic b)) [
+      | inl e ↦ and_from _ _ (letter_word b e) (keyword_bytes true bytes (rw e at h))
+      | inr e ↦ elim (cases_Bool (b == underscore)) [
+        | inl f ↦
+            let k : (begun && is_keyword_from true bytes) ≡ true = rw (e, f) at h in
+            and_from _ _ (subst (λ x. is_word_byte x ≡ true) (sym (eqb-true b underscore f)) refl) (keyword_bytes true bytes (and_parts begun _ k).1)
+        | inr f ↦
+            let k : (((b == space) && begun) && is_keyword_from false bytes) ≡ true = rw (e, f) at h in
+            let p = and_parts ((b == space) && begun) (is_keyword_from false bytes) k in
+            and_from _ _ (subst (λ x. is_word_byte x ≡ true) (sym (eqb-true b space (and_parts (b == space) begun p.0).0)) refl) (keyword_bytes false bytes p.1)
+      ]
+    ]
+
+-- it begins with a letter
+keyword_first : (b : ℕ) (bytes : List ℕ) → is_keyword (b ∷ bytes) ≡ true → is_ascii_alphabetic b ≡ true
+keyword_first b bytes h =
+    elim (cases_Bool (is_ascii_alphabetic b)) [
+      | inl e ↦ e
+      | inr e ↦ elim (cases_Bool (b == underscore)) [
+        | inl f ↦ let k : false ≡ true = rw (e, f) at h in absurd (true≢false (sym k))
+        | inr f ↦
+            let k : (((b == space) && false) && is_keyword_from false bytes) ≡ true = rw (e, f) at h in
+            absurd (true≢false (sym (and_parts (b == space) false (and_parts _ _ k).0).1))
+      ]
+    ]
+
+and_false : (a : Bool) → (a && false) ≡ false
+and_false true = refl
+and_false false = refl
+
+-- after what may stand before a place, a letter opens nothing
+letter_opens : (before b : ℕ) (bs : List ℕ) → is_ascii_alphabetic b ≡ true → may_stand_before before ≡ true →
+    opens_nothing_after before (b ∷ bs) ≡ true
+letter_opens before b bs l h =
+    or_left _ _ (and_from _ _ (letter_joins_nothing b l) (ap not (ap (λ x. is_start_byte b && x) (other may_stand_before before colon h refl) ∙ and_false (is_start_byte b))))
+
+keyword_list : (mode : Bool) (text : List ℕ) → is_keyword text ≡ true → (list : List Token) × IsFragmentList mode 0 text list
+keyword_list mode [] h = absurd (true≢false (sym h))
+keyword_list mode (b ∷ bytes) h =
+    let all = keyword_bytes false (b ∷ bytes) h in
+    let l = keyword_first b bytes h in (
+      plain_tokens (b ∷ bytes),
+      record {
+        list_text = plain_text (b ∷ bytes);
+        list_tokens = λ rest. words_before mode (b ∷ bytes) all rest;
+        list_opens = λ before rest s. letter_opens before b (text_then rest (plain_tokens bytes)) l s;
+        list_settled = λ rest f. words_settled (b ∷ bytes) all rest;
+        list_alone = placeless_alone (plain_tokens (b ∷ bytes)) (plain_places bytes);
+        list_names = no_names (plain_tokens (b ∷ bytes)) (plain_places bytes);
+        list_marks = no_marks (plain_tokens (b ∷ bytes)) (plain_places bytes);
+      },
+    )
+
+-- ---- one after another, and in brackets
+
+abbrev comma_then : List Token → List Token
+comma_then list = Plain (byte ",") ∷ Plain (byte " ") ∷ list
+
+list_list : (mode : Bool) (n k : ℕ) (a b : List ℕ) (us vs : List Token) → IsFragmentList mode n a us →
+    IsFragmentList mode k b vs → IsFragmentList mode (n + k) (a ++ (byte "," ∷ byte " " ∷ b)) (us ++ comma_then vs)
+list_list mode n k a b us vs x y = record {
+  list_text = text_of-append us (comma_then vs) ∙ (ap (λ z. z ++ text_of (comma_then vs)) x.list_text ∙ ap (λ z. a ++ (byte "," ∷ byte " " ∷ z)) y.list_text);
+  list_tokens = λ rest. AreTokensBefore-append mode us (comma_then vs) rest (x.list_tokens _) (plain_at mode (byte ",") _ refl, (plain_at mode (byte " ") _ refl, y.list_tokens rest));
+  list_opens = λ before rest s. rw (text_then-append us (comma_then vs) rest) (x.list_opens before _ s);
+  list_settled = λ rest h. AreSettledBefore-append us (comma_then vs) rest (x.list_settled _ refl) (refl, refl, (refl, refl, y.list_settled rest h));
+  list_alone = λ more first each place before last.
+      rw (append_assoc us (comma_then vs) more)
+      (x.list_alone (comma_then (vs ++ more)) refl
+      (λ place before. y.list_alone more first each place ((before ++ byte "," ∷ []) ++ byte " " ∷ []) (last-append may_stand_before (before ++ byte "," ∷ []) (byte " ") []))
+      place before last);
+  list_names = names-append us (comma_then vs) ∙ (ap (λ z. z ++ names vs) x.list_names ∙ y.list_names);
+  list_marks = omega (arith, marks-append us (comma_then vs), x.list_marks, y.list_marks);
+}
+
+abbrev in_brackets : List Token → List Token
+in_brackets list = Plain (byte "(") ∷ (list ++ Plain (byte ")") ∷ [])
+
+row_list : (mode : Bool) (n : ℕ) (a : List ℕ) (us : List Token) → IsFragmentList mode n a us →
+    IsFragmentList mode n (byte "(" ∷ (a ++ byte ")" ∷ [])) (in_brackets us)
+row_list mode n a us x = record {
+  list_text = ap (λ u. byte "(" ∷ u) (text_of-append us (Plain (byte ")") ∷ []) ∙ ap (λ u. u ++ byte ")" ∷ []) x.list_text);
+  list_tokens = λ rest. (plain_at mode (byte "(") _ refl, AreTokensBefore-append mode us (Plain (byte ")") ∷ []) rest (x.list_tokens _) (plain_at mode (byte ")") _ refl, tt));
+  list_opens = λ before rest s. refl;
+  list_settled = λ rest h. (refl, refl, AreSettledBefore-append us (Plain (byte ")") ∷ []) rest (x.list_settled _ refl) (refl, refl, tt));
+  list_alone = λ more first each place before last.
+      rw (append_assoc us (Plain (byte ")") ∷ []) more)
+      (x.list_alone (Plain (byte ")") ∷ more) refl
+      (λ place before. each place (before ++ byte ")" ∷ []))
+      place (before ++ byte "(" ∷ []) (last-append may_stand_before before (byte "(") []));
+  list_names = names-append us (Plain (byte ")") ∷ []) ∙ (ap (λ z. z ++ []) x.list_names);
+  list_marks = omega (arith, marks-append us (Plain (byte ")") ∷ []), x.list_marks);
+}
+
+pub fragment_list_of : (mode : Bool) {n : ℕ} {text : List ℕ} → IsFragment mode n text →
+    (list : List Token) × IsFragmentList mode n text list
+fragment_list_of mode mark_fragment = (Mark ∷ [], mark_list mode)
+fragment_list_of mode (literal_fragment literal h) = literal_list mode literal h
+fragment_list_of mode (decimal_fragment whole fraction w f) = (decimal_tokens whole fraction, decimal_list whole fraction w f mode)
+fragment_list_of mode (negative_decimal_fragment whole fraction w f) = (Plain dash ∷ decimal_tokens whole fraction, negative_list mode whole fraction w f)
+fragment_list_of mode (identifier_fragment text h) = identifier_list mode h
+fragment_list_of mode (keyword_fragment text h) = keyword_list mode text h
+fragment_list_of mode (list_fragment n k first more a b) =
+    let x = fragment_list_of mode a in
+    let y = fragment_list_of mode b in
+    (x.0 ++ comma_then y.0, list_list mode n k first more x.0 y.0 x.1 y.1)
+fragment_list_of mode (row_fragment n inner a) =
+    let x = fragment_list_of mode a in
+    (in_brackets x.0, row_list mode n inner x.0 x.1)

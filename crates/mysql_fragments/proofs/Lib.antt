@@ -1,0 +1,7 @@
+pub mod TextLemmas
+pub mod FragmentLemmas
+pub mod SplicedFragmentLemmas
+pub mod ShapeLemmas
+pub mod PlaceLemmas
+pub mod CauseLemmas
+pub mod ExpandedLemmas

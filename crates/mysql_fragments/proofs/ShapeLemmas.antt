@@ -1,0 +1,202 @@
+-- The shapes of fragments that can be written.
+use Rattle.std.specs.Prelude.{Bool, codes, if◌then◌else◌, ⊤}
+use Rattle.std.specs.List.{flat_map, list_all}
+use Rattle.std.specs.Global.{Vec}
+use Rattle.std.specs.Char.{is_ascii_digit}
+use Rattle.std.proofs.Common.{◌≡◌, ◌+◌, ◌++◌, ◌==◌, ◌&&◌, not, ℕ, true, false, List, [], ◌∷◌, length, map, Some, None, Option, option_map, nat_eq, inl, inr, refl, sym, ap, ◌∙◌, subst, append_assoc, append-nil, true≢false, length-append}
+use Rattle.std.proofs.lemmas.Bool.{and_parts, and_from, cases_Bool, eqb-true}
+use Rattle.mysql_values.specs.declared.value.Value.{Value}
+use Rattle.mysql_sql_text.specs.LiteralShape.{AreDigits, natural_literal, negative_literal}
+use Rattle.mysql_named_params.specs.Bytes.{dash, point}
+use Rattle.mysql_binding.proofs.CauseLemmas.{or_none}
+use Rattle.mysql_fragments.specs.FragmentErrors.{first_fault_from}
+use Rattle.mysql_fragments.specs.FragmentFaults.{fault_of, is_decimal, is_keyword, is_number_from, item_fault, items_fault, list_fault, names_fault, number_fault, row_fault, rows_fault, rows_fault_from}
+use Rattle.mysql_fragments.specs.FragmentShape.{IsIdentifier, one_name, more_names, IsFragment, AreFragments, mark_fragment, literal_fragment, decimal_fragment, negative_decimal_fragment, identifier_fragment, keyword_fragment, list_fragment, row_fragment}
+use Rattle.mysql_fragments.specs.FragmentText.{joined, identifier_text, item_text, item_values, items_text, row_text, fragment_text, fragment_values, all_values, mark_number}
+use Rattle.mysql_fragments.proofs.SplicedFragmentLemmas.{total}
+use Rattle.mysql_fragments.specs.declared.fragment.Item.{Item}
+use Rattle.mysql_fragments.specs.declared.fragment.Item.TheVariants as item
+use Rattle.mysql_fragments.specs.declared.fragment.Fragment.{Fragment}
+use Rattle.mysql_fragments.specs.declared.fragment.Fragment.TheVariants as one
+use Rattle.mysql_fragments.specs.declared.fragments_error.FragmentFault.{FragmentFault}
+
+-- ---- exact numbers
+
+-- after the point
+fraction_digits : (digit : Bool) (bytes : List ℕ) → is_number_from digit true bytes ≡ true →
+    (list_all is_ascii_digit bytes ≡ true) × (digit ≡ false → AreDigits bytes)
+fraction_digits digit [] h = (refl, λ e. absurd (true≢false (sym h ∙ e)))
+fraction_digits digit (b ∷ bytes) h =
+    elim (cases_Bool (is_ascii_digit b)) [
+      | inl e ↦ let all = (fraction_digits true bytes (rw e at h)).0 in (and_from _ _ e all, λ n. (e, all))
+      | inr e ↦
+          let k : (((b == point) && (digit && not true)) && is_number_from false true bytes) ≡ true = rw e at h in
+          absurd (no_point digit (and_parts (b == point) (digit && not true) (and_parts _ _ k).0).1)
+    ]
+  where
+    no_point : (digit : Bool) → (digit && not true) ≡ true → ⊥
+    no_point true e = true≢false (sym e)
+    no_point false e = true≢false (sym e)
+
+-- a number with these bytes
+data IsNumber : List ℕ → Type 0 where
+  whole_number : (bytes : List ℕ) → AreDigits bytes → IsNumber bytes
+  with_point : (whole fraction : List ℕ) → AreDigits whole → AreDigits fraction → IsNumber (whole ++ (codes "." ++ fraction))
+
+all_push : (front : List ℕ) (b : ℕ) → list_all is_ascii_digit front ≡ true → is_ascii_digit b ≡ true → AreDigits (front ++ b ∷ [])
+all_push [] b h e = (e, refl)
+all_push (c ∷ front) b h e =
+    let p = and_parts (is_ascii_digit c) (list_all is_ascii_digit front) h in
+    (p.0, digits_all (front ++ b ∷ []) (all_push front b p.1 e))
+  where
+    digits_all : (bytes : List ℕ) → AreDigits bytes → list_all is_ascii_digit bytes ≡ true
+    digits_all [] h = absurd h
+    digits_all (c ∷ bytes) h = and_from _ _ h.0 h.1
+
+all_of : (bytes : List ℕ) → AreDigits bytes → list_all is_ascii_digit bytes ≡ true
+all_of [] h = absurd h
+all_of (c ∷ bytes) h = and_from _ _ h.0 h.1
+
+number_parts : (front bytes : List ℕ) (digit : Bool) → list_all is_ascii_digit front ≡ true →
+    (digit ≡ true → AreDigits front) → is_number_from digit false bytes ≡ true → IsNumber (front ++ bytes)
+number_parts front [] digit all some h = subst IsNumber (sym (append-nil front)) (whole_number front (some h))
+number_parts front (b ∷ bytes) digit all some h =
+    elim (cases_Bool (is_ascii_digit b)) [
+      | inl e ↦
+          let more = all_push front b all e in
+          subst IsNumber (append_assoc front (b ∷ []) bytes) (number_parts (front ++ b ∷ []) bytes true (all_of (front ++ b ∷ []) more) (λ t. more) (rw e at h))
+      | inr e ↦
+          let k : (((b == point) && (digit && not false)) && is_number_from false true bytes) ≡ true = rw e at h in
+          let p = and_parts _ _ k in
+          let q = and_parts (b == point) (digit && not false) p.0 in
+          subst (λ x. IsNumber (front ++ x ∷ bytes)) (sym (eqb-true b (point) q.0))
+          (with_point front bytes (some (and_parts digit (not false) q.1).0) ((fraction_digits false bytes p.1).1 refl))
+    ]
+
+number_fragment : (mode : Bool) (bytes : List ℕ) → IsNumber bytes → IsFragment mode 0 bytes
+number_fragment mode _ (whole_number bytes h) = literal_fragment bytes (natural_literal bytes h)
+number_fragment mode _ (with_point whole fraction w f) = decimal_fragment whole fraction w f
+
+negative_fragment : (mode : Bool) (bytes : List ℕ) → IsNumber bytes → IsFragment mode 0 (codes "-" ++ bytes)
+negative_fragment mode _ (whole_number bytes h) = literal_fragment (codes "-" ++ bytes) (negative_literal bytes h)
+negative_fragment mode _ (with_point whole fraction w f) = negative_decimal_fragment whole fraction w f
+
+decimal_is : (mode : Bool) (text : List ℕ) → is_decimal text ≡ true → IsFragment mode 0 text
+decimal_is mode [] h = absurd (true≢false (sym h))
+decimal_is mode (b ∷ bytes) h =
+    elim (cases_Bool (b == dash)) [
+      | inl e ↦
+          subst (λ x. IsFragment mode 0 (x ∷ bytes)) (sym (eqb-true b (dash) e))
+          (negative_fragment mode bytes (number_parts [] bytes false refl (λ t. absurd (true≢false (sym t))) (rw e at h)))
+      | inr e ↦ number_fragment mode (b ∷ bytes) (number_parts [] (b ∷ bytes) false refl (λ t. absurd (true≢false (sym t))) (rw e at h))
+    ]
+
+-- ---- faults that there aren't
+
+map_none : {A B : Type 0} (f : A → B) (x : Option A) → option_map f x ≡ None → x ≡ None
+map_none f None e = refl
+map_none f (Some x) e = cc
+
+if_fault : (b : Bool) (x : FragmentFault) → (if b then None else Some x) ≡ None → b ≡ true
+if_fault true x e = refl
+if_fault false x e = cc
+
+number_shape : (mode : Bool) (row index : ℕ) (text : List ℕ) → number_fault row index text ≡ None → IsFragment mode 0 text
+number_shape mode row index text h = decimal_is mode text (if_fault (is_decimal text) _ h)
+
+-- ---- several with commas between them
+
+-- each has the shape of a fragment with as many marks as it has values
+AllShaped : {X : Type 0} → Bool → (X → List ℕ) → (X → List Value) → List X → Type 0
+AllShaped mode text values [] = ⊤
+AllShaped mode text values (x ∷ xs) = IsFragment mode (length (values x)) (text x) × AllShaped mode text values xs
+
+joined_shape : {X : Type 0} (mode : Bool) (text : X → List ℕ) (values : X → List Value) (x : X) (xs : List X) →
+    AllShaped mode text values (x ∷ xs) → IsFragment mode (length (flat_map values (x ∷ xs))) (joined (codes ", ") (map text (x ∷ xs)))
+unfolding AllShaped
+joined_shape mode text values x [] h =
+    subst (λ n. IsFragment mode n (text x ++ [])) (ap length (sym (append-nil (values x)))) (subst (IsFragment mode (length (values x))) (sym (append-nil (text x))) h.0)
+joined_shape mode text values x (y ∷ ys) h =
+    subst (λ n. IsFragment mode n (joined (codes ", ") (map text (x ∷ y ∷ ys)))) (sym (length-append (values x) (flat_map values (y ∷ ys))))
+    (list_fragment (length (values x)) (length (flat_map values (y ∷ ys))) (text x) (joined (codes ", ") (map text (y ∷ ys))) h.0 (joined_shape mode text values y ys h.1))
+
+item_shape : (mode : Bool) (row index : ℕ) (x : Item) → item_fault row index x ≡ None → IsFragment mode (length (item_values x)) (item_text x)
+item_shape mode row index (item.Value value) h = mark_fragment
+item_shape mode row index (item.Decimal text) h = number_shape mode row index text.items h
+
+item_shapes : (mode : Bool) (row index : ℕ) (items : List Item) → items_fault row index items ≡ None → AllShaped mode item_text item_values items
+unfolding AllShaped
+item_shapes mode row index [] h = tt
+item_shapes mode row index (x ∷ items) h =
+    let p = or_none (item_fault row index x) (items_fault row (index + 1) items) h in
+    (item_shape mode row index x p.0, item_shapes mode row (index + 1) items p.1)
+
+items_shape : (mode : Bool) (row : ℕ) (x : Item) (items : List Item) → items_fault row 0 (x ∷ items) ≡ None →
+    IsFragment mode (length (flat_map item_values (x ∷ items))) (items_text (x ∷ items))
+items_shape mode row x items h = joined_shape mode item_text item_values x items (item_shapes mode row 0 (x ∷ items) h)
+
+if_row : (b : Bool) (x : Option FragmentFault) (y : FragmentFault) → (if b then x else Some y) ≡ None → x ≡ None
+if_row true x y e = e
+if_row false x y e = cc
+
+-- the values of a row
+abbrev row_values : Vec Item → List Value
+row_values row = flat_map item_values row.items
+
+row_shape : (mode : Bool) (width row : ℕ) (items : List Item) → row_fault width row items ≡ None →
+    IsFragment mode (length (flat_map item_values items)) (codes "(" ++ (items_text items ++ codes ")"))
+row_shape mode width row [] h = cc
+row_shape mode width row (x ∷ items) h =
+    row_fragment _ _ (items_shape mode row x items (if_row (nat_eq (length (x ∷ items)) width) _ _ h))
+
+row_shapes : (mode : Bool) (width row : ℕ) (rows : List (Vec Item)) → rows_fault_from width row rows ≡ None →
+    AllShaped mode row_text row_values rows
+unfolding AllShaped
+row_shapes mode width row [] h = tt
+row_shapes mode width row (items ∷ rows) h =
+    let p = or_none (row_fault width row items.items) (rows_fault_from width (row + 1) rows) h in
+    (row_shape mode width row items.items p.0, row_shapes mode width (row + 1) rows p.1)
+
+rows_shape : (mode : Bool) (rows : List (Vec Item)) → rows_fault rows ≡ None →
+    IsFragment mode (length (flat_map row_values rows)) (joined (codes ", ") (map row_text rows))
+rows_shape mode [] h = cc
+rows_shape mode (row ∷ rows) h = joined_shape mode row_text row_values row rows (row_shapes mode (length row.items) 0 (row ∷ rows) h)
+
+-- ---- identifiers
+
+path_shape : (name : Vec ℕ) (names : List (Vec ℕ)) →
+    IsIdentifier (joined (codes ".") (map (λ name. identifier_text name.items) (name ∷ names)))
+path_shape name [] = subst IsIdentifier (sym (append-nil (identifier_text name.items))) (one_name name.items)
+path_shape name (next ∷ names) = more_names name.items _ (path_shape next names)
+
+-- ---- fragments that can be written
+
+pub fragment_shape : (mode : Bool) (fragment : Fragment) → fault_of fragment ≡ None →
+    IsFragment mode (mark_number fragment) (fragment_text fragment)
+fragment_shape mode (one.Value value) h = mark_fragment
+fragment_shape mode (one.Decimal text) h = number_shape mode 0 0 text.items h
+fragment_shape mode (one.List items) h = go items.items h
+  where
+    go : (items : List Item) → list_fault items ≡ None → IsFragment mode (length (flat_map item_values items)) (items_text items)
+    go [] h = cc
+    go (x ∷ items) h = items_shape mode 0 x items h
+fragment_shape mode (one.Rows rows) h = rows_shape mode rows.items h
+fragment_shape mode (one.Identifier name) h = identifier_fragment (identifier_text name.items) (one_name name.items)
+fragment_shape mode (one.Qualified names) h = go names.items h
+  where
+    go : (names : List (Vec ℕ)) → names_fault names ≡ None → IsFragment mode 0 (joined (codes ".") (map (λ name. identifier_text name.items) names))
+    go [] h = cc
+    go (name ∷ names) h = identifier_fragment _ (path_shape name names)
+fragment_shape mode (one.Keyword keyword) h = keyword_fragment keyword.word.items (if_fault (is_keyword keyword.word.items) _ h)
+
+pub fragment_shapes : (mode : Bool) (place : ℕ) (fragments : List Fragment) → first_fault_from place fragments ≡ None →
+    AreFragments mode (map mark_number fragments) (map fragment_text fragments)
+fragment_shapes mode place [] h = tt
+fragment_shapes mode place (fragment ∷ fragments) h =
+    let p = or_none (option_map (λ fault. (place, fault)) (fault_of fragment)) (first_fault_from (place + 1) fragments) h in
+    (fragment_shape mode fragment (map_none _ (fault_of fragment) p.0), fragment_shapes mode (place + 1) fragments p.1)
+
+pub mark_sum : (fragments : List Fragment) → total (map mark_number fragments) ≡ length (all_values fragments)
+mark_sum [] = refl
+mark_sum (fragment ∷ fragments) =
+    ap (λ n. mark_number fragment + n) (mark_sum fragments) ∙ sym (length-append (fragment_values fragment) (all_values fragments))

@@ -1,0 +1,13 @@
+use Rattle.std.proofs.Common.{arith}
+use Rattle.std.specs.Prelude.{codes}
+use Rattle.mysql_fragments.specs.FragmentText.{item_text}
+use Rattle.mysql_fragments.proofs.TextLemmas.{joined_step}
+use Rattle.mysql_fragments.proofs.written.push_items.Goals as goal
+use Rattle.mysql_fragments.proofs.written.push_items.Goals.{then-i-gt0+in_ok-extend_from_slice, else-i-gt0}
+
+pub loop-i-preserved : goal.loop-i-preserved
+loop-i-preserved c =
+    joined_step (codes ", ") item_text c.args.items.now c.loop-i.i c.index-items-i.result c.args.text.now.items c.loop-i.text.items c.if-i-gt0.text.items _ c.loop-i-test.true c.index-items-i.is c.loop-i.invariant
+    (λ z. elim c.if-i-gt0.branch [ then-i-gt0+in_ok-extend_from_slice w ↦ absurd (omega (arith, z)) | else-i-gt0 w ↦ cc ])
+    (λ z. elim c.if-i-gt0.branch [ then-i-gt0+in_ok-extend_from_slice w ↦ cc (w.in_ok-extend_from_slice.ensures.items) | else-i-gt0 w ↦ absurd (omega (arith, z)) ])
+    c.in_ok-push_item.ensures

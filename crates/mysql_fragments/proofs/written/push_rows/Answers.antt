@@ -1,0 +1,24 @@
+use Rattle.std.proofs.Common.{◌≡◌, ◌++◌, ◌∷◌, ℕ, List, [], arith, ap, ◌∙◌, append_assoc}
+use Rattle.std.specs.Prelude.{codes}
+use Rattle.std.specs.Str.{byte}
+use Rattle.mysql_fragments.specs.FragmentText.{items_text, row_text}
+use Rattle.mysql_fragments.proofs.TextLemmas.{joined_step}
+use Rattle.mysql_fragments.proofs.written.push_rows.Goals as goal
+use Rattle.mysql_fragments.proofs.written.push_rows.Goals.{then-i-gt0+in_ok-extend_from_slice, else-i-gt0}
+
+row_written : (before marks text1 text2 text3 : List ℕ) → text1 ≡ before ++ byte "(" ∷ [] → text2 ≡ text1 ++ marks →
+    text3 ≡ text2 ++ byte ")" ∷ [] → text3 ≡ before ++ (codes "(" ++ (marks ++ codes ")"))
+row_written before marks text1 text2 text3 e1 e2 e3 =
+    e3 ∙ (ap (λ u. u ++ byte ")" ∷ []) (e2 ∙ ap (λ u. u ++ marks) e1)
+    ∙ (append_assoc (before ++ byte "(" ∷ []) marks (byte ")" ∷ []) ∙ append_assoc before (byte "(" ∷ []) (marks ++ byte ")" ∷ [])))
+
+pub loop-i-preserved : goal.loop-i-preserved
+loop-i-preserved c =
+    let row = c.index-rows-i.result in
+    let before = c.if-i-gt0.text.items in
+    let whole : c.push-in-loop-i.new.self.items ≡ before ++ row_text row =
+    row_written before (items_text row.items) _ _ _ c.in_ok-push.ensures.items (c.in_ok-push_items.ensures ∙ ap (λ vs. c.push.new.self.items ++ items_text vs) c.as_slice.ensures.value) c.in_ok-push-2.ensures.items in
+    joined_step (codes ", ") row_text c.args.rows.now c.loop-i.i row c.args.text.now.items c.loop-i.text.items before _ c.loop-i-test.true c.index-rows-i.is c.loop-i.invariant
+    (λ z. elim c.if-i-gt0.branch [ then-i-gt0+in_ok-extend_from_slice w ↦ absurd (omega (arith, z)) | else-i-gt0 w ↦ cc ])
+    (λ z. elim c.if-i-gt0.branch [ then-i-gt0+in_ok-extend_from_slice w ↦ cc (w.in_ok-extend_from_slice.ensures.items) | else-i-gt0 w ↦ absurd (omega (arith, z)) ])
+    whole

@@ -1,0 +1,134 @@
+-- Why a fragment can't be written: its first fault. Names are refused as servers refuse them (MySQL
+-- Reference Manual, "Schema Object Names", "Identifier Length Limits").
+use Rattle.std.specs.Prelude.{◌+◌, ◌-◌, ◌==◌, ◌&&◌, nat_eq, nat_le, nat_lt, not, ℕ, Bool, true, false, List, [], ◌∷◌, length, if◌then◌else◌, Option, None, Some, slice_index_or}
+use Rattle.std.specs.Char.{is_ascii_alphabetic, is_ascii_digit}
+use Rattle.std.specs.List.{list_any}
+use Rattle.std.specs.Option.{option_or}
+use Rattle.std.specs.Global.{Vec}
+use Rattle.mysql_named_params.specs.Bytes.{dash, point, space, underscore}
+use Rattle.mysql_fragments.specs.declared.fragment.Item.{Item}
+use Rattle.mysql_fragments.specs.declared.fragment.Item.TheVariants as item
+use Rattle.mysql_fragments.specs.declared.fragment.Fragment.{Fragment}
+use Rattle.mysql_fragments.specs.declared.fragment.Fragment.TheVariants as one
+use Rattle.mysql_fragments.specs.declared.fragments_error.FragmentFault.{FragmentFault}
+use Rattle.mysql_fragments.specs.declared.fragments_error.FragmentFault.TheVariants.{Empty, EmptyRow, RowLength, Number, EmptyName, ZeroByte, LongName, TrailingSpace, Keyword}
+
+-- ---- exact numbers
+
+-- digits, and at most one point with a digit on both sides: whether the part has a digit yet, and
+-- whether the point was passed
+abbrev pub is_number_from : Bool → Bool → List ℕ → Bool
+is_number_from digit point_passed [] = digit
+is_number_from digit point_passed (b ∷ bytes) =
+    if is_ascii_digit b then is_number_from true point_passed bytes
+    else ((b == point) && (digit && not point_passed)) && is_number_from false true bytes
+
+-- an exact number: digits with at most one point between them, and before them at most one `-`
+abbrev pub is_decimal : List ℕ → Bool
+is_decimal [] = false
+is_decimal (b ∷ bytes) =
+    if b == dash then is_number_from false false bytes
+    else is_number_from false false (b ∷ bytes)
+
+-- the fault of a text that is to be an exact number, as this item of this row
+abbrev pub number_fault : ℕ → ℕ → List ℕ → Option FragmentFault
+number_fault row index text = if is_decimal text then None else Some (Number row index)
+
+-- ---- items and rows
+
+-- the fault of this item of this row
+abbrev pub item_fault : ℕ → ℕ → Item → Option FragmentFault
+item_fault row index (item.Value value) = None
+item_fault row index (item.Decimal text) = number_fault row index text.items
+
+-- the first fault of the items of this row from this index on
+abbrev pub items_fault : ℕ → ℕ → List Item → Option FragmentFault
+items_fault row index [] = None
+items_fault row index (x ∷ items) =
+    option_or (item_fault row index x) (items_fault row (index + 1) items)
+
+-- the first fault of a list
+abbrev pub list_fault : List Item → Option FragmentFault
+list_fault [] = Some Empty
+list_fault (x ∷ items) = items_fault 0 0 (x ∷ items)
+
+-- the first fault of this row: it has items, as many as the first row
+abbrev pub row_fault : ℕ → ℕ → List Item → Option FragmentFault
+row_fault width row [] = Some (EmptyRow row)
+row_fault width row (x ∷ items) =
+    if nat_eq (length (x ∷ items)) width then items_fault row 0 (x ∷ items)
+    else Some (RowLength row)
+
+-- the first fault of rows from this index on
+abbrev pub rows_fault_from : ℕ → ℕ → List (Vec Item) → Option FragmentFault
+rows_fault_from width row [] = None
+rows_fault_from width row (items ∷ rows) =
+    option_or (row_fault width row items.items) (rows_fault_from width (row + 1) rows)
+
+-- the first fault of rows
+abbrev pub rows_fault : List (Vec Item) → Option FragmentFault
+rows_fault [] = Some Empty
+rows_fault (first ∷ rows) = rows_fault_from (length first.items) 0 (first ∷ rows)
+
+-- ---- identifiers
+
+-- a byte that goes on with a UTF-8 character
+abbrev pub is_continuation : ℕ → Bool
+is_continuation b = nat_le 128 b && nat_lt b 192
+
+-- the number of characters of a name: of bytes that begin one
+abbrev pub character_count : List ℕ → ℕ
+character_count [] = 0
+character_count (b ∷ bytes) =
+    if is_continuation b then character_count bytes else character_count bytes + 1
+
+-- the last byte is a space
+abbrev pub ends_in_space : List ℕ → Bool
+ends_in_space name = slice_index_or name (length name - 1) 0 == space
+
+-- the fault of the name with this number in an identifier
+abbrev pub name_fault : ℕ → List ℕ → Option FragmentFault
+name_fault part [] = Some (EmptyName part)
+name_fault part (b ∷ bytes) =
+    if list_any (λ c. c == 0) (b ∷ bytes) then Some (ZeroByte part)
+    else if nat_lt 64 (character_count (b ∷ bytes)) then Some (LongName part)
+    else if ends_in_space (b ∷ bytes) then Some (TrailingSpace part)
+    else None
+
+-- the first fault of names from this number on
+abbrev pub names_fault_from : ℕ → List (Vec ℕ) → Option FragmentFault
+names_fault_from part [] = None
+names_fault_from part (name ∷ names) =
+    option_or (name_fault part name.items) (names_fault_from (part + 1) names)
+
+-- the first fault of a qualified identifier
+abbrev pub names_fault : List (Vec ℕ) → Option FragmentFault
+names_fault [] = Some Empty
+names_fault (name ∷ names) = names_fault_from 0 (name ∷ names)
+
+-- ---- keywords
+
+-- words of letters and `_` that begin with a letter, with one space between them: whether a word
+-- has begun
+abbrev pub is_keyword_from : Bool → List ℕ → Bool
+is_keyword_from begun [] = begun
+is_keyword_from begun (b ∷ bytes) =
+    if is_ascii_alphabetic b then is_keyword_from true bytes
+    else if b == underscore then begun && is_keyword_from true bytes
+    else ((b == space) && begun) && is_keyword_from false bytes
+
+-- a keyword
+abbrev pub is_keyword : List ℕ → Bool
+is_keyword = is_keyword_from false
+
+-- ---- fragments
+
+-- the first fault of a fragment
+abbrev pub fault_of : Fragment → Option FragmentFault
+fault_of (one.Value value) = None
+fault_of (one.Decimal text) = number_fault 0 0 text.items
+fault_of (one.List items) = list_fault items.items
+fault_of (one.Rows rows) = rows_fault rows.items
+fault_of (one.Identifier name) = name_fault 0 name.items
+fault_of (one.Qualified names) = names_fault names.items
+fault_of (one.Keyword keyword) = if is_keyword keyword.word.items then None else Some Keyword

@@ -1,0 +1,43 @@
+-- The shape of what is put in a place of a query, with the number of its marks: a mark, a literal,
+-- an exact number, an identifier, a keyword, or several of these in a list or a row.
+use Rattle.std.specs.Prelude.{◌+◌, ℕ, Bool, IsTrue, List, [], ◌∷◌, ◌++◌, codes, ⊤}
+use Rattle.mysql_sql_text.specs.LiteralShape.{AreDigits, IsLiteral}
+use Rattle.mysql_fragments.specs.FragmentFaults.{is_keyword}
+use Rattle.mysql_fragments.specs.FragmentText.{identifier_text}
+
+-- identifiers in backquotes with `.` between them
+pub data IsIdentifier : List ℕ → Type 0 where
+  one_name : (name : List ℕ) → IsIdentifier (identifier_text name)
+  more_names : (name more : List ℕ) → IsIdentifier more →
+      IsIdentifier (identifier_text name ++ (codes "." ++ more))
+
+-- the text has the shape of a fragment with this number of marks
+pub data IsFragment (mode : Bool) : ℕ → List ℕ → Type 0 where
+  -- `?`
+  mark_fragment : IsFragment mode 1 (codes "?")
+  -- a literal, a whole number among them
+  literal_fragment : (literal : List ℕ) → IsLiteral mode literal → IsFragment mode 0 literal
+  -- digits, a point and digits: an exact number
+  decimal_fragment : (whole fraction : List ℕ) → AreDigits whole → AreDigits fraction →
+      IsFragment mode 0 (whole ++ (codes "." ++ fraction))
+  -- .. with a sign
+  negative_decimal_fragment : (whole fraction : List ℕ) → AreDigits whole → AreDigits fraction →
+      IsFragment mode 0 (codes "-" ++ (whole ++ (codes "." ++ fraction)))
+  -- an identifier
+  identifier_fragment : (text : List ℕ) → IsIdentifier text → IsFragment mode 0 text
+  -- a keyword
+  keyword_fragment : (text : List ℕ) → IsTrue (is_keyword text) → IsFragment mode 0 text
+  -- one after another
+  list_fragment : (n k : ℕ) (first more : List ℕ) → IsFragment mode n first →
+      IsFragment mode k more → IsFragment mode (n + k) (first ++ (codes ", " ++ more))
+  -- in brackets
+  row_fragment : (n : ℕ) (inner : List ℕ) → IsFragment mode n inner →
+      IsFragment mode n (codes "(" ++ (inner ++ codes ")"))
+
+-- each of the texts has the shape of a fragment with this number of marks
+abbrev pub AreFragments : Bool → List ℕ → List (List ℕ) → Type 0
+AreFragments mode [] [] = ⊤
+AreFragments mode [] (text ∷ texts) = ⊥
+AreFragments mode (n ∷ counts) [] = ⊥
+AreFragments mode (n ∷ counts) (text ∷ texts) =
+    IsFragment mode n text × AreFragments mode counts texts

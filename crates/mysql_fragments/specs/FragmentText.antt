@@ -1,0 +1,77 @@
+-- The text of a fragment with a mark for each of its values, and these values, in order (MySQL
+-- Reference Manual, "Numeric Literals", "Schema Object Names", "Comparison Functions and
+-- Operators", "VALUES Statement").
+use Rattle.std.specs.Prelude.{◌==◌, ℕ, List, [], ◌∷◌, ◌++◌, if◌then◌else◌, map, codes, length}
+use Rattle.std.specs.List.{flat_map}
+use Rattle.std.specs.Global.{Vec}
+use Rattle.mysql_values.specs.declared.value.Value.{Value}
+use Rattle.mysql_named_params.specs.Bytes.{backquote}
+use Rattle.mysql_fragments.specs.declared.fragment.Item.{Item}
+use Rattle.mysql_fragments.specs.declared.fragment.Item.TheVariants as item
+use Rattle.mysql_fragments.specs.declared.fragment.Fragment.{Fragment}
+use Rattle.mysql_fragments.specs.declared.fragment.Fragment.TheVariants as one
+
+-- each text after this separator
+abbrev pub each_after : List ℕ → List (List ℕ) → List ℕ
+each_after separator = flat_map (λ text. separator ++ text)
+
+-- texts with this separator between each and the next
+abbrev pub joined : List ℕ → List (List ℕ) → List ℕ
+joined separator [] = []
+joined separator (text ∷ texts) = text ++ each_after separator texts
+
+-- each backquote twice
+abbrev pub doubled : List ℕ → List ℕ
+doubled [] = []
+doubled (b ∷ bs) = if b == backquote then b ∷ b ∷ doubled bs else b ∷ doubled bs
+
+-- a name as an identifier in backquotes
+abbrev pub identifier_text : List ℕ → List ℕ
+identifier_text name = codes "`" ++ (doubled name ++ codes "`")
+
+-- an item: a mark for a value, a number as it is written
+abbrev pub item_text : Item → List ℕ
+item_text (item.Value value) = codes "?"
+item_text (item.Decimal number) = number.items
+
+-- items with commas between them
+abbrev pub items_text : List Item → List ℕ
+items_text items = joined (codes ", ") (map item_text items)
+
+-- a row: its items in brackets
+abbrev pub row_text : Vec Item → List ℕ
+row_text row = codes "(" ++ (items_text row.items ++ codes ")")
+
+-- the text of a fragment
+abbrev pub fragment_text : Fragment → List ℕ
+fragment_text (one.Value value) = codes "?"
+fragment_text (one.Decimal number) = number.items
+fragment_text (one.List items) = items_text items.items
+fragment_text (one.Rows rows) = joined (codes ", ") (map row_text rows.items)
+fragment_text (one.Identifier name) = identifier_text name.items
+fragment_text (one.Qualified names) =
+    joined (codes ".") (map (λ name. identifier_text name.items) names.items)
+fragment_text (one.Keyword keyword) = keyword.word.items
+
+-- the value of an item, if it is one
+abbrev pub item_values : Item → List Value
+item_values (item.Value value) = value ∷ []
+item_values (item.Decimal number) = []
+
+-- the values of a fragment, in the order of their marks
+abbrev pub fragment_values : Fragment → List Value
+fragment_values (one.Value value) = value ∷ []
+fragment_values (one.Decimal number) = []
+fragment_values (one.List items) = flat_map item_values items.items
+fragment_values (one.Rows rows) = flat_map (λ row. flat_map item_values row.items) rows.items
+fragment_values (one.Identifier name) = []
+fragment_values (one.Qualified names) = []
+fragment_values (one.Keyword keyword) = []
+
+-- the values of fragments, in the order of their marks
+abbrev pub all_values : List Fragment → List Value
+all_values = flat_map fragment_values
+
+-- the number of marks in the text of a fragment
+abbrev pub mark_number : Fragment → ℕ
+mark_number fragment = length (fragment_values fragment)

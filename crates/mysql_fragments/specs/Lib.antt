@@ -1,0 +1,6 @@
+pub mod FragmentText
+pub mod FragmentFaults
+pub mod FragmentShape
+pub mod GivenFragments
+pub mod FragmentErrors
+pub mod Expanded

@@ -1,0 +1,347 @@
+//! Queries with fragments in their places.
+ghost use Rattle.std.specs.Prelude.{◌≡◌, false, true, List, None, Some, IfErr, IfOk, IsErrOf, alloc_error, length, map, option_map};
+ghost use Rattle.mysql_sql_text.specs.StringUnits.{with_backslashes};
+ghost use Rattle.mysql_named_params.specs.Tokens.{OnTokens, Token};
+ghost use Rattle.mysql_named_params.specs.Places.{HasName, HasMark, place_count};
+ghost use Rattle.mysql_params_core.specs.Referents.{referents};
+ghost use Rattle.mysql_binding.specs.FirstCause.{mark_count_differs};
+ghost use Rattle.mysql_binding.specs.Pieces.{pieces, joined_text};
+ghost use Rattle.mysql_binding.specs.Survey.{IsSurvey};
+ghost use Rattle.mysql_fragments.specs.Expanded.{IsBoundFragments, IsExpandedQuery};
+ghost use Rattle.mysql_fragments.specs.FragmentErrors.{IsCauseOrMemory, cause_of, first_cause, first_fault_from, first_float_from, later_cause, literal_float};
+ghost use Rattle.mysql_fragments.specs.FragmentText.{all_values, fragment_text};
+ghost use Rattle.mysql_fragments.specs.GivenFragments.{given_fragments};
+
+use crate::fragment::{Fragment, Fragments};
+use crate::fragments_error::{FragmentFault, FragmentsError};
+use crate::places::fragments_of_places;
+use crate::written::{has_float, push_fragment, push_values};
+use mysql_binding::{BindError, Survey, bind_text_in, place_survey};
+use mysql_named_params::places::first_place;
+use mysql_params_core::params::Params;
+use mysql_values::value::Value;
+use std::alloc::{AllocError, Global};
+
+/// A query with fragments in its places: what a prepared statement takes.
+#[derive(Drop)]
+pub struct ExpandedQuery {
+    /// The text of the query, with a mark for each value.
+    pub query: Vec<u8>,
+    /// The values for its marks, in order.
+    pub values: Vec<Value>,
+}
+
+/// The query with the text of a fragment in the place of each name and mark, where a mark stands
+/// for each value of the fragment, and these values: `a IN (?)` with a list of three values is
+/// `a IN (?, ?, ?)`. Nothing else of the query changes. A server prepares the text, and executes it
+/// with the values.
+///
+/// The first of these causes refuses it: names and marks in one query; a name without a fragment,
+/// or fragments of the other kind; without names, marks that are not as many as the fragments; a
+/// place that doesn't stand alone, as [`bind_text_in`] tests it; a fragment that can't be written
+/// ([`Fragment::fault`]). Floats are given as values.
+///
+/// The flag is the server's mode, as that of [`bind_text_in`].
+///
+/// `Memory` may come in place of any other result, except for a query with names and marks.
+// A query has one token list in each mode (`mysql_named_params::laws::one_token_list`), so the
+// clauses speak of the same `ts`.
+pub fn expanded_query_in(
+    alloc: Global,
+    query: &[u8],
+    fragments: &Fragments,
+    no_backslash_escape: bool,
+) -> Result<ExpandedQuery, FragmentsError>
+    ensures expanded { OnTokens no_backslash_escape query.now (λ ts. IfOk result (λ expanded.
+        IsExpandedQuery false no_backslash_escape ts (given_fragments fragments.now)
+        expanded.query.items expanded.values.items)) }
+    ensures refused { OnTokens no_backslash_escape query.now (λ ts. IfErr result
+        (IsCauseOrMemory (first_cause false ts (given_fragments fragments.now)))) }
+
+    // A query with a name and a mark is refused without allocating.
+    ensures mixed { OnTokens no_backslash_escape query.now (λ ts.
+        HasName ts × HasMark ts → IsErrOf result FragmentsError.Mixed) }
+{
+    expanded(alloc, query, fragments, no_backslash_escape, false)
+}
+
+/// The query with fragments in its places, in the mode in which a backslash escapes:
+/// [`expanded_query_in`] with `false`. See there for what refuses it.
+pub fn expanded_query(
+    alloc: Global,
+    query: &[u8],
+    fragments: &Fragments,
+) -> Result<ExpandedQuery, FragmentsError>
+    ensures expanded { OnTokens with_backslashes query.now (λ ts. IfOk result (λ expanded.
+        IsExpandedQuery false with_backslashes ts (given_fragments fragments.now)
+        expanded.query.items expanded.values.items)) }
+    ensures refused { OnTokens with_backslashes query.now (λ ts. IfErr result
+        (IsCauseOrMemory (first_cause false ts (given_fragments fragments.now)))) }
+
+    // A query with a name and a mark is refused without allocating.
+    ensures mixed { OnTokens with_backslashes query.now (λ ts.
+        HasName ts × HasMark ts → IsErrOf result FragmentsError.Mixed) }
+{
+    expanded_query_in(alloc, query, fragments, false)
+}
+
+/// The query with a fragment in the place of each name and mark, its values as literals:
+/// `a IN (?)` with a list of three values is `a IN (1, 'b', NULL)`. It is what [`bind_text_in`]
+/// gives for the query of [`expanded_query_in`] and its values. Nothing else of the query changes.
+///
+/// The causes of [`expanded_query_in`] refuse it, and directly after a place that doesn't stand
+/// alone a float, which has no literal.
+///
+/// `Memory` may come in place of any other result, except for a query with names and marks. It also
+/// comes if the text would be longer than `isize::MAX` bytes.
+// A query has one token list in each mode (`mysql_named_params::laws::one_token_list`), so the
+// clauses speak of the same `ts`.
+pub fn bind_fragments_in(
+    alloc: Global,
+    query: &[u8],
+    fragments: &Fragments,
+    no_backslash_escape: bool,
+) -> Result<Vec<u8>, FragmentsError>
+    ensures bound { OnTokens no_backslash_escape query.now (λ ts. IfOk result (λ text.
+        IsBoundFragments no_backslash_escape ts (given_fragments fragments.now) text.items)) }
+    ensures refused { OnTokens no_backslash_escape query.now (λ ts. IfErr result
+        (IsCauseOrMemory (first_cause true ts (given_fragments fragments.now)))) }
+
+    // A query with a name and a mark is refused without allocating.
+    ensures mixed { OnTokens no_backslash_escape query.now (λ ts.
+        HasName ts × HasMark ts → IsErrOf result FragmentsError.Mixed) }
+{
+    let expanded = match expanded(alloc, query, fragments, no_backslash_escape, true) {
+        Ok(expanded) => expanded,
+        Err(error) => return Err(error),
+    };
+    let params = Params::Positional(expanded.values);
+    match bind_text_in(
+        alloc,
+        expanded.query.as_slice(),
+        params,
+        no_backslash_escape,
+    ) {
+        Ok(text) => Ok(text),
+        Err(error) => Err(memory_error(error)),
+    }
+}
+
+/// The query with a fragment in the place of each name and mark, in the mode in which a backslash
+/// escapes: [`bind_fragments_in`] with `false`. See there for what refuses it.
+pub fn bind_fragments(
+    alloc: Global,
+    query: &[u8],
+    fragments: &Fragments,
+) -> Result<Vec<u8>, FragmentsError>
+    ensures bound { OnTokens with_backslashes query.now (λ ts. IfOk result (λ text.
+        IsBoundFragments with_backslashes ts (given_fragments fragments.now) text.items)) }
+    ensures refused { OnTokens with_backslashes query.now (λ ts. IfErr result
+        (IsCauseOrMemory (first_cause true ts (given_fragments fragments.now)))) }
+
+    // A query with a name and a mark is refused without allocating.
+    ensures mixed { OnTokens with_backslashes query.now (λ ts.
+        HasName ts × HasMark ts → IsErrOf result FragmentsError.Mixed) }
+{
+    bind_fragments_in(alloc, query, fragments, false)
+}
+
+// The error for out of memory in binding.
+fn memory_error(error: BindError) -> FragmentsError
+    requires { error ≡ BindError.Memory alloc_error }
+    ensures { result ≡ FragmentsError.Memory alloc_error }
+{
+    match error {
+        BindError::Memory(error) => FragmentsError::Memory(error),
+        _ => unreachable!(),
+    }
+}
+
+// The body of `expanded_query_in`, and of `bind_fragments_in` if the values are to be written as
+// literals, which floats don't have.
+fn expanded(
+    alloc: Global,
+    query: &[u8],
+    fragments: &Fragments,
+    no_backslash_escape: bool,
+    as_literals: bool,
+) -> Result<ExpandedQuery, FragmentsError>
+    ensures expanded { OnTokens no_backslash_escape query.now (λ ts. IfOk result (λ expanded.
+        IsExpandedQuery as_literals no_backslash_escape ts (given_fragments fragments.now)
+        expanded.query.items expanded.values.items)) }
+    ensures refused { OnTokens no_backslash_escape query.now (λ ts. IfErr result
+        (IsCauseOrMemory (first_cause as_literals ts (given_fragments fragments.now)))) }
+    ensures mixed { OnTokens no_backslash_escape query.now (λ ts.
+        HasName ts × HasMark ts → IsErrOf result FragmentsError.Mixed) }
+{
+    let (survey, _) = place_survey(query, &mut [], no_backslash_escape);
+    expanded_surveyed(
+        alloc,
+        query,
+        survey,
+        fragments,
+        no_backslash_escape,
+        as_literals,
+    )
+}
+
+// The same for a query with this survey.
+fn expanded_surveyed(
+    alloc: Global,
+    query: &[u8],
+    survey: Survey,
+    fragments: &Fragments,
+    no_backslash_escape: bool,
+    as_literals: bool,
+) -> Result<ExpandedQuery, FragmentsError>
+    requires { OnTokens no_backslash_escape query.now (IsSurvey survey) }
+    ensures expanded { OnTokens no_backslash_escape query.now (λ ts. IfOk result (λ expanded.
+        IsExpandedQuery as_literals no_backslash_escape ts (given_fragments fragments.now)
+        expanded.query.items expanded.values.items)) }
+    ensures refused { OnTokens no_backslash_escape query.now (λ ts. IfErr result
+        (IsCauseOrMemory (first_cause as_literals ts (given_fragments fragments.now)))) }
+    ensures mixed { OnTokens no_backslash_escape query.now (λ ts.
+        HasName ts × HasMark ts → IsErrOf result FragmentsError.Mixed) }
+{
+    if survey.names > 0 && survey.marks > 0 {
+        return Err(FragmentsError::Mixed);
+    }
+    let names = survey.names;
+    let list = match fragments_of_places(alloc, query, names, fragments, no_backslash_escape) {
+        Ok(list) => list,
+        Err(error) => return Err(error),
+    };
+    if let Some(error) = later_error(survey, list.as_slice(), as_literals) {
+        return Err(error);
+    }
+    match written(alloc, query, list.as_slice(), no_backslash_escape) {
+        Ok(expanded) => Ok(expanded),
+        Err(error) => Err(FragmentsError::Memory(error)),
+    }
+}
+
+// The first of the causes after the fragments for the places are known: the marks, the places, the
+// floats, the faults.
+fn later_error(survey: Survey, fragments: &[&Fragment], as_literals: bool) -> Option<FragmentsError>
+    ensures { (ts : List Token) → IsSurvey survey ts → option_map cause_of result
+        ≡ option_map Some (later_cause as_literals ts (referents fragments.now)) }
+{
+    if mark_count_differs(survey, fragments.len()) {
+        return Some(FragmentsError::MarkCount {
+            marks: survey.marks,
+            fragments: fragments.len(),
+        });
+    }
+    if let Some((place, at)) = survey.not_alone {
+        return Some(FragmentsError::NotAlone { place, at });
+    }
+    if let Some(place) = literal_float(fragments, as_literals) {
+        return Some(FragmentsError::Float { place });
+    }
+    match first_fault(fragments) {
+        Some((place, fault)) => Some(FragmentsError::Fault { place, fault }),
+        None => None,
+    }
+}
+
+// Whether the marks of a query without names are not as many as the fragments.
+fn mark_count_differs(survey: Survey, fragments: usize) -> bool
+    ensures { result ≡ mark_count_differs survey.names survey.marks fragments }
+{
+    survey.names == 0 && survey.marks != fragments
+}
+
+// The place of the first fragment with a float, if the values are to be written as literals.
+fn literal_float(fragments: &[&Fragment], as_literals: bool) -> Option<usize>
+    ensures { result ≡ literal_float as_literals (referents fragments.now) }
+{
+    if as_literals {
+        first_float(fragments)
+    } else {
+        None
+    }
+}
+
+// The place of the first fragment with a float.
+fn first_float(fragments: &[&Fragment]) -> Option<usize>
+    ensures { result ≡ first_float_from 0 (referents fragments.now) }
+{
+    for (place, fragment) in fragments.iter().enumerate() {
+        if has_float(*fragment) {
+            return Some(place);
+        }
+    }
+    None
+}
+
+// The place of the first fragment that can't be written, and its fault.
+fn first_fault(fragments: &[&Fragment]) -> Option<(usize, FragmentFault)>
+    ensures { result ≡ first_fault_from 0 (referents fragments.now) }
+{
+    for (place, fragment) in fragments.iter().enumerate() {
+        if let Some(fault) = fragment.fault() {
+            return Some((place, fault));
+        }
+    }
+    None
+}
+
+// The query with fragments in its places, of which there are as many, and their values.
+fn written(
+    alloc: Global,
+    query: &[u8],
+    fragments: &[&Fragment],
+    no_backslash_escape: bool,
+) -> Result<ExpandedQuery, AllocError>
+    requires { OnTokens no_backslash_escape query.now (λ ts.
+        length (referents fragments.now) ≡ place_count ts) }
+    ensures text { OnTokens no_backslash_escape query.now (λ ts. IfOk result (λ expanded.
+        joined_text (pieces ts) (map fragment_text (referents fragments.now))
+        ≡ Some expanded.query.items)) }
+    ensures values { IfOk result (λ expanded.
+        expanded.values.items ≡ all_values (referents fragments.now)) }
+{
+    let query = spliced_text(alloc, query, fragments, no_backslash_escape)?;
+    let values = values_of(alloc, fragments)?;
+    Ok(ExpandedQuery { query, values })
+}
+
+// The query with the texts of fragments in its places, of which there are as many.
+fn spliced_text(
+    alloc: Global,
+    query: &[u8],
+    fragments: &[&Fragment],
+    no_backslash_escape: bool,
+) -> Result<Vec<u8>, AllocError>
+    requires { OnTokens no_backslash_escape query.now (λ ts.
+        length (referents fragments.now) ≡ place_count ts) }
+    ensures { IfOk result (λ text. OnTokens no_backslash_escape query.now (λ ts.
+        joined_text (pieces ts) (map fragment_text (referents fragments.now))
+        ≡ Some text.items)) }
+{
+    let mut text = Vec::new(alloc);
+    let mut rest = query;
+    for fragment in fragments {
+        let Some(found) = first_place(rest, no_backslash_escape) else {
+            unreachable!()
+        };
+        let (piece, from_place) = rest.split_at(found.before);
+        let (_, after) = from_place.split_at(found.len);
+        text.extend_from_slice(piece)?;
+        push_fragment(&mut text, *fragment)?;
+        rest = after;
+    }
+    text.extend_from_slice(rest)?;
+    Ok(text)
+}
+
+// The values of fragments, in order.
+fn values_of(alloc: Global, fragments: &[&Fragment]) -> Result<Vec<Value>, AllocError>
+    ensures { IfOk result (λ values. values.items ≡ all_values (referents fragments.now)) }
+{
+    let mut values = Vec::new(alloc);
+    for fragment in fragments {
+        push_values(&mut values, *fragment)?;
+    }
+    Ok(values)
+}

@@ -1,0 +1,230 @@
+//! Which fragments can be written.
+ghost use Rattle.std.specs.Prelude.{◌≡◌, ◌==◌, false, None, Some, if◌then◌else◌};
+ghost use Rattle.std.specs.List.{list_any};
+ghost use Rattle.mysql_fragments.specs.FragmentFaults.{character_count, ends_in_space, fault_of, is_continuation, is_decimal, is_keyword, is_keyword_from, is_number_from, item_fault, items_fault, list_fault, name_fault, names_fault, names_fault_from, number_fault, row_fault, rows_fault, rows_fault_from};
+
+use crate::fragment::{Fragment, Item};
+use crate::fragments_error::FragmentFault;
+
+impl Fragment {
+    /// Why the fragment can't be written; `None` if it can.
+    pub fn fault(&self) -> Option<FragmentFault>
+        ensures { result ≡ fault_of self.now }
+    {
+        match self {
+            Fragment::Value(_) => None,
+            Fragment::Decimal(text) => number_fault(text.as_slice(), 0, 0),
+            Fragment::List(items) => list_fault(items.as_slice()),
+            Fragment::Rows(rows) => rows_fault(rows.as_slice()),
+            Fragment::Identifier(name) => name_fault(name.as_slice(), 0),
+            Fragment::Qualified(names) => names_fault(names.as_slice()),
+            Fragment::Keyword(word) => keyword_fault(word.as_bytes()),
+        }
+    }
+}
+
+// The first fault of a list.
+fn list_fault(items: &[Item]) -> Option<FragmentFault>
+    ensures { result ≡ list_fault items.now }
+{
+    if items.is_empty() {
+        Some(FragmentFault::Empty)
+    } else {
+        items_fault(items, 0)
+    }
+}
+
+// The first fault of the items of this row.
+fn items_fault(items: &[Item], row: usize) -> Option<FragmentFault>
+    ensures { result ≡ items_fault row 0 items.now }
+{
+    for (index, item) in items.iter().enumerate() {
+        if let Some(fault) = item_fault(item, row, index) {
+            return Some(fault);
+        }
+    }
+    None
+}
+
+// The fault of this item of this row.
+fn item_fault(item: &Item, row: usize, index: usize) -> Option<FragmentFault>
+    ensures { result ≡ item_fault row index item.now }
+{
+    match item {
+        Item::Value(_) => None,
+        Item::Decimal(text) => number_fault(text.as_slice(), row, index),
+    }
+}
+
+// The fault of a text that is to be an exact number, as this item of this row.
+fn number_fault(text: &[u8], row: usize, index: usize) -> Option<FragmentFault>
+    ensures { result ≡ number_fault row index text.now }
+{
+    if is_decimal(text) {
+        None
+    } else {
+        Some(FragmentFault::Number { row, item: index })
+    }
+}
+
+// The first fault of rows.
+fn rows_fault(rows: &[Vec<Item>]) -> Option<FragmentFault>
+    ensures { result ≡ rows_fault rows.now }
+{
+    match rows {
+        [] => Some(FragmentFault::Empty),
+        [first, ..] => unequal_rows_fault(rows, first.len()),
+    }
+}
+
+// The first fault of rows that are all to have this width.
+fn unequal_rows_fault(rows: &[Vec<Item>], width: usize) -> Option<FragmentFault>
+    ensures { result ≡ rows_fault_from width 0 rows.now }
+{
+    for (row, items) in rows.iter().enumerate() {
+        if let Some(fault) = row_fault(items.as_slice(), width, row) {
+            return Some(fault);
+        }
+    }
+    None
+}
+
+// The first fault of this row: it has items, as many as the first row.
+fn row_fault(items: &[Item], width: usize, row: usize) -> Option<FragmentFault>
+    ensures { result ≡ row_fault width row items.now }
+{
+    if items.is_empty() {
+        Some(FragmentFault::EmptyRow { row })
+    } else if items.len() == width {
+        items_fault(items, row)
+    } else {
+        Some(FragmentFault::RowLength { row })
+    }
+}
+
+// Whether the text is an exact number.
+fn is_decimal(text: &[u8]) -> bool
+    ensures { result ≡ is_decimal text.now }
+{
+    match text {
+        [] => false,
+        [b'-', digits @ ..] => is_number(digits),
+        digits => is_number(digits),
+    }
+}
+
+// Whether the text is digits with at most one point between them.
+fn is_number(digits: &[u8]) -> bool
+    ensures { result ≡ is_number_from false false digits.now }
+{
+    let mut digit = false;
+    let mut point = false;
+    for b in digits {
+        if b.is_ascii_digit() {
+            digit = true;
+        } else if *b == b'.' && digit && !point {
+            digit = false;
+            point = true;
+        } else {
+            return false;
+        }
+    }
+    digit
+}
+
+// The first fault of a qualified identifier.
+fn names_fault(names: &[Vec<u8>]) -> Option<FragmentFault>
+    ensures { result ≡ names_fault names.now }
+{
+    if names.is_empty() {
+        Some(FragmentFault::Empty)
+    } else {
+        first_name_fault(names)
+    }
+}
+
+// The first fault of names.
+fn first_name_fault(names: &[Vec<u8>]) -> Option<FragmentFault>
+    ensures { result ≡ names_fault_from 0 names.now }
+{
+    for (part, name) in names.iter().enumerate() {
+        if let Some(fault) = name_fault(name.as_slice(), part) {
+            return Some(fault);
+        }
+    }
+    None
+}
+
+// The fault of the name with this number in an identifier.
+fn name_fault(name: &[u8], part: usize) -> Option<FragmentFault>
+    ensures { result ≡ name_fault part name.now }
+{
+    if name.is_empty() {
+        Some(FragmentFault::EmptyName { part })
+    } else if has_zero(name) {
+        Some(FragmentFault::ZeroByte { part })
+    } else if character_count(name) > 64 {
+        Some(FragmentFault::LongName { part })
+    } else if name[name.len() - 1] == b' ' {
+        Some(FragmentFault::TrailingSpace { part })
+    } else {
+        None
+    }
+}
+
+// Whether a byte of the name is 0.
+fn has_zero(name: &[u8]) -> bool
+    ensures { result ≡ list_any (λ b. b == 0) name.now }
+{
+    name.iter().any(|b| *b == 0)
+}
+
+// The number of characters of a name.
+fn character_count(name: &[u8]) -> usize
+    ensures { result ≡ character_count name.now }
+{
+    let mut count = 0;
+    for b in name {
+        if !is_continuation(*b) {
+            count += 1;
+        }
+    }
+    count
+}
+
+// Whether the byte goes on with a UTF-8 character.
+fn is_continuation(b: u8) -> bool
+    ensures { result ≡ is_continuation b }
+{
+    128 <= b && b < 192
+}
+
+// The fault of a text that is to be a keyword.
+fn keyword_fault(word: &[u8]) -> Option<FragmentFault>
+    ensures { result ≡ (if is_keyword word.now then None else Some FragmentFault.Keyword) }
+{
+    if is_keyword(word) {
+        None
+    } else {
+        Some(FragmentFault::Keyword)
+    }
+}
+
+// Whether the text is words that begin with a letter, with one space between them.
+fn is_keyword(word: &[u8]) -> bool
+    ensures { result ≡ is_keyword word.now }
+{
+    let mut begun = false;
+    for b in word {
+        if b.is_ascii_alphabetic() {
+            begun = true;
+        } else if *b == b'_' && begun {
+            begun = true;
+        } else if *b == b' ' && begun {
+            begun = false;
+        } else {
+            return false;
+        }
+    }
+    begun
+}

@@ -1,0 +1,20 @@
+//! Fragments: lists, rows, exact numbers, identifiers and keywords in the places of a query.
+//!
+//! [`bind_fragments_in`] is the call for a mode of the server, and [`bind_fragments`] the same for
+//! the mode in which a backslash escapes. [`expanded_query_in`] gives the query with marks and the
+//! values, as a prepared statement wants them. `specs/Expanded.antt` says what they promise.
+#![tactic(auto)]
+
+mod expanded;
+mod faults;
+mod fragment;
+mod fragments_error;
+pub mod laws;
+mod places;
+mod written;
+
+pub use expanded::{
+    ExpandedQuery, bind_fragments, bind_fragments_in, expanded_query, expanded_query_in,
+};
+pub use fragment::{Fragment, Fragments, Item, Keyword};
+pub use fragments_error::{FragmentFault, FragmentsError};

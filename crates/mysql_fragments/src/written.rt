@@ -1,0 +1,201 @@
+//! The text of fragments with marks for their values, and these values.
+ghost use Rattle.std.specs.Prelude.{◌≡◌, ◌++◌, IfOk, codes, map};
+ghost use Rattle.std.specs.List.{flat_map, list_any};
+ghost use Rattle.mysql_values.specs.Literal.{is_float};
+ghost use Rattle.mysql_fragments.specs.FragmentErrors.{has_float, is_float_item};
+ghost use Rattle.mysql_fragments.specs.FragmentText.{fragment_text, fragment_values, identifier_text, item_text, item_values, items_text, joined, row_text};
+
+use crate::fragment::{Fragment, Item};
+use mysql_values::value::Value;
+use std::alloc::AllocError;
+
+/// Writes the text of a fragment with a mark for each value to the end.
+pub(crate) fn push_fragment(text: &mut Vec<u8>, fragment: &Fragment) -> Result<(), AllocError>
+    ensures { IfOk result (λ done.
+        text.new.items ≡ text.old.items ++ fragment_text fragment.now) }
+{
+    match fragment {
+        Fragment::Value(_) => {
+            text.push(b'?')?;
+            Ok(())
+        }
+        Fragment::Decimal(number) => text.extend_from_slice(number.as_slice()),
+        Fragment::List(items) => push_items(text, items.as_slice()),
+        Fragment::Rows(rows) => push_rows(text, rows.as_slice()),
+        Fragment::Identifier(name) => push_identifier(text, name.as_slice()),
+        Fragment::Qualified(names) => push_names(text, names.as_slice()),
+        Fragment::Keyword(word) => text.extend_from_slice(word.as_bytes()),
+    }
+}
+
+// Writes an item to the end: a mark for a value.
+fn push_item(text: &mut Vec<u8>, item: &Item) -> Result<(), AllocError>
+    ensures { IfOk result (λ done. text.new.items ≡ text.old.items ++ item_text item.now) }
+{
+    match item {
+        Item::Value(_) => {
+            text.push(b'?')?;
+            Ok(())
+        }
+        Item::Decimal(number) => text.extend_from_slice(number.as_slice()),
+    }
+}
+
+// Writes items with commas between them to the end.
+fn push_items(text: &mut Vec<u8>, items: &[Item]) -> Result<(), AllocError>
+    ensures { IfOk result (λ done. text.new.items ≡ text.old.items ++ items_text items.now) }
+{
+    for (i, item) in items.iter().enumerate() {
+        if i > 0 {
+            text.extend_from_slice(b", ")?;
+        }
+        push_item(text, item)?;
+    }
+    Ok(())
+}
+
+// Writes rows in brackets with commas between them to the end.
+fn push_rows(text: &mut Vec<u8>, rows: &[Vec<Item>]) -> Result<(), AllocError>
+    ensures { IfOk result (λ done.
+        text.new.items ≡ text.old.items ++ joined (codes ", ") (map row_text rows.now)) }
+{
+    for (i, row) in rows.iter().enumerate() {
+        if i > 0 {
+            text.extend_from_slice(b", ")?;
+        }
+        text.push(b'(')?;
+        push_items(text, row.as_slice())?;
+        text.push(b')')?;
+    }
+    Ok(())
+}
+
+// Writes names as identifiers with points between them to the end.
+fn push_names(text: &mut Vec<u8>, names: &[Vec<u8>]) -> Result<(), AllocError>
+    ensures { IfOk result (λ done. text.new.items ≡ text.old.items
+        ++ joined (codes ".") (map (λ name. identifier_text name.items) names.now)) }
+{
+    for (i, name) in names.iter().enumerate() {
+        if i > 0 {
+            text.push(b'.')?;
+        }
+        push_identifier(text, name.as_slice())?;
+    }
+    Ok(())
+}
+
+// Writes a name as an identifier in backquotes to the end.
+fn push_identifier(text: &mut Vec<u8>, name: &[u8]) -> Result<(), AllocError>
+    ensures { IfOk result (λ done. text.new.items ≡ text.old.items ++ identifier_text name.now) }
+{
+    text.push(b'`')?;
+    for b in name {
+        text.push(*b)?;
+        if *b == b'`' {
+            text.push(*b)?;
+        }
+    }
+    text.push(b'`')?;
+    Ok(())
+}
+
+/// Copies the values of a fragment to the end.
+pub(crate) fn push_values(values: &mut Vec<Value>, fragment: &Fragment) -> Result<(), AllocError>
+    ensures { IfOk result (λ done.
+        values.new.items ≡ values.old.items ++ fragment_values fragment.now) }
+{
+    match fragment {
+        Fragment::Value(value) => {
+            values.push(value.clone()?)?;
+            Ok(())
+        }
+        Fragment::List(items) => push_item_values(values, items.as_slice()),
+        Fragment::Rows(rows) => push_row_values(values, rows.as_slice()),
+        Fragment::Decimal(_)
+        | Fragment::Identifier(_)
+        | Fragment::Qualified(_)
+        | Fragment::Keyword(_) => Ok(()),
+    }
+}
+
+// Copies the values of items to the end.
+fn push_item_values(values: &mut Vec<Value>, items: &[Item]) -> Result<(), AllocError>
+    ensures { IfOk result (λ done.
+        values.new.items ≡ values.old.items ++ flat_map item_values items.now) }
+{
+    for item in items {
+        push_item_value(values, item)?;
+    }
+    Ok(())
+}
+
+// Copies the value of an item to the end, if it is one.
+fn push_item_value(values: &mut Vec<Value>, item: &Item) -> Result<(), AllocError>
+    ensures { IfOk result (λ done.
+        values.new.items ≡ values.old.items ++ item_values item.now) }
+{
+    match item {
+        Item::Value(value) => {
+            values.push(value.clone()?)?;
+            Ok(())
+        }
+        Item::Decimal(_) => Ok(()),
+    }
+}
+
+// Copies the values of rows to the end.
+fn push_row_values(values: &mut Vec<Value>, rows: &[Vec<Item>]) -> Result<(), AllocError>
+    ensures { IfOk result (λ done. values.new.items
+        ≡ values.old.items ++ flat_map (λ row. flat_map item_values row.items) rows.now) }
+{
+    for row in rows {
+        push_item_values(values, row.as_slice())?;
+    }
+    Ok(())
+}
+
+/// Whether a value of the fragment is a float.
+pub(crate) fn has_float(fragment: &Fragment) -> bool
+    ensures { result ≡ has_float fragment.now }
+{
+    match fragment {
+        Fragment::Value(value) => is_float(value),
+        Fragment::List(items) => has_float_item(items.as_slice()),
+        Fragment::Rows(rows) => has_float_row(rows.as_slice()),
+        Fragment::Decimal(_)
+        | Fragment::Identifier(_)
+        | Fragment::Qualified(_)
+        | Fragment::Keyword(_) => false,
+    }
+}
+
+// Whether the value is a float.
+fn is_float(value: &Value) -> bool
+    ensures { result ≡ is_float value.now }
+{
+    matches!(value, Value::Float(_) | Value::Double(_))
+}
+
+// Whether an item is a float.
+fn has_float_item(items: &[Item]) -> bool
+    ensures { result ≡ list_any is_float_item items.now }
+{
+    items.iter().any(|item| is_float_item(item))
+}
+
+// Whether the item is a float.
+fn is_float_item(item: &Item) -> bool
+    ensures { result ≡ is_float_item item.now }
+{
+    match item {
+        Item::Value(value) => is_float(value),
+        Item::Decimal(_) => false,
+    }
+}
+
+// Whether an item of a row is a float.
+fn has_float_row(rows: &[Vec<Item>]) -> bool
+    ensures { result ≡ list_any (λ row. list_any is_float_item row.items) rows.now }
+{
+    rows.iter().any(|row| has_float_item(row.as_slice()))
+}
