@@ -1,0 +1,105 @@
+//! Texts that are bound to fragments. The wanted texts are written by the rules of the MySQL
+//! Reference Manual, "Schema Object Names", "Numeric Literals" and "Comparison Functions and
+//! Operators".
+use crate::shared::Plain::{Decimal, Identifier, Keyword, List, Qualified, Rows};
+use crate::shared::PlainItem::{Decimal as Number, Int, Null};
+use crate::shared::{Plain, bound, fragment};
+use mysql_fragments::{Fragments, bind_fragments, expanded_query};
+use std::alloc::Global;
+use std::collections::HashMap;
+
+const TEXTS: &[(&[u8], Plain, &[u8])] = &[
+    (
+        b"a IN (?) -- ?\n",
+        List(&[Int(7), Number(b"-1.50"), Null]),
+        b"a IN (7, -1.50, NULL) -- ?\n",
+    ),
+    (
+        b"VALUES ?",
+        Rows(&[&[Int(1), Int(-2)], &[Int(3), Null]]),
+        b"VALUES (1, -2), (3, NULL)",
+    ),
+    (b"1-?", Decimal(b"-0.5"), b"1--0.5"),
+    // 2^128 - 1.
+    (
+        b"?",
+        Decimal(b"340282366920938463463374607431768211455"),
+        b"340282366920938463463374607431768211455",
+    ),
+    (
+        b"SELECT ? FROM t",
+        Identifier(b"a`b"),
+        b"SELECT `a``b` FROM t",
+    ),
+    (
+        b"TABLE ?",
+        Qualified(&[b"db.x", b"`"]),
+        b"TABLE `db.x`.````",
+    ),
+    (b"ORDER BY a ?", Keyword(b"DESC"), b"ORDER BY a DESC"),
+    (b"a ?", Keyword(b"is not Null"), b"a is not Null"),
+    (
+        b"SELECT ? 1",
+        Keyword(b"SQL_NO_CACHE"),
+        b"SELECT SQL_NO_CACHE 1",
+    ),
+];
+
+fn gives(alloc: Global, query: &[u8], plain: Plain, wanted: &[u8]) -> bool {
+    match bound(alloc, query, plain) {
+        Ok(text) => text.as_slice() == wanted,
+        Err(_) => false,
+    }
+}
+
+#[test]
+fn fragments_in_a_place(rt: HostRuntime) {
+    for (query, plain, wanted) in TEXTS {
+        let same = gives(rt.alloc(), *query, *plain, *wanted);
+        assert!(rt; same);
+    }
+}
+
+fn named(alloc: Global) -> Option<Fragments> {
+    let mut entries = HashMap::new(alloc);
+    let ids = fragment(alloc, List(&[Int(4), Int(5)])).ok()?;
+    let name = Vec::from_slice(alloc, b"ids").ok()?;
+    match entries.insert(name, ids) {
+        Ok(_) => Some(Fragments::Named(entries)),
+        Err(_) => None,
+    }
+}
+
+fn bound_by_name(alloc: Global) -> bool {
+    match named(alloc) {
+        Some(fragments) => match bind_fragments(alloc, b"(:ids) AND (:ids)", &fragments) {
+            Ok(text) => text.as_slice() == b"(4, 5) AND (4, 5)".as_slice(),
+            Err(_) => false,
+        },
+        None => false,
+    }
+}
+
+fn expanded_by_name(alloc: Global) -> bool {
+    match named(alloc) {
+        Some(fragments) => match expanded_query(alloc, b"a IN (:ids)", &fragments) {
+            Ok(expanded) => {
+                expanded.values.len() == 2 && expanded.query.as_slice() == b"a IN (?, ?)".as_slice()
+            }
+            Err(_) => false,
+        },
+        None => false,
+    }
+}
+
+#[test]
+fn a_name_gives_its_fragment_each_time(rt: HostRuntime) {
+    let same = bound_by_name(rt.alloc());
+    assert!(rt; same);
+}
+
+#[test]
+fn a_prepared_statement_has_marks_and_values(rt: HostRuntime) {
+    let same = expanded_by_name(rt.alloc());
+    assert!(rt; same);
+}

@@ -1,0 +1,81 @@
+//! Fragments as plain data, and what they give.
+use mysql_fragments::{Fragment, Fragments, FragmentsError, Item, Keyword, bind_fragments};
+use mysql_values::value::Value;
+use std::alloc::{AllocError, Global};
+
+/// An item as plain data.
+#[derive(Clone, Copy)]
+pub(crate) enum PlainItem {
+    Null,
+    Int(i64),
+    Float(u32),
+    Decimal(&'static [u8]),
+}
+
+/// A fragment as plain data.
+#[derive(Clone, Copy)]
+pub(crate) enum Plain {
+    Decimal(&'static [u8]),
+    List(&'static [PlainItem]),
+    Rows(&'static [&'static [PlainItem]]),
+    Identifier(&'static [u8]),
+    Qualified(&'static [&'static [u8]]),
+    Keyword(&'static [u8]),
+}
+
+fn item(alloc: Global, plain: PlainItem) -> Result<Item, AllocError> {
+    match plain {
+        PlainItem::Null => Ok(Item::Value(Value::NULL)),
+        PlainItem::Int(number) => Ok(Item::Value(Value::Int(number))),
+        PlainItem::Float(bits) => Ok(Item::Value(Value::Float(bits))),
+        PlainItem::Decimal(text) => Ok(Item::Decimal(Vec::from_slice(alloc, text)?)),
+    }
+}
+
+fn items(alloc: Global, plain: &[PlainItem]) -> Result<Vec<Item>, AllocError> {
+    let mut items = Vec::new(alloc);
+    for one in plain {
+        items.push(item(alloc, *one)?)?;
+    }
+    Ok(items)
+}
+
+fn rows(alloc: Global, plain: &[&[PlainItem]]) -> Result<Vec<Vec<Item>>, AllocError> {
+    let mut rows = Vec::new(alloc);
+    for row in plain {
+        rows.push(items(alloc, *row)?)?;
+    }
+    Ok(rows)
+}
+
+fn names(alloc: Global, plain: &[&[u8]]) -> Result<Vec<Vec<u8>>, AllocError> {
+    let mut names = Vec::new(alloc);
+    for name in plain {
+        names.push(Vec::from_slice(alloc, *name)?)?;
+    }
+    Ok(names)
+}
+
+/// The fragment of plain data.
+pub(crate) fn fragment(alloc: Global, plain: Plain) -> Result<Fragment, AllocError> {
+    match plain {
+        Plain::Decimal(text) => Ok(Fragment::Decimal(Vec::from_slice(alloc, text)?)),
+        Plain::List(plain) => Ok(Fragment::List(items(alloc, plain)?)),
+        Plain::Rows(plain) => Ok(Fragment::Rows(rows(alloc, plain)?)),
+        Plain::Identifier(name) => Ok(Fragment::Identifier(Vec::from_slice(alloc, name)?)),
+        Plain::Qualified(plain) => Ok(Fragment::Qualified(names(alloc, plain)?)),
+        Plain::Keyword(word) => Ok(Fragment::Keyword(Keyword::new(alloc, word)?)),
+    }
+}
+
+/// What a query gives with one fragment by position.
+pub(crate) fn bound(alloc: Global, query: &[u8], plain: Plain) -> Result<Vec<u8>, FragmentsError> {
+    let mut list = Vec::new(alloc);
+    match fragment(alloc, plain) {
+        Ok(fragment) => match list.push(fragment) {
+            Ok(()) => bind_fragments(alloc, query, &Fragments::Positional(list)),
+            Err(_) => Err(FragmentsError::Memory(AllocError)),
+        },
+        Err(error) => Err(FragmentsError::Memory(error)),
+    }
+}
