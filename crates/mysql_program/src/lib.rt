@@ -7,7 +7,7 @@
 mod arguments;
 pub mod laws;
 mod program;
-mod readers_and_writers;
+pub mod readers_and_writers;
 mod run_error;
 mod words;
 

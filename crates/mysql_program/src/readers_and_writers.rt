@@ -1,4 +1,6 @@
 //! Reading to the end and writing the whole. No failed call is repeated.
+//!
+//! It is lent to the program `mysql_bind`.
 ghost use Rattle.std.specs.Prelude.{◌≡◌, IfOk, OnErr, OnOk, IsErrOf};
 ghost use Rattle.std.specs.Io.KnownBytes.{Appends};
 ghost use Rattle.mysql_program.specs.ReadersAndWriters.{ReadsWhole, AppendsPrefix};
@@ -7,17 +9,17 @@ use crate::run_error::RunError;
 use std::alloc::{AllocError, Global};
 use std::io::{Read, Write};
 
-// Why a reader can't be read to its end.
+/// Why a reader can't be read to its end.
 #[derive(Drop)]
-pub(crate) enum ReadError {
-    // A read failed.
+pub enum ReadError {
+    /// A read failed.
     Read,
-    // Out of memory.
+    /// Out of memory.
     Memory(AllocError),
 }
 
-// All bytes that the reader has left. It is read until a read returns none.
-pub(crate) fn read_whole<R: Read>(alloc: Global, input: &mut R) -> Result<Vec<u8>, ReadError>
+/// All bytes that the reader has left. It is read until a read returns none.
+pub fn read_whole<R: Read>(alloc: Global, input: &mut R) -> Result<Vec<u8>, ReadError>
     ensures { IfOk result (λ bytes.
         ReadsWhole (R.remaining input.old) (R.remaining input.new) bytes.items) }
 {
@@ -37,8 +39,9 @@ pub(crate) fn read_whole<R: Read>(alloc: Global, input: &mut R) -> Result<Vec<u8
     }
 }
 
-// Writes the whole text. On an error the writer took a prefix of it, and not the whole.
-pub(crate) fn write_whole<W: Write>(output: &mut W, text: &[u8]) -> Result<(), RunError>
+/// Writes the whole text. On an error, which is `Write`, the writer took a prefix of it, and not
+/// the whole.
+pub fn write_whole<W: Write>(output: &mut W, text: &[u8]) -> Result<(), RunError>
     ensures ok { OnOk result (Appends (W.contents output.old) (W.contents output.new) text.now) }
     ensures only_write { OnErr result (IsErrOf result RunError.Write) }
     ensures prefix { OnErr result (

@@ -1,0 +1,162 @@
+//! What each command does.
+use crate::complaint::{Complaint, Fault, add_fault};
+use crate::matching::matched_values;
+use crate::output::write_text;
+use crate::query_file::{QueryFile, complaint_of, read_query};
+use crate::requests::request_of;
+use crate::sources::Sources;
+use crate::values::{Values, values_of};
+use clap::ArgMatches;
+use mysql_bind_core::{Failure, Request, bound_text, check_query, write_bound};
+use mysql_binding::ParsedQuery;
+use mysql_named_params::named_params::NamedParamsError;
+use std::alloc::{AllocError, Global};
+
+/// Does what the words ask for.
+pub fn answer(rt: &HostRuntime, matches: &ArgMatches<'_>) -> Result<(), Complaint> {
+    match matches.subcommand() {
+        Some(("bind", inner)) => bind(rt, inner),
+        Some(("names", inner)) => names(rt, inner),
+        Some(("check", inner)) => check(rt, inner),
+        _ => Ok(()),
+    }
+}
+
+// A refusal, as a complaint; a complaint out of memory is that.
+fn refused(
+    rt: &HostRuntime,
+    query: &QueryFile<'_>,
+    values: &Values,
+    request: Request,
+    failure: Failure,
+) -> Complaint {
+    match complaint_of(rt.alloc(), query, values, request, failure) {
+        Ok(complaint) => complaint,
+        Err(_) => Complaint::Memory,
+    }
+}
+
+// Writes the query with its values bound.
+fn bind(rt: &HostRuntime, matches: &ArgMatches<'_>) -> Result<(), Complaint> {
+    let request = request_of(rt.alloc(), matches)?;
+    let mut sources = Sources::new(rt.alloc());
+    let query = read_query(&mut sources, rt, matches.get_str("query").unwrap_or("-"))?;
+    let values = values_of(&mut sources, rt, matches)?;
+    if let Err(failure) = check_query(rt.alloc(), query.bytes.as_slice(), request) {
+        return Err(refused(rt, &query, &values, request, failure));
+    }
+    let values = matched_values(
+        rt.alloc(),
+        &query,
+        values,
+        request,
+        matches.get_flag("allow-unused"),
+    )?;
+    write_answer(rt, matches.get_str("output"), &query, &values, request)
+}
+
+// Writes the bound text to standard output or to a file.
+fn write_answer(
+    rt: &HostRuntime,
+    output: Option<&str>,
+    query: &QueryFile<'_>,
+    values: &Values,
+    request: Request,
+) -> Result<(), Complaint> {
+    let text = query.bytes.as_slice();
+    let assignments = values.assignments.as_slice();
+    match output {
+        Some(_) => match bound_text(rt.alloc(), text, assignments, request) {
+            Ok(bound) => write_text(rt, output, bound.as_slice()),
+            Err(failure) => Err(refused(rt, query, values, request, failure)),
+        },
+        None => match write_bound(rt.alloc(), text, assignments, request, &mut rt.stdout()) {
+            Ok(()) => Ok(()),
+            Err(failure) => Err(refused(rt, query, values, request, failure)),
+        },
+    }
+}
+
+// Each name once, in the order of the first places, and the byte after it.
+fn names_text(alloc: Global, names: &[&[u8]], end: u8) -> Result<Vec<u8>, AllocError> {
+    let mut text = Vec::new(alloc);
+    for i in 0..names.len() {
+        let name = names[i];
+        if !names[..i].iter().any(|other| *other == name) {
+            text.extend_from_slice(name)?;
+            text.push(end)?;
+        }
+    }
+    Ok(text)
+}
+
+// Writes the names of the query.
+fn names(rt: &HostRuntime, matches: &ArgMatches<'_>) -> Result<(), Complaint> {
+    let request = request_of(rt.alloc(), matches)?;
+    let mut sources = Sources::new(rt.alloc());
+    let query = read_query(&mut sources, rt, matches.get_str("query").unwrap_or("-"))?;
+    if let Err(failure) = check_query(rt.alloc(), query.bytes.as_slice(), request) {
+        return Err(refused(rt, &query, &Values::new(rt.alloc()), request, failure));
+    }
+    let end = if matches.get_flag("zero") { 0u8 } else { b'\n' };
+    let text = query_names_text(rt.alloc(), &query, request, end)?;
+    write_text(rt, matches.get_str("output"), text.as_slice())
+}
+
+// The names of a query that is taken, each with the byte after it.
+fn query_names_text(
+    alloc: Global,
+    query: &QueryFile<'_>,
+    request: Request,
+    end: u8,
+) -> Result<Vec<u8>, Complaint> {
+    let parsed = ParsedQuery::parse_in(
+        alloc,
+        query.bytes.as_slice(),
+        request.literals.no_backslash_escape(),
+    )?;
+    match parsed.names(alloc) {
+        Ok(names) => Ok(names_text(alloc, names.as_slice(), end)?),
+        // A query that is taken has no marks.
+        Err(NamedParamsError::Mixed(_)) => Ok(Vec::new(alloc)),
+        Err(NamedParamsError::Memory(_)) => Err(Complaint::Memory),
+    }
+}
+
+// Adds what is wrong with one query.
+fn check_one(
+    faults: &mut Vec<Fault>,
+    sources: &mut Sources,
+    rt: &HostRuntime,
+    path: &str,
+    request: Request,
+) -> Result<(), Complaint> {
+    let query = read_query(sources, rt, path)?;
+    let Err(failure) = check_query(rt.alloc(), query.bytes.as_slice(), request) else {
+        return Ok(());
+    };
+    match refused(rt, &query, &Values::new(rt.alloc()), request, failure) {
+        Complaint::Refused(found) => {
+            for fault in found {
+                add_fault(faults, fault.place, fault.what)?;
+            }
+            Ok(())
+        }
+        complaint => Err(complaint),
+    }
+}
+
+// Says what is wrong with each query.
+fn check(rt: &HostRuntime, matches: &ArgMatches<'_>) -> Result<(), Complaint> {
+    let request = request_of(rt.alloc(), matches)?;
+    let mut sources = Sources::new(rt.alloc());
+    let mut faults = Vec::new(rt.alloc());
+    for path in matches.get_strs("queries").unwrap_or(&["-"]) {
+        check_one(&mut faults, &mut sources, rt, path, request)?;
+    }
+    if faults.is_empty() {
+        Ok(())
+    } else {
+        Err(Complaint::Refused(faults))
+    }
+}

@@ -1,0 +1,184 @@
+//! What is said of a refusal. No message holds a value.
+use crate::told::{github_text, json_text};
+use std::alloc::{AllocError, Global};
+use std::io;
+
+/// Where a fault is.
+#[derive(Debug, Drop)]
+pub enum Place {
+    /// In the words.
+    Words,
+    /// In a file.
+    File(String),
+    /// At a byte of a file, counted from 1.
+    Line {
+        /// The file.
+        path: String,
+        /// Its line.
+        line: usize,
+        /// The column, in bytes.
+        column: usize,
+    },
+}
+
+/// One fault.
+#[derive(Debug, Drop)]
+pub struct Fault {
+    /// Where it is.
+    pub place: Place,
+    /// What it is, and what to write instead.
+    pub what: String,
+}
+
+/// Why the program did not do what it was asked for.
+#[derive(Debug, Drop)]
+pub enum Complaint {
+    /// The query or the values are refused.
+    Refused(Vec<Fault>),
+    /// A word is wrong, or a source can't be read.
+    Unusable(Vec<Fault>),
+    /// A write failed.
+    Write,
+    /// Out of memory.
+    Memory,
+}
+
+/// How faults are told.
+#[derive(Debug, Clone, Copy, PartialEq, Eq)]
+pub enum ErrorForm {
+    /// A line of text for each.
+    Text,
+    /// A JSON object for each, on a line.
+    Json,
+    /// An annotation of GitHub's for each.
+    Github,
+}
+
+impl From<AllocError> for Complaint {
+    fn from(_error: AllocError) -> Complaint {
+        Complaint::Memory
+    }
+}
+
+/// The list of one fault.
+pub fn one_fault(alloc: Global, place: Place, what: String) -> Result<Vec<Fault>, AllocError> {
+    let mut faults = Vec::new(alloc);
+    add_fault(&mut faults, place, what)?;
+    Ok(faults)
+}
+
+/// Adds a fault.
+pub fn add_fault(faults: &mut Vec<Fault>, place: Place, what: String) -> Result<(), AllocError> {
+    match faults.push(Fault { place, what }) {
+        Ok(()) => Ok(()),
+        Err(_) => Err(AllocError),
+    }
+}
+
+/// A complaint about a word.
+pub fn bad_word(alloc: Global, what: &str) -> Complaint {
+    match String::from_str(alloc, what) {
+        Ok(what) => unusable(alloc, Place::Words, what),
+        Err(_) => Complaint::Memory,
+    }
+}
+
+/// A complaint about one word or source.
+pub fn unusable(alloc: Global, place: Place, what: String) -> Complaint {
+    match one_fault(alloc, place, what) {
+        Ok(faults) => Complaint::Unusable(faults),
+        Err(_) => Complaint::Memory,
+    }
+}
+
+/// A complaint about a file.
+pub fn bad_file(alloc: Global, path: &str, what: &str) -> Complaint {
+    match (String::from_str(alloc, path), String::from_str(alloc, what)) {
+        (Ok(path), Ok(what)) => unusable(alloc, Place::File(path), what),
+        _ => Complaint::Memory,
+    }
+}
+
+impl Complaint {
+    /// The exit status.
+    pub fn status(&self) -> u8 {
+        match self {
+            Complaint::Refused(_) => 1,
+            Complaint::Unusable(_) => 2,
+            Complaint::Write => 3,
+            Complaint::Memory => 4,
+        }
+    }
+
+    /// Tells each fault on standard error.
+    pub fn tell(&self, rt: &HostRuntime, form: ErrorForm) -> io::Result<()> {
+        match self {
+            Complaint::Refused(faults) => tell_faults(rt, form, faults.as_slice()),
+            Complaint::Unusable(faults) => tell_faults(rt, form, faults.as_slice()),
+            Complaint::Write => eprintln!(rt; "mysql_bind: cannot write"),
+            Complaint::Memory => eprintln!(rt; "mysql_bind: out of memory"),
+        }
+    }
+}
+
+// Tells each fault in this form.
+fn tell_faults(rt: &HostRuntime, form: ErrorForm, faults: &[Fault]) -> io::Result<()> {
+    for fault in faults {
+        match form {
+            ErrorForm::Text => tell_text(rt, fault)?,
+            ErrorForm::Json => tell_json(rt, fault)?,
+            ErrorForm::Github => tell_github(rt, fault)?,
+        }
+    }
+    Ok(())
+}
+
+// Tells a fault as a line of text.
+fn tell_text(rt: &HostRuntime, fault: &Fault) -> io::Result<()> {
+    let what = &fault.what;
+    match &fault.place {
+        Place::Words => eprintln!(rt; "mysql_bind: {what}"),
+        Place::File(path) => eprintln!(rt; "mysql_bind: {path}: {what}"),
+        Place::Line { path, line, column } => eprintln!(rt;
+            "mysql_bind: {path}:{line}:{column}: {what}"
+        ),
+    }
+}
+
+// Tells a fault as a JSON object.
+fn tell_json(rt: &HostRuntime, fault: &Fault) -> io::Result<()> {
+    let Ok(what) = json_text(rt.alloc(), fault.what.as_str()) else {
+        return tell_text(rt, fault);
+    };
+    match &fault.place {
+        Place::Words => eprintln!(rt; "{{\"message\":{what}}}"),
+        Place::File(path) => match json_text(rt.alloc(), path.as_str()) {
+            Ok(path) => eprintln!(rt; "{{\"file\":{path},\"message\":{what}}}"),
+            Err(_) => tell_text(rt, fault),
+        },
+        Place::Line { path, line, column } => match json_text(rt.alloc(), path.as_str()) {
+            Ok(path) => eprintln!(rt;
+                "{{\"file\":{path},\"line\":{line},\"column\":{column},\"message\":{what}}}"
+            ),
+            Err(_) => tell_text(rt, fault),
+        },
+    }
+}
+
+// Tells a fault as an annotation of GitHub's.
+fn tell_github(rt: &HostRuntime, fault: &Fault) -> io::Result<()> {
+    let Ok(what) = github_text(rt.alloc(), fault.what.as_str()) else {
+        return tell_text(rt, fault);
+    };
+    match &fault.place {
+        Place::Words => eprintln!(rt; "::error::{what}"),
+        Place::File(path) => match github_text(rt.alloc(), path.as_str()) {
+            Ok(path) => eprintln!(rt; "::error file={path}::{what}"),
+            Err(_) => tell_text(rt, fault),
+        },
+        Place::Line { path, line, column } => match github_text(rt.alloc(), path.as_str()) {
+            Ok(path) => eprintln!(rt; "::error file={path},line={line},col={column}::{what}"),
+            Err(_) => tell_text(rt, fault),
+        },
+    }
+}

@@ -1,0 +1,65 @@
+//! The texts of `--help` and `--version`.
+
+/// The page of `--help`.
+pub static HELP: &str = "\
+Usage: mysql_bind COMMAND [OPTION]... [QUERY]
+Bind values into a MySQL query as SQL literals. Nothing is sent; after a refusal
+nothing was written.
+
+Commands:
+  bind    write QUERY with a value in the place of each name (:id)
+  names   write the names of QUERY, each once, in order
+  check   say what is wrong with each QUERY.., with line and column
+
+QUERY is a file. Without QUERY, or if it is -, it is standard input.
+
+Values (bind). NAME[:TYPE] is a name of the query without its colon; TYPE is text
+unless given:
+      --set NAME[:TYPE]=VALUE    VALUE itself. Others see it in `ps`
+      --file NAME[:TYPE]=PATH    the whole of a file
+      --env NAME[:TYPE][=VAR]    the variable VAR (without =VAR, one named NAME)
+      --null NAME                NULL
+      --json PATH                the members of one JSON object
+      --pairs PATH               NAME[:TYPE]=VALUE, each ended by a byte 0
+A PATH of - is standard input, one of /dev/fd/N what descriptor N has left.
+Types:
+  text   UTF-8, as it is                     int    -2^63 to 2^63-1
+  line   UTF-8, one line; its newline is     uint   0 to 2^64-1
+         dropped (a secret in a file)        bool   true or false: 1 or 0
+  bytes  any bytes                           hex    bytes, in hexadecimal
+                                             base64 bytes, in base64
+
+Literals:
+      --literals=steady      no sql_mode and no character set reads them otherwise
+                             (the default); the query is ASCII without a backslash
+      --literals=plain       for one sql_mode, which is never guessed:
+      --mode=backslash       it hasn't NO_BACKSLASH_ESCAPES
+      --mode=no-backslash    it has
+      --sql-mode=TEXT        what SELECT @@sql_mode answered
+
+What is refused, unless you say otherwise:
+      --allow-unportable     a query that servers or clients read in different ways
+      --allow-unused         a value for a name that the query has not
+      --decimals=text        a JSON number that is no whole one of 64 bits: bind it
+                             as its own text
+
+Output:
+  -o, --output=PATH    write PATH, whole or not at all, in place of standard
+                       output (a file beside it is renamed)
+  -z, --zero           end each name (names) with a byte 0
+      --errors=FORM    text, json (an object a line) or github (annotations)
+  -h, --help           this page
+  -V, --version        the version
+
+Exit status: 0 all was written; 1 the query or a value is refused; 2 a word is
+wrong or a source can't be read; 3 a write failed, and a beginning may have been
+written; 4 out of memory. With 1, 2 and 4 nothing was written.
+
+Example:
+  set -o pipefail
+  mysql_bind bind --set id:int=42 --env token=API_TOKEN q.sql |
+      mysql --default-character-set=utf8mb4 shop
+";
+
+/// The line of `--version`.
+pub static VERSION: &str = "mysql_bind 0.1.0\n";

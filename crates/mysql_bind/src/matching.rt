@@ -1,0 +1,139 @@
+//! The names of a query without a value, and the values without a name in it.
+use crate::complaint::{Complaint, Fault, Place, add_fault};
+use crate::query_file::{QueryFile, place_of};
+use crate::values::{Values, origin_at};
+use mysql_bind_core::{Assignment, Request};
+use mysql_named_params::places::first_place;
+use mysql_values::show::Shown;
+use std::alloc::{AllocError, Global};
+
+// Whether a name has a value.
+fn is_assigned(assignments: &[Assignment], name: &[u8]) -> bool {
+    assignments
+        .iter()
+        .any(|assignment| assignment.name.as_slice() == name)
+}
+
+// A name of the query, and the index of its colon.
+#[derive(Clone, Copy)]
+struct NamePlace<'a> {
+    at: usize,
+    name: &'a [u8],
+}
+
+// The first place of each name of the query.
+fn name_places<'a>(
+    alloc: Global,
+    text: &'a [u8],
+    mode: bool,
+) -> Result<Vec<NamePlace<'a>>, AllocError> {
+    let mut places: Vec<NamePlace<'a>> = Vec::new(alloc);
+    let mut rest = text;
+    while let Some(found) = first_place(rest, mode) {
+        let (before, place, after) = found.cut(rest);
+        let name = if place.is_empty() { place } else { &place[1..] };
+        if !places.iter().any(|other| other.name == name) {
+            let at = (text.len() - rest.len()).saturating_add(before.len());
+            if places.push(NamePlace { at, name }).is_err() {
+                return Err(AllocError);
+            }
+        }
+        rest = after;
+    }
+    Ok(places)
+}
+
+// A fault for each name without a value, at its first place.
+fn add_missing(
+    faults: &mut Vec<Fault>,
+    alloc: Global,
+    query: &QueryFile<'_>,
+    places: &[NamePlace<'_>],
+    values: &Values,
+) -> Result<(), AllocError> {
+    for place in places {
+        if !is_assigned(values.assignments.as_slice(), place.name) {
+            let what = format!(in alloc;
+                "no value for `:{}`: give it by --set, --file, --env, --null, --json or --pairs",
+                Shown(place.name)
+            )?;
+            add_fault(faults, place_of(alloc, query, place.at)?, what)?;
+        }
+    }
+    Ok(())
+}
+
+// Whether the query has a name.
+fn is_name_of(places: &[NamePlace<'_>], name: &[u8]) -> bool {
+    places.iter().any(|place| place.name == name)
+}
+
+// A fault for each value without a name in the query.
+fn add_unused(
+    faults: &mut Vec<Fault>,
+    alloc: Global,
+    query: &QueryFile<'_>,
+    places: &[NamePlace<'_>],
+    values: &Values,
+) -> Result<(), AllocError> {
+    for i in 0..values.assignments.len() {
+        if !is_name_of(places, values.assignments[i].name.as_slice()) {
+            let origin = origin_at(values, i);
+            let what = format!(in alloc;
+                "{origin}: {} has no such name (--allow-unused takes it)",
+                query.path
+            )?;
+            add_fault(faults, Place::Words, what)?;
+        }
+    }
+    Ok(())
+}
+
+// The values whose names the query has.
+fn used_values(
+    alloc: Global,
+    places: &[NamePlace<'_>],
+    values: Values,
+) -> Result<Values, AllocError> {
+    let mut used = Values::new(alloc);
+    let Values {
+        assignments,
+        origins,
+    } = values;
+    for (assignment, origin) in assignments.into_iter().zip(origins) {
+        if is_name_of(places, assignment.name.as_slice()) {
+            used.add(
+                origin,
+                assignment.name,
+                assignment.value_type,
+                assignment.bytes,
+            )?;
+        }
+    }
+    Ok(used)
+}
+
+/// The values, if each name of the query has one. Those without a name in it are refused, or left
+/// out.
+pub fn matched_values(
+    alloc: Global,
+    query: &QueryFile<'_>,
+    values: Values,
+    request: Request,
+    allow_unused: bool,
+) -> Result<Values, Complaint> {
+    let mode = request.literals.no_backslash_escape();
+    let places = name_places(alloc, query.bytes.as_slice(), mode)?;
+    let mut faults = Vec::new(alloc);
+    add_missing(&mut faults, alloc, query, places.as_slice(), &values)?;
+    if !allow_unused {
+        add_unused(&mut faults, alloc, query, places.as_slice(), &values)?;
+    }
+    if !faults.is_empty() {
+        return Err(Complaint::Refused(faults));
+    }
+    if allow_unused {
+        return Ok(used_values(alloc, places.as_slice(), values)?);
+    }
+    Ok(values)
+}

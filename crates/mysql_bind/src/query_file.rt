@@ -1,0 +1,149 @@
+//! A query, the file that it was read from, and what is said of a refusal.
+use crate::complaint::{Complaint, Place, one_fault};
+use crate::sources::{Sources, shown_path};
+use crate::values::{Values, wrong_values};
+use mysql_bind_core::{Failure, Request, line_and_column};
+use mysql_binding::BindError;
+use mysql_named_params::places::first_place;
+use mysql_steady_text::SteadyTextError;
+use mysql_values::show::Shown;
+use std::alloc::{AllocError, Global};
+
+/// A query and its file.
+#[derive(Drop)]
+pub struct QueryFile<'a> {
+    /// The path as messages have it.
+    pub path: &'a str,
+    /// The query.
+    pub bytes: Vec<u8>,
+}
+
+/// Reads the query of a file.
+pub fn read_query<'a>(
+    sources: &mut Sources,
+    rt: &HostRuntime,
+    path: &'a str,
+) -> Result<QueryFile<'a>, Complaint> {
+    let bytes = sources.read(rt, path)?;
+    Ok(QueryFile {
+        path: shown_path(path),
+        bytes,
+    })
+}
+
+/// A byte of the query, or its end.
+pub fn place_of(alloc: Global, query: &QueryFile<'_>, at: usize) -> Result<Place, AllocError> {
+    let path = String::from_str(alloc, query.path)?;
+    let text = query.bytes.as_slice();
+    let (line, column) = line_and_column(text, at.min(text.len()));
+    Ok(Place::Line { path, line, column })
+}
+
+// A refusal at a byte of the query.
+fn refused_at(
+    alloc: Global,
+    query: &QueryFile<'_>,
+    at: usize,
+    what: &str,
+) -> Result<Complaint, AllocError> {
+    let place = place_of(alloc, query, at)?;
+    let what = String::from_str(alloc, what)?;
+    Ok(Complaint::Refused(one_fault(alloc, place, what)?))
+}
+
+// The refusal of the first mark.
+fn mark_refused(alloc: Global, query: &QueryFile<'_>, mode: bool) -> Result<Complaint, AllocError> {
+    let mut rest = query.bytes.as_slice();
+    let mut at = 0usize;
+    while let Some(found) = first_place(rest, mode) {
+        let (before, place, after) = found.cut(rest);
+        if matches!(place, [b'?', ..]) {
+            at = query.bytes.len() - rest.len() + before.len();
+            break;
+        }
+        rest = after;
+    }
+    refused_at(alloc, query, at, "`?` has no name: write a name, as `:id`")
+}
+
+// The refusal of a name with two values.
+fn redefined(alloc: Global, name: &[u8]) -> Result<Complaint, AllocError> {
+    let what = format!(in alloc; "`{}` is given two values", Shown(name))?;
+    Ok(Complaint::Refused(one_fault(alloc, Place::Words, what)?))
+}
+
+// What is said if values can't be bound into a steady text. The query is taken, so it is steady and
+// portable, if that is asked for.
+fn steady_refused(
+    alloc: Global,
+    query: &QueryFile<'_>,
+    error: SteadyTextError,
+) -> Result<Complaint, AllocError> {
+    match error {
+        SteadyTextError::Bind(error) => binding_refused(alloc, query, error),
+        error => {
+            let what = format!(in alloc; "{error}")?;
+            let path = String::from_str(alloc, query.path)?;
+            Ok(Complaint::Refused(one_fault(alloc, Place::File(path), what)?))
+        }
+    }
+}
+
+// What is said if values can't be bound.
+fn binding_refused(
+    alloc: Global,
+    query: &QueryFile<'_>,
+    error: BindError,
+) -> Result<Complaint, AllocError> {
+    match error {
+        BindError::Memory(_) => Ok(Complaint::Memory),
+        BindError::NotAlone { at, .. } => refused_at(
+            alloc,
+            query,
+            at,
+            "this name joins what stands beside it: write a space or a comma between them",
+        ),
+        error => {
+            let what = format!(in alloc; "{error}")?;
+            let path = String::from_str(alloc, query.path)?;
+            Ok(Complaint::Refused(one_fault(alloc, Place::File(path), what)?))
+        }
+    }
+}
+
+/// What is said of a refusal.
+pub fn complaint_of(
+    alloc: Global,
+    query: &QueryFile<'_>,
+    values: &Values,
+    request: Request,
+    failure: Failure,
+) -> Result<Complaint, AllocError> {
+    let mode = request.literals.no_backslash_escape();
+    match failure {
+        Failure::Open { at } => refused_at(
+            alloc,
+            query,
+            at,
+            "the query ends within what opens here: close it",
+        ),
+        Failure::Unsteady { at } => refused_at(
+            alloc,
+            query,
+            at,
+            "a mode or a character set may read this byte otherwise: give it as a value, \
+             or --literals=plain",
+        ),
+        Failure::Unportable(found) => {
+            let what = format!(in alloc; "{}", found.construct)?;
+            refused_at(alloc, query, found.at, what.as_str())
+        }
+        Failure::Marks => mark_refused(alloc, query, mode),
+        Failure::NoValue => Ok(Complaint::Refused(wrong_values(alloc, values)?)),
+        Failure::Redefined(name) => redefined(alloc, name.as_slice()),
+        Failure::Plain(error) => binding_refused(alloc, query, error),
+        Failure::Steady(error) => steady_refused(alloc, query, error),
+        Failure::Write => Ok(Complaint::Write),
+        Failure::Memory(_) => Ok(Complaint::Memory),
+    }
+}

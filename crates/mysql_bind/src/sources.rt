@@ -1,0 +1,138 @@
+//! What sources hold: files, descriptors and the environment.
+use crate::complaint::{Complaint, bad_file};
+use mysql_program::readers_and_writers::{ReadError, read_whole};
+use std::alloc::{AllocError, Global};
+use std::env::{Env, FillError};
+use std::fs;
+
+/// Reads sources, and each descriptor at most once: a second reading would find it empty.
+#[derive(Drop)]
+pub struct Sources {
+    taken: Vec<i32>,
+}
+
+// The descriptor that a path stands for.
+fn descriptor_of(path: &str) -> Option<i32> {
+    if path == "-" || path == "/dev/stdin" {
+        return Some(0);
+    }
+    let digits = match path.strip_prefix("/dev/fd/") {
+        Some(digits) => digits,
+        None => path.strip_prefix("/proc/self/fd/")?,
+    };
+    if digits.is_empty() || !digits.bytes().all(|byte| byte.is_ascii_digit()) {
+        return None;
+    }
+    digits.parse::<i32>().ok()
+}
+
+/// A path as messages have it.
+pub fn shown_path(path: &str) -> &str {
+    if path == "-" {
+        "(standard input)"
+    } else {
+        path
+    }
+}
+
+// What is left to read of a descriptor; none if a read fails.
+fn read_descriptor(alloc: Global, number: i32) -> Result<Option<Vec<u8>>, AllocError> {
+    let mut bytes = Vec::new(alloc);
+    let mut chunk = [0u8; 4096];
+    for _ in 0..u64::MAX {
+        let count = libc::read(number, &mut chunk);
+        if count < 0 {
+            return Ok(None);
+        }
+        let count = count.unsigned_abs();
+        if count == 0 || count > chunk.len() {
+            return Ok(Some(bytes));
+        }
+        bytes.extend_from_slice(&chunk[..count])?;
+    }
+    Ok(None)
+}
+
+impl Sources {
+    /// No source was read.
+    pub fn new(alloc: Global) -> Sources {
+        Sources {
+            taken: Vec::new(alloc),
+        }
+    }
+
+    /// The whole of a file, or what a descriptor has left.
+    pub fn read(&mut self, rt: &HostRuntime, path: &str) -> Result<Vec<u8>, Complaint> {
+        match descriptor_of(path) {
+            Some(number) => self.read_once(rt, path, number),
+            None => read_file(rt, path),
+        }
+    }
+
+    // What a descriptor has left, if it was not read before.
+    fn read_once(
+        &mut self,
+        rt: &HostRuntime,
+        path: &str,
+        number: i32,
+    ) -> Result<Vec<u8>, Complaint> {
+        if self.taken.iter().any(|other| *other == number) {
+            return Err(bad_file(
+                rt.alloc(),
+                shown_path(path),
+                "two sources are this descriptor, and the second would be empty (without QUERY \
+                 the query is standard input): read one from a file",
+            ));
+        }
+        if self.taken.push(number).is_err() {
+            return Err(Complaint::Memory);
+        }
+        if number == 0 {
+            return match read_whole(rt.alloc(), &mut rt.stdin()) {
+                Ok(bytes) => Ok(bytes),
+                Err(ReadError::Memory(_)) => Err(Complaint::Memory),
+                Err(ReadError::Read) => Err(bad_file(rt.alloc(), shown_path(path), "cannot read")),
+            };
+        }
+        match read_descriptor(rt.alloc(), number)? {
+            Some(bytes) => Ok(bytes),
+            None => Err(bad_file(rt.alloc(), path, "cannot read")),
+        }
+    }
+}
+
+// The whole of a file.
+fn read_file(rt: &HostRuntime, path: &str) -> Result<Vec<u8>, Complaint> {
+    match fs::read(rt, path) {
+        Ok(bytes) => Ok(bytes),
+        Err(error) => {
+            let what = format!(in rt.alloc(); "{error}")?;
+            Err(bad_file(rt.alloc(), path, what.as_str()))
+        }
+    }
+}
+
+/// The bytes of a variable, which need not be text; none if there is no such variable.
+pub fn read_variable(rt: &HostRuntime, name: &str) -> Result<Option<Vec<u8>>, AllocError> {
+    let mut room = Vec::new(rt.alloc());
+    for _ in 0..usize::BITS {
+        let len = room.len();
+        room.resize(
+            if len == 0 {
+                256
+            } else {
+                len.saturating_add(len)
+            },
+            0u8,
+        )?;
+        match rt.var(name, room.as_mut_slice()) {
+            Ok(n) => {
+                room.truncate(n);
+                return Ok(Some(room));
+            }
+            Err(FillError::TooLong) => {}
+            Err(FillError::NotPresent) => return Ok(None),
+        }
+    }
+    Ok(None)
+}

@@ -1,0 +1,307 @@
+//! The assignments that the options make, and what is said of a wrong one.
+use crate::complaint::{Complaint, Fault, Place, add_fault, bad_file, bad_word, unusable};
+use crate::json_members::add_members;
+use crate::sources::{Sources, read_variable, shown_path};
+use clap::ArgMatches;
+use mysql_bind_core::{Assignment, ValueType, typed_value};
+use std::alloc::{AllocError, Global};
+
+/// Assignments, and where each comes from: an option and a name, or a file.
+#[derive(Drop)]
+pub struct Values {
+    /// The assignments.
+    pub assignments: Vec<Assignment>,
+    /// As many texts.
+    pub origins: Vec<String>,
+}
+
+impl Values {
+    /// No assignments.
+    pub fn new(alloc: Global) -> Values {
+        Values {
+            assignments: Vec::new(alloc),
+            origins: Vec::new(alloc),
+        }
+    }
+
+    /// Adds one.
+    pub fn add(
+        &mut self,
+        origin: String,
+        name: Vec<u8>,
+        value_type: ValueType,
+        bytes: Vec<u8>,
+    ) -> Result<(), AllocError> {
+        if self.origins.push(origin).is_err() {
+            return Err(AllocError);
+        }
+        let assignment = Assignment {
+            name,
+            value_type,
+            bytes,
+        };
+        match self.assignments.push(assignment) {
+            Ok(()) => Ok(()),
+            Err(_) => Err(AllocError),
+        }
+    }
+}
+
+// The words of types.
+static TYPES: &str = "text, line, bytes, int, uint, bool, hex and base64";
+
+// The type of a word.
+fn type_of(word: &str) -> Option<ValueType> {
+    match word {
+        "text" => Some(ValueType::Text),
+        "line" => Some(ValueType::Line),
+        "bytes" => Some(ValueType::Bytes),
+        "int" => Some(ValueType::Int),
+        "uint" => Some(ValueType::Uint),
+        "bool" => Some(ValueType::Bool),
+        "hex" => Some(ValueType::Hex),
+        "base64" => Some(ValueType::Base64),
+        _ => None,
+    }
+}
+
+/// What is wrong with bytes that have no value of this type.
+pub fn wrong_value(value_type: ValueType) -> &'static str {
+    match value_type {
+        ValueType::Text => "is not UTF-8: give it as NAME:bytes",
+        ValueType::Line => "is not one line of UTF-8: give it as NAME:text or NAME:bytes",
+        ValueType::Int => "is no whole number from -2^63 to 2^63-1",
+        ValueType::Uint => "is no whole number from 0 to 2^64-1",
+        ValueType::Number =>
+            "is no whole number of 64 bits: write it as a string, or give --decimals=text",
+        ValueType::Bool => "is neither true nor false",
+        ValueType::Hex => "is not pairs of hexadecimal digits",
+        ValueType::Base64 => "is no base64 with padding",
+        ValueType::Null | ValueType::Bytes => "has no value",
+    }
+}
+
+/// A fault for each assignment whose bytes have no value of its type.
+pub fn wrong_values(alloc: Global, values: &Values) -> Result<Vec<Fault>, AllocError> {
+    let mut faults = Vec::new(alloc);
+    for i in 0..values.assignments.len() {
+        let assignment = &values.assignments[i];
+        if typed_value(alloc, assignment.value_type, assignment.bytes.as_slice())?.is_some() {
+            continue;
+        }
+        let origin = origin_at(values, i);
+        let what = format!(in alloc; "{origin}: {}", wrong_value(assignment.value_type))?;
+        add_fault(&mut faults, Place::Words, what)?;
+    }
+    Ok(faults)
+}
+
+/// Where the assignment of this number comes from.
+pub fn origin_at(values: &Values, number: usize) -> &str {
+    match values.origins.get(number) {
+        Some(origin) => origin.as_str(),
+        None => "",
+    }
+}
+
+// Name, type and what stands after the `=`.
+#[derive(Clone, Copy)]
+struct Parts<'a> {
+    name: &'a str,
+    value_type: ValueType,
+    rest: Option<&'a str>,
+}
+
+// The parts of what an option is given. What stands after the `=` is in no message.
+fn parts_of<'a>(alloc: Global, option: &str, word: &'a str) -> Result<Parts<'a>, Complaint> {
+    let (front, rest) = match word.split_once('=') {
+        Some((front, rest)) => (front, Some(rest)),
+        None => (word, None),
+    };
+    let (name, type_word) = match front.split_once(':') {
+        Some((name, type_word)) => (name, type_word),
+        None => (front, "text"),
+    };
+    match type_of(type_word) {
+        Some(value_type) => Ok(Parts {
+            name,
+            value_type,
+            rest,
+        }),
+        None => {
+            let what = format!(in alloc; "--{option}: the type after NAME: is one of {TYPES}")?;
+            Err(unusable(alloc, Place::Words, what))
+        }
+    }
+}
+
+// Where an assignment of an option comes from.
+fn origin_of(alloc: Global, option: &str, name: &str) -> Result<String, AllocError> {
+    format!(in alloc; "--{option} {name}")
+}
+
+// Adds an assignment of an option.
+fn add_parts(
+    values: &mut Values,
+    alloc: Global,
+    option: &str,
+    parts: Parts<'_>,
+    bytes: Vec<u8>,
+) -> Result<(), Complaint> {
+    let origin = origin_of(alloc, option, parts.name)?;
+    let name = Vec::from_slice(alloc, parts.name.as_bytes())?;
+    values.add(origin, name, parts.value_type, bytes)?;
+    Ok(())
+}
+
+// Adds what `--set` gives.
+fn add_set(values: &mut Values, rt: &HostRuntime, word: &str) -> Result<(), Complaint> {
+    let parts = parts_of(rt.alloc(), "set", word)?;
+    match parts.rest {
+        Some(text) => {
+            let bytes = Vec::from_slice(rt.alloc(), text.as_bytes())?;
+            add_parts(values, rt.alloc(), "set", parts, bytes)
+        }
+        None => Err(bad_word(rt.alloc(), "--set: write NAME=VALUE or NAME:TYPE=VALUE")),
+    }
+}
+
+// Adds what `--file` gives.
+fn add_file(
+    values: &mut Values,
+    sources: &mut Sources,
+    rt: &HostRuntime,
+    word: &str,
+) -> Result<(), Complaint> {
+    let parts = parts_of(rt.alloc(), "file", word)?;
+    match parts.rest {
+        Some(path) => {
+            let bytes = sources.read(rt, path)?;
+            add_parts(values, rt.alloc(), "file", parts, bytes)
+        }
+        None => Err(bad_word(rt.alloc(), "--file: write NAME=PATH or NAME:TYPE=PATH")),
+    }
+}
+
+// Adds what `--env` gives.
+fn add_env(values: &mut Values, rt: &HostRuntime, word: &str) -> Result<(), Complaint> {
+    let parts = parts_of(rt.alloc(), "env", word)?;
+    let variable = match parts.rest {
+        Some(variable) => variable,
+        None => parts.name,
+    };
+    match read_variable(rt, variable)? {
+        Some(bytes) => add_parts(values, rt.alloc(), "env", parts, bytes),
+        None => {
+            let what = format!(in rt.alloc();
+                "--env {}: the environment has no `{variable}`",
+                parts.name
+            )?;
+            Err(unusable(rt.alloc(), Place::Words, what))
+        }
+    }
+}
+
+// Adds what `--null` gives.
+fn add_null(values: &mut Values, alloc: Global, name: &str) -> Result<(), Complaint> {
+    let origin = origin_of(alloc, "null", name)?;
+    let name = Vec::from_slice(alloc, name.as_bytes())?;
+    values.add(origin, name, ValueType::Null, Vec::new(alloc))?;
+    Ok(())
+}
+
+// A pair `NAME[:TYPE]=VALUE`, whose value is any bytes.
+fn add_pair(
+    values: &mut Values,
+    alloc: Global,
+    path: &str,
+    pair: &[u8],
+    number: usize,
+) -> Result<(), Complaint> {
+    let Some(at) = pair.iter().position(|byte| *byte == b'=') else {
+        let what = format!(in alloc;
+            "pair {number} has no `=`: write NAME=VALUE, and a byte 0 after it"
+        )?;
+        return Err(bad_file(alloc, path, what.as_str()));
+    };
+    let Ok(front) = std::str::from_utf8(&pair[..at]) else {
+        let what = format!(in alloc; "the name of pair {number} is not UTF-8")?;
+        return Err(bad_file(alloc, path, what.as_str()));
+    };
+    let parts = parts_of(alloc, "pairs", front)?;
+    let bytes = Vec::from_slice(alloc, &pair[at + 1..])?;
+    add_parts(values, alloc, "pairs", parts, bytes)
+}
+
+// Adds what `--pairs` gives.
+fn add_pairs(
+    values: &mut Values,
+    sources: &mut Sources,
+    rt: &HostRuntime,
+    path: &str,
+) -> Result<(), Complaint> {
+    let bytes = sources.read(rt, path)?;
+    let mut rest = bytes.as_slice();
+    let mut number = 1usize;
+    while !rest.is_empty() {
+        let Some(at) = rest.iter().position(|byte| *byte == 0) else {
+            return Err(bad_file(
+                rt.alloc(),
+                shown_path(path),
+                "no byte 0 ends the last pair: is it whole?",
+            ));
+        };
+        add_pair(values, rt.alloc(), shown_path(path), &rest[..at], number)?;
+        number = number.saturating_add(1);
+        rest = &rest[at + 1..];
+    }
+    Ok(())
+}
+
+// Adds what these options give.
+fn add_options(
+    values: &mut Values,
+    sources: &mut Sources,
+    rt: &HostRuntime,
+    matches: &ArgMatches<'_>,
+) -> Result<(), Complaint> {
+    for word in matches.get_strs("set").unwrap_or(&[]) {
+        add_set(values, rt, word)?;
+    }
+    for word in matches.get_strs("file").unwrap_or(&[]) {
+        add_file(values, sources, rt, word)?;
+    }
+    for word in matches.get_strs("env").unwrap_or(&[]) {
+        add_env(values, rt, word)?;
+    }
+    for name in matches.get_strs("null").unwrap_or(&[]) {
+        add_null(values, rt.alloc(), name)?;
+    }
+    Ok(())
+}
+
+/// The assignments that the options make, in the order --set, --file, --env, --null, --json,
+/// --pairs.
+pub fn values_of(
+    sources: &mut Sources,
+    rt: &HostRuntime,
+    matches: &ArgMatches<'_>,
+) -> Result<Values, Complaint> {
+    let mut values = Values::new(rt.alloc());
+    add_options(&mut values, sources, rt, matches)?;
+    let decimals = matches.get_str("decimals").is_some();
+    for path in matches.get_strs("json").unwrap_or(&[]) {
+        let bytes = sources.read(rt, path)?;
+        add_members(
+            &mut values,
+            rt.alloc(),
+            shown_path(path),
+            bytes.as_slice(),
+            decimals,
+        )?;
+    }
+    for path in matches.get_strs("pairs").unwrap_or(&[]) {
+        add_pairs(&mut values, sources, rt, path)?;
+    }
+    Ok(values)
+}

@@ -1,0 +1,111 @@
+//! The words of the program.
+use crate::complaint::{Complaint, ErrorForm, Place, bad_word, unusable};
+use clap::error::ErrorKind;
+use std::alloc::{AllocError, Global};
+use std::env;
+
+/// The program's arguments, its own name first.
+pub fn words_of(rt: &HostRuntime) -> Result<Vec<String>, Complaint> {
+    let Ok(arguments) = env::args(rt) else {
+        return Err(bad_word(
+            rt.alloc(),
+            "an argument is not UTF-8: give it by --file, --env or --pairs",
+        ));
+    };
+    let mut words = Vec::new(rt.alloc());
+    for word in arguments {
+        if words.push(word).is_err() {
+            return Err(Complaint::Memory);
+        }
+    }
+    Ok(words)
+}
+
+/// How faults are told, before the words are known to be right.
+pub fn error_form_of(words: &[String]) -> ErrorForm {
+    for i in 0..words.len() {
+        let word = words[i].as_str();
+        if word == "--errors=json"
+            || (i > 0 && word == "json" && words[i - 1].as_str() == "--errors")
+        {
+            return ErrorForm::Json;
+        }
+        if word == "--errors=github"
+            || (i > 0 && word == "github" && words[i - 1].as_str() == "--errors")
+        {
+            return ErrorForm::Github;
+        }
+    }
+    ErrorForm::Text
+}
+
+static OPTIONS: [&str; 17] = [
+    "--literals",
+    "--mode",
+    "--sql-mode",
+    "--allow-unportable",
+    "--errors",
+    "--set",
+    "--file",
+    "--env",
+    "--null",
+    "--json",
+    "--pairs",
+    "--decimals",
+    "--allow-unused",
+    "--output",
+    "--zero",
+    "--help",
+    "--version",
+];
+
+// What stands before the first `=`: a value never does.
+fn before_value(word: &str) -> &str {
+    match word.split_once('=') {
+        Some((front, _)) => front,
+        None => word,
+    }
+}
+
+// The first word that is an option of no command, without what is given to it.
+fn unknown_option(words: &[String]) -> Option<&str> {
+    for word in words {
+        let front = before_value(word.as_str());
+        if front == "--" {
+            return None;
+        }
+        if front.starts_with("--") && !OPTIONS.iter().any(|option| *option == front) {
+            return Some(front);
+        }
+    }
+    None
+}
+
+// What is wrong with words of this kind of fault. A word is not repeated: it may hold a value.
+fn usage_text(kind: ErrorKind) -> &'static str {
+    match kind {
+        ErrorKind::InvalidSubcommand | ErrorKind::MissingSubcommand =>
+            "the first word is one of bind, names and check (mysql_bind --help)",
+        ErrorKind::InvalidValue =>
+            "an option has a word that it doesn't take, or none: --literals takes steady or plain, \
+             --mode backslash or no-backslash, --errors text, json or github, --decimals text \
+             (mysql_bind --help)",
+        ErrorKind::ArgumentConflict =>
+            "an option that is taken once is given twice (mysql_bind --help)",
+        ErrorKind::TooManyValues => "a flag takes no value (mysql_bind --help)",
+        _ => "a word is not one that this command takes (mysql_bind --help)",
+    }
+}
+
+/// What is said of words that are refused.
+pub fn usage_complaint(
+    alloc: Global,
+    kind: ErrorKind,
+    words: &[String],
+) -> Result<Complaint, AllocError> {
+    if let Some(option) = unknown_option(words) {
+        let what = format!(in alloc; "there is no option {option} (mysql_bind --help)")?;
+        return Ok(unusable(alloc, Place::Words, what));
+    }
+    Ok(bad_word(alloc, usage_text(kind)))
+}

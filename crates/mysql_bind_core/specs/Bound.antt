@@ -1,0 +1,66 @@
+-- What is written for a request, a query and assignments: the bound text of the whole query, whose
+-- values are exactly those that the bytes of the assignments mean.
+use Rattle.std.specs.Prelude.{◌≡◌, ℕ, List, ◌++◌, None, Some, Ok}
+use Rattle.mysql_values.specs.declared.value.Value.{Value}
+use Rattle.mysql_named_params.specs.Tokens.{Token, OnTokens}
+use Rattle.mysql_named_params.specs.Places.{marks}
+use Rattle.mysql_named_params.specs.Steady.{IsSteady}
+use Rattle.mysql_named_params.specs.FirstUnportableInClient.{IsPortableInClient}
+use Rattle.mysql_params_core.specs.Given.{Given}
+use Rattle.mysql_binding.specs.Isolation.{IsBoundText}
+use Rattle.mysql_steady_text.specs.SteadyText.{IsAnywhereText, IsSteadyText}
+use Rattle.mysql_bind_core.specs.Assignments.{given_of, pairs_of}
+use Rattle.mysql_bind_core.specs.QueryEnd.{end, long_end}
+use Rattle.mysql_bind_core.specs.Requests.{mode_of}
+use Rattle.mysql_bind_core.specs.declared.assignment.Assignment.{Assignment}
+use Rattle.mysql_bind_core.specs.declared.request.Literals.{Literals}
+use Rattle.mysql_bind_core.specs.declared.request.Literals.TheVariants as literals
+use Rattle.mysql_bind_core.specs.declared.request.Portability.{Portability}
+use Rattle.mysql_bind_core.specs.declared.request.Portability.TheVariants as portability
+use Rattle.mysql_bind_core.specs.declared.request.Request.{Request}
+
+-- the query doesn't end within a token
+abbrev pub IsClosed : Request → List ℕ → Type 0
+IsClosed request query =
+    OnTokens (mode_of request.literals) (query ++ end) (λ us. None ≡ long_end us)
+
+-- if steady literals are asked for, the query is steady
+abbrev pub IsSteadyIfWanted : Request → List ℕ → Type 0
+IsSteadyIfWanted request query = request.literals ≡ literals.Steady → IsSteady query
+
+-- unless all queries are taken, the query is portable on servers and in a client
+abbrev pub IsPortableIfWanted : Request → List ℕ → Type 0
+IsPortableIfWanted request query = request.portability ≡ portability.Portable →
+    OnTokens (mode_of request.literals) query IsPortableInClient
+
+-- each place of the query has a name
+abbrev pub IsNamed : Request → List ℕ → Type 0
+IsNamed request query = OnTokens (mode_of request.literals) query (λ ts. marks ts ≡ 0)
+
+-- the query is one that the request takes
+pub record IsTaken (request : Request) (query : List ℕ) : Type 0 where
+  pub closed : IsClosed request query
+  pub steady : IsSteadyIfWanted request query
+  pub portable : IsPortableIfWanted request query
+  pub is_named : IsNamed request query
+
+-- the text with the literals that are asked for, of a query with these tokens and what is given
+abbrev pub IsTextFor : Literals → Portability → List ℕ → List Token → Given → List ℕ → Type 0
+IsTextFor literals.Steady portability.Portable query ts given text =
+    IsAnywhereText query ts given text
+IsTextFor literals.Steady portability.Any query ts given text = IsSteadyText ts given text
+IsTextFor (literals.Plain mode) wanted query ts given text = IsBoundText mode ts given text
+
+-- the text is what a request writes for this query and these assignments
+pub record IsWritten (request : Request) (query : List ℕ) (assignments : List Assignment)
+    (text : List ℕ) : Type 0 where
+  -- the query is one that the request takes
+  pub taken : IsTaken request query
+  -- there are exactly the values that the bytes of the assignments mean, and what they give,
+  pub pairs : List (List ℕ × Value)
+  pub given : Given
+  pub pairs_are : pairs_of assignments ≡ Some pairs
+  pub given_is : given_of pairs ≡ Ok given
+  -- and the text is that of the whole query and of what is given
+  pub bound : OnTokens (mode_of request.literals) query (λ ts.
+      IsTextFor request.literals request.portability query ts given text)

@@ -1,0 +1,26 @@
+-- Queries that end within a token. A line with `;` after a query ends it, unless the query's last
+-- token is open: then the `;` stands in it, as in `SELECT 'a`, and so would the next statement.
+use Rattle.std.specs.Prelude.{ℕ, ◌+◌, nat_lt, List, [], ◌∷◌, length, if◌then◌else◌, Option, Some, None}
+use Rattle.mysql_named_params.specs.Tokens.{Token, bytes_of}
+use Rattle.mysql_bind_core.specs.ValueTypes.{newline}
+
+-- what ends a statement: a newline and `;`
+abbrev pub end : List ℕ
+end = newline ∷ 59 ∷ []
+
+-- where a last token begins, if it has several bytes
+abbrev pub last_at : ℕ → ℕ → Option ℕ
+last_at at len = if nat_lt 1 len then Some at else None
+
+-- the index at which the last of these tokens begins, if it has several bytes, and the first token
+-- begins at this one
+abbrev pub long_end_from : ℕ → List Token → Option ℕ
+long_end_from at [] = None
+long_end_from at (t ∷ []) = last_at at (length (bytes_of t))
+long_end_from at (t ∷ u ∷ ts) = long_end_from (at + length (bytes_of t)) (u ∷ ts)
+
+-- The index at which the last token begins, if it has several bytes. Of a query with its end these
+-- are the tokens of a query that is closed, and then a newline and `;` on their own, if and only if
+-- there is none.
+abbrev pub long_end : List Token → Option ℕ
+long_end = long_end_from 0

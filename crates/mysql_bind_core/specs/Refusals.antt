@@ -1,0 +1,83 @@
+-- Which refusal comes: the first that holds, in the order of `Failure`.
+use Rattle.std.specs.Prelude.{◌≡◌, ◌++◌, ◌≢◌, ℕ, List, Some, None, Result, Ok, Err, ⊤}
+use Rattle.mysql_values.specs.declared.value.Value.{Value}
+use Rattle.mysql_named_params.specs.Tokens.{Token, OnTokens}
+use Rattle.mysql_named_params.specs.Places.{marks}
+use Rattle.mysql_named_params.specs.Steady.{first_unsteady}
+use Rattle.mysql_named_params.specs.FirstUnportable.{first_unportable}
+use Rattle.mysql_named_params.specs.FirstUnportableInClient.{first_unportable_in_client}
+use Rattle.mysql_params_core.specs.Given.{Given}
+use Rattle.mysql_params_core.specs.Made.{ToParamsRefusal, redefined}
+use Rattle.mysql_binding.specs.BindErrors.{IsCauseOrMemory}
+use Rattle.mysql_binding.specs.FirstCause.{first_cause}
+use Rattle.mysql_steady_text.specs.SteadyTextErrors.{IsSteadyRefusal}
+use Rattle.mysql_bind_core.specs.Assignments.{given_of, pairs_of}
+use Rattle.mysql_bind_core.specs.Bound.{IsClosed, IsSteadyIfWanted, IsPortableIfWanted, IsTaken}
+use Rattle.mysql_bind_core.specs.QueryEnd.{end, long_end}
+use Rattle.mysql_bind_core.specs.Requests.{mode_of}
+use Rattle.mysql_bind_core.specs.declared.assignment.Assignment.{Assignment}
+use Rattle.mysql_bind_core.specs.declared.failure.Failure.{Failure}
+use Rattle.mysql_bind_core.specs.declared.failure.Failure.TheVariants as failure
+use Rattle.mysql_bind_core.specs.declared.request.Literals.TheVariants as literals
+use Rattle.mysql_bind_core.specs.declared.request.Portability.{Portability}
+use Rattle.mysql_bind_core.specs.declared.request.Portability.TheVariants as portability
+use Rattle.mysql_bind_core.specs.declared.request.Request.{Request}
+use Rattle.mysql_named_params.specs.declared.portable.Unportable.{Unportable}
+use Rattle.std.specs.Prelude.{Option}
+
+-- why the request doesn't take the query, or out of memory
+abbrev pub IsQueryRefusal : Request → List ℕ → Failure → Type 0
+IsQueryRefusal request query (failure.Open at) =
+    OnTokens (mode_of request.literals) (query ++ end) (λ us. Some at ≡ long_end us)
+IsQueryRefusal request query (failure.Unsteady at) =
+    IsClosed request query × (request.literals ≡ literals.Steady)
+    × (Some at ≡ first_unsteady query)
+IsQueryRefusal request query (failure.Unportable found) =
+    IsClosed request query × IsSteadyIfWanted request query
+    × (request.portability ≡ portability.Portable)
+    × OnTokens (mode_of request.literals) query (λ ts. Some found ≡ first_unportable_in_client ts)
+IsQueryRefusal request query failure.Marks =
+    IsClosed request query × IsSteadyIfWanted request query × IsPortableIfWanted request query
+    × OnTokens (mode_of request.literals) query (λ ts. marks ts ≢ 0)
+IsQueryRefusal request query (failure.Memory error) = ⊤
+IsQueryRefusal request query why = ⊥
+
+-- why pairs that make this give nothing, or out of memory
+abbrev pub IsMadeRefusal : Result Given ToParamsRefusal → Failure → Type 0
+IsMadeRefusal made (failure.Redefined name) = made ≡ Err (redefined name.items)
+IsMadeRefusal made (failure.Memory error) = ⊤
+IsMadeRefusal made why = ⊥
+
+-- why these assignments give nothing, or out of memory: the bytes of one mean no value, or the
+-- pairs give nothing
+abbrev pub IsAssignmentsRefusal : List Assignment → Failure → Type 0
+IsAssignmentsRefusal assignments failure.NoValue = pairs_of assignments ≡ None
+IsAssignmentsRefusal assignments (failure.Memory error) = ⊤
+IsAssignmentsRefusal assignments why = (pairs : List (List ℕ × Value))
+    × (pairs_of assignments ≡ Some pairs) × IsMadeRefusal (given_of pairs) why
+
+-- the first construct that steady binding looks for
+abbrev pub looked_for : Portability → List Token → Option Unportable
+looked_for portability.Portable ts = first_unportable ts
+looked_for portability.Any ts = None
+
+-- why what is given can't be bound into a query with these tokens
+abbrev pub IsTextRefusal : Portability → List ℕ → List Token → Given → Failure → Type 0
+IsTextRefusal wanted query ts given (failure.Plain error) =
+    IsCauseOrMemory (first_cause ts given) error
+IsTextRefusal wanted query ts given (failure.Steady error) =
+    IsSteadyRefusal query (looked_for wanted ts) (first_cause ts given) error
+IsTextRefusal wanted query ts given why = ⊥
+
+-- why a request writes nothing for this query and these assignments: the query isn't taken, or the
+-- assignments give nothing, or what they give can't be bound
+pub data IsRefusal (request : Request) (query : List ℕ) (assignments : List Assignment)
+    (why : Failure) : Type 0 where
+  of_query : IsQueryRefusal request query why → IsRefusal request query assignments why
+  of_assignments : IsTaken request query → IsAssignmentsRefusal assignments why →
+      IsRefusal request query assignments why
+  of_text : IsTaken request query → (pairs : List (List ℕ × Value)) → (given : Given) →
+      pairs_of assignments ≡ Some pairs → given_of pairs ≡ Ok given →
+      OnTokens (mode_of request.literals) query (λ ts.
+      IsTextRefusal request.portability query ts given why) →
+      IsRefusal request query assignments why

@@ -1,0 +1,9 @@
+-- What is asked of the program.
+use Rattle.std.specs.Prelude.{Bool, false}
+use Rattle.mysql_bind_core.specs.declared.request.Literals.{Literals}
+use Rattle.mysql_bind_core.specs.declared.request.Literals.TheVariants.{Steady, Plain}
+
+-- the mode in which the query is read; a steady query reads the same in both
+abbrev pub mode_of : Literals → Bool
+mode_of Steady = false
+mode_of (Plain mode) = mode

@@ -1,0 +1,38 @@
+//! Why nothing was written.
+use mysql_binding::BindError;
+use mysql_named_params::portable::Unportable;
+use mysql_steady_text::SteadyTextError;
+use std::alloc::AllocError;
+
+/// Why [`write_bound`](crate::write_bound) did not write the whole text: the first cause, in this
+/// order. After `Write` a prefix of the text was written, after all others nothing.
+#[derive(Debug, PartialEq, Drop)]
+pub enum Failure {
+    /// The query ends within a string, a quoted identifier or a block comment: what follows the
+    /// query would stand in it.
+    Open {
+        /// The index of the first byte of that token.
+        at: usize,
+    },
+    /// Steady literals are asked for, and the query has a backslash or a byte from 128 on.
+    Unsteady {
+        /// The index of the first one.
+        at: usize,
+    },
+    /// The query isn't portable on servers or in a client; the first construct is reported.
+    Unportable(Unportable),
+    /// The query has a mark, which has no name.
+    Marks,
+    /// The bytes of an assignment have no value of its type.
+    NoValue,
+    /// This name is assigned twice.
+    Redefined(Vec<u8>),
+    /// The values can't be bound into the query with the literals of a mode, or out of memory.
+    Plain(BindError),
+    /// The same with steady literals.
+    Steady(SteadyTextError),
+    /// A write failed, or took no byte.
+    Write,
+    /// Out of memory. It may come in place of any other.
+    Memory(AllocError),
+}

@@ -1,0 +1,21 @@
+//! The core of the program `mysql_bind`: it binds values that were read from anywhere into a query,
+//! and writes the bound text whole, or refuses and writes nothing.
+//!
+//! [`write_bound`] is the call; `specs/Bound.antt` says what it promises of the text, and
+//! `specs/Refusals.antt` which refusal comes.
+#![tactic(auto)]
+
+mod assignment;
+mod binding;
+mod failure;
+mod positions;
+mod query_end;
+mod request;
+mod value_type;
+
+pub use assignment::Assignment;
+pub use binding::{bound_text, check_query, write_bound};
+pub use failure::Failure;
+pub use positions::line_and_column;
+pub use request::{Literals, Portability, Request};
+pub use value_type::{ValueType, typed_value};

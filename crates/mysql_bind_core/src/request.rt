@@ -1,0 +1,49 @@
+//! What is asked of the program, apart from the query and the values.
+ghost use Rattle.std.specs.Prelude.{◌≡◌};
+ghost use Rattle.mysql_bind_core.specs.Requests.{mode_of};
+
+/// How the literals of values are written.
+#[derive(Debug, Clone, Copy, PartialEq, Eq)]
+pub enum Literals {
+    /// So that no mode and no character set of a connection reads the text otherwise
+    /// ([`bind_text_anywhere`](mysql_steady_text::bind_text_anywhere)).
+    Steady,
+    /// For a mode of the server ([`bind_text_in`](mysql_binding::bind_text_in)).
+    Plain {
+        /// Whether the connection's `sql_mode` has `NO_BACKSLASH_ESCAPES`.
+        no_backslash_escape: bool,
+    },
+}
+
+impl Literals {
+    /// The mode in which the query is read. A query that is taken for steady literals reads the
+    /// same in both modes; it is read in that of backslashes.
+    pub fn no_backslash_escape(self) -> bool
+        ensures { result ≡ mode_of self }
+    {
+        match self {
+            Literals::Steady => false,
+            Literals::Plain {
+                no_backslash_escape,
+            } => no_backslash_escape,
+        }
+    }
+}
+
+/// Which queries are taken.
+#[derive(Debug, Clone, Copy, PartialEq, Eq)]
+pub enum Portability {
+    /// Those that all servers and the clients `mysql` and `mariadb` read alike.
+    Portable,
+    /// All.
+    Any,
+}
+
+/// What is asked of the program, apart from the query and the values.
+#[derive(Debug, Clone, Copy, PartialEq, Eq)]
+pub struct Request {
+    /// How the literals of values are written.
+    pub literals: Literals,
+    /// Which queries are taken.
+    pub portability: Portability,
+}
