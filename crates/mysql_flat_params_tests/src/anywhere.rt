@@ -4,11 +4,7 @@ use mysql_flat_params::{Outcome, bind_anywhere_into};
 
 /// Queries, forms, and the text.
 const TEXTS: &[(&[u8], &[u8], &[u8])] = &[
-    (
-        QUERY,
-        FORM,
-        b"SELECT 42, ':id', _utf8mb4'x'' OR ''1''=''1'",
-    ),
+    (QUERY, FORM, b"SELECT 42, ':id', _utf8mb4'x'' OR ''1''=''1'"),
     // The text ends with a backslash.
     (
         b"SELECT :b",
@@ -106,11 +102,7 @@ const REFUSALS: &[(&[u8], &[u8], Outcome)] = &[
             position: 1,
         },
     ),
-    (
-        b"?",
-        b"\0\x04\0\0\0\x80\x3f",
-        Outcome::Float { place: 0 },
-    ),
+    (b"?", b"\0\x04\0\0\0\x80\x3f", Outcome::Float { place: 0 }),
 ];
 
 #[test]
