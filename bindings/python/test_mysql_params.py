@@ -612,7 +612,7 @@ class Test(unittest.TestCase):
         self.assertEqual(wrong, [])
 
     def test_examples_of_the_documentation(self):
-        self.assertEqual(doctest.testmod(mysql_params), (0, 6))
+        self.assertEqual(doctest.testmod(mysql_params), (0, 7))
 
 
 class Result(unittest.TestResult):
