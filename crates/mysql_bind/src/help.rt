@@ -21,7 +21,7 @@ unless given:
       --null NAME                NULL
       --json PATH                the members of one JSON object
       --pairs PATH               NAME[:TYPE]=VALUE, each ended by a byte 0
-A PATH of - is standard input, one of /dev/fd/N what descriptor N has left.
+A PATH of - is standard input, one of /dev/fd/N a pipe (a file is read whole).
 Types:
   text   UTF-8, as it is                     int    -2^63 to 2^63-1
   line   UTF-8, one line; its newline is     uint   0 to 2^64-1
@@ -56,9 +56,9 @@ wrong or a source can't be read; 3 a write failed, and a beginning may have been
 written; 4 out of memory. With 1, 2 and 4 nothing was written.
 
 Example:
-  set -o pipefail
-  mysql_bind bind --set id:int=42 --env token=API_TOKEN q.sql |
-      mysql --default-character-set=utf8mb4 shop
+  mysql_bind bind --set id:int=42 --env token=API_TOKEN -o bound.sql q.sql &&
+      mysql --comments --skip-force --skip-binary-mode --skip-named-commands
+          --default-character-set=utf8mb4 shop < bound.sql
 ";
 
 /// The line of `--version`.

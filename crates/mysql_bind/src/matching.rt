@@ -29,11 +29,18 @@ fn name_places<'a>(
 ) -> Result<Vec<NamePlace<'a>>, AllocError> {
     let mut places: Vec<NamePlace<'a>> = Vec::new(alloc);
     let mut rest = text;
-    while let Some(found) = first_place(rest, mode) {
+    // Each place has a byte.
+    for _ in 0..text.len() {
+        let Some(found) = first_place(rest, mode) else {
+            break;
+        };
         let (before, place, after) = found.cut(rest);
         let name = if place.is_empty() { place } else { &place[1..] };
         if !places.iter().any(|other| other.name == name) {
-            let at = (text.len() - rest.len()).saturating_add(before.len());
+            let at = text
+                .len()
+                .saturating_sub(rest.len())
+                .saturating_add(before.len());
             if places.push(NamePlace { at, name }).is_err() {
                 return Err(AllocError);
             }

@@ -55,10 +55,18 @@ fn refused_at(
 fn mark_refused(alloc: Global, query: &QueryFile<'_>, mode: bool) -> Result<Complaint, AllocError> {
     let mut rest = query.bytes.as_slice();
     let mut at = 0usize;
-    while let Some(found) = first_place(rest, mode) {
+    // Each place has a byte.
+    for _ in 0..query.bytes.len() {
+        let Some(found) = first_place(rest, mode) else {
+            break;
+        };
         let (before, place, after) = found.cut(rest);
         if matches!(place, [b'?', ..]) {
-            at = query.bytes.len() - rest.len() + before.len();
+            at = query
+                .bytes
+                .len()
+                .saturating_sub(rest.len())
+                .saturating_add(before.len());
             break;
         }
         rest = after;

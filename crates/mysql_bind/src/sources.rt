@@ -5,7 +5,7 @@ use std::alloc::{AllocError, Global};
 use std::env::{Env, FillError};
 use std::fs;
 
-/// Reads sources, and each descriptor at most once: a second reading would find it empty.
+/// Reads sources, and each descriptor at most once: a second reading would find a pipe empty.
 #[derive(Drop)]
 pub struct Sources {
     taken: Vec<i32>,
@@ -35,24 +35,6 @@ pub fn shown_path(path: &str) -> &str {
     }
 }
 
-// What is left to read of a descriptor; none if a read fails.
-fn read_descriptor(alloc: Global, number: i32) -> Result<Option<Vec<u8>>, AllocError> {
-    let mut bytes = Vec::new(alloc);
-    let mut chunk = [0u8; 4096];
-    for _ in 0..u64::MAX {
-        let count = libc::read(number, &mut chunk);
-        if count < 0 {
-            return Ok(None);
-        }
-        let count = count.unsigned_abs();
-        if count == 0 || count > chunk.len() {
-            return Ok(Some(bytes));
-        }
-        bytes.extend_from_slice(&chunk[..count])?;
-    }
-    Ok(None)
-}
-
 impl Sources {
     /// No source was read.
     pub fn new(alloc: Global) -> Sources {
@@ -61,7 +43,7 @@ impl Sources {
         }
     }
 
-    /// The whole of a file, or what a descriptor has left.
+    /// The whole of a file, or what standard input or a pipe has left.
     pub fn read(&mut self, rt: &HostRuntime, path: &str) -> Result<Vec<u8>, Complaint> {
         match descriptor_of(path) {
             Some(number) => self.read_once(rt, path, number),
@@ -69,7 +51,7 @@ impl Sources {
         }
     }
 
-    // What a descriptor has left, if it was not read before.
+    // What a descriptor holds, if it was not read before. By its path a file is opened anew.
     fn read_once(
         &mut self,
         rt: &HostRuntime,
@@ -94,10 +76,7 @@ impl Sources {
                 Err(ReadError::Read) => Err(bad_file(rt.alloc(), shown_path(path), "cannot read")),
             };
         }
-        match read_descriptor(rt.alloc(), number)? {
-            Some(bytes) => Ok(bytes),
-            None => Err(bad_file(rt.alloc(), path, "cannot read")),
-        }
+        read_file(rt, path)
     }
 }
 

@@ -243,7 +243,11 @@ fn add_pairs(
     let bytes = sources.read(rt, path)?;
     let mut rest = bytes.as_slice();
     let mut number = 1usize;
-    while !rest.is_empty() {
+    // Each pair has a byte.
+    for _ in 0..bytes.len() {
+        if rest.is_empty() {
+            break;
+        }
         let Some(at) = rest.iter().position(|byte| *byte == 0) else {
             return Err(bad_file(
                 rt.alloc(),
