@@ -155,8 +155,9 @@ class Test(unittest.TestCase):
             bind("?", [MOMENT])
         self.assertEqual(bind("?", [MOMENT], zone=UTC), b"'2019-11-27 23:30:00'")
         self.assertEqual(bind(":a", {"a": MOMENT}, zone=MADRID), b"'2019-11-28 00:30:00'")
-        steady = mysql_params.bind_anywhere("?", [MOMENT], zone=UTC)
-        self.assertEqual(steady, b"'2019-11-27 23:30:00'")
+        self.assertEqual(mysql_params.bind_anywhere("?", [MOMENT], zone=UTC), b"'2019-11-27 23:30:00'")
+        with self.assertRaises(TypeError):
+            mysql_params.bind_anywhere("?", [MOMENT])
         naive = datetime.datetime(2019, 11, 27, 12)
         text = bind("?, ?", [naive, datetime.date(2019, 1, 2)], zone=MADRID)
         self.assertEqual(text, b"'2019-11-27 12:00:00', '2019-01-02'")
