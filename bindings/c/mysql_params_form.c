@@ -199,6 +199,8 @@ bool mysql_params_append_row(mysql_params_form *forms, const mysql_params_form *
     uint8_t length[LENGTH_ROOM];
     size_t length_len = fill_length(length, row->len);
     size_t needed = sum(length_len, row->len);
+    if (forms->grows && forms->needed == forms->len && needed > forms->room_len - forms->len)
+        grow(forms, needed);
     bool fits = forms->needed == forms->len && needed <= forms->room_len - forms->len;
     forms->needed = sum(forms->needed, needed);
     if (!fits)
@@ -212,7 +214,7 @@ bool mysql_params_append_row(mysql_params_form *forms, const mysql_params_form *
 enum { LEAST_TEXTS = 4096 };
 
 /* Makes room for `more` bytes behind the texts, and at least for twice as many as before. All bytes have a value. */
-static bool grow(mysql_params_texts *texts, size_t more)
+static bool grow_texts(mysql_params_texts *texts, size_t more)
 {
     size_t room_len = sum(texts->len, more);
     if (room_len < LEAST_TEXTS)
@@ -251,7 +253,7 @@ int32_t mysql_params_bind_all_rows(const uint8_t *query, size_t query_len, const
             report->len = rows->written;
         if (number != MYSQL_PARAMS_ROOM)
             return number;
-        if (!grow(texts, report->len)) {
+        if (!grow_texts(texts, report->len)) {
             *report = nothing;
             return MYSQL_PARAMS_OUT_OF_MEMORY;
         }

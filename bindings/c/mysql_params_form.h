@@ -100,8 +100,8 @@ bool mysql_params_append_double(mysql_params_form *form, const char *name, doubl
 int32_t mysql_params_bind_form(const uint8_t *query, size_t query_len, const mysql_params_form *form,
                                bool no_backslash_escape, char **text, mysql_params_report *report);
 
-/* Appends a row to the forms of mysql_params_bind_rows: a form as a length-encoded string. `forms` is set up by
- * mysql_params_form_in, and has nothing else appended. The row's own `needed` has to be its `len`. Returns as the functions
+/* Appends a row to the forms of mysql_params_bind_rows: a form as a length-encoded string. `forms` is set up as a form is,
+ * and has nothing else appended. The row's own `needed` has to be its `len`. Returns as the functions
  * above; the row doesn't overlap the room. */
 bool mysql_params_append_row(mysql_params_form *forms, const mysql_params_form *row);
 

@@ -342,6 +342,11 @@ static void rows_in_growing_memory(void)
         expect(mysql_params_append_row(&forms, &row), &it, "the row isn't appended");
     expect(forms.len == needed && forms.needed == needed, &it, "another need is wanted");
     expect(!mysql_params_append_row(&forms, &row) && forms.len == needed, &it, "a row is appended behind the room");
+    mysql_params_form grown = mysql_params_form_growing();
+    for (int i = 0; i < ROWS; i++)
+        expect(mysql_params_append_row(&grown, &row), &it, "the row isn't appended to forms that grow");
+    expect(grown.len == needed && memcmp(grown.room, forms.room, needed) == 0, &it, "forms that grow are others");
+    mysql_params_form_free(&grown);
     for (long allocations = 0; allocations < 2; allocations++) {
         mysql_params_texts texts = {0};
         mysql_params_rows rows = {0};
