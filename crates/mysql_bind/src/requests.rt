@@ -62,6 +62,13 @@ fn mode_of_text(alloc: Global, text: &str) -> Result<Literals, Complaint> {
             "--sql-mode is empty, as is the answer of a client that failed: give --mode",
         ));
     }
+    if !text.split(',').all(|word| is_mode_word(word)) {
+        return Err(bad_word(
+            alloc,
+            "--sql-mode is no list of modes as SELECT @@sql_mode answers it, such as \
+             ANSI_QUOTES,STRICT_TRANS_TABLES: ask by `mysql -N`",
+        ));
+    }
     if has_mode(text, "ORACLE") {
         return Err(bad_word(
             alloc,
@@ -72,6 +79,14 @@ fn mode_of_text(alloc: Global, text: &str) -> Result<Literals, Complaint> {
     Ok(Literals::Plain {
         no_backslash_escape: has_mode(text, "NO_BACKSLASH_ESCAPES"),
     })
+}
+
+// Whether the word is one of a list that a server writes.
+fn is_mode_word(word: &str) -> bool {
+    !word.is_empty()
+        && word.bytes().all(|byte| byte.is_ascii_uppercase()
+            || byte.is_ascii_digit()
+            || byte == b'_')
 }
 
 // Whether a mode is among those of `@@sql_mode`.

@@ -194,7 +194,7 @@ fn add_env(values: &mut Values, rt: &HostRuntime, word: &str) -> Result<(), Comp
         Some(bytes) => add_parts(values, rt.alloc(), "env", parts, bytes),
         None => {
             let what = format!(in rt.alloc();
-                "--env {}: the environment has no `{variable}`",
+                "--env {}: the environment has no such variable",
                 parts.name
             )?;
             Err(unusable(rt.alloc(), Place::Words, what))
@@ -204,6 +204,9 @@ fn add_env(values: &mut Values, rt: &HostRuntime, word: &str) -> Result<(), Comp
 
 // Adds what `--null` gives.
 fn add_null(values: &mut Values, alloc: Global, name: &str) -> Result<(), Complaint> {
+    if name.bytes().any(|byte| byte == b'=' || byte == b':') {
+        return Err(bad_word(alloc, "--null: write NAME alone"));
+    }
     let origin = origin_of(alloc, "null", name)?;
     let name = Vec::from_slice(alloc, name.as_bytes())?;
     values.add(origin, name, ValueType::Null, Vec::new(alloc))?;

@@ -18,6 +18,7 @@ use Rattle.mysql_bind_core.specs.Requests.{mode_of}
 use Rattle.mysql_bind_core.specs.declared.assignment.Assignment.{Assignment}
 use Rattle.mysql_bind_core.specs.declared.failure.Failure.{Failure}
 use Rattle.mysql_bind_core.specs.declared.failure.Failure.TheVariants as failure
+use Rattle.mysql_bind_core.specs.declared.request.Literals.{Literals}
 use Rattle.mysql_bind_core.specs.declared.request.Literals.TheVariants as literals
 use Rattle.mysql_bind_core.specs.declared.request.Portability.{Portability}
 use Rattle.mysql_bind_core.specs.declared.request.Portability.TheVariants as portability
@@ -61,13 +62,13 @@ abbrev pub looked_for : Portability → List Token → Option Unportable
 looked_for portability.Portable ts = first_unportable ts
 looked_for portability.Any ts = None
 
--- why what is given can't be bound into a query with these tokens
-abbrev pub IsTextRefusal : Portability → List ℕ → List Token → Given → Failure → Type 0
-IsTextRefusal wanted query ts given (failure.Plain error) =
+-- why what is given can't be bound into a query with these tokens, in the literals that are asked for
+abbrev pub IsTextRefusal : Literals → Portability → List ℕ → List Token → Given → Failure → Type 0
+IsTextRefusal (literals.Plain mode) wanted query ts given (failure.Plain error) =
     IsCauseOrMemory (first_cause ts given) error
-IsTextRefusal wanted query ts given (failure.Steady error) =
+IsTextRefusal literals.Steady wanted query ts given (failure.Steady error) =
     IsSteadyRefusal query (looked_for wanted ts) (first_cause ts given) error
-IsTextRefusal wanted query ts given why = ⊥
+IsTextRefusal asked wanted query ts given why = ⊥
 
 -- why a request writes nothing for this query and these assignments: the query isn't taken, or the
 -- assignments give nothing, or what they give can't be bound
@@ -79,5 +80,5 @@ pub data IsRefusal (request : Request) (query : List ℕ) (assignments : List As
   of_text : IsTaken request query → (pairs : List (List ℕ × Value)) → (given : Given) →
       pairs_of assignments ≡ Some pairs → given_of pairs ≡ Ok given →
       OnTokens (mode_of request.literals) query (λ ts.
-      IsTextRefusal request.portability query ts given why) →
+      IsTextRefusal request.literals request.portability query ts given why) →
       IsRefusal request query assignments why

@@ -195,7 +195,7 @@ fn params_text(
     ensures bound { IfOk result (λ text. OnTokens (mode_of request.literals) query.now (λ ts.
         IsTextFor request.literals request.portability query.now ts (given params) text.items)) }
     ensures refused { IfErr result (λ e. OnTokens (mode_of request.literals) query.now (λ ts.
-        IsTextRefusal request.portability query.now ts (given params) e)) }
+        IsTextRefusal request.literals request.portability query.now ts (given params) e)) }
 {
     match request.literals {
         Literals::Plain {
@@ -226,7 +226,8 @@ fn plain_text(
         IsTextFor (Literals.Plain no_backslash_escape) portability query.now ts (given params)
         text.items)) }
     ensures refused { IfErr result (λ e. OnTokens no_backslash_escape query.now (λ ts.
-        IsTextRefusal portability query.now ts (given params) e)) }
+        IsTextRefusal (Literals.Plain no_backslash_escape) portability query.now ts
+        (given params) e)) }
 {
     match bind_text_in(alloc, query, params, no_backslash_escape) {
         Ok(text) => Ok(text),
@@ -239,7 +240,7 @@ fn anywhere_text(alloc: Global, query: &[u8], params: Params) -> Result<Vec<u8>,
     ensures bound { IfOk result (λ text. OnTokens false query.now (λ ts.
         IsTextFor Literals.Steady Portability.Portable query.now ts (given params) text.items)) }
     ensures refused { IfErr result (λ e. OnTokens false query.now (λ ts.
-        IsTextRefusal Portability.Portable query.now ts (given params) e)) }
+        IsTextRefusal Literals.Steady Portability.Portable query.now ts (given params) e)) }
 {
     match bind_text_anywhere(alloc, query, params) {
         Ok(text) => Ok(text),
@@ -252,7 +253,7 @@ fn any_mode_text(alloc: Global, query: &[u8], params: Params) -> Result<Vec<u8>,
     ensures bound { IfOk result (λ text. OnTokens false query.now (λ ts.
         IsTextFor Literals.Steady Portability.Any query.now ts (given params) text.items)) }
     ensures refused { IfErr result (λ e. OnTokens false query.now (λ ts.
-        IsTextRefusal Portability.Any query.now ts (given params) e)) }
+        IsTextRefusal Literals.Steady Portability.Any query.now ts (given params) e)) }
 {
     match bind_text_in_any_mode(alloc, query, params) {
         Ok(text) => Ok(text),

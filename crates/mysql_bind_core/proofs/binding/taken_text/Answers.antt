@@ -25,7 +25,7 @@ returns-in-Ok-clause-refused c =
     let params = given c.in-Ok.params in
     let found = c.in-Ok.ensures.given in
     if_err c.params_text.result
-    (λ why. OnTokens (mode_of request.literals) query (λ ts. IsTextRefusal request.portability query ts params why))
+    (λ why. OnTokens (mode_of request.literals) query (λ ts. IsTextRefusal request.literals request.portability query ts params why))
     (IsRefusal request query c.args.assignments.now)
     (λ why refused. of_text c.requires found.0 params found.1 found.2 refused)
     c.params_text.ensures.refused
