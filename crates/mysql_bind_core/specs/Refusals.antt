@@ -62,7 +62,8 @@ abbrev pub looked_for : Portability → List Token → Option Unportable
 looked_for portability.Portable ts = first_unportable ts
 looked_for portability.Any ts = None
 
--- why what is given can't be bound into a query with these tokens, in the literals that are asked for
+-- why what is given can't be bound, in the literals that are asked for, into a query with these
+-- tokens
 abbrev pub IsTextRefusal : Literals → Portability → List ℕ → List Token → Given → Failure → Type 0
 IsTextRefusal (literals.Plain mode) wanted query ts given (failure.Plain error) =
     IsCauseOrMemory (first_cause ts given) error
