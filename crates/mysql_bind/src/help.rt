@@ -57,7 +57,7 @@ written; 4 out of memory. With 1, 2 and 4 nothing was written.
 
 Example:
   mysql_bind bind --set id:int=42 --env token=API_TOKEN -o bound.sql q.sql &&
-      mysql --comments --skip-force --skip-binary-mode --skip-named-commands
+      mysql --comments --skip-force --skip-binary-mode --skip-named-commands \\
           --default-character-set=utf8mb4 shop < bound.sql
 ";
 
