@@ -183,7 +183,19 @@ impl Call<'_> {
             .unwrap_or_else(|other| other)
     }
 
-    /// The same; or `Err` if the number or its report isn't one of mysql_params.h, or the name finds no memory.
+    /// The same in a mode, a float with the name of its place.
+    fn error_in(self, number: i32, report: &Report, no_backslash_escape: bool) -> Error {
+        let mut error = self.error(number, report);
+        if let Error::Float { place, name } = &mut error {
+            match names_in(self.query(), no_backslash_escape) {
+                Ok(found) => *name = found.names.into_iter().nth(*place),
+                Err(other) => return other,
+            }
+        }
+        error
+    }
+
+    /// As `error`; or `Err` if the number or its report isn't one of mysql_params.h, or the name finds no memory.
     fn known_error(self, number: i32, report: &Report) -> Result<Error, Error> {
         let Report {
             place,
@@ -265,12 +277,7 @@ impl Call<'_> {
             (number, report) = self.answer(no_backslash_escape, &mut room);
         }
         if number != DONE {
-            let mut error = self.error(number, &report);
-            if let Error::Float { place, name } = &mut error {
-                let names = names_in(self.query(), no_backslash_escape)?.names;
-                *name = names.into_iter().nth(*place);
-            }
-            return Err(error);
+            return Err(self.error_in(number, &report, no_backslash_escape));
         }
         written(room, &report)
     }
@@ -328,7 +335,8 @@ impl TextRoom {
                 ROOM => self.grow(report.len)?,
                 number => {
                     let form = crate::form::next_string(forms).map_or(&[][..], |(form, _)| form);
-                    return Err(Call::Bind { query, form }.error(number, &report));
+                    let call = Call::Bind { query, form };
+                    return Err(call.error_in(number, &report, no_backslash_escape));
                 }
             }
         }

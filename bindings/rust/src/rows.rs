@@ -152,7 +152,12 @@ fn append_rows<'p>(
     }
     let mut forms = Vec::new();
     for params in rows {
+        let before = forms.len();
         let form = form::form_of(&params).and_then(|form| form::append_string(&mut forms, &form));
+        if form.is_err() {
+            // Memory may have failed behind the length of a row that isn't there.
+            forms.truncate(before);
+        }
         if form.is_err() || forms.len() >= BATCH {
             room.append_rows(query, &forms, no_backslash_escape)?;
             forms.clear();

@@ -1,6 +1,6 @@
 //! Memory refused to this crate after each number of allocations: the process goes on, and the call says so. The
 //! archive's own memory is C's, which isn't refused here.
-use mysql_params::{Error, Params, Value, bind, names};
+use mysql_params::{Error, Params, Texts, Value, bind, bind_rows, names};
 use std::alloc::{GlobalAlloc, Layout, System};
 use std::cell::Cell;
 use std::fmt::Debug;
@@ -97,4 +97,29 @@ fn texts_without_memory() {
     let long = [("a", Value::Bytes(&[b'\''; 300]))];
     let query = vec![":a"; 100].join(",");
     survives(|| bind(query.as_bytes(), &Params::Named(&long)));
+}
+
+/// The texts of rows; or the error of the one that is refused, before which each row has its text.
+fn texts_of(query: &[u8], rows: &[Params<'_>]) -> Result<Texts, Error> {
+    bind_rows(query, rows.iter().copied()).map_err(|refused| {
+        assert_eq!(refused.texts.len(), refused.row);
+        for (text, row) in refused.texts.iter().zip(rows) {
+            let left = LEFT.replace(None);
+            assert_eq!(bind(query, row).as_deref(), Ok(text));
+            LEFT.set(left);
+        }
+        refused.error
+    })
+}
+
+#[test]
+fn rows_without_memory() {
+    let values = [Value::Int(1), "x' OR '1'='1".into()];
+    let long = [Value::Null, Value::Bytes(&[b'\''; 300])];
+    let rows = [&values, &long, &values].map(|row| Params::Positional(row));
+    survives(|| texts_of(b"?, ?", &rows));
+    let pairs = [("a", Value::Int(1)), ("b", 1.into())];
+    let floats = [("a", 1.5.into()), ("b", 1.into())];
+    let rows = [&pairs, &floats].map(|row| Params::Named(row));
+    survives(|| texts_of(b":b, :a", &rows));
 }
