@@ -198,7 +198,7 @@ bool mysql_params_append_row(mysql_params_form *forms, const mysql_params_form *
 {
     uint8_t length[LENGTH_ROOM];
     size_t length_len = fill_length(length, row->len);
-    size_t needed = sum(length_len, row->len);
+    size_t needed = row->needed == row->len ? sum(length_len, row->len) : SIZE_MAX;
     if (forms->grows && forms->needed == forms->len && needed > forms->room_len - forms->len)
         grow(forms, needed);
     bool fits = forms->needed == forms->len && needed <= forms->room_len - forms->len;

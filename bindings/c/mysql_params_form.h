@@ -19,8 +19,8 @@ typedef struct mysql_params_form {
     size_t room_len;
     /* Bytes of the form so far: hand `room` and `len` to mysql_params_bind once `needed` is `len`. */
     size_t len;
-    /* Bytes that all appended parameters need; SIZE_MAX if that is too many to count. It is greater than `len` once a
-     * parameter did not fit. */
+    /* Bytes that all appended parameters need; SIZE_MAX if that is too many to count, or not known of a row. It is
+     * greater than `len` once a parameter did not fit. */
     size_t needed;
     /* Whether the memory is the form's own, of `malloc`, and grows. */
     bool grows;
@@ -101,8 +101,8 @@ int32_t mysql_params_bind_form(const uint8_t *query, size_t query_len, const mys
                                bool no_backslash_escape, char **text, mysql_params_report *report);
 
 /* Appends a row to the forms of mysql_params_bind_rows: a form as a length-encoded string. `forms` is set up as a form is,
- * and has nothing else appended. The row's own `needed` has to be its `len`. Returns as the functions
- * above; the row doesn't overlap the room. */
+ * and has nothing else appended. Returns as the functions above. It appends no row that lacks a parameter, whose own
+ * `needed` isn't its `len`: then `needed` of `forms` is SIZE_MAX. The row doesn't overlap the room. */
 bool mysql_params_append_row(mysql_params_form *forms, const mysql_params_form *row);
 
 /* Texts in memory that grows, one after another, each as a length-encoded string. Begin with `= {0}`, and end with

@@ -374,6 +374,26 @@ static void rows_in_growing_memory(void)
     clear_bytes(&string);
 }
 
+/* A row whose parameters don't all stand in its room isn't bound as one with fewer of them. */
+static void rows_that_are_cut(void)
+{
+    test_case it = {0};
+    uint8_t row_room[16], room[64];
+    for (int grows = 0; grows <= 1; grows++) {
+        mysql_params_form row = mysql_params_form_in(row_room, 3);
+        mysql_params_form forms = grows == 0 ? mysql_params_form_in(room, sizeof room) : mysql_params_form_growing();
+        expect(mysql_params_append_null(&row, NULL), &it, "the row doesn't fit");
+        expect(mysql_params_append_row(&forms, &row) && forms.len == 4, &it, "the row isn't appended");
+        expect(!mysql_params_append_null(&row, NULL) && row.len == 3, &it, "a parameter is appended behind the room");
+        expect(!mysql_params_append_row(&forms, &row), &it, "a row that is cut is appended");
+        expect(forms.len == 4 && forms.needed == SIZE_MAX, &it, "it isn't seen that a row is cut");
+        row = mysql_params_form_in(row_room, sizeof row_room);
+        expect(!mysql_params_append_row(&forms, &row), &it, "a row is appended behind one that is cut");
+        expect(forms.len == 4 && forms.needed == SIZE_MAX, &it, "it isn't seen any more");
+        mysql_params_form_free(&forms);
+    }
+}
+
 /* A query that is `len` bytes long once it is renamed: `'xx..' :a`. */
 static void try_long_names(size_t len)
 {
@@ -763,6 +783,7 @@ int main(int count, char **words)
     all &= passed("names_of_queries", names_of_queries);
     all &= passed("rows_of_queries", rows_of_queries);
     all &= passed("rows_in_growing_memory", rows_in_growing_memory);
+    all &= passed("rows_that_are_cut", rows_that_are_cut);
     all &= passed("portable_queries", portable_queries);
     all &= passed("names_of_long_queries", names_of_long_queries);
     all &= passed("each_value_of_one_byte", each_value_of_one_byte);
