@@ -64,6 +64,9 @@ namespace detail {
 
 template <typename T>
 inline constexpr bool is_character = std::is_same_v<T, char> || std::is_same_v<T, wchar_t> ||
+#ifdef __cpp_char8_t
+                                     std::is_same_v<T, char8_t> ||
+#endif
                                      std::is_same_v<T, char16_t> || std::is_same_v<T, char32_t>;
 
 template <typename T>
@@ -72,8 +75,9 @@ inline constexpr bool is_number = std::is_integral_v<T> && !is_character<T> && s
 } // namespace detail
 
 /* A value for a place, made of a whole number, a bool (1 or 0), a text or bytes, nullptr or an empty std::optional (NULL),
- * a date or a time. It borrows its bytes: use it within the call that takes it. A floating-point number or a character
- * doesn't compile; for a decimal give its text, and write CAST(:p AS DECIMAL(20,2)) in the query. */
+ * a date or a time. It borrows its bytes: use it within the call that takes it. Write nullptr and not the macro NULL, which
+ * may be bound as the number 0. A floating-point number or a character doesn't compile; for a decimal give its text, and
+ * write CAST(:p AS DECIMAL(20,2)) in the query. */
 class Value {
 public:
     Value(std::nullptr_t) noexcept {}

@@ -44,6 +44,8 @@ template <typename Call> static std::string thrown(Call call)
 
 static_assert(!std::is_constructible_v<Value, double> && !std::is_constructible_v<Value, float>);
 static_assert(!std::is_constructible_v<Value, char> && !std::is_constructible_v<Value, void *>);
+static_assert(!std::is_constructible_v<Value, wchar_t> && !std::is_constructible_v<Value, decltype(u8'a')>);
+static_assert(!std::is_constructible_v<Value, char16_t> && !std::is_constructible_v<Value, char32_t>);
 static_assert(!std::is_copy_constructible_v<Form> && std::is_nothrow_move_constructible_v<Form>);
 
 static void values()
