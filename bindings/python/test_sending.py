@@ -94,6 +94,10 @@ class MySQLCursorPrepared(Cursor):
     """A cursor that prepares."""
 
 
+class Own(MySQLCursorPrepared):
+    """A cursor of the caller's, which prepares too."""
+
+
 class Pooled:
     """SQLAlchemy's connection of its pool, and its own."""
 
@@ -245,7 +249,7 @@ class Test(unittest.TestCase):
     def test_cursors_that_cannot_be_used(self):
         closed = PyMySQL().cursor()
         closed.close()
-        for cursor in (closed, MySQLCursorPrepared(PyMySQL()), None, object()):
+        for cursor in (closed, MySQLCursorPrepared(PyMySQL()), Own(PyMySQL()), None, object()):
             with self.subTest(type=type(cursor).__name__), self.assertRaises(TypeError):
                 execute(cursor, "SELECT 1")
 

@@ -166,7 +166,7 @@ def _bound(
 
 def _connection_of(cursor: Any) -> Any:
     """Return the connection of a driver's cursor. Raise TypeError for a cursor that would prepare the text."""
-    if "Prepared" in type(cursor).__name__:
+    if any("Prepared" in kind.__name__ for kind in type(cursor).__mro__):
         raise TypeError("a cursor that prepares looks for places itself: take connection.cursor()")
     for name in ("connection", "_connection", "_cnx"):
         connection = getattr(cursor, name, None)
