@@ -204,7 +204,8 @@ def bind(
     as a double; decimal_text says how to have each Decimal bound so. For IN write a place for each value.
 
     A datetime with a time zone is refused, unless zone is given, which is that of the connection (@@time_zone): then it
-    is bound as the clocks there show it. One without a zone is bound as it is.
+    is bound as the clocks there show it; ValueError for one that they show twice, or never. One without a zone is bound
+    as it is.
 
     Of the parameters: raise TypeError for what has no literal, OverflowError for a whole number of more than 64 bits,
     ValueError for an empty name, UnicodeEncodeError for a str with a lone surrogate (also for a query that is one),

@@ -8,7 +8,7 @@ import struct
 from collections.abc import Iterable, Mapping
 from typing import Any, Callable, Optional, Union
 
-from ._values import in_zone, plain, zone_of
+from ._values import in_zone, is_ambiguous, plain, zone_of
 from .errors import _show
 
 # Numbers of column types in the protocol, and the flag that says unsigned.
@@ -64,15 +64,29 @@ def _int_form(number: int, which: Union[bytes, int]) -> bytes:
     raise OverflowError(f"{_place(which)} is a whole number of more than 64 bits: {_cast(which, '65,0')}")
 
 
+def _shown(
+    moment: datetime.datetime, which: Union[bytes, int], zone: Optional[datetime.tzinfo]
+) -> datetime.datetime:
+    """Return a datetime as the clocks of the zone show it, without a zone."""
+    try:
+        shown = in_zone(moment, zone)
+    except OverflowError:
+        raise ValueError(f"{_place(which)} is a datetime that is outside of the years 1 to 9999 in the zone") from None
+    if shown is None:
+        to_do = "convert it to a naive one, or hand in zone=.., the session's"
+        raise TypeError(f"{_place(which)} is a datetime with a time zone: {to_do}")
+    if is_ambiguous(shown):
+        to_do = "bind it in a session whose zone is UTC"
+        raise ValueError(f"{_place(which)} is a datetime that the clocks of the zone show twice, or never: {to_do}")
+    return shown.replace(tzinfo=None)
+
+
 def _date_form(date: datetime.date, which: Union[bytes, int], zone: Optional[datetime.tzinfo]) -> bytes:
     """Return type, flags and value of a date, or of a date with its time of day."""
     clock = (0, 0, 0, 0)
     if isinstance(date, datetime.datetime):
-        naive = in_zone(date, zone)
-        if naive is None:
-            to_do = "convert it to a naive one, or hand in zone=.., the session's"
-            raise TypeError(f"{_place(which)} is a datetime with a time zone: {to_do}")
-        date = naive
+        if date.tzinfo is not None:
+            date = _shown(date, which, zone)
         clock = (date.hour, date.minute, date.second, date.microsecond)
     return struct.pack("<BBBHBBBBBI", _DATETIME, 0, 11, date.year, date.month, date.day, *clock)
 

@@ -57,8 +57,15 @@ def register(kind: type[_Kind], function: Callable[[_Kind], object]) -> None:
     _REGISTERED[kind] = function
 
 
+_DIGITS, _AFTER_POINT = 65, 30
+"""The most digits of a DECIMAL, and the most of them after the point."""
+
+
 def decimal_text(value: decimal.Decimal) -> str:
     """Return the digits of a Decimal, without an exponent. Raise ValueError for what is no number, or infinite.
+
+    So it does for a number so great or so small that no DECIMAL has a place for its first digit: a short text as
+    ``1E+999999999`` has a great many digits.
 
     ``register(decimal.Decimal, decimal_text)`` has each Decimal bound as this text. A server computes with a text as a
     double, and loses hundredths of great sums without a word: write ``CAST(:p AS DECIMAL(20,2))`` wherever a query
@@ -69,7 +76,13 @@ def decimal_text(value: decimal.Decimal) -> str:
     """
     if not value.is_finite():
         raise ValueError(f"a Decimal that is {value} has no digits")
-    return format(value, "f")
+    first = value.adjusted()
+    if -_AFTER_POINT <= first < _DIGITS:
+        return format(value, "f")
+    if not value:
+        return "0"
+    held = f"holds {_DIGITS} digits, and {_AFTER_POINT} after the point"
+    raise ValueError(f"a Decimal whose first digit stands for 1E{first:+} is beyond a DECIMAL, which {held}")
 
 
 def _registered(kind: type) -> Optional[Callable[[Any], object]]:
@@ -109,12 +122,18 @@ def _other(value: object) -> object:
 
 
 def in_zone(value: datetime.datetime, zone: Optional[datetime.tzinfo]) -> Optional[datetime.datetime]:
-    """Return a datetime as the clocks of a zone show it, without a zone; None if that isn't known."""
-    if value.tzinfo is None:
-        return value
+    """Return a datetime that has a zone as the clocks of another show it, in that; None if that isn't known.
+
+    Raise OverflowError if it is outside of the years that a datetime has.
+    """
     if zone is None or value.utcoffset() is None:
         return None
-    return value.astimezone(zone).replace(tzinfo=None)
+    return value.astimezone(zone)
+
+
+def is_ambiguous(value: datetime.datetime) -> bool:
+    """Return whether the clocks of a datetime's zone show it twice, or never: then it has two offsets from UTC."""
+    return value.replace(fold=0).utcoffset() != value.replace(fold=1).utcoffset()
 
 
 def zone_of(zone: object) -> Optional[datetime.tzinfo]:
