@@ -93,6 +93,16 @@ static void grow(mysql_params_form *form, size_t more)
     form->room_len = wanted;
 }
 
+/* Counts so many bytes more as needed. Returns whether there is room for them, with more memory in a form that grows. */
+static bool makes_room(mysql_params_form *form, size_t needed)
+{
+    if (form->grows && form->needed == form->len && needed > form->room_len - form->len)
+        grow(form, needed);
+    bool fits = form->needed == form->len && needed <= form->room_len - form->len;
+    form->needed = sum(form->needed, needed);
+    return fits;
+}
+
 /* Appends bytes for which there is room. */
 static void append(mysql_params_form *form, const void *bytes, size_t len)
 {
@@ -108,12 +118,7 @@ static bool append_parameter(mysql_params_form *form, const char *name, uint8_t 
     uint8_t length[LENGTH_ROOM];
     size_t name_len = name == NULL ? 0 : strlen(name);
     size_t length_len = fill_length(length, name_len);
-    size_t needed = sum(sum(length_len + 2 + head_len, name_len), tail_len);
-    if (form->grows && form->needed == form->len && needed > form->room_len - form->len)
-        grow(form, needed);
-    bool fits = form->needed == form->len && needed <= form->room_len - form->len;
-    form->needed = sum(form->needed, needed);
-    if (!fits)
+    if (!makes_room(form, sum(sum(length_len + 2 + head_len, name_len), tail_len)))
         return false;
     const uint8_t type_and_flags[2] = {type, flags};
     append(form, length, length_len);
@@ -198,12 +203,7 @@ bool mysql_params_append_row(mysql_params_form *forms, const mysql_params_form *
 {
     uint8_t length[LENGTH_ROOM];
     size_t length_len = fill_length(length, row->len);
-    size_t needed = row->needed == row->len ? sum(length_len, row->len) : SIZE_MAX;
-    if (forms->grows && forms->needed == forms->len && needed > forms->room_len - forms->len)
-        grow(forms, needed);
-    bool fits = forms->needed == forms->len && needed <= forms->room_len - forms->len;
-    forms->needed = sum(forms->needed, needed);
-    if (!fits)
+    if (!makes_room(forms, row->needed == row->len ? sum(length_len, row->len) : SIZE_MAX))
         return false;
     append(forms, length, length_len);
     append(forms, row->room, row->len);
