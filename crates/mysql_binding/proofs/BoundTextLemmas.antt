@@ -18,6 +18,7 @@ use Rattle.mysql_binding.specs.declared.bind_error.BindError.TheVariants.{Mixed}
 use Rattle.mysql_binding.specs.declared.binding.survey.Survey.{Survey}
 use Rattle.mysql_binding.specs.Survey.{IsSurvey}
 use Rattle.mysql_binding.specs.LiteralForm.{Literals, LiteralFacts, AreWrittenAs, IsPlainLiteral}
+use Rattle.mysql_binding.specs.MeasuredText.{IsLookedUp}
 use Rattle.mysql_binding.specs.WrittenText.{IsGivenText, IsWrittenText}
 use Rattle.mysql_binding.specs.BindErrors.{IsCauseOrMemory, cause_of}
 use Rattle.mysql_binding.specs.Isolation.{IsBoundText}
@@ -62,7 +63,7 @@ plain_shapes mode [] (text ∷ texts) h = absurd h
 plain_shapes mode (v ∷ values) [] h = absurd h
 plain_shapes mode (v ∷ values) (text ∷ texts) h = (h.1.0, plain_shapes mode values texts h.2)
 
-is_bound_text : (mode : Bool) (query : List ℕ) (ts : List Token) (given : Given) (text : List ℕ) →
+pub is_bound_text : (mode : Bool) (query : List ℕ) (ts : List Token) (given : Given) (text : List ℕ) →
     IsTokens mode query ts → IsGivenText (literal_of mode) (IsPlainLiteral mode) ts given text →
     IsBoundText mode ts given text
 is_bound_text mode query ts given text is g =
@@ -92,11 +93,6 @@ is_bound_text mode query ts given text is g =
       reads_in_place = read.in_place (read_literal mode) ts 0 [] [] texts s.contents alone s.reads room;
       read_back = rw text_is (read.contents_of_bound (read_literal mode) ts 0 [] [] texts s.contents alone s.reads room);
     }
-
--- what is known of the tokens when the values were looked up and there is no later cause
-abbrev pub IsLookedUp : List Token → Given → List Value → Type 0
-IsLookedUp ts given values =
-    (mixed_cause ts ≡ None) × (lookup given (names ts) ≡ Ok values) × (later_cause ts values ≡ None)
 
 -- ---- as the code finds them
 

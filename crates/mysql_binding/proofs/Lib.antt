@@ -21,5 +21,7 @@ pub mod WrittenTextLemmas
 pub mod FilledTextLemmas
 pub mod BoundAgainLemmas
 pub mod BoundTextLemmas
+pub mod MeasuredTextLemmas
+pub mod TextInRoomLemmas
 pub mod BoundOnServerLemmas
 pub mod BoundStatementLemmas

@@ -12,6 +12,8 @@ pub mod SameQuery
 pub mod ValueLiterals
 pub mod LiteralForm
 pub mod WrittenText
+pub mod TextInRoom
+pub mod MeasuredText
 pub mod BindErrors
 pub mod Isolation
 pub mod BoundAgain

@@ -12,14 +12,17 @@ ghost use Rattle.mysql_binding.specs.BoundAgain.{IsSameBoundAgain, IsSameByPosit
 ghost use Rattle.mysql_binding.specs.FirstCause.{mark_count_differs, first_cause, later_cause, mixed_cause, refused_params};
 ghost use Rattle.mysql_binding.specs.FoundPlaces.{BeginWithPlaces};
 ghost use Rattle.mysql_binding.specs.Isolation.{IsBoundText};
+ghost use Rattle.mysql_binding.specs.MeasuredText.{IsMeasured};
 ghost use Rattle.mysql_binding.specs.Survey.{IsSurvey};
 ghost use Rattle.mysql_binding.specs.WrittenText.{IsGivenText};
 
 mod form;
 mod found;
 mod literals;
+mod measured;
 mod names;
 mod parsed_query;
+mod room;
 mod stands_alone;
 mod survey;
 mod text;
@@ -27,9 +30,13 @@ mod text;
 use crate::bind_error::BindError;
 pub use crate::binding::form::{LiteralForm, PlainForm};
 use crate::binding::literals::first_float;
+pub use crate::binding::measured::MeasuredText;
+use crate::binding::measured::with_lengths;
 use crate::binding::names::query_names;
 pub use crate::binding::parsed_query::ParsedQuery;
+pub use crate::binding::room::{TextInRoom, bind_borrowed_into};
 pub use crate::binding::survey::{Survey, place_survey};
+pub use crate::binding::text::fill_measured;
 use crate::binding::text::written_text;
 use mysql_named_params::places::{FoundPlace, PlaceKind};
 use mysql_params_core::params::{BorrowedParams, Params, ParamsError, place_values};
@@ -217,6 +224,43 @@ pub fn bind_surveyed_as<F: LiteralForm>(
     ensures mixed { OnTokens no_backslash_escape query.now (λ ts.
         HasName ts × HasMark ts → IsErrOf result BindError.Mixed) }
 {
+    let measured = measured_text(
+        alloc,
+        query,
+        survey,
+        known,
+        params,
+        no_backslash_escape,
+        form,
+    )?;
+    match written_text(alloc, query, known, &measured, no_backslash_escape, form) {
+        Ok(text) => Ok(text),
+        Err(error) => Err(BindError::Memory(error)),
+    }
+}
+
+/// What the text of a query with this survey and these first places is written from, and how long
+/// it will be: what [`bind_surveyed_as`] does before there is room for the text, lent to the crates
+/// above. It refuses what that refuses; out of memory also comes if the text would be longer than
+/// `isize::MAX` bytes.
+pub fn measured_text<'p, F: LiteralForm>(
+    alloc: Global,
+    query: &[u8],
+    survey: Survey,
+    known: &[FoundPlace],
+    params: BorrowedParams<'p>,
+    no_backslash_escape: bool,
+    form: &F,
+) -> Result<MeasuredText<'p>, BindError>
+    requires survey { OnTokens no_backslash_escape query.now (IsSurvey survey) }
+    requires known { OnTokens no_backslash_escape query.now (BeginWithPlaces known.now) }
+    ensures measured { OnTokens no_backslash_escape query.now (λ ts. IfOk result
+        (IsMeasured (F.literal form.now) ts (given_by_borrowed params.entry))) }
+    ensures refused { OnTokens no_backslash_escape query.now (λ ts. IfErr result
+        (IsCauseOrMemory (first_cause ts (given_by_borrowed params.entry)))) }
+    ensures mixed { OnTokens no_backslash_escape query.now (λ ts.
+        HasName ts × HasMark ts → IsErrOf result BindError.Mixed) }
+{
     if survey.names > 0 && survey.marks > 0 {
         return Err(BindError::Mixed);
     }
@@ -231,16 +275,8 @@ pub fn bind_surveyed_as<F: LiteralForm>(
     if let Some(error) = later_error(survey, values.as_slice()) {
         return Err(error);
     }
-    match written_text(
-        alloc,
-        query,
-        known,
-        survey.piece_bytes,
-        values.as_slice(),
-        no_backslash_escape,
-        form,
-    ) {
-        Ok(text) => Ok(text),
+    match with_lengths(alloc, survey.piece_bytes, values, form) {
+        Ok(measured) => Ok(measured),
         Err(error) => Err(BindError::Memory(error)),
     }
 }

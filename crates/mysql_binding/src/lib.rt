@@ -12,6 +12,7 @@ pub mod laws;
 
 pub use bind_error::BindError;
 pub use binding::{
-    LiteralForm, ParsedQuery, PlainForm, Survey, bind_borrowed_as, bind_borrowed_in, bind_surveyed,
-    bind_surveyed_as, bind_text, bind_text_in, place_survey,
+    LiteralForm, MeasuredText, ParsedQuery, PlainForm, Survey, TextInRoom, bind_borrowed_as,
+    bind_borrowed_in, bind_borrowed_into, bind_surveyed, bind_surveyed_as, bind_text, bind_text_in,
+    fill_measured, measured_text, place_survey,
 };

@@ -1,11 +1,14 @@
 //! The literals of values, in any form.
 ghost use Rattle.std.specs.Prelude.{◌≡◌, ◌+◌, ◌++◌, ◌≤◌, false, Some, IfOk, length, map, take};
+ghost use Rattle.std.specs.List.{All};
 ghost use Rattle.mysql_values.specs.Literal.{is_float};
+ghost use Rattle.mysql_values.specs.Value.{FieldsInRange};
 ghost use Rattle.mysql_params_core.specs.Referents.{referents};
 ghost use Rattle.mysql_binding.specs.FirstCause.{first_float};
 ghost use Rattle.mysql_binding.specs.LiteralForm.{literal_len, written_literal};
 
 use crate::binding::form::LiteralForm;
+use mysql_values::laws::fields_in_range;
 use mysql_values::value::Value;
 use std::alloc::{AllocError, Global};
 
@@ -27,8 +30,9 @@ pub(super) fn literal_lens<F: LiteralForm>(
     values: &[&Value],
     form: &F,
 ) -> Result<Vec<u128>, AllocError>
-    ensures { IfOk result (λ lens.
+    ensures lens { IfOk result (λ lens.
         lens.items ≡ map (literal_len (F.literal form.now)) (referents values.now)) }
+    ensures in_range { IfOk result (λ lens. All FieldsInRange (referents values.now)) }
 {
     let mut lens = Vec::with_capacity(alloc, values.len())?;
     for value in values {
@@ -40,8 +44,10 @@ pub(super) fn literal_lens<F: LiteralForm>(
 // The length of the literal of a value, 0 for a float.
 #[tactic(auto, using(crate::proofs::TextLengthLemmas::length_or_zero))]
 fn literal_len<F: LiteralForm>(value: &Value, form: &F) -> u128
-    ensures { result ≡ literal_len (F.literal form.now) value.now }
+    ensures len { result ≡ literal_len (F.literal form.now) value.now }
+    ensures in_range { FieldsInRange value.now }
 {
+    fields_in_range(value);
     form.len(value).unwrap_or(0)
 }
 

@@ -1,77 +1,85 @@
-//! The text of a query with the literals of values in its places: one vector of exactly its length.
-ghost use Rattle.std.specs.Prelude.{◌≡◌, ◌+◌, ◌++◌, ◌≤◌, ◌^◌, None, IfOk, IfSome, length, map, take};
+//! The text of a query with the literals of values in its places: a slice of exactly its length.
+ghost use Rattle.std.specs.Prelude.{◌≡◌, ◌+◌, ◌++◌, ◌≤◌, None, IfOk, length, map, take};
 ghost use Rattle.std.specs.List.{sum};
 ghost use Rattle.mysql_named_params.specs.Tokens.{OnTokens};
 ghost use Rattle.mysql_named_params.specs.Places.{place_count};
+ghost use Rattle.mysql_params_core.specs.Given.{Given};
 ghost use Rattle.mysql_params_core.specs.Referents.{referents};
 ghost use Rattle.mysql_binding.specs.FirstCause.{first_float};
 ghost use Rattle.mysql_binding.specs.FoundPlaces.{BeginWithPlaces};
 ghost use Rattle.mysql_binding.specs.LiteralForm.{literal_len};
+ghost use Rattle.mysql_binding.specs.MeasuredText.{IsMeasured};
 ghost use Rattle.mysql_binding.specs.TextLength.{pieces_len};
-ghost use Rattle.mysql_binding.specs.WrittenText.{IsWrittenText};
+ghost use Rattle.mysql_binding.specs.WrittenText.{IsGivenText, IsWrittenText};
 
 use crate::binding::form::LiteralForm;
 use crate::binding::found::place_after;
-use crate::binding::literals::{append_literal, literal_lens};
+use crate::binding::literals::append_literal;
+use crate::binding::measured::MeasuredText;
 use mysql_named_params::places::FoundPlace;
 use mysql_values::value::Value;
 use std::alloc::{AllocError, Global};
 
-/// The query with the literal of a value in place of each name and mark, of which there are as many
-/// as values. None of the values is a float, and the pieces of the query have `piece_bytes` bytes.
-/// The first places of the query may be known.
-///
-/// If the text would be longer than `isize::MAX`, out of memory is returned without asking for it.
-/// Once there is a vector for the text, nothing refuses.
+/// The text of a query that is measured, in a vector of exactly its length. The first places of the
+/// query may be known.
 pub(super) fn written_text<F: LiteralForm>(
     alloc: Global,
     query: &[u8],
     known: &[FoundPlace],
-    piece_bytes: usize,
-    values: &[&Value],
+    measured: &MeasuredText<'_>,
     no_backslash_escape: bool,
     form: &F,
 ) -> Result<Vec<u8>, AllocError>
     requires known { OnTokens no_backslash_escape query.now (BeginWithPlaces known.now) }
-    requires no_float { first_float (referents values.now) ≡ None }
-    requires places { OnTokens no_backslash_escape query.now (λ ts.
-        length (referents values.now) ≡ place_count ts) }
-    requires pieces { OnTokens no_backslash_escape query.now (λ ts. piece_bytes ≡ pieces_len ts) }
-    ensures { IfOk result (λ text. OnTokens no_backslash_escape query.now (λ ts.
-        IsWrittenText (F.literal form.now) (F.IsKnown form.now) ts (referents values.now)
-        text.items)) }
+    requires measured { (given : Given) × OnTokens no_backslash_escape query.now (λ ts.
+        IsMeasured (F.literal form.now) ts given measured.now) }
+    ensures { IfOk result (λ text. (given : Given) →
+        OnTokens no_backslash_escape query.now (λ ts.
+        IsMeasured (F.literal form.now) ts given measured.now) →
+        OnTokens no_backslash_escape query.now (λ ts.
+        IsGivenText (F.literal form.now) (F.IsKnown form.now) ts given text.items)) }
 {
-    let lens = literal_lens(alloc, values, form)?;
-    let Some(len) = text_len(piece_bytes, lens.as_slice()) else {
-        return Err(AllocError);
-    };
-    let mut text = vec![in alloc; 0u8; len]?;
-    fill_text(
+    let mut text = vec![in alloc; 0u8; measured.len]?;
+    fill_measured(
         query,
         known,
-        values,
-        lens.as_slice(),
-        text.as_mut_slice(),
+        measured,
         no_backslash_escape,
         form,
+        text.as_mut_slice(),
     );
     Ok(text)
 }
 
-// The length of a text whose pieces have so many bytes and whose literals have these lengths; none
-// if it is above `isize::MAX`.
-fn text_len(piece_bytes: usize, lens: &[u128]) -> Option<usize>
-    ensures len { IfSome result (λ len. len ≡ piece_bytes + sum lens.now) }
-    ensures too_long { result ≡ None → 2 ^ 63 ≤ piece_bytes + sum lens.now }
+/// Writes the text of a query that is measured over the whole of `room`, which has its length. It
+/// is lent to the crates above. The first places of the query may be known. Nothing is allocated,
+/// and nothing refuses.
+pub fn fill_measured<F: LiteralForm>(
+    query: &[u8],
+    known: &[FoundPlace],
+    measured: &MeasuredText<'_>,
+    no_backslash_escape: bool,
+    form: &F,
+    room: &mut [u8],
+)
+    requires known { OnTokens no_backslash_escape query.now (BeginWithPlaces known.now) }
+    requires measured { (given : Given) × OnTokens no_backslash_escape query.now (λ ts.
+        IsMeasured (F.literal form.now) ts given measured.now) }
+    requires room { length room.old ≡ measured.now.len }
+    ensures { (given : Given) → OnTokens no_backslash_escape query.now (λ ts.
+        IsMeasured (F.literal form.now) ts given measured.now) →
+        OnTokens no_backslash_escape query.now (λ ts.
+        IsGivenText (F.literal form.now) (F.IsKnown form.now) ts given room.new) }
 {
-    let mut len = piece_bytes as u128;
-    for literal_len in lens {
-        len = len.checked_add(*literal_len)?;
-    }
-    if len > isize::MAX as u128 {
-        return None;
-    }
-    Some(len as usize)
+    fill_text(
+        query,
+        known,
+        measured.values.as_slice(),
+        measured.lens.as_slice(),
+        room,
+        no_backslash_escape,
+        form,
+    );
 }
 
 // Fills the text with the pieces of the query and, between them, the literals of the values, which

@@ -1,0 +1,41 @@
+-- What a text is written from, and its length: for `measured_text` and `fill_measured`, which are
+-- lent to the crates above.
+use Rattle.std.specs.Prelude.{◌≡◌, ◌+◌, ◌<◌, ◌^◌, ℕ, List, map, None, Ok}
+use Rattle.std.specs.List.{All, sum}
+use Rattle.mysql_values.specs.declared.value.Value.{Value}
+use Rattle.mysql_values.specs.Value.{FieldsInRange}
+use Rattle.mysql_named_params.specs.Tokens.{Token}
+use Rattle.mysql_named_params.specs.Places.{names}
+use Rattle.mysql_params_core.specs.Given.{Given}
+use Rattle.mysql_params_core.specs.Lookup.{lookup}
+use Rattle.mysql_params_core.specs.Referents.{referents}
+use Rattle.mysql_binding.specs.FirstCause.{mixed_cause, later_cause}
+use Rattle.mysql_binding.specs.LiteralForm.{Literals, LiteralFacts, literal_len}
+use Rattle.mysql_binding.specs.TextLength.{pieces_len}
+use Rattle.mysql_binding.specs.TextInRoom.{HasTextOf}
+use Rattle.mysql_binding.specs.WrittenText.{IsGivenText}
+use Rattle.mysql_binding.specs.declared.binding.measured.MeasuredText.{MeasuredText}
+
+-- the values were looked up, and there is no cause to refuse
+abbrev pub IsLookedUp : List Token → Given → List Value → Type 0
+IsLookedUp ts given values =
+    (mixed_cause ts ≡ None) × (lookup given (names ts) ≡ Ok values) × (later_cause ts values ≡ None)
+
+-- The values are those that are given to the places of a query with these tokens, and no cause
+-- refuses it. The lengths are those of their literals and of the text, which is at most
+-- `isize::MAX` bytes long.
+pub record IsMeasured (literal : Literals) (ts : List Token) (given : Given)
+    (measured : MeasuredText) : Type 0 where
+  pub looked_up : IsLookedUp ts given (referents measured.values.items)
+  pub in_range : All FieldsInRange (referents measured.values.items)
+  pub lens_are : measured.lens.items ≡ map (literal_len literal) (referents measured.values.items)
+  pub len_is : measured.len ≡ pieces_len ts + sum measured.lens.items
+  pub fits : measured.len < 2 ^ 63
+
+-- what is known of a literal before it is written: that its value has fields of their types
+abbrev pub IsOfFields : LiteralFacts
+IsOfFields value text = FieldsInRange value
+
+-- the text of a query with these tokens and what is given to it has this length
+abbrev pub HasGivenLength : Literals → List Token → Given → ℕ → Type 0
+HasGivenLength literal ts given = HasTextOf (IsGivenText literal IsOfFields ts given)
