@@ -9,4 +9,5 @@ pub mod MarkedLemmas
 pub mod NamesSurveyLemmas
 pub mod NamesRoomLemmas
 pub mod OutcomeLemmas
+pub mod StringRoomLemmas
 pub mod RowsLemmas

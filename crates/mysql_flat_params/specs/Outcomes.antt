@@ -1,5 +1,7 @@
 -- What became of a call that writes into a caller's room, as a number and fields.
 use Rattle.std.specs.Prelude.{◌≡◌, ℕ, ℤ, pos, ⊤}
+use Rattle.mysql_binding.specs.declared.binding.room.TextInRoom.{TextInRoom}
+use Rattle.mysql_binding.specs.declared.binding.room.TextInRoom.TheVariants.{Written, TooShort}
 use Rattle.mysql_flat_params.specs.declared.outcome.Outcome.{Outcome}
 use Rattle.mysql_flat_params.specs.declared.outcome.Outcome.TheVariants.{Done, OutOfMemory, Room, FormEnd, FormLengthLead, FormType, FormMixed, FormRepeated, Mixed, Missing, NamedForPositional, PositionalForNamed, MarkCount, NotAlone, Float, Unsteady, Unportable}
 use Rattle.mysql_flat_params.specs.declared.outcome.Report.{Report}
@@ -52,6 +54,11 @@ report_of (Float place) = record no_fields { place = place }
 report_of (Unsteady position) = record no_fields { position = position }
 report_of (Unportable number position) =
     record no_fields { position = position; byte = number }
+
+-- what is told of a text in a room
+abbrev pub text_outcome : TextInRoom → Outcome
+text_outcome (Written len) = Done len
+text_outcome (TooShort len) = Room len
 
 -- there is no answer, or none is told
 abbrev pub HasNoAnswer : Outcome → Type 0

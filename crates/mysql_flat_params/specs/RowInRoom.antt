@@ -1,10 +1,21 @@
 -- Private: what one row leaves in the room.
 use Rattle.std.specs.Prelude.{◌≡◌, ◌≤◌, ◌<◌, ℕ, Bool, List, length, drop}
 use Rattle.mysql_wire_part.specs.Lenenc.{lenenc_spelling, read_lenenc}
+use Rattle.mysql_named_params.specs.Tokens.{OnTokens}
+use Rattle.mysql_params_core.specs.Given.{Given}
+use Rattle.mysql_binding.specs.Isolation.{IsBoundText}
 use Rattle.mysql_flat_params.specs.BoundRows.{IsBoundRow, IsRowRefusal, HasRowLength}
 use Rattle.mysql_flat_params.specs.IntoRoom.{IsBindOutcome, IsBoundForm, IsInRoom}
 use Rattle.mysql_flat_params.specs.declared.outcome.Outcome.{Outcome}
 use Rattle.mysql_flat_params.specs.declared.outcome.Outcome.TheVariants.{Done, OutOfMemory, Room}
+
+-- the text of a query with what is given to it, as a length-encoded string, is in the room, or the
+-- room is too short for it
+abbrev pub IsStringInRoom : (mode : Bool) (query : List ℕ) → Given → (old new : List ℕ) → Outcome
+    → Type 0
+IsStringInRoom mode query given old new outcome = (text : List ℕ)
+    × OnTokens mode query (λ ts. IsBoundText mode ts given text)
+    × IsInRoom (lenenc_spelling text) old new outcome
 
 -- the text of a form, as a length-encoded string, is in the room; or the form or the query is
 -- refused, and the room is as before

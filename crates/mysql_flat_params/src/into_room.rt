@@ -1,5 +1,5 @@
 //! The bound text, in a room that the caller lends.
-ghost use Rattle.std.specs.Prelude.{◌≡◌, ◌≢◌, ◌⊎◌, ◌+◌, ◌≤◌, ◌<◌, ◌++◌, ℕ, Bool, List, [], ◌∷◌, None, Some, Ok, length, take, drop, map, IfErr, IfOk, IfSome, IsErrOf, alloc_error};
+ghost use Rattle.std.specs.Prelude.{◌≡◌, ◌≢◌, ◌⊎◌, ◌+◌, ◌≤◌, ◌<◌, ◌++◌, ℕ, Bool, List, [], ◌∷◌, None, Some, Ok, length, take, drop, map, IfErr, IfOk, IfSome, IsErrOf, OnErr, alloc_error};
 ghost use Rattle.std.specs.List.{Contains};
 ghost use Rattle.mysql_named_params.specs.Tokens.{OnTokens};
 ghost use Rattle.mysql_named_params.specs.Places.{HasMark, HasName, names};
@@ -10,6 +10,7 @@ ghost use Rattle.mysql_params_core.specs.Given.{Given, given_by_borrowed};
 ghost use Rattle.mysql_binding.specs.BindErrors.{IsCauseOrMemory};
 ghost use Rattle.mysql_binding.specs.FirstCause.{first_cause};
 ghost use Rattle.mysql_binding.specs.Isolation.{IsBoundText};
+ghost use Rattle.mysql_binding.specs.TextInRoom.{HasTextOf, IsTextInRoom};
 ghost use Rattle.mysql_steady_text.specs.SteadyText.{IsAnywhereText};
 ghost use Rattle.mysql_steady_text.specs.SteadyTextErrors.{IsSteadyRefusal};
 ghost use Rattle.mysql_flat_params.specs.AnywhereIntoRoom.{IsAnywhereForm, IsAnywhereOutcome};
@@ -17,7 +18,7 @@ ghost use Rattle.mysql_flat_params.specs.FlatForm.{HasFirstParameter, IsFormRead
 ghost use Rattle.mysql_flat_params.specs.FormErrors.{IsFormRefusal};
 ghost use Rattle.mysql_flat_params.specs.FormParams.{given_by_sorted};
 ghost use Rattle.mysql_flat_params.specs.IntoRoom.{IfMixed, IsBindOutcome, IsBoundForm, IsInRoom, IsMissingName};
-ghost use Rattle.mysql_flat_params.specs.Outcomes.{HasNoAnswer, IfDone, IfTooLong, UnlessDone};
+ghost use Rattle.mysql_flat_params.specs.Outcomes.{HasNoAnswer, IfDone, IfTooLong, UnlessDone, text_outcome};
 ghost use Rattle.mysql_flat_params.specs.UnportableReport.{construct_number};
 
 use crate::form::{FormParams, form_params};
@@ -25,7 +26,7 @@ use crate::form_error::FormError;
 use crate::missing_place::name_place;
 use crate::outcome::Outcome;
 use crate::unportable::construct_number;
-use mysql_binding::{BindError, bind_borrowed_in};
+use mysql_binding::{BindError, PlainForm, TextInRoom, bind_borrowed_into};
 use mysql_params_core::params::{BorrowedParams, ParamsConfusionError, ParamsError};
 use mysql_steady_text::{SteadyTextError, bind_borrowed_anywhere};
 use mysql_values::value::Value;
@@ -70,8 +71,8 @@ pub fn bind_into(
         Ok(params) => params,
         Err(error) => return form_outcome(error),
     };
-    match bind_params(alloc, query, params, no_backslash_escape) {
-        Ok(text) => fill_front(room, text.as_slice()),
+    match bind_params(alloc, query, params, no_backslash_escape, room) {
+        Ok(text) => text_outcome(text),
         Err(error) => bind_outcome(query, error, no_backslash_escape),
     }
 }
@@ -121,21 +122,39 @@ pub fn bind_anywhere_into(alloc: Global, query: &[u8], form: &[u8], room: &mut [
     }
 }
 
-// The text of a query with what a form says.
+// The text of a query with what a form says, at the front of the room.
 fn bind_params(
     alloc: Global,
     query: &[u8],
     params: FormParams<BTreeMap<Vec<u8>, Value>>,
     no_backslash_escape: bool,
-) -> Result<Vec<u8>, BindError>
-    ensures bound { OnTokens no_backslash_escape query.now (λ ts. IfOk result (λ text.
-        IsBoundText no_backslash_escape ts (given_by_sorted params) text.items)) }
+    room: &mut [u8],
+) -> Result<TextInRoom, BindError>
+    ensures bound { OnTokens no_backslash_escape query.now (λ ts. IfOk result (IsTextInRoom
+        (IsBoundText no_backslash_escape ts (given_by_sorted params))
+        (HasTextOf (IsBoundText no_backslash_escape ts (given_by_sorted params)))
+        room.old room.new)) }
     ensures refused { OnTokens no_backslash_escape query.now (λ ts. IfErr result
         (IsCauseOrMemory (first_cause ts (given_by_sorted params)))) }
     ensures mixed { OnTokens no_backslash_escape query.now (λ ts.
         HasName ts × HasMark ts → IsErrOf result BindError.Mixed) }
+    ensures unchanged { OnErr result (room.new ≡ room.old) }
 {
-    bind_borrowed_in(alloc, query, borrowed_params(&params), no_backslash_escape)
+    let form = PlainForm {
+        no_backslash_escape,
+    };
+    let borrowed = borrowed_params(&params);
+    bind_borrowed_into(alloc, query, borrowed, no_backslash_escape, &form, room)
+}
+
+// What is told of a text in a room.
+fn text_outcome(text: TextInRoom) -> Outcome
+    ensures { result ≡ text_outcome text }
+{
+    match text {
+        TextInRoom::Written { len } => Outcome::Done { len },
+        TextInRoom::TooShort { len } => Outcome::Room { len },
+    }
 }
 
 // The text of a query with what a form says, for any server.

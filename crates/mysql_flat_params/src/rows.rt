@@ -1,22 +1,25 @@
 //! Rows: one query, parsed once and bound to many forms, in a room that the caller lends.
 ghost use Rattle.std.specs.Prelude.{◌≡◌, ◌+◌, ◌≤◌, ◌<◌, length, take, drop, IfSome};
-ghost use Rattle.mysql_wire_part.specs.Lenenc.{lenenc_spelling};
+ghost use Rattle.mysql_wire_part.specs.Lenenc.{length_spelling};
 ghost use Rattle.mysql_wire_part.specs.ParseBuf.{read_refusal};
 ghost use Rattle.mysql_named_params.specs.Tokens.{OnTokens};
 ghost use Rattle.mysql_binding.specs.FoundPlaces.{BeginWithPlaces};
+ghost use Rattle.mysql_values.specs.Literal.{literal_of};
+ghost use Rattle.mysql_params_core.specs.Given.{Given};
+ghost use Rattle.mysql_binding.specs.MeasuredText.{IsMeasured};
 ghost use Rattle.mysql_binding.specs.Survey.{IsSurvey};
 ghost use Rattle.mysql_flat_params.specs.BoundRows.{AreBoundRows, IsRowsOutcome, unread_row};
-ghost use Rattle.mysql_flat_params.specs.IntoRoom.{IsInRoom};
 ghost use Rattle.mysql_flat_params.specs.Outcomes.{IfDone, IfTooLong};
-ghost use Rattle.mysql_flat_params.specs.RowInRoom.{IsFormInRoom, IsRowInRoom};
+ghost use Rattle.mysql_flat_params.specs.RowInRoom.{IsFormInRoom, IsRowInRoom, IsStringInRoom};
 
 use crate::form::form_params;
 use crate::into_room::{bind_outcome, borrowed_params, form_outcome};
 use crate::outcome::Outcome;
-use mysql_binding::{Survey, bind_surveyed, place_survey};
+use byteorder::{ByteOrder, LittleEndian};
+use mysql_binding::{MeasuredText, PlainForm, Survey, fill_measured, measured_text, place_survey};
 use mysql_named_params::places::{FoundPlace, PlaceKind};
 use mysql_values::value::Value;
-use mysql_wire_part::{ParseBuf, WireError, fill_lenenc_str, lenenc_str_len};
+use mysql_wire_part::{ParseBuf, WireError};
 use std::alloc::Global;
 use std::collections::BTreeMap;
 
@@ -217,23 +220,78 @@ fn bind_form(
         Ok(params) => params,
         Err(error) => return form_outcome(error),
     };
-    let borrowed = borrowed_params(&params);
-    match bind_surveyed(alloc, query, survey, known, borrowed, no_backslash_escape) {
-        Ok(text) => fill_string(room, text.as_slice()),
+    let plain = PlainForm {
+        no_backslash_escape,
+    };
+    match measured_text(
+        alloc,
+        query,
+        survey,
+        known,
+        borrowed_params(&params),
+        no_backslash_escape,
+        &plain,
+    ) {
+        Ok(measured) => fill_string(query, known, &measured, no_backslash_escape, room),
         Err(error) => bind_outcome(query, error, no_backslash_escape),
     }
 }
 
-// Writes the text as a length-encoded string to the front of the room, if the room is long enough.
-fn fill_string(room: &mut [u8], text: &[u8]) -> Outcome
-    ensures { IsInRoom (lenenc_spelling text.now) room.old room.new result }
+// Writes the text of a query that is measured, as a length-encoded string, to the front of the
+// room, if the room is long enough.
+fn fill_string(
+    query: &[u8],
+    known: &[FoundPlace],
+    measured: &MeasuredText<'_>,
+    no_backslash_escape: bool,
+    room: &mut [u8],
+) -> Outcome
+    requires known { OnTokens no_backslash_escape query.now (BeginWithPlaces known.now) }
+    requires measured { (given : Given) × OnTokens no_backslash_escape query.now (λ ts.
+        IsMeasured (literal_of no_backslash_escape) ts given measured.now) }
+    ensures { (given : Given) → OnTokens no_backslash_escape query.now (λ ts.
+        IsMeasured (literal_of no_backslash_escape) ts given measured.now) →
+        IsStringInRoom no_backslash_escape query.now given room.old room.new result }
 {
-    let len = lenenc_str_len(text) as usize;
+    let (lead, count) = length_lead(measured.len as u64);
+    let len = count + measured.len;
     if room.len() < len {
         return Outcome::Room { len };
     }
-    fill_lenenc_str(&mut room[..len], text);
+    let (front, back) = room.split_at_mut(count);
+    front.copy_from_slice(&lead[..count]);
+    let form = PlainForm {
+        no_backslash_escape,
+    };
+    let text = &mut back[..measured.len];
+    fill_measured(query, known, measured, no_backslash_escape, &form, text);
     Outcome::Done { len }
+}
+
+// What stands before a string of this length, at the front of the array, and how many bytes it has.
+fn length_lead(len: u64) -> ([u8; 9], usize)
+    ensures few { result.1 ≤ 9 }
+    ensures spelled { take result.1 result.0 ≡ length_spelling len }
+    ensures count { result.1 ≡ length (length_spelling len) }
+{
+    let mut lead = [0u8; 9];
+    if len < 0xFB {
+        lead[0] = len as u8;
+        return (lead, 1);
+    }
+    if len < 0x1_0000 {
+        lead[0] = 0xFC;
+        LittleEndian::write_u16(&mut lead[1..], len as u16);
+        return (lead, 3);
+    }
+    if len < 0x100_0000 {
+        lead[0] = 0xFD;
+        LittleEndian::write_u24(&mut lead[1..], len as u32);
+        return (lead, 4);
+    }
+    lead[0] = 0xFE;
+    LittleEndian::write_u64(&mut lead[1..], len);
+    (lead, 9)
 }
 
 // What is told of a row whose form isn't a length-encoded string.
