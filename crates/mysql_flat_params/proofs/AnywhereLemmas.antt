@@ -1,6 +1,6 @@
 -- What an outcome for any mode and any server says, by what the calls below returned.
 use Rattle.std.specs.Prelude.{Bool, true, false, Some, None, Ok}
-use Rattle.std.proofs.Common.{◌≡◌, ℕ, List, take, sym, subst}
+use Rattle.std.proofs.Common.{◌≡◌, ℕ, List, sym, subst}
 use Rattle.mysql_named_params.specs.Tokens.{OnTokens}
 use Rattle.mysql_named_params.specs.FirstUnportable.{first_unportable}
 use Rattle.mysql_named_params.specs.Steady.{first_unsteady, IsSteady}
@@ -14,28 +14,15 @@ use Rattle.mysql_steady_text.specs.SteadyTextErrors.{IsSteadyRefusal}
 use Rattle.mysql_steady_text.specs.declared.steady_text_error.SteadyTextError.{SteadyTextError}
 use Rattle.mysql_steady_text.specs.declared.steady_text_error.SteadyTextError.TheVariants as error
 use Rattle.mysql_steady_text.proofs.SteadyTextLemmas.{in_either}
-use Rattle.mysql_flat_params.specs.AnywhereIntoRoom.{IsAnywhereForm, IsAnywhereOutcome}
+use Rattle.mysql_flat_params.specs.AnywhereIntoRoom.{IsAnywhereOutcome}
 use Rattle.mysql_flat_params.specs.FlatForm.{IsFormReading}
-use Rattle.mysql_flat_params.specs.IntoRoom.{IsBindOutcome, IsInRoom, IsRefusedFor}
+use Rattle.mysql_flat_params.specs.IntoRoom.{IsBindOutcome, IsRefusedFor}
 use Rattle.mysql_flat_params.specs.NamePlace.{IsFirstOfName}
 use Rattle.mysql_flat_params.specs.UnportableReport.{construct_number}
-use Rattle.mysql_flat_params.specs.Outcomes.{HasNoAnswer, IfDone}
+use Rattle.mysql_flat_params.specs.Outcomes.{HasNoAnswer}
 use Rattle.mysql_flat_params.specs.declared.outcome.Outcome.{Outcome}
 use Rattle.mysql_flat_params.specs.declared.outcome.Outcome.TheVariants.{Done, OutOfMemory, Room, FormEnd, FormLengthLead, FormType, FormMixed, FormRepeated, Mixed, Missing, NamedForPositional, PositionalForNamed, MarkCount, NotAlone, Float, Unsteady}
 use Rattle.mysql_flat_params.specs.declared.outcome.Outcome.TheVariants as variant
-
--- ---- the answer
-
-module _ (query form answer old new : List ℕ) (is : IsAnywhereForm query form answer) where
-  pub anywhere_told : (outcome : Outcome) → IsInRoom answer old new outcome → IsAnywhereOutcome query form outcome
-  anywhere_told (Done len) room = (answer, is, room.0)
-  anywhere_told (Room len) room = (answer, is, room.0)
-  anywhere_told outcome room = absurd room
-
-  pub anywhere_written : (outcome : Outcome) → IsInRoom answer old new outcome → IfDone outcome (λ len. IsAnywhereForm query form (take len new))
-  anywhere_written (Done len) room = subst (IsAnywhereForm query form) (sym room.2) is
-  anywhere_written (Room len) room = tt
-  anywhere_written outcome room = absurd room
 
 -- ---- what is refused
 

@@ -9,5 +9,6 @@ pub mod MarkedLemmas
 pub mod NamesSurveyLemmas
 pub mod NamesRoomLemmas
 pub mod OutcomeLemmas
+pub mod SteadyRoomLemmas
 pub mod StringRoomLemmas
 pub mod RowsLemmas

@@ -14,10 +14,15 @@ use Rattle.mysql_flat_params.specs.declared.outcome.Outcome.{Outcome}
 use Rattle.mysql_flat_params.specs.declared.outcome.Outcome.TheVariants.{Done, OutOfMemory, Room, FormEnd, FormLengthLead, FormType, FormMixed, FormRepeated, Unsteady}
 use Rattle.mysql_flat_params.specs.declared.outcome.Outcome.TheVariants as variant
 
+-- this is the query bound to what is given to it, for any mode and any server
+abbrev pub IsBoundAnywhere : List ℕ → Given → List ℕ → Type 0
+IsBoundAnywhere query given text =
+    (mode : Bool) → OnTokens mode query (λ ts. IsAnywhereText query ts given text)
+
 -- the form says parameters, and this is the query bound to them, for any mode and any server
 abbrev pub IsAnywhereForm : (query form text : List ℕ) → Type 0
-IsAnywhereForm query form text = (given : Given) × IsFormReading form (Ok given)
-    × ((mode : Bool) → OnTokens mode query (λ ts. IsAnywhereText query ts given text))
+IsAnywhereForm query form text =
+    (given : Given) × IsFormReading form (Ok given) × IsBoundAnywhere query given text
 
 -- the query bound to what the form says, for any mode and any server, has this length
 abbrev pub HasAnywhereLength : (query form : List ℕ) → ℕ → Type 0

@@ -11,13 +11,12 @@ ghost use Rattle.mysql_binding.specs.BindErrors.{IsCauseOrMemory};
 ghost use Rattle.mysql_binding.specs.FirstCause.{first_cause};
 ghost use Rattle.mysql_binding.specs.Isolation.{IsBoundText};
 ghost use Rattle.mysql_binding.specs.TextInRoom.{HasTextOf, IsTextInRoom};
-ghost use Rattle.mysql_steady_text.specs.SteadyText.{IsAnywhereText};
 ghost use Rattle.mysql_steady_text.specs.SteadyTextErrors.{IsSteadyRefusal};
-ghost use Rattle.mysql_flat_params.specs.AnywhereIntoRoom.{IsAnywhereForm, IsAnywhereOutcome};
+ghost use Rattle.mysql_flat_params.specs.AnywhereIntoRoom.{IsAnywhereForm, IsAnywhereOutcome, IsBoundAnywhere};
 ghost use Rattle.mysql_flat_params.specs.FlatForm.{HasFirstParameter, IsFormReading};
 ghost use Rattle.mysql_flat_params.specs.FormErrors.{IsFormRefusal};
 ghost use Rattle.mysql_flat_params.specs.FormParams.{given_by_sorted};
-ghost use Rattle.mysql_flat_params.specs.IntoRoom.{IfMixed, IsBindOutcome, IsBoundForm, IsInRoom, IsMissingName};
+ghost use Rattle.mysql_flat_params.specs.IntoRoom.{IfMixed, IsBindOutcome, IsBoundForm, IsMissingName};
 ghost use Rattle.mysql_flat_params.specs.Outcomes.{HasNoAnswer, IfDone, IfTooLong, UnlessDone, text_outcome};
 ghost use Rattle.mysql_flat_params.specs.UnportableReport.{construct_number};
 
@@ -25,10 +24,11 @@ use crate::form::{FormParams, form_params};
 use crate::form_error::FormError;
 use crate::missing_place::name_place;
 use crate::outcome::Outcome;
+use crate::steady_room::bind_anywhere_in_room;
 use crate::unportable::construct_number;
 use mysql_binding::{BindError, PlainForm, TextInRoom, bind_borrowed_into};
 use mysql_params_core::params::{BorrowedParams, ParamsConfusionError, ParamsError};
-use mysql_steady_text::{SteadyTextError, bind_borrowed_anywhere};
+use mysql_steady_text::SteadyTextError;
 use mysql_values::value::Value;
 use std::alloc::Global;
 use std::collections::BTreeMap;
@@ -116,8 +116,8 @@ pub fn bind_anywhere_into(alloc: Global, query: &[u8], form: &[u8], room: &mut [
         Ok(params) => params,
         Err(error) => return form_outcome(error),
     };
-    match bind_params_anywhere(alloc, query, given) {
-        Ok(text) => fill_front(room, text.as_slice()),
+    match bind_params_anywhere(alloc, query, given, room) {
+        Ok(text) => text_outcome(text),
         Err(error) => anywhere_outcome(query, error),
     }
 }
@@ -157,14 +157,16 @@ fn text_outcome(text: TextInRoom) -> Outcome
     }
 }
 
-// The text of a query with what a form says, for any server.
+// The text of a query with what a form says, for any server, at the front of the room.
 fn bind_params_anywhere(
     alloc: Global,
     query: &[u8],
     params: FormParams<BTreeMap<Vec<u8>, Value>>,
-) -> Result<Vec<u8>, SteadyTextError>
-    ensures bound { (mode : Bool) → OnTokens mode query.now (λ ts. IfOk result (λ text.
-        IsAnywhereText query.now ts (given_by_sorted params) text.items)) }
+    room: &mut [u8],
+) -> Result<TextInRoom, SteadyTextError>
+    ensures bound { IfOk result (IsTextInRoom
+        (IsBoundAnywhere query.now (given_by_sorted params))
+        (HasTextOf (IsBoundAnywhere query.now (given_by_sorted params))) room.old room.new) }
     ensures refused { (mode : Bool) → OnTokens mode query.now (λ ts. IfErr result
         (IsSteadyRefusal query.now (first_unportable ts)
         (first_cause ts (given_by_sorted params)))) }
@@ -176,8 +178,9 @@ fn bind_params_anywhere(
     ensures mixed { (mode : Bool) → OnTokens mode query.now (λ ts. IsSteady query.now →
         first_unportable ts ≡ None → HasName ts × HasMark ts →
         IsErrOf result (SteadyTextError.Bind BindError.Mixed)) }
+    ensures unchanged { OnErr result (room.new ≡ room.old) }
 {
-    bind_borrowed_anywhere(alloc, query, borrowed_params(&params))
+    bind_anywhere_in_room(alloc, query, borrowed_params(&params), room)
 }
 
 // The same parameters, borrowed.
@@ -189,17 +192,6 @@ pub(crate) fn borrowed_params(params: &FormParams<BTreeMap<Vec<u8>, Value>>) -> 
         FormParams::Named(entries) => BorrowedParams::Sorted(entries),
         FormParams::Positional(values) => BorrowedParams::Positional(values.as_slice()),
     }
-}
-
-// Writes the answer to the front of the room, if the room has its length.
-fn fill_front(room: &mut [u8], answer: &[u8]) -> Outcome
-    ensures { IsInRoom answer.now room.old room.new result }
-{
-    if room.len() < answer.len() {
-        return Outcome::Room { len: answer.len() };
-    }
-    room[..answer.len()].copy_from_slice(answer);
-    Outcome::Done { len: answer.len() }
 }
 
 // A refusal of a form.

@@ -17,6 +17,7 @@ mod missing_place;
 mod names_room;
 mod outcome;
 mod rows;
+mod steady_room;
 mod unportable;
 
 pub use form::params_of_form;

@@ -1,10 +1,9 @@
 use Rattle.std.specs.Prelude.{Err}
-use Rattle.std.proofs.Common.{ap, inr, subst, sym}
+use Rattle.std.proofs.Common.{ap, inr}
 use Rattle.mysql_named_params.proofs.SteadyLemmas.{none_unsteady}
 use Rattle.mysql_named_params.proofs.TokensExistLemmas.{tokens_exist}
-use Rattle.mysql_flat_params.specs.AnywhereIntoRoom.{IsAnywhereForm}
 use Rattle.mysql_flat_params.specs.FormParams.{given_by_sorted}
-use Rattle.mysql_flat_params.proofs.AnywhereLemmas.{anywhere_written}
+use Rattle.mysql_flat_params.proofs.SteadyRoomLemmas.{anywhere_told, anywhere_written}
 use Rattle.mysql_flat_params.proofs.IntoRoomLemmas.{empty_not_refused, first_stands}
 use Rattle.mysql_flat_params.proofs.into_room.bind_anywhere_into.Goals as goal
 
@@ -32,12 +31,15 @@ returns-in-Err-clause-memory c = λ is. inr (c.in-Err.ensures.memory (ap (λ e. 
 pub anywhere_outcome-requires : goal.anywhere_outcome-requires
 anywhere_outcome-requires c = (given_by_sorted c.in-Ok.params, c.in-Err-bind_params_anywhere.ensures.refused)
 
+pub returns-in-Ok-bind_params_anywhere-clause-outcome : goal.returns-in-Ok-bind_params_anywhere-clause-outcome
+returns-in-Ok-bind_params_anywhere-clause-outcome c =
+    anywhere_told c.args.query.now c.args.form.now (given_by_sorted c.in-Ok.params) c.in-Ok.ensures.params c.args.room.now c.bind_params_anywhere.new.room
+    c.in-Ok-bind_params_anywhere.text c.text_outcome.result c.text_outcome.ensures c.in-Ok-bind_params_anywhere.ensures.bound c.bind_params_anywhere.auto.room
+
 pub returns-in-Ok-bind_params_anywhere-clause-written : goal.returns-in-Ok-bind_params_anywhere-clause-written
 returns-in-Ok-bind_params_anywhere-clause-written c =
-    anywhere_written c.args.query.now c.args.form.now c.as_slice.result.now c.args.room.now c.fill_front.new.room
-    (subst (IsAnywhereForm c.args.query.now c.args.form.now) (sym c.as_slice.ensures.value)
-    (given_by_sorted c.in-Ok.params, c.in-Ok.ensures.params, c.in-Ok-bind_params_anywhere.ensures.bound))
-    c.fill_front.result c.fill_front.ensures
+    anywhere_written c.args.query.now c.args.form.now (given_by_sorted c.in-Ok.params) c.in-Ok.ensures.params c.args.room.now c.bind_params_anywhere.new.room
+    c.in-Ok-bind_params_anywhere.text c.text_outcome.result c.text_outcome.ensures c.in-Ok-bind_params_anywhere.ensures.bound
 
 pub returns-in-Ok-bind_params_anywhere-clause-unportable : goal.returns-in-Ok-bind_params_anywhere-clause-unportable
 returns-in-Ok-bind_params_anywhere-clause-unportable c mode =
