@@ -40,6 +40,9 @@ pub use Rattle.mysql_steady_text.specs.SteadyLiterals
 pub use Rattle.mysql_steady_text.specs.SteadyText
 pub use Rattle.mysql_steady_text.specs.SteadyAgain
 pub use Rattle.mysql_steady_text.specs.SteadyTextErrors
+pub use Rattle.mysql_steady_text.specs.FirstBackslash
+pub use Rattle.mysql_steady_text.specs.BothModesText
+pub use Rattle.mysql_steady_text.specs.BothModesErrors
 pub use Rattle.mysql_fixed_query.specs.Bindable
 pub use Rattle.mysql_fixed_query.specs.FixedText
 pub use Rattle.mysql_fixed_query.specs.BindableAnywhere

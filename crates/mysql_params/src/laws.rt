@@ -20,5 +20,6 @@ pub use mysql_params_core::laws::{
 pub use mysql_program::laws::run_error_equality;
 pub use mysql_steady_literal::laws::steady_literals;
 pub use mysql_steady_text::laws::{
-    bound_steady_texts, steady_isolation, steady_text_error_equality, steady_texts_on_servers,
+    both_modes_error_equality, bound_steady_texts, bound_texts_in_both_modes, steady_isolation,
+    steady_text_error_equality, steady_texts_on_servers,
 };

@@ -4,7 +4,8 @@
 //! identifiers and comments; [`params`] are what is given to them, and [`bind_text`] puts the
 //! literals of the values in their places; [`bind_text_in`] does so in either mode of backslashes,
 //! and a [`ParsedQuery`] is parsed once and bound many times; [`bind_text_anywhere`] gives text
-//! that no mode and no character set reads otherwise.
+//! that no mode and no character set reads otherwise, and [`bind_text_in_both_modes`] one that no
+//! mode does, to a query that may hold bytes from 128 on.
 //! [`first_unportable`] finds what servers read in different ways or with which a value would join
 //! a number, before a query is bound; [`first_unportable_in_client`] also what the client `mysql`
 //! or `mariadb` reads or sends otherwise; [`first_unsteady`] the first byte that a mode or a
@@ -23,4 +24,7 @@ pub use mysql_named_params::client::first_unportable_in_client;
 pub use mysql_named_params::portable::{Construct, Unportable, first_unportable};
 pub use mysql_named_params::steady::first_unsteady;
 pub use mysql_program::{RunError, run, words_of};
-pub use mysql_steady_text::{SteadyTextError, bind_text_anywhere, bind_text_in_any_mode};
+pub use mysql_steady_text::{
+    BothModesError, SteadyTextError, bind_text_anywhere, bind_text_in_any_mode,
+    bind_text_in_both_modes,
+};

@@ -2,3 +2,6 @@ pub mod SteadyLiterals
 pub mod SteadyText
 pub mod SteadyAgain
 pub mod SteadyTextErrors
+pub mod FirstBackslash
+pub mod BothModesText
+pub mod BothModesErrors

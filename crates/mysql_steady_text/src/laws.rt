@@ -12,10 +12,13 @@ ghost use Rattle.mysql_params_core.specs.Given.{Given, empty, positional};
 ghost use Rattle.mysql_binding.specs.Pieces.{pieces, joined_text};
 ghost use Rattle.mysql_binding.specs.Replaced.{AreTokensOf, with_literal_tokens};
 ghost use Rattle.mysql_binding.specs.StandsAlone.{first_not_alone};
+ghost use Rattle.mysql_steady_text.specs.BothModesErrors.{AreEqualBothModesErrors};
+ghost use Rattle.mysql_steady_text.specs.BothModesText.{IsTextInBothModes};
 ghost use Rattle.mysql_steady_text.specs.SteadyLiterals.{AreSteadyLiterals};
 ghost use Rattle.mysql_steady_text.specs.SteadyText.{IsSteadyText};
 ghost use Rattle.mysql_steady_text.specs.SteadyTextErrors.{AreEqualSteadyTextErrors};
 
+use crate::both_modes_error::BothModesError;
 use crate::steady_text_error::SteadyTextError;
 
 /// Whatever texts of the shape of steady literals stand in the places of a query, if these stand
@@ -85,10 +88,37 @@ pub fn bound_steady_texts()
         map content_of x.values ≡ map content_of y.values }
 {}
 
+/// The same of a text for both modes.
+pub fn bound_texts_in_both_modes()
+    ensures none { (mode : Bool) (ts us : List Token) (given : Given) (text : List ℕ) →
+        IsTextInBothModes ts given text → IsTokens mode text us → place_count us ≡ 0 }
+    ensures same { (mode : Bool) (ts us : List Token) (given : Given) (text : List ℕ) →
+        IsTextInBothModes ts given text → IsTokens mode text us →
+        IsTextInBothModes us empty text }
+    ensures by_position { (mode : Bool) (query text : List ℕ) (ts : List Token) (given : Given) →
+        IsTokens mode query ts → (bound : IsTextInBothModes ts given text) →
+        IsTextInBothModes (with_marks ts) (positional bound.values) text }
+    ensures equal { (mode : Bool) (query text : List ℕ) (ts us : List Token) (a b : Given) →
+        IsTokens mode query ts → IsTokens mode query us →
+        (x : IsTextInBothModes ts a text) → (y : IsTextInBothModes us b text) →
+        map content_of x.values ≡ map content_of y.values }
+    // A text for any mode is one for both.
+    ensures steady { (ts : List Token) (given : Given) (text : List ℕ) →
+        IsSteadyText ts given text → IsTextInBothModes ts given text }
+{}
+
 /// Errors of binding to a steady text are equal if and only if variant and fields are.
 pub fn steady_text_error_equality(a: &SteadyTextError, b: &SteadyTextError) -> bool
     ensures same { IsTrue result ↔ AreEqualSteadyTextErrors a.now b.now }
     ensures member { result ≡ ⟦<SteadyTextError as PartialEq>⟧.eq a.now b.now }
+{
+    a == b
+}
+
+/// Errors of binding to a text for both modes are equal if and only if variant and fields are.
+pub fn both_modes_error_equality(a: &BothModesError, b: &BothModesError) -> bool
+    ensures same { IsTrue result ↔ AreEqualBothModesErrors a.now b.now }
+    ensures member { result ≡ ⟦<BothModesError as PartialEq>⟧.eq a.now b.now }
 {
     a == b
 }

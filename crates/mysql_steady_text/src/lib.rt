@@ -2,14 +2,20 @@
 //! query with the steady literals of values in its places.
 //!
 //! [`bind_text_anywhere`] is the call for any server, and [`bind_text_in_any_mode`] for one.
-//! `specs/SteadyText.antt` says what they promise of the text.
+//! `specs/SteadyText.antt` says what they promise of the text. [`bind_text_in_both_modes`] takes
+//! bytes from 128 on, and then the character set has to be right (`specs/BothModesText.antt`).
 #![tactic(auto)]
 
+mod both_modes;
+mod both_modes_error;
+mod first_backslash;
 pub mod laws;
 mod steady_form;
 mod steady_text;
 mod steady_text_error;
 
+pub use both_modes::bind_text_in_both_modes;
+pub use both_modes_error::BothModesError;
 pub use steady_text::{
     bind_borrowed_anywhere, bind_steady, bind_text_anywhere, bind_text_in_any_mode,
 };

@@ -4,7 +4,8 @@ use Rattle.mysql_named_params.specs.FirstUnportable.{first_unportable}
 use Rattle.mysql_named_params.proofs.SteadyLemmas.{steady_other}
 use Rattle.mysql_named_params.proofs.TokensExistLemmas.{tokens_exist}
 use Rattle.mysql_params_core.specs.Given.{given_by_borrowed}
-use Rattle.mysql_steady_text.proofs.SteadyTextLemmas.{anywhere_answer, nothing_said, refused_answer}
+use Rattle.mysql_steady_text.proofs.BothModesTextLemmas.{nothing_said}
+use Rattle.mysql_steady_text.proofs.SteadyTextLemmas.{anywhere_answer, refused_answer}
 use Rattle.mysql_steady_text.proofs.SteadyAgainLemmas.{answer_bound_again, answer_by_position}
 use Rattle.mysql_steady_text.proofs.steady_text.bind_borrowed_anywhere.Goals as goal
 

@@ -2,7 +2,8 @@ use Rattle.mysql_named_params.proofs.SteadyLemmas.{steady_other}
 use Rattle.mysql_params_core.specs.Given.{given_by_borrowed}
 use Rattle.mysql_binding.specs.BindErrors.{IsCauseOrMemory}
 use Rattle.mysql_binding.specs.FirstCause.{first_cause}
-use Rattle.mysql_steady_text.proofs.SteadyTextLemmas.{in_either, nothing_said, steady_given}
+use Rattle.mysql_steady_text.proofs.BothModesTextLemmas.{nothing_said}
+use Rattle.mysql_steady_text.proofs.SteadyTextLemmas.{in_either, steady_given}
 use Rattle.mysql_steady_text.proofs.steady_text.bind_steady.Goals as goal
 
 pub returns-in-Ok-clause-bound : goal.returns-in-Ok-clause-bound

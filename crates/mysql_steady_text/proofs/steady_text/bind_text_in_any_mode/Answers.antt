@@ -6,7 +6,8 @@ use Rattle.mysql_params_core.specs.Given.{Given, given}
 use Rattle.mysql_binding.specs.FirstCause.{first_cause}
 use Rattle.mysql_steady_text.specs.SteadyText.{IsSteadyText}
 use Rattle.mysql_steady_text.specs.SteadyTextErrors.{IsBindRefusal}
-use Rattle.mysql_steady_text.proofs.SteadyTextLemmas.{nothing_said, refused_answer}
+use Rattle.mysql_steady_text.proofs.BothModesTextLemmas.{nothing_said}
+use Rattle.mysql_steady_text.proofs.SteadyTextLemmas.{refused_answer}
 use Rattle.mysql_steady_text.proofs.SteadyAgainLemmas.{answer_bound_again, answer_by_position}
 use Rattle.mysql_steady_text.proofs.steady_text.bind_text_in_any_mode.Goals as goal
 

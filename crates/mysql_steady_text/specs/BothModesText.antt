@@ -1,0 +1,96 @@
+-- What binding promises of the text that it gives for both modes and any server, also if the query
+-- has bytes from 128 on: each value stands in one steady literal, and nothing else of the query
+-- changes. `bind_text_in_both_modes` promises the second record, or else an error that says why not
+-- (BothModesErrors.antt). The law `bound_texts_in_both_modes` says more of such a text. Nothing is
+-- said of character sets: a server reads here the bytes that are sent. So the query's bytes have to
+-- show over the connection's set as they are, as UTF-8 does over utf8mb4.
+use Rattle.std.specs.Prelude.{◌≡◌, ℕ, Bool, List, map, Some, None, Ok}
+use Rattle.mysql_values.specs.declared.value.Value.{Value}
+use Rattle.mysql_values.specs.Content.{content_of}
+use Rattle.mysql_sql_text.specs.ReadLiteral.{Content}
+use Rattle.mysql_named_params.specs.Tokens.{Token, IsTokens, OnTokens, text_of}
+use Rattle.mysql_named_params.specs.Places.{names, place_count, with_marks}
+use Rattle.mysql_named_params.specs.Portable.{IsPortable, IsReadAs}
+use Rattle.mysql_named_params.specs.Server.{Server, IsReadOn}
+use Rattle.mysql_named_params.specs.Quiet.{IsHonest, DecidesWithin}
+use Rattle.mysql_named_params.specs.Steady.{HoldNoEscapes}
+use Rattle.mysql_params_core.specs.Given.{Given, empty, positional}
+use Rattle.mysql_params_core.specs.Lookup.{lookup}
+use Rattle.mysql_binding.specs.FirstCause.{first_cause}
+use Rattle.mysql_binding.specs.Pieces.{pieces, joined_text}
+use Rattle.mysql_binding.specs.Contents.{contents_between, AreReadInPlace}
+use Rattle.mysql_binding.specs.Replaced.{AreTokensOf, with_literal_tokens}
+use Rattle.mysql_steady_literal.specs.ReadSteadyLiteral.{read_steady_literal}
+use Rattle.mysql_steady_text.specs.SteadyLiterals.{AreSteadyLiterals, AreSteadyLiteralsOf}
+
+-- the text, for both modes, of a query with these tokens and what is given to it
+pub record IsTextInBothModes (ts : List Token) (given : Given) (text : List ℕ) : Type 0 where
+  -- There are the values that are given to the places, in order, the steady literal of each, the
+  -- tokens of each literal, and the content of each value,
+  pub values : List Value
+  pub literals : List (List ℕ)
+  pub literal_tokens : List (List Token)
+  pub contents : List Content
+  -- ISOLATION
+  -- so that in either mode the tokens of the text are those of the query, with those of one literal
+  -- in place of each name and mark,
+  pub isolated : (mode : Bool) → IsTokens mode text (with_literal_tokens ts literal_tokens)
+  -- and each literal, followed by the text after it, reads as the content of its value and leaves
+  -- exactly that text.
+  pub reads_in_place : (mode : Bool) →
+      AreReadInPlace (read_steady_literal mode) (pieces ts) literals contents
+  -- No backslash stands in a string of the text.
+  pub no_escapes : HoldNoEscapes (with_literal_tokens ts literal_tokens)
+  -- THE VALUES
+  -- There is no cause to refuse,
+  pub no_cause : first_cause ts given ≡ None
+  -- and the values are those of the names, or, without names, the positional ones.
+  pub looked_up : lookup given (names ts) ≡ Ok values
+  -- WHAT IS WRITTEN
+  -- The literals are the steady ones of the values,
+  pub written : AreSteadyLiteralsOf values literals
+  -- each is steady and has the shape of a steady literal,
+  pub shapes : AreSteadyLiterals literals
+  -- and the text is exactly the pieces of the query with one literal between each and the next.
+  pub text_is : joined_text (pieces ts) literals ≡ Some text
+  -- The tokens of each literal are in either mode those that it has when it is read alone.
+  pub tokens_of_literals : (mode : Bool) → AreTokensOf mode literals literal_tokens
+  -- WHAT IT SAYS
+  -- The contents are those of the values,
+  pub contents_are : map content_of values ≡ map Some contents
+  -- and read in either mode between the pieces of the query, the text gives exactly these contents.
+  pub read_back : (mode : Bool) →
+      contents_between (read_steady_literal mode) (pieces ts) text ≡ Some contents
+
+-- the text, for both modes and any server, of this query, which has these tokens
+pub record IsPortableInBothModes (query : List ℕ) (ts : List Token) (given : Given) (text : List ℕ)
+    : Type 0 where
+  -- It is a text for both modes,
+  pub text_in_both_modes : IsTextInBothModes ts given text
+  -- the query is portable, and so is the text.
+  pub portable : IsPortable ts
+  pub portable_text : IsPortable (with_literal_tokens ts text_in_both_modes.literal_tokens)
+  -- On every honest server, in either mode, its tokens are those of the query, with those of one
+  -- literal in place of each name and mark: those that the grammar reads, except for `--` before a
+  -- newline and for what stands in quiet comments;
+  pub read : (server : Server) (mode : Bool) (vs : List Token) → IsHonest server →
+      IsReadOn server mode text vs →
+      IsReadAs (with_literal_tokens ts text_in_both_modes.literal_tokens) vs
+  -- and if the server decides about a quiet comment by its own text, exactly those that it reads in
+  -- the query.
+  pub tokens : (server : Server) (mode : Bool) (us : List Token) → IsHonest server →
+      DecidesWithin server → IsReadOn server mode query us →
+      IsReadOn server mode text (with_literal_tokens us text_in_both_modes.literal_tokens)
+
+-- in either mode the text has no place, and bound with no parameters it is not refused and stays as
+-- it is
+abbrev pub IsBoundAgainInBothModes : List ℕ → Type 0
+IsBoundAgainInBothModes text = (mode : Bool) → OnTokens mode text (λ us.
+    (place_count us ≡ 0) × IsTextInBothModes us empty text)
+
+-- the query with a mark in place of each name, bound by position to the values that the names are
+-- given, is not refused and gives this text; without names it is the query as it is
+abbrev pub IsByPositionInBothModes : Bool → List Token → Given → List ℕ → Type 0
+IsByPositionInBothModes mode ts given text =
+    (values : List Value) × (lookup given (names ts) ≡ Ok values)
+    × OnTokens mode (text_of (with_marks ts)) (λ us. IsTextInBothModes us (positional values) text)
