@@ -2,6 +2,7 @@
 //! so that one that moves is noticed: it is handed on here, and one that is gone doesn't compile.
 
 pub use mysql_params::BindError;
+pub use mysql_params::BothModesError;
 pub use mysql_params::Construct;
 pub use mysql_params::ParsedQuery;
 pub use mysql_params::RunError;
@@ -11,6 +12,7 @@ pub use mysql_params::bind_text;
 pub use mysql_params::bind_text_anywhere;
 pub use mysql_params::bind_text_in;
 pub use mysql_params::bind_text_in_any_mode;
+pub use mysql_params::bind_text_in_both_modes;
 pub use mysql_params::first_unportable;
 pub use mysql_params::first_unportable_in_client;
 pub use mysql_params::first_unsteady;
@@ -21,8 +23,10 @@ pub use mysql_params::fixed_query::bind_positional;
 pub use mysql_params::fixed_query::bind_positional_anywhere;
 pub use mysql_params::fixed_query::bind_positional_in;
 pub use mysql_params::laws::bind_error_equality;
+pub use mysql_params::laws::both_modes_error_equality;
 pub use mysql_params::laws::bound_again_is_the_same;
 pub use mysql_params::laws::bound_steady_texts;
+pub use mysql_params::laws::bound_texts_in_both_modes;
 pub use mysql_params::laws::bound_texts_in_clients;
 pub use mysql_params::laws::bound_texts_on_servers;
 pub use mysql_params::laws::by_position_is_the_same;
