@@ -146,6 +146,25 @@ pub fn bind_fragments(
     bind_fragments_in(alloc, query, fragments, false)
 }
 
+/// The query of [`expanded_query_in`] and its values, which are to be written as literals: it also
+/// refuses a float, as [`bind_fragments_in`] does. Lent to the crate above.
+pub fn expanded_for_literals(
+    alloc: Global,
+    query: &[u8],
+    fragments: &Fragments,
+    no_backslash_escape: bool,
+) -> Result<ExpandedQuery, FragmentsError>
+    ensures expanded { OnTokens no_backslash_escape query.now (λ ts. IfOk result (λ expanded.
+        IsExpandedQuery true no_backslash_escape ts (given_fragments fragments.now)
+        expanded.query.items expanded.values.items)) }
+    ensures refused { OnTokens no_backslash_escape query.now (λ ts. IfErr result
+        (IsCauseOrMemory (first_cause true ts (given_fragments fragments.now)))) }
+    ensures mixed { OnTokens no_backslash_escape query.now (λ ts.
+        HasName ts × HasMark ts → IsErrOf result FragmentsError.Mixed) }
+{
+    expanded(alloc, query, fragments, no_backslash_escape, true)
+}
+
 // The error for out of memory in binding.
 fn memory_error(error: BindError) -> FragmentsError
     requires { error ≡ BindError.Memory alloc_error }

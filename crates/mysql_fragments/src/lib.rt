@@ -14,7 +14,10 @@ mod places;
 mod written;
 
 pub use expanded::{
-    ExpandedQuery, bind_fragments, bind_fragments_in, expanded_query, expanded_query_in,
+    ExpandedQuery, bind_fragments, bind_fragments_in, expanded_for_literals, expanded_query,
+    expanded_query_in,
 };
 pub use fragment::{Fragment, Fragments, Item, Keyword};
 pub use fragments_error::{FragmentFault, FragmentsError};
+pub use places::fragments_of_places;
+pub use written::push_fragment;

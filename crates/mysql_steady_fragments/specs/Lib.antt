@@ -1,0 +1,2 @@
+pub mod SteadyFragments
+pub mod SteadyFragmentsErrors

@@ -1,0 +1,74 @@
+-- What binding promises of the text that it gives to fragments for any mode, and for any server:
+-- that of SteadyText.antt (of mysql_steady_text) for the expanded query and its values.
+-- `bind_fragments_in_any_mode` promises the first record, and `bind_fragments_anywhere` the second,
+-- or else an error that says why not (SteadyFragmentsErrors.antt).
+use Rattle.std.specs.Prelude.{◌≡◌, ◌+◌, ℕ, Bool, true, List, [], ◌∷◌, if◌then◌else◌, Option, None, Some, Ok, Err}
+use Rattle.std.specs.List.{list_all}
+use Rattle.mysql_sql_text.specs.StringUnits.{with_backslashes}
+use Rattle.mysql_named_params.specs.Tokens.{Token, IsTokens}
+use Rattle.mysql_named_params.specs.Portable.{IsPortable, IsReadAs}
+use Rattle.mysql_named_params.specs.Server.{Server, IsReadOn}
+use Rattle.mysql_named_params.specs.Quiet.{IsHonest, DecidesWithin}
+use Rattle.mysql_named_params.specs.Steady.{is_steady, IsSteady}
+use Rattle.mysql_named_params.specs.CharacterSet.{CharacterSet, seen}
+use Rattle.mysql_params_core.specs.Given.{positional}
+use Rattle.mysql_binding.specs.Replaced.{with_literal_tokens}
+use Rattle.mysql_steady_text.specs.SteadyText.{IsSteadyText}
+use Rattle.mysql_fragments.specs.Expanded.{IsExpanded}
+use Rattle.mysql_fragments.specs.FragmentText.{all_values, fragment_text}
+use Rattle.mysql_fragments.specs.GivenFragments.{GivenFragments, PlaceFragments}
+use Rattle.mysql_fragments.specs.declared.fragment.Fragment.{Fragment}
+
+-- The place of the first fragment whose text isn't steady, if `place` fragments stand before them.
+-- In a fragment without a fault only a name can have such a byte.
+abbrev pub first_unsteady_from : ℕ → List Fragment → Option ℕ
+first_unsteady_from place [] = None
+first_unsteady_from place (fragment ∷ fragments) =
+    if list_all is_steady (fragment_text fragment) then first_unsteady_from (place + 1) fragments
+    else Some place
+
+-- the place of the first fragment for the places whose text isn't steady
+abbrev pub unsteady_place : PlaceFragments → Option ℕ
+unsteady_place (Err refusal) = None
+unsteady_place (Ok fragments) = first_unsteady_from 0 fragments
+
+-- the text, for any mode, of a query with these tokens and the fragments that are given to it
+pub record IsSteadyFragments (ts : List Token) (given : GivenFragments) (text : List ℕ)
+    : Type 0 where
+  -- There is the expanded query,
+  pub query : List ℕ
+  pub expanded : IsExpanded true with_backslashes ts given query
+  -- the text of each fragment in it is steady, and so is the query, which has the same tokens in
+  -- both modes.
+  pub steady_fragments : first_unsteady_from 0 expanded.fragments ≡ None
+  pub steady : IsSteady query
+  pub isolated : (mode : Bool) → IsTokens mode query (with_literal_tokens ts expanded.lists)
+  -- The text is the one for any mode of this query and its values.
+  pub bound : IsSteadyText (with_literal_tokens ts expanded.lists)
+      (positional (all_values expanded.fragments)) text
+
+-- The text, for any mode and any server, of this query, which has these tokens, and the fragments
+-- that are given to it. A server sees a text through the character set of the connection.
+pub record IsAnywhereFragments (query : List ℕ) (ts : List Token) (given : GivenFragments)
+    (text : List ℕ) : Type 0 where
+  -- It is a text for any mode,
+  pub steady_text : IsSteadyFragments ts given text
+  -- the query is portable, and so is the text.
+  pub portable : IsPortable ts
+  pub portable_text : IsPortable (with_literal_tokens
+      (with_literal_tokens ts steady_text.expanded.lists) steady_text.bound.literal_tokens)
+  -- On every honest server, in either mode and over every character set, its tokens are those of
+  -- the query, with those of one fragment in place of each name and mark, and in these those of one
+  -- literal in place of each of their marks: those that the grammar reads, except for `--` before a
+  -- newline and for what stands in quiet comments;
+  pub read : (server : Server) (mode : Bool) (set : CharacterSet) (vs : List Token) →
+      IsHonest server → IsReadOn server mode (seen set text) vs →
+      IsReadAs (with_literal_tokens (with_literal_tokens ts steady_text.expanded.lists)
+      steady_text.bound.literal_tokens) vs
+  -- and if the server decides about a quiet comment by its own text, exactly those that it reads in
+  -- the query.
+  pub tokens : (server : Server) (mode : Bool) (set : CharacterSet) (us : List Token) →
+      IsHonest server → DecidesWithin server → IsReadOn server mode (seen set query) us →
+      IsReadOn server mode (seen set text)
+      (with_literal_tokens (with_literal_tokens us steady_text.expanded.lists)
+      steady_text.bound.literal_tokens)
