@@ -39,7 +39,7 @@ fraction_digits digit (b ∷ bytes) h =
     no_point false e = true≢false (sym e)
 
 -- a number with these bytes
-data IsNumber : List ℕ → Type 0 where
+pub data IsNumber : List ℕ → Type 0 where
   whole_number : (bytes : List ℕ) → AreDigits bytes → IsNumber bytes
   with_point : (whole fraction : List ℕ) → AreDigits whole → AreDigits fraction → IsNumber (whole ++ (codes "." ++ fraction))
 
@@ -57,7 +57,7 @@ all_of : (bytes : List ℕ) → AreDigits bytes → list_all is_ascii_digit byte
 all_of [] h = absurd h
 all_of (c ∷ bytes) h = and_from _ _ h.0 h.1
 
-number_parts : (front bytes : List ℕ) (digit : Bool) → list_all is_ascii_digit front ≡ true →
+pub number_parts : (front bytes : List ℕ) (digit : Bool) → list_all is_ascii_digit front ≡ true →
     (digit ≡ true → AreDigits front) → is_number_from digit false bytes ≡ true → IsNumber (front ++ bytes)
 number_parts front [] digit all some h = subst IsNumber (sym (append-nil front)) (whole_number front (some h))
 number_parts front (b ∷ bytes) digit all some h =

@@ -4,3 +4,4 @@ pub mod FragmentShape
 pub mod GivenFragments
 pub mod FragmentErrors
 pub mod Expanded
+pub mod ReadFragment

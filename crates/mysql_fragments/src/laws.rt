@@ -1,15 +1,21 @@
 //! Laws of fragments. No program needs to call them.
-ghost use Rattle.std.specs.Prelude.{◌≡◌, ℕ, Bool, List, None, Some};
+ghost use Rattle.std.specs.Prelude.{◌≡◌, ◌++◌, ◌∷◌, ℕ, ℤ, Bool, List, None, Some, IsTrue, codes, length, map, pos, neg_ℤ};
+ghost use Rattle.std.specs.Str.Parse.{digits_value};
+ghost use Rattle.mysql_sql_text.specs.LiteralEnd.{BeginsWithout};
+ghost use Rattle.mysql_sql_text.specs.LiteralShape.{AreDigits};
 ghost use Rattle.mysql_named_params.specs.Tokens.{Token, IsTokens};
 ghost use Rattle.mysql_named_params.specs.Portable.{AreReadAlike, IsPortable, IsReadAs};
 ghost use Rattle.mysql_named_params.specs.Quiet.{IsHonest, DecidesWithin};
 ghost use Rattle.mysql_named_params.specs.Server.{Server, IsReadOn};
 ghost use Rattle.mysql_binding.specs.Pieces.{pieces, joined_text};
 ghost use Rattle.mysql_binding.specs.Replaced.{AreTokensOf, with_literal_tokens};
-ghost use Rattle.mysql_binding.specs.StandsAlone.{first_not_alone};
+ghost use Rattle.mysql_binding.specs.StandsAlone.{first_not_alone, may_stand_after, none_or_first};
 ghost use Rattle.mysql_fragments.specs.Expanded.{IsBoundFragments};
+ghost use Rattle.mysql_fragments.specs.FragmentFaults.{is_decimal};
 ghost use Rattle.mysql_fragments.specs.FragmentShape.{AreFragments};
+ghost use Rattle.mysql_fragments.specs.FragmentText.{identifier_text, joined};
 ghost use Rattle.mysql_fragments.specs.GivenFragments.{GivenFragments};
+ghost use Rattle.mysql_fragments.specs.ReadFragment.{AreReadAsNames, ReadsAsOne, is_backquote, read_exact, read_identifier};
 
 use mysql_binding::laws::bound_texts_on_servers;
 
@@ -79,3 +85,32 @@ pub fn bound_fragments_on_servers()
     fragments_on_servers();
     bound_texts_on_servers();
 }
+
+/// What is written in a place reads as itself, by readers of identifiers and of exact numbers. An
+/// identifier reads as its name before any text that doesn't begin with a backquote (`name`), and
+/// names with points between them as these before whatever may follow a place (`names`). An exact
+/// number reads there as one number (`number`): that of its digits, with as many of them after the
+/// point as it has (`whole`, `fraction`), and the other one after `-` (`negative`,
+/// `negative_fraction`).
+pub fn fragments_read_back()
+    ensures name { (name rest : List ℕ) → BeginsWithout is_backquote rest →
+        read_identifier (identifier_text name ++ rest) ≡ Some (name, rest) }
+    ensures names { (name : List ℕ) (names : List (List ℕ)) (rest : List ℕ) →
+        IsTrue (none_or_first may_stand_after rest) → AreReadAsNames
+        (joined (codes ".") (map identifier_text (name ∷ names)) ++ rest) (name ∷ names) rest }
+    ensures number { (text : List ℕ) → IsTrue (is_decimal text) → ReadsAsOne text }
+    ensures whole { (digits rest : List ℕ) → AreDigits digits →
+        IsTrue (none_or_first may_stand_after rest) →
+        read_exact (digits ++ rest) ≡ Some ((pos (digits_value 10 digits), 0), rest) }
+    ensures fraction { (whole fraction rest : List ℕ) → AreDigits whole → AreDigits fraction →
+        IsTrue (none_or_first may_stand_after rest) →
+        read_exact ((whole ++ (codes "." ++ fraction)) ++ rest)
+        ≡ Some ((pos (digits_value 10 (whole ++ fraction)), length fraction), rest) }
+    ensures negative { (digits rest : List ℕ) → AreDigits digits →
+        IsTrue (none_or_first may_stand_after rest) → read_exact ((codes "-" ++ digits) ++ rest)
+        ≡ Some ((neg_ℤ (pos (digits_value 10 digits)), 0), rest) }
+    ensures negative_fraction { (whole fraction rest : List ℕ) → AreDigits whole →
+        AreDigits fraction → IsTrue (none_or_first may_stand_after rest) →
+        read_exact ((codes "-" ++ (whole ++ (codes "." ++ fraction))) ++ rest)
+        ≡ Some ((neg_ℤ (pos (digits_value 10 (whole ++ fraction))), length fraction), rest) }
+{}
