@@ -6,3 +6,4 @@ pub mod ReadFragmentLemmas
 pub mod PlaceLemmas
 pub mod CauseLemmas
 pub mod ExpandedLemmas
+pub mod ValueFragmentLemmas

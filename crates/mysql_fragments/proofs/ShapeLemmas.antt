@@ -3,14 +3,14 @@ use Rattle.std.specs.Prelude.{Bool, codes, if◌then◌else◌, ⊤}
 use Rattle.std.specs.List.{flat_map, list_all}
 use Rattle.std.specs.Global.{Vec}
 use Rattle.std.specs.Char.{is_ascii_digit}
-use Rattle.std.proofs.Common.{◌≡◌, ◌+◌, ◌++◌, ◌==◌, ◌&&◌, not, ℕ, true, false, List, [], ◌∷◌, length, map, Some, None, Option, option_map, nat_eq, inl, inr, refl, sym, ap, ◌∙◌, subst, append_assoc, append-nil, true≢false, length-append}
+use Rattle.std.proofs.Common.{◌≡◌, ◌+◌, ◌++◌, ◌==◌, ◌&&◌, not, ℕ, true, false, List, [], ◌∷◌, length, map, Some, None, Option, option_map, nat_eq, nat_le, inl, inr, refl, sym, ap, ◌∙◌, subst, append_assoc, append-nil, true≢false, length-append}
 use Rattle.std.proofs.lemmas.Bool.{and_parts, and_from, cases_Bool, eqb-true}
 use Rattle.mysql_values.specs.declared.value.Value.{Value}
 use Rattle.mysql_sql_text.specs.LiteralShape.{AreDigits, natural_literal, negative_literal}
 use Rattle.mysql_named_params.specs.Bytes.{dash, point}
 use Rattle.mysql_binding.proofs.CauseLemmas.{or_none}
 use Rattle.mysql_fragments.specs.FragmentErrors.{first_fault_from}
-use Rattle.mysql_fragments.specs.FragmentFaults.{fault_of, is_decimal, is_keyword, is_number_from, item_fault, items_fault, list_fault, names_fault, number_fault, row_fault, rows_fault, rows_fault_from}
+use Rattle.mysql_fragments.specs.FragmentFaults.{digit_count, fault_of, is_decimal, is_keyword, is_number_from, item_fault, items_fault, list_fault, names_fault, number_fault, row_fault, rows_fault, rows_fault_from}
 use Rattle.mysql_fragments.specs.FragmentShape.{IsIdentifier, one_name, more_names, IsFragment, AreFragments, mark_fragment, literal_fragment, decimal_fragment, negative_decimal_fragment, identifier_fragment, keyword_fragment, list_fragment, row_fragment}
 use Rattle.mysql_fragments.specs.FragmentText.{joined, identifier_text, item_text, item_values, items_text, row_text, fragment_text, fragment_values, all_values, mark_number}
 use Rattle.mysql_fragments.proofs.SplicedFragmentLemmas.{total}
@@ -102,7 +102,8 @@ if_fault true x e = refl
 if_fault false x e = cc
 
 number_shape : (mode : Bool) (row index : ℕ) (text : List ℕ) → number_fault row index text ≡ None → IsFragment mode 0 text
-number_shape mode row index text h = decimal_is mode text (if_fault (is_decimal text) _ h)
+number_shape mode row index text h =
+    decimal_is mode text (and_parts (is_decimal text) (nat_le (digit_count text) 65) (if_fault (is_decimal text && nat_le (digit_count text) 65) _ h)).0
 
 -- ---- several with commas between them
 

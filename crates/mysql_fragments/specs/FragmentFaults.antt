@@ -1,5 +1,6 @@
 -- Why a fragment can't be written: its first fault. Names are refused as servers refuse them (MySQL
--- Reference Manual, "Schema Object Names", "Identifier Length Limits").
+-- Reference Manual, "Schema Object Names", "Identifier Length Limits"), and numbers of more digits
+-- than servers keep of a literal ("DECIMAL Data Type Characteristics").
 use Rattle.std.specs.Prelude.{◌+◌, ◌-◌, ◌==◌, ◌&&◌, nat_eq, nat_le, nat_lt, not, ℕ, Bool, true, false, List, [], ◌∷◌, length, if◌then◌else◌, Option, None, Some, slice_index_or}
 use Rattle.std.specs.Char.{is_ascii_alphabetic, is_ascii_digit}
 use Rattle.std.specs.List.{list_any}
@@ -30,9 +31,16 @@ is_decimal (b ∷ bytes) =
     if b == dash then is_number_from false false bytes
     else is_number_from false false (b ∷ bytes)
 
--- the fault of a text that is to be an exact number, as this item of this row
+-- the number of its digits
+abbrev pub digit_count : List ℕ → ℕ
+digit_count [] = 0
+digit_count (b ∷ bytes) =
+    if is_ascii_digit b then digit_count bytes + 1 else digit_count bytes
+
+-- the fault of a text that is to be an exact number of at most 65 digits, as this item of this row
 abbrev pub number_fault : ℕ → ℕ → List ℕ → Option FragmentFault
-number_fault row index text = if is_decimal text then None else Some (Number row index)
+number_fault row index text =
+    if is_decimal text && nat_le (digit_count text) 65 then None else Some (Number row index)
 
 -- ---- items and rows
 

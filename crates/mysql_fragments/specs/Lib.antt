@@ -5,3 +5,4 @@ pub mod GivenFragments
 pub mod FragmentErrors
 pub mod Expanded
 pub mod ReadFragment
+pub mod ValueFragments

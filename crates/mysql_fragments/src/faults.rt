@@ -1,7 +1,7 @@
 //! Which fragments can be written.
 ghost use Rattle.std.specs.Prelude.{◌≡◌, ◌==◌, false, None, Some, if◌then◌else◌};
 ghost use Rattle.std.specs.List.{list_any};
-ghost use Rattle.mysql_fragments.specs.FragmentFaults.{character_count, ends_in_space, fault_of, is_continuation, is_decimal, is_keyword, is_keyword_from, is_number_from, item_fault, items_fault, list_fault, name_fault, names_fault, names_fault_from, number_fault, row_fault, rows_fault, rows_fault_from};
+ghost use Rattle.mysql_fragments.specs.FragmentFaults.{character_count, digit_count, ends_in_space, fault_of, is_continuation, is_decimal, is_keyword, is_keyword_from, is_number_from, item_fault, items_fault, list_fault, name_fault, names_fault, names_fault_from, number_fault, row_fault, rows_fault, rows_fault_from};
 
 use crate::fragment::{Fragment, Item};
 use crate::fragments_error::FragmentFault;
@@ -56,15 +56,28 @@ fn item_fault(item: &Item, row: usize, index: usize) -> Option<FragmentFault>
     }
 }
 
-// The fault of a text that is to be an exact number, as this item of this row.
+// The fault of a text that is to be an exact number of at most 65 digits, as this item of this row.
 fn number_fault(text: &[u8], row: usize, index: usize) -> Option<FragmentFault>
     ensures { result ≡ number_fault row index text.now }
 {
-    if is_decimal(text) {
+    if is_decimal(text) && digit_count(text) <= 65 {
         None
     } else {
         Some(FragmentFault::Number { row, item: index })
     }
+}
+
+// The number of digits of a number.
+fn digit_count(text: &[u8]) -> usize
+    ensures { result ≡ digit_count text.now }
+{
+    let mut count = 0;
+    for b in text {
+        if u8::is_ascii_digit(b) {
+            count += 1;
+        }
+    }
+    count
 }
 
 // The first fault of rows.

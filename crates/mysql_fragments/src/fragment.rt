@@ -19,8 +19,8 @@ pub enum Item {
 pub enum Fragment {
     /// The literal of a value, as [`bind_text_in`](mysql_binding::bind_text_in) writes it.
     Value(Value),
-    /// An exact number as it is written, as `-1.50`: at most one `-`, then digits with at most one
-    /// point between them. It is written bare, so that a server compares it exactly.
+    /// An exact number as it is written, as `-1.50`: at most one `-`, then at most 65 digits with
+    /// at most one point between them. It is written bare, so that a server compares it exactly.
     Decimal(Vec<u8>),
     /// Items with `, ` between them, as for `IN (?)`.
     List(Vec<Item>),

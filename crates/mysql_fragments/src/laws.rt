@@ -1,21 +1,30 @@
 //! Laws of fragments. No program needs to call them.
-ghost use Rattle.std.specs.Prelude.{◌≡◌, ◌++◌, ◌∷◌, ℕ, ℤ, Bool, List, None, Some, IsTrue, codes, length, map, pos, neg_ℤ};
+ghost use Rattle.std.specs.Prelude.{◌≡◌, ◌++◌, ◌∷◌, ℕ, ℤ, Bool, true, List, None, Some, Ok, IsTrue, codes, length, map, option_map, pos, neg_ℤ};
 ghost use Rattle.std.specs.Str.Parse.{digits_value};
+ghost use Rattle.mysql_values.specs.declared.value.Value.{Value};
 ghost use Rattle.mysql_sql_text.specs.LiteralEnd.{BeginsWithout};
 ghost use Rattle.mysql_sql_text.specs.LiteralShape.{AreDigits};
 ghost use Rattle.mysql_named_params.specs.Tokens.{Token, IsTokens};
+ghost use Rattle.mysql_named_params.specs.Places.{names};
 ghost use Rattle.mysql_named_params.specs.Portable.{AreReadAlike, IsPortable, IsReadAs};
 ghost use Rattle.mysql_named_params.specs.Quiet.{IsHonest, DecidesWithin};
 ghost use Rattle.mysql_named_params.specs.Server.{Server, IsReadOn};
+ghost use Rattle.mysql_params_core.specs.Given.{Given};
+ghost use Rattle.mysql_params_core.specs.Lookup.{lookup};
+ghost use Rattle.mysql_binding.specs.FirstCause as bound;
+ghost use Rattle.mysql_binding.specs.Isolation.{IsBoundText};
 ghost use Rattle.mysql_binding.specs.Pieces.{pieces, joined_text};
 ghost use Rattle.mysql_binding.specs.Replaced.{AreTokensOf, with_literal_tokens};
 ghost use Rattle.mysql_binding.specs.StandsAlone.{first_not_alone, may_stand_after, none_or_first};
 ghost use Rattle.mysql_fragments.specs.Expanded.{IsBoundFragments};
+ghost use Rattle.mysql_fragments.specs.FragmentErrors as fragments;
 ghost use Rattle.mysql_fragments.specs.FragmentFaults.{is_decimal};
 ghost use Rattle.mysql_fragments.specs.FragmentShape.{AreFragments};
 ghost use Rattle.mysql_fragments.specs.FragmentText.{identifier_text, joined};
-ghost use Rattle.mysql_fragments.specs.GivenFragments.{GivenFragments};
+ghost use Rattle.mysql_fragments.specs.GivenFragments.{GivenFragments, fragments_for};
 ghost use Rattle.mysql_fragments.specs.ReadFragment.{AreReadAsNames, ReadsAsOne, is_backquote, read_exact, read_identifier};
+ghost use Rattle.mysql_fragments.specs.ValueFragments.{same_cause};
+ghost use Rattle.mysql_fragments.specs.declared.fragment.Fragment.TheVariants as fragment;
 
 use mysql_binding::laws::bound_texts_on_servers;
 
@@ -113,4 +122,21 @@ pub fn fragments_read_back()
         AreDigits fraction → IsTrue (none_or_first may_stand_after rest) →
         read_exact ((codes "-" ++ (whole ++ (codes "." ++ fraction))) ++ rest)
         ≡ Some ((neg_ℤ (pos (digits_value 10 (whole ++ fraction))), length fraction), rest) }
+{}
+
+/// If the fragments for the places are all values, then each text that is bound to them is bound to
+/// these values too (`text`), and the first cause that refuses them is the one that refuses the
+/// values (`causes`): [`bind_fragments_in`](crate::bind_fragments_in) is then
+/// [`bind_text_in`](mysql_binding::bind_text_in).
+pub fn values_bind_as_text()
+    ensures text { (mode : Bool) (ts : List Token) (given : GivenFragments) (params : Given)
+        (values : List Value) (text : List ℕ) →
+        fragments_for given (names ts) ≡ Ok (map (λ value. fragment.Value value) values) →
+        lookup params (names ts) ≡ Ok values → IsBoundFragments mode ts given text →
+        IsBoundText mode ts params text }
+    ensures causes { (ts : List Token) (given : GivenFragments) (params : Given)
+        (values : List Value) →
+        fragments_for given (names ts) ≡ Ok (map (λ value. fragment.Value value) values) →
+        lookup params (names ts) ≡ Ok values → fragments.first_cause true ts given
+        ≡ option_map same_cause (bound.first_cause ts params) }
 {}

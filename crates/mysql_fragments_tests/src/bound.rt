@@ -26,6 +26,8 @@ const TEXTS: &[(&[u8], Plain, &[u8])] = &[
         Decimal(b"340282366920938463463374607431768211455"),
         b"340282366920938463463374607431768211455",
     ),
+    // 65 digits, which a server keeps.
+    (b"?", Decimal(&[b'9'; 65]), &[b'9'; 65]),
     (
         b"SELECT ? FROM t",
         Identifier(b"a`b"),

@@ -27,6 +27,10 @@ const FAULTS: &[(Plain, FragmentFault)] = &[
     (Decimal(b"1.2.3"), FragmentFault::Number { row: 0, item: 0 }),
     (Decimal(b"--1"), FragmentFault::Number { row: 0, item: 0 }),
     (Decimal(b"0x1"), FragmentFault::Number { row: 0, item: 0 }),
+    (
+        Decimal(&[b'1'; 66]),
+        FragmentFault::Number { row: 0, item: 0 },
+    ),
     (Identifier(b""), FragmentFault::EmptyName { part: 0 }),
     (
         Qualified(&[b"a", b"b\0"]),
