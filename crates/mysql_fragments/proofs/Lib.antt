@@ -7,3 +7,4 @@ pub mod PlaceLemmas
 pub mod CauseLemmas
 pub mod ExpandedLemmas
 pub mod ValueFragmentLemmas
+pub mod InPlaceLemmas

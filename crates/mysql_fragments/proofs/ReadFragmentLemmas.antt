@@ -32,7 +32,7 @@ apart_from x refused b h =
       | inr e ↦ e
     ]
 
-no_backquote : (rest : List ℕ) → none_or_first may_stand_after rest ≡ true → BeginsWithout is_backquote rest
+pub no_backquote : (rest : List ℕ) → none_or_first may_stand_after rest ≡ true → BeginsWithout is_backquote rest
 no_backquote = may_follow is_backquote (apart_from backquote refl)
 
 no_point : (rest : List ℕ) → none_or_first may_stand_after rest ≡ true → BeginsWithout is_point rest

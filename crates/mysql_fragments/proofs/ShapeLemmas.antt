@@ -93,11 +93,11 @@ decimal_is mode (b ∷ bytes) h =
 
 -- ---- faults that there aren't
 
-map_none : {A B : Type 0} (f : A → B) (x : Option A) → option_map f x ≡ None → x ≡ None
+pub map_none : {A B : Type 0} (f : A → B) (x : Option A) → option_map f x ≡ None → x ≡ None
 map_none f None e = refl
 map_none f (Some x) e = cc
 
-if_fault : (b : Bool) (x : FragmentFault) → (if b then None else Some x) ≡ None → b ≡ true
+pub if_fault : (b : Bool) (x : FragmentFault) → (if b then None else Some x) ≡ None → b ≡ true
 if_fault true x e = refl
 if_fault false x e = cc
 

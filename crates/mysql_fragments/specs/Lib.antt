@@ -6,3 +6,4 @@ pub mod FragmentErrors
 pub mod Expanded
 pub mod ReadFragment
 pub mod ValueFragments
+pub mod FragmentsInPlace

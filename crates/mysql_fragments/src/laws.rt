@@ -20,6 +20,7 @@ ghost use Rattle.mysql_fragments.specs.Expanded.{IsBoundFragments};
 ghost use Rattle.mysql_fragments.specs.FragmentErrors as fragments;
 ghost use Rattle.mysql_fragments.specs.FragmentFaults.{is_decimal};
 ghost use Rattle.mysql_fragments.specs.FragmentShape.{AreFragments};
+ghost use Rattle.mysql_fragments.specs.FragmentsInPlace.{ReadAsThemselves};
 ghost use Rattle.mysql_fragments.specs.FragmentText.{identifier_text, joined};
 ghost use Rattle.mysql_fragments.specs.GivenFragments.{GivenFragments, fragments_for};
 ghost use Rattle.mysql_fragments.specs.ReadFragment.{AreReadAsNames, ReadsAsOne, is_backquote, read_exact, read_identifier};
@@ -122,6 +123,16 @@ pub fn fragments_read_back()
         AreDigits fraction → IsTrue (none_or_first may_stand_after rest) →
         read_exact ((codes "-" ++ (whole ++ (codes "." ++ fraction))) ++ rest)
         ≡ Some ((neg_ℤ (pos (digits_value 10 (whole ++ fraction))), length fraction), rest) }
+{}
+
+/// The text that is bound to a query with fragments is its pieces with a text for each fragment
+/// between them. In it each identifier and each exact number that is a fragment, followed by the
+/// text after it, reads as itself and leaves exactly that text, and each keyword is its bytes.
+pub fn fragments_read_in_place()
+    ensures { (mode : Bool) (ts : List Token) (given : GivenFragments) (text : List ℕ) →
+        (b : IsBoundFragments mode ts given text) → (texts : List (List ℕ))
+        × (joined_text (pieces ts) texts ≡ Some text)
+        × ReadAsThemselves (pieces ts) b.expanded.fragments texts }
 {}
 
 /// If the fragments for the places are all values, then each text that is bound to them is bound to
