@@ -1,0 +1,22 @@
+use Rattle.std.proofs.Common.{arith, refl}
+use Rattle.mysql_flat_params.proofs.FormLemmas.{not_empty}
+use Rattle.mysql_flat_fragments.proofs.FormLemmas.{parameter_read, parameter_refused, whole_read}
+use Rattle.mysql_flat_fragments.proofs.form.form_fragments.Goals as goal
+
+pub returns-in-Err-clause-refused : goal.returns-in-Err-clause-refused
+returns-in-Err-clause-refused c =
+    parameter_refused c.args.form.now _ _ _ c.in-Err.error c.loop-rest.invariant.0 (not_empty _ c.loop-rest-test.ensures.empty.1) c.in-Err.ensures
+
+pub loop-rest-smaller : goal.loop-rest-smaller
+loop-rest-smaller c =
+    (parameter_read c.args.form.now _ _ _ _ _ _ _ c.loop-rest.invariant.0 (not_empty _ c.loop-rest-test.ensures.empty.1) c.in-Ok.ensures
+    c.in-Ok-insert_fragment.ensures.inserted).1
+
+pub loop-rest-preserved : goal.loop-rest-preserved
+loop-rest-preserved c =
+    let next = parameter_read c.args.form.now _ _ _ _ _ _ _ c.loop-rest.invariant.0 (not_empty _ c.loop-rest-test.ensures.empty.1) c.in-Ok.ensures
+    c.in-Ok-insert_fragment.ensures.inserted in
+    (next.0, omega (arith, next.1, c.loop-rest.invariant.1))
+
+pub returns-clause-fragments : goal.returns-clause-fragments
+returns-clause-fragments c = whole_read c.args.form.now _ _ _ c.loop-rest.invariant.0 (c.loop-rest-test.ensures.empty.0 refl)

@@ -1,0 +1,6 @@
+pub mod FragmentContent
+pub mod Keywords
+pub mod FlatFragments
+pub mod FragmentsFormErrors
+pub mod FragmentsOutcomes
+pub mod FragmentsIntoRoom

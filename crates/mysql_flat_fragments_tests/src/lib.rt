@@ -1,0 +1,7 @@
+//! Tests of the flat form of fragments, through public calls alone.
+#![tactic(auto)]
+
+#[cfg(test)]
+mod bound;
+#[cfg(test)]
+mod shared;
