@@ -3,9 +3,18 @@ use Rattle.std.proofs.Common.{◌≡◌, ℕ, pos, of_z, to_z, w32}
 use Rattle.mysql_flat_params.specs.Outcomes.{IfDone, number_of, report_of}
 use Rattle.mysql_flat_params.specs.declared.outcome.Outcome.{Outcome}
 use Rattle.mysql_flat_params.specs.declared.outcome.Outcome.TheVariants.{Done}
+use Rattle.mysql_flat_fragments.specs.FragmentsOutcomes as fragments
+use Rattle.mysql_flat_fragments.specs.declared.outcome.FragmentsOutcome.{FragmentsOutcome}
+use Rattle.mysql_flat_fragments.specs.declared.outcome.FragmentsOutcome.TheVariants.{AsValues, Fault}
 
 -- the number 0 is that of an answer
 pub written_told : (outcome : Outcome) (P : ℕ → Type 0) → to_z w32 (of_z w32 (pos (number_of outcome))) ≡ pos 0 →
     IfDone outcome P → P (report_of outcome).len
 written_told (Done len) P zero done = done
 written_told outcome P zero done = cc
+
+-- .. and of one of binding fragments
+pub fragments_written_told : (outcome : FragmentsOutcome) (P : ℕ → Type 0) →
+    to_z w32 (of_z w32 (pos (fragments.number_of outcome))) ≡ pos 0 → fragments.IfDone outcome P → P (fragments.report_of outcome).len
+fragments_written_told (AsValues outcome) P zero done = written_told outcome P zero done
+fragments_written_told (Fault place fault) P zero done = cc

@@ -18,6 +18,8 @@ ghost use Rattle.mysql_flat_params.specs.BoundRows.{AreBoundRows, IsRowsOutcome}
 ghost use Rattle.mysql_flat_params.specs.FlatForm.{HasFirstParameter};
 ghost use Rattle.mysql_flat_params.specs.IntoRoom.{IfMixed, IsBindOutcome, IsBoundForm, IsNamesAnswer, IsNamesOutcome};
 ghost use Rattle.mysql_flat_params.specs.Outcomes.{IsTold};
+ghost use Rattle.mysql_flat_fragments.specs.FragmentsIntoRoom as fragments;
+ghost use Rattle.mysql_flat_fragments.specs.FragmentsOutcomes as fragments_outcomes;
 ghost use Rattle.mysql_flat_params.specs.UnportableReport.{unportable_number, unportable_report};
 ghost use Rattle.mysql_named_params.specs.FirstUnportable.{first_unportable};
 ghost use Rattle.mysql_named_params.specs.FirstUnportableInClient.{first_unportable_in_client, IsPortableInClient};
@@ -27,6 +29,7 @@ ghost use Rattle.mysql_named_params.specs.Steady.{first_unsteady};
 ghost use Rattle.mysql_named_params.specs.Tokens.{OnTokens};
 ghost use Rattle.mysql_named_params.specs.declared.portable.Unportable as unportable;
 
+use mysql_flat_fragments::bind_fragments_into;
 use mysql_flat_params::{
     Report, Rows, bind_anywhere_into, bind_into, bind_rows_into, names_into,
     report_first_unportable, report_first_unportable_in_client,
@@ -187,6 +190,40 @@ pub extern "C" fn mysql_params_bind_rows(
 {
     let (bound, outcome) = bind_rows_into(alloc, query, forms, no_backslash_escape, room);
     *rows = bound;
+    *report = outcome.report();
+    outcome.number()
+}
+
+/// Binds into the query the fragments that the form says, and writes the text to the front of the
+/// room: [`bind_fragments_into`](mysql_flat_fragments::bind_fragments_into).
+///
+/// The form is that of [`mysql_params_bind`] with six types more, for an exact number, a list, rows,
+/// an identifier, a qualified one and a keyword
+/// ([`form_fragments`](mysql_flat_fragments::form_fragments)). It returns the numbers of
+/// [`mysql_params_bind`], and after those for a query 17 (`Fault`) for a fragment that can't be
+/// written: then the report has its place, in `byte` the number of the fault, in `position` the row
+/// and in `values` the item or the part of the name. Any other number may be 1 (`OutOfMemory`)
+/// instead. At each number but 0 the room is as before. The flag is true if the connection's
+/// `sql_mode` has `NO_BACKSLASH_ESCAPES`.
+#[unsafe(no_mangle)]
+pub extern "C" fn mysql_params_bind_fragments(
+    alloc: Global,
+    query: &[u8],
+    form: &[u8],
+    no_backslash_escape: bool,
+    room: &mut [u8],
+    report: &mut Report,
+) -> i32
+    ensures outcome { fragments_outcomes.IsTold result report.new
+        (fragments.IsFragmentsOutcome no_backslash_escape query.now form.now) }
+    ensures written { result ≡ pos 0 → fragments.IsBoundForm no_backslash_escape query.now
+        form.now (take report.new.len room.new) }
+    ensures rest { result ≡ pos 0 → (report.new.len ≤ length room.old)
+        × (drop report.new.len room.new ≡ drop report.new.len room.old) }
+    ensures too_long { result ≡ pos 2 → length room.old < report.new.len }
+    ensures unchanged { result ≢ pos 0 → room.new ≡ room.old }
+{
+    let outcome = bind_fragments_into(alloc, query, form, no_backslash_escape, room);
     *report = outcome.report();
     outcome.number()
 }
