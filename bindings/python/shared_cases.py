@@ -1,6 +1,7 @@
 """The cases of bindings/cases, as Python has them."""
 
 import datetime
+import decimal
 import pathlib
 import re
 
@@ -23,6 +24,7 @@ ERRORS = {
     "FLOAT": mysql_params.FloatError,
     "UNSTEADY": mysql_params.UnsteadyError,
     "UNPORTABLE": mysql_params.UnportableError,
+    "FAULT": mysql_params.FragmentError,
 }
 
 FIELDS = {
@@ -37,11 +39,12 @@ FIELDS = {
     "FLOAT": ("place",),
     "UNSTEADY": ("position",),
     "UNPORTABLE": ("position", "construct"),
+    "FAULT": ("place", "fault", "in_row", "item"),
 }
 
 NUMBERS = {"FORM_END": 3, "FORM_LENGTH_LEAD": 4, "FORM_TYPE": 5, "FORM_MIXED": 6, "FORM_REPEATED": 7, "MIXED": 8}
 NUMBERS.update({"MISSING": 9, "NAMED_FOR_POSITIONAL": 10, "POSITIONAL_FOR_NAMED": 11, "MARK_COUNT": 12})
-NUMBERS.update({"NOT_ALONE": 13, "FLOAT": 14, "UNSTEADY": 15, "UNPORTABLE": 16})
+NUMBERS.update({"NOT_ALONE": 13, "FLOAT": 14, "UNSTEADY": 15, "UNPORTABLE": 16, "FAULT": 17})
 
 CONSTRUCTS = ["EXECUTABLE_COMMENT", "HINT", "MARIADB_COMMENT", "DASHES", "ESCAPED_QUOTE", "BRACKET", "DOLLAR_QUOTE"]
 CONSTRUCTS += ["DASHES_AFTER_EXPONENT", "PLACE_AFTER_EXPONENT", "OPENER_IN_COMMENT", "JOINING_COMMENT"]
@@ -50,6 +53,7 @@ CONSTRUCTS += ["ESCAPED_NEWLINE", "ZERO_BYTE"]
 """Names of the constructs in cases, in the order of their numbers from 1 on."""
 
 FIELDS_OF_CASES = {"parameter": "place", "column_type": "byte", "construct": "byte"}
+FIELDS_OF_CASES.update({"fault": "byte", "in_row": "position", "item": "values"})
 """What cases call the fields that errors have by other names."""
 
 
@@ -65,6 +69,16 @@ def value_of(text):
         return text_of(rest)
     if kind in ("i", "u"):
         return int(rest)
+    if kind == "d":
+        return decimal.Decimal(rest)
+    if kind == "list":
+        return [value_of(item) for item in rest.split("|") if rest]
+    if kind == "rows":
+        return [tuple(value_of(item) for item in row.split("|")) for row in rest.split("||")]
+    if kind in ("identifier", "qualified"):
+        return mysql_params.Identifier(*(text_of(part).decode() for part in rest.split("|")))
+    if kind == "keyword":
+        return mysql_params.Keyword(rest, among=(rest, "ASC"))
     if kind == "date":
         fields = [int(field) for field in rest.split()]
         return datetime.datetime(*fields) if any(fields[3:]) else datetime.date(*fields[:3])

@@ -41,7 +41,7 @@ def literal(byte):
 def library_of(suffices: bool, *more: str) -> mock.Mock:
     """Return a library with the functions of the archive and more, on a processor that suffices or doesn't."""
     names = ("names", "bind", "bind_anywhere", "bind_rows", "first_unportable", "first_unportable_in_client")
-    names += ("processor_suffices",)
+    names += ("bind_fragments", "processor_suffices")
     library = mock.Mock(spec=[*(f"mysql_params_{name}" for name in names), *more])
     library.mysql_params_processor_suffices.return_value = suffices
     return library
@@ -67,7 +67,7 @@ class Test(unittest.TestCase):
                 self.assertEqual(getattr(error, field), argument)
             word = case.fields.get("word")
             self.assertEqual(getattr(error, "word", None), None if word is None else text_of(word))
-            if case.refusal == "FLOAT":
+            if case.refusal in ("FLOAT", "FAULT"):
                 self.assertEqual(error.name, case.fields.get("of"))
             if case.message is not None:
                 self.assertEqual(str(error), case.message)
@@ -77,6 +77,10 @@ class Test(unittest.TestCase):
             self.expect(case, lambda: bind(case.query, case.given(), case.no_backslash_escape))
             if not case.no_backslash_escape:
                 self.expect(case, lambda: bind(case.query, case.given()))
+
+    def test_table_of_fragments(self):
+        for case in cases("fragments.txt"):
+            self.expect(case, lambda: bind(case.query, case.given(), case.no_backslash_escape))
 
     def test_table_of_steady_binding(self):
         for case in cases("anywhere.txt"):
@@ -431,7 +435,9 @@ class Test(unittest.TestCase):
         ):
             for params, place in (({"a": None, "ids": value}, ":ids"), ([None, value], "?")):
                 with self.subTest(value=value, place=place), self.assertRaises(kind) as raised:
-                    bind("SELECT 1", params)
+                    # bind takes a list and a Decimal.
+                    call = bind_anywhere if isinstance(value, (list, decimal.Decimal)) else bind
+                    call("SELECT 1", params)
                 which = "the value of `:ids` is " if place == ":ids" else "the value for place 1 is "
                 self.assertEqual(str(raised.exception), which + message.format(place))
         for params, message in (
@@ -582,16 +588,18 @@ class Test(unittest.TestCase):
         self.assertIsInstance(error, mysql_params.OutOfMemoryError)
         self.assertIsInstance(error, MemoryError)
         self.assertEqual((str(error), error.args), ("out of memory", ()))
-        for number in (-1, 0, 2, 17):
+        for number in (-1, 0, 2, 18):
             self.assertIs(type(_archive.error(number, report, b"", b"")), RuntimeError)
-        with self.assertRaises(RuntimeError):  # a construct of no number
-            _archive.error(16, report, b"", b"")
+        for number in (16, 17):  # a construct of no number, and a fault of none
+            with self.assertRaises(RuntimeError):
+                _archive.error(number, report, b"", b"")
 
     def test_errors_are_pickled(self):
         word, place = mysql_params.MissingError(1, 5, b"b"), mysql_params.FloatError(1)
         word.word, place.name = b"bA", "b"
         unportable = mysql_params.UnportableError(7, Construct.HINT)
-        for error in (mysql_params.MissingError(1, 5, b"b"), mysql_params.MixedError(), word, place, unportable):
+        fault = mysql_params.FragmentError(0, mysql_params.Fault.ROW_LENGTH, 1, 0)
+        for error in (fault, mysql_params.MissingError(1, 5, b"b"), mysql_params.MixedError(), word, place, unportable):
             copy = pickle.loads(pickle.dumps(error))
             self.assertEqual((type(copy), copy.args, str(copy)), (type(error), error.args, str(error)))
 

@@ -233,11 +233,15 @@ class Test(unittest.TestCase):
     def test_what_is_refused_before_the_connection_is_asked(self):
         connection = PyMySQL()
         with self.assertRaises(TypeError):
-            self.send(connection, params={"a": [1]})
+            self.send(connection, params={"a": {1}})
         self.assertEqual(connection.asked, 0)
         with self.assertRaises(mysql_params.MissingError):
             self.send(connection, params={"b": 1})
         self.assertEqual(connection.sent, [])
+
+    def test_fragments(self):
+        sent = self.send(PyMySQL(), "SELECT ? IN (?)", [mysql_params.Identifier("a"), [1, 2]])
+        self.assertEqual(sent, b"SELECT `a` IN (1, 2)")
 
     def test_zones(self):
         moment = datetime.datetime(2019, 11, 27, 23, 30, tzinfo=datetime.timezone.utc)

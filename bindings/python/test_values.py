@@ -93,7 +93,6 @@ class Test(unittest.TestCase):
 
     def test_types_that_stay_refused(self):
         for value, kind, message in (
-            (Color.PRICE, TypeError, "the value for place 0 is a Decimal, which has no literal: give str"),
             (datetime.time(1, tzinfo=UTC), TypeError, "is a time with a time zone, which has no literal"),
             (Wide(1 << 64), OverflowError, "is a whole number of more than 64 bits"),
             (fractions.Fraction(1, 3), TypeError, "is of type Fraction, which has no literal"),
@@ -102,6 +101,17 @@ class Test(unittest.TestCase):
             with self.subTest(value=value), self.assertRaises(kind) as raised:
                 bind("?", [value])
             self.assertIn(message, str(raised.exception))
+
+    def test_fragments_where_a_place_takes_one_value(self):
+        for value, message in (
+            (Color.PRICE, "the value for place 0 is a Decimal, which has no literal: give str"),
+            ([1], "the value for place 0 is a list, which has no literal: write a place for each of its values"),
+            (mysql_params.Identifier("t"), "the value for place 0 is of type Identifier, which has no literal"),
+        ):
+            for call in (mysql_params.bind_anywhere, lambda query, given: mysql_params.bind_rows(query, [given])):
+                with self.subTest(value=value), self.assertRaises(TypeError) as raised:
+                    call("?", [value])
+                self.assertIn(message, str(raised.exception))
 
     def test_numpy(self):
         for value, wanted in (
@@ -119,9 +129,14 @@ class Test(unittest.TestCase):
             with self.subTest(value=repr(value)), self.assertRaises((TypeError, mysql_params.FloatError)):
                 bind("?", [value])
 
-    def test_decimals_only_if_told(self):
-        with self.assertRaises(TypeError):
-            bind("?", [decimal.Decimal("0.01")])
+    def test_decimals_are_exact_unless_told(self):
+        exact = (("0.01", b"0.01"), ("1E+3", b"1000"), ("-1.50", b"-1.50"), ("-0", b"-0"))
+        for value, wanted in exact:
+            self.assertEqual(bind("?", [decimal.Decimal(value)]), wanted)
+        self.assertEqual(bind("?", [Color.PRICE]), b"0.01")
+        for value in ("NaN", "1E+65"):
+            with self.subTest(value=value), self.assertRaisesRegex(ValueError, "^the value of `:p`: a Decimal "):
+                bind(":p", {"p": decimal.Decimal(value)})
         register(decimal.Decimal, decimal_text)
         texts = (("0.01", b"'0.01'"), ("1E+3", b"'1000'"), ("-1.50", b"'-1.50'"), ("1E-7", b"'0.0000001'"))
         for value, wanted in texts:
@@ -171,11 +186,58 @@ class Test(unittest.TestCase):
         with self.assertRaises(mysql_params.FloatError):
             bind("?", [Point(1)])
         register(Point, lambda point: [1])
-        with self.assertRaisesRegex(TypeError, "^the value of `:a` is a list, which has no literal"):
-            bind(":a", {"a": Point(1)})
+        self.assertEqual(bind(":a", {"a": Point(1)}), b"1")
         register(Point, lambda point: point)
         with self.assertRaisesRegex(TypeError, "the functions that are registered for a Point make no end"):
             bind("?", [Point(1)])
+
+    def test_lists_and_rows(self):
+        for value, wanted in (
+            ([1, None, decimal.Decimal("0.10"), Color.NAMED], b"1, NULL, 0.10, 'it\\'s'"),
+            ((1,), b"1"),
+            ([(1, "a"), [2, b"b"]], b"(1, 'a'), (2, 'b')"),
+            (((1,),), b"(1)"),
+            (["ab"], b"'ab'"),
+            ("ab", b"'ab'"),
+            (b"ab", b"'ab'"),
+        ):
+            with self.subTest(value=value):
+                self.assertEqual(bind("?", [value]), wanted)
+                self.assertEqual(bind(":a", {"a": value}), wanted)
+
+    def test_lists_that_are_refused(self):
+        for value, message in (
+            ([(1,), 2], "the value of `:a` has rows and values: give a list of values, or one of rows alone"),
+            ([[(1,)]], "the value of `:a` has a tuple in a row: rows are of values"),
+            ([{1}], "the value of `:a` is a set, which has no literal"),
+            ([mysql_params.Identifier("t")], "the value of `:a` is of type Identifier, which has no literal"),
+        ):
+            with self.subTest(value=value), self.assertRaises(TypeError) as raised:
+                bind(":a", {"a": value})
+            self.assertIn(message, str(raised.exception))
+
+    def test_many_items(self):
+        numbers = list(range(-50_000, 50_000))
+        self.assertTrue(bind("a IN (?)", [numbers]) == b"a IN (%s)" % ", ".join(map(str, numbers)).encode())
+
+    def test_identifiers_and_keywords(self):
+        self.assertEqual(repr(mysql_params.Identifier("a", "b")), "Identifier('a', 'b')")
+        self.assertEqual(bind("?", [mysql_params.Identifier("\u00e9`")]), "`\u00e9```".encode())
+        for parts in ((), (b"t",), (None,), ("a", 1)):
+            with self.subTest(parts=parts), self.assertRaises(TypeError):
+                mysql_params.Identifier(*parts)
+        for word, among, kind in (
+            ("DESC", ("ASC",), ValueError),
+            ("desc", ("ASC", "DESC"), ValueError),
+            ("DESC", "DESC", TypeError),
+            (b"DESC", (b"DESC",), TypeError),
+        ):
+            with self.subTest(word=word), self.assertRaises(kind):
+                mysql_params.Keyword(word, among=among)
+        # The words of the archive alone are written, whatever the caller lets through.
+        with self.assertRaises(mysql_params.FragmentError) as raised:
+            bind("?", [mysql_params.Keyword("DESC, b", among=("DESC, b",))])
+        self.assertIs(raised.exception.fault, mysql_params.Fault.KEYWORD)
 
     def test_types_that_cannot_be_registered(self):
         for kind in (int, str, bool, type(None), bytes, datetime.datetime, object):

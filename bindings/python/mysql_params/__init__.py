@@ -26,6 +26,7 @@ from collections.abc import Iterable, Iterator, Mapping, Sequence, ValuesView
 from typing import NamedTuple, Optional, Union
 
 from . import _archive, _form
+from ._fragments import Identifier, Keyword, fragments_form_of
 from ._sending import (
     PacketError,
     SessionError,
@@ -37,12 +38,14 @@ from ._sending import (
 from ._values import decimal_text, register
 from .errors import (
     Error,
+    Fault,
     FloatError,
     FormEndError,
     FormError,
     FormLengthLeadError,
     FormMixedError,
     FormTypeError,
+    FragmentError,
     MarkCountError,
     MissingError,
     MixedError,
@@ -61,12 +64,16 @@ __version__ = "0.1.0"
 __all__ = [
     "Construct",
     "Error",
+    "Fault",
     "FloatError",
     "FormEndError",
     "FormError",
     "FormLengthLeadError",
     "FormMixedError",
     "FormTypeError",
+    "FragmentError",
+    "Identifier",
+    "Keyword",
     "MarkCountError",
     "MissingError",
     "MixedError",
@@ -200,8 +207,9 @@ def bind(
     flag it is for one that has it. Ask on the connection that the text goes to: SELECT @@sql_mode. If the two differ,
     a value can leave its literal. The flag is True or False: anything else, also the sql_mode itself, is a TypeError.
 
-    For a decimal give its str, and write ``CAST(:p AS DECIMAL(20,2))`` in the query: a text in arithmetic is computed
-    as a double; decimal_text says how to have each Decimal bound so. For IN write a place for each value.
+    A place takes more than one value: a list or a tuple of values for IN (``a IN (?)``), a list of lists or tuples of
+    values as rows (``VALUES ?``), a Decimal, which is written bare so that it is compared and computed exactly, an
+    Identifier, and a Keyword. Items may be Decimals. A str, bytes or a set is no list.
 
     A datetime with a time zone is refused, unless zone is given, which is that of the connection (@@time_zone): then it
     is bound as the clocks there show it; ValueError for one that they show twice, or never. One without a zone is bound
@@ -210,10 +218,12 @@ def bind(
     Of the parameters: raise TypeError for what has no literal, OverflowError for a whole number of more than 64 bits,
     ValueError for an empty name, UnicodeEncodeError for a str with a lone surrogate (also for a query that is one),
     RepeatedNameError for a name given as str and as bytes. Then, of the query, the first that holds: MixedError;
-    MissingError, NamedForPositionalError or PositionalForNamedError; MarkCountError; NotAloneError; FloatError. In place
-    of any of them, and of a text, OutOfMemoryError.
+    MissingError, NamedForPositionalError or PositionalForNamedError; MarkCountError; NotAloneError; FloatError;
+    FragmentError, as for an empty list or rows of two lengths. In place of any of them, and of a text,
+    OutOfMemoryError.
     """
-    return bind_form(query, _form.form_of(params, zone), no_backslash_escape)
+    query, (form, fragments) = _form.bytes_of(query), fragments_form_of(params, zone)
+    return _archive.whole_answer(query, form, no_backslash_escape, _guess(query, form), fragments)
 
 
 def bind_form(query: Union[str, bytes], form: bytes, no_backslash_escape: bool = False) -> bytes:
@@ -233,8 +243,8 @@ def bind_anywhere(
     It is a text for MySQL and MariaDB. The query has to be ASCII without a backslash, also in its comments, and portable.
 
     A text of printable ASCII without a backslash is written as ``_utf8mb4'it''s'``, other UTF-8 as ``_utf8mb4 0xC3A9``,
-    and bytes that aren't UTF-8 as ``0xFF``; all else as by bind. "Steady texts" in docs/LIMITS.md says where a server
-    takes no such literal. The zone is as for bind.
+    and bytes that aren't UTF-8 as ``0xFF``; all else as by bind, but each place takes one value. "Steady texts" in
+    docs/LIMITS.md says where a server takes no such literal. The zone is as for bind.
 
     Of the parameters it raises what bind raises. Then, of the query, the first that holds: UnsteadyError;
     UnportableError; those of bind from MixedError on. In place of any of them, and of a text, OutOfMemoryError.

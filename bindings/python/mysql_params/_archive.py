@@ -10,7 +10,7 @@ from collections.abc import Iterable
 from typing import Optional, Union
 
 from . import _form
-from .errors import _ERRORS, Error, FloatError, OutOfMemoryError, RepeatedNameError
+from .errors import _ERRORS, Error, Fault, FloatError, FragmentError, OutOfMemoryError, RepeatedNameError
 from .portable import Construct, Unportable
 
 DONE, ROOM, PORTABLE = 0, 2, 0
@@ -63,6 +63,8 @@ def load() -> ctypes.CDLL:
         library.mysql_params_names.restype = ctypes.c_int32
         library.mysql_params_bind.argtypes = (*string, *string, ctypes.c_bool, *answer)
         library.mysql_params_bind.restype = ctypes.c_int32
+        library.mysql_params_bind_fragments.argtypes = library.mysql_params_bind.argtypes
+        library.mysql_params_bind_fragments.restype = ctypes.c_int32
         library.mysql_params_bind_anywhere.argtypes = (*string, *string, *answer)
         library.mysql_params_bind_anywhere.restype = ctypes.c_int32
         rows = (ctypes.c_void_p, ctypes.c_size_t, ctypes.POINTER(Rows), ctypes.POINTER(Report))
@@ -100,12 +102,17 @@ def flag(mode: Union[bool, Anywhere]) -> bool:
 
 
 def call(
-    query: bytes, form: Optional[bytes], mode: Union[bool, Anywhere], room: bytearray, room_len: int
+    query: bytes,
+    form: Optional[bytes],
+    mode: Union[bool, Anywhere],
+    room: bytearray,
+    room_len: int,
+    fragments: bool = False,
 ) -> tuple[int, Report]:
     """Bind the form, or take the names if it is None, into the room. Return the number and the report.
 
-    The mode is True without backslash escapes, and ANYWHERE to bind for any server. The room is longer than `room_len`,
-    so that it has a first byte.
+    The mode is True without backslash escapes, and ANYWHERE to bind for any server. The form may have more than values
+    if `fragments` says so. The room is longer than `room_len`, so that it has a first byte.
 
     A pointer is never null: that of a bytes object isn't, also of an empty one.
     """
@@ -117,7 +124,8 @@ def call(
     elif mode is ANYWHERE:
         number = LIBRARY.mysql_params_bind_anywhere(query, len(query), form, len(form), *answer)
     else:
-        number = LIBRARY.mysql_params_bind(query, len(query), form, len(form), flag(mode), *answer)
+        bind = LIBRARY.mysql_params_bind_fragments if fragments else LIBRARY.mysql_params_bind
+        number = bind(query, len(query), form, len(form), flag(mode), *answer)
     return int(number), report
 
 
@@ -132,16 +140,18 @@ def new_room(length: int) -> bytearray:
         raise OutOfMemoryError() from None
 
 
-def whole_answer(query: bytes, form: Optional[bytes], mode: Union[bool, Anywhere], guess: int) -> bytes:
+def whole_answer(
+    query: bytes, form: Optional[bytes], mode: Union[bool, Anywhere], guess: int, fragments: bool = False
+) -> bytes:
     """Return the whole answer: asked for in a room of a guessed length, and again in one of the length needed."""
     try:
         room = new_room(guess)
     except OutOfMemoryError:
         guess, room = 0, new_room(0)  # The answer may be far shorter than the guess, and then there is room for it.
-    number, report = call(query, form, mode, room, guess)
+    number, report = call(query, form, mode, room, guess, fragments)
     if number == ROOM:
         guess, room = report.len, new_room(report.len)
-        number, report = call(query, form, mode, room, guess)
+        number, report = call(query, form, mode, room, guess, fragments)
     if number != DONE:
         raise refusal(number, report, query, form or b"", mode)
     if report.len > guess:
@@ -158,7 +168,15 @@ def construct_of(number: int) -> Construct:
 
 
 # The fields of a report that errors have by other names.
-_FIELDS_OF_REPORT = {"parameter": "place", "column_type": "byte"}
+_FIELDS_OF_REPORT = {"parameter": "place", "column_type": "byte", "in_row": "position", "item": "values"}
+
+
+def fault_of(number: int) -> Fault:
+    """Return the fault of a number."""
+    try:
+        return Fault(number)
+    except ValueError:
+        raise RuntimeError(f"Unknown fault {number} of the archive") from None
 
 
 def _field(report: Report, source: bytes, field: str) -> Union[int, bytes]:
@@ -167,6 +185,8 @@ def _field(report: Report, source: bytes, field: str) -> Union[int, bytes]:
         return source[report.position : report.position + report.len]
     if field == "construct":
         return construct_of(report.byte)
+    if field == "fault":
+        return fault_of(report.byte)
     return int(getattr(report, _FIELDS_OF_REPORT.get(field, field)))
 
 
@@ -182,9 +202,9 @@ def error(number: int, report: Report, query: bytes, form: bytes) -> Exception:
 
 
 def refusal(number: int, report: Report, query: bytes, form: bytes, mode: Union[bool, Anywhere]) -> Exception:
-    """Return what to raise for a number other than done, with the name of a float's place."""
+    """Return what to raise for a number other than done, with the name of the place of a float or a fragment."""
     found = error(number, report, query, form)
-    if isinstance(found, FloatError):
+    if isinstance(found, (FloatError, FragmentError)):
         names = names_of(query, mode is True)[1]
         found.name = names[found.place] if names else None
     return found

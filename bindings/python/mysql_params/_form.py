@@ -19,15 +19,15 @@ _BOUND = (int, float, str, bytes, bytearray, memoryview, datetime.date, datetime
 """The types of values that are bound, beside None."""
 
 
-def _place(which: Union[bytes, int]) -> str:
+def place(which: Union[bytes, int]) -> str:
     """Return what messages call the value for a place, which is told by its name or by its number from 0."""
     return f"the value for place {which}" if isinstance(which, int) else f"the value of `:{_show(which)}`"
 
 
 def _cast(which: Union[bytes, int], digits: str) -> str:
     """Return what to do with a decimal number."""
-    place = "?" if isinstance(which, int) else f":{_show(which)}"
-    return f"give str(..) of it, and write CAST({place} AS DECIMAL({digits})): a text in arithmetic is a double"
+    mark = "?" if isinstance(which, int) else f":{_show(which)}"
+    return f"give str(..) of it, and write CAST({mark} AS DECIMAL({digits})): a text in arithmetic is a double"
 
 
 def bytes_of(text: object) -> bytes:
@@ -46,7 +46,7 @@ def copy(source: object) -> bytes:
     raise TypeError(f"bytes are wanted, and not {type(source).__name__}")
 
 
-def _string_form(string: bytes) -> bytes:
+def string_form(string: bytes) -> bytes:
     """Return a length-encoded string."""
     length = len(string)
     if length < 251:
@@ -61,7 +61,7 @@ def _int_form(number: int, which: Union[bytes, int]) -> bytes:
         return struct.pack("<BBq", _LONGLONG, 0, number)
     if 0 <= number < 1 << 64:
         return struct.pack("<BBQ", _LONGLONG, _UNSIGNED, number)
-    raise OverflowError(f"{_place(which)} is a whole number of more than 64 bits: {_cast(which, '65,0')}")
+    raise OverflowError(f"{place(which)} is a whole number of more than 64 bits: {_cast(which, '65,0')}")
 
 
 def _shown(
@@ -71,13 +71,13 @@ def _shown(
     try:
         shown = in_zone(moment, zone)
     except OverflowError:
-        raise ValueError(f"{_place(which)} is a datetime that is outside of the years 1 to 9999 in the zone") from None
+        raise ValueError(f"{place(which)} is a datetime that is outside of the years 1 to 9999 in the zone") from None
     if shown is None:
         to_do = "convert it to a naive one, or hand in zone=.., the session's"
-        raise TypeError(f"{_place(which)} is a datetime with a time zone: {to_do}")
+        raise TypeError(f"{place(which)} is a datetime with a time zone: {to_do}")
     if is_ambiguous(shown):
         to_do = "bind it in a session whose zone is UTC"
-        raise ValueError(f"{_place(which)} is a datetime that the clocks of the zone show twice, or never: {to_do}")
+        raise ValueError(f"{place(which)} is a datetime that the clocks of the zone show twice, or never: {to_do}")
     return shown.replace(tzinfo=None)
 
 
@@ -104,10 +104,10 @@ def _time_form(time: datetime.timedelta) -> bytes:
 def _text_form(text: str, which: Union[bytes, int]) -> bytes:
     """Return type, flags and value of a text."""
     try:
-        return bytes([_VAR_STRING, 0]) + _string_form(str.encode(text))
+        return bytes([_VAR_STRING, 0]) + string_form(str.encode(text))
     except UnicodeEncodeError as fault:
         raise UnicodeEncodeError(
-            fault.encoding, fault.object, fault.start, fault.end, f"{fault.reason}, in {_place(which)}"
+            fault.encoding, fault.object, fault.start, fault.end, f"{fault.reason}, in {place(which)}"
         ) from None
 
 
@@ -124,7 +124,7 @@ def _known_form(value: object, which: Union[bytes, int], zone: Optional[datetime
     if isinstance(value, str):
         return _text_form(value, which)
     if isinstance(value, (bytes, bytearray, memoryview)):
-        return bytes([_VAR_STRING, 0]) + _string_form(copy(value))
+        return bytes([_VAR_STRING, 0]) + string_form(copy(value))
     if isinstance(value, datetime.date):
         return _date_form(value, which, zone)
     if isinstance(value, datetime.timedelta):
@@ -132,7 +132,7 @@ def _known_form(value: object, which: Union[bytes, int], zone: Optional[datetime
     return None
 
 
-def _value_form(value: object, which: Union[bytes, int], zone: Optional[datetime.tzinfo] = None) -> bytes:
+def value_form(value: object, which: Union[bytes, int], zone: Optional[datetime.tzinfo] = None) -> bytes:
     """Return type, flags and value. A datetime with a time zone is as the clocks of the zone handed in show it."""
     value = plain(value)
     try:
@@ -143,12 +143,12 @@ def _value_form(value: object, which: Union[bytes, int], zone: Optional[datetime
         return form
     kind = type(value).__name__
     if isinstance(value, decimal.Decimal):
-        raise TypeError(f"{_place(which)} is a {kind}, which has no literal: {_cast(which, '20,2')}")
+        raise TypeError(f"{place(which)} is a {kind}, which has no literal: {_cast(which, '20,2')}")
     if isinstance(value, (list, tuple, set, frozenset)):
-        raise TypeError(f"{_place(which)} is a {kind}, which has no literal: write a place for each of its values")
+        raise TypeError(f"{place(which)} is a {kind}, which has no literal: write a place for each of its values")
     if isinstance(value, datetime.time):
-        raise TypeError(f"{_place(which)} is a {kind} with a time zone, which has no literal")
-    raise TypeError(f"{_place(which)} is of type {kind}, which has no literal")
+        raise TypeError(f"{place(which)} is a {kind} with a time zone, which has no literal")
+    raise TypeError(f"{place(which)} is of type {kind}, which has no literal")
 
 
 def _name(name: object, number: int) -> bytes:
@@ -161,22 +161,25 @@ def _name(name: object, number: int) -> bytes:
     return own
 
 
-def _named(number: int, name: object, value: object, zone: Optional[datetime.tzinfo] = None) -> bytes:
-    """Return the flat form of a parameter with a name."""
-    own = _name(name, number)
-    return _string_form(own) + _value_form(value, own, zone)
-
-
-def form_of(params: object, zone: Optional[datetime.tzinfo] = None) -> bytes:
-    """Return the flat form of parameters; the zone is as for _value_form."""
-    zone = zone_of(zone)
+def form_by(params: object, value_of: Callable[[object, Union[bytes, int]], bytes]) -> bytes:
+    """Return the flat form of parameters, of which a function gives type, flags and value."""
     if params is None:
         return b""
     if isinstance(params, Mapping):
-        return b"".join(_named(number, *pair, zone) for number, pair in enumerate(params.items()))
+        forms = []
+        for number, (name, value) in enumerate(params.items()):
+            own = _name(name, number)
+            forms.append(string_form(own) + value_of(value, own))
+        return b"".join(forms)
     if isinstance(params, Iterable) and not isinstance(params, (str, bytes, bytearray, memoryview, set, frozenset)):
-        return b"".join(_string_form(b"") + _value_form(value, at, zone) for at, value in enumerate(params))
+        return b"".join([string_form(b"") + value_of(value, at) for at, value in enumerate(params)])
     raise TypeError(f"parameters are None, values in order or a mapping, and not {type(params).__name__}")
+
+
+def form_of(params: object, zone: Optional[datetime.tzinfo] = None) -> bytes:
+    """Return the flat form of parameters that are values; the zone is as for value_form."""
+    zone = zone_of(zone)
+    return form_by(params, lambda value, which: value_form(value, which, zone))
 
 
 # Heads of parameters by position, up to their values.
@@ -228,4 +231,4 @@ def row_form(params: object) -> bytes:
             form = form_of(params)
     else:
         form = form_of(params)
-    return _LENGTHS[len(form)] + form if len(form) < 251 else _string_form(form)
+    return _LENGTHS[len(form)] + form if len(form) < 251 else string_form(form)

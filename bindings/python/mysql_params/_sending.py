@@ -8,6 +8,7 @@ from collections.abc import Iterable, Mapping
 from typing import Any, NamedTuple, Optional, Union
 
 from . import _archive, _form
+from ._fragments import fragments_form_of
 from .errors import Error, UnportableError
 from .portable import Unportable
 
@@ -152,13 +153,13 @@ def _bound(
     connection: Any, query: bytes, params: object, zone: Optional[datetime.tzinfo], always_ask: bool
 ) -> bytes:
     """Return the text to send over a connection of a driver."""
-    form = _form.form_of(params, zone)
+    form, fragments = fragments_form_of(params, zone)
     told = _told(connection, always_ask)
     mode = told.no_backslash_escape
     found = _kept_unportable(query, mode) if len(query) <= _LONGEST_KEPT else _unportable(query, mode)
     if found is not None:
         raise UnportableError(found.position, found.construct)
-    text = _archive.whole_answer(query, form, mode, len(query) + 2 * len(form) + 64)
+    text = _archive.whole_answer(query, form, mode, len(query) + 2 * len(form) + 64, fragments)
     if len(text) > told.most:
         raise PacketError(len(text), told.most)
     return text

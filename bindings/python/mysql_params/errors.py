@@ -2,6 +2,7 @@
 
 from __future__ import annotations
 
+import enum
 import re
 from typing import Optional, Union
 
@@ -259,6 +260,64 @@ class UnportableError(Error):
         return f": {self.construct.message}"
 
 
+class Fault(enum.IntEnum):
+    """What is wrong with a list, rows, an exact number, an identifier or a keyword."""
+
+    EMPTY = 1
+    """A list without items, or no rows."""
+    EMPTY_ROW = 2
+    """A row without items."""
+    ROW_LENGTH = 3
+    """A row that is not as long as the first."""
+    NUMBER = 4
+    """A text that is no exact number."""
+    EMPTY_NAME = 5
+    """A name without characters."""
+    ZERO_BYTE = 6
+    """A name with a byte 0."""
+    LONG_NAME = 7
+    """A name of more than 64 characters."""
+    TRAILING_SPACE = 8
+    """A name that ends in a space."""
+    KEYWORD = 9
+    """A word that is none of the keywords that are written."""
+
+
+_FAULTS = {
+    Fault.EMPTY: "it is empty",
+    Fault.EMPTY_ROW: "row {in_row} is empty",
+    Fault.ROW_LENGTH: "row {in_row} is not as long as the first",
+    Fault.NUMBER: "item {item} of row {in_row} is no exact number",
+    Fault.EMPTY_NAME: "name {item} is empty",
+    Fault.ZERO_BYTE: "name {item} has a byte 0",
+    Fault.LONG_NAME: "name {item} has more than 64 characters",
+    Fault.TRAILING_SPACE: "name {item} ends in a space",
+    Fault.KEYWORD: "it is no keyword",
+}
+
+
+class FragmentError(Error):
+    """A list, rows, an exact number, an identifier or a keyword for the place `place` can't be written.
+
+    `fault` says why, `in_row` in which row, and `item` in which item, or name of an identifier; if there is none they
+    are 0.
+    """
+
+    number = 17
+    place: int
+    fault: Fault
+    in_row: int
+    item: int
+    _fields: tuple[str, ...] = ("place", "fault", "in_row", "item")
+    _text = "Fragment at place {place} can't be written"
+    name: Optional[str] = None
+    """The name that stands in that place. None for a ``?``."""
+
+    def _more(self) -> str:
+        fault = _FAULTS[self.fault].format(in_row=self.in_row, item=self.item)
+        return f": {fault}" if self.name is None else f": {fault}: the value of `:{self.name}`"
+
+
 _ERRORS: dict[int, type[Error]] = {
     error.number: error
     for error in (
@@ -277,5 +336,6 @@ _ERRORS: dict[int, type[Error]] = {
         FloatError,
         UnsteadyError,
         UnportableError,
+        FragmentError,
     )
 }

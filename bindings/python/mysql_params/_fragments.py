@@ -1,0 +1,162 @@
+"""What stands in a place beside one value: lists, rows, exact numbers, identifiers and keywords."""
+
+from __future__ import annotations
+
+import datetime
+import decimal
+from collections.abc import Iterable
+from typing import Optional, Union
+
+from . import _form
+from ._values import decimal_text, plain
+
+# The types of the flat form that are no column types: see mysql_params_bind_fragments in mysql_params.h.
+_NUMBER, _LIST, _ROWS, _IDENTIFIER, _QUALIFIED, _KEYWORD = range(128, 134)
+
+
+class Identifier:
+    """The name of a table or a column, and before it that of what it is in: ``Identifier("db", "t")``.
+
+    It is written in backquotes, each of which in a name is doubled: ``Identifier("a`b")`` is the column of this name.
+    A point in a name is a part of it.
+
+    >>> import mysql_params
+    >>> mysql_params.bind("SELECT ? FROM ?", [Identifier("name"), Identifier("shop", "customer")])
+    b'SELECT `name` FROM `shop`.`customer`'
+    """
+
+    __slots__ = ("parts",)
+    parts: tuple[str, ...]
+    """The names."""
+
+    def __init__(self, *parts: str) -> None:
+        """Take the names, of which there is at least one."""
+        if not parts or not all(isinstance(part, str) for part in parts):
+            raise TypeError("an Identifier is made of one or more names, which are str")
+        self.parts = parts
+
+    def __repr__(self) -> str:
+        return f"Identifier({', '.join(map(repr, self.parts))})"
+
+
+class Keyword:
+    """One of the keywords that stand in your program, chosen at run time: ``Keyword(order, among=("ASC", "DESC"))``.
+
+    A word that isn't among them is a ValueError, so that no text from outside gets into a query. What the archive
+    writes is fixed too: bindings/README.md lists it, and others are a FragmentError.
+
+    >>> import mysql_params
+    >>> mysql_params.bind("SELECT a FROM t ORDER BY a ?", [Keyword("DESC", among=("ASC", "DESC"))])
+    b'SELECT a FROM t ORDER BY a DESC'
+    """
+
+    __slots__ = ("word",)
+    word: str
+    """The keyword."""
+
+    def __init__(self, word: str, among: Iterable[str]) -> None:
+        """Take the keyword, and those that it has to be among."""
+        if not isinstance(word, str) or isinstance(among, str):
+            raise TypeError("a Keyword is a str, and among are several")
+        choice = tuple(among)
+        if word not in choice:
+            raise ValueError(f"{word!r} is none of the keywords {', '.join(map(repr, choice))}")
+        self.word = word
+
+    def __repr__(self) -> str:
+        return f"Keyword({self.word!r}, among=({self.word!r},))"
+
+
+_FRAGMENTS = (decimal.Decimal, list, tuple, Identifier, Keyword)
+"""The types of what isn't one value."""
+
+
+def _text(text: str, which: Union[bytes, int]) -> bytes:
+    """Return a text as a length-encoded string."""
+    try:
+        return _form.string_form(str.encode(text))
+    except UnicodeEncodeError as fault:
+        raise UnicodeEncodeError(
+            fault.encoding, fault.object, fault.start, fault.end, f"{fault.reason}, in {_form.place(which)}"
+        ) from None
+
+
+def _count(number: int) -> bytes:
+    """Return the count of what follows it."""
+    return number.to_bytes(4, "little")
+
+
+def _number(value: decimal.Decimal, which: Union[bytes, int]) -> bytes:
+    """Return type, flags and text of an exact number."""
+    try:
+        return bytes([_NUMBER, 0]) + _text(decimal_text(value), which)
+    except ValueError as fault:
+        raise ValueError(f"{_form.place(which)}: {fault}") from None
+
+
+def _item(value: object, which: Union[bytes, int], zone: Optional[datetime.tzinfo]) -> bytes:
+    """Return type, flags and value of an item of a list or a row."""
+    value = plain(value)
+    if isinstance(value, decimal.Decimal):
+        return _number(value, which)
+    if isinstance(value, (list, tuple)):
+        raise TypeError(f"{_form.place(which)} has a {type(value).__name__} in a row: rows are of values")
+    return _form.value_form(value, which, zone)
+
+
+def _items(values: Iterable[object], which: Union[bytes, int], zone: Optional[datetime.tzinfo]) -> bytes:
+    """Return the count of items, and these."""
+    items = [_item(value, which, zone) for value in values]
+    return _count(len(items)) + b"".join(items)
+
+
+def _list(
+    values: Union[list[object], tuple[object, ...]], which: Union[bytes, int], zone: Optional[datetime.tzinfo]
+) -> bytes:
+    """Return type, flags and items of a list, or rows of lists and tuples."""
+    rows = [value for value in values if isinstance(value, (list, tuple))]
+    if not rows:
+        return bytes([_LIST, 0]) + _items(values, which, zone)
+    if len(rows) < len(values):
+        raise TypeError(f"{_form.place(which)} has rows and values: give a list of values, or one of rows alone")
+    return bytes([_ROWS, 0]) + _count(len(rows)) + b"".join([_items(row, which, zone) for row in rows])
+
+
+def fragment_form(value: object, which: Union[bytes, int], zone: Optional[datetime.tzinfo]) -> Optional[bytes]:
+    """Return type, flags and the rest of what isn't one value; None of one value, and of what is none of these."""
+    if not issubclass(type(value), _FRAGMENTS):
+        return None  # Its `__class__` may say otherwise.
+    if isinstance(value, decimal.Decimal):
+        return _number(value, which)
+    if isinstance(value, (list, tuple)):
+        return _list(value, which, zone)
+    if isinstance(value, Identifier):
+        if len(value.parts) == 1:
+            return bytes([_IDENTIFIER, 0]) + _text(value.parts[0], which)
+        names = [_text(part, which) for part in value.parts]
+        return bytes([_QUALIFIED, 0]) + _count(len(names)) + b"".join(names)
+    if isinstance(value, Keyword):
+        return bytes([_KEYWORD, 0]) + _text(value.word, which)
+    return None
+
+
+class _Fragments:
+    """Parameters that are written, and whether one of them is no single value."""
+
+    def __init__(self, zone: Optional[datetime.tzinfo]) -> None:
+        self.zone, self.any = zone, False
+
+    def form(self, value: object, which: Union[bytes, int]) -> bytes:
+        """Return type, flags and the rest of what stands in a place."""
+        value = plain(value)
+        made = fragment_form(value, which, self.zone)
+        if made is None:
+            return _form.value_form(value, which, self.zone)
+        self.any = True
+        return made
+
+
+def fragments_form_of(params: object, zone: Optional[datetime.tzinfo] = None) -> tuple[bytes, bool]:
+    """Return the flat form of parameters, and whether one of them is no single value. The zone is as for bind."""
+    fragments = _Fragments(_form.zone_of(zone))
+    return _form.form_by(params, fragments.form), fragments.any
