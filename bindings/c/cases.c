@@ -115,8 +115,89 @@ static bool append_time(mysql_params_form *form, const char *name, const char *v
     return mysql_params_append_time(form, name, time);
 }
 
+static bool append_value(mysql_params_form *form, const char *name, const char *value);
+
+/* Appends the items that stand between `|`; none of no text. It cuts the text. */
+static void append_items(mysql_params_form *form, char *items)
+{
+    while (items != NULL && *items != '\0') {
+        char *next = strchr(items, '|');
+        if (next != NULL)
+            *next++ = '\0';
+        append_value(form, NULL, items);
+        items = next;
+    }
+}
+
+/* Appends the rows that stand between `||`. It cuts the text. */
+static bool append_rows(mysql_params_form *form, const char *name, char *rows)
+{
+    mysql_params_begin_rows(form, name);
+    while (rows != NULL) {
+        char *next = strstr(rows, "||");
+        if (next != NULL) {
+            *next = '\0';
+            next += 2;
+        }
+        mysql_params_begin_row(form);
+        append_items(form, rows);
+        mysql_params_end_row(form);
+        rows = next;
+    }
+    return mysql_params_end_rows(form);
+}
+
+/* Appends a qualified identifier, whose two names stand before and after `|`. */
+static bool append_qualified(mysql_params_form *form, const char *name, const char *value)
+{
+    bytes text = {NULL, 0};
+    append_text(&text, value);
+    char *second = strchr((char *)text.at, '|');
+    if (second == NULL)
+        stop("two names are wanted");
+    *second++ = '\0';
+    const char *const names[] = {(const char *)text.at, second};
+    bool fits = mysql_params_append_qualified(form, name, names, 2);
+    clear_bytes(&text);
+    return fits;
+}
+
+/* Appends an identifier or a keyword. */
+static bool append_word(mysql_params_form *form, const char *name, const char *value, bool is_keyword)
+{
+    bytes text = {NULL, 0};
+    append_text(&text, value);
+    const char *word = (const char *)text.at;
+    bool fits = is_keyword ? mysql_params_append_keyword(form, name, word) :
+                             mysql_params_append_identifier(form, name, word);
+    clear_bytes(&text);
+    return fits;
+}
+
+/* Appends what isn't one value to the form. */
+static bool append_fragment(mysql_params_form *form, const char *name, const char *value)
+{
+    char copy[512];
+    snprintf(copy, sizeof copy, "%s", strchr(value, ':') + 1);
+    if (begins(value, "list:")) {
+        mysql_params_begin_list(form, name);
+        append_items(form, copy);
+        return mysql_params_end_list(form);
+    }
+    if (begins(value, "rows:"))
+        return append_rows(form, name, copy);
+    if (begins(value, "qualified:"))
+        return append_qualified(form, name, copy);
+    return append_word(form, name, copy, begins(value, "keyword:"));
+}
+
 static bool append_value(mysql_params_form *form, const char *name, const char *value)
 {
+    if (begins(value, "list:") || begins(value, "rows:") || begins(value, "identifier:") ||
+        begins(value, "qualified:") || begins(value, "keyword:"))
+        return append_fragment(form, name, value);
+    if (begins(value, "d:"))
+        return mysql_params_append_decimal(form, name, value + 2);
     if (strcmp(value, "null") == 0)
         return mysql_params_append_null(form, name);
     if (begins(value, "i:"))
@@ -156,7 +237,7 @@ static void append_param(bytes *to, char *param)
 static const char *const NUMBERS[] = {
     "DONE", "OUT_OF_MEMORY", "ROOM", "FORM_END", "FORM_LENGTH_LEAD", "FORM_TYPE", "FORM_MIXED", "FORM_REPEATED", "MIXED",
     "MISSING", "NAMED_FOR_POSITIONAL", "POSITIONAL_FOR_NAMED", "MARK_COUNT", "NOT_ALONE", "FLOAT",
-    "UNSTEADY", "UNPORTABLE"};
+    "UNSTEADY", "UNPORTABLE", "FAULT"};
 
 /* The number of a name: its index in the names, from first to last. */
 static int32_t index_of(const char *name, const char *const *names, int32_t first, int32_t last)
@@ -170,7 +251,7 @@ static int32_t index_of(const char *name, const char *const *names, int32_t firs
 
 static int32_t number_of(const char *name)
 {
-    return index_of(name, NUMBERS, 0, MYSQL_PARAMS_UNPORTABLE);
+    return index_of(name, NUMBERS, 0, MYSQL_PARAMS_FAULT);
 }
 
 /* Reads one FIELD=VALUE of a refusal or a construct. What Rust and Python tell alone is read over. */

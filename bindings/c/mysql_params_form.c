@@ -20,6 +20,16 @@ enum {
     TYPE_VAR_STRING = 253
 };
 
+/* Numbers of the types that mysql_params_bind_fragments alone takes. */
+enum {
+    TYPE_NUMBER = 128,
+    TYPE_LIST = 129,
+    TYPE_ROWS = 130,
+    TYPE_IDENTIFIER = 131,
+    TYPE_QUALIFIED = 132,
+    TYPE_KEYWORD = 133
+};
+
 /* Bit of the flags that says unsigned. */
 enum { FLAG_UNSIGNED = 128 };
 
@@ -33,7 +43,7 @@ mysql_params_form mysql_params_form_in(uint8_t *room, size_t room_len)
 {
     /* Lent if no memory is given, since mysql_params_bind takes no null. Its length is 0, so it is never written. */
     static uint8_t nothing;
-    mysql_params_form form = {room == NULL ? &nothing : room, room == NULL ? 0 : room_len, 0, 0, false};
+    mysql_params_form form = {room == NULL ? &nothing : room, room == NULL ? 0 : room_len, 0, 0, false, 0, 0, 0, 0};
     return form;
 }
 
@@ -111,13 +121,17 @@ static void append(mysql_params_form *form, const void *bytes, size_t len)
     form->len += len;
 }
 
-/* Appends a parameter: name, type, flags, then `head` and `tail`, which are its value in binary form. */
+/* Appends a parameter: name, type, flags, then `head` and `tail`, which are its value in binary form. An item of a list has
+ * no name. */
 static bool append_parameter(mysql_params_form *form, const char *name, uint8_t type, uint8_t flags,
                              const uint8_t *head, size_t head_len, const void *tail, size_t tail_len)
 {
     uint8_t length[LENGTH_ROOM];
-    size_t name_len = name == NULL ? 0 : strlen(name);
-    size_t length_len = fill_length(length, name_len);
+    bool is_item = form->list_at > 0;
+    size_t name_len = name == NULL || is_item ? 0 : strlen(name);
+    size_t length_len = is_item ? 0 : fill_length(length, name_len);
+    if (is_item)
+        form->items++;
     if (!makes_room(form, sum(sum(length_len + 2 + head_len, name_len), tail_len)))
         return false;
     const uint8_t type_and_flags[2] = {type, flags};
@@ -197,6 +211,112 @@ bool mysql_params_append_double(mysql_params_form *form, const char *name, doubl
     memcpy(&bits, &number, sizeof bits);
     fill_number(value, 8, bits);
     return append_parameter(form, name, TYPE_DOUBLE, 0, value, 8, NULL, 0);
+}
+
+/* Appends a parameter whose value is a text that a zero byte ends. */
+static bool append_string(mysql_params_form *form, const char *name, uint8_t type, const char *text)
+{
+    uint8_t length[LENGTH_ROOM];
+    size_t length_len = fill_length(length, strlen(text));
+    return append_parameter(form, name, type, 0, length, length_len, text, strlen(text));
+}
+
+bool mysql_params_append_decimal(mysql_params_form *form, const char *name, const char *digits)
+{
+    return append_string(form, name, TYPE_NUMBER, digits);
+}
+
+bool mysql_params_append_identifier(mysql_params_form *form, const char *name, const char *identifier)
+{
+    return append_string(form, name, TYPE_IDENTIFIER, identifier);
+}
+
+bool mysql_params_append_keyword(mysql_params_form *form, const char *name, const char *keyword)
+{
+    return append_string(form, name, TYPE_KEYWORD, keyword);
+}
+
+bool mysql_params_append_qualified(mysql_params_form *form, const char *name, const char *const *identifiers,
+                                   uint32_t count)
+{
+    uint8_t number[4];
+    fill_number(number, 4, count);
+    bool fits = append_parameter(form, name, TYPE_QUALIFIED, 0, number, 4, NULL, 0);
+    for (uint32_t i = 0; i < count; i++) {
+        uint8_t length[LENGTH_ROOM];
+        size_t len = strlen(identifiers[i]);
+        size_t length_len = fill_length(length, len);
+        fits = makes_room(form, sum(length_len, len));
+        if (fits) {
+            append(form, length, length_len);
+            append(form, identifiers[i], len);
+        }
+    }
+    return fits;
+}
+
+/* Where the count that was appended last stands. If it didn't fit, it is past the room, and never written. */
+static size_t count_place(const mysql_params_form *form)
+{
+    return form->needed == SIZE_MAX ? SIZE_MAX : form->needed - 4;
+}
+
+/* Writes a count into its place, if the form is whole. */
+static bool fill_count(mysql_params_form *form, size_t at, uint32_t count)
+{
+    bool fits = form->needed == form->len;
+    if (fits && at > 0)
+        fill_number(form->room + at, 4, count);
+    return fits;
+}
+
+bool mysql_params_begin_list(mysql_params_form *form, const char *name)
+{
+    const uint8_t count[4] = {0, 0, 0, 0};
+    bool fits = append_parameter(form, name, TYPE_LIST, 0, count, 4, NULL, 0);
+    form->list_at = count_place(form);
+    form->items = 0;
+    return fits;
+}
+
+bool mysql_params_end_list(mysql_params_form *form)
+{
+    bool fits = fill_count(form, form->list_at, form->items);
+    form->list_at = 0;
+    return fits;
+}
+
+bool mysql_params_begin_rows(mysql_params_form *form, const char *name)
+{
+    const uint8_t count[4] = {0, 0, 0, 0};
+    bool fits = append_parameter(form, name, TYPE_ROWS, 0, count, 4, NULL, 0);
+    form->rows_at = count_place(form);
+    form->rows = 0;
+    return fits;
+}
+
+bool mysql_params_begin_row(mysql_params_form *form)
+{
+    const uint8_t count[4] = {0, 0, 0, 0};
+    bool fits = makes_room(form, 4);
+    if (fits)
+        append(form, count, 4);
+    form->list_at = count_place(form);
+    form->items = 0;
+    form->rows++;
+    return fits;
+}
+
+bool mysql_params_end_row(mysql_params_form *form)
+{
+    return mysql_params_end_list(form);
+}
+
+bool mysql_params_end_rows(mysql_params_form *form)
+{
+    bool fits = fill_count(form, form->rows_at, form->rows);
+    form->rows_at = 0;
+    return fits;
 }
 
 bool mysql_params_append_row(mysql_params_form *forms, const mysql_params_form *row)
@@ -456,6 +576,43 @@ static void append_unportable(line *to, const mysql_params_report *report)
     append_text(to, "%s", construct == NULL ? "unknown construct" : construct);
 }
 
+/* Appends the message of what can't be written. */
+static void append_fault(line *to, const mysql_params_report *report)
+{
+    append_text(to, "Fragment at place %zu can't be written: ", report->place);
+    switch (report->byte) {
+    case MYSQL_PARAMS_FAULT_EMPTY:
+        append_text(to, "it is empty");
+        return;
+    case MYSQL_PARAMS_FAULT_EMPTY_ROW:
+        append_text(to, "row %zu is empty", report->position);
+        return;
+    case MYSQL_PARAMS_FAULT_ROW_LENGTH:
+        append_text(to, "row %zu is not as long as the first", report->position);
+        return;
+    case MYSQL_PARAMS_FAULT_NUMBER:
+        append_text(to, "item %zu of row %zu is no exact number", report->values, report->position);
+        return;
+    case MYSQL_PARAMS_FAULT_EMPTY_NAME:
+        append_text(to, "name %zu is empty", report->values);
+        return;
+    case MYSQL_PARAMS_FAULT_ZERO_BYTE:
+        append_text(to, "name %zu has a byte 0", report->values);
+        return;
+    case MYSQL_PARAMS_FAULT_LONG_NAME:
+        append_text(to, "name %zu has more than 64 characters", report->values);
+        return;
+    case MYSQL_PARAMS_FAULT_TRAILING_SPACE:
+        append_text(to, "name %zu ends in a space", report->values);
+        return;
+    case MYSQL_PARAMS_FAULT_KEYWORD:
+        append_text(to, "it is no keyword");
+        return;
+    default:
+        append_text(to, "unknown fault");
+    }
+}
+
 /* Appends the message of any number. */
 static void append_message(line *to, int32_t number, const mysql_params_report *report,
                            const uint8_t *source, size_t source_len)
@@ -472,6 +629,8 @@ static void append_message(line *to, int32_t number, const mysql_params_report *
         append_text(to, "%s", fixed);
     } else if (number == MYSQL_PARAMS_UNPORTABLE) {
         append_unportable(to, report);
+    } else if (number == MYSQL_PARAMS_FAULT) {
+        append_fault(to, report);
     } else {
         append_of_numbers(to, number, report);
     }
@@ -533,8 +692,13 @@ const char *mysql_params_construct_message(int32_t construct)
     }
 }
 
-int32_t mysql_params_bind_form(const uint8_t *query, size_t query_len, const mysql_params_form *form,
-                               bool no_backslash_escape, char **text, mysql_params_report *report)
+/* Either call that binds by a mode. */
+typedef int32_t bind_call(const uint8_t *query, size_t query_len, const uint8_t *form, size_t form_len,
+                          bool no_backslash_escape, uint8_t *room, size_t room_len, mysql_params_report *report);
+
+/* Binds by a call, into memory of malloc. */
+static int32_t bind_into_memory(bind_call *bind, const uint8_t *query, size_t query_len, const mysql_params_form *form,
+                                bool no_backslash_escape, char **text, mysql_params_report *report)
 {
     mysql_params_report nothing = {0, 0, 0, 0, 0, 0};
     /* A literal of bytes has at most twice their number, and quotes; and the zero byte. */
@@ -548,8 +712,7 @@ int32_t mysql_params_bind_form(const uint8_t *query, size_t query_len, const mys
         if (room == NULL)
             return MYSQL_PARAMS_OUT_OF_MEMORY;
         memset(room, 0, room_len);
-        int32_t number = mysql_params_bind(query, query_len, form->room, form->len, no_backslash_escape, room,
-                                           room_len - 1, report);
+        int32_t number = bind(query, query_len, form->room, form->len, no_backslash_escape, room, room_len - 1, report);
         if (number == MYSQL_PARAMS_DONE) {
             *text = (char *)room;
             return number;
@@ -560,6 +723,18 @@ int32_t mysql_params_bind_form(const uint8_t *query, size_t query_len, const mys
         room_len = sum(report->len, 1);
         *report = nothing;
     }
+}
+
+int32_t mysql_params_bind_form(const uint8_t *query, size_t query_len, const mysql_params_form *form,
+                               bool no_backslash_escape, char **text, mysql_params_report *report)
+{
+    return bind_into_memory(mysql_params_bind, query, query_len, form, no_backslash_escape, text, report);
+}
+
+int32_t mysql_params_bind_fragments_form(const uint8_t *query, size_t query_len, const mysql_params_form *form,
+                                         bool no_backslash_escape, char **text, mysql_params_report *report)
+{
+    return bind_into_memory(mysql_params_bind_fragments, query, query_len, form, no_backslash_escape, text, report);
 }
 
 bool mysql_params_processor_suffices(void)

@@ -24,6 +24,12 @@ typedef struct mysql_params_form {
     size_t needed;
     /* Whether the memory is the form's own, of `malloc`, and grows. */
     bool grows;
+    /* The functions' own: where the counts of the rows and of the list that are open stand, and what is in them; 0 if none
+     * is open, since no count stands at the front. */
+    size_t rows_at;
+    size_t list_at;
+    uint32_t rows;
+    uint32_t items;
 } mysql_params_form;
 
 /* A date with its time of day. Fields stand in the literal as they are, also a month 0 or 255; a time of day that is all
@@ -91,6 +97,43 @@ bool mysql_params_append_time(mysql_params_form *form, const char *name, mysql_p
  * decimal append its text, and write CAST(:p AS DECIMAL(20,2)) in the query: a text in arithmetic is computed as a
  * double. */
 bool mysql_params_append_double(mysql_params_form *form, const char *name, double number);
+
+/* The functions below append what mysql_params_bind_fragments alone takes. Each returns as those above. */
+
+/* Appends an exact number, as "-1.50" or a whole number of any length. It may stand in a list. */
+bool mysql_params_append_decimal(mysql_params_form *form, const char *name, const char *digits);
+
+/* Appends the name of a table or a column. */
+bool mysql_params_append_identifier(mysql_params_form *form, const char *name, const char *identifier);
+
+/* Appends the name of what is in something else, as a table in a database: `count` names, of which the last is its own. */
+bool mysql_params_append_qualified(mysql_params_form *form, const char *name, const char *const *identifiers,
+                                   uint32_t count);
+
+/* Appends a keyword that your program has, as "DESC": never a text from outside. */
+bool mysql_params_append_keyword(mysql_params_form *form, const char *name, const char *keyword);
+
+/* Begins a list. Then append its items by the functions above, without a name, and end it. No list stands in a list. */
+bool mysql_params_begin_list(mysql_params_form *form, const char *name);
+
+/* Ends a list. */
+bool mysql_params_end_list(mysql_params_form *form);
+
+/* Begins rows. Then begin each row, append its items, and end it; then end the rows. */
+bool mysql_params_begin_rows(mysql_params_form *form, const char *name);
+
+/* Begins a row. */
+bool mysql_params_begin_row(mysql_params_form *form);
+
+/* Ends a row. */
+bool mysql_params_end_row(mysql_params_form *form);
+
+/* Ends rows. */
+bool mysql_params_end_rows(mysql_params_form *form);
+
+/* Binds as mysql_params_bind_fragments, as mysql_params_bind_form binds by mysql_params_bind. */
+int32_t mysql_params_bind_fragments_form(const uint8_t *query, size_t query_len, const mysql_params_form *form,
+                                         bool no_backslash_escape, char **text, mysql_params_report *report);
 
 /* Binds as mysql_params_bind, into memory of `malloc`: `*text` gets the text, `report->len` bytes and a zero byte after
  * them, which the caller gives back by `free`; null unless the number is MYSQL_PARAMS_DONE. It never returns

@@ -100,8 +100,8 @@ typedef struct outcome {
     size_t room_len;
 } outcome;
 
-/* The call to try: of names, of binding in a mode, or of binding for any server. */
-static enum { NAMES, BIND, BIND_ANYWHERE } tried;
+/* The call to try: of names, of binding values or fragments in a mode, or of binding for any server. */
+static enum { NAMES, BIND, BIND_FRAGMENTS, BIND_ANYWHERE } tried;
 
 /* How many allocations of a call succeed: all of them. */
 enum { ALL = -1 };
@@ -123,6 +123,9 @@ static outcome call(const test_case *it, size_t room_len, long allocations)
         is.number = mysql_params_names(query, it->query.len, mode, is.room, room_len, &is.report);
     else if (tried == BIND_ANYWHERE)
         is.number = mysql_params_bind_anywhere(query, it->query.len, form, it->form.len, is.room, room_len, &is.report);
+    else if (tried == BIND_FRAGMENTS)
+        is.number = mysql_params_bind_fragments(query, it->query.len, form, it->form.len, mode, is.room, room_len,
+                                                &is.report);
     else
         is.number = mysql_params_bind(query, it->query.len, form, it->form.len, mode, is.room, room_len, &is.report);
     allocations_left = ALL;
@@ -198,6 +201,14 @@ static void table_of_steady_binding(void)
 static void flat_forms(void)
 {
     tried = BIND;
+    each_case(folder, "forms.txt", try_rooms);
+}
+
+/* Also what is bound by mysql_params_bind is bound alike: values are fragments. */
+static void table_of_fragments(void)
+{
+    tried = BIND_FRAGMENTS;
+    each_case(folder, "fragments.txt", try_rooms);
     each_case(folder, "forms.txt", try_rooms);
 }
 
@@ -629,6 +640,62 @@ static void texts_that_are_refused(void)
     mysql_params_form_free(&form);
 }
 
+/* Appends a list of numbers, and rows of one item each. */
+static bool append_lists(mysql_params_form *form, int64_t count)
+{
+    mysql_params_begin_list(form, "ids");
+    for (int64_t i = 0; i < count; i++)
+        mysql_params_append_int(form, "no name in a list", i);
+    mysql_params_end_list(form);
+    mysql_params_begin_rows(form, "rows");
+    for (int64_t i = 0; i < count; i++) {
+        mysql_params_begin_row(form);
+        mysql_params_append_decimal(form, NULL, "0.5");
+        mysql_params_end_row(form);
+    }
+    return mysql_params_end_rows(form);
+}
+
+/* A form that grows has the text of its lists; one in each shorter room takes them not, and counts what they need. */
+static void forms_of_lists(void)
+{
+    static const uint8_t query[] = ":ids; :rows";
+    test_case it = {0};
+    char *text = NULL;
+    mysql_params_report report = {0};
+    mysql_params_form form = mysql_params_form_growing();
+    expect(append_lists(&form, 3), &it, "lists don't fit a form that grows");
+    int32_t number = mysql_params_bind_fragments_form(query, sizeof query - 1, &form, false, &text, &report);
+    expect(number == MYSQL_PARAMS_DONE && strcmp(text, "0, 1, 2; (0.5), (0.5), (0.5)") == 0, &it, "another text is wanted");
+    free(text);
+    for (size_t len = 0; len < form.len; len++) {
+        uint8_t room[256];
+        it.line = (int)len;
+        memset(room, UNTOUCHED, sizeof room);
+        mysql_params_form cut = mysql_params_form_in(room, len);
+        expect(!append_lists(&cut, 3) && cut.needed == form.needed, &it, "another need is wanted");
+        expect(is_untouched(room, cut.len, sizeof room), &it, "the room is written after what fits");
+        number = mysql_params_bind_fragments_form(query, sizeof query - 1, &cut, false, &text, &report);
+        expect(number == MYSQL_PARAMS_OUT_OF_MEMORY && text == NULL, &it, "a cut form is bound");
+    }
+    mysql_params_form_free(&form);
+    append_lists(&form, 40000);
+    number = mysql_params_bind_fragments_form(query, sizeof query - 1, &form, false, &text, &report);
+    expect(number == MYSQL_PARAMS_DONE && strncmp(text, "0, 1, 2, 3", 10) == 0, &it, "a long list is wanted");
+    free(text);
+    mysql_params_form_free(&form);
+    form = mysql_params_form_growing();
+    mysql_params_append_identifier(&form, "ids", "a\0b");
+    mysql_params_append_keyword(&form, "rows", "LOCK IN SHARE MODE");
+    number = mysql_params_bind_fragments_form(query, sizeof query - 1, &form, false, &text, &report);
+    expect(number == MYSQL_PARAMS_DONE && strcmp(text, "`a`; LOCK IN SHARE MODE") == 0, &it, "a keyword is wanted");
+    free(text);
+    /* Such a form isn't one of values. */
+    number = mysql_params_bind_form(query, sizeof query - 1, &form, false, &text, &report);
+    expect(number == MYSQL_PARAMS_FORM_TYPE && report.byte == 131, &it, "an identifier is a value");
+    mysql_params_form_free(&form);
+}
+
 /* Answers that end within a string, or begin with no length. */
 static void broken_answers(void)
 {
@@ -677,7 +744,8 @@ static void other_messages(void)
         {MYSQL_PARAMS_ROOM, "The answer needs room for 7 bytes"},
         {MYSQL_PARAMS_MISSING, "Missing named parameter `` for statement"},
         {MYSQL_PARAMS_UNPORTABLE, "Not portable at byte 0 of the query: unknown construct"},
-        {MYSQL_PARAMS_UNPORTABLE + 1, "Unknown number 17"},
+        {MYSQL_PARAMS_FAULT, "Fragment at place 0 can't be written: unknown fault"},
+        {MYSQL_PARAMS_FAULT + 1, "Unknown number 18"},
         {-1, "Unknown number -1"},
     };
     mysql_params_report report = {0};
@@ -746,6 +814,8 @@ static void out_of_memory(void)
     tried = BIND;
     each_case(folder, "bind.txt", try_without_memory);
     each_case(folder, "forms.txt", try_without_memory);
+    tried = BIND_FRAGMENTS;
+    each_case(folder, "fragments.txt", try_without_memory);
     tried = BIND_ANYWHERE;
     each_case(folder, "anywhere.txt", try_without_memory);
     tried = NAMES;
@@ -780,6 +850,8 @@ int main(int count, char **words)
     bool all = passed("table_of_binding", table_of_binding);
     all &= passed("table_of_steady_binding", table_of_steady_binding);
     all &= passed("flat_forms", flat_forms);
+    all &= passed("table_of_fragments", table_of_fragments);
+    all &= passed("forms_of_lists", forms_of_lists);
     all &= passed("names_of_queries", names_of_queries);
     all &= passed("rows_of_queries", rows_of_queries);
     all &= passed("rows_in_growing_memory", rows_in_growing_memory);

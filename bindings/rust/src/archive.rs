@@ -1,5 +1,5 @@
 //! The calls of the archive, and their answers.
-use crate::{Construct, Error, Unportable, names_in, words};
+use crate::{Construct, Error, Fault, Unportable, names_in, words};
 use std::arch::is_x86_feature_detected;
 
 /// What a call says beside its number: `mysql_params_report` of mysql_params.h.
@@ -35,6 +35,17 @@ unsafe extern "C" {
     ) -> i32;
 
     fn mysql_params_bind(
+        query: *const u8,
+        query_len: usize,
+        form: *const u8,
+        form_len: usize,
+        no_backslash_escape: bool,
+        room: *mut u8,
+        room_len: usize,
+        report: *mut Report,
+    ) -> i32;
+
+    fn mysql_params_bind_fragments(
         query: *const u8,
         query_len: usize,
         form: *const u8,
@@ -107,7 +118,9 @@ pub(crate) enum Call<'a> {
     Names { query: &'a [u8] },
     /// A query and the form of its parameters.
     Bind { query: &'a [u8], form: &'a [u8] },
-    /// The same, for any server. It has no mode.
+    /// A query and the form of its fragments.
+    BindFragments { query: &'a [u8], form: &'a [u8] },
+    /// As `Bind`, for any server. It has no mode.
     BindAnywhere { query: &'a [u8], form: &'a [u8] },
 }
 
@@ -142,6 +155,19 @@ impl Call<'_> {
                 )
             },
             // SAFETY: the same.
+            Call::BindFragments { query, form } => unsafe {
+                mysql_params_bind_fragments(
+                    query.as_ptr(),
+                    query.len(),
+                    form.as_ptr(),
+                    form.len(),
+                    no_backslash_escape,
+                    room.as_mut_ptr(),
+                    room.len(),
+                    &mut report,
+                )
+            },
+            // SAFETY: the same.
             Call::BindAnywhere { query, form } => unsafe {
                 mysql_params_bind_anywhere(
                     query.as_ptr(),
@@ -160,16 +186,23 @@ impl Call<'_> {
     /// The query.
     fn query(&self) -> &[u8] {
         match self {
-            Call::Names { query } | Call::Bind { query, .. } | Call::BindAnywhere { query, .. } => {
-                query
-            }
+            Call::Names { query }
+            | Call::Bind { query, .. }
+            | Call::BindFragments { query, .. }
+            | Call::BindAnywhere { query, .. } => query,
         }
     }
 
     /// The bytes of the query or the form that a report tells.
     fn name(self, number: i32, report: &Report) -> Result<Vec<u8>, Error> {
         let source = match self {
-            Call::Bind { form, .. } | Call::BindAnywhere { form, .. } if number == 7 => form,
+            Call::Bind { form, .. }
+            | Call::BindFragments { form, .. }
+            | Call::BindAnywhere { form, .. }
+                if number == 7 =>
+            {
+                form
+            }
             _ => self.query(),
         };
         let end = report.position.checked_add(report.len);
@@ -183,10 +216,10 @@ impl Call<'_> {
             .unwrap_or_else(|other| other)
     }
 
-    /// The same in a mode, a float with the name of its place.
+    /// The same in a mode, a float or a fault with the name of its place.
     fn error_in(self, number: i32, report: &Report, no_backslash_escape: bool) -> Error {
         let mut error = self.error(number, report);
-        if let Error::Float { place, name } = &mut error {
+        if let Error::Float { place, name } | Error::Fault { place, name, .. } = &mut error {
             match names_in(self.query(), no_backslash_escape) {
                 Ok(found) => *name = found.names.into_iter().nth(*place),
                 Err(other) => return other,
@@ -255,6 +288,14 @@ impl Call<'_> {
                     construct: construct.ok_or(Error::UnknownAnswer { number })?,
                     position,
                 })
+            }
+            17 => {
+                let fault = Fault::of_number(byte()?, position, values);
+                Error::Fault {
+                    place,
+                    fault: fault.ok_or(Error::UnknownAnswer { number })?,
+                    name: None,
+                }
             }
             _ => return Err(Error::UnknownAnswer { number }),
         })

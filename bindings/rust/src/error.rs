@@ -1,5 +1,5 @@
 //! Refusals, and their messages.
-use crate::{Unportable, words};
+use crate::{Fault, Unportable, words};
 use std::fmt;
 
 /// Why a query is refused. Numbers of places, parameters and bytes begin at 0.
@@ -112,6 +112,15 @@ pub enum Error {
     },
     /// The query isn't portable; told is the first construct.
     Unportable(Unportable),
+    /// What is given for a place can't be written. It is of [`bind_fragments`](crate::bind_fragments) alone.
+    Fault {
+        /// Number of the place.
+        place: usize,
+        /// What is wrong with it.
+        fault: Fault,
+        /// The name that stands in that place; none for a `?`.
+        name: Option<String>,
+    },
     /// The archive answered what this crate doesn't know: it is not the archive that this crate was written for.
     UnknownAnswer {
         /// The number that it returned.
@@ -173,6 +182,7 @@ impl Error {
             Error::Float { .. } => 14,
             Error::Unsteady { .. } => 15,
             Error::Unportable(_) => 16,
+            Error::Fault { .. } => 17,
             Error::UnknownAnswer { number } => *number,
         })
     }
@@ -268,6 +278,13 @@ impl fmt::Display for Error {
                     f,
                     "Not portable at byte {position} of the query: {construct}"
                 )
+            }
+            Error::Fault { place, fault, name } => {
+                write!(f, "Fragment at place {place} can't be written: {fault}")?;
+                match name {
+                    Some(name) => write!(f, ": the value of `:{name}`"),
+                    None => Ok(()),
+                }
             }
             Error::UnknownAnswer { number } => write!(f, "Unknown answer {number} of the archive"),
         }

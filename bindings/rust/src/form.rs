@@ -1,5 +1,5 @@
 //! The flat form: parameters as the archive reads them, and length-encoded strings.
-use crate::{Date, Error, Params, Time, Value};
+use crate::{Date, Error, Fragment, Fragments, Item, Params, Time, Value};
 
 /// Numbers of column types in the protocol.
 const FLOAT: u8 = 4;
@@ -9,6 +9,14 @@ const LONGLONG: u8 = 8;
 const TIME: u8 = 11;
 const DATETIME: u8 = 12;
 const VAR_STRING: u8 = 253;
+
+/// Numbers of the types that [`bind_fragments`](crate::bind_fragments) alone takes.
+const NUMBER: u8 = 128;
+const LIST: u8 = 129;
+const ROWS: u8 = 130;
+const IDENTIFIER: u8 = 131;
+const QUALIFIED: u8 = 132;
+const KEYWORD: u8 = 133;
 
 /// Bit of the flags that says unsigned.
 const UNSIGNED: u8 = 128;
@@ -101,6 +109,78 @@ fn append_value(to: &mut Vec<u8>, value: &Value<'_>) -> Result<(), Error> {
         Value::Date(date) => append(to, &date_form(*date)),
         Value::Time(time) => append(to, &time_form(*time)),
     }
+}
+
+/// Appends type, flags and a text.
+fn append_text(to: &mut Vec<u8>, number: u8, text: &str) -> Result<(), Error> {
+    append(to, &[number, 0])?;
+    append_string(to, text.as_bytes())
+}
+
+/// Appends a count; one that has no form is out of memory.
+fn append_count(to: &mut Vec<u8>, count: usize) -> Result<(), Error> {
+    let count = u32::try_from(count).map_err(|_| Error::OutOfMemory)?;
+    append(to, &count.to_le_bytes())
+}
+
+/// Appends the count of items, and these.
+fn append_items(to: &mut Vec<u8>, items: &[Item<'_>]) -> Result<(), Error> {
+    append_count(to, items.len())?;
+    for item in items {
+        match item {
+            Item::Value(value) => append_value(to, value)?,
+            Item::Decimal(digits) => append_text(to, NUMBER, digits)?,
+        }
+    }
+    Ok(())
+}
+
+/// Appends type, flags and the rest of a fragment.
+fn append_fragment(to: &mut Vec<u8>, fragment: &Fragment<'_>) -> Result<(), Error> {
+    match fragment {
+        Fragment::Value(value) => append_value(to, value),
+        Fragment::Decimal(digits) => append_text(to, NUMBER, digits),
+        Fragment::Identifier(name) => append_text(to, IDENTIFIER, name),
+        Fragment::Keyword(word) => append_text(to, KEYWORD, word),
+        Fragment::List(items) => {
+            append(to, &[LIST, 0])?;
+            append_items(to, items)
+        }
+        Fragment::Rows(rows) => {
+            append(to, &[ROWS, 0])?;
+            append_count(to, rows.len())?;
+            rows.iter().try_for_each(|row| append_items(to, row))
+        }
+        Fragment::Qualified(names) => {
+            append(to, &[QUALIFIED, 0])?;
+            append_count(to, names.len())?;
+            let mut names = names.iter();
+            names.try_for_each(|name| append_string(to, name.as_bytes()))
+        }
+    }
+}
+
+/// The flat form of fragments.
+pub(crate) fn form_of_fragments(fragments: &Fragments<'_>) -> Result<Vec<u8>, Error> {
+    let mut form = Vec::new();
+    match fragments {
+        Fragments::Positional(fragments) => {
+            for fragment in *fragments {
+                append_string(&mut form, b"")?;
+                append_fragment(&mut form, fragment)?;
+            }
+        }
+        Fragments::Named(pairs) => {
+            for (parameter, (name, fragment)) in pairs.iter().enumerate() {
+                if name.is_empty() {
+                    return Err(Error::EmptyName { parameter });
+                }
+                append_string(&mut form, name.as_bytes())?;
+                append_fragment(&mut form, fragment)?;
+            }
+        }
+    }
+    Ok(form)
 }
 
 /// The flat form of parameters.

@@ -28,6 +28,7 @@ mod archive;
 mod duration;
 mod error;
 mod form;
+mod fragment;
 mod macros;
 mod portable;
 mod rows;
@@ -38,6 +39,7 @@ mod words;
 
 pub use duration::DurationTooLong;
 pub use error::Error;
+pub use fragment::{Fault, Fragment, Fragments, Item};
 pub use portable::{Construct, Unportable};
 pub use rows::{RowError, Texts, TextsIter, bind_rows, bind_rows_in};
 pub use value::{Date, Params, Time, Value};
@@ -47,6 +49,7 @@ use archive::{Call, copy_of};
 const _: () = {
     const fn is_send_and_sync<T: Send + Sync>() {}
     is_send_and_sync::<(Construct, Date, Error, Names, Params<'_>)>();
+    is_send_and_sync::<(Fault, Fragment<'_>, Fragments<'_>, Item<'_>)>();
     is_send_and_sync::<(RowError, Texts, TextsIter<'_>, Time, Unportable, Value<'_>)>();
 };
 
@@ -198,6 +201,44 @@ pub fn bind_in(
     no_backslash_escape: bool,
 ) -> Result<Vec<u8>, Error> {
     bind_form_in(query, &form::form_of(params)?, no_backslash_escape)
+}
+
+/// The query with what is given in its places, also lists, rows, exact numbers, identifiers and keywords: the text to
+/// send. Values are written as by [`bind`], and the connection and [`first_unportable`] are as there.
+///
+/// ```
+/// use mysql_params::{Fragment, Fragments, bind_fragments};
+///
+/// let given = [("ids", vec![1, 2, 3].into()), ("order", Fragment::Keyword("DESC"))];
+/// let text = bind_fragments(b"id IN (:ids) ORDER BY id :order", &Fragments::Named(&given))?;
+/// assert_eq!(text, b"id IN (1, 2, 3) ORDER BY id DESC");
+///
+/// let given = [Fragment::Identifier("t"), vec![(1, "a"), (2, "b")].into()];
+/// let text = bind_fragments(b"INSERT INTO ? VALUES ?", &Fragments::Positional(&given))?;
+/// assert_eq!(text, b"INSERT INTO `t` VALUES (1, 'a'), (2, 'b')");
+/// # Ok::<(), mysql_params::Error>(())
+/// ```
+///
+/// # Errors
+///
+/// Those of [`bind`], and after them [`Error::Fault`], as for an empty list or rows of two lengths.
+pub fn bind_fragments(query: &[u8], fragments: &Fragments<'_>) -> Result<Vec<u8>, Error> {
+    bind_fragments_in(query, fragments, false)
+}
+
+/// As [`bind_fragments`], for a connection in either mode, as [`bind_in`].
+///
+/// # Errors
+///
+/// Those of [`bind_fragments`].
+pub fn bind_fragments_in(
+    query: &[u8],
+    fragments: &Fragments<'_>,
+    no_backslash_escape: bool,
+) -> Result<Vec<u8>, Error> {
+    let form = &form::form_of_fragments(fragments)?;
+    let guess = bound_guess(query, form);
+    Call::BindFragments { query, form }.whole_answer(no_backslash_escape, guess)
 }
 
 /// As [`bind`], with a text that depends on no connection: no `sql_mode` and no character set reads it otherwise, on MySQL

@@ -1,8 +1,9 @@
 //! The cases of bindings/cases, which say what they are in README.md there, and every value of one byte.
 use mysql_params::{
-    Construct, Date, Error, Names, Params, RowError, Texts, Time, Unportable, Value, bind,
-    bind_anywhere, bind_form, bind_form_anywhere, bind_form_in, bind_in, bind_rows, bind_rows_in,
-    bind_str, bind_str_in, first_unportable, first_unportable_in, first_unportable_in_client,
+    Construct, Date, Error, Fault, Fragment, Fragments, Item, Names, Params, RowError, Texts, Time,
+    Unportable, Value, bind, bind_anywhere, bind_form, bind_form_anywhere, bind_form_in,
+    bind_fragments, bind_fragments_in, bind_in, bind_rows, bind_rows_in, bind_str, bind_str_in,
+    first_unportable, first_unportable_in, first_unportable_in_client,
     first_unportable_in_client_in, names, names_in,
 };
 use std::collections::HashMap;
@@ -12,6 +13,7 @@ use std::path::Path;
 enum Owned {
     Bytes(Vec<u8>),
     Other(Value<'static>),
+    Fragment(Fragment<'static>),
 }
 
 impl Owned {
@@ -19,6 +21,14 @@ impl Owned {
         match self {
             Owned::Bytes(bytes) => bytes.into(),
             Owned::Other(value) => *value,
+            Owned::Fragment(_) => panic!("a fragment is no value"),
+        }
+    }
+
+    fn fragment(&self) -> Fragment<'_> {
+        match self {
+            Owned::Fragment(fragment) => fragment.clone(),
+            value => Fragment::Value(value.value()),
         }
     }
 }
@@ -92,8 +102,43 @@ fn time(fields: &str) -> Value<'static> {
     })
 }
 
+/// A text that lasts as long as the test.
+fn lasting(text: &str) -> &'static str {
+    String::from_utf8(bytes(text)).expect("UTF-8").leak()
+}
+
+/// An item of a list or a row.
+fn item(text: &str) -> Item<'static> {
+    match (text.strip_prefix("d:"), value(text)) {
+        (Some(digits), _) => Item::Decimal(lasting(digits)),
+        (None, Owned::Bytes(bytes)) => Item::Value(Value::Bytes(bytes.leak())),
+        (None, owned) => Item::Value(match owned {
+            Owned::Other(value) => value,
+            _ => panic!("{text} is no item"),
+        }),
+    }
+}
+
+/// What isn't one value, if the text is of such a kind.
+fn fragment(kind: &str, rest: &str) -> Option<Fragment<'static>> {
+    let items = |text: &str| text.split('|').map(item).collect();
+    Some(match kind {
+        "d" => Fragment::Decimal(lasting(rest)),
+        "list" if rest.is_empty() => Fragment::List(Vec::new()),
+        "list" => Fragment::List(items(rest)),
+        "rows" => Fragment::Rows(rest.split("||").map(items).collect()),
+        "identifier" => Fragment::Identifier(lasting(rest)),
+        "qualified" => Fragment::Qualified(rest.split('|').map(lasting).collect()),
+        "keyword" => Fragment::Keyword(lasting(rest)),
+        _ => return None,
+    })
+}
+
 fn value(text: &str) -> Owned {
     let (kind, rest) = text.split_once(':').unwrap_or((text, ""));
+    if let Some(fragment) = fragment(kind, rest) {
+        return Owned::Fragment(fragment);
+    }
     Owned::Other(match kind {
         "s" => return Owned::Bytes(bytes(rest)),
         "null" => Value::Null,
@@ -168,7 +213,7 @@ fn cases(file: &str) -> Vec<Case> {
 }
 
 /// Names of the refusals in cases, in the order of their numbers from 3 on.
-const NUMBERS: [&str; 14] = [
+const NUMBERS: [&str; 15] = [
     "FORM_END",
     "FORM_LENGTH_LEAD",
     "FORM_TYPE",
@@ -183,7 +228,24 @@ const NUMBERS: [&str; 14] = [
     "FLOAT",
     "UNSTEADY",
     "UNPORTABLE",
+    "FAULT",
 ];
+
+/// The fault of a number in mysql_params.h, with its row and its item or name.
+fn fault(number: u8, row: usize, item: usize) -> Fault {
+    match number {
+        1 => Fault::Empty,
+        2 => Fault::EmptyRow { row },
+        3 => Fault::RowLength { row },
+        4 => Fault::Number { row, item },
+        5 => Fault::EmptyName { part: item },
+        6 => Fault::ZeroByte { part: item },
+        7 => Fault::LongName { part: item },
+        8 => Fault::TrailingSpace { part: item },
+        9 => Fault::Keyword,
+        _ => panic!("{number} is no fault"),
+    }
+}
 
 /// The error that a case wants.
 fn wanted_error(case: &Case) -> Error {
@@ -247,6 +309,11 @@ fn wanted_error(case: &Case) -> Error {
             construct: CONSTRUCTS[usize::from(byte) - 1].1,
             position,
         }),
+        "FAULT" => Error::Fault {
+            place,
+            fault: fault(byte, position, field("values")),
+            name: fields.get("of").cloned(),
+        },
         _ => panic!("{}: {name} is no refusal", case.at),
     }
 }
@@ -292,6 +359,69 @@ fn table_of_binding() {
             expect(&case, result);
         }
     }
+}
+
+/// What a call gives for the fragments of a case.
+fn with_fragments<R>(case: &Case, call: impl Fn(&Fragments<'_>) -> R) -> R {
+    let fragments: Vec<_> = case.params.iter().map(|(_, one)| one.fragment()).collect();
+    let names = case.params.iter().map(|(name, _)| name.as_str());
+    let pairs: Vec<_> = names.zip(fragments.iter().cloned()).collect();
+    call(&match pairs.first() {
+        None | Some(("", _)) => Fragments::Positional(&fragments),
+        Some(_) => Fragments::Named(&pairs),
+    })
+}
+
+#[test]
+fn table_of_fragments() {
+    for case in cases("fragments.txt") {
+        let mode = case.no_backslash_escape;
+        let result = with_fragments(&case, |given| bind_fragments_in(&case.query, given, mode));
+        expect(&case, result);
+        if !mode {
+            let result = with_fragments(&case, |given| bind_fragments(&case.query, given));
+            expect(&case, result);
+        }
+    }
+}
+
+#[test]
+fn fragments_of_types() {
+    let some: Option<&str> = None;
+    for (fragment, wanted) in [
+        (7.into(), "7"),
+        ("it's".into(), r"'it\'s'"),
+        (some.into(), "NULL"),
+        (vec![1u8, 255].into(), "1, 255"),
+        (vec!["a", "b"].into(), "'a', 'b'"),
+        (vec![Item::Decimal("0.10"), 1.into()].into(), "0.10, 1"),
+        (
+            vec![(1, "a", some), (2, "b", Some("c"))].into(),
+            "(1, 'a', NULL), (2, 'b', 'c')",
+        ),
+        (vec![(Item::Decimal("1"),)].into(), "(1)"),
+        (Fragment::Decimal("-1.50"), "-1.50"),
+        (Fragment::Qualified(vec!["a.b", "`"]), "`a.b`.````"),
+    ] {
+        let text = bind_fragments(b"?", &Fragments::Positional(&[fragment])).expect("a text");
+        assert_eq!(String::from_utf8(text).expect("UTF-8"), wanted);
+    }
+    let number = Fragment::List(vec![Item::Decimal("1"), Item::Decimal("1e5")]);
+    let error = bind_fragments(b"?", &Fragments::Positional(&[number])).expect_err("a number");
+    let (place, fault) = (0, Fault::Number { row: 0, item: 1 });
+    assert_eq!(
+        error,
+        Error::Fault {
+            place,
+            fault,
+            name: None
+        }
+    );
+    let unnamed = Fragments::Named(&[("", Fragment::Identifier("t"))]);
+    assert_eq!(
+        bind_fragments(b":a", &unnamed),
+        Err(Error::EmptyName { parameter: 0 })
+    );
 }
 
 /// Values by position, or by name: what is in a row.

@@ -1,0 +1,166 @@
+//! What stands in a place beside one value.
+use crate::Value;
+use std::fmt;
+
+/// An item of a list or a row.
+#[derive(Clone, Copy, Debug, PartialEq)]
+pub enum Item<'a> {
+    /// A value.
+    Value(Value<'a>),
+    /// An exact number, as [`Fragment::Decimal`].
+    Decimal(&'a str),
+}
+
+/// What stands in a place of a query. It borrows its bytes.
+///
+/// Numbers, texts, dates and what else makes a [`Value`] make a fragment by `into()`, a `Vec` of them a list, and a `Vec`
+/// of tuples of them rows.
+#[derive(Clone, Debug, PartialEq)]
+pub enum Fragment<'a> {
+    /// A value.
+    Value(Value<'a>),
+    /// An exact number, as `-1.50` or a whole number of any length. It is written bare, so that a server compares and
+    /// computes it exactly.
+    Decimal(&'a str),
+    /// A list of items, as for `IN (?)`.
+    List(Vec<Item<'a>>),
+    /// Rows of items, as for `VALUES ?`, all of one length.
+    Rows(Vec<Vec<Item<'a>>>),
+    /// The name of a table or a column. It is written in backquotes, each of which in it is doubled.
+    Identifier(&'a str),
+    /// The name of what is in something else, as a database and a table in it.
+    Qualified(Vec<&'a str>),
+    /// A keyword of the program's own, as `DESC`: never a text from outside. It is written if it is one of those that
+    /// bindings/README.md lists.
+    Keyword(&'static str),
+}
+
+/// The fragments that are given to a query. Names that the query doesn't have are ignored.
+#[derive(Clone, Copy, Debug, PartialEq)]
+pub enum Fragments<'a> {
+    /// Fragments for the marks `?` of a query, in order.
+    Positional(&'a [Fragment<'a>]),
+    /// Names without their colons, and their fragments.
+    Named(&'a [(&'a str, Fragment<'a>)]),
+}
+
+/// Why a fragment can't be written. Numbers of rows, items and names begin at 0.
+#[derive(Clone, Copy, Debug, PartialEq, Eq)]
+pub enum Fault {
+    /// A list without items, no rows, or a qualified name without names.
+    Empty,
+    /// A row without items.
+    EmptyRow {
+        /// Its number.
+        row: usize,
+    },
+    /// A row that is not as long as the first.
+    RowLength {
+        /// Its number.
+        row: usize,
+    },
+    /// A text that is no exact number.
+    Number {
+        /// The number of its row; 0 in a list and for a number alone.
+        row: usize,
+        /// Its number in the row or list; 0 for a number alone.
+        item: usize,
+    },
+    /// A name without bytes.
+    EmptyName {
+        /// Its number in a qualified name; 0 for a name alone.
+        part: usize,
+    },
+    /// A name with a byte 0.
+    ZeroByte {
+        /// Its number in a qualified name; 0 for a name alone.
+        part: usize,
+    },
+    /// A name of more than 64 characters, which servers refuse.
+    LongName {
+        /// Its number in a qualified name; 0 for a name alone.
+        part: usize,
+    },
+    /// A name that ends in a space, which servers refuse.
+    TrailingSpace {
+        /// Its number in a qualified name; 0 for a name alone.
+        part: usize,
+    },
+    /// A text that is none of the keywords that are written.
+    Keyword,
+}
+
+impl Fault {
+    /// The fault of a number in mysql_params.h, with its row and its item or name.
+    pub(crate) fn of_number(number: u8, row: usize, item: usize) -> Option<Fault> {
+        let part = item;
+        Some(match number {
+            1 => Fault::Empty,
+            2 => Fault::EmptyRow { row },
+            3 => Fault::RowLength { row },
+            4 => Fault::Number { row, item },
+            5 => Fault::EmptyName { part },
+            6 => Fault::ZeroByte { part },
+            7 => Fault::LongName { part },
+            8 => Fault::TrailingSpace { part },
+            9 => Fault::Keyword,
+            _ => return None,
+        })
+    }
+}
+
+impl fmt::Display for Fault {
+    fn fmt(&self, f: &mut fmt::Formatter<'_>) -> fmt::Result {
+        match self {
+            Fault::Empty => write!(f, "it is empty"),
+            Fault::EmptyRow { row } => write!(f, "row {row} is empty"),
+            Fault::RowLength { row } => write!(f, "row {row} is not as long as the first"),
+            Fault::Number { row, item } => {
+                write!(f, "item {item} of row {row} is no exact number")
+            }
+            Fault::EmptyName { part } => write!(f, "name {part} is empty"),
+            Fault::ZeroByte { part } => write!(f, "name {part} has a byte 0"),
+            Fault::LongName { part } => write!(f, "name {part} has more than 64 characters"),
+            Fault::TrailingSpace { part } => write!(f, "name {part} ends in a space"),
+            Fault::Keyword => write!(f, "it is no keyword"),
+        }
+    }
+}
+
+impl<'a, T: Into<Value<'a>>> From<T> for Item<'a> {
+    fn from(value: T) -> Self {
+        Item::Value(value.into())
+    }
+}
+
+impl<'a, T: Into<Value<'a>>> From<T> for Fragment<'a> {
+    fn from(value: T) -> Self {
+        Fragment::Value(value.into())
+    }
+}
+
+impl<'a, T: Into<Item<'a>>> From<Vec<T>> for Fragment<'a> {
+    fn from(items: Vec<T>) -> Self {
+        Fragment::List(items.into_iter().map(Into::into).collect())
+    }
+}
+
+macro_rules! rows_from {
+    ($($column:ident $cell:ident),*) => {
+        impl<'a, $($column: Into<Item<'a>>),*> From<Vec<($($column,)*)>> for Fragment<'a> {
+            fn from(rows: Vec<($($column,)*)>) -> Self {
+                let row = |($($cell,)*): ($($column,)*)| vec![$($cell.into()),*];
+                Fragment::Rows(rows.into_iter().map(row).collect())
+            }
+        }
+    };
+}
+
+rows_from!(A a);
+rows_from!(A a, B b);
+rows_from!(A a, B b, C c);
+rows_from!(A a, B b, C c, D d);
+rows_from!(A a, B b, C c, D d, E e);
+rows_from!(A a, B b, C c, D d, E e, F f);
+rows_from!(A a, B b, C c, D d, E e, F f, G g);
+rows_from!(A a, B b, C c, D d, E e, F f, G g, H h);
