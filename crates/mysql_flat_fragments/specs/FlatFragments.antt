@@ -1,11 +1,11 @@
--- The flat form of fragments. Parameters stand one after another up to the end of the form, as in the
--- flat form of parameters (FlatForm.antt): each as its name, a length-encoded string (of no bytes: by
--- position); a byte, the number of a type; a byte of flags; and what a parameter of this type has. A
--- column type has its value in binary form, as there. Six numbers are types of this library's own,
--- for what isn't one value. No column type has a number from 21 to 241 (ColumnNumbers.antt), and
--- those that the protocol gained came directly after 20 and directly before 242, so these stand in
--- between. Their flags say nothing. A count is four bytes, least first
--- ("Protocol::FixedLengthInteger"), so that it can be written after what it counts.
+-- The flat form of fragments. Parameters stand one after another up to the end of the form, as in
+-- the flat form of parameters (FlatForm.antt): each as its name, a length-encoded string (of no
+-- bytes: by position); a byte, the number of a type; a byte of flags; and what a parameter of this
+-- type has. A column type has its value in binary form, as there. Six numbers are types of this
+-- library's own, for what isn't one value: no column type has a number from 21 to 241
+-- (ColumnNumbers.antt), and these stand in between, since the protocol took new ones at both ends.
+-- Their flags say nothing. A count is four bytes, least first ("Protocol::FixedLengthInteger"), so
+-- that it can be written after what it counts.
 use Rattle.std.specs.Prelude.{◌≡◌, ℕ, suc, zero, ◌+◌, ◌-◌, ◌==◌, List, [], ◌∷◌, ◌++◌, length, if◌then◌else◌, Option, Some, None, Result, Ok, Err}
 use Rattle.std.specs.FinMap as finite
 use Rattle.mysql_wire_part.specs.Reading.{read_number}

@@ -1,5 +1,5 @@
--- The keywords that a form may have (MySQL Reference Manual, "Keywords and Reserved Words"), for what
--- is chosen at run time where no value may stand, as an order or the unit of an interval.
+-- The keywords that a form may have (MySQL Reference Manual, "Keywords and Reserved Words"), for
+-- what is chosen at run time where no value may stand, as an order or the unit of an interval.
 use Rattle.std.specs.Prelude.{ℕ, List, [], ◌∷◌, codes, if◌then◌else◌}
 use Rattle.std.specs.Str.{bytes_eq}
 

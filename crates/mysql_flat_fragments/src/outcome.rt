@@ -32,8 +32,8 @@ impl FragmentsOutcome {
     }
 
     /// The fields of the outcome. Those of a fault are its place, its number as `byte`, 1 for
-    /// [`FragmentFault::Empty`] and then in the order of the declaration, its row as `position`, and
-    /// its item or its part of a qualified identifier as `values`.
+    /// [`FragmentFault::Empty`] and then in the order of the declaration, its row as `position`,
+    /// and its item or its part of a qualified identifier as `values`.
     pub fn report(self) -> Report
         ensures fields { result ≡ report_of self }
     {

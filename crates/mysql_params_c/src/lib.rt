@@ -197,8 +197,8 @@ pub extern "C" fn mysql_params_bind_rows(
 /// Binds into the query the fragments that the form says, and writes the text to the front of the
 /// room: [`bind_fragments_into`](mysql_flat_fragments::bind_fragments_into).
 ///
-/// The form is that of [`mysql_params_bind`] with six types more, for an exact number, a list, rows,
-/// an identifier, a qualified one and a keyword
+/// The form is that of [`mysql_params_bind`] with six types more, for an exact number, a list,
+/// rows, an identifier, a qualified one and a keyword
 /// ([`form_fragments`](mysql_flat_fragments::form_fragments)). It returns the numbers of
 /// [`mysql_params_bind`], and after those for a query 17 (`Fault`) for a fragment that can't be
 /// written: then the report has its place, in `byte` the number of the fault, in `position` the row
