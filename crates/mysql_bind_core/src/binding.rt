@@ -126,8 +126,8 @@ pub fn bound_text(
     }
 }
 
-// The text of a query that is taken.
-fn taken_text(
+/// [`bound_text`] of a query that is taken, lent to the crate above.
+pub fn taken_text(
     alloc: Global,
     query: &[u8],
     assignments: &[Assignment],

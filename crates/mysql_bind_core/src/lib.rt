@@ -14,7 +14,7 @@ mod request;
 mod value_type;
 
 pub use assignment::Assignment;
-pub use binding::{bound_text, check_query, write_bound};
+pub use binding::{bound_text, check_query, taken_text, write_bound};
 pub use failure::Failure;
 pub use positions::line_and_column;
 pub use request::{Literals, Portability, Request};

@@ -1,0 +1,12 @@
+//! One query bound to row after row: the script of the program `mysql_bind`.
+//!
+//! [`write_rows`] is the call; `specs/Scripts.antt` says what it promises of the script.
+#![tactic(auto)]
+
+mod row;
+mod rows;
+mod script;
+
+pub use row::{RefusedRow, Row, RowsFailure};
+pub use rows::append_rows;
+pub use script::{COMMIT, START, script_of, stream_rows, write_rows};
