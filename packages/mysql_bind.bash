@@ -2,11 +2,12 @@
 _mysql_bind() {
     local cur=${COMP_WORDS[COMP_CWORD]} prev=${COMP_WORDS[COMP_CWORD - 1]} command= word
     local common='--literals --mode --sql-mode --allow-unportable --errors --help'
+    local values='--set --file --env --null --json --pairs --decimals --allow-unused --output'
     # The shell takes `=` for a word of its own.
     [ "$cur" = = ] && cur=
     [ "$prev" = = ] && prev=${COMP_WORDS[COMP_CWORD - 2]}
     for word in "${COMP_WORDS[@]:1:COMP_CWORD-1}"; do
-        case $word in bind | names | check) command=$word && break ;; esac
+        case $word in bind | rows | names | check) command=$word && break ;; esac
     done
     case $prev in
     --literals) mapfile -t COMPREPLY < <(compgen -W 'steady plain' -- "$cur") && return ;;
@@ -17,8 +18,9 @@ _mysql_bind() {
     esac
     case $command,$cur in
     ,-*) word='--help --version' ;;
-    ,*) word='bind names check' ;;
-    bind,-*) word="$common --set --file --env --null --json --pairs --decimals --allow-unused --output" ;;
+    ,*) word='bind rows names check' ;;
+    bind,-*) word="$common $values" ;;
+    rows,-*) word="$common $values --csv --tsv --ndjson --column --null-text --transaction --stream" ;;
     names,-*) word="$common --zero --output" ;;
     check,-*) word=$common ;;
     *) mapfile -t COMPREPLY < <(compgen -f -- "$cur") && return ;;

@@ -1,9 +1,11 @@
 //! What each command does.
+use crate::all_faults::add_all_faults;
 use crate::complaint::{Complaint, Fault, add_fault};
 use crate::matching::matched_values;
 use crate::output::write_text;
 use crate::query_file::{QueryFile, complaint_of, read_query};
 use crate::requests::request_of;
+use crate::rows::rows;
 use crate::sources::Sources;
 use crate::values::{Values, values_of};
 use clap::ArgMatches;
@@ -16,6 +18,7 @@ use std::alloc::{AllocError, Global};
 pub fn answer(rt: &HostRuntime, matches: &ArgMatches<'_>) -> Result<(), Complaint> {
     match matches.subcommand() {
         Some(("bind", inner)) => bind(rt, inner),
+        Some(("rows", inner)) => rows(rt, inner),
         Some(("names", inner)) => names(rt, inner),
         Some(("check", inner)) => check(rt, inner),
         _ => Ok(()),
@@ -123,38 +126,43 @@ fn query_names_text(
     }
 }
 
-// Adds what is wrong with one query.
+// Adds what is wrong with one query. Whether it could be read.
 fn check_one(
     faults: &mut Vec<Fault>,
     sources: &mut Sources,
     rt: &HostRuntime,
     path: &str,
     request: Request,
-) -> Result<(), Complaint> {
-    let query = read_query(sources, rt, path)?;
-    let Err(failure) = check_query(rt.alloc(), query.bytes.as_slice(), request) else {
-        return Ok(());
-    };
-    match refused(rt, &query, &Values::new(rt.alloc()), request, failure) {
-        Complaint::Refused(found) => {
+) -> Result<bool, Complaint> {
+    let query = match read_query(sources, rt, path) {
+        Ok(query) => query,
+        Err(Complaint::Unusable(found)) => {
             for fault in found {
                 add_fault(faults, fault.place, fault.what)?;
             }
-            Ok(())
+            return Ok(false);
         }
-        complaint => Err(complaint),
+        Err(complaint) => return Err(complaint),
+    };
+    if let Err(failure) = check_query(rt.alloc(), query.bytes.as_slice(), request) {
+        add_all_faults(faults, rt.alloc(), &query, request, failure)?;
     }
+    Ok(true)
 }
 
-// Says what is wrong with each query.
+// Says what is wrong with each query, and which can't be read.
 fn check(rt: &HostRuntime, matches: &ArgMatches<'_>) -> Result<(), Complaint> {
     let request = request_of(rt.alloc(), matches)?;
     let mut sources = Sources::new(rt.alloc());
     let mut faults = Vec::new(rt.alloc());
+    let mut all_read = true;
     for path in matches.get_strs("queries").unwrap_or(&["-"]) {
-        check_one(&mut faults, &mut sources, rt, path, request)?;
+        let read = check_one(&mut faults, &mut sources, rt, path, request)?;
+        all_read = all_read && read;
     }
-    if faults.is_empty() {
+    if !all_read {
+        Err(Complaint::Unusable(faults))
+    } else if faults.is_empty() {
         Ok(())
     } else {
         Err(Complaint::Refused(faults))

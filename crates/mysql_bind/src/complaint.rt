@@ -1,5 +1,5 @@
 //! What is said of a refusal. No message holds a value.
-use crate::told::{github_text, json_text};
+use crate::told::{github_property, github_text, json_text};
 use std::alloc::{AllocError, Global};
 use std::io;
 
@@ -18,6 +18,13 @@ pub enum Place {
         line: usize,
         /// The column, in bytes.
         column: usize,
+    },
+    /// In a row of a file, which begins at a line, counted from 1.
+    Row {
+        /// The file.
+        path: String,
+        /// The line.
+        line: u64,
     },
 }
 
@@ -99,6 +106,17 @@ pub fn bad_file(alloc: Global, path: &str, what: &str) -> Complaint {
     }
 }
 
+/// A complaint about a row of a file.
+pub fn bad_row(alloc: Global, path: &str, line: u64, what: &str) -> Complaint {
+    match (String::from_str(alloc, path), String::from_str(alloc, what)) {
+        (Ok(path), Ok(what)) => match one_fault(alloc, Place::Row { path, line }, what) {
+            Ok(faults) => Complaint::Refused(faults),
+            Err(_) => Complaint::Memory,
+        },
+        _ => Complaint::Memory,
+    }
+}
+
 impl Complaint {
     /// The exit status.
     pub fn status(&self) -> u8 {
@@ -142,6 +160,7 @@ fn tell_text(rt: &HostRuntime, fault: &Fault) -> io::Result<()> {
         Place::Line { path, line, column } => eprintln!(rt;
             "mysql_bind: {path}:{line}:{column}: {what}"
         ),
+        Place::Row { path, line } => eprintln!(rt; "mysql_bind: {path}:{line}: {what}"),
     }
 }
 
@@ -150,18 +169,28 @@ fn tell_json(rt: &HostRuntime, fault: &Fault) -> io::Result<()> {
     let Ok(what) = json_text(rt.alloc(), fault.what.as_str()) else {
         return tell_text(rt, fault);
     };
-    match &fault.place {
-        Place::Words => eprintln!(rt; "{{\"message\":{what}}}"),
-        Place::File(path) => match json_text(rt.alloc(), path.as_str()) {
-            Ok(path) => eprintln!(rt; "{{\"file\":{path},\"message\":{what}}}"),
-            Err(_) => tell_text(rt, fault),
-        },
-        Place::Line { path, line, column } => match json_text(rt.alloc(), path.as_str()) {
-            Ok(path) => eprintln!(rt;
-                "{{\"file\":{path},\"line\":{line},\"column\":{column},\"message\":{what}}}"
-            ),
-            Err(_) => tell_text(rt, fault),
-        },
+    let Ok(place) = json_place(rt.alloc(), &fault.place) else {
+        return tell_text(rt, fault);
+    };
+    eprintln!(rt; "{{{place}\"message\":{what}}}")
+}
+
+// The members that say where a fault is, each with a comma after it.
+fn json_place(alloc: Global, place: &Place) -> Result<String, AllocError> {
+    match place {
+        Place::Words => Ok(String::new(alloc)),
+        Place::File(path) => {
+            let path = json_text(alloc, path.as_str())?;
+            format!(in alloc; "\"file\":{path},")
+        }
+        Place::Line { path, line, column } => {
+            let path = json_text(alloc, path.as_str())?;
+            format!(in alloc; "\"file\":{path},\"line\":{line},\"column\":{column},")
+        }
+        Place::Row { path, line } => {
+            let path = json_text(alloc, path.as_str())?;
+            format!(in alloc; "\"file\":{path},\"line\":{line},")
+        }
     }
 }
 
@@ -170,15 +199,27 @@ fn tell_github(rt: &HostRuntime, fault: &Fault) -> io::Result<()> {
     let Ok(what) = github_text(rt.alloc(), fault.what.as_str()) else {
         return tell_text(rt, fault);
     };
-    match &fault.place {
-        Place::Words => eprintln!(rt; "::error::{what}"),
-        Place::File(path) => match github_text(rt.alloc(), path.as_str()) {
-            Ok(path) => eprintln!(rt; "::error file={path}::{what}"),
-            Err(_) => tell_text(rt, fault),
-        },
-        Place::Line { path, line, column } => match github_text(rt.alloc(), path.as_str()) {
-            Ok(path) => eprintln!(rt; "::error file={path},line={line},col={column}::{what}"),
-            Err(_) => tell_text(rt, fault),
-        },
+    let Ok(place) = github_place(rt.alloc(), &fault.place) else {
+        return tell_text(rt, fault);
+    };
+    eprintln!(rt; "::error{place}::{what}")
+}
+
+// The properties that say where a fault is, with a space before them.
+fn github_place(alloc: Global, place: &Place) -> Result<String, AllocError> {
+    match place {
+        Place::Words => Ok(String::new(alloc)),
+        Place::File(path) => {
+            let path = github_property(alloc, path.as_str())?;
+            format!(in alloc; " file={path}")
+        }
+        Place::Line { path, line, column } => {
+            let path = github_property(alloc, path.as_str())?;
+            format!(in alloc; " file={path},line={line},col={column}")
+        }
+        Place::Row { path, line } => {
+            let path = github_property(alloc, path.as_str())?;
+            format!(in alloc; " file={path},line={line}")
+        }
     }
 }

@@ -8,13 +8,14 @@ nothing was written.
 
 Commands:
   bind    write QUERY with a value in the place of each name (:id)
+  rows    write QUERY once for each row of a table, as a script
   names   write the names of QUERY, each once, in order
   check   say what is wrong with each QUERY.., with line and column
 
 QUERY is a file. Without QUERY, or if it is -, it is standard input.
 
-Values (bind). NAME[:TYPE] is a name of the query without its colon; TYPE is text
-unless given:
+Values (bind, rows). NAME[:TYPE] is a name of the query without its colon; TYPE
+is text unless given:
       --set NAME[:TYPE]=VALUE    VALUE itself. Others see it in `ps`
       --file NAME[:TYPE]=PATH    the whole of a file
       --env NAME[:TYPE][=VAR]    the variable VAR (without =VAR, one named NAME)
@@ -28,6 +29,17 @@ Types:
          dropped (a secret in a file)        bool   true or false: 1 or 0
   bytes  any bytes                           hex    bytes, in hexadecimal
                                              base64 bytes, in base64
+
+Rows (rows). The first line of CSV and TSV has the names. Each statement ends
+with `;` on a line of its own. The values above are the same in each row:
+      --csv PATH | --tsv PATH | --ndjson PATH
+      --column NAME:TYPE    the type of a column (CSV, TSV); text unless given
+      --null-text TEXT      a field that is TEXT is NULL, quoted or not (CSV,
+                            TSV); without it an empty field is an empty text
+      --transaction         START TRANSACTION before the first row, COMMIT after
+                            the last: a script that is cut off changes nothing
+      --stream              write statements before all rows are bound: a row
+                            that is refused leaves those of the rows before it
 
 Literals:
       --literals=steady      no sql_mode and no character set reads them otherwise
@@ -53,7 +65,8 @@ Output:
 
 Exit status: 0 all was written; 1 the query or a value is refused; 2 a word is
 wrong or a source can't be read; 3 a write failed, and a beginning may have been
-written; 4 out of memory. With 1, 2 and 4 nothing was written.
+written; 4 out of memory. With 1, 2 and 4 nothing was written (rows --stream:
+the statements of the rows before).
 
 Example:
   mysql_bind bind --set id:int=42 --env token=API_TOKEN -o bound.sql q.sql &&

@@ -41,9 +41,9 @@ fn one_query<'a>(alloc: Global) -> Arg<'a> {
     Arg::new(alloc, "query").action(ArgAction::Set)
 }
 
-// The words of `bind`.
-fn bind<'a>(alloc: Global) -> Result<Command<'a>, AllocError> {
-    common(alloc, "bind")?
+// What `bind` and `rows` take: values, and where the text is written.
+fn binding<'a>(alloc: Global, name: &'a str) -> Result<Command<'a>, AllocError> {
+    common(alloc, name)?
         .arg(many(alloc, "set"))?
         .arg(many(alloc, "file"))?
         .arg(many(alloc, "env"))?
@@ -54,6 +54,18 @@ fn bind<'a>(alloc: Global) -> Result<Command<'a>, AllocError> {
         .arg(flag(alloc, "allow-unused"))?
         .arg(one(alloc, "output").short('o'))?
         .arg(one_query(alloc))
+}
+
+// The words of `rows`.
+fn rows<'a>(alloc: Global) -> Result<Command<'a>, AllocError> {
+    binding(alloc, "rows")?
+        .arg(one(alloc, "csv"))?
+        .arg(one(alloc, "tsv"))?
+        .arg(one(alloc, "ndjson"))?
+        .arg(many(alloc, "column"))?
+        .arg(one(alloc, "null-text"))?
+        .arg(flag(alloc, "transaction"))?
+        .arg(flag(alloc, "stream"))
 }
 
 // The words of `names`.
@@ -78,7 +90,8 @@ pub fn interface<'a>(alloc: Global) -> Result<Command<'a>, AllocError> {
     Command::new(alloc, "mysql_bind")
         .version("0.1.0")
         .subcommand_required(true)
-        .subcommand(bind(alloc)?)?
+        .subcommand(binding(alloc, "bind")?)?
+        .subcommand(rows(alloc)?)?
         .subcommand(names(alloc)?)?
         .subcommand(check(alloc)?)
 }

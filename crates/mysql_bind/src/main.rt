@@ -3,15 +3,21 @@
 //! sources, and what is said of a refusal.
 #![tactic(auto)]
 
+mod all_faults;
+mod columns;
 mod commands;
 mod complaint;
 mod help;
 mod interface;
 mod json_members;
+mod json_rows;
 mod matching;
 mod output;
 mod query_file;
+mod records;
 mod requests;
+mod rows;
+mod script;
 mod sources;
 mod told;
 mod values;

@@ -7,27 +7,25 @@ use mysql_named_params::places::first_place;
 use mysql_values::show::Shown;
 use std::alloc::{AllocError, Global};
 
-// Whether a name has a value.
-fn is_assigned(assignments: &[Assignment], name: &[u8]) -> bool {
+/// Whether a name has a value.
+pub fn is_assigned(assignments: &[Assignment], name: &[u8]) -> bool {
     assignments
         .iter()
         .any(|assignment| assignment.name.as_slice() == name)
 }
 
-// A name of the query, and the index of its colon.
-#[derive(Clone, Copy)]
-struct NamePlace<'a> {
-    at: usize,
-    name: &'a [u8],
+/// A name of the query, and where it stands.
+#[derive(Drop)]
+pub struct NamePlace {
+    /// The index of its colon.
+    pub at: usize,
+    /// The name, without the colon.
+    pub name: Vec<u8>,
 }
 
-// The first place of each name of the query.
-fn name_places<'a>(
-    alloc: Global,
-    text: &'a [u8],
-    mode: bool,
-) -> Result<Vec<NamePlace<'a>>, AllocError> {
-    let mut places: Vec<NamePlace<'a>> = Vec::new(alloc);
+/// The first place of each name of the query.
+pub fn name_places(alloc: Global, text: &[u8], mode: bool) -> Result<Vec<NamePlace>, AllocError> {
+    let mut places: Vec<NamePlace> = Vec::new(alloc);
     let mut rest = text;
     // Each place has a byte.
     for _ in 0..text.len() {
@@ -36,11 +34,12 @@ fn name_places<'a>(
         };
         let (before, place, after) = found.cut(rest);
         let name = if place.is_empty() { place } else { &place[1..] };
-        if !places.iter().any(|other| other.name == name) {
+        if !is_name_of(places.as_slice(), name) {
             let at = text
                 .len()
                 .saturating_sub(rest.len())
                 .saturating_add(before.len());
+            let name = Vec::from_slice(alloc, name)?;
             if places.push(NamePlace { at, name }).is_err() {
                 return Err(AllocError);
             }
@@ -55,14 +54,14 @@ fn add_missing(
     faults: &mut Vec<Fault>,
     alloc: Global,
     query: &QueryFile<'_>,
-    places: &[NamePlace<'_>],
+    places: &[NamePlace],
     values: &Values,
 ) -> Result<(), AllocError> {
     for place in places {
-        if !is_assigned(values.assignments.as_slice(), place.name) {
+        if !is_assigned(values.assignments.as_slice(), place.name.as_slice()) {
             let what = format!(in alloc;
                 "no value for `:{}`: give it by --set, --file, --env, --null, --json or --pairs",
-                Shown(place.name)
+                Shown(place.name.as_slice())
             )?;
             add_fault(faults, place_of(alloc, query, place.at)?, what)?;
         }
@@ -70,17 +69,17 @@ fn add_missing(
     Ok(())
 }
 
-// Whether the query has a name.
-fn is_name_of(places: &[NamePlace<'_>], name: &[u8]) -> bool {
-    places.iter().any(|place| place.name == name)
+/// Whether the query has a name.
+pub fn is_name_of(places: &[NamePlace], name: &[u8]) -> bool {
+    places.iter().any(|place| place.name.as_slice() == name)
 }
 
-// A fault for each value without a name in the query.
-fn add_unused(
+/// Adds a fault for each value without a name in the query.
+pub fn add_unused(
     faults: &mut Vec<Fault>,
     alloc: Global,
     query: &QueryFile<'_>,
-    places: &[NamePlace<'_>],
+    places: &[NamePlace],
     values: &Values,
 ) -> Result<(), AllocError> {
     for i in 0..values.assignments.len() {
@@ -96,10 +95,10 @@ fn add_unused(
     Ok(())
 }
 
-// The values whose names the query has.
-fn used_values(
+/// The values whose names the query has.
+pub fn used_values(
     alloc: Global,
-    places: &[NamePlace<'_>],
+    places: &[NamePlace],
     values: Values,
 ) -> Result<Values, AllocError> {
     let mut used = Values::new(alloc);

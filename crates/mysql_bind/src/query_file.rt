@@ -51,27 +51,45 @@ fn refused_at(
     Ok(Complaint::Refused(one_fault(alloc, place, what)?))
 }
 
-// The refusal of the first mark.
-fn mark_refused(alloc: Global, query: &QueryFile<'_>, mode: bool) -> Result<Complaint, AllocError> {
-    let mut rest = query.bytes.as_slice();
-    let mut at = 0usize;
+/// The index of each mark of the query.
+pub fn marks_of(alloc: Global, text: &[u8], mode: bool) -> Result<Vec<usize>, AllocError> {
+    let mut marks = Vec::new(alloc);
+    let mut rest = text;
     // Each place has a byte.
-    for _ in 0..query.bytes.len() {
+    for _ in 0..text.len() {
         let Some(found) = first_place(rest, mode) else {
             break;
         };
         let (before, place, after) = found.cut(rest);
         if matches!(place, [b'?', ..]) {
-            at = query
-                .bytes
+            let at = text
                 .len()
                 .saturating_sub(rest.len())
                 .saturating_add(before.len());
-            break;
+            if marks.push(at).is_err() {
+                return Err(AllocError);
+            }
         }
         rest = after;
     }
-    refused_at(alloc, query, at, "`?` has no name: write a name, as `:id`")
+    Ok(marks)
+}
+
+/// What is said of a mark.
+pub static MARK: &str = "`?` has no name: write a name, as `:id`";
+
+/// What is said of a byte that isn't steady.
+pub static UNSTEADY: &str = "a mode or a character set may read this byte otherwise: give it as a \
+     value, or --literals=plain";
+
+// The refusal of the first mark.
+fn mark_refused(alloc: Global, query: &QueryFile<'_>, mode: bool) -> Result<Complaint, AllocError> {
+    let marks = marks_of(alloc, query.bytes.as_slice(), mode)?;
+    let at = match marks.first() {
+        Some(at) => *at,
+        None => 0,
+    };
+    refused_at(alloc, query, at, MARK)
 }
 
 // The refusal of a name with two values.
@@ -135,13 +153,7 @@ pub fn complaint_of(
             at,
             "the query ends within what opens here: close it",
         ),
-        Failure::Unsteady { at } => refused_at(
-            alloc,
-            query,
-            at,
-            "a mode or a character set may read this byte otherwise: give it as a value, \
-             or --literals=plain",
-        ),
+        Failure::Unsteady { at } => refused_at(alloc, query, at, UNSTEADY),
         Failure::Unportable(found) => {
             let what = format!(in alloc; "{}", found.construct)?;
             refused_at(alloc, query, found.at, what.as_str())

@@ -17,7 +17,7 @@ pub fn json_text(alloc: Global, text: &str) -> Result<String, AllocError> {
     Ok(told)
 }
 
-/// A text as a property or a message of an annotation.
+/// A text as the message of an annotation.
 pub fn github_text(alloc: Global, text: &str) -> Result<String, AllocError> {
     let mut told = String::new(alloc);
     for letter in text.chars() {
@@ -25,6 +25,22 @@ pub fn github_text(alloc: Global, text: &str) -> Result<String, AllocError> {
             '%' => told.push_str("%25")?,
             '\n' => told.push_str("%0A")?,
             '\r' => told.push_str("%0D")?,
+            _ => told.push(letter)?,
+        }
+    }
+    Ok(told)
+}
+
+/// A text as a property of an annotation, which a comma and a colon would end.
+pub fn github_property(alloc: Global, text: &str) -> Result<String, AllocError> {
+    let mut told = String::new(alloc);
+    for letter in text.chars() {
+        match letter {
+            '%' => told.push_str("%25")?,
+            '\n' => told.push_str("%0A")?,
+            '\r' => told.push_str("%0D")?,
+            ':' => told.push_str("%3A")?,
+            ',' => told.push_str("%2C")?,
             _ => told.push(letter)?,
         }
     }

@@ -47,11 +47,11 @@ impl Values {
     }
 }
 
-// The words of types.
-static TYPES: &str = "text, line, bytes, int, uint, bool, hex and base64";
+/// The words of types.
+pub static TYPES: &str = "text, line, bytes, int, uint, bool, hex and base64";
 
-// The type of a word.
-fn type_of(word: &str) -> Option<ValueType> {
+/// The type of a word.
+pub fn type_of(word: &str) -> Option<ValueType> {
     match word {
         "text" => Some(ValueType::Text),
         "line" => Some(ValueType::Line),
@@ -81,6 +81,21 @@ pub fn wrong_value(value_type: ValueType) -> &'static str {
     }
 }
 
+// What is said further if the bytes without the newline at their end have a value.
+fn newline_hint(alloc: Global, assignment: &Assignment) -> Result<&'static str, AllocError> {
+    let bytes = assignment.bytes.as_slice();
+    let [line @ .., b'\n'] = bytes else {
+        return Ok("");
+    };
+    if assignment.value_type != ValueType::Line
+        && typed_value(alloc, assignment.value_type, line)?.is_some()
+    {
+        Ok(": a newline ends it, so write the file without (printf in place of echo)")
+    } else {
+        Ok("")
+    }
+}
+
 /// A fault for each assignment whose bytes have no value of its type.
 pub fn wrong_values(alloc: Global, values: &Values) -> Result<Vec<Fault>, AllocError> {
     let mut faults = Vec::new(alloc);
@@ -90,7 +105,8 @@ pub fn wrong_values(alloc: Global, values: &Values) -> Result<Vec<Fault>, AllocE
             continue;
         }
         let origin = origin_at(values, i);
-        let what = format!(in alloc; "{origin}: {}", wrong_value(assignment.value_type))?;
+        let hint = newline_hint(alloc, assignment)?;
+        let what = format!(in alloc; "{origin}: {}{hint}", wrong_value(assignment.value_type))?;
         add_fault(&mut faults, Place::Words, what)?;
     }
     Ok(faults)

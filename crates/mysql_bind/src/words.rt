@@ -39,7 +39,7 @@ pub fn error_form_of(words: &[String]) -> ErrorForm {
     ErrorForm::Text
 }
 
-static OPTIONS: [&str; 17] = [
+static OPTIONS: [&str; 24] = [
     "--literals",
     "--mode",
     "--sql-mode",
@@ -52,6 +52,13 @@ static OPTIONS: [&str; 17] = [
     "--json",
     "--pairs",
     "--decimals",
+    "--csv",
+    "--tsv",
+    "--ndjson",
+    "--column",
+    "--null-text",
+    "--transaction",
+    "--stream",
     "--allow-unused",
     "--output",
     "--zero",
@@ -85,7 +92,7 @@ fn unknown_option(words: &[String]) -> Option<&str> {
 fn usage_text(kind: ErrorKind) -> &'static str {
     match kind {
         ErrorKind::InvalidSubcommand | ErrorKind::MissingSubcommand =>
-            "the first word is one of bind, names and check (mysql_bind --help)",
+            "the first word is one of bind, rows, names and check (mysql_bind --help)",
         ErrorKind::InvalidValue =>
             "an option has a word that it doesn't take, or none: --literals takes steady or plain, \
              --mode backslash or no-backslash, --errors text, json or github, --decimals text \

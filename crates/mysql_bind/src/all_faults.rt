@@ -1,0 +1,134 @@
+//! All that is wrong with a query, of the kind for which it is refused.
+use crate::complaint::{Complaint, Fault, add_fault};
+use crate::query_file::{MARK, QueryFile, UNSTEADY, complaint_of, marks_of, place_of};
+use crate::values::Values;
+use mysql_bind_core::{Failure, Request};
+use mysql_named_params::client::first_unportable_in_client;
+use mysql_named_params::portable::Unportable;
+use mysql_named_params::steady::first_unsteady;
+use mysql_named_params::tokens::first_token;
+use std::alloc::{AllocError, Global};
+
+/// Adds what is wrong with a query that is refused for this: all unsteady bytes, all constructs, or
+/// all marks.
+pub fn add_all_faults(
+    faults: &mut Vec<Fault>,
+    alloc: Global,
+    query: &QueryFile<'_>,
+    request: Request,
+    failure: Failure,
+) -> Result<(), Complaint> {
+    let mode = request.literals.no_backslash_escape();
+    match failure {
+        Failure::Unsteady { .. } => Ok(add_unsteady(faults, alloc, query)?),
+        Failure::Unportable(found) => Ok(add_constructs(faults, alloc, query, mode, found)?),
+        Failure::Marks => Ok(add_marks(faults, alloc, query, mode)?),
+        failure => match complaint_of(alloc, query, &Values::new(alloc), request, failure)? {
+            Complaint::Refused(found) => {
+                for fault in found {
+                    add_fault(faults, fault.place, fault.what)?;
+                }
+                Ok(())
+            }
+            complaint => Err(complaint),
+        },
+    }
+}
+
+// Adds a fault at a byte of the query.
+fn add_at(
+    faults: &mut Vec<Fault>,
+    alloc: Global,
+    query: &QueryFile<'_>,
+    at: usize,
+    what: &str,
+) -> Result<(), AllocError> {
+    let place = place_of(alloc, query, at)?;
+    add_fault(faults, place, String::from_str(alloc, what)?)
+}
+
+// How many bytes at the front aren't steady.
+fn unsteady_len(text: &[u8]) -> usize {
+    match text
+        .iter()
+        .position(|byte| byte.is_ascii() && *byte != b'\\')
+    {
+        Some(len) => len,
+        None => text.len(),
+    }
+}
+
+// Adds a fault for each run of bytes that aren't steady.
+fn add_unsteady(
+    faults: &mut Vec<Fault>,
+    alloc: Global,
+    query: &QueryFile<'_>,
+) -> Result<(), AllocError> {
+    let text = query.bytes.as_slice();
+    let mut rest = text;
+    // Each run has a byte.
+    for _ in 0..text.len() {
+        let Some(before) = first_unsteady(rest) else {
+            break;
+        };
+        let before = before.min(rest.len());
+        let at = text.len().saturating_sub(rest.len()).saturating_add(before);
+        add_at(faults, alloc, query, at, UNSTEADY)?;
+        let run = &rest[before..];
+        rest = &run[unsteady_len(run).min(run.len())..];
+    }
+    Ok(())
+}
+
+// Adds a fault for each mark.
+fn add_marks(
+    faults: &mut Vec<Fault>,
+    alloc: Global,
+    query: &QueryFile<'_>,
+    mode: bool,
+) -> Result<(), AllocError> {
+    for at in marks_of(alloc, query.bytes.as_slice(), mode)? {
+        add_at(faults, alloc, query, at, MARK)?;
+    }
+    Ok(())
+}
+
+// Makes spaces of the token at this index. Whether it was there.
+fn blanked(text: &mut [u8], at: usize, mode: bool) -> bool {
+    if at >= text.len() {
+        return false;
+    }
+    let (_, len) = first_token(&text[at..], mode);
+    let mut changed = false;
+    for byte in text.iter_mut().skip(at).take(len) {
+        changed = changed || *byte != b' ';
+        *byte = b' ';
+    }
+    changed
+}
+
+// Adds a fault for each construct. Each further one is looked for as if spaces stood in the places
+// of those before it.
+fn add_constructs(
+    faults: &mut Vec<Fault>,
+    alloc: Global,
+    query: &QueryFile<'_>,
+    mode: bool,
+    first: Unportable,
+) -> Result<(), AllocError> {
+    let mut text = Vec::from_slice(alloc, query.bytes.as_slice())?;
+    let mut found = first;
+    // Each turn makes a space of a byte.
+    for _ in 0..query.bytes.len() {
+        let what = format!(in alloc; "{}", found.construct)?;
+        add_at(faults, alloc, query, found.at, what.as_str())?;
+        if !blanked(text.as_mut_slice(), found.at, mode) {
+            break;
+        }
+        match first_unportable_in_client(text.as_slice(), mode) {
+            Some(next) => found = next,
+            None => break,
+        }
+    }
+    Ok(())
+}

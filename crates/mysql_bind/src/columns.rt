@@ -1,0 +1,237 @@
+//! The columns of a table, and what is said of wrong ones.
+use crate::complaint::{Complaint, Fault, Place, add_fault, bad_word};
+use crate::matching::{NamePlace, add_unused, is_assigned, is_name_of};
+use crate::query_file::{QueryFile, place_of};
+use crate::values::{TYPES, Values, type_of};
+use csv::ByteRecord;
+use mysql_bind_core::{Assignment, ValueType};
+use mysql_values::show::Shown;
+use std::alloc::{AllocError, Global};
+
+/// A column of a table.
+#[derive(Drop)]
+pub struct Column {
+    /// Its name, which is a name of the query.
+    pub name: Vec<u8>,
+    /// How its fields are taken.
+    pub value_type: ValueType,
+    /// Whether the query has the name.
+    pub used: bool,
+}
+
+/// The type that a word of `--column` gives to a column.
+#[derive(Drop)]
+pub struct ColumnType {
+    name: Vec<u8>,
+    value_type: ValueType,
+}
+
+/// What the columns of a table are held against.
+#[derive(Drop)]
+pub struct Wanted<'a> {
+    /// The query.
+    pub query: QueryFile<'a>,
+    /// Its names.
+    pub places: Vec<NamePlace>,
+    /// The values that are the same in each row.
+    pub fixed: Values,
+    /// What the words of `--column` give.
+    pub types: Vec<ColumnType>,
+    /// The word of `--null-text`.
+    pub null_text: Option<Vec<u8>>,
+    /// Whether values without a name in the query are taken.
+    pub allow_unused: bool,
+    /// The path of the table, as messages have it.
+    pub path: String,
+}
+
+/// The types that the words of `--column` give. A name that is given twice is refused.
+pub fn column_types(alloc: Global, words: &[&str]) -> Result<Vec<ColumnType>, Complaint> {
+    let mut types: Vec<ColumnType> = Vec::new(alloc);
+    for word in words {
+        let (name, type_word) = match word.split_once(':') {
+            Some((name, type_word)) => (name, type_word),
+            None => (*word, ""),
+        };
+        let Some(value_type) = type_of(type_word) else {
+            let what = format!(in alloc; "--column: write NAME:TYPE, with one of {TYPES}")?;
+            return Err(bad_word(alloc, what.as_str()));
+        };
+        if types
+            .iter()
+            .any(|other| other.name.as_slice() == name.as_bytes())
+        {
+            let what = format!(in alloc; "--column {name} is given twice")?;
+            return Err(bad_word(alloc, what.as_str()));
+        }
+        let name = Vec::from_slice(alloc, name.as_bytes())?;
+        if types.push(ColumnType { name, value_type }).is_err() {
+            return Err(Complaint::Memory);
+        }
+    }
+    Ok(types)
+}
+
+// The type of the column with this name: text, unless a word says another.
+fn column_type(types: &[ColumnType], name: &[u8]) -> ValueType {
+    for found in types {
+        if found.name.as_slice() == name {
+            return found.value_type;
+        }
+    }
+    ValueType::Text
+}
+
+// The columns that a header names.
+fn named_columns(
+    alloc: Global,
+    wanted: &Wanted<'_>,
+    header: &ByteRecord,
+) -> Result<Vec<Column>, AllocError> {
+    let mut columns = Vec::new(alloc);
+    for field in header.iter() {
+        let column = Column {
+            name: Vec::from_slice(alloc, field)?,
+            value_type: column_type(wanted.types.as_slice(), field),
+            used: is_name_of(wanted.places.as_slice(), field),
+        };
+        if columns.push(column).is_err() {
+            return Err(AllocError);
+        }
+    }
+    Ok(columns)
+}
+
+// Whether one of the columns has this name.
+fn is_column(columns: &[Column], name: &[u8]) -> bool {
+    columns.iter().any(|column| column.name.as_slice() == name)
+}
+
+// The place of the header.
+fn header_place(alloc: Global, wanted: &Wanted<'_>, line: u64) -> Result<Place, AllocError> {
+    let path = String::from_str(alloc, wanted.path.as_str())?;
+    Ok(Place::Row { path, line })
+}
+
+// Adds a fault for each column that stands twice, has a value by an option, or isn't in the query.
+fn add_wrong_columns(
+    faults: &mut Vec<Fault>,
+    alloc: Global,
+    wanted: &Wanted<'_>,
+    columns: &[Column],
+    line: u64,
+) -> Result<(), AllocError> {
+    for i in 0..columns.len() {
+        let name = columns[i].name.as_slice();
+        let shown = Shown(name);
+        if is_column(&columns[..i], name) {
+            let what = format!(in alloc; "two columns are named `{shown}`")?;
+            add_fault(faults, header_place(alloc, wanted, line)?, what)?;
+        } else if is_assigned(wanted.fixed.assignments.as_slice(), name) {
+            let what = format!(in alloc; "the column `{shown}` has a value by an option too")?;
+            add_fault(faults, header_place(alloc, wanted, line)?, what)?;
+        } else if !columns[i].used && !wanted.allow_unused {
+            let what = format!(in alloc;
+                "the column `{shown}`: {} has no such name (--allow-unused takes it)",
+                wanted.query.path
+            )?;
+            add_fault(faults, header_place(alloc, wanted, line)?, what)?;
+        }
+    }
+    Ok(())
+}
+
+// Adds a fault for each name without a column and a value, at its first place.
+fn add_missing_columns(
+    faults: &mut Vec<Fault>,
+    alloc: Global,
+    wanted: &Wanted<'_>,
+    columns: &[Column],
+) -> Result<(), AllocError> {
+    for place in wanted.places.as_slice() {
+        if is_column(columns, place.name.as_slice())
+            || is_assigned(wanted.fixed.assignments.as_slice(), place.name.as_slice())
+        {
+            continue;
+        }
+        let what = format!(in alloc;
+            "no column for `:{}` in {}: name one so, or give it by --set, --file, --env, --null, \
+             --json or --pairs",
+            Shown(place.name.as_slice()),
+            wanted.path.as_str()
+        )?;
+        add_fault(faults, place_of(alloc, &wanted.query, place.at)?, what)?;
+    }
+    Ok(())
+}
+
+// Adds a fault for each word of `--column` without a column.
+fn add_untyped(
+    faults: &mut Vec<Fault>,
+    alloc: Global,
+    wanted: &Wanted<'_>,
+    columns: &[Column],
+) -> Result<(), AllocError> {
+    for found in wanted.types.as_slice() {
+        let name = found.name.as_slice();
+        if !is_column(columns, name) {
+            let what = format!(in alloc;
+                "--column {}: {} has no such column",
+                Shown(name),
+                wanted.path.as_str()
+            )?;
+            add_fault(faults, Place::Words, what)?;
+        }
+    }
+    Ok(())
+}
+
+/// The columns that a header names, if each name of the query has one or a value.
+pub fn columns_of(
+    alloc: Global,
+    wanted: &Wanted<'_>,
+    header: &ByteRecord,
+    line: u64,
+) -> Result<Vec<Column>, Complaint> {
+    let columns = named_columns(alloc, wanted, header)?;
+    let mut faults = Vec::new(alloc);
+    add_missing_columns(&mut faults, alloc, wanted, columns.as_slice())?;
+    add_wrong_columns(&mut faults, alloc, wanted, columns.as_slice(), line)?;
+    add_untyped(&mut faults, alloc, wanted, columns.as_slice())?;
+    if !wanted.allow_unused {
+        add_unused(
+            &mut faults,
+            alloc,
+            &wanted.query,
+            wanted.places.as_slice(),
+            &wanted.fixed,
+        )?;
+    }
+    if faults.is_empty() {
+        Ok(columns)
+    } else {
+        Err(Complaint::Refused(faults))
+    }
+}
+
+/// Adds the values that are the same in each row, if the query has their names.
+pub fn add_fixed(
+    assignments: &mut Vec<Assignment>,
+    alloc: Global,
+    wanted: &Wanted<'_>,
+) -> Result<(), AllocError> {
+    for fixed in wanted.fixed.assignments.as_slice() {
+        if !is_name_of(wanted.places.as_slice(), fixed.name.as_slice()) {
+            continue;
+        }
+        let assignment = Assignment {
+            name: Vec::from_slice(alloc, fixed.name.as_slice())?,
+            value_type: fixed.value_type,
+            bytes: Vec::from_slice(alloc, fixed.bytes.as_slice())?,
+        };
+        if assignments.push(assignment).is_err() {
+            return Err(AllocError);
+        }
+    }
+    Ok(())
+}

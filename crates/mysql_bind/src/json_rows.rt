@@ -1,0 +1,134 @@
+//! The rows of NDJSON: a JSON object on each line.
+use crate::columns::{Wanted, add_fixed};
+use crate::complaint::{Complaint, Fault, Place, add_fault, bad_row};
+use crate::json_members::add_members;
+use crate::matching::{add_unused, is_assigned, is_name_of};
+use crate::script::Script;
+use crate::values::Values;
+use mysql_bind_core::Assignment;
+use mysql_values::show::Shown;
+use std::alloc::{AllocError, Global};
+
+// What is said of an object, at its row.
+fn at_row(alloc: Global, wanted: &Wanted<'_>, line: u64, complaint: Complaint) -> Complaint {
+    match complaint {
+        Complaint::Unusable(faults) | Complaint::Refused(faults) => match faults.first() {
+            Some(fault) => bad_row(alloc, wanted.path.as_str(), line, fault.what.as_str()),
+            None => Complaint::Memory,
+        },
+        complaint => complaint,
+    }
+}
+
+// The place of a row.
+fn row_place(alloc: Global, wanted: &Wanted<'_>, line: u64) -> Result<Place, AllocError> {
+    let path = String::from_str(alloc, wanted.path.as_str())?;
+    Ok(Place::Row { path, line })
+}
+
+// A fault for each name without a value in this row, and for each member without a name.
+fn row_faults(
+    alloc: Global,
+    wanted: &Wanted<'_>,
+    values: &Values,
+    line: u64,
+) -> Result<Vec<Fault>, AllocError> {
+    let mut faults = Vec::new(alloc);
+    for place in wanted.places.as_slice() {
+        if !is_assigned(values.assignments.as_slice(), place.name.as_slice())
+            && !is_assigned(wanted.fixed.assignments.as_slice(), place.name.as_slice())
+        {
+            let what = format!(in alloc; "no value for `:{}`", Shown(place.name.as_slice()))?;
+            add_fault(&mut faults, row_place(alloc, wanted, line)?, what)?;
+        }
+    }
+    for assignment in values.assignments.as_slice() {
+        if !wanted.allow_unused
+            && !is_name_of(wanted.places.as_slice(), assignment.name.as_slice())
+        {
+            let what = format!(in alloc;
+                "`{}`: {} has no such name (--allow-unused takes it)",
+                Shown(assignment.name.as_slice()),
+                wanted.query.path
+            )?;
+            add_fault(&mut faults, row_place(alloc, wanted, line)?, what)?;
+        }
+    }
+    Ok(faults)
+}
+
+// What an object assigns.
+fn object_assignments(
+    alloc: Global,
+    wanted: &Wanted<'_>,
+    line: u64,
+    text: &[u8],
+    decimals: bool,
+) -> Result<Vec<Assignment>, Complaint> {
+    let mut values = Values::new(alloc);
+    if let Err(complaint) = add_members(&mut values, alloc, wanted.path.as_str(), text, decimals) {
+        return Err(at_row(alloc, wanted, line, complaint));
+    }
+    let faults = row_faults(alloc, wanted, &values, line)?;
+    if !faults.is_empty() {
+        return Err(Complaint::Refused(faults));
+    }
+    let mut assignments = Vec::new(alloc);
+    for assignment in values.assignments {
+        if is_name_of(wanted.places.as_slice(), assignment.name.as_slice())
+            && assignments.push(assignment).is_err()
+        {
+            return Err(Complaint::Memory);
+        }
+    }
+    add_fixed(&mut assignments, alloc, wanted)?;
+    Ok(assignments)
+}
+
+// Refuses values that are the same in each row and have no name in the query.
+fn check_fixed(alloc: Global, wanted: &Wanted<'_>) -> Result<(), Complaint> {
+    let mut faults = Vec::new(alloc);
+    if !wanted.allow_unused {
+        add_unused(
+            &mut faults,
+            alloc,
+            &wanted.query,
+            wanted.places.as_slice(),
+            &wanted.fixed,
+        )?;
+    }
+    if faults.is_empty() {
+        Ok(())
+    } else {
+        Err(Complaint::Refused(faults))
+    }
+}
+
+/// Adds the rows of NDJSON to the script. A line of white space is no row.
+pub fn add_objects(
+    script: &mut Script<'_>,
+    rt: &HostRuntime,
+    decimals: bool,
+    bytes: &[u8],
+) -> Result<(), Complaint> {
+    check_fixed(rt.alloc(), &script.wanted)?;
+    let mut rest = bytes;
+    let mut line = 1u64;
+    // Each line has a byte.
+    for _ in 0..bytes.len() {
+        if rest.is_empty() {
+            break;
+        }
+        let (text, after) = match rest.iter().position(|byte| *byte == b'\n') {
+            Some(at) => (&rest[..at], &rest[at + 1..]),
+            None => (rest, &rest[rest.len()..]),
+        };
+        if !text.iter().all(|byte| byte.is_ascii_whitespace()) {
+            let assignments = object_assignments(rt.alloc(), &script.wanted, line, text, decimals)?;
+            script.add(rt, assignments, line)?;
+        }
+        line = line.saturating_add(1);
+        rest = after;
+    }
+    Ok(())
+}

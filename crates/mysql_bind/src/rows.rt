@@ -1,0 +1,134 @@
+//! The command `rows`: the query once for each row of a table.
+use crate::columns::{Wanted, column_types};
+use crate::complaint::{Complaint, bad_word};
+use crate::json_rows::add_objects;
+use crate::matching::name_places;
+use crate::query_file::{QueryFile, complaint_of, read_query};
+use crate::records::add_records;
+use crate::requests::request_of;
+use crate::script::Script;
+use crate::sources::{Sources, shown_path};
+use crate::values::{Values, values_of};
+use clap::ArgMatches;
+use mysql_bind_core::{Request, check_query};
+use std::alloc::{AllocError, Global};
+
+// How a table is written.
+#[derive(Clone, Copy, PartialEq, Eq)]
+enum Form {
+    Csv,
+    Tsv,
+    Ndjson,
+}
+
+// The table of the words, which is one.
+fn table_of<'a>(alloc: Global, matches: &ArgMatches<'a>) -> Result<(Form, &'a str), Complaint> {
+    match (
+        matches.get_str("csv"),
+        matches.get_str("tsv"),
+        matches.get_str("ndjson"),
+    ) {
+        (Some(path), None, None) => Ok((Form::Csv, path)),
+        (None, Some(path), None) => Ok((Form::Tsv, path)),
+        (None, None, Some(path)) => Ok((Form::Ndjson, path)),
+        _ => Err(bad_word(alloc, "rows: give one of --csv, --tsv and --ndjson")),
+    }
+}
+
+// Refuses options that don't go together.
+fn check_options(alloc: Global, matches: &ArgMatches<'_>, form: Form) -> Result<(), Complaint> {
+    let typed = matches.get_strs("column").is_some() || matches.get_str("null-text").is_some();
+    if form == Form::Ndjson && typed {
+        return Err(bad_word(
+            alloc,
+            "--column and --null-text are for --csv and --tsv: JSON has types and null",
+        ));
+    }
+    if matches.get_flag("stream") && matches.get_str("output").is_some() {
+        return Err(bad_word(
+            alloc,
+            "--output is written whole or not at all: without --stream",
+        ));
+    }
+    Ok(())
+}
+
+// The word of `--null-text`.
+fn null_text_of(alloc: Global, matches: &ArgMatches<'_>) -> Result<Option<Vec<u8>>, AllocError> {
+    match matches.get_str("null-text") {
+        Some(text) => Ok(Some(Vec::from_slice(alloc, text.as_bytes())?)),
+        None => Ok(None),
+    }
+}
+
+// A script without a row.
+fn empty_script<'a>(
+    alloc: Global,
+    matches: &ArgMatches<'_>,
+    path: &str,
+    query: QueryFile<'a>,
+    fixed: Values,
+    request: Request,
+) -> Result<Script<'a>, Complaint> {
+    let mode = request.literals.no_backslash_escape();
+    let places = name_places(alloc, query.bytes.as_slice(), mode)?;
+    let wanted = Wanted {
+        query,
+        places,
+        fixed,
+        types: column_types(alloc, matches.get_strs("column").unwrap_or(&[]))?,
+        null_text: null_text_of(alloc, matches)?,
+        allow_unused: matches.get_flag("allow-unused"),
+        path: String::from_str(alloc, shown_path(path))?,
+    };
+    Ok(Script {
+        wanted,
+        request,
+        transaction: matches.get_flag("transaction"),
+        stream: matches.get_flag("stream"),
+        begun: false,
+        rows: Vec::new(alloc),
+        lines: Vec::new(alloc),
+    })
+}
+
+// Adds the rows of the table.
+fn add_rows(
+    script: &mut Script<'_>,
+    rt: &HostRuntime,
+    form: Form,
+    decimals: bool,
+    bytes: &[u8],
+) -> Result<(), Complaint> {
+    match form {
+        Form::Csv => add_records(script, rt, false, bytes),
+        Form::Tsv => add_records(script, rt, true, bytes),
+        Form::Ndjson => add_objects(script, rt, decimals, bytes),
+    }
+}
+
+/// Writes the query once for each row of the table.
+pub fn rows(rt: &HostRuntime, matches: &ArgMatches<'_>) -> Result<(), Complaint> {
+    let request = request_of(rt.alloc(), matches)?;
+    let (form, path) = table_of(rt.alloc(), matches)?;
+    check_options(rt.alloc(), matches, form)?;
+    let mut sources = Sources::new(rt.alloc());
+    let query = read_query(&mut sources, rt, matches.get_str("query").unwrap_or("-"))?;
+    let fixed = values_of(&mut sources, rt, matches)?;
+    if let Err(failure) = check_query(rt.alloc(), query.bytes.as_slice(), request) {
+        let values = Values::new(rt.alloc());
+        return Err(complaint_of(rt.alloc(), &query, &values, request, failure)?);
+    }
+    let mut script = empty_script(rt.alloc(), matches, path, query, fixed, request)?;
+    let bytes = sources.read(rt, path)?;
+    let decimals = matches.get_str("decimals").is_some();
+    match add_rows(&mut script, rt, form, decimals, bytes.as_slice()) {
+        Ok(()) => script.finish(rt, matches.get_str("output")),
+        Err(complaint) => {
+            if script.stream {
+                script.write_streamed(rt)?;
+            }
+            Err(complaint)
+        }
+    }
+}

@@ -1,0 +1,198 @@
+//! The rows that are bound, and what is said of a refused one.
+use crate::columns::Wanted;
+use crate::complaint::{Complaint, Fault, Place, add_fault, bad_row};
+use crate::output::write_text;
+use crate::query_file::complaint_of;
+use crate::values::{Values, wrong_value};
+use mysql_bind_core::{Assignment, Failure, Request, typed_value};
+use mysql_bind_rows::{
+    COMMIT, RefusedRow, Row, RowsFailure, START, script_of, stream_rows, write_rows,
+};
+use mysql_values::show::Shown;
+use std::alloc::{AllocError, Global};
+
+// So many rows are written at once by `--stream`.
+const STREAMED_ROWS: usize = 256;
+
+/// The rows of a table, and how they are written.
+#[derive(Drop)]
+pub struct Script<'a> {
+    /// The query, and what the table is held against.
+    pub wanted: Wanted<'a>,
+    /// What is asked of the query.
+    pub request: Request,
+    /// Whether a transaction is asked for.
+    pub transaction: bool,
+    /// Whether rows are written before all are bound.
+    pub stream: bool,
+    /// Whether a row was written.
+    pub begun: bool,
+    /// The rows that aren't written yet.
+    pub rows: Vec<Row>,
+    /// The line at which each begins.
+    pub lines: Vec<u64>,
+}
+
+impl Script<'_> {
+    /// Adds a row.
+    pub fn add(
+        &mut self,
+        rt: &HostRuntime,
+        assignments: Vec<Assignment>,
+        line: u64,
+    ) -> Result<(), Complaint> {
+        if self.rows.push(Row { assignments }).is_err() || self.lines.push(line).is_err() {
+            return Err(Complaint::Memory);
+        }
+        if self.stream && self.rows.len() >= STREAMED_ROWS {
+            self.write_streamed(rt)?;
+        }
+        Ok(())
+    }
+
+    // Writes what begins the script, once.
+    fn begin(&mut self, rt: &HostRuntime) -> Result<(), Complaint> {
+        if self.transaction && !self.begun {
+            write_text(rt, None, START)?;
+        }
+        self.begun = true;
+        Ok(())
+    }
+
+    /// Writes the rows that wait.
+    pub fn write_streamed(&mut self, rt: &HostRuntime) -> Result<(), Complaint> {
+        if self.rows.is_empty() {
+            return Ok(());
+        }
+        self.begin(rt)?;
+        let text = self.wanted.query.bytes.as_slice();
+        let written = match stream_rows(
+            rt.alloc(),
+            text,
+            self.rows.as_slice(),
+            self.request,
+            &mut rt.stdout(),
+        ) {
+            Ok(()) => Ok(()),
+            Err(failure) => Err(self.refused(rt.alloc(), failure)),
+        };
+        self.rows.clear();
+        self.lines.clear();
+        written
+    }
+
+    /// Writes what is left, and what ends the script.
+    pub fn finish(&mut self, rt: &HostRuntime, output: Option<&str>) -> Result<(), Complaint> {
+        if self.stream {
+            self.write_streamed(rt)?;
+            self.begin(rt)?;
+            return if self.transaction {
+                write_text(rt, None, COMMIT)
+            } else {
+                Ok(())
+            };
+        }
+        match output {
+            Some(_) => self.write_file(rt, output),
+            None => self.write_all(rt),
+        }
+    }
+
+    // Writes the whole script to standard output.
+    fn write_all(&self, rt: &HostRuntime) -> Result<(), Complaint> {
+        match write_rows(
+            rt.alloc(),
+            self.wanted.query.bytes.as_slice(),
+            self.rows.as_slice(),
+            self.request,
+            self.transaction,
+            &mut rt.stdout(),
+        ) {
+            Ok(()) => Ok(()),
+            Err(failure) => Err(self.refused(rt.alloc(), failure)),
+        }
+    }
+
+    // Writes the whole script to a file.
+    fn write_file(&self, rt: &HostRuntime, output: Option<&str>) -> Result<(), Complaint> {
+        match script_of(
+            rt.alloc(),
+            self.wanted.query.bytes.as_slice(),
+            self.rows.as_slice(),
+            self.request,
+            self.transaction,
+        ) {
+            Ok(text) => write_text(rt, output, text.as_slice()),
+            Err(failure) => Err(self.refused(rt.alloc(), failure)),
+        }
+    }
+
+    // A refusal, as a complaint; a complaint out of memory is that.
+    fn refused(&self, alloc: Global, failure: RowsFailure) -> Complaint {
+        let complaint = match failure {
+            RowsFailure::Query(failure) => complaint_of(
+                alloc,
+                &self.wanted.query,
+                &Values::new(alloc),
+                self.request,
+                failure,
+            ),
+            RowsFailure::Row(refused) => self.row_refused(alloc, refused),
+            RowsFailure::Write => Ok(Complaint::Write),
+            RowsFailure::Memory(_) => Ok(Complaint::Memory),
+        };
+        match complaint {
+            Ok(complaint) => complaint,
+            Err(_) => Complaint::Memory,
+        }
+    }
+
+    // What is said of a refused row.
+    fn row_refused(&self, alloc: Global, refused: RefusedRow) -> Result<Complaint, AllocError> {
+        let line = match self.lines.get(refused.number) {
+            Some(line) => *line,
+            None => 0,
+        };
+        match refused.failure {
+            Failure::NoValue => match self.rows.get(refused.number) {
+                Some(row) => self.wrong_fields(alloc, row.assignments.as_slice(), line),
+                None => Ok(Complaint::Memory),
+            },
+            Failure::Redefined(name) => {
+                let what = format!(in alloc; "`{}` is given two values", Shown(name.as_slice()))?;
+                Ok(bad_row(alloc, self.wanted.path.as_str(), line, what.as_str()))
+            }
+            failure => complaint_of(
+                alloc,
+                &self.wanted.query,
+                &Values::new(alloc),
+                self.request,
+                failure,
+            ),
+        }
+    }
+
+    // A fault for each field whose bytes have no value of its type.
+    fn wrong_fields(
+        &self,
+        alloc: Global,
+        assignments: &[Assignment],
+        line: u64,
+    ) -> Result<Complaint, AllocError> {
+        let mut faults: Vec<Fault> = Vec::new(alloc);
+        for assignment in assignments {
+            let value_type = assignment.value_type;
+            if typed_value(alloc, value_type, assignment.bytes.as_slice())?.is_some() {
+                continue;
+            }
+            let what = format!(in alloc;
+                "`{}` {}",
+                Shown(assignment.name.as_slice()),
+                wrong_value(value_type)
+            )?;
+            let path = String::from_str(alloc, self.wanted.path.as_str())?;
+            add_fault(&mut faults, Place::Row { path, line }, what)?;
+        }
+        Ok(Complaint::Refused(faults))
+    }
+}
