@@ -10,6 +10,7 @@ import sys
 sys.path.insert(0, os.path.join(os.path.dirname(os.path.abspath(__file__)), "..", "..", "bindings", "python"))
 
 import again
+import anew
 import beside
 import client
 import drivers
@@ -53,6 +54,7 @@ def main(path: str, mysql_query: str, folder: str) -> int:
     steady.run(tests, path, folder)
     again.run(tests, path, folder)
     rewritten.run(tests, path, folder)
+    anew.run(tests, path, folder)
     # It ends the second server.
     others.run(tests, path, mysql_query, folder)
     print(f"{version}: {tests.passed} passed, {tests.failed} failed", flush=True)

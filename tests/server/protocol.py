@@ -158,6 +158,17 @@ class Connection:
         self._send(struct.pack("<BI", _COM_CLOSE, number))
         return result
 
+    def prepared_before(self, text: bytes, others: list) -> Result:
+        """Prepare a statement without parameters, send others, and execute it then. Return its rows in binary form."""
+        number, _ = self._prepare(text)
+        for other in others:
+            self.query(other)
+        self._send(struct.pack("<BIBI", _COM_EXECUTE, number, 0, 1))
+        try:
+            return self._result()
+        finally:
+            self._send(struct.pack("<BI", _COM_CLOSE, number))
+
     def executed(self, text: bytes, kind: int, values: list) -> Result:
         """Prepare a statement, execute it with values of one type in binary form. Return the rows in that form."""
         number, _ = self._prepare(text)
