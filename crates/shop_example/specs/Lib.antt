@@ -1,4 +1,3 @@
-pub mod ArticleList
 pub mod BalanceQuery
 pub mod Cell
 pub mod CustomerRow

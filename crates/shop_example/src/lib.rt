@@ -1,7 +1,6 @@
 //! A shop's queries and rows: a caller of the library, through which docs/GUIDE.md walks.
 #![tactic(auto)]
 
-pub mod article_list;
 pub mod article_query;
 pub mod balance_query;
 pub mod cell;

@@ -1,0 +1,3 @@
+pub mod ArticleList
+pub mod PriceRows
+pub mod SortedArticles
