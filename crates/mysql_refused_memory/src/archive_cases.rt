@@ -87,8 +87,8 @@ const FORMS: &[(&str, FormRow)] = cases! {
         b"\x01a\xFC\x00\x01x\x01b", Err("End { place: 1, position: 6 }"), Asked;
 };
 
-/// A query, a form, and the answer or refusal.
-type BoundRow = (&'static [u8], &'static [u8], Wanted);
+/// A query, a form, the answer or refusal, and whether the call asks for memory.
+type BoundRow = (&'static [u8], &'static [u8], Wanted, Memory);
 
 /// The number -3 for `a`, and by position.
 const NUMBER_OF_A: &[u8] = b"\x01a\x01\x00\xFD";
@@ -105,37 +105,40 @@ const FLOAT_OF_A: &[u8] = b"\x01a\x04\x00\x00\x00\x80\x3F";
 const LONG_QUERY: &[u8] = b":a /* a comment that is longer than it */";
 
 const BOUND: &[(&str, BoundRow)] = cases! {
-    "bind_into of a name" => b"(:a-10)", NUMBER_OF_A, Ok(b"(-3-10)");
-    "bind_into of a repeated name" => b":a%:a", b"\x01a\x01\x00\x05", Ok(b"5%5");
-    "bind_into of a text" => b"= ?", b"\x00\xFC\x00\x04it's", Ok(b"= 'it\\'s'");
-    "bind_into of values" => b"?,?", b"\x00\x01\x00\xFD\x00\x06\x00", Ok(b"-3,NULL");
-    "bind_into of nothing" => b"':a'", b"", Ok(b"':a'");
-    "bind_into of a room that is too short" => LONG_QUERY, NUMBER_OF_A, Err(Told::Room { len: 41 });
+    "bind_into of a name" => b"(:a-10)", NUMBER_OF_A, Ok(b"(-3-10)"), Asked;
+    "bind_into of a repeated name" => b":a%:a", b"\x01a\x01\x00\x05", Ok(b"5%5"), Asked;
+    "bind_into of a text" => b"= ?", b"\x00\xFC\x00\x04it's", Ok(b"= 'it\\'s'"), Asked;
+    "bind_into of values" => b"?,?", b"\x00\x01\x00\xFD\x00\x06\x00", Ok(b"-3,NULL"), Asked;
+    "bind_into of nothing" => b"':a'", b"", Ok(b"':a'"), Never;
+    "bind_into of a room that is too short" =>
+        LONG_QUERY, NUMBER_OF_A, Err(Told::Room { len: 41 }), Asked;
     "bind_into of a cut form" =>
-        b":a ?", b"\x01a\x01\x00", Err(Told::FormEnd { place: 0, position: 0, });
+        b":a ?", b"\x01a\x01\x00", Err(Told::FormEnd { place: 0, position: 0, }), Asked;
     "bind_into of a form with a bad lead" =>
-        b":a ?", b"\xFF", Err(Told::FormLengthLead { place: 0, position: 0, lead: 255, });
+        b":a ?", b"\xFF", Err(Told::FormLengthLead { place: 0, position: 0, lead: 255, }), Asked;
     "bind_into of a form with an unknown type" =>
-        b":a ?", b"\x01a\x15\x00", Err(Told::FormType { place: 0, position: 0, number: 21, });
+        b":a ?", b"\x01a\x15\x00", Err(Told::FormType { place: 0, position: 0, number: 21, }), Asked;
     "bind_into of a form with and without names" =>
-        b":a ?", MIXED_FORM, Err(Told::FormMixed { place: 1, position: 5, });
+        b":a ?", MIXED_FORM, Err(Told::FormMixed { place: 1, position: 5, }), Asked;
     "bind_into of a form with a repeated name" =>
-        b":a ?", REPEATED_FORM, Err(Told::FormRepeated { place: 1, position: 6, len: 1, });
-    "bind_into of names and marks" => b":a ?", NUMBER, Err(Told::Mixed);
+        b":a ?", REPEATED_FORM, Err(Told::FormRepeated { place: 1, position: 6, len: 1, }), Asked;
+    "bind_into of names and marks" => b":a ?", NUMBER, Err(Told::Mixed), Asked;
     "bind_into of a missing name" =>
-        b":b", NUMBER_OF_A, Err(Told::Missing { place: 0, position: 1, len: 1, });
-    "bind_into of named parameters for marks" => b"?", NUMBER_OF_A, Err(Told::NamedForPositional);
-    "bind_into of values for names" => b":a", NUMBER, Err(Told::PositionalForNamed);
-    "bind_into of too few values" => b"?,?", NUMBER, Err(Told::MarkCount { marks: 2, values: 1, });
+        b":b", NUMBER_OF_A, Err(Told::Missing { place: 0, position: 1, len: 1, }), Asked;
+    "bind_into of named parameters for marks" =>
+        b"?", NUMBER_OF_A, Err(Told::NamedForPositional), Asked;
+    "bind_into of values for names" => b":a", NUMBER, Err(Told::PositionalForNamed), Asked;
+    "bind_into of too few values" =>
+        b"?,?", NUMBER, Err(Told::MarkCount { marks: 2, values: 1, }), Asked;
     "bind_into of a place that does not stand alone" =>
-        b"x:a", NUMBER_OF_A, Err(Told::NotAlone { place: 0, position: 1, });
-    "bind_into of a float" => b":a", FLOAT_OF_A, Err(Told::Float { place: 0 });
+        b"x:a", NUMBER_OF_A, Err(Told::NotAlone { place: 0, position: 1, }), Asked;
+    "bind_into of a float" => b":a", FLOAT_OF_A, Err(Told::Float { place: 0 }), Asked;
 };
 
-fn bound(alloc: Global, (query, form, wanted): BoundRow) -> Outcome {
+fn bound(alloc: Global, (query, form, wanted, memory): BoundRow) -> Outcome {
     let mut room = *ROOM;
     let told = bind_into(alloc, query, form, false, &mut room);
-    written(told, &room, wanted)
+    written(told, &room, wanted).with(memory)
 }
 
 /// A query, a form, the answer or refusal for any server, and whether the call asks for memory.
