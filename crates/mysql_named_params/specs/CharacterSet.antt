@@ -1,6 +1,6 @@
 -- How a reader in a character set sees a text (MySQL Reference Manual, "Supported Character Sets
 -- and Collations"). In a set such as gbk, big5, sjis, gb18030, latin1 or utf8mb4 a byte below 128
--- is ASCII, unless a byte before it takes it into its character, as over gbk the byte BF takes `'`.
+-- is ASCII, unless a byte before it takes it into its character, as over gbk the byte BF takes `\`.
 -- Not such a set are swe7, in which a byte below 128 may be another letter, and ucs2, utf16 and
 -- utf32, in which no connection sends queries.
 use Rattle.std.specs.Prelude.{ℕ, zero, suc, nat_le, if◌then◌else◌, List, [], ◌∷◌}
