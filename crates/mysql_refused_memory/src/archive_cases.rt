@@ -117,7 +117,8 @@ const BOUND: &[(&str, BoundRow)] = cases! {
     "bind_into of a form with a bad lead" =>
         b":a ?", b"\xFF", Err(Told::FormLengthLead { place: 0, position: 0, lead: 255, }), Asked;
     "bind_into of a form with an unknown type" =>
-        b":a ?", b"\x01a\x15\x00", Err(Told::FormType { place: 0, position: 0, number: 21, }), Asked;
+        b":a ?", b"\x01a\x15\x00", Err(Told::FormType { place: 0, position: 0, number: 21, }),
+        Asked;
     "bind_into of a form with and without names" =>
         b":a ?", MIXED_FORM, Err(Told::FormMixed { place: 1, position: 5, }), Asked;
     "bind_into of a form with a repeated name" =>
