@@ -151,10 +151,58 @@ public:
     }
     /* Appends a parameter in order. */
     Form &append(const Value &value) { return append_as(nullptr, value); }
+    /* Those below append what bind_fragments alone takes; in order if the name is null. An exact number, as "-1.50". */
+    Form &append_decimal(const char *name, const std::string &digits)
+    {
+        return fitting(mysql_params_append_decimal(&form_, name, whole(digits)));
+    }
+    /* The name of a table or a column. */
+    Form &append_identifier(const char *name, const std::string &identifier)
+    {
+        return fitting(mysql_params_append_identifier(&form_, name, whole(identifier)));
+    }
+    /* A keyword that the program has, as "DESC": never a text from outside. */
+    Form &append_keyword(const char *name, const char *keyword)
+    {
+        return fitting(mysql_params_append_keyword(&form_, name, keyword));
+    }
+    /* A list of what makes a Value, as for `IN (?)`. */
+    template <typename Items> Form &append_list(const char *name, const Items &items)
+    {
+        mysql_params_begin_list(&form_, name);
+        for (const auto &item : items)
+            append_as(nullptr, Value(item));
+        return fitting(mysql_params_end_list(&form_));
+    }
+    /* Rows of what makes a Value, as for `VALUES ?`. */
+    template <typename Rows> Form &append_rows(const char *name, const Rows &rows)
+    {
+        mysql_params_begin_rows(&form_, name);
+        for (const auto &row : rows) {
+            mysql_params_begin_row(&form_);
+            for (const auto &item : row)
+                append_as(nullptr, Value(item));
+            mysql_params_end_row(&form_);
+        }
+        return fitting(mysql_params_end_rows(&form_));
+    }
     /* The flat form, as mysql_params_bind takes it. */
     const mysql_params_form &get() const noexcept { return form_; }
 
 private:
+    Form &fitting(bool fits)
+    {
+        if (!fits)
+            throw std::bad_alloc();
+        return *this;
+    }
+    /* A text without a zero byte, which would cut it. */
+    static const char *whole(const std::string &text)
+    {
+        if (text.find('\0') != text.npos)
+            throw std::invalid_argument("mysql_params: a name or a number holds a zero byte");
+        return text.c_str();
+    }
     Form &append_as(const char *name, const Value &value)
     {
         const bool fits = std::visit(
@@ -174,9 +222,7 @@ private:
                     return mysql_params_append_time(&form_, name, held);
             },
             value.held_);
-        if (!fits)
-            throw std::bad_alloc();
-        return *this;
+        return fitting(fits);
     }
 
     mysql_params_form form_;
@@ -241,6 +287,14 @@ struct Bind {
     }
 };
 
+struct BindFragments : Bind {
+    std::int32_t operator()(std::uint8_t *room, std::size_t room_len, mysql_params_report *report) const
+    {
+        return mysql_params_bind_fragments(bytes_of(query), query.size(), form.room, form.len, no_backslash_escape, room,
+                                           room_len, report);
+    }
+};
+
 struct NamesOf {
     std::string_view query;
     bool no_backslash_escape;
@@ -274,6 +328,14 @@ inline std::string bind(std::string_view query, const Form &form = {}, Mode mode
     const mysql_params_form &flat = form.get();
     return detail::whole_answer(query.size() + 2 * flat.len + 64,
                                 detail::Bind{query, flat, mode == Mode::no_backslash_escapes});
+}
+
+/* The same of a form that has lists, rows, exact numbers, identifiers or keywords too. Throws Error. */
+inline std::string bind_fragments(std::string_view query, const Form &form, Mode mode = Mode::backslash_escapes)
+{
+    const mysql_params_form &flat = form.get();
+    return detail::whole_answer(query.size() + 2 * flat.len + 64,
+                                detail::BindFragments{{query, flat, mode == Mode::no_backslash_escapes}});
 }
 
 /* The names of a query. Throws Error for one with names and marks. */

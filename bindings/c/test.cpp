@@ -124,6 +124,30 @@ static void queries()
     expect(mysql_params::first_unportable("'a\\' [", Mode::no_backslash_escapes).has_value(), "the mode counts");
 }
 
+/* The texts follow the MySQL Reference Manual, "Schema Object Names" and "Numeric Literals". */
+static void fragments()
+{
+    using mysql_params::bind_fragments;
+    mysql_params::Form form;
+    form.append_list("ids", std::vector<int>{1, 2}).append_identifier("t", "a`b").append("x", "it's");
+    form.append_rows("rows", std::vector<std::vector<mysql_params::Value>>{{1, "a"}, {2, nullptr}});
+    form.append_decimal("p", "-1.50").append_keyword("order", "DESC");
+    same(bind_fragments(":ids; :t; :x; :rows; :p; :order", form),
+         "1, 2; `a``b`; 'it\\'s'; (1, 'a'), (2, NULL); -1.50; DESC");
+    mysql_params::Form marks;
+    marks.append_list(nullptr, std::vector<std::string>{"\\"}).append(7);
+    same(bind_fragments("? ?", marks, Mode::no_backslash_escapes), "'\\' 7");
+    try {
+        mysql_params::Form empty;
+        bind_fragments("a IN (?)", empty.append_list(nullptr, std::vector<int>{}));
+        expect(false, "an empty list is refused");
+    } catch (const Error &error) {
+        expect(error.number() == MYSQL_PARAMS_FAULT && error.report().byte == MYSQL_PARAMS_FAULT_EMPTY, "it is empty");
+        same(error.what(), "Fragment at place 0 can't be written: it is empty");
+    }
+    same(thrown([] { mysql_params::Form().append_identifier("t", "a\0b"s); }), "invalid argument");
+}
+
 static bool passed(const char *name, void test())
 {
     failures = 0;
@@ -139,5 +163,6 @@ int main()
     all &= passed("forms", forms);
     all &= passed("refusals", refusals);
     all &= passed("queries", queries);
+    all &= passed("fragments", fragments);
     return all ? 0 : 1;
 }

@@ -140,8 +140,8 @@ Params = Union[
 ]
 """Nothing, values in order, or values by name. No values are as nothing.
 
-A value is a Value, or of a type that is registered; anything else is a TypeError of the call. The annotation says less,
-since to mypy ``{"id": 42, "name": "x"}`` is a ``dict[str, object]``. Annotate your own by Value:
+A value is a Value, or of a type that is registered, or what bind takes beside them; anything else is a TypeError of the
+call. The annotation says less, since to mypy ``{"id": 42, "name": "x"}`` is a ``dict[str, object]``. Annotate your own by Value:
 ``params: dict[str, Value] = {}``.
 """
 

@@ -8,7 +8,7 @@ from collections.abc import Iterable
 from typing import Optional, Union
 
 from . import _form
-from ._values import decimal_text, plain
+from ._values import decimal_text, plain, zone_of
 
 # The types of the flat form that are no column types: see mysql_params_bind_fragments in mysql_params.h.
 _NUMBER, _LIST, _ROWS, _IDENTIFIER, _QUALIFIED, _KEYWORD = range(128, 134)
@@ -158,5 +158,5 @@ class _Fragments:
 
 def fragments_form_of(params: object, zone: Optional[datetime.tzinfo] = None) -> tuple[bytes, bool]:
     """Return the flat form of parameters, and whether one of them is no single value. The zone is as for bind."""
-    fragments = _Fragments(_form.zone_of(zone))
+    fragments = _Fragments(zone_of(zone))
     return _form.form_by(params, fragments.form), fragments.any
