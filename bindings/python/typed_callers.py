@@ -10,7 +10,8 @@ from collections import OrderedDict
 from typing import Any, Optional, Union
 
 import mysql_params
-from mysql_params import Params, Value, bind, bind_anywhere, bind_form, bind_rows, first_unportable, names
+from mysql_params import Identifier, Keyword, Params, Value
+from mysql_params import bind, bind_anywhere, bind_form, bind_rows, first_unportable, names
 
 QUERY = "SELECT * FROM t WHERE id = :id AND name = :name"
 
@@ -57,6 +58,18 @@ def by_position(ident: int, name: str, given: Params) -> bytes:
     bind(b"?", given)
     bind_anywhere("?", given)
     return bind_form("?", b"\x00\x06\x00")
+
+
+def fragments(idents: list[int], prices: list[tuple[int, decimal.Decimal]], column: str) -> bytes:
+    """Give lists, rows, exact numbers, names and keywords."""
+    bind("id IN (?)", [idents])
+    bind("id IN (:ids)", {"ids": idents})
+    bind("id IN (?) AND price < ?", [(1, 2), decimal.Decimal("9.99")])
+    bind("VALUES ?", [prices])
+    bind("VALUES ?", [[[1, "a"], [2, None]]])
+    direction = Keyword("DESC", among=("ASC", "DESC"))
+    bind("ORDER BY :column :direction", {"column": Identifier("t", column), "direction": direction})
+    return bind("SELECT a FROM ? ORDER BY ? ?", [Identifier("t"), Identifier(column), direction])
 
 
 class Color(enum.Enum):
