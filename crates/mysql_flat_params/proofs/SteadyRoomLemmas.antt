@@ -25,9 +25,10 @@ use Rattle.mysql_steady_literal.specs.SteadyShape.{IsSteadyLiteral}
 use Rattle.mysql_steady_literal.specs.ReadSteadyLiteral.{ReadsSteadyAs}
 use Rattle.mysql_steady_literal.proofs.SteadyLiteralLemmas.{steady_shape, steady_bytes, steady_reads}
 use Rattle.mysql_steady_text.specs.SteadyLiterals.{IsSteadyFor}
+use Rattle.mysql_steady_text.specs.SteadyText.{IsSteadyText}
 use Rattle.mysql_steady_text.specs.SteadyTextErrors.{IsSteadyRefusal}
 use Rattle.mysql_steady_text.specs.declared.steady_text_error.SteadyTextError.TheVariants.{Bind}
-use Rattle.mysql_steady_text.proofs.SteadyTextLemmas.{is_anywhere_text, is_steady_text}
+use Rattle.mysql_steady_text.proofs.SteadyTextLemmas.{is_anywhere_text, steady_given}
 use Rattle.mysql_flat_params.specs.AnywhereIntoRoom.{IsAnywhereForm, IsAnywhereOutcome, IsBoundAnywhere}
 use Rattle.mysql_flat_params.specs.FlatForm.{IsFormReading}
 use Rattle.mysql_flat_params.specs.Outcomes.{IfDone, text_outcome}
@@ -43,8 +44,10 @@ steady_known v text range is = (
 module _ (query : List ℕ) (given : Given) (steady : IsSteady query) (ts : List Token) (is : IsTokens false query ts) (portable : IsPortable ts) where
   bound_anywhere : (text : List ℕ) → IsGivenText steady_literal_of IsSteadyFor ts given text → IsBoundAnywhere query given text
   bound_anywhere text g mode =
-      let in_true : IsTokens true query ts = steady_other false true query ts steady is in
-      (ts, steady_other false mode query ts steady is, is_anywhere_text query ts given text in_true steady portable (is_steady_text query ts given text in_true steady g))
+      let o = on_both mode query IsPortable (λ us. IsSteadyText us given text)
+      (ts, steady_other false mode query ts steady is, portable)
+      (steady_given query given text steady (ts, is, g) mode) in
+      (o.0, o.1, is_anywhere_text query o.0 given text (steady_other mode true query o.0 steady o.1) steady o.2.0 o.2.1)
 
   length_anywhere : (len : ℕ) → HasGivenLength steady_literal_of ts given len → HasTextOf (IsBoundAnywhere query given) len
   length_anywhere len (text, g, long) =

@@ -5,7 +5,8 @@ use Rattle.mysql_named_params.proofs.TokensExistLemmas.{tokens_exist}
 use Rattle.mysql_params_core.specs.Given.{given_by_borrowed}
 use Rattle.mysql_binding.specs.BindErrors.{IsCauseOrMemory}
 use Rattle.mysql_binding.specs.FirstCause.{first_cause}
-use Rattle.mysql_steady_text.proofs.SteadyTextLemmas.{in_either, nothing_said}
+use Rattle.mysql_steady_text.proofs.BothModesTextLemmas.{nothing_said}
+use Rattle.mysql_steady_text.proofs.SteadyTextLemmas.{in_either}
 use Rattle.mysql_flat_params.proofs.SteadyRoomLemmas.{anywhere_in_room, refused_error}
 use Rattle.mysql_flat_params.proofs.steady_room.bind_anywhere_in_room.Goals as goal
 
