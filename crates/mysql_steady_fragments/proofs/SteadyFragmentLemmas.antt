@@ -32,7 +32,7 @@ use Rattle.mysql_steady_text.specs.SteadyTextErrors.{IsBindRefusal}
 use Rattle.mysql_steady_text.specs.declared.steady_text_error.SteadyTextError.{SteadyTextError}
 use Rattle.mysql_steady_text.specs.declared.steady_text_error.SteadyTextError.TheVariants as steady_error
 use Rattle.mysql_steady_text.proofs.SteadySpliceLemmas.{steady_places, steady_portable, steady_on, steady_read}
-use Rattle.mysql_steady_text.proofs.SteadyTextLemmas.{nothing_said}
+use Rattle.mysql_steady_text.proofs.BothModesTextLemmas.{nothing_said}
 use Rattle.mysql_fragments.specs.Expanded.{IsExpanded, IsExpandedQuery}
 use Rattle.mysql_fragments.specs.FragmentErrors.{first_cause, mixed_cause, cause_of_places, refused_fragments, IsCauseOrMemory, IsPlaceRefusal}
 use Rattle.mysql_fragments.specs.FragmentText.{all_values, fragment_text, mark_number}

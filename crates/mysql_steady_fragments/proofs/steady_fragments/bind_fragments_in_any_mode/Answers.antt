@@ -2,7 +2,7 @@ use Rattle.std.specs.Prelude.{None}
 use Rattle.std.proofs.Common.{refl, sym, ◌∙◌, rules}
 use Rattle.mysql_named_params.proofs.TokensExistLemmas.{tokens_exist}
 use Rattle.mysql_fragments.specs.GivenFragments.{given_fragments}
-use Rattle.mysql_steady_text.proofs.SteadyTextLemmas.{nothing_said}
+use Rattle.mysql_steady_text.proofs.BothModesTextLemmas.{nothing_said}
 use Rattle.mysql_steady_fragments.proofs.SteadyFragmentLemmas.{refused_fragments_answer}
 use Rattle.mysql_steady_fragments.proofs.steady_fragments.bind_fragments_in_any_mode.Goals as goal
 

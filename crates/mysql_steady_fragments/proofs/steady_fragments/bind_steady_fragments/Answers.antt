@@ -8,7 +8,8 @@ use Rattle.mysql_params_core.specs.Given.{Given}
 use Rattle.mysql_binding.specs.FirstCause as bound_cause
 use Rattle.mysql_steady_text.specs.SteadyText.{IsSteadyText}
 use Rattle.mysql_steady_text.specs.SteadyTextErrors.{IsBindRefusal}
-use Rattle.mysql_steady_text.proofs.SteadyTextLemmas.{in_either, nothing_said}
+use Rattle.mysql_steady_text.proofs.BothModesTextLemmas.{nothing_said}
+use Rattle.mysql_steady_text.proofs.SteadyTextLemmas.{in_either}
 use Rattle.mysql_fragments.specs.FragmentErrors.{first_cause, IsCauseOrMemory}
 use Rattle.mysql_fragments.specs.GivenFragments.{given_fragments}
 use Rattle.mysql_steady_fragments.specs.SteadyFragmentsErrors.{IsFragmentsRefusal}
