@@ -76,7 +76,7 @@ fn construct(byte: u8, rest: &[u8]) -> Option<i32> {
         (b'/', [b'*', b'!', ..]) => EXECUTABLE_COMMENT,
         (b'/', [b'*', b'+', ..]) => HINT,
         (b'/', [b'*', b'M', b'!', ..]) => MARIADB_COMMENT,
-        (b'-', [b'-', gap, ..]) if !gap.is_ascii_graphic() && !gap.is_ascii_whitespace() => DASHES,
+        (b'-', [b'-', gap, ..]) if parts_dashes(*gap) => DASHES,
         (b'[', _) => BRACKET,
         (b'$', _) if leads_to_dollar(rest) => DOLLAR_QUOTE,
         (b'.', _) if leads_to_dashes(rest) => DASHES_AFTER_EXPONENT,
@@ -87,17 +87,23 @@ fn construct(byte: u8, rest: &[u8]) -> Option<i32> {
     })
 }
 
-/// Whether the text has a `*/` before anything that may begin elsewhere, and no `*` after it.
+/// Whether `--` before the byte is two signs in the grammar, and may open a comment elsewhere.
+fn parts_dashes(gap: u8) -> bool {
+    gap == b'/' || !(gap.is_ascii_graphic() || gap.is_ascii_whitespace())
+}
+
+/// Whether the text has a `*/` before anything that may begin elsewhere, and after it the end or a
+/// byte that joins nothing.
 fn is_quiet(text: &[u8]) -> bool {
     let Some(end) = text.windows(2).position(|bytes| bytes == b"*/") else { return false };
-    text.get(end + 2) != Some(&b'*') && (0..end).all(|at| !begins_any(text[at], &text[at + 1..]))
+    matches!(text.get(end + 2), None | Some(9 | 10 | 12 | 13 | b' ' | b')' | b',' | b';'))
+        && (0..end).all(|at| !begins_any(text[at], &text[at + 1..]))
 }
 
 /// Whether this byte before this text begins something other than a plain byte, or is `;` or `\`.
 fn begins_any(byte: u8, rest: &[u8]) -> bool {
     match byte {
-        b'\'' | b'"' | b'`' | b'#' | b'?' | b'[' | b';' | b'\\' => true,
-        b'-' => rest.starts_with(b"-"),
+        b'\'' | b'"' | b'`' | b'#' | b'-' | b'?' | b'[' | b';' | b'\\' => true,
         b'/' => rest.starts_with(b"*"),
         b':' => rest.first().is_some_and(begins_name),
         b'$' => leads_to_dollar(rest),

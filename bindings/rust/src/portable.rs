@@ -120,13 +120,13 @@ impl fmt::Display for Construct {
     fn fmt(&self, f: &mut fmt::Formatter<'_>) -> fmt::Result {
         f.write_str(match self {
             Construct::ExecutableComment => {
-                "`/*!` is executed or skipped: keep quotes, places, comments and `;` out of it"
+                "`/*!` is executed or skipped: no quote, place, comment, `-`, `;` in it, then a space"
             }
             Construct::Hint => {
-                "`/*+` is a hint or a comment: keep quotes, places, comments and `;` out of it"
+                "`/*+` is a hint or a comment: no quote, place, comment, `-`, `;` in it, then a space"
             }
             Construct::MariaDbComment => {
-                "`/*M!` is executed or a comment: keep quotes, places, comments and `;` out of it"
+                "`/*M!` is executed or skipped: no quote, place, comment, `-`, `;` in it, then a space"
             }
             Construct::Dashes => {
                 "`--` is a comment or two signs here: write a space between them, or after them"

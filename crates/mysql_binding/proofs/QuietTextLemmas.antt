@@ -1,21 +1,16 @@
 -- What is quiet in a text stays so up to a place, where another text follows instead.
 use Rattle.std.specs.Prelude.{Bool}
-use Rattle.std.proofs.Common.{◌≡◌, ℕ, true, false, not, ◌==◌, ◌&&◌, ◌||◌, List, [], ◌∷◌, ◌++◌, refl, sym, ◌∙◌, subst, inl, inr, true≢false}
+use Rattle.std.proofs.Common.{◌≡◌, ℕ, true, false, not, ◌==◌, ◌&&◌, ◌||◌, List, [], ◌∷◌, ◌++◌, refl, sym, ap, ◌∙◌, subst, inl, inr, true≢false}
 use Rattle.std.proofs.lemmas.Bool.{and_parts, or_parts, or_cases, or_from, or_right, not-true, eqb-true}
 use Rattle.mysql_named_params.specs.Bytes.{asterisk, backquote, dash, hash, slash, is_string_quote, begins, IsUpTo, up_to_word, up_to_end}
 use Rattle.mysql_named_params.specs.Tokens.{Token, bytes_of, QuotedString, QuotedIdentifier, HashComment, DashComment, BlockComment, Name, Mark, Plain}
 use Rattle.mysql_named_params.specs.Server.{begins_special, begins_place, begins_own}
 use Rattle.mysql_named_params.specs.Portable.{differs_at, may_open_line, is_read_alike}
-use Rattle.mysql_named_params.specs.Quiet.{is_loud, closes, is_quiet, IsQuietComment, begins_quiet}
+use Rattle.mysql_named_params.specs.Quiet.{is_loud, stands_apart, closes, is_quiet, IsQuietComment, begins_quiet}
 use Rattle.mysql_named_params.proofs.PortableLemmas.{second_false, false_if, is_alike_on_all}
-use Rattle.mysql_binding.proofs.UpToSpliceLemmas.{SameUpToSplice, at_end, same, same-append, at_place, last_byte, portable_move, plain_move, star_move, same-end}
+use Rattle.mysql_binding.proofs.UpToSpliceLemmas.{SameUpToSplice, at_end, same, same-append, at_place, last_byte, portable_move, plain_move, same-end, place_byte}
 
 -- ---- a byte that is not loud stays one
-
-line_closed : (rest : List ℕ) → begins (λ c. c == dash) rest ≡ false → may_open_line rest ≡ false
-line_closed [] h = refl
-line_closed (b ∷ []) h = refl
-line_closed (b ∷ gap ∷ bs) h = rw h refl
 
 loud_move : (b c : ℕ) {x y : List ℕ} → SameUpToSplice b (c ∷ x) (c ∷ y) → is_loud b (c ∷ x) ≡ false →
     is_loud b (c ∷ y) ≡ false
@@ -23,11 +18,11 @@ loud_move b c {x = x} {y = y} a h =
     let p1 = or_parts (is_string_quote b) _ h in
     let p2 = or_parts (b == backquote) _ p1.1 in
     let p3 = or_parts (b == hash) _ p2.1 in
-    let p4 = or_parts (b == dash && c == dash) _ p3.1 in
+    let p4 = or_parts (b == dash) _ p3.1 in
     let p5 = or_parts (b == slash && c == asterisk) _ p4.1 in
     let p6 = or_parts (begins_place (b ∷ c ∷ x)) _ p5.1 in
     let p7 = or_parts (begins_own b (c ∷ x)) _ p6.1 in
-    let line : (b == dash && may_open_line (c ∷ x)) ≡ false = false_if _ _ (λ t. line_closed (c ∷ x) (second_false _ _ p4.0 t)) in
+    let line : (b == dash && may_open_line (c ∷ x)) ≡ false = false_if _ _ (λ t. absurd (true≢false (sym t ∙ p4.0))) in
     let d : differs_at b (c ∷ x) ≡ false = or_from _ _ p5.0 (or_from _ _ line p7.0) in
     let e = or_parts (b == slash && c == asterisk) _ (plain_move b a d) in
     let f = or_parts (b == dash && may_open_line (c ∷ y)) (begins_own b (c ∷ y)) e.1 in
@@ -41,7 +36,7 @@ no_place_quiet b x p q =
     let p1 = or_parts (is_string_quote b) _ h in
     let p2 = or_parts (b == backquote) _ p1.1 in
     let p3 = or_parts (b == hash) _ p2.1 in
-    let p4 = or_parts (b == dash && begins (λ c. c == dash) x) _ p3.1 in
+    let p4 = or_parts (b == dash) _ p3.1 in
     let p5 = or_parts (b == slash && begins (λ c. c == asterisk) x) _ p4.1 in
     let p6 = or_parts (begins_place (b ∷ x)) _ p5.1 in
     true≢false (sym p ∙ p6.0)
@@ -49,11 +44,24 @@ no_place_quiet b x p q =
 no_place_slash : (b : ℕ) (x : List ℕ) → begins_place (b ∷ x) ≡ true → b ≡ slash → ⊥
 no_place_slash b x p e = true≢false (sym (subst (λ u. begins_place (u ∷ x) ≡ true) e p))
 
+-- a place doesn't stand apart
+place_not_apart : (b : ℕ) (x : List ℕ) → begins_place (b ∷ x) ≡ true → stands_apart (b ∷ x) ≡ false
+place_not_apart b x p =
+    elim (place_byte b x p) [
+      | inl e ↦ ap (λ u. stands_apart (u ∷ x)) e
+      | inr e ↦ ap (λ u. stands_apart (u ∷ x)) e
+    ]
+
+apart_move : {before : ℕ} {x y : List ℕ} → SameUpToSplice before x y → stands_apart x ≡ true → stands_apart y ≡ true
+apart_move at_end h = h
+apart_move (same a) h = h
+apart_move (at_place {b = b} {x = x} p l) h = absurd (true≢false (sym h ∙ place_not_apart b x p))
+
 closes_move : (b c : ℕ) {x y : List ℕ} → SameUpToSplice c x y → closes b (c ∷ x) ≡ true → closes b (c ∷ y) ≡ true
 closes_move b c {x = x} {y = y} a h =
     let p = and_parts (b == asterisk) _ h in
     let q = and_parts (c == slash) _ p.1 in
-    let s = star_move a (not-true _ q.1) in
+    let s = apart_move a q.1 in
     rw (p.0, q.0, s) refl
 
 both : (p q : Bool) → p ≡ true → q ≡ true → (p && q) ≡ true

@@ -11,7 +11,7 @@ use Rattle.mysql_named_params.specs.Tokens.{Token, IsToken, bytes_of, QuotedStri
 use Rattle.mysql_named_params.specs.FirstToken.{opens_dash_comment, opens_block_comment}
 use Rattle.mysql_named_params.specs.TokensOf.{not_plain_at}
 use Rattle.mysql_named_params.specs.Places.{IsPlace}
-use Rattle.mysql_named_params.specs.Server.{is_graphic, is_tag_byte, begins_place, begins_tag, begins_dashes, begins_exponent_dashes, begins_fraction, begins_own}
+use Rattle.mysql_named_params.specs.Server.{keeps_dashes, is_tag_byte, begins_place, begins_tag, begins_dashes, begins_exponent_dashes, begins_fraction, begins_own}
 use Rattle.mysql_named_params.specs.Portable.{may_open_line, differs_at}
 use Rattle.mysql_named_params.proofs.PlainLemmas.{plain_none}
 use Rattle.mysql_named_params.proofs.PortableLemmas.{second_false, false_if, is_alike_on_all}
@@ -23,9 +23,9 @@ abbrev pub last_byte : ℕ → List ℕ → ℕ
 last_byte before [] = before
 last_byte before (b ∷ bytes) = last_byte b bytes
 
--- a byte that opens no comment with those before it: a graphic one, and no `*`, `+` or `-`
+-- a byte that opens no comment with those before it: it keeps dashes plain, and is no `*`, `+` or `-`
 abbrev pub joins_nothing : ℕ → Bool
-joins_nothing b = is_graphic b && (not (b == asterisk) && (not (b == plus) && not (b == dash)))
+joins_nothing b = keeps_dashes b && (not (b == asterisk) && (not (b == plus) && not (b == dash)))
 
 -- after this byte the text opens nothing: it begins with such a byte, which makes no name of a colon
 -- before it, or with a dash and a digit
@@ -52,7 +52,7 @@ same-end at_end e = refl
 same-end (same a) e = cc
 same-end (at_place p l) e = cc
 
-place_byte : (b : ℕ) (x : List ℕ) → begins_place (b ∷ x) ≡ true → (b ≡ colon) ⊎ (b ≡ question_mark)
+pub place_byte : (b : ℕ) (x : List ℕ) → begins_place (b ∷ x) ≡ true → (b ≡ colon) ⊎ (b ≡ question_mark)
 place_byte b x p =
     elim (or_cases (b == question_mark) (b == colon && begins is_start_byte x) p) [
       | inl e ↦ inr (eqb-true b question_mark e)
@@ -70,18 +70,18 @@ first_ways before b bs h =
       | inr m ↦ inr (and_parts (b == dash) (begins is_ascii_digit bs) m)
     ]
 
-first_graphic : (before b : ℕ) (bs : List ℕ) → opens_nothing_after before (b ∷ bs) ≡ true → is_graphic b ≡ true
-first_graphic before b bs h =
+first_keeps_dashes : (before b : ℕ) (bs : List ℕ) → opens_nothing_after before (b ∷ bs) ≡ true → keeps_dashes b ≡ true
+first_keeps_dashes before b bs h =
     elim (first_ways before b bs h) [
-      | inl f ↦ (and_parts (is_graphic b) _ f.0).0
-      | inr m ↦ ap is_graphic (eqb-true b dash m.0)
+      | inl f ↦ (and_parts (keeps_dashes b) _ f.0).0
+      | inr m ↦ ap keeps_dashes (eqb-true b dash m.0)
     ]
 
-digit_graphic : (b : ℕ) → is_ascii_digit b ≡ true → is_graphic b ≡ true
-digit_graphic b h = grind (arith, nat_tests)
+digit_keeps_dashes : (b : ℕ) → is_ascii_digit b ≡ true → keeps_dashes b ≡ true
+digit_keeps_dashes b h = grind (arith, nat_tests)
 
-graphic_no_gap : (b : ℕ) → is_graphic b ≡ true → is_gap b ≡ false
-graphic_no_gap b h = grind (arith, nat_tests)
+keeps_no_gap : (b : ℕ) → keeps_dashes b ≡ true → is_gap b ≡ false
+keeps_no_gap b h = grind (arith, nat_tests)
 
 -- after the dash with which such a text begins
 digit_after : (before b : ℕ) (bs : List ℕ) → (b == dash) ≡ true → opens_nothing_after before (b ∷ bs) ≡ true →
@@ -95,12 +95,12 @@ splice_no_star before (b ∷ bs) h =
 
 splice_no_gap : (before : ℕ) (y : List ℕ) → opens_nothing_after before y ≡ true → begins is_gap y ≡ false
 splice_no_gap before [] h = refl
-splice_no_gap before (b ∷ bs) h = graphic_no_gap b (first_graphic before b bs h)
+splice_no_gap before (b ∷ bs) h = keeps_no_gap b (first_keeps_dashes before b bs h)
 
 splice_no_comment : (before : ℕ) (y : List ℕ) → opens_nothing_after before y ≡ true → opens_dash_comment y ≡ false
 splice_no_comment before [] h = refl
 splice_no_comment before (b ∷ []) h = refl
-splice_no_comment before (b ∷ w ∷ bs) h = false_if (b == dash) (is_gap w) (λ e. graphic_no_gap w (digit_graphic w (digit_after before b (w ∷ bs) e h)))
+splice_no_comment before (b ∷ w ∷ bs) h = false_if (b == dash) (is_gap w) (λ e. keeps_no_gap w (digit_keeps_dashes w (digit_after before b (w ∷ bs) e h)))
 
 splice_no_block : (before : ℕ) (y : List ℕ) → opens_nothing_after before y ≡ true → opens_block_comment y ≡ false
 splice_no_block before [] h = refl
@@ -197,9 +197,9 @@ star_move at_end e = e
 star_move (same a) e = e
 star_move (at_place {before = c} {y = y} p l) e = splice_no_star c y l
 
-gap_closed : (b w : ℕ) → ((b == dash) ≡ true → is_graphic w ≡ true) →
-    (b == dash && not (is_white_space w || is_graphic w)) ≡ false
-gap_closed b w f = false_if (b == dash) _ (λ e. go (is_white_space w) (is_graphic w) (f e))
+gap_closed : (b w : ℕ) → ((b == dash) ≡ true → keeps_dashes w ≡ true) →
+    (b == dash && not (is_white_space w || keeps_dashes w)) ≡ false
+gap_closed b w f = false_if (b == dash) _ (λ e. go (is_white_space w) (keeps_dashes w) (f e))
   where
     go : (c d : Bool) → d ≡ true → not (c || d) ≡ false
     go true d e = refl
@@ -208,11 +208,11 @@ gap_closed b w f = false_if (b == dash) _ (λ e. go (is_white_space w) (is_graph
 splice_no_line : (before : ℕ) (y : List ℕ) → opens_nothing_after before y ≡ true → may_open_line y ≡ false
 splice_no_line before [] h = refl
 splice_no_line before (b ∷ []) h = refl
-splice_no_line before (b ∷ w ∷ bs) h = gap_closed b w (λ e. digit_graphic w (digit_after before b (w ∷ bs) e h))
+splice_no_line before (b ∷ w ∷ bs) h = gap_closed b w (λ e. digit_keeps_dashes w (digit_after before b (w ∷ bs) e h))
 
 second_line : (before b : ℕ) (y : List ℕ) → opens_nothing_after before y ≡ true → may_open_line (b ∷ y) ≡ false
 second_line before b [] l = refl
-second_line before b (w ∷ bs) l = gap_closed b w (λ e. first_graphic before w bs l)
+second_line before b (w ∷ bs) l = gap_closed b w (λ e. first_keeps_dashes before w bs l)
 
 line_move : {before : ℕ} {x y : List ℕ} → SameUpToSplice before x y → may_open_line x ≡ false → may_open_line y ≡ false
 line_move at_end e = e
@@ -243,17 +243,17 @@ dashes_at before (a ∷ []) l = refl
 dashes_at before (a ∷ b ∷ []) l = refl
 dashes_at before (a ∷ b ∷ gap ∷ bs) l = false_if (a == dash) _ (λ e. no_dash (digit_after before a (b ∷ gap ∷ bs) e l))
   where
-    no_dash : is_ascii_digit b ≡ true → (b == dash && not (is_graphic gap)) ≡ false
+    no_dash : is_ascii_digit b ≡ true → (b == dash && not (keeps_dashes gap)) ≡ false
     no_dash h = false_if (b == dash) _ (λ e. absurd (true≢false (sym h ∙ ap is_ascii_digit (eqb-true b dash e))))
 
 dashes_after_one : (before a : ℕ) (y : List ℕ) → opens_nothing_after before y ≡ true → begins_dashes (a ∷ y) ≡ false
 dashes_after_one before a [] l = refl
 dashes_after_one before a (b ∷ []) l = refl
-dashes_after_one before a (b ∷ gap ∷ bs) l = false_if (a == dash) _ (λ e. false_if (b == dash) _ (λ f. ap not (digit_graphic gap (digit_after before b (gap ∷ bs) f l))))
+dashes_after_one before a (b ∷ gap ∷ bs) l = false_if (a == dash) _ (λ e. false_if (b == dash) _ (λ f. ap not (digit_keeps_dashes gap (digit_after before b (gap ∷ bs) f l))))
 
 dashes_after_two : (before a b : ℕ) (y : List ℕ) → opens_nothing_after before y ≡ true → begins_dashes (a ∷ b ∷ y) ≡ false
 dashes_after_two before a b [] l = refl
-dashes_after_two before a b (gap ∷ bs) l = false_if (a == dash) _ (λ e. false_if (b == dash) _ (λ f. ap not (first_graphic before gap bs l)))
+dashes_after_two before a b (gap ∷ bs) l = false_if (a == dash) _ (λ e. false_if (b == dash) _ (λ f. ap not (first_keeps_dashes before gap bs l)))
 
 dashes_move : {before : ℕ} {x y : List ℕ} → SameUpToSplice before x y → begins_dashes x ≡ false → begins_dashes y ≡ false
 dashes_move at_end e = e

@@ -10,7 +10,7 @@ use Rattle.mysql_named_params.proofs.TokenEndLemmas.{up_to_gives, string_gives, 
 use Rattle.mysql_named_params.proofs.PlainLemmas.{cond_some, plain_none}
 use Rattle.mysql_named_params.proofs.CutLemmas.{token_length}
 use Rattle.mysql_named_params.proofs.TokensExistLemmas.{tokens_exist}
-use Rattle.mysql_named_params.specs.Server.{Server, grammar, is_graphic, opens_line, begins_special, begins_own, Block, executed, comment, comment_of, block_on, reads_in, usual_block, own_block, usual_quotes, own_quotes, IsNotPlainOn, IsTokenOn, AreTokensOn, IsReadOn}
+use Rattle.mysql_named_params.specs.Server.{Server, grammar, keeps_dashes, opens_line, begins_special, begins_own, Block, executed, comment, comment_of, block_on, reads_in, usual_block, own_block, usual_quotes, own_quotes, IsNotPlainOn, IsTokenOn, AreTokensOn, IsReadOn}
 use Rattle.mysql_named_params.proofs.ServerTokenLemmas.{line_tail, dash_comment_on, comment_by, block_comment_on, own_text, own_on, not_plain_on, plain_on, one_list_on}
 use Rattle.mysql_named_params.proofs.PortableLemmas.{line_on, empty_line, opens_at_white}
 
@@ -165,7 +165,7 @@ block_executed (b ∷ bs) h = rw h refl
 
 line_none : (b gap : ℕ) → (b == dash && (is_white_space gap && not (gap == newline))) ≡ false →
     (b == dash && opens_line grammar gap) ≡ false
-line_none b gap h = go (b == dash) (is_white_space gap && not (gap == newline)) (not (is_graphic gap)) h
+line_none b gap h = go (b == dash) (is_white_space gap && not (gap == newline)) (not (keeps_dashes gap)) h
   where
     go : (d w p : Bool) → (d && w) ≡ false → (d && (w || (p && false))) ≡ false
     go false w p h = refl

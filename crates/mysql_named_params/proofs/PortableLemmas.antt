@@ -12,7 +12,7 @@ use Rattle.mysql_named_params.proofs.TokenEnds.{plain_at}
 use Rattle.mysql_named_params.proofs.PlainLemmas.{plain_none}
 use Rattle.mysql_named_params.proofs.RestLemmas.{cond_none, some_none, dash_none}
 use Rattle.mysql_named_params.proofs.TokenListLemmas.{one_token}
-use Rattle.mysql_named_params.specs.Server.{Server, opens_line, is_graphic, begins_special, begins_own, reads_in, usual_block, usual_quotes, IsTokenOn}
+use Rattle.mysql_named_params.specs.Server.{Server, opens_line, keeps_dashes, begins_special, begins_own, reads_in, usual_block, usual_quotes, IsTokenOn}
 use Rattle.mysql_named_params.specs.Portable.{stands_inside, may_open_line, differs_at}
 use Rattle.mysql_named_params.proofs.ServerTokenLemmas.{not_plain_on, plain_on, dash_comment_on, block_comment_on, own_on}
 
@@ -34,11 +34,11 @@ cond_none_if false p q p' q' f g e = g e
 pub opens_at_white : (server : Server) (b : ℕ) → is_white_space b ≡ true → b ≢ newline → opens_line server b ≡ true
 opens_at_white server b h ne = rw (h, ne_eqb b newline ne) refl
 
-graphic_no_white_space : (b : ℕ) → is_graphic b ≡ true → is_white_space b ≡ false
-graphic_no_white_space b h = grind (arith, nat_tests)
+keeps_no_white_space : (b : ℕ) → keeps_dashes b ≡ true → is_white_space b ≡ false
+keeps_no_white_space b h = grind (arith, nat_tests)
 
-graphic_opens_no_line : (server : Server) (b : ℕ) → is_graphic b ≡ true → opens_line server b ≡ false
-graphic_opens_no_line server b h = rw (h, graphic_no_white_space b h) refl
+keeps_opens_no_line : (server : Server) (b : ℕ) → keeps_dashes b ≡ true → opens_line server b ≡ false
+keeps_opens_no_line server b h = rw (h, keeps_no_white_space b h) refl
 
 -- ---- strings
 
@@ -138,17 +138,17 @@ dash_on server [] p n e = refl
 dash_on server (b ∷ []) p n e = refl
 dash_on server (b ∷ gap ∷ bs) p n e = rw (opens (cases_Bool (b == dash)) (dash_none (b ∷ gap ∷ bs) e) p) refl
   where
-    no_gap : (w s : Bool) → is_white_space gap ≡ w → is_graphic gap ≡ s → b ≡ dash →
+    no_gap : (w s : Bool) → is_white_space gap ≡ w → keeps_dashes gap ≡ s → b ≡ dash →
         (w && not (gap == newline)) ≡ false → not (w || s) ≡ false → opens_line server gap ≡ false
     no_gap true s we se d e p =
         let g : gap ≡ newline = eqb-true gap newline (not-false (gap == newline) e) in
         ap (opens_line server) g ∙ n bs (ap (λ x. x ∷ newline ∷ bs) (sym d) ∙ ap (λ x. b ∷ x ∷ bs) (sym g))
-    no_gap false true we se d e p = graphic_opens_no_line server gap se
+    no_gap false true we se d e p = keeps_opens_no_line server gap se
     no_gap false false we se d e p = absurd (true≢false p)
 
     opens : ((b == dash) ≡ true) ⊎ ((b == dash) ≡ false) → opens_dash_comment (b ∷ gap ∷ bs) ≡ false →
         may_open_line (b ∷ gap ∷ bs) ≡ false → (b == dash && opens_line server gap) ≡ false
-    opens (inl d) e p = rw d (no_gap (is_white_space gap) (is_graphic gap) refl refl (eqb-true b dash d) (rw d at e) (rw d at p))
+    opens (inl d) e p = rw d (no_gap (is_white_space gap) (keeps_dashes gap) refl refl (eqb-true b dash d) (rw d at e) (rw d at p))
     opens (inr d) e p = rw d refl
 
 pub slash_on : (server : Server) (rest : List ℕ) → begins (λ c. c == asterisk) rest ≡ false →

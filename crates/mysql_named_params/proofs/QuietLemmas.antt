@@ -3,14 +3,14 @@ use Rattle.std.specs.Prelude.{Bool, IsTrue, ⊤}
 use Rattle.std.proofs.Common.{◌≡◌, ◌⊎◌, ℕ, zero, suc, ◌+◌, ◌≤◌, true, false, cond, not, ◌==◌, ◌&&◌, ◌||◌, List, [], ◌∷◌, ◌++◌, length, take, drop, Option, None, refl, sym, ap, ◌∙◌, subst, inl, inr, arith, true≢false, take-append-drop}
 use Rattle.std.proofs.lemmas.List.{append_cancel_left}
 use Rattle.std.proofs.lemmas.Bool.{cases_Bool, and_parts, or_parts, or_cases, not-true, eqb-true}
-use Rattle.mysql_named_params.specs.Bytes.{asterisk, backquote, colon, dash, hash, newline, question_mark, slash, is_start_byte, is_string_quote, begins, IsUpTo}
+use Rattle.mysql_named_params.specs.Bytes.{asterisk, backquote, colon, dash, hash, newline, question_mark, slash, is_start_byte, is_string_quote, is_white_space, begins, IsUpTo}
 use Rattle.mysql_named_params.specs.Tokens.{Token, bytes_of, text_of, IsToken, IsTokens, AreTokensBefore, QuotedString, QuotedIdentifier, HashComment, DashComment, BlockComment, Name, Mark, Plain}
 use Rattle.mysql_named_params.specs.Places.{names, marks}
 use Rattle.mysql_named_params.specs.Positions.{positions_from}
 use Rattle.mysql_named_params.specs.TokensOf.{not_plain_at, dash_comment, block_comment, name_at, begins_with, len_up_to}
 use Rattle.mysql_named_params.specs.Server.{Server, Block, executed, comment, comment_of, begins_special, begins_place, begins_own, block_on, opens_line, usual_block, IsTokenOn, AreTokensOn, IsReadOn}
 use Rattle.mysql_named_params.specs.Portable.{is_read_alike, AreReadAlikeBefore, IsReadAs, read_all, read_same, read_empty_comment, read_skipped, read_executed}
-use Rattle.mysql_named_params.specs.Quiet.{is_loud, closes, is_quiet, IsQuietComment, reads_or_skips, IsHonest, begins_quiet, plain_then}
+use Rattle.mysql_named_params.specs.Quiet.{is_loud, stands_apart, closes, is_quiet, IsQuietComment, reads_or_skips, IsHonest, begins_quiet, plain_then}
 use Rattle.mysql_named_params.proofs.TokenEnds.{take_front, up_to_is}
 use Rattle.mysql_named_params.proofs.TokenEndLemmas.{up_to_gives}
 use Rattle.mysql_named_params.proofs.ServerTokenLemmas.{not_plain_on, dash_comment_on, plain_on, comment_by, one_list_on}
@@ -41,7 +41,7 @@ quiet_byte b rest h =
     let p1 = or_parts (is_string_quote b) _ h in
     let p2 = or_parts (b == backquote) _ p1.1 in
     let p3 = or_parts (b == hash) _ p2.1 in
-    let p4 = or_parts (b == dash && begins (λ c. c == dash) rest) _ p3.1 in
+    let p4 = or_parts (b == dash) _ p3.1 in
     let p5 = or_parts (b == slash && begins (λ c. c == asterisk) rest) _ p4.1 in
     let p6 = or_parts (begins_place (b ∷ rest)) _ p5.1 in
     let p7 = or_parts (begins_own b rest) _ p6.1 in
@@ -50,7 +50,7 @@ quiet_byte b rest h =
       no_quote = p1.0;
       no_backquote = p2.0;
       no_hash = p3.0;
-      no_dashes = λ e. second_false _ _ p4.0 e;
+      no_dashes = λ e. absurd (true≢false (sym e ∙ p4.0));
       no_block = λ e. second_false _ _ p5.0 e;
       no_mark = p8.0;
       no_name = λ e. second_false _ _ p8.1 e;
@@ -111,6 +111,14 @@ AreQuiet rest (b ∷ bs) = IsTrue (not (is_loud b (bs ++ rest))) × AreQuiet res
 pub star_slash : List ℕ
 star_slash = asterisk ∷ slash ∷ []
 
+-- what stands apart doesn't begin with `*`
+white_no_asterisk : (b : ℕ) → is_white_space b ≡ true → (b == asterisk) ≡ false
+white_no_asterisk b h = grind arith
+
+apart_no_asterisk : (text : List ℕ) → stands_apart text ≡ true → begins (λ x. x == asterisk) text ≡ false
+apart_no_asterisk [] h = refl
+apart_no_asterisk (b ∷ rest) h = grind arith
+
 -- a text that begins with `*/`, and is quiet
 two_quiet : (b : ℕ) (rest : List ℕ) → is_quiet (b ∷ rest) ≡ true → begins_with (asterisk ∷ slash ∷ []) (b ∷ rest) ≡ true →
     AreQuiet (drop 2 (b ∷ rest)) (take 2 (b ∷ rest))
@@ -127,7 +135,7 @@ two_quiet b (c ∷ bs) h w =
     last (inl q) =
         let r = and_parts (b == asterisk) _ q in
         let s = and_parts (c == slash) _ r.1 in
-        at_slash c (eqb-true c slash s.0) (not-true _ s.1)
+        at_slash c (eqb-true c slash s.0) (apart_no_asterisk bs s.1)
 
 later_quiet : (b : ℕ) (rest : List ℕ) → is_quiet (b ∷ rest) ≡ true → begins_with (asterisk ∷ slash ∷ []) (b ∷ rest) ≡ false →
     is_quiet rest ≡ true

@@ -6,7 +6,7 @@ use Rattle.std.proofs.lemmas.Bool.{cases_Bool, or_from, or_right, false_from_ne_
 use Rattle.mysql_sql_text.specs.StringUnits.{AreUnits, no_units, byte_unit, escape_unit}
 use Rattle.mysql_named_params.specs.Bytes.{asterisk, dash, double_quote, newline, slash, is_white_space, is_string_quote, begins, bracket, dollar, point}
 use Rattle.mysql_named_params.specs.Tokens.{Token, text_of, IsToken, IsTokens, AreTokensBefore, IsStringTail, closed_string, open_string, open_in_escape, QuotedString, QuotedIdentifier, HashComment, DashComment, BlockComment, Name, Mark, Plain}
-use Rattle.mysql_named_params.specs.Server.{Server, is_graphic, begins_special, begins_own, comment, comment_of, block_on, reads_in, IsBlockTail, usual_block, own_block, IsQuotedTail, usual_quotes, own_quotes, IsTokenOn, AreTokensOn, IsReadOn}
+use Rattle.mysql_named_params.specs.Server.{Server, keeps_dashes, begins_special, begins_own, comment, comment_of, block_on, reads_in, IsBlockTail, usual_block, own_block, IsQuotedTail, usual_quotes, own_quotes, IsTokenOn, AreTokensOn, IsReadOn}
 use Rattle.mysql_named_params.specs.Portable.{stands_inside, may_open_line, differs_at, is_read_alike, AreReadAlikeBefore, IsReadAs, read_all, read_same, read_empty_comment, read_skipped, read_executed}
 use Rattle.mysql_named_params.specs.Quiet.{is_loud, is_quiet, IsHonest, begins_quiet, plain_then}
 use Rattle.mysql_named_params.proofs.ServerTokenLemmas.{not_plain_on, dash_comment_on, block_comment_on, comment_by, own_is, own_at}
@@ -81,7 +81,7 @@ dash_none_there mode b rest e = subst (λ x. not_plain_on contrary mode (x ∷ r
 no_line : (rest : List ℕ) → dash_comment_on contrary rest ≡ None → may_open_line rest ≡ false
 no_line [] e = refl
 no_line (b ∷ []) e = refl
-no_line (b ∷ gap ∷ bs) e = go (b == dash) (is_white_space gap) (not (gap == newline)) (is_graphic gap) _ e
+no_line (b ∷ gap ∷ bs) e = go (b == dash) (is_white_space gap) (not (gap == newline)) (keeps_dashes gap) _ e
   where
     go : (d w n p : Bool) (t : Token) → cond (d && ((w && n) || (not p && true))) (Some t) None ≡ None → (d && not (w || p)) ≡ false
     go false w n p t e = refl

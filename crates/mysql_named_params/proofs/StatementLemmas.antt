@@ -21,7 +21,7 @@ no_semicolon b rest h =
     let p1 = or_parts (is_string_quote b) _ h in
     let p2 = or_parts (b == backquote) _ p1.1 in
     let p3 = or_parts (b == hash) _ p2.1 in
-    let p4 = or_parts (b == dash && begins (λ c. c == dash) rest) _ p3.1 in
+    let p4 = or_parts (b == dash) _ p3.1 in
     let p5 = or_parts (b == slash && begins (λ c. c == asterisk) rest) _ p4.1 in
     let p6 = or_parts (begins_place (b ∷ rest)) _ p5.1 in
     let p7 = or_parts (begins_own b rest) _ p6.1 in

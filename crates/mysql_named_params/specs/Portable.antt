@@ -6,7 +6,7 @@ use Rattle.std.specs.Char.{is_ascii_digit}
 use Rattle.std.specs.Str.{byte}
 use Rattle.mysql_named_params.specs.Bytes.{asterisk, dash, double_quote, newline, plus, slash, is_white_space, begins, point}
 use Rattle.mysql_named_params.specs.Tokens.{Token, text_of, text_then, QuotedString, DashComment, BlockComment, Plain}
-use Rattle.mysql_named_params.specs.Server.{is_graphic, begins_special, begins_own, begins_place}
+use Rattle.mysql_named_params.specs.Server.{keeps_dashes, begins_special, begins_own, begins_place}
 use Rattle.mysql_named_params.specs.Quiet.{IsQuietComment, is_quiet, begins_quiet, plain_then}
 
 -- the byte stands before the last one
@@ -19,7 +19,7 @@ stands_inside q (b ∷ c ∷ bs) = b == q || stands_inside q (c ∷ bs)
 abbrev pub may_open_line : List ℕ → Bool
 may_open_line [] = false
 may_open_line (b ∷ []) = false
-may_open_line (b ∷ gap ∷ bs) = b == dash && not (is_white_space gap || is_graphic gap)
+may_open_line (b ∷ gap ∷ bs) = b == dash && not (is_white_space gap || keeps_dashes gap)
 
 -- this plain byte, before this text, begins a construct that servers read in different ways
 abbrev pub differs_at : ℕ → List ℕ → Bool

@@ -1,10 +1,13 @@
 -- Quiet comments: hints and executable comments in whose text, up to and with `*/`, nothing begins,
 -- on any server of Server.antt or in the grammar. Whether such a text is read or skipped, no
 -- boundary outside of it moves. And the honest servers, which read or skip each quiet comment, as
--- all known do. Example: `/*+ MAX_EXECUTION_TIME(1000) */`, a hint, a comment or plain bytes.
+-- all known do when they first read a text. Read again, it may lack the comment, or its signs alone:
+-- what then comes together begins nothing either, since white space, `,`, `)`, `;` or the end stands
+-- after the comment and no `-` in it. Example: `/*+ MAX_EXECUTION_TIME(1000) */`, a hint, a comment
+-- or plain bytes.
 use Rattle.std.specs.Prelude.{◌≡◌, ℕ, IsTrue, Bool, true, false, not, ◌==◌, ◌&&◌, ◌||◌, List, [], ◌∷◌, ◌++◌}
 use Rattle.std.specs.Str.{byte}
-use Rattle.mysql_named_params.specs.Bytes.{asterisk, backquote, dash, hash, slash, is_string_quote, begins, IsUpTo}
+use Rattle.mysql_named_params.specs.Bytes.{asterisk, backquote, dash, hash, slash, is_string_quote, is_white_space, begins, IsUpTo}
 use Rattle.mysql_named_params.specs.Tokens.{Token, Plain}
 use Rattle.mysql_named_params.specs.Server.{Server, Block, executed, comment, comment_of, begins_special, begins_place, begins_own}
 
@@ -13,21 +16,27 @@ abbrev pub is_for_client : ℕ → Bool
 is_for_client b = b == byte ";" || b == byte "\\"
 
 -- this byte, before this text, may begin something: a text in quotes, a comment, a place, or what
--- a server has of its own
+-- a server has of its own; a `-` with one that stands before the comment
 abbrev pub is_loud : ℕ → List ℕ → Bool
 is_loud b rest =
     is_string_quote b
     || (b == backquote
     || (b == hash
-    || ((b == dash && begins (λ c. c == dash) rest)
+    || (b == dash
     || ((b == slash && begins (λ c. c == asterisk) rest)
     || (begins_place (b ∷ rest)
     || (begins_own b rest || is_for_client b))))))
 
--- `*` and then this text: the end of a comment, and no `*` after it
+-- the text is empty, or begins with a byte that begins nothing with what stands before it
+abbrev pub stands_apart : List ℕ → Bool
+stands_apart [] = true
+stands_apart (b ∷ rest) =
+    is_white_space b || (b == byte ";" || (b == byte "," || b == byte ")"))
+
+-- `*` and then this text: the end of a comment, and what follows it stands apart
 abbrev pub closes : ℕ → List ℕ → Bool
 closes b [] = false
-closes b (c ∷ rest) = b == asterisk && (c == slash && not (begins (λ d. d == asterisk) rest))
+closes b (c ∷ rest) = b == asterisk && (c == slash && stands_apart rest)
 
 -- the text of a quiet comment, and then anything: no byte up to and with its `*/` is loud
 abbrev pub is_quiet : List ℕ → Bool

@@ -25,9 +25,11 @@ use Rattle.std.specs.Str.{byte}
 use Rattle.mysql_named_params.specs.Bytes.{asterisk, backquote, colon, dash, double_quote, exclamation_mark, newline, plus, question_mark, slash, is_white_space, is_name_byte, is_start_byte, is_string_quote, is_extension, begins, IsUpTo, bracket, dollar, point}
 use Rattle.mysql_named_params.specs.Tokens.{Token, bytes_of, text_of, IsStringTail, IsName, QuotedString, QuotedIdentifier, HashComment, DashComment, BlockComment, Name, Mark, Plain}
 
--- a graphic byte of ASCII: it is printable and not the space
-abbrev pub is_graphic : ℕ → Bool
-is_graphic b = nat_le 33 b && nat_le b 126
+-- Before this byte `--` is two plain bytes on each server: printable ASCII except the space and
+-- `/`. A comment that the `/` begins may be left out before the text is read again, and then `--`
+-- stands before what follows it: `5 --/*!99999 x*/ 'a'`.
+abbrev pub keeps_dashes : ℕ → Bool
+keeps_dashes b = nat_le 33 b && (nat_le b 126 && not (b == slash))
 
 -- after `/*`: `!`, `+` or `M!`, which make it a comment, a hint or a text that is executed
 abbrev pub begins_special : List ℕ → Bool
@@ -50,12 +52,12 @@ begins_tag [] = false
 begins_tag (b ∷ bs) =
     b == dollar || (begins_place (b ∷ bs) || (is_tag_byte b && begins_tag bs))
 
--- two dashes before a byte that is not graphic
+-- two dashes before a byte that does not keep them plain
 abbrev pub begins_dashes : List ℕ → Bool
 begins_dashes [] = false
 begins_dashes (a ∷ []) = false
 begins_dashes (a ∷ b ∷ []) = false
-begins_dashes (a ∷ b ∷ gap ∷ bs) = a == dash && (b == dash && not (is_graphic gap))
+begins_dashes (a ∷ b ∷ gap ∷ bs) = a == dash && (b == dash && not (keeps_dashes gap))
 
 -- after an exponent's `e`: such dashes, or a sign and such dashes
 abbrev pub begins_exponent_dashes : List ℕ → Bool
@@ -96,8 +98,8 @@ pub record Server : Type 0 where
   -- a plain byte; asked if `begins_own`
   pub quotes : ℕ → List ℕ → Option ℕ
   -- the bytes before which `--` opens a comment, beside the white space before which it always
-  -- does; asked for the newline, with which the comment is empty, and for bytes that are not
-  -- graphic
+  -- does; asked for the newline, with which the comment is empty, and for bytes that do not
+  -- keep dashes plain
   pub also_opens : ℕ → Bool
   -- whether `"` opens an identifier, in which nothing escapes
   pub ansi_quotes : Bool
@@ -105,7 +107,7 @@ pub record Server : Type 0 where
 -- `--` before this byte opens a comment on the server
 abbrev pub opens_line : Server → ℕ → Bool
 opens_line server b =
-    (is_white_space b && not (b == newline)) || (not (is_graphic b) && server.also_opens b)
+    (is_white_space b && not (b == newline)) || (not (keeps_dashes b) && server.also_opens b)
 
 -- the mode in which a text in these quotes is read: that of strings, or without escapes
 abbrev pub reads_in : Server → Bool → ℕ → Bool

@@ -39,8 +39,6 @@ const OTHERWISE: &[(&[u8], Construct, usize)] = &[
     // What the client does beside reading: commands, dropped lines, changed bytes.
     (b"SELECT $/**/\xc3\xa9$x", Construct::JoiningComment, 8),
     (b"SELECT 5/**/\\N", Construct::JoiningComment, 8),
-    (b"SELECT 5/*+*/\xc3\xa9", Construct::JoiningComment, 11),
-    (b"SELECT 1 --/**/2", Construct::DashesBeforeComment, 9),
     (b"SELECT 5 --#x\n3", Construct::DashesBeforeComment, 9),
     (b"SELECT 5 ---- x\n3", Construct::DashesBeforeComment, 9),
     (b"SELECT 1 \\C gbk\n, :a", Construct::ClientCommand, 9),
@@ -134,6 +132,8 @@ fn queries_that_are_sent_as_they_are(rt: HostRuntime) {
 
 // What servers read in different ways is found too, and of both the first.
 const OF_SERVERS: &[(&[u8], Construct, usize)] = &[
+    (b"SELECT 5/*+*/\xc3\xa9", Construct::Hint, 8),
+    (b"SELECT 1 --/**/2", Construct::Dashes, 9),
     (b"SELECT /*+ ? */ 1", Construct::Hint, 7),
     (b"SELECT 1 AS [a], /*/*!*/ 2", Construct::Bracket, 12),
     (b"USE [a]", Construct::ClientWord, 0),
