@@ -126,7 +126,11 @@ const FOUND: &[(&[u8], Construct, usize)] = &[
     (b"/*!\\*/", Construct::ExecutableComment, 0),
     (b"/*! - */", Construct::ExecutableComment, 0),
     // A server may leave one out, and join what stands around it.
-    (b"SELECT 5 -/*!99999 x*/- '\n', :a", Construct::ExecutableComment, 10),
+    (
+        b"SELECT 5 -/*!99999 x*/- '\n', :a",
+        Construct::ExecutableComment,
+        10,
+    ),
     (b"/*+*/*", Construct::Hint, 0),
     (b"/*M! a */* 5", Construct::MariaDbComment, 0),
     (b"/*!*/:a", Construct::ExecutableComment, 0),
