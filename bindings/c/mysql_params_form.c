@@ -656,7 +656,7 @@ const char *mysql_params_construct_message(int32_t construct)
     case MYSQL_PARAMS_HINT:
         return "`/*+` is a hint or a comment: no quote, place, comment, `-`, `;` in it, then a space";
     case MYSQL_PARAMS_MARIADB_COMMENT:
-        return "`/*M!` is executed or skipped: no quote, place, comment, `-`, `;` in it, then a space";
+        return "`/*M!` is executed or not: no quote, place, comment, `-`, `;` in it, then a space";
     case MYSQL_PARAMS_DASHES:
         return "`--` is a comment or two signs here: write a space between them, or after them";
     case MYSQL_PARAMS_ESCAPED_QUOTE:

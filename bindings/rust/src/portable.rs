@@ -126,7 +126,7 @@ impl fmt::Display for Construct {
                 "`/*+` is a hint or a comment: no quote, place, comment, `-`, `;` in it, then a space"
             }
             Construct::MariaDbComment => {
-                "`/*M!` is executed or skipped: no quote, place, comment, `-`, `;` in it, then a space"
+                "`/*M!` is executed or not: no quote, place, comment, `-`, `;` in it, then a space"
             }
             Construct::Dashes => {
                 "`--` is a comment or two signs here: write a space between them, or after them"

@@ -1,10 +1,10 @@
 -- Quiet comments: hints and executable comments in whose text, up to and with `*/`, nothing begins,
 -- on any server of Server.antt or in the grammar. Whether such a text is read or skipped, no
 -- boundary outside of it moves. And the honest servers, which read or skip each quiet comment, as
--- all known do when they first read a text. Read again, it may lack the comment, or its signs alone:
--- what then comes together begins nothing either, since white space, `,`, `)`, `;` or the end stands
--- after the comment and no `-` in it. Example: `/*+ MAX_EXECUTION_TIME(1000) */`, a hint, a comment
--- or plain bytes.
+-- all known do when they first read a text. When they read it again it may lack the comment, or the
+-- signs of one. Then what comes together begins nothing either: white space, `,`, `)`, `;` or the
+-- end stands after the comment, no `-` in it, and no `--` before it (`keeps_dashes`). Example:
+-- `/*+ MAX_EXECUTION_TIME(1000) */`, a hint, a comment or plain bytes.
 use Rattle.std.specs.Prelude.{◌≡◌, ℕ, IsTrue, Bool, true, false, not, ◌==◌, ◌&&◌, ◌||◌, List, [], ◌∷◌, ◌++◌}
 use Rattle.std.specs.Str.{byte}
 use Rattle.mysql_named_params.specs.Bytes.{asterisk, backquote, dash, hash, slash, is_string_quote, is_white_space, begins, IsUpTo}

@@ -324,7 +324,7 @@ const MESSAGES: &[(Construct, &str)] = &[
     ),
     (
         Construct::MariaDbComment,
-        "`/*M!` is executed or skipped: no quote, place, comment, `-`, `;` in it, then a space",
+        "`/*M!` is executed or not: no quote, place, comment, `-`, `;` in it, then a space",
     ),
     (
         Construct::Dashes,
