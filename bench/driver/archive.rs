@@ -31,6 +31,16 @@ unsafe extern "C" {
         room_len: usize,
         report: *mut Report,
     ) -> i32;
+    fn mysql_params_bind_fragments(
+        query: *const u8,
+        query_len: usize,
+        form: *const u8,
+        form_len: usize,
+        no_backslash_escape: bool,
+        room: *mut u8,
+        room_len: usize,
+        report: *mut Report,
+    ) -> i32;
     fn mysql_params_bind_rows(
         query: *const u8,
         query_len: usize,
@@ -90,6 +100,17 @@ pub fn names(query: &[u8], room: &mut [u8]) -> (i32, Report) {
 
 pub fn bind(query: &[u8], form: &[u8], room: &mut [u8]) -> (i32, Report) {
     bind_in(query, form, false, room)
+}
+
+/// `bind` with lists, rows and more.
+pub fn bind_fragments(query: &[u8], form: &[u8], room: &mut [u8]) -> (i32, Report) {
+    let (query_at, form_at, room_at) = (query.as_ptr(), form.as_ptr(), room.as_mut_ptr());
+    let (query_len, form_len, room_len) = (query.len(), form.len(), room.len());
+    number_and_report(|report| unsafe {
+        mysql_params_bind_fragments(
+            query_at, query_len, form_at, form_len, false, room_at, room_len, report,
+        )
+    })
 }
 
 /// `bind` for any mode and any server.

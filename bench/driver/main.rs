@@ -6,6 +6,7 @@ mod archive_template;
 mod bindings;
 mod compare;
 mod differences;
+mod fragments;
 mod growth;
 mod inputs;
 mod memory;
@@ -64,11 +65,13 @@ fn measured() -> Report {
     memory::keep_freed();
     let (queries, bindings, rooms) = (inputs::queries(), inputs::bindings(), sides::rooms());
     let rows = inputs::rows_inputs();
+    let fragments = fragments::inputs();
     let tables = [
         (&sides::PARSING[..], sides::parsing(&queries, &rooms)),
         (&sides::BINDING, sides::binding(&bindings, &rooms)),
         (&sides::ANYWHERE, sides::anywhere(&bindings, &rooms)),
         (&rows::ROWS, rows::rows(&rows, &rooms)),
+        (&fragments::FRAGMENTS, fragments::fragments(&fragments, &rooms)),
         #[cfg(templates)]
         (&sides::BY_TEMPLATE, sides::by_template(&bindings, &rooms)),
     ];

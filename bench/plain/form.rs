@@ -81,9 +81,9 @@ pub fn read(form: &[u8]) -> Result<Params, (FormError, usize, usize)> {
 }
 
 /// What is left of a form.
-struct Rest<'f> {
-    form: &'f [u8],
-    at: usize,
+pub(crate) struct Rest<'f> {
+    pub form: &'f [u8],
+    pub at: usize,
 }
 
 impl<'f> Rest<'f> {
@@ -95,11 +95,11 @@ impl<'f> Rest<'f> {
     }
 
     /// A number of up to 8 bytes, least byte first.
-    fn number(&mut self, count: usize) -> Result<u64, FormError> {
+    pub fn number(&mut self, count: usize) -> Result<u64, FormError> {
         Ok(number(self.bytes(count)?))
     }
 
-    fn string(&mut self) -> Result<&'f [u8], FormError> {
+    pub fn string(&mut self) -> Result<&'f [u8], FormError> {
         let len = match self.number(1)? {
             0xFC => self.number(2)?,
             0xFD => self.number(3)?,
@@ -111,7 +111,7 @@ impl<'f> Rest<'f> {
     }
 
     /// Type, flags and value.
-    fn value(&mut self) -> Result<Value, FormError> {
+    pub fn value(&mut self) -> Result<Value, FormError> {
         let column = self.number(1)? as u8;
         let unsigned = self.number(1)? & 128 != 0;
         Ok(match column {

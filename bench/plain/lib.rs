@@ -4,6 +4,7 @@
 pub mod bind;
 pub mod client;
 pub mod form;
+pub mod fragments;
 pub mod portable;
 pub mod query;
 pub mod room;
@@ -12,6 +13,7 @@ pub mod template;
 pub mod value;
 
 use bind::BindError;
+use fragments::Fragment;
 use room::Report;
 use search::{Table, Wide};
 use template::Template;
@@ -31,6 +33,9 @@ pub type BindTemplateForm = fn(&Template, &[u8], &mut [u8]) -> (i32, Report);
 /// Binding by a template in Rust's own terms.
 pub type BindTemplate = fn(&Template, &Params) -> Result<Vec<u8>, BindError>;
 
+/// Binding one list or rows in Rust's own terms.
+pub type BindFragment = fn(&[u8], &Fragment) -> Option<Vec<u8>>;
+
 /// One kind of plain Rust.
 #[derive(Clone, Copy)]
 pub struct Kind {
@@ -43,6 +48,9 @@ pub struct Kind {
     pub template: MakeTemplate,
     pub bind_template_form: BindTemplateForm,
     pub bind_template: BindTemplate,
+    /// The same two with one list or rows.
+    pub bind_fragment_form: BindForm,
+    pub bind_fragment: BindFragment,
 }
 
 /// The calls by one way to search. They aren't generic, so that they are compiled in this crate.
@@ -72,6 +80,12 @@ macro_rules! kind {
         fn bind_template_form(template: &Template, form: &[u8], room: &mut [u8]) -> (i32, Report) {
             room::bind_form(form, room, |params| bind_template(template, params))
         }
+        fn bind_fragment(query: &[u8], fragment: &Fragment) -> Option<Vec<u8>> {
+            fragments::bind::<$search>(query, fragment)
+        }
+        fn bind_fragment_form(query: &[u8], form: &[u8], room: &mut [u8]) -> (i32, Report) {
+            fragments::bind_form::<$search>(query, form, room)
+        }
         Kind {
             names,
             bind_form,
@@ -81,6 +95,8 @@ macro_rules! kind {
             template,
             bind_template_form,
             bind_template,
+            bind_fragment_form,
+            bind_fragment,
         }
     }};
 }

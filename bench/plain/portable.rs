@@ -76,7 +76,7 @@ fn construct(byte: u8, rest: &[u8]) -> Option<i32> {
         (b'/', [b'*', b'!', ..]) => EXECUTABLE_COMMENT,
         (b'/', [b'*', b'+', ..]) => HINT,
         (b'/', [b'*', b'M', b'!', ..]) => MARIADB_COMMENT,
-        (b'-', [b'-', gap, ..]) if parts_dashes(*gap) => DASHES,
+        (b'-', [b'-', gap, ..]) if !keeps_dashes(*gap) && !gap.is_ascii_whitespace() => DASHES,
         (b'[', _) => BRACKET,
         (b'$', _) if leads_to_dollar(rest) => DOLLAR_QUOTE,
         (b'.', _) if leads_to_dashes(rest) => DASHES_AFTER_EXPONENT,
@@ -87,9 +87,9 @@ fn construct(byte: u8, rest: &[u8]) -> Option<i32> {
     })
 }
 
-/// Whether `--` before the byte is two signs in the grammar, and may open a comment elsewhere.
-fn parts_dashes(gap: u8) -> bool {
-    gap == b'/' || !(gap.is_ascii_graphic() || gap.is_ascii_whitespace())
+/// Whether `--` before the byte is two signs everywhere.
+fn keeps_dashes(gap: u8) -> bool {
+    gap.is_ascii_graphic() && gap != b'/'
 }
 
 /// Whether the text has a `*/` before anything that may begin elsewhere, and after it the end or a
@@ -100,16 +100,25 @@ fn is_quiet(text: &[u8]) -> bool {
         && (0..end).all(|at| !begins_any(text[at], &text[at + 1..]))
 }
 
-/// Whether this byte before this text begins something other than a plain byte, or is `;` or `\`.
+/// Whether this byte before this text begins something other than a plain byte, or may join what
+/// stands before the comment, or is `;` or `\`.
 fn begins_any(byte: u8, rest: &[u8]) -> bool {
     match byte {
         b'\'' | b'"' | b'`' | b'#' | b'-' | b'?' | b'[' | b';' | b'\\' => true,
         b'/' => rest.starts_with(b"*"),
+        b'!' => !is_version(rest),
         b':' => rest.first().is_some_and(begins_name),
         b'$' => leads_to_dollar(rest),
         b'.' => leads_to_dashes(rest),
         _ => false,
     }
+}
+
+/// Digits, and then white space or `*/`.
+fn is_version(text: &[u8]) -> bool {
+    let digits = text.iter().take_while(|byte| byte.is_ascii_digit()).count();
+    let after = &text[digits..];
+    after.starts_with(b"*/") || after.first().is_some_and(u8::is_ascii_whitespace)
 }
 
 /// Bytes of an identifier, and then `$` or a place.
@@ -122,7 +131,7 @@ fn leads_to_dollar(text: &[u8]) -> bool {
 /// Digits, and then a place, or `e` and two dashes that open a comment, perhaps after a sign.
 fn leads_to_dashes(text: &[u8]) -> bool {
     let digits = text.iter().take_while(|byte| byte.is_ascii_digit()).count();
-    let opens = |text: &[u8]| matches!(text, [b'-', b'-', gap, ..] if !gap.is_ascii_graphic());
+    let opens = |text: &[u8]| matches!(text, [b'-', b'-', gap, ..] if !keeps_dashes(*gap));
     match &text[digits..] {
         [b'e' | b'E', b'+' | b'-', after @ ..] if opens(after) => true,
         [b'e' | b'E', after @ ..] => opens(after),

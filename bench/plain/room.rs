@@ -118,15 +118,20 @@ pub fn bind_form(
         Ok(params) => params,
         Err((error, number, start)) => return form_answer(&error, number, start),
     };
-    let text = match bind(&params) {
-        Ok(text) => text,
-        Err(error) => return bind_answer(&error),
-    };
+    match bind(&params) {
+        Ok(text) => fill_text(&text, room),
+        Err(error) => bind_answer(&error),
+    }
+}
+
+/// Copies a text into the room, or nothing where it is longer.
+#[inline(always)]
+pub fn fill_text(text: &[u8], room: &mut [u8]) -> (i32, Report) {
     let report = Report { len: text.len(), ..Report::default() };
     if room.len() < text.len() {
         return (ROOM, report);
     }
-    room[..text.len()].copy_from_slice(&text);
+    room[..text.len()].copy_from_slice(text);
     (DONE, report)
 }
 

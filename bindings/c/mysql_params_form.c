@@ -652,11 +652,11 @@ const char *mysql_params_construct_message(int32_t construct)
 {
     switch (construct) {
     case MYSQL_PARAMS_EXECUTABLE_COMMENT:
-        return "`/*!` is executed or skipped: no quote, place, comment, `-`, `;` in it, then a space";
+        return "`/*!` is executed or skipped: no quote, place, comment, `-` or `;`; spaces around";
     case MYSQL_PARAMS_HINT:
-        return "`/*+` is a hint or a comment: no quote, place, comment, `-`, `;` in it, then a space";
+        return "`/*+` is a hint or a comment: no quote, place, comment, `-` or `;`; a space after it";
     case MYSQL_PARAMS_MARIADB_COMMENT:
-        return "`/*M!` is executed or not: no quote, place, comment, `-`, `;` in it, then a space";
+        return "`/*M!` is executed or not: no quote, place, comment, `-` or `;`; spaces around";
     case MYSQL_PARAMS_DASHES:
         return "`--` is a comment or two signs here: write a space between them, or after them";
     case MYSQL_PARAMS_ESCAPED_QUOTE:

@@ -120,13 +120,13 @@ impl fmt::Display for Construct {
     fn fmt(&self, f: &mut fmt::Formatter<'_>) -> fmt::Result {
         f.write_str(match self {
             Construct::ExecutableComment => {
-                "`/*!` is executed or skipped: no quote, place, comment, `-`, `;` in it, then a space"
+                "`/*!` is executed or skipped: no quote, place, comment, `-` or `;`; spaces around"
             }
             Construct::Hint => {
-                "`/*+` is a hint or a comment: no quote, place, comment, `-`, `;` in it, then a space"
+                "`/*+` is a hint or a comment: no quote, place, comment, `-` or `;`; a space after it"
             }
             Construct::MariaDbComment => {
-                "`/*M!` is executed or not: no quote, place, comment, `-`, `;` in it, then a space"
+                "`/*M!` is executed or not: no quote, place, comment, `-` or `;`; spaces around"
             }
             Construct::Dashes => {
                 "`--` is a comment or two signs here: write a space between them, or after them"

@@ -1,45 +1,17 @@
 -- What is quiet in a text stays so up to a place, where another text follows instead.
 use Rattle.std.specs.Prelude.{Bool}
-use Rattle.std.proofs.Common.{◌≡◌, ℕ, true, false, not, ◌==◌, ◌&&◌, ◌||◌, List, [], ◌∷◌, ◌++◌, refl, sym, ap, ◌∙◌, subst, inl, inr, true≢false}
-use Rattle.std.proofs.lemmas.Bool.{and_parts, or_parts, or_cases, or_from, or_right, not-true, eqb-true}
-use Rattle.mysql_named_params.specs.Bytes.{asterisk, backquote, dash, hash, slash, is_string_quote, begins, IsUpTo, up_to_word, up_to_end}
+use Rattle.std.proofs.Common.{◌≡◌, ℕ, true, false, cond, not, ◌==◌, ◌&&◌, ◌||◌, List, [], ◌∷◌, ◌++◌, refl, sym, ap, ◌∙◌, subst, inl, inr, true≢false}
+use Rattle.std.specs.Char.{is_ascii_digit}
+use Rattle.std.proofs.lemmas.Bool.{and_parts, or_parts, or_cases, or_from, or_right, not-true, not-false, eqb-true}
+use Rattle.mysql_named_params.specs.Bytes.{asterisk, backquote, dash, hash, slash, is_string_quote, is_white_space, begins, IsUpTo, up_to_word, up_to_end}
 use Rattle.mysql_named_params.specs.Tokens.{Token, bytes_of, QuotedString, QuotedIdentifier, HashComment, DashComment, BlockComment, Name, Mark, Plain}
 use Rattle.mysql_named_params.specs.Server.{begins_special, begins_place, begins_own}
 use Rattle.mysql_named_params.specs.Portable.{differs_at, may_open_line, is_read_alike}
-use Rattle.mysql_named_params.specs.Quiet.{is_loud, stands_apart, closes, is_quiet, IsQuietComment, begins_quiet}
+use Rattle.mysql_named_params.specs.Quiet.{is_loud, is_for_client, stands_apart, closes, is_version, is_quiet, IsQuietComment, begins_quiet}
 use Rattle.mysql_named_params.proofs.PortableLemmas.{second_false, false_if, is_alike_on_all}
 use Rattle.mysql_binding.proofs.UpToSpliceLemmas.{SameUpToSplice, at_end, same, same-append, at_place, last_byte, portable_move, plain_move, same-end, place_byte}
 
 -- ---- a byte that is not loud stays one
-
-loud_move : (b c : ℕ) {x y : List ℕ} → SameUpToSplice b (c ∷ x) (c ∷ y) → is_loud b (c ∷ x) ≡ false →
-    is_loud b (c ∷ y) ≡ false
-loud_move b c {x = x} {y = y} a h =
-    let p1 = or_parts (is_string_quote b) _ h in
-    let p2 = or_parts (b == backquote) _ p1.1 in
-    let p3 = or_parts (b == hash) _ p2.1 in
-    let p4 = or_parts (b == dash) _ p3.1 in
-    let p5 = or_parts (b == slash && c == asterisk) _ p4.1 in
-    let p6 = or_parts (begins_place (b ∷ c ∷ x)) _ p5.1 in
-    let p7 = or_parts (begins_own b (c ∷ x)) _ p6.1 in
-    let line : (b == dash && may_open_line (c ∷ x)) ≡ false = false_if _ _ (λ t. absurd (true≢false (sym t ∙ p4.0))) in
-    let d : differs_at b (c ∷ x) ≡ false = or_from _ _ p5.0 (or_from _ _ line p7.0) in
-    let e = or_parts (b == slash && c == asterisk) _ (plain_move b a d) in
-    let f = or_parts (b == dash && may_open_line (c ∷ y)) (begins_own b (c ∷ y)) e.1 in
-    or_from _ _ p1.0 (or_from _ _ p2.0 (or_from _ _ p3.0 (or_from _ _ p4.0 (or_from _ _ p5.0 (or_from _ _ p6.0 (or_from _ _ f.1 p7.1))))))
-
--- ---- a quiet text stays one
-
-no_place_quiet : (b : ℕ) (x : List ℕ) → begins_place (b ∷ x) ≡ true → is_quiet (b ∷ x) ≡ true → ⊥
-no_place_quiet b x p q =
-    let h = not-true _ (and_parts (not (is_loud b x)) _ q).0 in
-    let p1 = or_parts (is_string_quote b) _ h in
-    let p2 = or_parts (b == backquote) _ p1.1 in
-    let p3 = or_parts (b == hash) _ p2.1 in
-    let p4 = or_parts (b == dash) _ p3.1 in
-    let p5 = or_parts (b == slash && begins (λ c. c == asterisk) x) _ p4.1 in
-    let p6 = or_parts (begins_place (b ∷ x)) _ p5.1 in
-    true≢false (sym p ∙ p6.0)
 
 no_place_slash : (b : ℕ) (x : List ℕ) → begins_place (b ∷ x) ≡ true → b ≡ slash → ⊥
 no_place_slash b x p e = true≢false (sym (subst (λ u. begins_place (u ∷ x) ≡ true) e p))
@@ -57,12 +29,71 @@ apart_move at_end h = h
 apart_move (same a) h = h
 apart_move (at_place {b = b} {x = x} p l) h = absurd (true≢false (sym h ∙ place_not_apart b x p))
 
-closes_move : (b c : ℕ) {x y : List ℕ} → SameUpToSplice c x y → closes b (c ∷ x) ≡ true → closes b (c ∷ y) ≡ true
-closes_move b c {x = x} {y = y} a h =
-    let p = and_parts (b == asterisk) _ h in
-    let q = and_parts (c == slash) _ p.1 in
-    let s = apart_move a q.1 in
-    rw (p.0, q.0, s) refl
+-- `*/` before what stands apart stays so
+end_move : (b c : ℕ) {x y : List ℕ} → SameUpToSplice c x y →
+    (closes b (c ∷ x) && not (stands_apart x)) ≡ false → (closes b (c ∷ y) && not (stands_apart y)) ≡ false
+end_move b c {x = x} a h =
+    false_if _ _ (λ t. ap not (apart_move a (not-false _ (second_false (closes b (c ∷ x)) _ h t))))
+
+-- the digits of a version, and what ends them, stay so
+place_no_version : (b : ℕ) (x : List ℕ) → begins_place (b ∷ x) ≡ true → is_version (b ∷ x) ≡ false
+place_no_version b x p =
+    elim (place_byte b x p) [
+      | inl e ↦ ap (λ u. is_version (u ∷ x)) e
+      | inr e ↦ ap (λ u. is_version (u ∷ x)) e
+    ]
+
+end_stays_one : (b : ℕ) {x y : List ℕ} → SameUpToSplice b x y → closes b x ≡ true → closes b y ≡ true
+end_stays_one b at_end h = h
+end_stays_one b (same a) h = h
+end_stays_one b (at_place {b = c} {x = x} p l) h =
+    absurd (no_place_slash c x p (eqb-true c slash (and_parts (b == asterisk) _ h).1))
+
+version_move : {before : ℕ} {x y : List ℕ} → SameUpToSplice before x y → is_version x ≡ true → is_version y ≡ true
+version_move at_end h = h
+version_move (same {b = b} {x = x} {y = y} a) h = go (is_ascii_digit b) (version_move a) h
+  where
+    go : (d : Bool) → (is_version x ≡ true → is_version y ≡ true) →
+        cond d (is_version x) (is_white_space b || closes b x) ≡ true →
+        cond d (is_version y) (is_white_space b || closes b y) ≡ true
+    go true more k = more k
+    go false more k = elim (or_cases (is_white_space b) (closes b x) k) [
+      | inl w ↦ rw w refl
+      | inr c ↦ rw (end_stays_one b a c) (or_right (is_white_space b) true refl)
+    ]
+version_move (at_place {b = b} {x = x} p l) h = absurd (true≢false (sym h ∙ place_no_version b x p))
+
+loud_move : (b c : ℕ) {x y : List ℕ} → SameUpToSplice c x y → is_loud b (c ∷ x) ≡ false →
+    is_loud b (c ∷ y) ≡ false
+loud_move b c {x = x} {y = y} a h =
+    let more : SameUpToSplice b (c ∷ x) (c ∷ y) = same a in
+    let p1 = or_parts (is_string_quote b) _ h in
+    let p2 = or_parts (b == backquote) _ p1.1 in
+    let p3 = or_parts (b == hash) _ p2.1 in
+    let p4 = or_parts (b == dash) _ p3.1 in
+    let p5 = or_parts (b == slash && c == asterisk) _ p4.1 in
+    let p6 = or_parts (begins_place (b ∷ c ∷ x)) _ p5.1 in
+    let p7 = or_parts (begins_own b (c ∷ x)) _ p6.1 in
+    let line : (b == dash && may_open_line (c ∷ x)) ≡ false = false_if _ _ (λ t. absurd (true≢false (sym t ∙ p4.0))) in
+    let d : differs_at b (c ∷ x) ≡ false = or_from _ _ p5.0 (or_from _ _ line p7.0) in
+    let e = or_parts (b == slash && c == asterisk) _ (plain_move b more d) in
+    let f = or_parts (b == dash && may_open_line (c ∷ y)) (begins_own b (c ∷ y)) e.1 in
+    let p8 = or_parts (is_for_client b) _ p7.1 in
+    let p9 = or_parts (closes b (c ∷ x) && not (stands_apart x)) _ p8.1 in
+    or_from _ _ p1.0 (or_from _ _ p2.0 (or_from _ _ p3.0 (or_from _ _ p4.0 (or_from _ _ p5.0 (or_from _ _ p6.0 (or_from _ _ f.1 (or_from _ _ p8.0 (or_from _ _ (end_move b c a p9.0) (false_if _ _ (λ t. ap not (version_move more (not-false _ (second_false _ _ p9.1 t)))))))))))))
+
+-- ---- a quiet text stays one
+
+no_place_quiet : (b : ℕ) (x : List ℕ) → begins_place (b ∷ x) ≡ true → is_quiet (b ∷ x) ≡ true → ⊥
+no_place_quiet b x p q =
+    let h = not-true _ (and_parts (not (is_loud b x)) _ q).0 in
+    let p1 = or_parts (is_string_quote b) _ h in
+    let p2 = or_parts (b == backquote) _ p1.1 in
+    let p3 = or_parts (b == hash) _ p2.1 in
+    let p4 = or_parts (b == dash) _ p3.1 in
+    let p5 = or_parts (b == slash && begins (λ c. c == asterisk) x) _ p4.1 in
+    let p6 = or_parts (begins_place (b ∷ x)) _ p5.1 in
+    true≢false (sym p ∙ p6.0)
 
 both : (p q : Bool) → p ≡ true → q ≡ true → (p && q) ≡ true
 both p q e f = rw (e, f) refl
@@ -83,14 +114,14 @@ quiet_move (same {b = b} at_end) h = h
 quiet_move (same {b = b} (at_place {b = c} {x = x} p l)) h =
     let q = and_parts (not (is_loud b (c ∷ x))) _ h in
     elim (or_cases (closes b (c ∷ x)) (is_quiet (c ∷ x)) q.1) [
-      | inl k ↦ absurd (no_place_slash c x p (eqb-true c slash (and_parts (c == slash) _ (and_parts (b == asterisk) _ k).1).0))
+      | inl k ↦ absurd (no_place_slash c x p (eqb-true c slash (and_parts (b == asterisk) _ k).1))
       | inr k ↦ absurd (no_place_quiet c x p k)
     ]
 quiet_move (same {b = b} (same {b = c} {x = x} {y = y} a)) h =
     let q = and_parts (not (is_loud b (c ∷ x))) _ h in
-    let loud : is_loud b (c ∷ y) ≡ false = loud_move b c (same {b = c} a) (not-true _ q.0) in
+    let loud : is_loud b (c ∷ y) ≡ false = loud_move b c a (not-true _ q.0) in
     elim (or_cases (closes b (c ∷ x)) (is_quiet (c ∷ x)) q.1) [
-      | inl k ↦ by_close (is_loud b (c ∷ y)) (closes b (c ∷ y)) (is_quiet (c ∷ y)) loud (closes_move b c a k)
+      | inl k ↦ by_close (is_loud b (c ∷ y)) (closes b (c ∷ y)) (is_quiet (c ∷ y)) loud k
       | inr k ↦ by_rest (is_loud b (c ∷ y)) (closes b (c ∷ y)) (is_quiet (c ∷ y)) loud (quiet_move (same {before = b} {b = c} a) k)
     ]
 
@@ -104,7 +135,7 @@ special_first (same (same a)) q h = h
 special_first (same {b = b} (at_place {b = c} {x = x} p l)) q h =
     let k = and_parts (not (is_loud b (c ∷ x))) _ q in
     elim (or_cases (closes b (c ∷ x)) (is_quiet (c ∷ x)) k.1) [
-      | inl m ↦ absurd (no_place_slash c x p (eqb-true c slash (and_parts (c == slash) _ (and_parts (b == asterisk) _ m).1).0))
+      | inl m ↦ absurd (no_place_slash c x p (eqb-true c slash (and_parts (b == asterisk) _ m).1))
       | inr m ↦ absurd (no_place_quiet c x p m)
     ]
 

@@ -2,7 +2,7 @@
 use Rattle.std.specs.Prelude.{Bool, IsTrue, ⊤}
 use Rattle.std.proofs.Common.{◌≡◌, ◌⊎◌, ℕ, zero, suc, ◌+◌, ◌≤◌, true, false, cond, not, ◌==◌, ◌&&◌, ◌||◌, List, [], ◌∷◌, ◌++◌, length, take, drop, Option, None, refl, sym, ap, ◌∙◌, subst, inl, inr, arith, true≢false, take-append-drop}
 use Rattle.std.proofs.lemmas.List.{append_cancel_left}
-use Rattle.std.proofs.lemmas.Bool.{cases_Bool, and_parts, or_parts, or_cases, not-true, eqb-true}
+use Rattle.std.proofs.lemmas.Bool.{cases_Bool, and_parts, or_parts, or_cases, not-true, not-false, eqb-true}
 use Rattle.mysql_named_params.specs.Bytes.{asterisk, backquote, colon, dash, hash, newline, question_mark, slash, is_start_byte, is_string_quote, is_white_space, begins, IsUpTo}
 use Rattle.mysql_named_params.specs.Tokens.{Token, bytes_of, text_of, IsToken, IsTokens, AreTokensBefore, QuotedString, QuotedIdentifier, HashComment, DashComment, BlockComment, Name, Mark, Plain}
 use Rattle.mysql_named_params.specs.Places.{names, marks}
@@ -10,7 +10,7 @@ use Rattle.mysql_named_params.specs.Positions.{positions_from}
 use Rattle.mysql_named_params.specs.TokensOf.{not_plain_at, dash_comment, block_comment, name_at, begins_with, len_up_to}
 use Rattle.mysql_named_params.specs.Server.{Server, Block, executed, comment, comment_of, begins_special, begins_place, begins_own, block_on, opens_line, usual_block, IsTokenOn, AreTokensOn, IsReadOn}
 use Rattle.mysql_named_params.specs.Portable.{is_read_alike, AreReadAlikeBefore, IsReadAs, read_all, read_same, read_empty_comment, read_skipped, read_executed}
-use Rattle.mysql_named_params.specs.Quiet.{is_loud, stands_apart, closes, is_quiet, IsQuietComment, reads_or_skips, IsHonest, begins_quiet, plain_then}
+use Rattle.mysql_named_params.specs.Quiet.{is_loud, is_for_client, stands_apart, closes, is_quiet, IsQuietComment, reads_or_skips, IsHonest, begins_quiet, plain_then}
 use Rattle.mysql_named_params.proofs.TokenEnds.{take_front, up_to_is}
 use Rattle.mysql_named_params.proofs.TokenEndLemmas.{up_to_gives}
 use Rattle.mysql_named_params.proofs.ServerTokenLemmas.{not_plain_on, dash_comment_on, plain_on, comment_by, one_list_on}
@@ -35,6 +35,7 @@ pub record QuietByte (b : ℕ) (rest : List ℕ) : Type 0 where
   pub no_mark : (b == question_mark) ≡ false
   pub no_name : (b == colon) ≡ true → begins is_start_byte rest ≡ false
   pub no_own : begins_own b rest ≡ false
+  pub apart : closes b rest ≡ true → stands_apart (drop 1 rest) ≡ true
 
 pub quiet_byte : (b : ℕ) (rest : List ℕ) → is_loud b rest ≡ false → QuietByte b rest
 quiet_byte b rest h =
@@ -46,6 +47,8 @@ quiet_byte b rest h =
     let p6 = or_parts (begins_place (b ∷ rest)) _ p5.1 in
     let p7 = or_parts (begins_own b rest) _ p6.1 in
     let p8 = or_parts (b == question_mark) _ p6.0 in
+    let p9 = or_parts (is_for_client b) _ p7.1 in
+    let p10 = or_parts (closes b rest && not (stands_apart (drop 1 rest))) _ p9.1 in
     record {
       no_quote = p1.0;
       no_backquote = p2.0;
@@ -55,6 +58,7 @@ quiet_byte b rest h =
       no_mark = p8.0;
       no_name = λ e. second_false _ _ p8.1 e;
       no_own = p7.0;
+      apart = λ e. not-false _ (second_false _ _ p10.0 e);
     }
 
 dash_no_on : (server : Server) (rest : List ℕ) → begins (λ c. c == dash) rest ≡ false → dash_comment_on server rest ≡ None
@@ -125,21 +129,25 @@ two_quiet : (b : ℕ) (rest : List ℕ) → is_quiet (b ∷ rest) ≡ true → b
 two_quiet b [] h w = absurd (true≢false (sym (and_parts (asterisk == b) false w).1))
 two_quiet b (c ∷ bs) h w =
     let p = and_parts (not (is_loud b (c ∷ bs))) (closes b (c ∷ bs) || is_quiet (c ∷ bs)) h in
-    (p.0, (last (or_cases (closes b (c ∷ bs)) (is_quiet (c ∷ bs)) p.1), tt))
+    (p.0, (last p.0 (or_cases (closes b (c ∷ bs)) (is_quiet (c ∷ bs)) p.1), tt))
   where
     at_slash : (d : ℕ) → d ≡ slash → begins (λ x. x == asterisk) bs ≡ false → not (is_loud d bs) ≡ true
     at_slash d e f = rw (e, f) refl
 
-    last : (closes b (c ∷ bs) ≡ true) ⊎ (is_quiet (c ∷ bs) ≡ true) → not (is_loud c bs) ≡ true
-    last (inr q) = (and_parts (not (is_loud c bs)) _ q).0
-    last (inl q) =
+    last : not (is_loud b (c ∷ bs)) ≡ true → (closes b (c ∷ bs) ≡ true) ⊎ (is_quiet (c ∷ bs) ≡ true) →
+        not (is_loud c bs) ≡ true
+    last f (inr q) = (and_parts (not (is_loud c bs)) _ q).0
+    last f (inl q) =
         let r = and_parts (b == asterisk) _ q in
-        let s = and_parts (c == slash) _ r.1 in
-        at_slash c (eqb-true c slash s.0) (apart_no_asterisk bs s.1)
+        at_slash c (eqb-true c slash r.1) (apart_no_asterisk bs ((quiet_byte b (c ∷ bs) (not-true _ f)).apart q))
 
 later_quiet : (b : ℕ) (rest : List ℕ) → is_quiet (b ∷ rest) ≡ true → begins_with (asterisk ∷ slash ∷ []) (b ∷ rest) ≡ false →
     is_quiet rest ≡ true
-later_quiet b [] h w = absurd (true≢false (sym (and_parts (not (is_loud b [])) false h).1))
+later_quiet b [] h w =
+    elim (or_cases (b == asterisk && false) false (and_parts (not (is_loud b [])) _ h).1) [
+      | inl q ↦ absurd (true≢false (sym (and_parts (b == asterisk) false q).1))
+      | inr q ↦ absurd (true≢false (sym q))
+    ]
 later_quiet b (c ∷ bs) h w =
     let p = and_parts (not (is_loud b (c ∷ bs))) (closes b (c ∷ bs) || is_quiet (c ∷ bs)) h in
     elim (or_cases (closes b (c ∷ bs)) (is_quiet (c ∷ bs)) p.1) [
@@ -150,9 +158,8 @@ later_quiet b (c ∷ bs) h w =
     no_close : closes b (c ∷ bs) ≡ true → ⊥
     no_close q =
         let r = and_parts (b == asterisk) _ q in
-        let s = and_parts (c == slash) _ r.1 in
         let x : b ≡ asterisk = eqb-true b asterisk r.0 in
-        let y : c ≡ slash = eqb-true c slash s.0 in
+        let y : c ≡ slash = eqb-true c slash r.1 in
         let z : begins_with (asterisk ∷ slash ∷ []) (asterisk ∷ slash ∷ bs) ≡ false =
         subst (λ u. begins_with (asterisk ∷ slash ∷ []) (asterisk ∷ u ∷ bs) ≡ false) y (subst (λ u. begins_with (asterisk ∷ slash ∷ []) (u ∷ c ∷ bs) ≡ false) x w) in
         true≢false z

@@ -25,7 +25,8 @@ no_semicolon b rest h =
     let p5 = or_parts (b == slash && begins (λ c. c == asterisk) rest) _ p4.1 in
     let p6 = or_parts (begins_place (b ∷ rest)) _ p5.1 in
     let p7 = or_parts (begins_own b rest) _ p6.1 in
-    (or_parts (b == byte ";") _ p7.1).0
+    let p8 = or_parts (is_for_client b) _ p7.1 in
+    (or_parts (b == byte ";") _ p8.0).0
 
 -- a quiet text cuts nothing
 row_count : (tail rest : List ℕ) (ts : List Token) → AreQuiet rest tail →

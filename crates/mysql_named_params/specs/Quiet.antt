@@ -3,11 +3,13 @@
 -- boundary outside of it moves. And the honest servers, which read or skip each quiet comment, as
 -- all known do when they first read a text. When they read it again it may lack the comment, or the
 -- signs of one. Then what comes together begins nothing either: white space, `,`, `)`, `;` or the
--- end stands after the comment, no `-` in it, and no `--` before it (`keeps_dashes`). Example:
--- `/*+ MAX_EXECUTION_TIME(1000) */`, a hint, a comment or plain bytes.
-use Rattle.std.specs.Prelude.{◌≡◌, ℕ, IsTrue, Bool, true, false, not, ◌==◌, ◌&&◌, ◌||◌, List, [], ◌∷◌, ◌++◌}
+-- end stands after the comment, white space after the `!` at its front, no `-` in it, and no `--`
+-- before it (`keeps_dashes`). Example: `/*+ MAX_EXECUTION_TIME(1000) */`, a hint, a comment or
+-- plain bytes.
+use Rattle.std.specs.Prelude.{◌≡◌, ℕ, IsTrue, Bool, true, false, not, ◌==◌, ◌&&◌, ◌||◌, if◌then◌else◌, List, [], ◌∷◌, ◌++◌, drop}
+use Rattle.std.specs.Char.{is_ascii_digit}
 use Rattle.std.specs.Str.{byte}
-use Rattle.mysql_named_params.specs.Bytes.{asterisk, backquote, dash, hash, slash, is_string_quote, is_white_space, begins, IsUpTo}
+use Rattle.mysql_named_params.specs.Bytes.{asterisk, backquote, dash, exclamation_mark, hash, slash, is_string_quote, is_white_space, begins, IsUpTo}
 use Rattle.mysql_named_params.specs.Tokens.{Token, Plain}
 use Rattle.mysql_named_params.specs.Server.{Server, Block, executed, comment, comment_of, begins_special, begins_place, begins_own}
 
@@ -15,8 +17,25 @@ use Rattle.mysql_named_params.specs.Server.{Server, Block, executed, comment, co
 abbrev pub is_for_client : ℕ → Bool
 is_for_client b = b == byte ";" || b == byte "\\"
 
--- this byte, before this text, may begin something: a text in quotes, a comment, a place, or what
--- a server has of its own; a `-` with one that stands before the comment
+-- the text is empty, or begins with a byte that begins nothing with what stands before it
+abbrev pub stands_apart : List ℕ → Bool
+stands_apart [] = true
+stands_apart (b ∷ rest) =
+    is_white_space b || (b == byte ";" || (b == byte "," || b == byte ")"))
+
+-- `*` and then this text: `*/`
+abbrev pub closes : ℕ → List ℕ → Bool
+closes b rest = b == asterisk && begins (λ c. c == slash) rest
+
+-- the digits of a version or none, and then white space or `*/`
+abbrev pub is_version : List ℕ → Bool
+is_version [] = false
+is_version (b ∷ rest) =
+    if is_ascii_digit b then is_version rest else is_white_space b || closes b rest
+
+-- This byte, before this text, may begin something: a text in quotes, a comment, a place, or what
+-- a server has of its own; or, with what stands before the comment, a `-`, what follows a `*/`, and
+-- what follows the `!` of the comment's sign.
 abbrev pub is_loud : ℕ → List ℕ → Bool
 is_loud b rest =
     is_string_quote b
@@ -25,18 +44,10 @@ is_loud b rest =
     || (b == dash
     || ((b == slash && begins (λ c. c == asterisk) rest)
     || (begins_place (b ∷ rest)
-    || (begins_own b rest || is_for_client b))))))
-
--- the text is empty, or begins with a byte that begins nothing with what stands before it
-abbrev pub stands_apart : List ℕ → Bool
-stands_apart [] = true
-stands_apart (b ∷ rest) =
-    is_white_space b || (b == byte ";" || (b == byte "," || b == byte ")"))
-
--- `*` and then this text: the end of a comment, and what follows it stands apart
-abbrev pub closes : ℕ → List ℕ → Bool
-closes b [] = false
-closes b (c ∷ rest) = b == asterisk && (c == slash && stands_apart rest)
+    || (begins_own b rest
+    || (is_for_client b
+    || ((closes b rest && not (stands_apart (drop 1 rest)))
+    || (b == exclamation_mark && not (is_version rest))))))))))
 
 -- the text of a quiet comment, and then anything: no byte up to and with its `*/` is loud
 abbrev pub is_quiet : List ℕ → Bool
