@@ -606,7 +606,7 @@ static void append_fault(line *to, const mysql_params_report *report)
         append_text(to, "name %zu ends in a space", report->values);
         return;
     case MYSQL_PARAMS_FAULT_KEYWORD:
-        append_text(to, "it is no keyword");
+        append_text(to, "it is none of the keywords that are written");
         return;
     default:
         append_text(to, "unknown fault");

@@ -292,7 +292,7 @@ _FAULTS = {
     Fault.ZERO_BYTE: "name {item} has a byte 0",
     Fault.LONG_NAME: "name {item} has more than 64 characters",
     Fault.TRAILING_SPACE: "name {item} ends in a space",
-    Fault.KEYWORD: "it is no keyword",
+    Fault.KEYWORD: "it is none of the keywords that are written",
 }
 
 

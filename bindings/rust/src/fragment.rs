@@ -122,7 +122,7 @@ impl fmt::Display for Fault {
             Fault::ZeroByte { part } => write!(f, "name {part} has a byte 0"),
             Fault::LongName { part } => write!(f, "name {part} has more than 64 characters"),
             Fault::TrailingSpace { part } => write!(f, "name {part} ends in a space"),
-            Fault::Keyword => write!(f, "it is no keyword"),
+            Fault::Keyword => write!(f, "it is none of the keywords that are written"),
         }
     }
 }
