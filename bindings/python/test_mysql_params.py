@@ -421,7 +421,8 @@ class Test(unittest.TestCase):
     def test_messages_of_values(self):
         aware = datetime.datetime(2019, 11, 27, tzinfo=datetime.timezone.utc)
         a_list = "a list, which has no literal: write a place for each of its values"
-        wide = "a whole number of more than 64 bits: give str(..) of it, and write CAST({} AS DECIMAL(65,0))"
+        bare = "which bind and the calls that send write bare, where a place takes more than a value"
+        wide = f"a whole number of more than 64 bits, {bare}: give str(..) of it, and write CAST({{}} AS DECIMAL(65,0))"
         price = "a Decimal, which has no literal: give str(..) of it, and write CAST({} AS DECIMAL(20,2))"
         double = ": a text in arithmetic is a double"
         a_zone = "a datetime with a time zone: convert it to a naive one, or hand in zone=.., the session's"
@@ -435,8 +436,8 @@ class Test(unittest.TestCase):
         ):
             for params, place in (({"a": None, "ids": value}, ":ids"), ([None, value], "?")):
                 with self.subTest(value=value, place=place), self.assertRaises(kind) as raised:
-                    # bind takes a list and a Decimal.
-                    call = bind_anywhere if isinstance(value, (list, decimal.Decimal)) else bind
+                    # bind takes a list and exact numbers.
+                    call = bind_anywhere if isinstance(value, (list, int, decimal.Decimal)) else bind
                     call("SELECT 1", params)
                 which = "the value of `:ids` is " if place == ":ids" else "the value for place 1 is "
                 self.assertEqual(str(raised.exception), which + message.format(place))
@@ -506,8 +507,8 @@ class Test(unittest.TestCase):
     def test_errors_of_use(self):
         aware = datetime.datetime(2019, 11, 27, tzinfo=datetime.timezone.utc)
         for error, query, params in (
-            (OverflowError, "?", [1 << 64]),
-            (OverflowError, "?", [-(1 << 63) - 1]),
+            (OverflowError, "?", [10**65]),
+            (OverflowError, "?", [-(10**65)]),
             (TypeError, "?", [aware]),
             (TypeError, "?", [object()]),
             (TypeError, "?", [1j]),

@@ -7,7 +7,7 @@ import unittest
 import unittest.mock
 
 import mysql_params
-from mysql_params import Construct, ask_again, exec_driver_sql, execute, executemany
+from mysql_params import Construct, ask_again, exec_driver_sql, execute
 from test_mysql_params import Result
 
 STRICT = "STRICT_TRANS_TABLES"
@@ -268,16 +268,6 @@ class Test(unittest.TestCase):
                 self.send(PyMySQL(), query, params)
             self.assertEqual(str(raised.exception), message)
             self.assertEqual(str(pickle.loads(pickle.dumps(raised.exception))), message)
-
-    def test_many_rows(self):
-        connection = PyMySQL()
-        self.assertEqual(executemany(connection.cursor(), "INSERT INTO t VALUES (?, ?)", [(1, "a"), (2, "%")]), 6)
-        self.assertEqual(connection.sent, [b"INSERT INTO t VALUES (1, 'a')", b"INSERT INTO t VALUES (2, '%')"])
-        self.assertEqual(connection.asked, 1)
-        with self.assertRaises(mysql_params.MarkCountError):
-            executemany(connection.cursor(), "INSERT INTO t VALUES (?, ?)", [(1, "a"), (2,)])
-        self.assertEqual(len(connection.sent), 2)
-        self.assertEqual(executemany(connection.cursor(), "INSERT INTO t VALUES (?)", iter(())), 0)
 
     def test_sqlalchemy(self):
         pooled = Pooled(PyMySQL(NONE))

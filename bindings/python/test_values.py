@@ -13,6 +13,7 @@ from unittest import mock
 
 import mysql_params
 from mysql_params import _values, bind, decimal_text, register
+from shared_cases import CASES
 from test_mysql_params import Result
 
 try:
@@ -94,7 +95,7 @@ class Test(unittest.TestCase):
     def test_types_that_stay_refused(self):
         for value, kind, message in (
             (datetime.time(1, tzinfo=UTC), TypeError, "is a time with a time zone, which has no literal"),
-            (Wide(1 << 64), OverflowError, "is a whole number of more than 64 bits"),
+            (Wide(10**65), OverflowError, "is a whole number of more than 65 digits: servers keep no more"),
             (fractions.Fraction(1, 3), TypeError, "is of type Fraction, which has no literal"),
             ({1, 2}, TypeError, "is a set, which has no literal"),
         ):
@@ -134,9 +135,23 @@ class Test(unittest.TestCase):
         for value, wanted in exact:
             self.assertEqual(bind("?", [decimal.Decimal(value)]), wanted)
         self.assertEqual(bind("?", [Color.PRICE]), b"0.01")
-        for value in ("NaN", "1E+65"):
-            with self.subTest(value=value), self.assertRaisesRegex(ValueError, "^the value of `:p`: a Decimal "):
-                bind(":p", {"p": decimal.Decimal(value)})
+        for value, fault in (
+            ("NaN", "that is NaN has no digits"),
+            ("NaN123", "that is NaN has no digits"),
+            ("-sNaN7", "that is NaN has no digits"),
+            ("Infinity", "that is infinite has no digits"),
+            ("-Infinity", "that is infinite has no digits"),
+            ("1E+65", "whose first digit stands for 1E+65 is beyond a DECIMAL, which holds 65 digits, and 30 after the point"),
+            ("9" * 36 + "." + "9" * 30, "of 66 digits: servers keep 65, so round it, as by quantize"),
+            ("0." + "1" * 65, "of 66 digits: servers keep 65, so round it, as by quantize"),
+        ):
+            number = decimal.Decimal(value)
+            for given in (number, [1, number], [(1, 2), (3, number)]):
+                with self.subTest(given=given), self.assertRaises(ValueError) as raised:
+                    bind(":p", {"p": given})
+                self.assertEqual(str(raised.exception), f"the value of `:p`: a Decimal {fault}")
+        for value in ("9" * 35 + "." + "9" * 30, "-0." + "1" * 64, "1" * 65):
+            self.assertEqual(bind("?", [decimal.Decimal(value)]), value.encode())
         register(decimal.Decimal, decimal_text)
         texts = (("0.01", b"'0.01'"), ("1E+3", b"'1000'"), ("-1.50", b"'-1.50'"), ("1E-7", b"'0.0000001'"))
         for value, wanted in texts:
@@ -144,6 +159,41 @@ class Test(unittest.TestCase):
         for value in ("NaN", "sNaN", "Infinity", "-Infinity"):
             with self.subTest(value=value), self.assertRaises(ValueError):
                 bind("?", [decimal.Decimal(value)])
+
+    def test_whole_numbers_of_more_than_64_bits(self):
+        class Number(int):
+            def __str__(self):
+                return "7"
+
+            def __lt__(self, other):
+                return True
+
+        for value, wanted in (
+            (2**70, b"1180591620717411303424"),
+            (-(2**70), b"-1180591620717411303424"),
+            (Number(2**70), b"1180591620717411303424"),
+            (Wide(1 << 64), b"18446744073709551616"),
+            (-(1 << 63) - 1, b"-9223372036854775809"),
+            (10**65 - 1, b"9" * 65),
+            (1 - 10**65, b"-" + b"9" * 65),
+        ):
+            with self.subTest(value=value):
+                self.assertEqual(bind("?", [value]), wanted)
+                self.assertEqual(bind(":a", {"a": value}), wanted)
+                self.assertEqual(bind("?", [[1, value]]), b"1, " + wanted)
+                self.assertEqual(bind("?", [[(1, value)]]), b"(1, " + wanted + b")")
+                for call in (mysql_params.bind_anywhere, lambda query, given: mysql_params.bind_rows(query, [given])):
+                    message = "^the value for place 0 is a whole number of more than 64 bits, which bind and the calls that"
+                    with self.assertRaisesRegex(OverflowError, message):
+                        call("?", [value])
+        for value in (10**65, -(10**65), 10**5000, Number(10**65)):
+            for given in (value, [value], [(value,)]):
+                with self.assertRaises(OverflowError) as raised:
+                    bind(":a", {"a": given})
+                message = "the value of `:a` is a whole number of more than 65 digits: servers keep no more"
+                self.assertEqual(str(raised.exception), message)
+        for value in ((1 << 64) - 1, -(1 << 63)):
+            self.assertEqual(mysql_params.bind_anywhere("?", [value]), str(value).encode())
 
     def test_decimals_beyond_those_of_servers(self):
         for value, wanted in (
@@ -238,6 +288,22 @@ class Test(unittest.TestCase):
         with self.assertRaises(mysql_params.FragmentError) as raised:
             bind("?", [mysql_params.Keyword("DESC, b", among=("DESC, b",))])
         self.assertIs(raised.exception.fault, mysql_params.Fault.KEYWORD)
+
+    def test_all_keywords(self):
+        words = mysql_params.KEYWORDS
+        self.assertEqual((len(words), len(set(words))), (33, 33))
+        listed = (CASES.parent / "README.md").read_text().partition("The archive writes these alone:")[2]
+        listed = " ".join(listed.partition(".")[0].split())
+        self.assertEqual(listed.split(", "), list(words))
+        for word in words:
+            self.assertEqual(bind("?", [mysql_params.Keyword(word, among=words)]), word.encode())
+        others = [word.lower() for word in words] + [f" {word}" for word in words] + [f"{word} " for word in words]
+        others += [word[:-1] for word in words if word[:-1] not in words] + ["IS  NULL", "NULLS LAST", "SKIP LOCKED", "a"]
+        for word in others:
+            with self.subTest(word=word), self.assertRaises(mysql_params.FragmentError) as raised:
+                bind(":a", {"a": mysql_params.Keyword(word, among=(word,))})
+            message = "it is none of the keywords that are written: the value of `:a`"
+            self.assertEqual(str(raised.exception), f"Fragment at place 0 can't be written: {message}")
 
     def test_types_that_cannot_be_registered(self):
         for kind in (int, str, bool, type(None), bytes, datetime.datetime, object):

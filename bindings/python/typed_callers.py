@@ -68,6 +68,8 @@ def fragments(idents: list[int], prices: list[tuple[int, decimal.Decimal]], colu
     bind("VALUES ?", [prices])
     bind("VALUES ?", [[[1, "a"], [2, None]]])
     direction = Keyword("DESC", among=("ASC", "DESC"))
+    words: tuple[str, ...] = mysql_params.KEYWORDS
+    direction = Keyword("DESC", among=words)
     bind("ORDER BY :column :direction", {"column": Identifier("t", column), "direction": direction})
     return bind("SELECT a FROM ? ORDER BY ? ?", [Identifier("t"), Identifier(column), direction])
 
@@ -88,6 +90,8 @@ def sent(cursor: Any, connection: Any, day: datetime.datetime) -> None:
     bind("?", [day], zone=datetime.timezone.utc)
     mysql_params.execute(cursor, QUERY, values, zone=datetime.timezone.utc, always_ask=True)
     total: int = mysql_params.executemany(cursor, "?", ([number] for number in range(3)))
+    total += mysql_params.execute_rows(cursor, "VALUES ?", [(1, "a"), (2, None)])
+    total += mysql_params.execute_rows(cursor, b"VALUES ?", ([n, 2**70] for n in range(3)), zone=None, always_ask=True)
     mysql_params.exec_driver_sql(connection, QUERY, {"id": total}).all()
     mysql_params.ask_again(connection)
     try:
@@ -133,6 +137,8 @@ def refused(ident: int) -> None:
     bind("?", [1], False, datetime.timezone.utc)  # type: ignore[misc]
     mysql_params.register("Color", str)  # type: ignore[arg-type]
     mysql_params.decimal_text(0.01)  # type: ignore[arg-type]
+    mysql_params.execute_rows(None, "VALUES ?", ident)  # type: ignore[arg-type]
+    Keyword("DESC")  # type: ignore[call-arg]
     bind_form("?", "x")  # type: ignore[arg-type]
     names(5)  # type: ignore[arg-type]
     text: str = bind("?", [ident])  # type: ignore[assignment]

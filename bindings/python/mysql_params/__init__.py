@@ -26,15 +26,9 @@ from collections.abc import Iterable, Iterator, Mapping, Sequence, ValuesView
 from typing import NamedTuple, Optional, Union
 
 from . import _archive, _form
-from ._fragments import Identifier, Keyword, fragments_form_of
-from ._sending import (
-    PacketError,
-    SessionError,
-    ask_again,
-    exec_driver_sql,
-    execute,
-    executemany,
-)
+from ._fragments import KEYWORDS, Identifier, Keyword, fragments_form_of
+from ._many import execute_rows, executemany
+from ._sending import PacketError, SessionError, ask_again, exec_driver_sql, execute
 from ._values import decimal_text, register
 from .errors import (
     Error,
@@ -73,6 +67,7 @@ __all__ = [
     "FormTypeError",
     "FragmentError",
     "Identifier",
+    "KEYWORDS",
     "Keyword",
     "MarkCountError",
     "MissingError",
@@ -100,6 +95,7 @@ __all__ = [
     "decimal_text",
     "exec_driver_sql",
     "execute",
+    "execute_rows",
     "executemany",
     "first_unportable",
     "first_unportable_in_client",
@@ -208,15 +204,15 @@ def bind(
     a value can leave its literal. The flag is True or False: anything else, also the sql_mode itself, is a TypeError.
 
     A place takes more than one value: a list or a tuple of values for IN (``a IN (?)``), a list of lists or tuples of
-    values as rows (``VALUES ?``), a Decimal, which is written bare so that it is compared and computed exactly, an
-    Identifier, and a Keyword. Items may be Decimals. A str, bytes or a set is no list.
+    values as rows (``VALUES ?``), a Decimal, which is written bare so that it is compared and computed exactly, as is an int
+    of more than 64 bits, an Identifier, and a Keyword. Items may be such numbers. A str, bytes or a set is no list.
 
     A datetime with a time zone is refused, unless zone is given, which is that of the connection (@@time_zone): then it
     is bound as the clocks there show it; ValueError for one that they show twice, or never. One without a zone is bound
     as it is.
 
-    Of the parameters: raise TypeError for what has no literal, OverflowError for a whole number of more than 64 bits,
-    ValueError for an empty name, UnicodeEncodeError for a str with a lone surrogate (also for a query that is one),
+    Of the parameters: raise TypeError for what has no literal, OverflowError for a whole number of more than 65 digits,
+    ValueError for a Decimal of more, for one that is no number, and for an empty name, UnicodeEncodeError for a str with a lone surrogate (also for a query that is one),
     RepeatedNameError for a name given as str and as bytes. Then, of the query, the first that holds: MixedError;
     MissingError, NamedForPositionalError or PositionalForNamedError; MarkCountError; NotAloneError; FloatError;
     FragmentError, as for an empty list or rows of two lengths. In place of any of them, and of a text,
@@ -246,7 +242,8 @@ def bind_anywhere(
     and bytes that aren't UTF-8 as ``0xFF``; all else as by bind, but each place takes one value. "Steady texts" in
     docs/LIMITS.md says where a server takes no such literal. The zone is as for bind.
 
-    Of the parameters it raises what bind raises. Then, of the query, the first that holds: UnsteadyError;
+    Of the parameters it raises what bind raises, and OverflowError for a whole number of more than 64 bits. Then, of the
+    query, the first that holds: UnsteadyError;
     UnportableError; those of bind from MixedError on. In place of any of them, and of a text, OutOfMemoryError.
 
     >>> bind_anywhere("SELECT ?, ?", ["it's", "\u00e9"])

@@ -211,10 +211,10 @@ def refusal(number: int, report: Report, query: bytes, form: bytes, mode: Union[
 
 
 # Once the forms of rows, or their texts by a guess, have so many bytes, the rows are bound.
-_BATCH = 1 << 18
+BATCH = 1 << 18
 
 
-class _Binder:
+class Binder:
     """Rows that are bound to a query, batch after batch."""
 
     def __init__(self, query: bytes, mode: bool) -> None:
@@ -254,7 +254,7 @@ class _Binder:
     def bind_all(self, rows: Iterable[object]) -> None:
         """Append the texts of all rows, batch after batch, or raise for the first that is refused."""
         forms: list[bytes] = []
-        size, most = 0, 1 + _BATCH // (len(self.query) + 1)
+        size, most = 0, 1 + BATCH // (len(self.query) + 1)
         row_form = _form.row_form
         for params in rows:
             try:
@@ -266,7 +266,7 @@ class _Binder:
                 raise
             forms.append(form)
             size += len(form)
-            if size >= _BATCH or len(forms) >= most:
+            if size >= BATCH or len(forms) >= most:
                 self.bind_batch(forms, size)
                 forms, size = [], 0
         self.bind_batch(forms, size)
@@ -274,7 +274,7 @@ class _Binder:
 
 def bind_rows(query: bytes, rows: Iterable[object], mode: bool) -> list[bytes]:
     """Return the text of each row. What a row is refused for tells its number and the texts of the rows before it."""
-    binder = _Binder(query, mode)
+    binder = Binder(query, mode)
     try:
         binder.bind_all(rows)
     except Error as fault:

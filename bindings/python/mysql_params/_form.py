@@ -61,7 +61,8 @@ def _int_form(number: int, which: Union[bytes, int]) -> bytes:
         return struct.pack("<BBq", _LONGLONG, 0, number)
     if 0 <= number < 1 << 64:
         return struct.pack("<BBQ", _LONGLONG, _UNSIGNED, number)
-    raise OverflowError(f"{place(which)} is a whole number of more than 64 bits: {_cast(which, '65,0')}")
+    bare = "which bind and the calls that send write bare, where a place takes more than a value"
+    raise OverflowError(f"{place(which)} is a whole number of more than 64 bits, {bare}: {_cast(which, '65,0')}")
 
 
 def _shown(
@@ -222,13 +223,30 @@ _QUICK: dict[type, Callable[[Any], bytes]] = {
 """Of types themselves, not of their subclasses: what most rows are of."""
 
 
-def row_form(params: object) -> bytes:
-    """Return the flat form of a row's parameters, as a length-encoded string."""
+def quick_form(params: object) -> Optional[bytes]:
+    """Return the flat form of a row's parameters; None unless they are in order, and of what most rows are of."""
     if type(params) is tuple or type(params) is list:
         try:
-            form = b"".join([_QUICK[type(value)](value) for value in params])
+            return b"".join([_QUICK[type(value)](value) for value in params])
         except (KeyError, IndexError, UnicodeEncodeError, struct.error):
-            form = form_of(params)
-    else:
-        form = form_of(params)
+            pass
+    return None
+
+
+def quick_items(values: Iterable[object]) -> Optional[bytes]:
+    """Return the flat form of values as items; None unless they are what most rows are of."""
+    try:
+        return b"".join([_QUICK[type(value)](value)[1:] for value in values])  # The first byte is of a name.
+    except (KeyError, IndexError, UnicodeEncodeError, struct.error):
+        return None
+
+
+def as_row(form: bytes) -> bytes:
+    """Return the flat form of a row's parameters as a length-encoded string."""
     return _LENGTHS[len(form)] + form if len(form) < 251 else string_form(form)
+
+
+def row_form(params: object) -> bytes:
+    """Return the flat form of a row's parameters, as a length-encoded string."""
+    form = quick_form(params)
+    return as_row(form_of(params) if form is None else form)

@@ -4,7 +4,7 @@ from __future__ import annotations
 
 import datetime
 import decimal
-from collections.abc import Iterable
+from collections.abc import Iterable, Sequence
 from typing import Optional, Union
 
 from . import _form
@@ -39,11 +39,20 @@ class Identifier:
         return f"Identifier({', '.join(map(repr, self.parts))})"
 
 
+KEYWORDS = (
+    *("ASC", "DESC", "ALL", "DISTINCT", "AND", "OR", "XOR", "NOT", "NULL", "IS NULL", "IS NOT NULL", "DEFAULT", "TRUE"),
+    *("FALSE", "LIKE", "NOT LIKE", "MICROSECOND", "SECOND", "MINUTE", "HOUR", "DAY", "WEEK", "MONTH", "QUARTER", "YEAR"),
+    *("LEFT", "RIGHT", "INNER", "CROSS", "UNION", "UNION ALL", "FOR UPDATE", "LOCK IN SHARE MODE"),
+)
+"""The keywords that the archive writes."""
+
+
 class Keyword:
     """One of the keywords that stand in your program, chosen at run time: ``Keyword(order, among=("ASC", "DESC"))``.
 
     A word that isn't among them is a ValueError, so that no text from outside gets into a query. What the archive
-    writes is fixed too: bindings/README.md lists it, and others are a FragmentError.
+    writes is fixed too: KEYWORDS, and others are a FragmentError. Where they don't do, choose a whole query, or a piece of one,
+    from a dictionary of your program's: ``QUERIES[choice]``. What a query says is the program's own.
 
     >>> import mysql_params
     >>> mysql_params.bind("SELECT a FROM t ORDER BY a ?", [Keyword("DESC", among=("ASC", "DESC"))])
@@ -86,12 +95,35 @@ def _count(number: int) -> bytes:
     return number.to_bytes(4, "little")
 
 
+_MOST_DIGITS = 65
+"""The digits of an exact number, of which servers keep no more."""
+
+_LEAST, _MOST, _BEYOND = -(1 << 63), (1 << 64) - 1, 10**_MOST_DIGITS
+
+
 def _number(value: decimal.Decimal, which: Union[bytes, int]) -> bytes:
     """Return type, flags and text of an exact number."""
     try:
-        return bytes([_NUMBER, 0]) + _text(decimal_text(value), which)
+        text = decimal_text(value)
     except ValueError as fault:
         raise ValueError(f"{_form.place(which)}: {fault}") from None
+    digits = len(text) - text.count("-") - text.count(".")
+    if digits > _MOST_DIGITS:
+        to_do = f"servers keep {_MOST_DIGITS}, so round it, as by quantize"
+        raise ValueError(f"{_form.place(which)}: a Decimal of {digits} digits: {to_do}")
+    return bytes([_NUMBER, 0]) + _text(text, which)
+
+
+def _wide_number(value: object, which: Union[bytes, int]) -> Optional[bytes]:
+    """Return type, flags and text of a whole number of more than 64 bits, which is an exact number; None of all else."""
+    if not issubclass(type(value), int):
+        return None  # Its `__class__` may say otherwise.
+    number = int.__index__(value)  # type: ignore[arg-type]
+    if _LEAST <= number <= _MOST:
+        return None
+    if not -_BEYOND < number < _BEYOND:
+        raise OverflowError(f"{_form.place(which)} is a whole number of more than {_MOST_DIGITS} digits: servers keep no more")
+    return bytes([_NUMBER, 0]) + _text(str(number), which)
 
 
 def _item(value: object, which: Union[bytes, int], zone: Optional[datetime.tzinfo]) -> bytes:
@@ -101,13 +133,25 @@ def _item(value: object, which: Union[bytes, int], zone: Optional[datetime.tzinf
         return _number(value, which)
     if isinstance(value, (list, tuple)):
         raise TypeError(f"{_form.place(which)} has a {type(value).__name__} in a row: rows are of values")
-    return _form.value_form(value, which, zone)
+    wide = _wide_number(value, which)
+    return _form.value_form(value, which, zone) if wide is None else wide
 
 
 def _items(values: Iterable[object], which: Union[bytes, int], zone: Optional[datetime.tzinfo]) -> bytes:
     """Return the count of items, and these."""
     items = [_item(value, which, zone) for value in values]
     return _count(len(items)) + b"".join(items)
+
+
+def row_items(values: Sequence[object], which: Union[bytes, int], zone: Optional[datetime.tzinfo]) -> bytes:
+    """Return the count of the items of a row, and these: the same as of a row of a list, sooner for what most rows are of."""
+    form = _form.quick_items(values)
+    return _items(values, which, zone) if form is None else _count(len(values)) + form
+
+
+def rows_form(rows: list[bytes]) -> bytes:
+    """Return type, flags and the rest of rows, of each of which is handed in what `row_items` returns."""
+    return bytes([_ROWS, 0]) + _count(len(rows)) + b"".join(rows)
 
 
 def _list(
@@ -119,13 +163,16 @@ def _list(
         return bytes([_LIST, 0]) + _items(values, which, zone)
     if len(rows) < len(values):
         raise TypeError(f"{_form.place(which)} has rows and values: give a list of values, or one of rows alone")
-    return bytes([_ROWS, 0]) + _count(len(rows)) + b"".join([_items(row, which, zone) for row in rows])
+    return rows_form([_items(row, which, zone) for row in rows])
 
 
 def fragment_form(value: object, which: Union[bytes, int], zone: Optional[datetime.tzinfo]) -> Optional[bytes]:
-    """Return type, flags and the rest of what isn't one value; None of one value, and of what is none of these."""
+    """Return type, flags and the rest of what isn't one value; None of one value, and of what is none of these.
+
+    A whole number of more than 64 bits is none, since it has no literal of a value.
+    """
     if not issubclass(type(value), _FRAGMENTS):
-        return None  # Its `__class__` may say otherwise.
+        return _wide_number(value, which)  # The `__class__` of a value may say otherwise than its type.
     if isinstance(value, decimal.Decimal):
         return _number(value, which)
     if isinstance(value, (list, tuple)):

@@ -4,7 +4,7 @@ from __future__ import annotations
 
 import datetime
 import functools
-from collections.abc import Iterable, Mapping
+from collections.abc import Mapping
 from typing import Any, NamedTuple, Optional, Union
 
 from . import _archive, _form
@@ -49,7 +49,7 @@ class PacketError(Error):
     _text = "The text has {length} bytes, and the connection's max_allowed_packet lets {most} through"
 
 
-class _Told(NamedTuple):
+class Told(NamedTuple):
     """What a connection answered: its mode, and the length of the longest text."""
 
     no_backslash_escape: bool
@@ -64,7 +64,7 @@ class _Kept(NamedTuple):
     """What is kept of a connection: the signs of the driver with which the answer holds; None if it never does."""
 
     signs: Optional[_Signs]
-    told: _Told
+    told: Told
 
 
 def _signs(connection: Any) -> Optional[_Signs]:
@@ -87,7 +87,7 @@ def _text_of(cell: object) -> str:
     return cell.decode() if isinstance(cell, (bytes, bytearray)) else str(cell)
 
 
-def _ask(connection: Any) -> _Told:
+def _ask(connection: Any) -> Told:
     """Ask a connection, and return its answer. Raise SessionError for one that no bound text is for."""
     cursor = connection.cursor()
     try:
@@ -102,10 +102,10 @@ def _ask(connection: Any) -> _Told:
         if value != "utf8mb4":
             raise SessionError(variable, value)
     # A packet is shorter than the variable says, and has a byte beside the text.
-    return _Told("NO_BACKSLASH_ESCAPES" in sql_mode.upper().split(","), int(most) - 2)
+    return Told("NO_BACKSLASH_ESCAPES" in sql_mode.upper().split(","), int(most) - 2)
 
 
-def _told(connection: Any, always_ask: bool) -> _Told:
+def _told(connection: Any, always_ask: bool) -> Told:
     """Return what a connection answered, now or before.
 
     An answer is kept until a sign of the driver changes. A connection whose driver once had another idea of the mode
@@ -149,23 +149,30 @@ def _kept_unportable(query: bytes, mode: bool) -> Optional[Unportable]:
     return _unportable(query, mode)
 
 
-def _bound(
-    connection: Any, query: bytes, params: object, zone: Optional[datetime.tzinfo], always_ask: bool
-) -> bytes:
-    """Return the text to send over a connection of a driver."""
-    form, fragments = fragments_form_of(params, zone)
+def told_for(connection: Any, query: bytes, always_ask: bool) -> Told:
+    """Return what a connection answered. Raise UnportableError for a query that isn't portable in its mode."""
     told = _told(connection, always_ask)
     mode = told.no_backslash_escape
     found = _kept_unportable(query, mode) if len(query) <= _LONGEST_KEPT else _unportable(query, mode)
     if found is not None:
         raise UnportableError(found.position, found.construct)
+    return told
+
+
+def _bound(
+    connection: Any, query: bytes, params: object, zone: Optional[datetime.tzinfo], always_ask: bool
+) -> bytes:
+    """Return the text to send over a connection of a driver."""
+    form, fragments = fragments_form_of(params, zone)
+    told = told_for(connection, query, always_ask)
+    mode = told.no_backslash_escape
     text = _archive.whole_answer(query, form, mode, len(query) + 2 * len(form) + 64, fragments)
     if len(text) > told.most:
         raise PacketError(len(text), told.most)
     return text
 
 
-def _connection_of(cursor: Any) -> Any:
+def connection_of(cursor: Any) -> Any:
     """Return the connection of a driver's cursor. Raise TypeError for a cursor that would prepare the text."""
     if any("Prepared" in kind.__name__ for kind in type(cursor).__mro__):
         raise TypeError("a cursor that prepares looks for places itself: take connection.cursor()")
@@ -201,31 +208,8 @@ def execute(
     long; and what the driver raises, whose message may show the text. After a ``SET`` of the mode or a character set
     call ask_again.
     """
-    text = _bound(_connection_of(cursor), _form.bytes_of(query), params, zone, always_ask)
+    text = _bound(connection_of(cursor), _form.bytes_of(query), params, zone, always_ask)
     return cursor.execute(text)
-
-
-def executemany(
-    cursor: Any,
-    query: Union[str, bytes],
-    rows: Iterable[object],
-    *,
-    zone: Optional[datetime.tzinfo] = None,
-    always_ask: bool = False,
-) -> int:
-    """Bind a query to the parameters of each row, then send the texts one after another. Return the sum of their rows.
-
-    All are bound before the first is sent: if one is refused, nothing was sent. Raise as execute.
-    """
-    connection, query = _connection_of(cursor), _form.bytes_of(query)
-    texts: list[bytes] = []
-    for row in rows:
-        texts.append(_bound(connection, query, row, zone, always_ask and not texts))
-    total = 0
-    for text in texts:
-        cursor.execute(text)
-        total += max(cursor.rowcount, 0)
-    return total
 
 
 def exec_driver_sql(

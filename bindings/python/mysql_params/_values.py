@@ -75,7 +75,7 @@ def decimal_text(value: decimal.Decimal) -> str:
     ('1000', '-0.10')
     """
     if not value.is_finite():
-        raise ValueError(f"a Decimal that is {value} has no digits")
+        raise ValueError(f"a Decimal that is {'NaN' if value.is_nan() else 'infinite'} has no digits")
     first = value.adjusted()
     if -_AFTER_POINT <= first < _DIGITS:
         return format(value, "f")

@@ -1,0 +1,212 @@
+"""Many rows sent by a driver: a text for each of them, or few texts, each of many rows."""
+
+from __future__ import annotations
+
+import datetime
+from collections.abc import Iterable, Mapping
+from typing import Any, NoReturn, Optional, Union
+
+from . import _archive, _form
+from ._fragments import fragments_form_of, row_items, rows_form
+from ._sending import PacketError, Told, connection_of, told_for
+from ._values import zone_of
+from .errors import Error, FloatError, FragmentError
+
+
+class _Binder(_archive.Binder):
+    """Texts of rows: those of values alone are bound by calls for many rows, others by themselves."""
+
+    def __init__(self, query: bytes, mode: bool, zone: Optional[datetime.tzinfo]) -> None:
+        super().__init__(query, mode)
+        self.zone = zone
+        self.forms: list[bytes] = []
+        self.size, self.most = 0, 1 + _archive.BATCH // (len(query) + 1)
+
+    def bind_gathered(self) -> None:
+        """Append the texts of the rows that wait for it."""
+        forms, size = self.forms, self.size
+        self.forms, self.size = [], 0
+        self.bind_batch(forms, size)
+
+    def add(self, params: object) -> None:
+        """Have the text of a row appended, now or later."""
+        form, fragments = _form.quick_form(params), False
+        if form is None:
+            try:
+                form, fragments = fragments_form_of(params, self.zone)
+            except (TypeError, ValueError, OverflowError) as fault:
+                self.bind_gathered()  # It may refuse an earlier row.
+                setattr(fault, "row", len(self.texts))
+                raise
+        if fragments:
+            self.bind_gathered()
+            guess = len(self.query) + 2 * len(form) + 64
+            self.texts.append(_archive.whole_answer(self.query, form, self.mode, guess, True))
+            return
+        self.forms.append(_form.as_row(form))
+        self.size += len(form)
+        if self.size >= _archive.BATCH or len(self.forms) >= self.most:
+            self.bind_gathered()
+
+
+def _texts(query: bytes, told: Told, rows: Iterable[object], zone: Optional[datetime.tzinfo]) -> list[bytes]:
+    """Return the text of each row. What a row is refused for tells its number."""
+    binder = _Binder(query, told.no_backslash_escape, zone)
+    try:
+        for params in rows:
+            binder.add(params)
+        binder.bind_gathered()
+    except Error as fault:
+        fault.row = len(binder.texts)
+        raise
+    for number, text in enumerate(binder.texts):
+        if len(text) > told.most:
+            long = PacketError(len(text), told.most)
+            long.row = number
+            raise long
+    return binder.texts
+
+
+def _sent(cursor: Any, texts: Iterable[bytes]) -> int:
+    """Send texts one after another, and return the sum of their rows."""
+    total = 0
+    for text in texts:
+        cursor.execute(text)
+        total += max(cursor.rowcount, 0)
+    return total
+
+
+def executemany(
+    cursor: Any,
+    query: Union[str, bytes],
+    rows: Iterable[object],
+    *,
+    zone: Optional[datetime.tzinfo] = None,
+    always_ask: bool = False,
+) -> int:
+    """Bind a query to the parameters of each row, then send a text for each. Return the sum of the rows they changed.
+
+    The query is parsed once for many rows, and the connection is asked before the first. All are bound before the first text
+    is sent: if one is refused, nothing was sent, and the refusal's attribute `row` is its number from 0. Raise as execute.
+    To insert very many rows take execute_rows, which sends few texts.
+    """
+    connection, query = connection_of(cursor), _form.bytes_of(query)
+    told = told_for(connection, query, always_ask)
+    return _sent(cursor, _texts(query, told, rows, zone_of(zone)))
+
+
+_LONGEST_TEXT = 1 << 24
+"""How long a text of many rows may get, if the server would take a longer one."""
+
+# A literal with its comma has at most twice the bytes of its form and two more. A row has brackets and a comma too, for which
+# the four bytes of its count do.
+_BESIDE_LITERAL = 2
+
+
+class _Gatherer:
+    """Rows gathered to texts for the one place of a query."""
+
+    def __init__(self, query: bytes, told: Told, zone: Optional[datetime.tzinfo]) -> None:
+        self.query, self.mode, self.zone = query, told.no_backslash_escape, zone
+        names = _archive.names_of(query, self.mode)[1]
+        if len(names) > 1:
+            raise ValueError(f"a query with one place is wanted, which takes the rows, and it has {len(names)} names")
+        self.name = names[0].encode() if names else b""
+        self.which: Union[bytes, int] = self.name or 0
+        self.room = min(told.most, _LONGEST_TEXT) - len(query)
+        self.texts: list[bytes] = []
+        self.forms: list[bytes] = []
+        self.size = self.count = 0
+        self.first: Optional[bytes] = None
+
+    def bound(self, forms: list[bytes]) -> bytes:
+        """Return the text of rows."""
+        form = _form.string_form(self.name) + rows_form(forms)
+        return _archive.whole_answer(self.query, form, self.mode, len(self.query) + 2 * len(form) + 64, True)
+
+    def refuse(self, fault: Error, forms: list[bytes], number: int) -> NoReturn:
+        """Raise what refuses these rows, of which the first has this number, with the number of the row that it is about."""
+        if isinstance(fault, FragmentError):
+            told = FragmentError(fault.place, fault.fault, number + fault.in_row, fault.item)
+            told.name = fault.name
+            raise told from None
+        if isinstance(fault, FloatError):
+            for at, form in enumerate(forms, number):
+                try:
+                    self.bound([form])
+                except FloatError:
+                    fault.row = at
+                    break
+        raise fault
+
+    def bind_gathered(self) -> None:
+        """Append the text of the rows that wait for it."""
+        if not self.forms:
+            return
+        forms, self.forms, self.size = self.forms, [], 0
+        try:
+            self.texts.append(self.bound(forms))
+        except Error as fault:
+            self.refuse(fault, forms, self.count - len(forms))
+
+    def add(self, row: object) -> None:
+        """Have a row stand in a text."""
+        try:
+            form = _row(row, self.which, self.zone)
+        except (TypeError, ValueError, OverflowError) as fault:
+            self.bind_gathered()  # It may refuse an earlier row.
+            setattr(fault, "row", self.count)
+            raise
+        first = self.first = self.first or form
+        width = int.from_bytes(form[:4], "little")
+        size = 2 * len(form) + _BESIDE_LITERAL * width
+        if form[:4] != first[:4]:
+            self.bind_gathered()
+            try:
+                self.bound([first, form])
+            except Error as fault:
+                self.refuse(fault, [form], self.count - 1)
+        if self.size + size > self.room:
+            self.bind_gathered()
+        self.forms.append(form)
+        self.size += size
+        self.count += 1
+
+
+def _row(row: object, which: Union[bytes, int], zone: Optional[datetime.tzinfo]) -> bytes:
+    """Return the count of a row's items, and these."""
+    if isinstance(row, (str, bytes, bytearray, memoryview, set, frozenset, Mapping)) or not isinstance(row, Iterable):
+        raise TypeError(f"a row is a list or a tuple of values, and not {type(row).__name__}")
+    # A subclass may say another length than it has items.
+    return row_items(row if type(row) is tuple or type(row) is list else list(row), which, zone)
+
+
+def execute_rows(
+    cursor: Any,
+    query: Union[str, bytes],
+    rows: Iterable[object],
+    *,
+    zone: Optional[datetime.tzinfo] = None,
+    always_ask: bool = False,
+) -> int:
+    """Put many rows into the one place of a query, and send few texts, each of many rows. Return the sum of their rows.
+
+        mysql_params.execute_rows(cursor, "INSERT INTO t (id, name) VALUES ?", rows)
+
+    A row is a list or a tuple, of values and exact numbers. As many rows go into a text as are sure to fit into the
+    server's max_allowed_packet, up to 16 MiB. Each text is a statement of its own: for all or none begin a transaction. All
+    are bound before the first is sent: if one is refused, nothing was sent. No rows send nothing.
+
+    Raise as execute, where a FragmentError's `in_row`, and the `row` of another refusal of a row, is its number from 0 among all rows; and
+    ValueError for a query of several names.
+    """
+    connection, query = connection_of(cursor), _form.bytes_of(query)
+    told = told_for(connection, query, always_ask)
+    gatherer = _Gatherer(query, told, zone_of(zone))
+    for row in rows:
+        gatherer.add(row)
+    gatherer.bind_gathered()
+    for text in gatherer.texts:
+        if len(text) > told.most:
+            raise PacketError(len(text), told.most)
+    return _sent(cursor, gatherer.texts)

@@ -1,0 +1,206 @@
+"""Tests of many rows sent by a driver, over the server and the drivers that test_sending.py plays."""
+
+import datetime
+import decimal
+import sys
+import unittest
+
+import mysql_params
+from mysql_params import Fault, Identifier, execute_rows, executemany
+from test_mysql_params import Result
+from test_sending import NONE, Connection, MySQLCursorPrepared, PyMySQL
+
+INSERT, ROWS = "INSERT INTO t VALUES (?, ?)", "INSERT INTO t VALUES ?"
+MOMENT = datetime.datetime(2019, 11, 27, 23, 30, tzinfo=datetime.timezone.utc)
+
+
+class Short(list):
+    """A list that says another length than it has items."""
+
+    def __len__(self):
+        return 1
+
+
+class Test(unittest.TestCase):
+    """All tests."""
+
+    def refused(self, kind, call, query, rows, connection=None, **options):
+        """Nothing is sent, and what is raised is returned."""
+        connection = connection or PyMySQL()
+        with self.assertRaises(kind) as raised:
+            call(connection.cursor(), query, rows, **options)
+        self.assertEqual(connection.sent, [])
+        return raised.exception
+
+    def test_a_text_for_each_row(self):
+        connection = PyMySQL()
+        self.assertEqual(executemany(connection.cursor(), INSERT, [(1, "a"), [2, "%"]]), 6)
+        self.assertEqual(connection.sent, [b"INSERT INTO t VALUES (1, 'a')", b"INSERT INTO t VALUES (2, '%')"])
+        self.assertEqual(connection.asked, 1)
+        self.assertEqual(executemany(connection.cursor(), INSERT, iter(())), 0)
+        self.assertEqual(len(connection.sent), 2)
+
+    def test_rows_of_all_kinds_in_order(self):
+        connection = PyMySQL()
+        rows = [
+            (1, "a"),
+            (decimal.Decimal("0.10"), 2**70),
+            (b"\xff", None),
+            (n for n in (3, 4)),
+            [Identifier("a`"), [1, 2]],
+            (MOMENT, datetime.date(2019, 1, 2)),
+        ]
+        executemany(connection.cursor(), "SELECT ?, ?", rows, zone=datetime.timezone.utc)
+        texts = [b"1, 'a'", b"0.10, 1180591620717411303424", b"0xFF, NULL", b"3, 4", b"`a```, 1, 2"]
+        texts.append(b"'2019-11-27 23:30:00', '2019-01-02'")
+        self.assertEqual(connection.sent, [b"SELECT " + text for text in texts])
+        connection = PyMySQL(NONE)
+        executemany(connection.cursor(), ":a", [{"a": "\\'"}, {b"a": "x", "b": 2}])
+        self.assertEqual(connection.sent, [b"'\\'''", b"'x'"])
+
+    def test_very_many_rows(self):
+        connection = Connection()
+        rows = [(i, "x" * (i % 400)) for i in range(20_000)]
+        self.assertEqual(executemany(connection.cursor(), INSERT, iter(rows)), 60_000)
+        self.assertEqual(connection.sent, [b"INSERT INTO t VALUES (%d, '%s')" % (i, text.encode()) for i, text in rows])
+        self.assertEqual(connection.asked, 1)
+        executemany(connection.cursor(), INSERT, rows[:2], always_ask=True)
+        self.assertEqual(connection.asked, 2)
+
+    def test_the_row_that_is_refused(self):
+        good = [(i, "a") for i in range(20_000)]
+        for kind, row in (
+            (mysql_params.MarkCountError, (1,)),
+            (mysql_params.FloatError, (1, 1.5)),
+            (mysql_params.FragmentError, (1, [])),
+            (TypeError, (1, {2})),
+            (OverflowError, (1, 10**65)),
+            (UnicodeEncodeError, (1, "\ud800")),
+            (TypeError, 7),
+        ):
+            for at in (0, 3, 19_999):
+                with self.subTest(kind=kind.__name__, at=at):
+                    # A later row is worse, and the first that is refused is told.
+                    found = self.refused(kind, executemany, INSERT, [*good[:at], row, *good[:3], 7])
+                    self.assertEqual(found.row, at)
+        found = self.refused(mysql_params.FloatError, executemany, INSERT, [(1, 2), (1, 1.5), (1, {2})])
+        self.assertEqual((found.row, str(found)), (1, "row 1: Float at place 1"))
+
+    def test_a_row_that_is_too_long(self):
+        for packet, row in ((44, None), (31, 1), (30, 0)):
+            connection = PyMySQL(packet=packet)
+            rows = [(1, "a"), (2, "b" * 2)]
+            if row is None:
+                self.assertEqual(executemany(connection.cursor(), INSERT, rows), 6)
+                continue
+            found = self.refused(mysql_params.PacketError, executemany, INSERT, rows, connection)
+            self.assertEqual((found.row, found.most), (row, packet - 2))
+
+    def test_what_is_asked_first(self):
+        for call, query in ((executemany, INSERT), (execute_rows, ROWS)):
+            with self.subTest(call=call.__name__):
+                self.refused(mysql_params.SessionError, call, query, [(1, 2)], PyMySQL(client="gbk"))
+                self.refused(mysql_params.UnportableError, call, "/*! */" + query + "/*! ? */", [(1, 2)])
+                self.refused(TypeError, call, query, [(1, 2)], zone="UTC")
+                with self.assertRaises(TypeError):
+                    call(MySQLCursorPrepared(PyMySQL()), query, [(1, 2)])
+
+    def test_rows_in_one_text(self):
+        for rows, wanted in (
+            ([(1, "a"), [2, "it's"]], b"(1, 'a'), (2, 'it\\'s')"),
+            ([{3: 0, 4: None}.keys(), {3: 0, 4: None}.values()], b"(3, 4), (0, NULL)"),
+            ([(decimal.Decimal("0.10"), 2**70)], b"(0.10, 1180591620717411303424)"),
+            ([(MOMENT,), (b"\xff",)], b"('2019-11-27 23:30:00'), (0xFF)"),
+            ([Short([1, 2])], b"(1, 2)"),
+        ):
+            for query in (ROWS, "INSERT INTO t VALUES :rows", b"INSERT INTO t VALUES ?"):
+                connection = PyMySQL()
+                self.assertEqual(execute_rows(connection.cursor(), query, iter(rows), zone=datetime.timezone.utc), 3)
+                self.assertEqual(connection.sent, [b"INSERT INTO t VALUES " + wanted])
+        generated = PyMySQL()
+        execute_rows(generated.cursor(), ROWS, ((m for m in (n, 7)) for n in range(2)))
+        self.assertEqual(generated.sent, [b"INSERT INTO t VALUES (0, 7), (1, 7)"])
+        connection = PyMySQL(NONE)
+        execute_rows(connection.cursor(), "VALUES ? ON DUPLICATE KEY UPDATE a = 1", [("\\",)])
+        self.assertEqual(connection.sent, [b"VALUES ('\\') ON DUPLICATE KEY UPDATE a = 1"])
+        self.assertEqual(execute_rows(connection.cursor(), ROWS, iter(())), 0)
+        self.assertEqual(len(connection.sent), 1)
+
+    def test_few_texts(self):
+        rows = [(i, "it's " * (i % 9), None if i % 7 else b"\xff\0" * (i % 50)) for i in range(5_000)]
+        for packet in (1 << 20, 1 << 14, 1 << 10):
+            connection = PyMySQL(packet=packet)
+            self.assertEqual(execute_rows(connection.cursor(), ROWS, iter(rows)), 3 * len(connection.sent))
+            self.assertTrue(all(len(text) <= packet - 2 for text in connection.sent))
+            head = b"INSERT INTO t VALUES "
+            whole = b", ".join(text[len(head) :] for text in connection.sent)
+            self.assertTrue(head + whole == mysql_params.bind(ROWS, [rows]))
+            # At least a quarter of each is used, except of the last.
+            self.assertTrue(all(len(text) > packet // 4 for text in connection.sent[:-1]), packet)
+        self.assertGreater(len(connection.sent), 100)
+
+    def test_estimates_of_literals(self):
+        # A text is never longer than it was estimated to be: then one with two rows is too long.
+        for value in (
+            *("'" * 50, "\\" * 50, "\0" * 50, b"\xff" * 50, "", None, -(1 << 63), (1 << 64) - 1, 10**65 - 1, 1 - 10**65),
+            *(datetime.datetime.max, datetime.timedelta.min, datetime.time.max, decimal.Decimal("-0." + "1" * 64)),
+        ):
+            length = len(mysql_params.bind("(?), ", [value]))
+            for packet in range(length + 20, 6 * length + 200, 7):
+                connection = PyMySQL(packet=packet)
+                execute_rows(connection.cursor(), "VALUES ?", [(value,)] * 9)
+                self.assertTrue(all(len(text) <= packet - 2 for text in connection.sent))
+
+    def test_rows_that_are_refused(self):
+        good = [(i, "a") for i in range(3_000)]
+        packet = PyMySQL(packet=1 << 12)
+        for row, fault, item in (
+            ((1,), Fault.ROW_LENGTH, 0),
+            ((1, 2, 3), Fault.ROW_LENGTH, 0),
+            ((), Fault.EMPTY_ROW, 0),
+        ):
+            for at in (1, 2, 150, 2_999):
+                with self.subTest(row=row, at=at):
+                    rows = [*good[:at], row, *good[:2], ()]
+                    found = self.refused(mysql_params.FragmentError, execute_rows, ROWS, rows, packet)
+                    self.assertEqual((found.fault, found.in_row, found.item, found.name), (fault, at, item, None))
+                    found = self.refused(mysql_params.FragmentError, execute_rows, "VALUES :r", rows, packet)
+                    self.assertEqual((found.fault, found.in_row, found.name), (fault, at, "r"))
+        self.assertEqual(self.refused(mysql_params.FragmentError, execute_rows, ROWS, [()]).fault, Fault.EMPTY_ROW)
+        for kind, row in ((TypeError, (1, {2})), (OverflowError, (1, 10**65)), (mysql_params.FloatError, (1, 0.5))):
+            for at in (0, 1, 2_999):
+                with self.subTest(kind=kind.__name__, at=at):
+                    found = self.refused(kind, execute_rows, ROWS, [*good[:at], row, (1, {2})], packet)
+                    self.assertEqual(found.row, at)
+        # The first that is refused is told.
+        found = self.refused(mysql_params.FloatError, execute_rows, ROWS, [(1, 2), (1, 0.5), (1,), (1, {2})])
+        self.assertEqual(found.row, 1)
+        for row in ("ab", b"ab", {1: 2}, {1}, 7, None):
+            found = self.refused(TypeError, execute_rows, ROWS, [(1, 2), row])
+            self.assertEqual(found.row, 1)
+            self.assertEqual(str(found), f"a row is a list or a tuple of values, and not {type(row).__name__}")
+        self.assertIn("in a row: rows are of values", str(self.refused(TypeError, execute_rows, ROWS, [([1], 2)])))
+
+    def test_queries_with_another_number_of_places(self):
+        for query, kind in (
+            ("INSERT INTO t VALUES (?, ?)", mysql_params.MarkCountError),
+            ("INSERT INTO t VALUES (1)", mysql_params.MarkCountError),
+            ("INSERT INTO :t VALUES :rows", ValueError),
+            (":a, :a", ValueError),
+            (":a, ?", mysql_params.MixedError),
+            ("1?", mysql_params.NotAloneError),
+        ):
+            with self.subTest(query=query):
+                self.refused(kind, execute_rows, query, [(1, 2)])
+        found = self.refused(ValueError, execute_rows, ":a, :b", [(1, 2)])
+        self.assertEqual(str(found), "a query with one place is wanted, which takes the rows, and it has 2 names")
+
+    def test_a_text_of_rows_that_is_too_long(self):
+        found = self.refused(mysql_params.PacketError, execute_rows, ROWS, [(1,), ("x" * 500,)], PyMySQL(packet=400))
+        self.assertEqual((found.length, found.most), (len(ROWS) - 1 + 504, 398))
+
+
+if __name__ == "__main__":
+    result = Result()
+    unittest.defaultTestLoader.loadTestsFromTestCase(Test).run(result)
+    sys.exit(0 if result.wasSuccessful() and result.testsRun else 1)
