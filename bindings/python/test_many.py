@@ -87,14 +87,14 @@ class Test(unittest.TestCase):
         self.assertEqual((found.row, str(found)), (1, "row 1: Float at place 1"))
 
     def test_a_row_that_is_too_long(self):
-        for packet, row in ((44, None), (31, 1), (30, 0)):
+        for packet, row in ((34, None), (33, 1), (32, 0)):
             connection = PyMySQL(packet=packet)
             rows = [(1, "a"), (2, "b" * 2)]
             if row is None:
                 self.assertEqual(executemany(connection.cursor(), INSERT, rows), 6)
                 continue
             found = self.refused(mysql_params.PacketError, executemany, INSERT, rows, connection)
-            self.assertEqual((found.row, found.most), (row, packet - 2))
+            self.assertEqual((found.row, found.most), (row, packet - 4))
 
     def test_what_is_asked_first(self):
         for call, query in ((executemany, INSERT), (execute_rows, ROWS)):
@@ -131,7 +131,7 @@ class Test(unittest.TestCase):
         for packet in (1 << 20, 1 << 14, 1 << 10):
             connection = PyMySQL(packet=packet)
             self.assertEqual(execute_rows(connection.cursor(), ROWS, iter(rows)), 3 * len(connection.sent))
-            self.assertTrue(all(len(text) <= packet - 2 for text in connection.sent))
+            self.assertTrue(all(len(text) <= packet - 4 for text in connection.sent))
             head = b"INSERT INTO t VALUES "
             whole = b", ".join(text[len(head) :] for text in connection.sent)
             self.assertTrue(head + whole == mysql_params.bind(ROWS, [rows]))
@@ -149,7 +149,7 @@ class Test(unittest.TestCase):
             for packet in range(length + 20, 6 * length + 200, 7):
                 connection = PyMySQL(packet=packet)
                 execute_rows(connection.cursor(), "VALUES ?", [(value,)] * 9)
-                self.assertTrue(all(len(text) <= packet - 2 for text in connection.sent))
+                self.assertTrue(all(len(text) <= packet - 4 for text in connection.sent))
 
     def test_rows_that_are_refused(self):
         good = [(i, "a") for i in range(3_000)]
@@ -197,7 +197,7 @@ class Test(unittest.TestCase):
 
     def test_a_text_of_rows_that_is_too_long(self):
         found = self.refused(mysql_params.PacketError, execute_rows, ROWS, [(1,), ("x" * 500,)], PyMySQL(packet=400))
-        self.assertEqual((found.length, found.most), (len(ROWS) - 1 + 504, 398))
+        self.assertEqual((found.length, found.most), (len(ROWS) - 1 + 504, 396))
 
 
 if __name__ == "__main__":

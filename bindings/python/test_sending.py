@@ -219,7 +219,7 @@ class Test(unittest.TestCase):
 
     def test_long_texts(self):
         for length, most in ((20, 20), (20, 19)):
-            connection = PyMySQL(packet=most + 2)
+            connection = PyMySQL(packet=most + 4)
             text = "SELECT '" + "x" * (length - 9) + "'"
             if length <= most:
                 self.assertEqual(len(self.send(connection, text, [])), length)

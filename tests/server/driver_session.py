@@ -1,7 +1,7 @@
 """Sends hostile values by a driver of Python, and reads them back: driver_session.py DRIVER SOCKET
 
-DRIVER is pymysql, MySQLdb (mysqlclient), or one of them over SQLAlchemy, as sqlalchemy+pymysql. Its last line is how many
-questions were asked. It stops at the first fault.
+DRIVER is pymysql, MySQLdb (mysqlclient), mysql.connector, or one of the first two over SQLAlchemy, as sqlalchemy+pymysql. Its
+last line is how many questions were asked. It stops at the first fault.
 """
 
 import datetime
@@ -37,13 +37,14 @@ class Session:
             pooled = self.alchemy.connection
             self.own = getattr(pooled, "dbapi_connection", None) or pooled.connection
         else:
-            self.own = self.module.connect(user="root", unix_socket=path, **{"charset": "utf8mb4", **options})
+            words = {"user": "root", "unix_socket": path, "charset": "utf8mb4", **options}
+            self.own = self.module.connect(**words)
 
     def run(self, sql):
         """Send a statement of the driver's own, and return its rows."""
         cursor = self.own.cursor()
         cursor.execute(sql)
-        rows = cursor.fetchall()
+        rows = [tuple(row) for row in cursor.fetchall()] if cursor.description else []
         cursor.close()
         return rows
 
@@ -60,6 +61,10 @@ class Session:
     def asked(self):
         """Return how many SELECTs the session has sent."""
         return int(self.run("SHOW SESSION STATUS LIKE 'Com_select'")[0][1])
+
+    def inserts(self):
+        """Return how many INSERTs the session has sent."""
+        return int(self.run("SHOW SESSION STATUS LIKE 'Com_insert'")[0][1])
 
 
 def same(got, wanted):
@@ -155,7 +160,7 @@ def character_sets(session, driver):
 
 def long_texts(session):
     """A text as long as the server takes is answered; one byte more is refused, and the connection stands."""
-    most = int(session.run("SELECT @@max_allowed_packet")[0][0]) - 2
+    most = int(session.run("SELECT @@max_allowed_packet")[0][0]) - 4
     text = "SELECT LENGTH(?)"
     for more in (0, 1):
         value = "x" * (most - len("SELECT LENGTH('')") + more)
@@ -175,17 +180,80 @@ def asked_once(session):
     come_back(session)
     before = session.asked()
     come_back(session)
-    same(session.asked() - before, len(HOSTILE) + 1)
+    # MySQL Connector tells nothing by which another mode would be seen, so it is asked before each text.
+    times = 2 if session.module.__name__ == "mysql.connector" else 1
+    same(session.asked() - before, (len(HOSTILE) + 1) * times)
     before = session.asked()
     session.rows("SELECT 1", always_ask=True)
     same(session.asked() - before, 2)
 
 
 def many(session):
+    """Rows are stored as they were handed in, by a text for each and by few; of what is refused nothing is."""
+    columns = "(i INT, v VARCHAR(20), p DECIMAL(65, 0))"
+    session.run(f"CREATE TEMPORARY TABLE strings.many {columns} CHARACTER SET utf8mb4")
+    rows = [(i, value, decimal.Decimal(10**64 + i) if i % 2 else 10**64 + i) for i, value in enumerate(HOSTILE)]
+    wanted = [(i, value, decimal.Decimal(10**64 + i)) for i, value, _ in rows]
+    last = len(rows)
+    sends = ((mysql_params.executemany, "(?, ?, ?)", last), (mysql_params.execute_rows, "?", 1))
+    for call, place, texts in sends:
+        for sql_mode in ("", NONE):
+            session.run(f"SET sql_mode = '{sql_mode}'")
+            cursor = session.own.cursor()
+            inserts = session.inserts()
+            same(call(cursor, f"INSERT INTO strings.many VALUES {place}", iter(rows)), last)
+            same(session.inserts() - inserts, texts)
+            for wrong, kind in (({1}, TypeError), (1.5, mysql_params.FloatError), ([], (TypeError, mysql_params.Error))):
+                refused(kind, call, cursor, f"INSERT INTO strings.many VALUES {place}", [*rows, (0, "", wrong)])
+            cursor.close()
+            same(session.run("SELECT i, v, p FROM strings.many ORDER BY i"), wanted)
+            session.run("DELETE FROM strings.many")
+    session.run("SET sql_mode = DEFAULT")
+
+
+def long_rows(session):
+    """Rows of more than max_allowed_packet go out in several texts; one that is longer by itself is refused."""
+    most = int(session.run("SELECT @@max_allowed_packet")[0][0])
+    session.run("CREATE TEMPORARY TABLE strings.long (i INT PRIMARY KEY, v LONGTEXT) CHARACTER SET utf8mb4")
+    value = "x'" * (1 << 18)
+    rows = [(i, value) for i in range(3 * most // len(value) // 2 + 2)]
     cursor = session.own.cursor()
-    session.run("CREATE TEMPORARY TABLE strings.many (i INT, v VARCHAR(20)) CHARACTER SET utf8mb4")
-    same(mysql_params.executemany(cursor, "INSERT INTO strings.many VALUES (?, ?)", enumerate(HOSTILE)), len(HOSTILE))
-    same([row[0] for row in session.run("SELECT v FROM strings.many ORDER BY i")], HOSTILE)
+    inserts = session.inserts()
+    same(mysql_params.execute_rows(cursor, "INSERT INTO strings.long VALUES ?", iter(rows)), len(rows))
+    same(session.inserts() - inserts > 1, True)
+    row = session.run(f"SELECT COUNT(*), SUM(LENGTH(v)), SUM(v = REPEAT('x\\'', {1 << 18})) FROM strings.long")[0]
+    same(tuple(map(int, row)), (len(rows), len(rows) * len(value), len(rows)))
+    wide = [(-1, "x"), (-2, "x" * most)]
+    refused(mysql_params.PacketError, mysql_params.execute_rows, cursor, "INSERT INTO strings.long VALUES ?", wide)
+    cursor.close()
+    same(session.run("SELECT COUNT(*) FROM strings.long WHERE i < 0")[0][0], 0)
+    session.run("DROP TEMPORARY TABLE strings.long")
+    come_back(session)
+
+
+def other_cursors(session):
+    """MySQL Connector's other cursors, sets and modes that are set by its own calls, and a session that is made anew."""
+    for options in ({"dictionary": True}, {"buffered": True}, {"raw": True}, {"dictionary": True, "buffered": True}):
+        cursor = session.own.cursor(**options)
+        mysql_params.execute(cursor, "SELECT :a AS a", {"a": HOSTILE[1]})
+        (row,) = cursor.fetchall()
+        value = row["a"] if options.get("dictionary") else row[0]
+        same(bytes(value).decode() if options.get("raw") else value, HOSTILE[1])
+        cursor.close()
+    for options in ({"prepared": True}, {"prepared": True, "dictionary": True}):
+        refused(TypeError, mysql_params.execute, session.own.cursor(**options), "SELECT ?", [1])
+    session.own.set_charset_collation("latin1")
+    refused(mysql_params.SessionError, session.rows, "SELECT 1")
+    session.own.set_charset_collation("utf8mb4")
+    session.own.sql_mode = NONE
+    come_back(session)
+    for again in (session.own.cmd_reset_connection, session.own.reconnect, session.own.cmd_change_user):
+        session.run(f"SET sql_mode = '{NONE}'")
+        come_back(session)
+        again("root") if again == session.own.cmd_change_user else again()
+        come_back(session)
+    other = Session("mysql.connector", session.path, charset="latin1")
+    same(refused(mysql_params.SessionError, other.rows, "SELECT 1").args, ("character_set_client", "latin1"))
 
 
 def main(driver, path):
@@ -196,8 +264,11 @@ def main(driver, path):
     modes(session)
     unportable(session)
     many(session)
+    long_rows(session)
     long_texts(session)
-    if session.alchemy is None:
+    if driver == "mysql.connector":
+        other_cursors(session)
+    elif session.alchemy is None:
         cursors = session.module.cursors if driver == "pymysql" else importlib.import_module("MySQLdb.cursors")
         for kind in (cursors.DictCursor, cursors.SSCursor):
             other = Session(driver, path, cursorclass=kind)

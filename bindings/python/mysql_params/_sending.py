@@ -87,6 +87,14 @@ def _text_of(cell: object) -> str:
     return cell.decode() if isinstance(cell, (bytes, bytearray)) else str(cell)
 
 
+_BESIDE_TEXT = 4
+"""How much shorter a text has to be than max_allowed_packet says.
+
+The packet is shorter than that. It has a byte before the text, and two more if the driver has query attributes, as MySQL
+Connector and mysqlclient over MySQL's own library.
+"""
+
+
 def _ask(connection: Any) -> Told:
     """Ask a connection, and return its answer. Raise SessionError for one that no bound text is for."""
     cursor = connection.cursor()
@@ -101,8 +109,7 @@ def _ask(connection: Any) -> Told:
     for variable, value in (("character_set_client", client), ("character_set_connection", own)):
         if value != "utf8mb4":
             raise SessionError(variable, value)
-    # A packet is shorter than the variable says, and has a byte beside the text.
-    return Told("NO_BACKSLASH_ESCAPES" in sql_mode.upper().split(","), int(most) - 2)
+    return Told("NO_BACKSLASH_ESCAPES" in sql_mode.upper().split(","), int(most) - _BESIDE_TEXT)
 
 
 def _told(connection: Any, always_ask: bool) -> Told:
