@@ -14,6 +14,7 @@ import anew
 import beside
 import client
 import drivers
+import fragments
 import leaks
 import limits
 import literals
@@ -44,6 +45,7 @@ def main(path: str, mysql_query: str, folder: str) -> int:
     program.run(tests, path, mysql_query, folder)
     rows.run(tests, path, folder)
     drivers.run(tests, path)
+    fragments.run(tests, path)
     client.run(tests, path, folder)
     sent.run(tests, folder, is_mysql)
     pipes.run(tests, folder, is_mysql)
