@@ -183,8 +183,8 @@ class Test(unittest.TestCase):
 
     def test_queries_with_another_number_of_places(self):
         for query, kind in (
-            ("INSERT INTO t VALUES (?, ?)", mysql_params.MarkCountError),
-            ("INSERT INTO t VALUES (1)", mysql_params.MarkCountError),
+            ("INSERT INTO t VALUES (?, ?)", ValueError),
+            ("INSERT INTO t VALUES (1)", ValueError),
             ("INSERT INTO :t VALUES :rows", ValueError),
             (":a, :a", ValueError),
             (":a, ?", mysql_params.MixedError),
@@ -192,8 +192,10 @@ class Test(unittest.TestCase):
         ):
             with self.subTest(query=query):
                 self.refused(kind, execute_rows, query, [(1, 2)])
-        found = self.refused(ValueError, execute_rows, ":a, :b", [(1, 2)])
-        self.assertEqual(str(found), "a query with one place is wanted, which takes the rows, and it has 2 names")
+        for query, places in ((":a, :b", "2 names"), ("?, ?, ?", "3 marks"), ("1", "0 marks")):
+            found = self.refused(ValueError, execute_rows, query, [(1, 2)])
+            wanted = f"a query with one place is wanted, which takes the rows, and it has {places}"
+            self.assertEqual(str(found), f"{wanted}: for a place for each value take executemany")
 
     def test_a_text_of_rows_that_is_too_long(self):
         found = self.refused(mysql_params.PacketError, execute_rows, ROWS, [(1,), ("x" * 500,)], PyMySQL(packet=400))

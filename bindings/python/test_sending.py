@@ -262,6 +262,10 @@ class Test(unittest.TestCase):
         for query, params, message in (
             ("SELECT %s", [1], "Query has 0 marks and 1 values: a mark is `?`, and not `%s`"),
             ("SELECT ?, '%s'", [1, 2], "Query has 1 marks and 2 values"),
+            ("SELECT 1 in ( ? )", [1, 2], "Query has 1 marks and 2 values: for one `?` hand in a list of one, as `[ids]` or `[rows]`"),
+            ("VALUES ?", [1, 2], "Query has 1 marks and 2 values: for one `?` hand in a list of one, as `[ids]` or `[rows]`"),
+            ("SELECT ?", [1, 2], "Query has 1 marks and 2 values"),
+            ("VALUES ?", [], "Query has 1 marks and 0 values"),
             ("SELECT %(a)s", {"a": 1}, named + ": a place is `:name`, and not `%(name)s`"),
         ):
             with self.subTest(query=query), self.assertRaises(mysql_params.Error) as raised:

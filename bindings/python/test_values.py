@@ -97,7 +97,11 @@ class Test(unittest.TestCase):
             (datetime.time(1, tzinfo=UTC), TypeError, "is a time with a time zone, which has no literal"),
             (Wide(10**65), OverflowError, "is a whole number of more than 65 digits: servers keep no more"),
             (fractions.Fraction(1, 3), TypeError, "is of type Fraction, which has no literal"),
-            ({1, 2}, TypeError, "is a set, which has no literal"),
+            ({1, 2}, TypeError, "is a set, which is no list: give list(..) of it"),
+            (range(2), TypeError, "is a range, which is no list: give list(..) of it"),
+            ((number for number in (1, 2)), TypeError, "is a generator, which is no list: give list(..) of it"),
+            ({1: 2}.values(), TypeError, "is a dict_values, which is no list: give list(..) of it"),
+            ({1: 2}, TypeError, "is of type dict, which has no literal"),
         ):
             with self.subTest(value=value), self.assertRaises(kind) as raised:
                 bind("?", [value])

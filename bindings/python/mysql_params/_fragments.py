@@ -4,7 +4,7 @@ from __future__ import annotations
 
 import datetime
 import decimal
-from collections.abc import Iterable, Sequence
+from collections.abc import Iterable, Mapping, Sequence
 from typing import Optional, Union
 
 from . import _form
@@ -75,6 +75,9 @@ class Keyword:
     def __repr__(self) -> str:
         return f"Keyword({self.word!r}, among=({self.word!r},))"
 
+
+_NO_LISTS = (str, bytes, bytearray, memoryview, Mapping)
+"""The types of which each is more than what it consists of."""
 
 _FRAGMENTS = (decimal.Decimal, list, tuple, Identifier, Keyword)
 """The types of what isn't one value."""
@@ -198,6 +201,9 @@ class _Fragments:
         value = plain(value)
         made = fragment_form(value, which, self.zone)
         if made is None:
+            if issubclass(type(value), Iterable) and not issubclass(type(value), _NO_LISTS):
+                kind = type(value).__name__
+                raise TypeError(f"{_form.place(which)} is a {kind}, which is no list: give list(..) of it")
             return _form.value_form(value, which, self.zone)
         self.any = True
         return made

@@ -10,7 +10,7 @@ from . import _archive, _form
 from ._fragments import fragments_form_of, row_items, rows_form
 from ._sending import PacketError, Told, connection_of, told_for
 from ._values import zone_of
-from .errors import Error, FloatError, FragmentError
+from .errors import Error, FloatError, FragmentError, MarkCountError
 
 
 class _Binder(_archive.Binder):
@@ -103,6 +103,12 @@ _LONGEST_TEXT = 1 << 24
 _BESIDE_LITERAL = 2
 
 
+def _another_query(places: str) -> ValueError:
+    """Return what to raise for a query that hasn't one place."""
+    to_do = "for a place for each value take executemany"
+    return ValueError(f"a query with one place is wanted, which takes the rows, and it has {places}: {to_do}")
+
+
 class _Gatherer:
     """Rows gathered to texts for the one place of a query."""
 
@@ -110,7 +116,7 @@ class _Gatherer:
         self.query, self.mode, self.zone = query, told.no_backslash_escape, zone
         names = _archive.names_of(query, self.mode)[1]
         if len(names) > 1:
-            raise ValueError(f"a query with one place is wanted, which takes the rows, and it has {len(names)} names")
+            raise _another_query(f"{len(names)} names")
         self.name = names[0].encode() if names else b""
         self.which: Union[bytes, int] = self.name or 0
         self.room = min(told.most, _LONGEST_TEXT) - len(query)
@@ -126,6 +132,8 @@ class _Gatherer:
 
     def refuse(self, fault: Error, forms: list[bytes], number: int) -> NoReturn:
         """Raise what refuses these rows, of which the first has this number, with the number of the row that it is about."""
+        if isinstance(fault, MarkCountError):
+            raise _another_query(f"{fault.marks} marks") from None
         if isinstance(fault, FragmentError):
             told = FragmentError(fault.place, fault.fault, number + fault.in_row, fault.item)
             told.name = fault.name
@@ -197,8 +205,8 @@ def execute_rows(
     server's max_allowed_packet, up to 16 MiB. Each text is a statement of its own: for all or none begin a transaction. All
     are bound before the first is sent: if one is refused, nothing was sent. No rows send nothing.
 
-    Raise as execute, where a FragmentError's `in_row`, and the `row` of another refusal of a row, is its number from 0 among all rows; and
-    ValueError for a query of several names.
+    Raise as execute, and ValueError for a query of several places. A FragmentError's `in_row`, and the `row` of another
+    refusal of a row, is the row's number from 0 among all.
     """
     connection, query = connection_of(cursor), _form.bytes_of(query)
     told = told_for(connection, query, always_ask)

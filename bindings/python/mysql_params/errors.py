@@ -14,6 +14,8 @@ def _show(name: bytes) -> str:
     return "".join(chr(byte) if 32 <= byte <= 126 and byte not in b'"\\' else f"\\x{byte:02x}" for byte in name)
 
 
+_PLACE_OF_MANY = re.compile(rb"\bIN\s*\(\s*\?\s*\)|\bVALUES\s*\?", re.I)
+
 _ALPHABET = "names are of a to z, 0 to 9 and _"
 
 _WORD = re.compile(rb"[a-z0-9_]*[A-Z\x80-\xff][A-Za-z0-9_\x80-\xff]*")
@@ -194,9 +196,11 @@ class MarkCountError(Error):
     _hint: str = ""
 
     def _look_at(self, query: bytes) -> None:
-        """See whether the query has what other libraries take for a mark."""
+        """See whether the query has what other libraries take for a mark, or one mark for many values."""
         if self.marks == 0 and b"%s" in query:
             self._hint = ": a mark is `?`, and not `%s`"
+        elif self.marks == 1 and self.values > 1 and _PLACE_OF_MANY.search(query):
+            self._hint = ": for one `?` hand in a list of one, as `[ids]` or `[rows]`"
 
     def _more(self) -> str:
         return self._hint
