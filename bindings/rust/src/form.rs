@@ -1,5 +1,7 @@
 //! The flat form: parameters as the archive reads them, and length-encoded strings.
 use crate::{Date, Error, Fragment, Fragments, Item, Params, Time, Value};
+use std::fmt;
+use std::io::Write;
 
 /// Numbers of column types in the protocol.
 const FLOAT: u8 = 4;
@@ -117,6 +119,17 @@ fn append_text(to: &mut Vec<u8>, number: u8, text: &str) -> Result<(), Error> {
     append_string(to, text.as_bytes())
 }
 
+/// Appends type, flags and the digits of a whole number of up to 128 bits. It allocates nothing else.
+fn append_number(to: &mut Vec<u8>, number: impl fmt::Display) -> Result<(), Error> {
+    // The smallest has a sign and 39 digits.
+    let mut digits = [0; 40];
+    let mut rest = &mut digits[..];
+    write!(rest, "{number}").map_err(|_| Error::OutOfMemory)?;
+    let length = 40 - rest.len();
+    append(to, &[NUMBER, 0])?;
+    append_string(to, &digits[..length])
+}
+
 /// Appends a count; one that has no form is out of memory.
 fn append_count(to: &mut Vec<u8>, count: usize) -> Result<(), Error> {
     let count = u32::try_from(count).map_err(|_| Error::OutOfMemory)?;
@@ -130,6 +143,8 @@ fn append_items(to: &mut Vec<u8>, items: &[Item<'_>]) -> Result<(), Error> {
         match item {
             Item::Value(value) => append_value(to, value)?,
             Item::Decimal(digits) => append_text(to, NUMBER, digits)?,
+            Item::Int128(number) => append_number(to, number)?,
+            Item::UInt128(number) => append_number(to, number)?,
         }
     }
     Ok(())
@@ -140,6 +155,8 @@ fn append_fragment(to: &mut Vec<u8>, fragment: &Fragment<'_>) -> Result<(), Erro
     match fragment {
         Fragment::Value(value) => append_value(to, value),
         Fragment::Decimal(digits) => append_text(to, NUMBER, digits),
+        Fragment::Int128(number) => append_number(to, number),
+        Fragment::UInt128(number) => append_number(to, number),
         Fragment::Identifier(name) => append_text(to, IDENTIFIER, name),
         Fragment::Keyword(word) => append_text(to, KEYWORD, word),
         Fragment::List(items) => {

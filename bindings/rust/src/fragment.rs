@@ -9,6 +9,10 @@ pub enum Item<'a> {
     Value(Value<'a>),
     /// An exact number, as [`Fragment::Decimal`].
     Decimal(&'a str),
+    /// A signed whole number of up to 128 bits, as [`Fragment::Int128`].
+    Int128(i128),
+    /// An unsigned whole number of up to 128 bits, as [`Fragment::Int128`].
+    UInt128(u128),
 }
 
 /// What stands in a place of a query. It borrows its bytes.
@@ -22,6 +26,11 @@ pub enum Fragment<'a> {
     /// An exact number, as `-1.50` or a whole number of any length. It is written bare, so that a server compares and
     /// computes it exactly.
     Decimal(&'a str),
+    /// A signed whole number of up to 128 bits, as an exact number. A server computes with more than 64 bits as with a
+    /// DECIMAL.
+    Int128(i128),
+    /// An unsigned whole number of up to 128 bits, as an exact number.
+    UInt128(u128),
     /// A list of items, as for `IN (?)`.
     List(Vec<Item<'a>>),
     /// Rows of items, as for `VALUES ?`, all of one length.
@@ -137,6 +146,26 @@ impl<'a, T: Into<Value<'a>>> From<T> for Fragment<'a> {
     fn from(value: T) -> Self {
         Fragment::Value(value.into())
     }
+}
+
+macro_rules! wide_from {
+    ($($from:ty, $variant:ident;)*) => {$(
+        impl From<$from> for Item<'_> {
+            fn from(number: $from) -> Self {
+                Item::$variant(number)
+            }
+        }
+
+        impl From<$from> for Fragment<'_> {
+            fn from(number: $from) -> Self {
+                Fragment::$variant(number)
+            }
+        }
+    )*};
+}
+
+wide_from! {
+    i128, Int128; u128, UInt128;
 }
 
 impl<'a, T: Into<Item<'a>>> From<Vec<T>> for Fragment<'a> {

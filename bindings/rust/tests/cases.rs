@@ -401,6 +401,18 @@ fn fragments_of_types() {
         ),
         (vec![(Item::Decimal("1"),)].into(), "(1)"),
         (Fragment::Decimal("-1.50"), "-1.50"),
+        // The ends of the types, as the standard library's documentation has them.
+        (i128::MIN.into(), "-170141183460469231731687303715884105728"),
+        (u128::MAX.into(), "340282366920938463463374607431768211455"),
+        (0i128.into(), "0"),
+        (
+            vec![u128::MAX, 0].into(),
+            "340282366920938463463374607431768211455, 0",
+        ),
+        (
+            vec![(-18_446_744_073_709_551_616i128, 1)].into(),
+            "(-18446744073709551616, 1)",
+        ),
         (Fragment::Qualified(vec!["a.b", "`"]), "`a.b`.````"),
     ] {
         let text = bind_fragments(b"?", &Fragments::Positional(&[fragment])).expect("a text");
