@@ -29,7 +29,7 @@ class Error(Exception):
     _fields: tuple[str, ...] = ()
     _text: str = ""
     row: Optional[int] = None
-    """Of bind_rows: the number of the row that is refused, from 0. Else None."""
+    """Of the calls for many rows: the number of the row that is refused, from 0. Else None."""
     texts: Optional[list[bytes]] = None
     """Of bind_rows: the texts of the rows before it. Else None."""
 
