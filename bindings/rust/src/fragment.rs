@@ -136,6 +136,8 @@ impl fmt::Display for Fault {
     }
 }
 
+impl std::error::Error for Fault {}
+
 impl<'a, T: Into<Value<'a>>> From<T> for Item<'a> {
     fn from(value: T) -> Self {
         Item::Value(value.into())
