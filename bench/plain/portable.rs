@@ -114,11 +114,12 @@ fn begins_any(byte: u8, rest: &[u8]) -> bool {
     }
 }
 
-/// Digits, and then white space or `*/`.
+/// A version or none, and then white space or `*/`.
 fn is_version(text: &[u8]) -> bool {
     let digits = text.iter().take_while(|byte| byte.is_ascii_digit()).count();
     let after = &text[digits..];
-    after.starts_with(b"*/") || after.first().is_some_and(u8::is_ascii_whitespace)
+    (digits == 0 || (text[0] != b'0' && (5..=6).contains(&digits)))
+        && (after.starts_with(b"*/") || after.first().is_some_and(u8::is_ascii_whitespace))
 }
 
 /// Bytes of an identifier, and then `$` or a place.

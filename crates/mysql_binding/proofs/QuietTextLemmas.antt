@@ -1,13 +1,14 @@
 -- What is quiet in a text stays so up to a place, where another text follows instead.
 use Rattle.std.specs.Prelude.{Bool}
-use Rattle.std.proofs.Common.{◌≡◌, ℕ, true, false, cond, not, ◌==◌, ◌&&◌, ◌||◌, List, [], ◌∷◌, ◌++◌, refl, sym, ap, ◌∙◌, subst, inl, inr, true≢false}
+use Rattle.std.proofs.Common.{◌≡◌, ℕ, ◌+◌, true, false, cond, not, ◌==◌, ◌&&◌, ◌||◌, List, [], ◌∷◌, ◌++◌, refl, sym, ap, ◌∙◌, subst, inl, inr, true≢false}
 use Rattle.std.specs.Char.{is_ascii_digit}
-use Rattle.std.proofs.lemmas.Bool.{and_parts, or_parts, or_cases, or_from, or_right, not-true, not-false, eqb-true}
+use Rattle.std.specs.Str.{byte}
+use Rattle.std.proofs.lemmas.Bool.{and_parts, and_right, or_parts, or_cases, or_from, or_right, not-true, not-false, eqb-true}
 use Rattle.mysql_named_params.specs.Bytes.{asterisk, backquote, dash, hash, slash, is_string_quote, is_white_space, begins, IsUpTo, up_to_word, up_to_end}
 use Rattle.mysql_named_params.specs.Tokens.{Token, bytes_of, QuotedString, QuotedIdentifier, HashComment, DashComment, BlockComment, Name, Mark, Plain}
 use Rattle.mysql_named_params.specs.Server.{begins_special, begins_place, begins_own}
 use Rattle.mysql_named_params.specs.Portable.{differs_at, may_open_line, is_read_alike}
-use Rattle.mysql_named_params.specs.Quiet.{is_loud, is_for_client, stands_apart, closes, is_version, is_quiet, IsQuietComment, begins_quiet}
+use Rattle.mysql_named_params.specs.Quiet.{is_loud, is_for_client, stands_apart, closes, ends_version, is_version, is_quiet, IsQuietComment, begins_quiet}
 use Rattle.mysql_named_params.proofs.PortableLemmas.{second_false, false_if, is_alike_on_all}
 use Rattle.mysql_binding.proofs.UpToSpliceLemmas.{SameUpToSplice, at_end, same, same-append, at_place, last_byte, portable_move, plain_move, same-end, place_byte}
 
@@ -35,12 +36,12 @@ end_move : (b c : ℕ) {x y : List ℕ} → SameUpToSplice c x y →
 end_move b c {x = x} a h =
     false_if _ _ (λ t. ap not (apart_move a (not-false _ (second_false (closes b (c ∷ x)) _ h t))))
 
--- the digits of a version, and what ends them, stay so
-place_no_version : (b : ℕ) (x : List ℕ) → begins_place (b ∷ x) ≡ true → is_version (b ∷ x) ≡ false
-place_no_version b x p =
+-- a version, and what ends it, stays one
+place_no_version : (n b : ℕ) (x : List ℕ) → begins_place (b ∷ x) ≡ true → ends_version n (b ∷ x) ≡ false
+place_no_version n b x p =
     elim (place_byte b x p) [
-      | inl e ↦ ap (λ u. is_version (u ∷ x)) e
-      | inr e ↦ ap (λ u. is_version (u ∷ x)) e
+      | inl e ↦ ap (λ u. ends_version n (u ∷ x)) e ∙ and_right (n == 0 || (n == 5 || n == 6)) false refl
+      | inr e ↦ ap (λ u. ends_version n (u ∷ x)) e ∙ and_right (n == 0 || (n == 5 || n == 6)) false refl
     ]
 
 end_stays_one : (b : ℕ) {x y : List ℕ} → SameUpToSplice b x y → closes b x ≡ true → closes b y ≡ true
@@ -49,19 +50,33 @@ end_stays_one b (same a) h = h
 end_stays_one b (at_place {b = c} {x = x} p l) h =
     absurd (no_place_slash c x p (eqb-true c slash (and_parts (b == asterisk) _ h).1))
 
-version_move : {before : ℕ} {x y : List ℕ} → SameUpToSplice before x y → is_version x ≡ true → is_version y ≡ true
-version_move at_end h = h
-version_move (same {b = b} {x = x} {y = y} a) h = go (is_ascii_digit b) (version_move a) h
+digits_move : (n : ℕ) {before : ℕ} {x y : List ℕ} → SameUpToSplice before x y → ends_version n x ≡ true →
+    ends_version n y ≡ true
+digits_move n at_end h = h
+digits_move n (same {b = b} {x = x} {y = y} a) h = go (is_ascii_digit b) (digits_move (n + 1) a) h
   where
-    go : (d : Bool) → (is_version x ≡ true → is_version y ≡ true) →
-        cond d (is_version x) (is_white_space b || closes b x) ≡ true →
-        cond d (is_version y) (is_white_space b || closes b y) ≡ true
+    go : (d : Bool) → (ends_version (n + 1) x ≡ true → ends_version (n + 1) y ≡ true) →
+        cond d (ends_version (n + 1) x) ((n == 0 || (n == 5 || n == 6)) && (is_white_space b || closes b x)) ≡ true →
+        cond d (ends_version (n + 1) y) ((n == 0 || (n == 5 || n == 6)) && (is_white_space b || closes b y)) ≡ true
     go true more k = more k
-    go false more k = elim (or_cases (is_white_space b) (closes b x) k) [
-      | inl w ↦ rw w refl
-      | inr c ↦ rw (end_stays_one b a c) (or_right (is_white_space b) true refl)
-    ]
-version_move (at_place {b = b} {x = x} p l) h = absurd (true≢false (sym h ∙ place_no_version b x p))
+    go false more k =
+        let p = and_parts (n == 0 || (n == 5 || n == 6)) _ k in
+        elim (or_cases (is_white_space b) (closes b x) p.1) [
+          | inl w ↦ rw (p.0, w) refl
+          | inr c ↦ rw (p.0, end_stays_one b a c) (or_right (is_white_space b) true refl)
+        ]
+digits_move n (at_place {b = b} {x = x} p l) h = absurd (true≢false (sym h ∙ place_no_version n b x p))
+
+zero_move : {before : ℕ} {x y : List ℕ} → SameUpToSplice before x y → ends_version 0 x ≡ true →
+    begins (λ c. c == byte "0") x ≡ false → begins (λ c. c == byte "0") y ≡ false
+zero_move at_end v h = h
+zero_move (same a) v h = h
+zero_move (at_place {b = b} {x = x} p l) v h = absurd (true≢false (sym v ∙ place_no_version 0 b x p))
+
+version_move : {before : ℕ} {x y : List ℕ} → SameUpToSplice before x y → is_version x ≡ true → is_version y ≡ true
+version_move {x = x} a h =
+    let p = and_parts (not (begins (λ c. c == byte "0") x)) _ h in
+    rw (zero_move a p.1 (not-true _ p.0), digits_move 0 a p.1) refl
 
 loud_move : (b c : ℕ) {x y : List ℕ} → SameUpToSplice c x y → is_loud b (c ∷ x) ≡ false →
     is_loud b (c ∷ y) ≡ false

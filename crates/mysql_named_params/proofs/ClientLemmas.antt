@@ -1,21 +1,20 @@
 -- A client of which no block comment holds an opener reads as its server.
 use Rattle.std.specs.Prelude.{Bool, ⊤}
-use Rattle.std.proofs.Common.{◌≡◌, ◌⊎◌, ℕ, true, false, cond, not, ◌==◌, ◌&&◌, ◌||◌, List, [], ◌∷◌, ◌++◌, take, Option, Some, None, refl, sym, ap, ◌∙◌, subst, inl, inr, arith, true≢false, append_assoc, append-nil}
+use Rattle.std.proofs.Common.{◌≡◌, ◌⊎◌, ℕ, true, false, cond, ◌==◌, List, [], ◌∷◌, ◌++◌, Option, Some, None, refl, sym, ap, ◌∙◌, subst, inl, inr, arith, true≢false, append-nil}
 use Rattle.std.proofs.lemmas.List.{append_cancel_left}
 use Rattle.std.proofs.lemmas.Bool.{cases_Bool, eqb-true}
 use Rattle.mysql_named_params.specs.Bytes.{asterisk, slash, is_string_quote, IsUpTo, up_to_word, up_to_end}
 use Rattle.mysql_named_params.specs.Tokens.{Token, bytes_of, text_of, IsTokens, AreTokensBefore, QuotedString, QuotedIdentifier, HashComment, DashComment, BlockComment, Name, Mark, Plain}
-use Rattle.mysql_named_params.specs.Server.{Server, Block, executed, comment, comment_of, begins_special, begins_own, block_on, usual_block, own_block, IsBlockTail, usual_quotes, own_quotes, IsQuotedTail, IsTokenOn, AreTokensOn, IsReadOn}
+use Rattle.mysql_named_params.specs.Server.{Server, comment, begins_special, begins_own, block_on, usual_block, own_block, usual_quotes, own_quotes, IsQuotedTail, IsTokenOn, AreTokensOn, IsReadOn}
 use Rattle.mysql_named_params.specs.Portable.{AreReadAlikeBefore, IsReadAs, read_all, read_same, read_empty_comment, read_skipped, read_executed}
 use Rattle.mysql_named_params.specs.Quiet.{IsHonest, plain_then}
-use Rattle.mysql_named_params.specs.Client.{Client, holds_opener, block_by, IsBlockTailBy, usual_block_by, own_block_by, IsNotPlainBy, IsTokenBy, AreTokensBy, IsReadBy, HoldNoOpener}
+use Rattle.mysql_named_params.specs.Client.{Client, holds_opener, block_by, usual_block_by, own_block_by, IsNotPlainBy, IsTokenBy, AreTokensBy, IsReadBy, HoldNoOpener}
 use Rattle.mysql_named_params.proofs.TokenEnds.{take_front, up_to_is}
-use Rattle.mysql_named_params.specs.TokensOf.{len_up_to}
 use Rattle.mysql_named_params.proofs.TokenListLemmas.{some_byte}
-use Rattle.mysql_named_params.proofs.ServerTokenLemmas.{not_plain_on, not_plain_on_is, comment_by, block_comment_on, own_is}
+use Rattle.mysql_named_params.proofs.ServerTokenLemmas.{not_plain_on, not_plain_on_is, comment_by, block_comment_on}
 use Rattle.mysql_named_params.proofs.GrammarLemmas.{tokens_on}
 use Rattle.mysql_named_params.proofs.SharpLemmas.{plain_none_on}
-use Rattle.mysql_named_params.proofs.QuietLemmas.{portable_read, read_text, plain_text}
+use Rattle.mysql_named_params.proofs.QuietLemmas.{portable_read, read_text}
 
 -- ---- openers
 

@@ -1,22 +1,21 @@
 -- The walk over a query to the first construct that is found for a client.
-use Rattle.std.specs.Prelude.{Bool, nat_le, ⊤}
-use Rattle.std.proofs.Common.{◌≡◌, ◌⊎◌, ◌↔◌, ℕ, ◌+◌, ◌<◌, ◌≤◌, true, false, cond, not, ◌==◌, ◌&&◌, ◌||◌, List, [], ◌∷◌, ◌++◌, length, take, drop, Option, Some, None, refl, sym, ap, ◌∙◌, subst, inl, inr, arith, true≢false, length-append}
+use Rattle.std.specs.Prelude.{Bool, ⊤}
+use Rattle.std.proofs.Common.{◌≡◌, ◌⊎◌, ◌↔◌, ℕ, ◌+◌, true, false, cond, ◌==◌, ◌&&◌, ◌||◌, List, [], ◌∷◌, ◌++◌, length, take, drop, Option, Some, None, refl, sym, ap, ◌∙◌, subst, inl, inr, arith, length-append}
 use Rattle.std.proofs.Math.Bool.{or-false}
 use Rattle.std.proofs.lemmas.Bool.{and_parts, or_cases, not-true, eqb-true, false_from_ne_true}
 use Rattle.std.proofs.lemmas.List.{nil_from_length, take_rest, take_at, drop_at}
 use Rattle.std.specs.List.{list_any}
 use Rattle.std.specs.Str.{byte}
-use Rattle.mysql_named_params.specs.Bytes.{hash, newline, slash, space, single_quote, double_quote, is_string_quote}
+use Rattle.mysql_named_params.specs.Bytes.{hash, single_quote, double_quote, is_string_quote}
 use Rattle.mysql_named_params.specs.Tokens.{Token, bytes_of, text_of, text_then, IsToken, OnTokens, QuotedString, QuotedIdentifier, HashComment, DashComment, BlockComment, Name, Mark, Plain}
 use Rattle.mysql_named_params.specs.TokensOf.{not_plain_at}
 use Rattle.mysql_named_params.specs.FirstToken.{IsFirstToken}
-use Rattle.mysql_named_params.specs.Portable.{is_read_alike, joins_number, AreReadAlikeBefore, JoinNoNumberBefore, IsPortable}
+use Rattle.mysql_named_params.specs.Portable.{AreReadAlikeBefore, JoinNoNumberBefore}
 use Rattle.mysql_named_params.specs.Client.{holds_opener, HoldNoOpener}
 use Rattle.mysql_named_params.specs.FirstUnportable.{construct_at}
-use Rattle.mysql_named_params.specs.FrontConstruct.{front_construct}
-use Rattle.mysql_named_params.specs.FoundInClient.{is_comment, begins_no_word, begins_statement, begins_line, is_client_word, found_in_comment, found_in_token, found_in_client}
+use Rattle.mysql_named_params.specs.FoundInClient.{begins_no_word, begins_statement, begins_line, is_client_word, found_in_comment, found_in_token, found_in_client}
 use Rattle.mysql_named_params.specs.FirstUnportableInClient.{found_or, found_at, first_in_client_from, first_unportable_in_client, AreSentAsTheyAreFrom, IsPortableInClient}
-use Rattle.mysql_named_params.specs.FrontInClient.{are_comment, statement_after, line_after, found_in_bytes, first_of, found_or_zero, found_in_front}
+use Rattle.mysql_named_params.specs.FrontInClient.{statement_after, line_after, found_in_bytes, first_of, found_or_zero, found_in_front}
 use Rattle.mysql_named_params.specs.declared.portable.Construct.{Construct}
 use Rattle.mysql_named_params.specs.declared.portable.Construct.TheVariants as construct
 use Rattle.mysql_named_params.specs.declared.portable.Unportable.{Unportable}

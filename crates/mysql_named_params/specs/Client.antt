@@ -7,7 +7,7 @@
 -- Options" (`--comments`), and what the clients send (docs/EVIDENCE.md).
 use Rattle.std.specs.Prelude.{◌≡◌, ◌≢◌, ℕ, Bool, IsFalse, false, not, ◌==◌, ◌&&◌, ◌||◌, if◌then◌else◌, List, [], ◌∷◌, ◌++◌, take, ⊤}
 use Rattle.mysql_named_params.specs.Bytes.{asterisk, slash, is_extension, begins, IsUpTo}
-use Rattle.mysql_named_params.specs.Tokens.{Token, bytes_of, text_of, QuotedString, QuotedIdentifier, HashComment, DashComment, BlockComment, Name, Mark, Plain}
+use Rattle.mysql_named_params.specs.Tokens.{Token, bytes_of, text_of, BlockComment, Plain}
 use Rattle.mysql_named_params.specs.Server.{Server, Block, comment, comment_of, begins_special, IsNotPlainOn}
 
 -- the text begins with `/*!`, `/*+` or `/*/`

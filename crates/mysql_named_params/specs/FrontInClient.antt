@@ -1,9 +1,9 @@
 -- What is found for the client in the token at the front of a text, by its bytes. For private
 -- functions of `client.rt`; no public contract cites it.
-use Rattle.std.specs.Prelude.{ℕ, Bool, true, false, ◌==◌, ◌&&◌, ◌||◌, if◌then◌else◌, List, [], ◌∷◌, take, drop, Option, Some, None}
+use Rattle.std.specs.Prelude.{ℕ, Bool, false, ◌==◌, ◌&&◌, ◌||◌, if◌then◌else◌, List, [], ◌∷◌, take, drop, Option, Some, None}
 use Rattle.std.specs.List.{list_any}
 use Rattle.std.specs.Str.{byte}
-use Rattle.mysql_named_params.specs.Bytes.{asterisk, backquote, dash, hash, newline, slash, is_string_quote}
+use Rattle.mysql_named_params.specs.Bytes.{backquote, dash, hash, newline, slash, is_string_quote}
 use Rattle.mysql_named_params.specs.FoundInClient.{begins_no_word, found_in_quotes, found_in_comment, found_at_byte}
 use Rattle.mysql_named_params.specs.FrontConstruct.{front_construct}
 use Rattle.mysql_named_params.specs.declared.portable.Construct.{Construct}

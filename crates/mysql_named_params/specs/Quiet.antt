@@ -6,7 +6,7 @@
 -- end stands after the comment, white space after the `!` at its front, no `-` in it, and no `--`
 -- before it (`keeps_dashes`). Example: `/*+ MAX_EXECUTION_TIME(1000) */`, a hint, a comment or
 -- plain bytes.
-use Rattle.std.specs.Prelude.{◌≡◌, ℕ, IsTrue, Bool, true, false, not, ◌==◌, ◌&&◌, ◌||◌, if◌then◌else◌, List, [], ◌∷◌, ◌++◌, drop}
+use Rattle.std.specs.Prelude.{◌≡◌, ℕ, ◌+◌, IsTrue, Bool, true, false, not, ◌==◌, ◌&&◌, ◌||◌, if◌then◌else◌, List, [], ◌∷◌, ◌++◌, drop}
 use Rattle.std.specs.Char.{is_ascii_digit}
 use Rattle.std.specs.Str.{byte}
 use Rattle.mysql_named_params.specs.Bytes.{asterisk, backquote, dash, exclamation_mark, hash, slash, is_string_quote, is_white_space, begins, IsUpTo}
@@ -27,11 +27,18 @@ stands_apart (b ∷ rest) =
 abbrev pub closes : ℕ → List ℕ → Bool
 closes b rest = b == asterisk && begins (λ c. c == slash) rest
 
--- the digits of a version or none, and then white space or `*/`
+-- after this many digits of a version: its other digits, so that there are none, five or six, and
+-- then white space or `*/`
+abbrev pub ends_version : ℕ → List ℕ → Bool
+ends_version n [] = false
+ends_version n (b ∷ rest) =
+    if is_ascii_digit b then ends_version (n + 1) rest
+    else (n == 0 || (n == 5 || n == 6)) && (is_white_space b || closes b rest)
+
+-- A version or none, and then white space or `*/`. A 0 in front begins none: of `/*!090000` MySQL
+-- takes five digits.
 abbrev pub is_version : List ℕ → Bool
-is_version [] = false
-is_version (b ∷ rest) =
-    if is_ascii_digit b then is_version rest else is_white_space b || closes b rest
+is_version text = not (begins (λ c. c == byte "0") text) && ends_version 0 text
 
 -- This byte, before this text, may begin something: a text in quotes, a comment, a place, or what
 -- a server has of its own; or, with what stands before the comment, a `-`, what follows a `*/`, and

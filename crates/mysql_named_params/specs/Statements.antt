@@ -1,6 +1,6 @@
 -- The statements of a text: its tokens, cut at each `;` outside of strings, identifiers and
 -- comments, as the clients `mysql` and `mariadb` cut what they send.
-use Rattle.std.specs.Prelude.{ℕ, ◌==◌, if◌then◌else◌, List, [], ◌∷◌}
+use Rattle.std.specs.Prelude.{◌==◌, if◌then◌else◌, List, [], ◌∷◌}
 use Rattle.std.specs.Str.{byte}
 use Rattle.mysql_named_params.specs.Tokens.{Token, Plain}
 

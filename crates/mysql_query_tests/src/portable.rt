@@ -128,6 +128,12 @@ const FOUND: &[(&[u8], Construct, usize)] = &[
     (b"?/*!_b */", Construct::ExecutableComment, 1),
     (b":a/*M!50000e1 */", Construct::MariaDbComment, 2),
     (b"/*!STRAIGHT_JOIN */", Construct::ExecutableComment, 0),
+    // Digits that are no version, or more than one.
+    (b":a/*!1 */", Construct::ExecutableComment, 2),
+    (b":a/*!8000 */", Construct::ExecutableComment, 2),
+    (b":a/*!090000 */", Construct::ExecutableComment, 2),
+    (b":a/*!8000001 */", Construct::ExecutableComment, 2),
+    (b":a/*!800000", Construct::ExecutableComment, 2),
     (b"/*! a != b */", Construct::ExecutableComment, 0),
     (b"/*!**/", Construct::ExecutableComment, 0),
     // A server may leave one out, and join what stands around it.
@@ -174,6 +180,7 @@ const PORTABLE: &[&[u8]] = &[
     b"/*+*/",
     b"/*M!*/",
     b"/*!50000*/",
+    b":a/*!100100*/ /*!80000\n1 */",
     b"/*! **/",
     b"/*! a ! b */",
     b"*/*! */",
