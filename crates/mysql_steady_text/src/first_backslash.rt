@@ -27,8 +27,8 @@ fn backslash_position(text: &[u8]) -> Option<usize>
 }
 
 /// The position of the first backslash in a string of the query, the same in both modes. It
-/// allocates nothing.
-pub(crate) fn first_backslash(query: &[u8]) -> Option<usize>
+/// allocates nothing. It is lent to the crates above.
+pub fn first_backslash(query: &[u8]) -> Option<usize>
     ensures { (mode : Bool) → OnTokens mode query.now (λ ts. result ≡ first_backslash ts) }
 {
     let Some(_) = memchr(b'\\', query) else {

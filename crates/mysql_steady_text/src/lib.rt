@@ -8,7 +8,7 @@
 
 mod both_modes;
 mod both_modes_error;
-mod first_backslash;
+pub mod first_backslash;
 pub mod laws;
 mod steady_form;
 mod steady_text;
@@ -16,6 +16,7 @@ mod steady_text_error;
 
 pub use both_modes::bind_text_in_both_modes;
 pub use both_modes_error::BothModesError;
+pub use steady_form::SteadyForm;
 pub use steady_text::{
     bind_borrowed_anywhere, bind_steady, bind_text_anywhere, bind_text_in_any_mode,
 };

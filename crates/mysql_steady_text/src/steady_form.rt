@@ -9,9 +9,9 @@ use mysql_steady_literal::laws::steady_literals;
 use mysql_steady_literal::steady_literal::{put_steady, steady_len};
 use mysql_values::value::Value;
 
-/// Steady literals.
+/// Steady literals, lent to the crates above.
 #[derive(Debug, Clone, Copy)]
-pub(crate) struct SteadyForm;
+pub struct SteadyForm;
 
 impl LiteralForm for SteadyForm {
     ghost literal = { λ _. steady_literal_of };
