@@ -8,7 +8,7 @@ use Rattle.mysql_fragments.specs.GivenFragments.{GivenFragments, missing, confus
 use Rattle.mysql_flat_params.specs.FlatForm.{form_end, length_lead, unread_type, mixed_form, repeated_name}
 use Rattle.mysql_flat_params.specs.IntoRoom.{IsMissingName}
 use Rattle.mysql_flat_params.specs.declared.outcome.Outcome.{Outcome}
-use Rattle.mysql_flat_params.specs.declared.outcome.Outcome.TheVariants.{Done, OutOfMemory, Room, FormEnd, FormLengthLead, FormType, FormMixed, FormRepeated, Mixed, Missing, NamedForPositional, PositionalForNamed, MarkCount, NotAlone, Float, Unsteady, Unportable}
+use Rattle.mysql_flat_params.specs.declared.outcome.Outcome.TheVariants.{Done, OutOfMemory, Room, FormEnd, FormLengthLead, FormType, FormMixed, FormRepeated, Mixed, Missing, NamedForPositional, PositionalForNamed, MarkCount, NotAlone, Float, Unsteady, Unportable, Backslash}
 use Rattle.mysql_flat_fragments.specs.FlatFragments.{IsFormReading}
 use Rattle.mysql_flat_fragments.specs.declared.outcome.FragmentsOutcome.{FragmentsOutcome}
 use Rattle.mysql_flat_fragments.specs.declared.outcome.FragmentsOutcome.TheVariants.{AsValues, Fault}
@@ -63,6 +63,7 @@ IsOutcomeAsValues mode query form (Float place) = IsRefusedFor mode query form (
 -- nothing else is refused
 IsOutcomeAsValues mode query form (Unsteady position) = ⊥
 IsOutcomeAsValues mode query form (Unportable number position) = ⊥
+IsOutcomeAsValues mode query form (Backslash position) = ⊥
 
 -- what an outcome says of the query and the form
 abbrev pub IsFragmentsOutcome : (mode : Bool) (query form : List ℕ) → FragmentsOutcome → Type 0

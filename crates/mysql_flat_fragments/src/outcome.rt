@@ -9,7 +9,8 @@ use mysql_fragments::FragmentFault;
 /// is as it was.
 #[derive(Clone, Copy, Debug, PartialEq, Eq)]
 pub enum FragmentsOutcome {
-    /// What becomes of a call that binds values too; it is neither `Unsteady` nor `Unportable`.
+    /// What becomes of a call that binds values too; it is neither `Unsteady`, `Unportable` nor
+    /// `Backslash`.
     AsValues(Outcome),
     /// The fragment for a place can't be written; of several it is the first.
     Fault {

@@ -3,7 +3,7 @@ use Rattle.std.specs.Prelude.{◌==◌, if◌then◌else◌}
 use Rattle.std.proofs.Common.{◌≡◌, ℕ, refl, sym, ap, ◌∙◌}
 use Rattle.mysql_flat_params.specs.Outcomes.{number_of, report_of}
 use Rattle.mysql_flat_params.specs.declared.outcome.Outcome.{Outcome}
-use Rattle.mysql_flat_params.specs.declared.outcome.Outcome.TheVariants.{Done, OutOfMemory, Room, FormEnd, FormLengthLead, FormType, FormMixed, FormRepeated, Mixed, Missing, NamedForPositional, PositionalForNamed, MarkCount, NotAlone, Float, Unsteady, Unportable}
+use Rattle.mysql_flat_params.specs.declared.outcome.Outcome.TheVariants.{Done, OutOfMemory, Room, FormEnd, FormLengthLead, FormType, FormMixed, FormRepeated, Mixed, Missing, NamedForPositional, PositionalForNamed, MarkCount, NotAlone, Float, Unsteady, Unportable, Backslash}
 use Rattle.mysql_flat_params.specs.declared.outcome.Report.{Report}
 
 abbrev outcome_from : ℕ → Report → Outcome
@@ -24,7 +24,8 @@ outcome_from n r =
     if n == 13 then NotAlone r.place r.position else (
     if n == 14 then Float r.place else (
     if n == 15 then Unsteady r.position else (
-    Unportable r.byte r.position))))))))))))))))
+    if n == 16 then Unportable r.byte r.position else (
+    Backslash r.position)))))))))))))))))
 
 from_own : (o : Outcome) → outcome_from (number_of o) (report_of o) ≡ o
 from_own (Done len) = refl
@@ -44,6 +45,7 @@ from_own (NotAlone place position) = refl
 from_own (Float place) = refl
 from_own (Unsteady position) = refl
 from_own (Unportable number position) = refl
+from_own (Backslash position) = refl
 
 -- the number and the fields of an outcome are those of no other
 pub one_outcome : (a b : Outcome) → number_of a ≡ number_of b → report_of a ≡ report_of b → a ≡ b

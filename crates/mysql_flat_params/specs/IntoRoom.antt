@@ -12,7 +12,7 @@ use Rattle.mysql_flat_params.specs.FlatForm.{IsFormReading, form_end, length_lea
 use Rattle.mysql_flat_params.specs.NamePlace.{IsFirstOfName}
 use Rattle.mysql_flat_params.specs.NamesAnswer.{names_answer}
 use Rattle.mysql_flat_params.specs.declared.outcome.Outcome.{Outcome}
-use Rattle.mysql_flat_params.specs.declared.outcome.Outcome.TheVariants.{Done, OutOfMemory, Room, FormEnd, FormLengthLead, FormType, FormMixed, FormRepeated, Mixed, Missing, NamedForPositional, PositionalForNamed, MarkCount, NotAlone, Float, Unsteady, Unportable}
+use Rattle.mysql_flat_params.specs.declared.outcome.Outcome.TheVariants.{Done, OutOfMemory, Room, FormEnd, FormLengthLead, FormType, FormMixed, FormRepeated, Mixed, Missing, NamedForPositional, PositionalForNamed, MarkCount, NotAlone, Float, Unsteady, Unportable, Backslash}
 
 -- The answer stands at the front of the room, and what is after it is unchanged; or the room is
 -- shorter than the answer, and unchanged. The bytes of the room are `old` before the call and `new`
@@ -85,6 +85,7 @@ IsBindOutcome mode query form (Float place) = IsRefusedFor mode query form (floa
 -- nothing else is refused
 IsBindOutcome mode query form (Unsteady position) = ⊥
 IsBindOutcome mode query form (Unportable number position) = ⊥
+IsBindOutcome mode query form (Backslash position) = ⊥
 
 -- the query has no names or no marks, and this is answered to it
 abbrev pub IsNamesAnswer : (mode : Bool) (query text : List ℕ) → Type 0

@@ -7,7 +7,10 @@ pub mod NamePlace
 pub mod NamesAnswer
 pub mod NamesSurvey
 pub mod IntoRoom
+pub mod SteadyIntoRoom
 pub mod AnywhereIntoRoom
+pub mod BothModesIntoRoom
+pub mod Steadiness
 pub mod BoundRows
 pub mod RowInRoom
 pub mod UnportableReport

@@ -3,7 +3,7 @@ use Rattle.std.specs.Prelude.{◌≡◌, ℕ, ℤ, pos, ⊤}
 use Rattle.mysql_binding.specs.declared.binding.room.TextInRoom.{TextInRoom}
 use Rattle.mysql_binding.specs.declared.binding.room.TextInRoom.TheVariants.{Written, TooShort}
 use Rattle.mysql_flat_params.specs.declared.outcome.Outcome.{Outcome}
-use Rattle.mysql_flat_params.specs.declared.outcome.Outcome.TheVariants.{Done, OutOfMemory, Room, FormEnd, FormLengthLead, FormType, FormMixed, FormRepeated, Mixed, Missing, NamedForPositional, PositionalForNamed, MarkCount, NotAlone, Float, Unsteady, Unportable}
+use Rattle.mysql_flat_params.specs.declared.outcome.Outcome.TheVariants.{Done, OutOfMemory, Room, FormEnd, FormLengthLead, FormType, FormMixed, FormRepeated, Mixed, Missing, NamedForPositional, PositionalForNamed, MarkCount, NotAlone, Float, Unsteady, Unportable, Backslash}
 use Rattle.mysql_flat_params.specs.declared.outcome.Report.{Report}
 
 -- the number of an outcome
@@ -25,6 +25,7 @@ number_of (NotAlone place position) = 13
 number_of (Float place) = 14
 number_of (Unsteady position) = 15
 number_of (Unportable number position) = 16
+number_of (Backslash position) = 18
 
 -- no field
 abbrev pub no_fields : Report
@@ -54,6 +55,7 @@ report_of (Float place) = record no_fields { place = place }
 report_of (Unsteady position) = record no_fields { position = position }
 report_of (Unportable number position) =
     record no_fields { position = position; byte = number }
+report_of (Backslash position) = record no_fields { position = position }
 
 -- what is told of a text in a room
 abbrev pub text_outcome : TextInRoom → Outcome

@@ -3,32 +3,26 @@ ghost use Rattle.std.specs.Prelude.{◌≡◌, ◌≢◌, ◌⊎◌, ◌+◌, �
 ghost use Rattle.std.specs.List.{Contains};
 ghost use Rattle.mysql_named_params.specs.Tokens.{OnTokens};
 ghost use Rattle.mysql_named_params.specs.Places.{HasMark, HasName, names};
-ghost use Rattle.mysql_named_params.specs.FirstUnportable.{first_unportable};
-ghost use Rattle.mysql_named_params.specs.Steady.{first_unsteady, IsSteady};
-ghost use Rattle.mysql_named_params.specs.declared.portable.Unportable as unportable;
 ghost use Rattle.mysql_params_core.specs.Given.{Given, given_by_borrowed};
 ghost use Rattle.mysql_binding.specs.BindErrors.{IsCauseOrMemory};
 ghost use Rattle.mysql_binding.specs.FirstCause.{first_cause};
 ghost use Rattle.mysql_binding.specs.Isolation.{IsBoundText};
 ghost use Rattle.mysql_binding.specs.TextInRoom.{HasTextOf, IsTextInRoom};
-ghost use Rattle.mysql_steady_text.specs.SteadyTextErrors.{IsSteadyRefusal};
-ghost use Rattle.mysql_flat_params.specs.AnywhereIntoRoom.{IsAnywhereForm, IsAnywhereOutcome, IsBoundAnywhere};
 ghost use Rattle.mysql_flat_params.specs.FlatForm.{HasFirstParameter, IsFormReading};
 ghost use Rattle.mysql_flat_params.specs.FormErrors.{IsFormRefusal};
 ghost use Rattle.mysql_flat_params.specs.FormParams.{given_by_sorted};
 ghost use Rattle.mysql_flat_params.specs.IntoRoom.{IfMixed, IsBindOutcome, IsBoundForm, IsMissingName};
 ghost use Rattle.mysql_flat_params.specs.Outcomes.{HasNoAnswer, IfDone, IfTooLong, UnlessDone, text_outcome};
-ghost use Rattle.mysql_flat_params.specs.UnportableReport.{construct_number};
+ghost use Rattle.mysql_flat_params.specs.Steadiness.{IsBoundAs, refusal_as};
+ghost use Rattle.mysql_flat_params.specs.SteadyIntoRoom.{IsSteadyOutcome};
+ghost use Rattle.mysql_flat_params.specs.declared.steady_room.Steadiness as steadiness;
 
 use crate::form::{FormParams, form_params};
 use crate::form_error::FormError;
 use crate::missing_place::name_place;
 use crate::outcome::Outcome;
-use crate::steady_room::bind_anywhere_in_room;
-use crate::unportable::construct_number;
 use mysql_binding::{BindError, PlainForm, TextInRoom, bind_borrowed_into};
 use mysql_params_core::params::{BorrowedParams, ParamsConfusionError, ParamsError};
-use mysql_steady_text::SteadyTextError;
 use mysql_values::value::Value;
 use std::alloc::Global;
 use std::collections::BTreeMap;
@@ -77,51 +71,6 @@ pub fn bind_into(
     }
 }
 
-/// Binds into a query what a form says, as
-/// [`bind_text_anywhere`](mysql_steady_text::bind_text_anywhere) binds the form's parameters, and
-/// writes the text to the front of the room: SQL text that no `sql_mode` and no character set of a
-/// connection reads otherwise, on any server.
-///
-/// Form, room, `Done` and `Room` are as for [`bind_into`]. A form is refused before the query; then
-/// come `Unsteady` and `Unportable`, and then the causes of `bind_into`. Over the empty form
-/// `Unsteady`, `Unportable` and `Mixed` come without allocating, and a form that is refused for its
-/// first parameter is refused without allocating too. Any other outcome may be `OutOfMemory`
-/// instead. After every outcome but `Done` the room is as before.
-// A steady query has the same tokens in both modes (`mysql_named_params::laws::steady_texts`).
-pub fn bind_anywhere_into(alloc: Global, query: &[u8], form: &[u8], room: &mut [u8]) -> Outcome
-    ensures outcome { IsAnywhereOutcome query.now form.now result }
-    ensures written { IfDone result (λ len.
-        IsAnywhereForm query.now form.now (take len room.new)) }
-
-    // Over the empty form these are refused without allocating.
-    ensures unsteady { (at : ℕ) → form.now ≡ [] → first_unsteady query.now ≡ Some at →
-        result ≡ Outcome.Unsteady at }
-    ensures unportable { (mode : Bool) → OnTokens mode query.now (λ ts. form.now ≡ [] →
-        first_unsteady query.now ≡ None →
-        (found : unportable.Unportable) → first_unportable ts ≡ Some found →
-        result ≡ Outcome.Unportable (construct_number found.construct) found.at) }
-    ensures mixed { (mode : Bool) → OnTokens mode query.now (λ ts. form.now ≡ [] →
-        first_unsteady query.now ≡ None → first_unportable ts ≡ None →
-        HasName ts × HasMark ts → result ≡ Outcome.Mixed) }
-
-    // A form that is refused for its first parameter is refused without allocating.
-    ensures memory { result ≡ Outcome.OutOfMemory →
-        (form.now ≡ []) ⊎ HasFirstParameter form.now }
-    ensures rest { IfDone result (λ len.
-        (len ≤ length room.old) × (drop len room.new ≡ drop len room.old)) }
-    ensures too_long { IfTooLong result (λ len. length room.old < len) }
-    ensures unchanged { UnlessDone result (room.new ≡ room.old) }
-{
-    let given = match form_params::<BTreeMap<Vec<u8>, Value>>(alloc, form) {
-        Ok(params) => params,
-        Err(error) => return form_outcome(error),
-    };
-    match bind_params_anywhere(alloc, query, given, room) {
-        Ok(text) => text_outcome(text),
-        Err(error) => anywhere_outcome(query, error),
-    }
-}
-
 // The text of a query with what a form says, at the front of the room.
 fn bind_params(
     alloc: Global,
@@ -148,39 +97,13 @@ fn bind_params(
 }
 
 // What is told of a text in a room.
-fn text_outcome(text: TextInRoom) -> Outcome
+pub(crate) fn text_outcome(text: TextInRoom) -> Outcome
     ensures { result ≡ text_outcome text }
 {
     match text {
         TextInRoom::Written { len } => Outcome::Done { len },
         TextInRoom::TooShort { len } => Outcome::Room { len },
     }
-}
-
-// The text of a query with what a form says, for any server, at the front of the room.
-fn bind_params_anywhere(
-    alloc: Global,
-    query: &[u8],
-    params: FormParams<BTreeMap<Vec<u8>, Value>>,
-    room: &mut [u8],
-) -> Result<TextInRoom, SteadyTextError>
-    ensures bound { IfOk result (IsTextInRoom
-        (IsBoundAnywhere query.now (given_by_sorted params))
-        (HasTextOf (IsBoundAnywhere query.now (given_by_sorted params))) room.old room.new) }
-    ensures refused { (mode : Bool) → OnTokens mode query.now (λ ts. IfErr result
-        (IsSteadyRefusal query.now (first_unportable ts)
-        (first_cause ts (given_by_sorted params)))) }
-    ensures unsteady { (at : ℕ) → first_unsteady query.now ≡ Some at →
-        IsErrOf result (SteadyTextError.Unsteady at) }
-    ensures unportable { (mode : Bool) → OnTokens mode query.now (λ ts. IsSteady query.now →
-        (found : unportable.Unportable) → first_unportable ts ≡ Some found →
-        IsErrOf result (SteadyTextError.Unportable found)) }
-    ensures mixed { (mode : Bool) → OnTokens mode query.now (λ ts. IsSteady query.now →
-        first_unportable ts ≡ None → HasName ts × HasMark ts →
-        IsErrOf result (SteadyTextError.Bind BindError.Mixed)) }
-    ensures unchanged { OnErr result (room.new ≡ room.old) }
-{
-    bind_anywhere_in_room(alloc, query, borrowed_params(&params), room)
 }
 
 // The same parameters, borrowed.
@@ -198,8 +121,9 @@ pub(crate) fn borrowed_params(params: &FormParams<BTreeMap<Vec<u8>, Value>>) -> 
 pub(crate) fn form_outcome(error: FormError) -> Outcome
     ensures outcome { (mode : Bool) (query form : List ℕ) → IsFormRefusal form error →
         IsBindOutcome mode query form result }
-    ensures anywhere { (query form : List ℕ) → IsFormRefusal form error →
-        IsAnywhereOutcome query form result }
+    ensures steady { (which : steadiness.Steadiness) (query form : List ℕ) →
+        IsFormRefusal form error →
+        IsSteadyOutcome (IsBoundAs which query) (refusal_as which query) query form result }
     ensures memory { result ≡ Outcome.OutOfMemory → error ≡ FormError.Memory alloc_error }
     ensures no_answer { HasNoAnswer result }
 {
@@ -234,32 +158,6 @@ pub(crate) fn form_outcome(error: FormError) -> Outcome
             len,
         },
         FormError::Memory(_) => Outcome::OutOfMemory,
-    }
-}
-
-// A refusal of binding to this query for any server.
-fn anywhere_outcome(query: &[u8], error: SteadyTextError) -> Outcome
-    requires { (given : Given) × ((mode : Bool) → OnTokens mode query.now (λ ts.
-        IsSteadyRefusal query.now (first_unportable ts) (first_cause ts given) error)) }
-    ensures outcome { (form : List ℕ) (given : Given) → IsFormReading form (Ok given) →
-        ((mode : Bool) → OnTokens mode query.now (λ ts.
-        IsSteadyRefusal query.now (first_unportable ts) (first_cause ts given) error)) →
-        IsAnywhereOutcome query.now form result }
-    ensures unsteady { (at : ℕ) → error ≡ SteadyTextError.Unsteady at →
-        result ≡ Outcome.Unsteady at }
-    ensures unportable { (found : unportable.Unportable) →
-        error ≡ SteadyTextError.Unportable found →
-        result ≡ Outcome.Unportable (construct_number found.construct) found.at }
-    ensures mixed { error ≡ SteadyTextError.Bind BindError.Mixed → result ≡ Outcome.Mixed }
-    ensures no_answer { HasNoAnswer result }
-{
-    match error {
-        SteadyTextError::Unsteady { at } => Outcome::Unsteady { position: at },
-        SteadyTextError::Unportable(found) => Outcome::Unportable {
-            number: construct_number(found.construct),
-            position: found.at,
-        },
-        SteadyTextError::Bind(error) => bind_outcome(query, error, false),
     }
 }
 

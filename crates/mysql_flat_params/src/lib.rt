@@ -1,8 +1,9 @@
 //! Binding for callers in other languages: parameters come in as bytes in one flat form, and the
 //! answer goes into a room that the caller lends.
 //!
-//! [`params_of_form`] reads the form. [`bind_into`], [`bind_anywhere_into`] and [`names_into`]
-//! write their answer into the room, or leave it as it was and say by an [`Outcome`] why.
+//! [`params_of_form`] reads the form. [`bind_into`], [`bind_anywhere_into`],
+//! [`bind_in_both_modes_into`] and [`names_into`] write their answer into the room, or leave it as
+//! it was and say by an [`Outcome`] why.
 //! [`bind_rows_into`] parses a query once and binds it to many forms. [`report_first_unportable`]
 //! reports the first construct for which a query isn't portable, and
 //! [`report_first_unportable_in_client`] also what a client reads or sends otherwise.
@@ -22,8 +23,9 @@ mod unportable;
 
 pub use form::params_of_form;
 pub use form_error::FormError;
-pub use into_room::{bind_anywhere_into, bind_into};
+pub use into_room::bind_into;
 pub use names_room::names_into;
 pub use outcome::{Outcome, Report};
 pub use rows::{Rows, bind_rows_into};
+pub use steady_room::{bind_anywhere_into, bind_in_both_modes_into};
 pub use unportable::{report_first_unportable, report_first_unportable_in_client};

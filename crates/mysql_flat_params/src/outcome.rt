@@ -100,12 +100,19 @@ pub enum Outcome {
         position: usize,
     },
     /// The query isn't portable; the first construct is reported. Only
-    /// [`bind_anywhere_into`](crate::bind_anywhere_into) refuses it.
+    /// [`bind_anywhere_into`](crate::bind_anywhere_into) and
+    /// [`bind_in_both_modes_into`](crate::bind_in_both_modes_into) refuse it.
     Unportable {
         /// The number of the construct, as
         /// [`report_first_unportable`](crate::report_first_unportable) gives it.
         number: u8,
         /// The index of its first byte in the query.
+        position: usize,
+    },
+    /// A string of the query holds a backslash; the first is reported. Only
+    /// [`bind_in_both_modes_into`](crate::bind_in_both_modes_into) refuses it.
+    Backslash {
+        /// Its index in the query.
         position: usize,
     },
 }
@@ -157,7 +164,8 @@ fn spot_fields(len: usize, place: usize, position: usize, byte: u8) -> Report
 }
 
 impl Outcome {
-    /// The number of the outcome's kind: 0 for `Done`, and then in the order of the declaration.
+    /// The number of the outcome's kind: 0 for `Done`, then in the order of the declaration to 16
+    /// for `Unportable`, and 18 for `Backslash`: 17 is that of a fragment that can't be written.
     pub fn number(self) -> i32
         ensures number { result ≡ pos (number_of self) }
     {
@@ -179,6 +187,7 @@ impl Outcome {
             Outcome::Float { .. } => 14,
             Outcome::Unsteady { .. } => 15,
             Outcome::Unportable { .. } => 16,
+            Outcome::Backslash { .. } => 18,
         }
     }
 
@@ -218,6 +227,7 @@ impl Outcome {
             },
             Outcome::Float { place } => Report { place, ..NO_FIELDS },
             Outcome::Unsteady { position } => spot_fields(0, 0, position, 0),
+            Outcome::Backslash { position } => spot_fields(0, 0, position, 0),
             Outcome::Unportable { number, position } => spot_fields(0, 0, position, number),
             Outcome::OutOfMemory
             | Outcome::Mixed

@@ -1,91 +1,210 @@
-//! The text of a query for any server, in a room that the caller lends.
-ghost use Rattle.std.specs.Prelude.{◌≡◌, ℕ, Bool, None, Some, IfErr, IfOk, IsErrOf, OnErr, refl};
-ghost use Rattle.mysql_values.specs.declared.value.Value.TheVariants.{NULL, Bytes, Int, UInt, Float, Double, Date, Time};
+//! Texts with steady literals, in a room that the caller lends.
+ghost use Rattle.std.specs.Prelude.{◌≡◌, ◌⊎◌, ◌≤◌, ◌<◌, Bool, true, [], None, Some, Ok, length, take, drop, IfErr, IfOk, IfSome, IsErrOf, OnErr};
 ghost use Rattle.mysql_named_params.specs.Tokens.{OnTokens};
-ghost use Rattle.mysql_named_params.specs.Places.{HasName, HasMark};
-ghost use Rattle.mysql_named_params.specs.FirstUnportable.{first_unportable};
-ghost use Rattle.mysql_named_params.specs.Steady.{first_unsteady, IsSteady};
-ghost use Rattle.mysql_named_params.specs.declared.portable.Unportable as unportable;
-ghost use Rattle.mysql_params_core.specs.Given.{given_by_borrowed};
+ghost use Rattle.mysql_named_params.specs.Places.{HasMark, HasName};
+ghost use Rattle.mysql_named_params.specs.Steady.{HoldNoEscapes};
+ghost use Rattle.mysql_binding.specs.BindErrors.{IsCauseOrMemory};
 ghost use Rattle.mysql_binding.specs.FirstCause.{first_cause};
-ghost use Rattle.mysql_binding.specs.TextInRoom.{HasTextOf, IsTextInRoom};
+ghost use Rattle.mysql_binding.specs.MeasuredText.{HasGivenLength};
+ghost use Rattle.mysql_binding.specs.TextInRoom.{IsTextInRoom};
+ghost use Rattle.mysql_binding.specs.WrittenText.{IsGivenText};
 ghost use Rattle.mysql_steady_literal.specs.SteadyLiteral.{steady_literal_of};
 ghost use Rattle.mysql_steady_text.specs.SteadyLiterals.{IsSteadyFor};
-ghost use Rattle.mysql_steady_text.specs.SteadyTextErrors.{IsSteadyRefusal};
-ghost use Rattle.mysql_flat_params.specs.AnywhereIntoRoom.{IsBoundAnywhere};
+ghost use Rattle.mysql_flat_params.specs.AnywhereIntoRoom.{IsAnywhereForm, IsAnywhereOutcome, anywhere_refusal};
+ghost use Rattle.mysql_flat_params.specs.BothModesIntoRoom.{IsBothModesForm, IsBothModesOutcome, both_modes_refusal};
+ghost use Rattle.mysql_flat_params.specs.FlatForm.{HasFirstParameter};
+ghost use Rattle.mysql_flat_params.specs.FormParams.{given_by_sorted};
+ghost use Rattle.mysql_flat_params.specs.Outcomes.{HasNoAnswer, IfDone, IfTooLong, UnlessDone};
+ghost use Rattle.mysql_flat_params.specs.Steadiness.{IsBoundAs, byte_refusal, refusal_as};
+ghost use Rattle.mysql_flat_params.specs.SteadyIntoRoom.{IsSteadyForm, IsSteadyOutcome};
+ghost use Rattle.mysql_flat_params.specs.declared.outcome.Outcome as outcome;
 
-use mysql_binding::{BindError, LiteralForm, TextInRoom, bind_borrowed_into};
+use crate::form::{FormParams, form_params};
+use crate::into_room::{bind_outcome, borrowed_params, form_outcome, text_outcome};
+use crate::outcome::Outcome;
+use crate::unportable::construct_number;
+use mysql_binding::{BindError, TextInRoom, bind_borrowed_into};
 use mysql_named_params::portable::first_unportable;
 use mysql_named_params::steady::first_unsteady;
-use mysql_params_core::params::BorrowedParams;
-use mysql_steady_literal::laws::steady_literals;
-use mysql_steady_literal::steady_literal::{put_steady, steady_len};
-use mysql_steady_text::SteadyTextError;
+use mysql_steady_text::SteadyForm;
+use mysql_steady_text::first_backslash::first_backslash;
 use mysql_values::value::Value;
 use std::alloc::Global;
+use std::collections::BTreeMap;
 
-// Steady literals, as a form in which the literals of values are written.
-struct SteadyLiterals;
+/// Binds into a query what a form says, as
+/// [`bind_text_anywhere`](mysql_steady_text::bind_text_anywhere) binds the form's parameters, and
+/// writes the text to the front of the room: SQL text that no `sql_mode` and no character set of a
+/// connection reads otherwise, on any server.
+///
+/// Form, room, `Done` and `Room` are as for [`bind_into`](crate::bind_into). A form is refused
+/// before the query; then come `Unsteady` and `Unportable`, and then the causes of `bind_into`.
+/// Over the empty form `Unsteady`, `Unportable` and `Mixed` come without allocating, and a form
+/// that is refused for its first parameter is refused without allocating too. Any other outcome may
+/// be `OutOfMemory` instead. After every outcome but `Done` the room is as before.
+// A steady query has the same tokens in both modes (`mysql_named_params::laws::steady_texts`).
+pub fn bind_anywhere_into(alloc: Global, query: &[u8], form: &[u8], room: &mut [u8]) -> Outcome
+    ensures outcome { IsAnywhereOutcome query.now form.now result }
+    ensures written { IfDone result (λ len.
+        IsAnywhereForm query.now form.now (take len room.new)) }
 
-impl LiteralForm for SteadyLiterals {
-    ghost literal = { λ _. steady_literal_of };
+    // Over the empty form these are refused without allocating.
+    ensures refused { (mode : Bool) → OnTokens mode query.now (λ ts. form.now ≡ [] →
+        (told : outcome.Outcome) → anywhere_refusal query.now ts ≡ Some told → result ≡ told) }
+    ensures mixed { (mode : Bool) → OnTokens mode query.now (λ ts. form.now ≡ [] →
+        anywhere_refusal query.now ts ≡ None → HasName ts × HasMark ts →
+        result ≡ Outcome.Mixed) }
 
-    ghost IsKnown = { λ _. IsSteadyFor };
+    // A form that is refused for its first parameter is refused without allocating.
+    ensures memory { result ≡ Outcome.OutOfMemory →
+        (form.now ≡ []) ⊎ HasFirstParameter form.now }
+    ensures rest { IfDone result (λ len.
+        (len ≤ length room.old) × (drop len room.new ≡ drop len room.old)) }
+    ensures too_long { IfTooLong result (λ len. length room.old < len) }
+    ensures unchanged { UnlessDone result (room.new ≡ room.old) }
+{
+    bind_steady_into(alloc, query, form, Steadiness::Anywhere, room)
+}
 
-    ghost floats = { λ _. elim [
-      | NULL ↦ refl
-      | Bytes bytes ↦ refl
-      | Int number ↦ refl
-      | UInt number ↦ refl
-      | Float bits ↦ refl
-      | Double bits ↦ refl
-      | Date year month day hour minute second microseconds ↦ refl
-      | Time negative days hours minutes seconds microseconds ↦ refl
-    ] };
+/// Binds into a query what a form says, as
+/// [`bind_text_in_both_modes`](mysql_steady_text::bind_text_in_both_modes) binds the form's
+/// parameters, and writes the text to the front of the room: SQL text that no `sql_mode` reads
+/// otherwise, on any server. The query may hold bytes from 128 on; the connection's character set
+/// has to be that of these, utf8mb4 for UTF-8.
+///
+/// All is as for [`bind_anywhere_into`], except that `Backslash`, for a backslash in a string of
+/// the query, comes in place of `Unsteady`.
+// A query without a backslash in its strings has the same tokens in both modes
+// (`mysql_named_params::laws::modes_agree`).
+pub fn bind_in_both_modes_into(alloc: Global, query: &[u8], form: &[u8], room: &mut [u8]) -> Outcome
+    ensures outcome { IsBothModesOutcome query.now form.now result }
+    ensures written { IfDone result (λ len.
+        IsBothModesForm query.now form.now (take len room.new)) }
 
-    fn len(&self, value: &Value) -> Option<u128> {
-        steady_len(value)
+    // Over the empty form these are refused without allocating.
+    ensures refused { (mode : Bool) → OnTokens mode query.now (λ ts. form.now ≡ [] →
+        (told : outcome.Outcome) → both_modes_refusal ts ≡ Some told → result ≡ told) }
+    ensures mixed { (mode : Bool) → OnTokens mode query.now (λ ts. form.now ≡ [] →
+        both_modes_refusal ts ≡ None → HasName ts × HasMark ts → result ≡ Outcome.Mixed) }
+
+    // A form that is refused for its first parameter is refused without allocating.
+    ensures memory { result ≡ Outcome.OutOfMemory →
+        (form.now ≡ []) ⊎ HasFirstParameter form.now }
+    ensures rest { IfDone result (λ len.
+        (len ≤ length room.old) × (drop len room.new ≡ drop len room.old)) }
+    ensures too_long { IfTooLong result (λ len. length room.old < len) }
+    ensures unchanged { UnlessDone result (room.new ≡ room.old) }
+{
+    bind_steady_into(alloc, query, form, Steadiness::BothModes, room)
+}
+
+/// Which text a call gives, and so which queries it takes.
+#[derive(Clone, Copy)]
+pub(crate) enum Steadiness {
+    /// For any mode and any character set, of a query of ASCII without a backslash.
+    Anywhere,
+    /// For both modes, of a query without a backslash in its strings.
+    BothModes,
+}
+
+// The body of both calls.
+fn bind_steady_into(
+    alloc: Global,
+    query: &[u8],
+    form: &[u8],
+    steadiness: Steadiness,
+    room: &mut [u8],
+) -> Outcome
+    ensures outcome { IsSteadyOutcome (IsBoundAs steadiness query.now)
+        (refusal_as steadiness query.now) query.now form.now result }
+    ensures written { IfDone result (λ len.
+        IsSteadyForm (IsBoundAs steadiness query.now) form.now (take len room.new)) }
+    ensures refused { (mode : Bool) → OnTokens mode query.now (λ ts. form.now ≡ [] →
+        (told : outcome.Outcome) → refusal_as steadiness query.now ts ≡ Some told →
+        result ≡ told) }
+    ensures mixed { (mode : Bool) → OnTokens mode query.now (λ ts. form.now ≡ [] →
+        refusal_as steadiness query.now ts ≡ None → HasName ts × HasMark ts →
+        result ≡ Outcome.Mixed) }
+    ensures memory { result ≡ Outcome.OutOfMemory →
+        (form.now ≡ []) ⊎ HasFirstParameter form.now }
+    ensures rest { IfDone result (λ len.
+        (len ≤ length room.old) × (drop len room.new ≡ drop len room.old)) }
+    ensures too_long { IfTooLong result (λ len. length room.old < len) }
+    ensures unchanged { UnlessDone result (room.new ≡ room.old) }
+{
+    let params = match form_params::<BTreeMap<Vec<u8>, Value>>(alloc, form) {
+        Ok(params) => params,
+        Err(error) => return form_outcome(error),
+    };
+    if let Some(outcome) = query_refusal(query, steadiness) {
+        return outcome;
     }
-
-    fn put(&self, value: &Value, room: &mut [u8]) {
-        steady_literals(value);
-        put_steady(value, room);
+    match bind_params_steady(alloc, query, params, room) {
+        Ok(text) => text_outcome(text),
+        Err(error) => bind_outcome(query, error, true),
     }
 }
 
-/// The text of [`bind_borrowed_anywhere`](mysql_steady_text::bind_borrowed_anywhere), at the front
-/// of the room if the room has its length. It refuses what that refuses.
-pub(crate) fn bind_anywhere_in_room(
+// Why a query is refused whatever is given to it. If it isn't, the modes agree on it.
+fn query_refusal(query: &[u8], steadiness: Steadiness) -> Option<Outcome>
+    ensures told { (mode : Bool) → OnTokens mode query.now (λ ts.
+        result ≡ refusal_as steadiness query.now ts) }
+    ensures agree { result ≡ None → OnTokens true query.now HoldNoEscapes }
+    ensures no_answer { IfSome result HasNoAnswer }
+{
+    if let Some(outcome) = byte_refusal(query, steadiness) {
+        return Some(outcome);
+    }
+    match first_unportable(query, true) {
+        Some(found) => Some(Outcome::Unportable {
+            number: construct_number(found.construct),
+            position: found.at,
+        }),
+        None => None,
+    }
+}
+
+// The refusal of a query for a byte of it. If there is none, the modes agree on it.
+fn byte_refusal(query: &[u8], steadiness: Steadiness) -> Option<Outcome>
+    ensures told { (mode : Bool) → OnTokens mode query.now (λ ts.
+        result ≡ byte_refusal steadiness query.now ts) }
+    ensures agree { result ≡ None → OnTokens true query.now HoldNoEscapes }
+    ensures no_answer { IfSome result HasNoAnswer }
+{
+    match steadiness {
+        Steadiness::Anywhere => match first_unsteady(query) {
+            Some(position) => Some(Outcome::Unsteady { position }),
+            None => None,
+        },
+        Steadiness::BothModes => match first_backslash(query) {
+            Some(position) => Some(Outcome::Backslash { position }),
+            None => None,
+        },
+    }
+}
+
+// The text of a query with the steady literals of what a form says, at the front of the room.
+fn bind_params_steady(
     alloc: Global,
     query: &[u8],
-    params: BorrowedParams<'_>,
+    params: FormParams<BTreeMap<Vec<u8>, Value>>,
     room: &mut [u8],
-) -> Result<TextInRoom, SteadyTextError>
-    ensures bound { IfOk result (IsTextInRoom
-        (IsBoundAnywhere query.now (given_by_borrowed params.entry))
-        (HasTextOf (IsBoundAnywhere query.now (given_by_borrowed params.entry)))
-        room.old room.new) }
-    ensures refused { (mode : Bool) → OnTokens mode query.now (λ ts. IfErr result
-        (IsSteadyRefusal query.now (first_unportable ts)
-        (first_cause ts (given_by_borrowed params.entry)))) }
-    ensures unsteady { (at : ℕ) → first_unsteady query.now ≡ Some at →
-        IsErrOf result (SteadyTextError.Unsteady at) }
-    ensures unportable { (mode : Bool) → OnTokens mode query.now (λ ts. IsSteady query.now →
-        (found : unportable.Unportable) → first_unportable ts ≡ Some found →
-        IsErrOf result (SteadyTextError.Unportable found)) }
-    ensures mixed { (mode : Bool) → OnTokens mode query.now (λ ts. IsSteady query.now →
-        first_unportable ts ≡ None → HasName ts × HasMark ts →
-        IsErrOf result (SteadyTextError.Bind BindError.Mixed)) }
+) -> Result<TextInRoom, BindError>
+    ensures text { OnTokens true query.now (λ ts. IfOk result (IsTextInRoom
+        (IsGivenText steady_literal_of IsSteadyFor ts (given_by_sorted params))
+        (HasGivenLength steady_literal_of ts (given_by_sorted params)) room.old room.new)) }
+    ensures refused { OnTokens true query.now (λ ts. IfErr result
+        (IsCauseOrMemory (first_cause ts (given_by_sorted params)))) }
+    ensures mixed { OnTokens true query.now (λ ts.
+        HasName ts × HasMark ts → IsErrOf result BindError.Mixed) }
     ensures unchanged { OnErr result (room.new ≡ room.old) }
 {
-    if let Some(at) = first_unsteady(query) {
-        return Err(SteadyTextError::Unsteady { at });
-    }
-    if let Some(found) = first_unportable(query, false) {
-        return Err(SteadyTextError::Unportable(found));
-    }
-    match bind_borrowed_into(alloc, query, params, false, &SteadyLiterals, room) {
-        Ok(text) => Ok(text),
-        Err(error) => Err(SteadyTextError::Bind(error)),
-    }
+    bind_borrowed_into(
+        alloc,
+        query,
+        borrowed_params(&params),
+        true,
+        &SteadyForm,
+        room,
+    )
 }
