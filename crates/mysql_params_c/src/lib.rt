@@ -12,12 +12,14 @@
 //! overlap neither each other nor what is read, and their bytes have values before the call.
 #![tactic(auto)]
 
-ghost use Rattle.std.specs.Prelude.{◌≡◌, ◌≢◌, ◌⊎◌, ◌↔◌, ◌+◌, ◌≤◌, ◌<◌, ℕ, Bool, [], Some, None, length, take, drop, pos};
-ghost use Rattle.mysql_flat_params.specs.AnywhereIntoRoom.{IsAnywhereForm, IsAnywhereOutcome};
+ghost use Rattle.std.specs.Prelude.{◌≡◌, ◌≢◌, ◌⊎◌, ◌↔◌, ◌+◌, ◌≤◌, ◌<◌, Bool, [], Some, None, length, take, drop, pos};
+ghost use Rattle.mysql_flat_params.specs.AnywhereIntoRoom.{IsAnywhereForm, IsAnywhereOutcome, anywhere_refusal};
+ghost use Rattle.mysql_flat_params.specs.BothModesIntoRoom.{IsBothModesForm, IsBothModesOutcome, both_modes_refusal};
 ghost use Rattle.mysql_flat_params.specs.BoundRows.{AreBoundRows, IsRowsOutcome};
 ghost use Rattle.mysql_flat_params.specs.FlatForm.{HasFirstParameter};
 ghost use Rattle.mysql_flat_params.specs.IntoRoom.{IfMixed, IsBindOutcome, IsBoundForm, IsNamesAnswer, IsNamesOutcome};
-ghost use Rattle.mysql_flat_params.specs.Outcomes.{IsTold};
+ghost use Rattle.mysql_flat_params.specs.Outcomes.{IsTold, number_of};
+ghost use Rattle.mysql_flat_params.specs.declared.outcome.Outcome as outcome;
 ghost use Rattle.mysql_flat_fragments.specs.FragmentsIntoRoom as fragments;
 ghost use Rattle.mysql_flat_fragments.specs.FragmentsOutcomes as fragments_outcomes;
 ghost use Rattle.mysql_flat_params.specs.UnportableReport.{unportable_number, unportable_report};
@@ -25,14 +27,12 @@ ghost use Rattle.mysql_named_params.specs.FirstUnportable.{first_unportable};
 ghost use Rattle.mysql_named_params.specs.FirstUnportableInClient.{first_unportable_in_client, IsPortableInClient};
 ghost use Rattle.mysql_named_params.specs.Places.{marks, HasMark, HasName};
 ghost use Rattle.mysql_named_params.specs.Portable.{IsPortable};
-ghost use Rattle.mysql_named_params.specs.Steady.{first_unsteady};
 ghost use Rattle.mysql_named_params.specs.Tokens.{OnTokens};
-ghost use Rattle.mysql_named_params.specs.declared.portable.Unportable as unportable;
 
 use mysql_flat_fragments::bind_fragments_into;
 use mysql_flat_params::{
-    Report, Rows, bind_anywhere_into, bind_into, bind_rows_into, names_into,
-    report_first_unportable, report_first_unportable_in_client,
+    Report, Rows, bind_anywhere_into, bind_in_both_modes_into, bind_into, bind_rows_into,
+    names_into, report_first_unportable, report_first_unportable_in_client,
 };
 use std::alloc::Global;
 
@@ -136,14 +136,11 @@ pub extern "C" fn mysql_params_bind_anywhere(
         IsAnywhereForm query.now form.now (take report.new.len room.new) }
 
     // Over the empty form these are refused without allocating.
-    ensures unsteady { (at : ℕ) → form.now ≡ [] → first_unsteady query.now ≡ Some at →
-        result ≡ pos 15 }
-    ensures unportable { (mode : Bool) → OnTokens mode query.now (λ ts. form.now ≡ [] →
-        first_unsteady query.now ≡ None →
-        (found : unportable.Unportable) → first_unportable ts ≡ Some found → result ≡ pos 16) }
+    ensures refused { (mode : Bool) → OnTokens mode query.now (λ ts. form.now ≡ [] →
+        (told : outcome.Outcome) → anywhere_refusal query.now ts ≡ Some told →
+        result ≡ pos (number_of told)) }
     ensures mixed { (mode : Bool) → OnTokens mode query.now (λ ts. form.now ≡ [] →
-        first_unsteady query.now ≡ None → first_unportable ts ≡ None →
-        HasName ts × HasMark ts → result ≡ pos 8) }
+        anywhere_refusal query.now ts ≡ None → HasName ts × HasMark ts → result ≡ pos 8) }
 
     // A form that is refused for its first parameter is refused without allocating.
     ensures memory { result ≡ pos 1 → (form.now ≡ []) ⊎ HasFirstParameter form.now }
@@ -153,6 +150,45 @@ pub extern "C" fn mysql_params_bind_anywhere(
     ensures unchanged { result ≢ pos 0 → room.new ≡ room.old }
 {
     let outcome = bind_anywhere_into(alloc, query, form, room);
+    *report = outcome.report();
+    outcome.number()
+}
+
+/// Binds into the query what the form says, and writes to the front of the room a text that no
+/// `sql_mode` reads otherwise, on any server:
+/// [`bind_in_both_modes_into`](mysql_flat_params::bind_in_both_modes_into). The query may have
+/// bytes from 128 on; the connection's character set has to be that of these, utf8mb4 for UTF-8.
+///
+/// It returns the numbers of [`mysql_params_bind_anywhere`], with 18 (`Backslash`) in place of 15:
+/// for a query of which a string holds a backslash, whose position is in the report. All else is as
+/// there.
+#[unsafe(no_mangle)]
+pub extern "C" fn mysql_params_bind_in_both_modes(
+    alloc: Global,
+    query: &[u8],
+    form: &[u8],
+    room: &mut [u8],
+    report: &mut Report,
+) -> i32
+    ensures outcome { IsTold result report.new (IsBothModesOutcome query.now form.now) }
+    ensures written { result ≡ pos 0 →
+        IsBothModesForm query.now form.now (take report.new.len room.new) }
+
+    // Over the empty form these are refused without allocating.
+    ensures refused { (mode : Bool) → OnTokens mode query.now (λ ts. form.now ≡ [] →
+        (told : outcome.Outcome) → both_modes_refusal ts ≡ Some told →
+        result ≡ pos (number_of told)) }
+    ensures mixed { (mode : Bool) → OnTokens mode query.now (λ ts. form.now ≡ [] →
+        both_modes_refusal ts ≡ None → HasName ts × HasMark ts → result ≡ pos 8) }
+
+    // A form that is refused for its first parameter is refused without allocating.
+    ensures memory { result ≡ pos 1 → (form.now ≡ []) ⊎ HasFirstParameter form.now }
+    ensures rest { result ≡ pos 0 → (report.new.len ≤ length room.old)
+        × (drop report.new.len room.new ≡ drop report.new.len room.old) }
+    ensures too_long { result ≡ pos 2 → length room.old < report.new.len }
+    ensures unchanged { result ≢ pos 0 → room.new ≡ room.old }
+{
+    let outcome = bind_in_both_modes_into(alloc, query, form, room);
     *report = outcome.report();
     outcome.number()
 }

@@ -10,12 +10,12 @@ returns-clause-written c = λ zero.
     (written_told c.bind_anywhere_into-outcome.result (λ len. IsAnywhereForm c.args.query.now c.args.form.now (take len c.bind_anywhere_into-outcome.new.room))
     (sym (ap (λ z. to_z w32 (of_z w32 z)) c.number.ensures.number) ∙ zero) c.bind_anywhere_into-outcome.ensures.written)
 
-pub returns-clause-unportable : goal.returns-clause-unportable
-returns-clause-unportable c mode =
-    let o = c.bind_anywhere_into-outcome.ensures.unportable mode in
-    (o.0, o.1, λ none steady found is. ap (λ z. to_z w32 (of_z w32 z)) (c.number.ensures.number ∙ ap (λ x. pos (number_of x)) (o.2 none steady found is)))
+pub returns-clause-refused : goal.returns-clause-refused
+returns-clause-refused c mode =
+    let o = c.bind_anywhere_into-outcome.ensures.refused mode in
+    (o.0, o.1, λ none told is. ap (λ z. to_z w32 (of_z w32 z)) (c.number.ensures.number ∙ ap (λ x. pos (number_of x)) (o.2 none told is)))
 
 pub returns-clause-mixed : goal.returns-clause-mixed
 returns-clause-mixed c mode =
     let o = c.bind_anywhere_into-outcome.ensures.mixed mode in
-    (o.0, o.1, λ none steady portable both. ap (λ z. to_z w32 (of_z w32 z)) (c.number.ensures.number ∙ ap (λ x. pos (number_of x)) (o.2 none steady portable both)))
+    (o.0, o.1, λ none steady both. ap (λ z. to_z w32 (of_z w32 z)) (c.number.ensures.number ∙ ap (λ x. pos (number_of x)) (o.2 none steady both)))
