@@ -563,6 +563,9 @@ static void append_of_numbers(line *to, int32_t number, const mysql_params_repor
     case MYSQL_PARAMS_UNSTEADY:
         append_text(to, "Backslash or byte that is not ASCII at byte %zu of the query", report->position);
         return;
+    case MYSQL_PARAMS_BACKSLASH:
+        append_text(to, "Backslash in a string at byte %zu of the query", report->position);
+        return;
     default:
         append_text(to, "Unknown number %ld", (long)number);
     }

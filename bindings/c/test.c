@@ -100,8 +100,8 @@ typedef struct outcome {
     size_t room_len;
 } outcome;
 
-/* The call to try: of names, of binding values or fragments in a mode, or of binding for any server. */
-static enum { NAMES, BIND, BIND_FRAGMENTS, BIND_ANYWHERE } tried;
+/* The call to try: of names, of binding values or fragments in a mode, or of binding for any server or both modes. */
+static enum { NAMES, BIND, BIND_FRAGMENTS, BIND_ANYWHERE, BIND_IN_BOTH_MODES } tried;
 
 /* How many allocations of a call succeed: all of them. */
 enum { ALL = -1 };
@@ -123,6 +123,9 @@ static outcome call(const test_case *it, size_t room_len, long allocations)
         is.number = mysql_params_names(query, it->query.len, mode, is.room, room_len, &is.report);
     else if (tried == BIND_ANYWHERE)
         is.number = mysql_params_bind_anywhere(query, it->query.len, form, it->form.len, is.room, room_len, &is.report);
+    else if (tried == BIND_IN_BOTH_MODES)
+        is.number = mysql_params_bind_in_both_modes(query, it->query.len, form, it->form.len, is.room, room_len,
+                                                    &is.report);
     else if (tried == BIND_FRAGMENTS)
         is.number = mysql_params_bind_fragments(query, it->query.len, form, it->form.len, mode, is.room, room_len,
                                                 &is.report);
@@ -196,6 +199,8 @@ static void table_of_steady_binding(void)
 {
     tried = BIND_ANYWHERE;
     each_case(folder, "anywhere.txt", try_rooms);
+    tried = BIND_IN_BOTH_MODES;
+    each_case(folder, "both_modes.txt", try_rooms);
 }
 
 static void flat_forms(void)
@@ -818,6 +823,8 @@ static void out_of_memory(void)
     each_case(folder, "fragments.txt", try_without_memory);
     tried = BIND_ANYWHERE;
     each_case(folder, "anywhere.txt", try_without_memory);
+    tried = BIND_IN_BOTH_MODES;
+    each_case(folder, "both_modes.txt", try_without_memory);
     tried = NAMES;
     each_case(folder, "names.txt", try_without_memory);
     /* No text is written without any memory. */

@@ -41,7 +41,7 @@ def literal(byte):
 def library_of(suffices: bool, *more: str) -> mock.Mock:
     """Return a library with the functions of the archive and more, on a processor that suffices or doesn't."""
     names = ("names", "bind", "bind_anywhere", "bind_rows", "first_unportable", "first_unportable_in_client")
-    names += ("bind_fragments", "processor_suffices")
+    names += ("bind_fragments", "bind_in_both_modes", "processor_suffices")
     library = mock.Mock(spec=[*(f"mysql_params_{name}" for name in names), *more])
     library.mysql_params_processor_suffices.return_value = suffices
     return library
@@ -88,6 +88,13 @@ class Test(unittest.TestCase):
                 self.expect(case, lambda: bind_form_anywhere(case.query, case.form))
             else:
                 self.expect(case, lambda: bind_anywhere(case.query, case.given()))
+
+    def test_table_of_both_modes(self):
+        for case in cases("both_modes.txt"):
+            if case.form:
+                self.expect(case, lambda: mysql_params.bind_form_in_both_modes(case.query, case.form))
+            else:
+                self.expect(case, lambda: mysql_params.bind_in_both_modes(case.query, case.given()))
 
     def test_flat_forms(self):
         for case in cases("forms.txt"):

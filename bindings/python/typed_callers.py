@@ -11,7 +11,7 @@ from typing import Any, Optional, Union
 
 import mysql_params
 from mysql_params import Identifier, Keyword, Params, Value
-from mysql_params import bind, bind_anywhere, bind_form, bind_rows, first_unportable, names
+from mysql_params import bind, bind_anywhere, bind_form, bind_in_both_modes, bind_rows, first_unportable, names
 
 QUERY = "SELECT * FROM t WHERE id = :id AND name = :name"
 
@@ -57,6 +57,7 @@ def by_position(ident: int, name: str, given: Params) -> bytes:
     bind("?", range(1))
     bind(b"?", given)
     bind_anywhere("?", given)
+    bind_in_both_modes("?", given)
     return bind_form("?", b"\x00\x06\x00")
 
 

@@ -31,6 +31,7 @@ from ._many import execute_rows, executemany
 from ._sending import PacketError, SessionError, ask_again, exec_driver_sql, execute
 from ._values import decimal_text, register
 from .errors import (
+    BackslashError,
     Error,
     Fault,
     FloatError,
@@ -56,6 +57,7 @@ from .portable import Construct, Unportable
 __version__ = "0.1.0"
 
 __all__ = [
+    "BackslashError",
     "Construct",
     "Error",
     "Fault",
@@ -91,6 +93,8 @@ __all__ = [
     "bind_anywhere",
     "bind_form",
     "bind_form_anywhere",
+    "bind_form_in_both_modes",
+    "bind_in_both_modes",
     "bind_rows",
     "decimal_text",
     "exec_driver_sql",
@@ -256,6 +260,28 @@ def bind_form_anywhere(query: Union[str, bytes], form: bytes) -> bytes:
     """Bind parameters that stand in their flat form already, as for bind_form, to a text as of bind_anywhere."""
     query, form = _form.bytes_of(query), _form.copy(form)
     return _archive.whole_answer(query, form, _archive.ANYWHERE, _guess(query, form))
+
+
+def bind_in_both_modes(
+    query: Union[str, bytes], params: Params = None, *, zone: Optional[datetime.tzinfo] = None
+) -> bytes:
+    """Return the text of bind_anywhere for a query that may have bytes from 128 on: no sql_mode reads it otherwise.
+
+    It is a text for MySQL and MariaDB. The connection's character set has to be that of the query's bytes, utf8mb4 for a
+    str. No string of the query may hold a backslash, nor a text in ``"``; and the query has to be portable.
+
+    It raises what bind_anywhere raises, with BackslashError in place of UnsteadyError.
+
+    >>> bind_in_both_modes("SELECT * FROM b\u00fccher WHERE t = ?", ["\u00e9"]).decode()
+    'SELECT * FROM b\xfccher WHERE t = _utf8mb4 0xC3A9'
+    """
+    return bind_form_in_both_modes(query, _form.form_of(params, zone))
+
+
+def bind_form_in_both_modes(query: Union[str, bytes], form: bytes) -> bytes:
+    """Bind parameters that stand in their flat form already, as for bind_form, to a text as of bind_in_both_modes."""
+    query, form = _form.bytes_of(query), _form.copy(form)
+    return _archive.whole_answer(query, form, _archive.BOTH_MODES, _guess(query, form))
 
 
 def _guess(query: bytes, form: bytes) -> int:

@@ -17,12 +17,14 @@ DONE, ROOM, PORTABLE = 0, 2, 0
 
 
 class Anywhere(enum.Enum):
-    """What stands in place of a mode to bind for any server."""
+    """What stands in place of a mode to bind for any server: over any character set, or over that of the query."""
 
     ANYWHERE = "anywhere"
+    BOTH_MODES = "in both modes"
 
 
 ANYWHERE = Anywhere.ANYWHERE
+BOTH_MODES = Anywhere.BOTH_MODES
 
 
 class Report(ctypes.Structure):
@@ -67,6 +69,8 @@ def load() -> ctypes.CDLL:
         library.mysql_params_bind_fragments.restype = ctypes.c_int32
         library.mysql_params_bind_anywhere.argtypes = (*string, *string, *answer)
         library.mysql_params_bind_anywhere.restype = ctypes.c_int32
+        library.mysql_params_bind_in_both_modes.argtypes = library.mysql_params_bind_anywhere.argtypes
+        library.mysql_params_bind_in_both_modes.restype = ctypes.c_int32
         rows = (ctypes.c_void_p, ctypes.c_size_t, ctypes.POINTER(Rows), ctypes.POINTER(Report))
         library.mysql_params_bind_rows.argtypes = (*string, *string, ctypes.c_bool, *rows)
         library.mysql_params_bind_rows.restype = ctypes.c_int32
@@ -111,7 +115,7 @@ def call(
 ) -> tuple[int, Report]:
     """Bind the form, or take the names if it is None, into the room. Return the number and the report.
 
-    The mode is True without backslash escapes, and ANYWHERE to bind for any server. The form may have more than values
+    The mode is True without backslash escapes, and ANYWHERE or BOTH_MODES to bind for any server. The form may have more than values
     if `fragments` says so. The room is longer than `room_len`, so that it has a first byte.
 
     A pointer is never null: that of a bytes object isn't, also of an empty one.
@@ -123,6 +127,8 @@ def call(
         number = LIBRARY.mysql_params_names(query, len(query), flag(mode), *answer)
     elif mode is ANYWHERE:
         number = LIBRARY.mysql_params_bind_anywhere(query, len(query), form, len(form), *answer)
+    elif mode is BOTH_MODES:
+        number = LIBRARY.mysql_params_bind_in_both_modes(query, len(query), form, len(form), *answer)
     else:
         bind = LIBRARY.mysql_params_bind_fragments if fragments else LIBRARY.mysql_params_bind
         number = bind(query, len(query), form, len(form), flag(mode), *answer)

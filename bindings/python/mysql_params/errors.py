@@ -248,10 +248,19 @@ class UnsteadyError(Error):
     _text = "Backslash or byte that is not ASCII at byte {position} of the query"
 
 
+class BackslashError(Error):
+    """A string of the query holds a backslash: `position` is the first. It is of bind_in_both_modes alone."""
+
+    number = 18
+    position: int
+    _fields: tuple[str, ...] = ("position",)
+    _text = "Backslash in a string at byte {position} of the query"
+
+
 class UnportableError(Error):
     """The query isn't portable: `construct` is the first, and begins at `position`.
 
-    It is of bind_anywhere, and of the calls that send by a driver.
+    It is of bind_anywhere and bind_in_both_modes, and of the calls that send by a driver.
     """
 
     number = 16
@@ -341,5 +350,6 @@ _ERRORS: dict[int, type[Error]] = {
         UnsteadyError,
         UnportableError,
         FragmentError,
+        BackslashError,
     )
 }

@@ -65,6 +65,17 @@ unsafe extern "C" {
         room_len: usize,
         report: *mut Report,
     ) -> i32;
+
+    fn mysql_params_bind_in_both_modes(
+        query: *const u8,
+        query_len: usize,
+        form: *const u8,
+        form_len: usize,
+        room: *mut u8,
+        room_len: usize,
+        report: *mut Report,
+    ) -> i32;
+
     fn mysql_params_bind_rows(
         query: *const u8,
         query_len: usize,
@@ -122,6 +133,8 @@ pub(crate) enum Call<'a> {
     BindFragments { query: &'a [u8], form: &'a [u8] },
     /// As `Bind`, for any server. It has no mode.
     BindAnywhere { query: &'a [u8], form: &'a [u8] },
+    /// As `Bind`, for both modes and any server.
+    BindInBothModes { query: &'a [u8], form: &'a [u8] },
 }
 
 impl Call<'_> {
@@ -179,6 +192,18 @@ impl Call<'_> {
                     &mut report,
                 )
             },
+            // SAFETY: the same.
+            Call::BindInBothModes { query, form } => unsafe {
+                mysql_params_bind_in_both_modes(
+                    query.as_ptr(),
+                    query.len(),
+                    form.as_ptr(),
+                    form.len(),
+                    room.as_mut_ptr(),
+                    room.len(),
+                    &mut report,
+                )
+            },
         };
         (number, report)
     }
@@ -189,7 +214,8 @@ impl Call<'_> {
             Call::Names { query }
             | Call::Bind { query, .. }
             | Call::BindFragments { query, .. }
-            | Call::BindAnywhere { query, .. } => query,
+            | Call::BindAnywhere { query, .. }
+            | Call::BindInBothModes { query, .. } => query,
         }
     }
 
@@ -199,6 +225,7 @@ impl Call<'_> {
             Call::Bind { form, .. }
             | Call::BindFragments { form, .. }
             | Call::BindAnywhere { form, .. }
+            | Call::BindInBothModes { form, .. }
                 if number == 7 =>
             {
                 form
@@ -297,6 +324,7 @@ impl Call<'_> {
                     name: None,
                 }
             }
+            18 => Error::Backslash { position },
             _ => return Err(Error::UnknownAnswer { number }),
         })
     }

@@ -104,13 +104,13 @@ pub enum Error {
         /// The name that stands in that place; none for a `?`.
         name: Option<String>,
     },
-    /// The query has a backslash or a byte from 128 on. This and the next are of
-    /// [`bind_anywhere`](crate::bind_anywhere) alone.
+    /// The query has a backslash or a byte from 128 on. It is of [`bind_anywhere`](crate::bind_anywhere) alone.
     Unsteady {
         /// The first such byte of the query.
         position: usize,
     },
-    /// The query isn't portable; told is the first construct.
+    /// The query isn't portable; told is the first construct. It is of [`bind_anywhere`](crate::bind_anywhere) and
+    /// [`bind_in_both_modes`](crate::bind_in_both_modes) alone.
     Unportable(Unportable),
     /// What is given for a place can't be written. It is of [`bind_fragments`](crate::bind_fragments) alone.
     Fault {
@@ -120,6 +120,11 @@ pub enum Error {
         fault: Fault,
         /// The name that stands in that place; none for a `?`.
         name: Option<String>,
+    },
+    /// A string of the query holds a backslash. It is of [`bind_in_both_modes`](crate::bind_in_both_modes) alone.
+    Backslash {
+        /// The first such byte of the query.
+        position: usize,
     },
     /// The archive answered what this crate doesn't know: it is not the archive that this crate was written for.
     UnknownAnswer {
@@ -183,6 +188,7 @@ impl Error {
             Error::Unsteady { .. } => 15,
             Error::Unportable(_) => 16,
             Error::Fault { .. } => 17,
+            Error::Backslash { .. } => 18,
             Error::UnknownAnswer { number } => *number,
         })
     }
@@ -285,6 +291,9 @@ impl fmt::Display for Error {
                     Some(name) => write!(f, ": the value of `:{name}`"),
                     None => Ok(()),
                 }
+            }
+            Error::Backslash { position } => {
+                write!(f, "Backslash in a string at byte {position} of the query")
             }
             Error::UnknownAnswer { number } => write!(f, "Unknown answer {number} of the archive"),
         }

@@ -263,6 +263,25 @@ pub fn bind_anywhere(query: &[u8], params: &Params<'_>) -> Result<Vec<u8>, Error
     bind_form_anywhere(query, &form::form_of(params)?)
 }
 
+/// As [`bind_anywhere`], of a query that may have bytes from 128 on: no `sql_mode` reads the text otherwise, on MySQL or
+/// MariaDB. The connection's character set has to be that of the query's bytes, utf8mb4 for UTF-8. No string of the query
+/// may hold a backslash, nor a text in `"`.
+///
+/// ```
+/// use mysql_params::{Params, bind_in_both_modes};
+///
+/// let text = bind_in_both_modes("SELECT * FROM bücher WHERE t = ?".as_bytes(), &Params::Positional(&["é".into()]))?;
+/// assert_eq!(text, "SELECT * FROM bücher WHERE t = _utf8mb4 0xC3A9".as_bytes());
+/// # Ok::<(), mysql_params::Error>(())
+/// ```
+///
+/// # Errors
+///
+/// Those of [`bind_anywhere`], with [`Error::Backslash`] in place of [`Error::Unsteady`].
+pub fn bind_in_both_modes(query: &[u8], params: &Params<'_>) -> Result<Vec<u8>, Error> {
+    bind_form_in_both_modes(query, &form::form_of(params)?)
+}
+
 /// As [`bind`], of a query that is a `str`: then the text is UTF-8 too, since a literal is, whatever its value holds.
 /// Bytes that aren't UTF-8 have a hexadecimal one.
 ///
@@ -332,6 +351,16 @@ pub fn bind_form_in(
 pub fn bind_form_anywhere(query: &[u8], form: &[u8]) -> Result<Vec<u8>, Error> {
     // The query is steady once its names are asked for, so it has the same in both modes.
     Call::BindAnywhere { query, form }.whole_answer(false, bound_guess(query, form))
+}
+
+/// As [`bind_in_both_modes`], of parameters that stand in their flat form already, as for [`bind_form`].
+///
+/// # Errors
+///
+/// Those of [`bind_form_anywhere`], with [`Error::Backslash`] in place of [`Error::Unsteady`].
+pub fn bind_form_in_both_modes(query: &[u8], form: &[u8]) -> Result<Vec<u8>, Error> {
+    // No string of the query holds a backslash once its names are asked for, so it has the same in both modes.
+    Call::BindInBothModes { query, form }.whole_answer(false, bound_guess(query, form))
 }
 
 /// The room of a first call that binds: a literal of bytes has at most twice their number, and quotes.

@@ -2,9 +2,9 @@
 use mysql_params::{
     Construct, Date, Error, Fault, Fragment, Fragments, Item, Names, Params, RowError, Texts, Time,
     Unportable, Value, bind, bind_anywhere, bind_form, bind_form_anywhere, bind_form_in,
-    bind_fragments, bind_fragments_in, bind_in, bind_rows, bind_rows_in, bind_str, bind_str_in,
-    first_unportable, first_unportable_in, first_unportable_in_client,
-    first_unportable_in_client_in, names, names_in,
+    bind_form_in_both_modes, bind_fragments, bind_fragments_in, bind_in, bind_in_both_modes,
+    bind_rows, bind_rows_in, bind_str, bind_str_in, first_unportable, first_unportable_in,
+    first_unportable_in_client, first_unportable_in_client_in, names, names_in,
 };
 use std::collections::HashMap;
 use std::path::Path;
@@ -213,7 +213,7 @@ fn cases(file: &str) -> Vec<Case> {
 }
 
 /// Names of the refusals in cases, in the order of their numbers from 3 on.
-const NUMBERS: [&str; 15] = [
+const NUMBERS: [&str; 16] = [
     "FORM_END",
     "FORM_LENGTH_LEAD",
     "FORM_TYPE",
@@ -229,6 +229,7 @@ const NUMBERS: [&str; 15] = [
     "UNSTEADY",
     "UNPORTABLE",
     "FAULT",
+    "BACKSLASH",
 ];
 
 /// The fault of a number in mysql_params.h, with its row and its item or name.
@@ -305,6 +306,7 @@ fn wanted_error(case: &Case) -> Error {
             name: fields.get("of").cloned(),
         },
         "UNSTEADY" => Error::Unsteady { position },
+        "BACKSLASH" => Error::Backslash { position },
         "UNPORTABLE" => Error::Unportable(Unportable {
             construct: CONSTRUCTS[usize::from(byte) - 1].1,
             position,
@@ -534,6 +536,17 @@ fn table_of_steady_binding() {
         let result = match case.form.is_empty() {
             true => with_params(&case, |params| bind_anywhere(&case.query, params)),
             false => bind_form_anywhere(&case.query, &case.form),
+        };
+        expect(&case, result);
+    }
+}
+
+#[test]
+fn table_of_both_modes() {
+    for case in cases("both_modes.txt") {
+        let result = match case.form.is_empty() {
+            true => with_params(&case, |params| bind_in_both_modes(&case.query, params)),
+            false => bind_form_in_both_modes(&case.query, &case.form),
         };
         expect(&case, result);
     }
