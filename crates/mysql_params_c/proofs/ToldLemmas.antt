@@ -1,11 +1,32 @@
 -- What the number of an outcome says, as C has it.
-use Rattle.std.proofs.Common.{◌≡◌, ℕ, pos, of_z, to_z, w32}
+use Rattle.std.proofs.Common.{◌≡◌, ℕ, pos, of_z, refl, to_z, w32}
 use Rattle.mysql_flat_params.specs.Outcomes.{IfDone, number_of, report_of}
 use Rattle.mysql_flat_params.specs.declared.outcome.Outcome.{Outcome}
-use Rattle.mysql_flat_params.specs.declared.outcome.Outcome.TheVariants.{Done}
+use Rattle.mysql_flat_params.specs.declared.outcome.Outcome.TheVariants.{Done, OutOfMemory, Room, FormEnd, FormLengthLead, FormType, FormMixed, FormRepeated, Mixed, Missing, NamedForPositional, PositionalForNamed, MarkCount, NotAlone, Float, Unsteady, Unportable, Backslash}
 use Rattle.mysql_flat_fragments.specs.FragmentsOutcomes as fragments
 use Rattle.mysql_flat_fragments.specs.declared.outcome.FragmentsOutcome.{FragmentsOutcome}
 use Rattle.mysql_flat_fragments.specs.declared.outcome.FragmentsOutcome.TheVariants.{AsValues, Fault}
+
+-- the number of an outcome stands in 32 bits as it is
+pub number_kept : (outcome : Outcome) → to_z w32 (of_z w32 (pos (number_of outcome))) ≡ pos (number_of outcome)
+number_kept (Done len) = refl
+number_kept OutOfMemory = refl
+number_kept (Room len) = refl
+number_kept (FormEnd place position) = refl
+number_kept (FormLengthLead place position lead) = refl
+number_kept (FormType place position number) = refl
+number_kept (FormMixed place position) = refl
+number_kept (FormRepeated place position len) = refl
+number_kept Mixed = refl
+number_kept (Missing place position len) = refl
+number_kept NamedForPositional = refl
+number_kept PositionalForNamed = refl
+number_kept (MarkCount marks values) = refl
+number_kept (NotAlone place position) = refl
+number_kept (Float place) = refl
+number_kept (Unsteady position) = refl
+number_kept (Unportable number position) = refl
+number_kept (Backslash position) = refl
 
 -- the number 0 is that of an answer
 pub written_told : (outcome : Outcome) (P : ℕ → Type 0) → to_z w32 (of_z w32 (pos (number_of outcome))) ≡ pos 0 →

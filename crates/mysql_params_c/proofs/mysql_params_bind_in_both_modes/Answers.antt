@@ -1,7 +1,7 @@
 use Rattle.std.proofs.Common.{ap, of_z, pos, subst, sym, take, to_z, w32, ◌∙◌}
 use Rattle.mysql_flat_params.specs.BothModesIntoRoom.{IsBothModesForm}
 use Rattle.mysql_flat_params.specs.Outcomes.{number_of}
-use Rattle.mysql_params_c.proofs.ToldLemmas.{written_told}
+use Rattle.mysql_params_c.proofs.ToldLemmas.{number_kept, written_told}
 use Rattle.mysql_params_c.proofs.mysql_params_bind_in_both_modes.Goals as goal
 
 pub returns-clause-written : goal.returns-clause-written
@@ -13,7 +13,8 @@ returns-clause-written c = λ zero.
 pub returns-clause-refused : goal.returns-clause-refused
 returns-clause-refused c mode =
     let o = c.bind_in_both_modes_into-outcome.ensures.refused mode in
-    (o.0, o.1, λ none told is. ap (λ z. to_z w32 (of_z w32 z)) (c.number.ensures.number ∙ ap (λ x. pos (number_of x)) (o.2 none told is)))
+    (o.0, o.1, λ none told is.
+    ap (λ z. to_z w32 (of_z w32 z)) (c.number.ensures.number ∙ ap (λ x. pos (number_of x)) (o.2 none told is)) ∙ number_kept told)
 
 pub returns-clause-mixed : goal.returns-clause-mixed
 returns-clause-mixed c mode =
