@@ -750,7 +750,8 @@ static void other_messages(void)
         {MYSQL_PARAMS_MISSING, "Missing named parameter `` for statement"},
         {MYSQL_PARAMS_UNPORTABLE, "Not portable at byte 0 of the query: unknown construct"},
         {MYSQL_PARAMS_FAULT, "Fragment at place 0 can't be written: unknown fault"},
-        {MYSQL_PARAMS_FAULT + 1, "Unknown number 18"},
+        {MYSQL_PARAMS_BACKSLASH, "Backslash in a string at byte 0 of the query"},
+        {MYSQL_PARAMS_BACKSLASH + 1, "Unknown number 19"},
         {-1, "Unknown number -1"},
     };
     mysql_params_report report = {0};

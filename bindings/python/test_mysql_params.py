@@ -596,7 +596,7 @@ class Test(unittest.TestCase):
         self.assertIsInstance(error, mysql_params.OutOfMemoryError)
         self.assertIsInstance(error, MemoryError)
         self.assertEqual((str(error), error.args), ("out of memory", ()))
-        for number in (-1, 0, 2, 18):
+        for number in (-1, 0, 2, 19):
             self.assertIs(type(_archive.error(number, report, b"", b"")), RuntimeError)
         for number in (16, 17):  # a construct of no number, and a fault of none
             with self.assertRaises(RuntimeError):
@@ -628,7 +628,7 @@ class Test(unittest.TestCase):
         self.assertEqual(wrong, [])
 
     def test_examples_of_the_documentation(self):
-        self.assertEqual(doctest.testmod(mysql_params), (0, 7))
+        self.assertEqual(doctest.testmod(mysql_params), (0, 8))
 
 
 class Result(unittest.TestResult):
