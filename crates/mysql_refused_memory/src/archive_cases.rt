@@ -5,7 +5,8 @@ use crate::inputs::{Given, Plain};
 use crate::outcome::Memory::{Asked, Never};
 use crate::outcome::{Case, Memory, Outcome, cases, judged, row};
 use mysql_flat_params::{
-    Outcome as Told, bind_anywhere_into, bind_into, names_into, params_of_form,
+    Outcome as Told, bind_anywhere_into, bind_in_both_modes_into, bind_into, names_into,
+    params_of_form,
 };
 use std::alloc::Global;
 
@@ -16,6 +17,9 @@ pub(crate) fn case(alloc: Global, name: &str) -> Option<Case> {
     }
     if let Some(row) = row(ANYWHERE, name) {
         return Some(Ok(bound_anywhere(alloc, row)));
+    }
+    if let Some(row) = row(IN_BOTH_MODES, name) {
+        return Some(Ok(bound_in_both_modes(alloc, row)));
     }
     if let Some(row) = row(NAMES, name) {
         return Some(Ok(names_written(alloc, row)));
@@ -142,7 +146,8 @@ fn bound(alloc: Global, (query, form, wanted, memory): BoundRow) -> Outcome {
     written(told, &room, wanted).with(memory)
 }
 
-/// A query, a form, the answer or refusal for any server, and whether the call asks for memory.
+/// A query, a form, the answer or refusal for any server or both modes, and whether the call asks
+/// for memory.
 type AnywhereRow = (&'static [u8], &'static [u8], Wanted, Memory);
 
 const ANYWHERE: &[(&str, AnywhereRow)] = cases! {
@@ -166,5 +171,29 @@ const ANYWHERE: &[(&str, AnywhereRow)] = cases! {
 fn bound_anywhere(alloc: Global, (query, form, wanted, memory): AnywhereRow) -> Outcome {
     let mut room = *ROOM;
     let told = bind_anywhere_into(alloc, query, form, &mut room);
+    written(told, &room, wanted).with(memory)
+}
+
+const IN_BOTH_MODES: &[(&str, AnywhereRow)] = cases! {
+    "bind_in_both_modes_into of a text" =>
+        b"\xFF= ?", b"\x00\xFC\x00\x04it's", Ok(b"\xFF= _utf8mb4'it''s'"), Asked;
+    "bind_in_both_modes_into of a room that is too short" =>
+        LONG_QUERY, NUMBER_OF_A, Err(Told::Room { len: 41 }), Asked;
+    "bind_in_both_modes_into of a cut form" =>
+        b":a ?", b"\x01a\x01\x00", Err(Told::FormEnd { place: 0, position: 0, }), Never;
+    "bind_in_both_modes_into of a backslash in a string" =>
+        b"'\\':a ?", b"", Err(Told::Backslash { position: 1 }), Never;
+    "bind_in_both_modes_into of a query that is not portable" =>
+        b"[:a ?", b"", Err(Told::Unportable { number: 6, position: 0, }), Never;
+    "bind_in_both_modes_into of names and marks" => b":a ?", b"", Err(Told::Mixed), Never;
+    "bind_in_both_modes_into of parameters for a backslash in a string" =>
+        b"'\\':a", NUMBER_OF_A, Err(Told::Backslash { position: 1 }), Asked;
+    "bind_in_both_modes_into of a missing name" =>
+        b":b", NUMBER_OF_A, Err(Told::Missing { place: 0, position: 1, len: 1, }), Asked;
+};
+
+fn bound_in_both_modes(alloc: Global, (query, form, wanted, memory): AnywhereRow) -> Outcome {
+    let mut room = *ROOM;
+    let told = bind_in_both_modes_into(alloc, query, form, &mut room);
     written(told, &room, wanted).with(memory)
 }
