@@ -248,6 +248,9 @@ pub fn repeat(side: &str, call: &str, input: &str) -> ExitCode {
         ("archive", "bind", _, Some(binding)) => {
             Box::new(move || behind_calls(archive::bind, binding, &room))
         }
+        ("archive", "bind_anywhere", _, Some(binding)) => {
+            Box::new(move || behind_calls(archive::bind_anywhere, binding, &room))
+        }
         ("table", "bind", _, Some(binding)) => {
             Box::new(move || black_box(plain(TABLE, binding)).len())
         }
@@ -257,7 +260,7 @@ pub fn repeat(side: &str, call: &str, input: &str) -> ExitCode {
         _ => {
             eprintln!("Sides: archive, table, wide");
             eprintln!("Inputs of names: {}", list(queries.iter().map(|query| query.0)));
-            eprintln!("Inputs of bind: {}", list(bindings.iter().map(|binding| binding.name)));
+            eprintln!("Inputs of bind and bind_anywhere: {}", list(bindings.iter().map(|binding| binding.name)));
             return ExitCode::from(2);
         }
     };
