@@ -5,3 +5,4 @@ pub mod SteadyTextErrors
 pub mod FirstBackslash
 pub mod BothModesText
 pub mod BothModesErrors
+pub mod Clear

@@ -8,14 +8,17 @@
 
 mod both_modes;
 mod both_modes_error;
+mod clear;
 pub mod first_backslash;
 pub mod laws;
+mod refusal;
 mod steady_form;
 mod steady_text;
 mod steady_text_error;
 
 pub use both_modes::bind_text_in_both_modes;
 pub use both_modes_error::BothModesError;
+pub use refusal::query_refusal;
 pub use steady_form::SteadyForm;
 pub use steady_text::{
     bind_borrowed_anywhere, bind_steady, bind_text_anywhere, bind_text_in_any_mode,

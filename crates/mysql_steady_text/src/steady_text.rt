@@ -11,10 +11,10 @@ ghost use Rattle.mysql_steady_text.specs.SteadyAgain.{IsSteadyBoundAgain, IsStea
 ghost use Rattle.mysql_steady_text.specs.SteadyText.{IsAnywhereText, IsSteadyText};
 ghost use Rattle.mysql_steady_text.specs.SteadyTextErrors.{IsBindRefusal, IsSteadyRefusal};
 
+use crate::refusal::query_refusal;
 use crate::steady_form::SteadyForm;
 use crate::steady_text_error::SteadyTextError;
 use mysql_binding::{BindError, bind_borrowed_as};
-use mysql_named_params::portable::first_unportable;
 use mysql_named_params::steady::first_unsteady;
 use mysql_params_core::params::{BorrowedParams, Params};
 use std::alloc::Global;
@@ -116,13 +116,10 @@ pub fn bind_borrowed_anywhere(
         first_unportable ts ≡ None → HasName ts × HasMark ts →
         IsErrOf result (SteadyTextError.Bind BindError.Mixed)) }
 {
-    if let Some(at) = first_unsteady(query) {
-        return Err(SteadyTextError::Unsteady { at });
+    match query_refusal(query) {
+        Some(error) => Err(error),
+        None => bind_steady(alloc, query, params),
     }
-    if let Some(found) = first_unportable(query, false) {
-        return Err(SteadyTextError::Unportable(found));
-    }
-    bind_steady(alloc, query, params)
 }
 
 /// The text of a steady query, which has the same tokens in both modes: the body of

@@ -1,0 +1,227 @@
+-- A clear query is steady, and no construct begins in it, at whatever byte a token begins.
+use Rattle.std.specs.Prelude.{Bool, cond, not}
+use Rattle.std.proofs.Common.{◌≡◌, ◌==◌, ◌&&◌, ◌||◌, ◌-◌, ℕ, true, false, List, [], ◌∷◌, ◌++◌, length, take, Option, Some, None, refl, sym, ap, ◌∙◌, subst, arith, true≢false, take_at}
+use Rattle.std.specs.Char.{is_ascii_digit}
+use Rattle.std.specs.List.{list_all}
+use Rattle.std.specs.Str.{byte}
+use Rattle.std.proofs.lemmas.Bool.{and_parts, and_from, or_parts, not-true, not-false, eqb-true}
+use Rattle.mysql_named_params.specs.Bytes.{asterisk, backquote, bracket, colon, dash, dollar, double_quote, hash, plus, point, question_mark, slash, is_start_byte, begins}
+use Rattle.mysql_named_params.specs.FirstUnportable.{construct_at, special_construct, first_unportable}
+use Rattle.mysql_named_params.specs.FrontConstruct.{block_construct, front_construct}
+use Rattle.mysql_named_params.specs.Portable.{stands_inside, may_open_line, begins_exponent, AreReadAlikeBefore, JoinNoNumberBefore, IsPortable}
+use Rattle.mysql_named_params.specs.Quiet.{is_quiet}
+use Rattle.mysql_named_params.specs.Server.{keeps_dashes, begins_place, begins_special, begins_tag, begins_dashes, begins_exponent_dashes, begins_fraction, is_tag_byte}
+use Rattle.mysql_named_params.specs.Steady.{is_steady}
+use Rattle.mysql_named_params.specs.Tokens.{Token, bytes_of, text_of, IsToken, IsTokens, AreTokensBefore, QuotedString, QuotedIdentifier, HashComment, DashComment, BlockComment, Name, Mark, Plain}
+use Rattle.mysql_named_params.specs.declared.portable.Construct.{Construct}
+use Rattle.mysql_named_params.specs.declared.portable.Construct.TheVariants as construct
+use Rattle.mysql_named_params.proofs.FrontLemmas.{passes, unportable_at, front_is}
+use Rattle.mysql_named_params.proofs.PortableLemmas.{second_false, false_if}
+use Rattle.mysql_named_params.proofs.SharpLemmas.{string_ends}
+use Rattle.mysql_named_params.proofs.SteadyLemmas.{steady_other}
+use Rattle.mysql_named_params.proofs.UnportableLemmas.{AllPass, portable_has_none}
+use Rattle.mysql_steady_text.specs.Clear.{is_sign, may_begin_tag, begins_special_block, may_take_dashes, may_take_place, is_in_doubt, is_clear_after, is_clear}
+
+-- ---- tests
+
+neither : (a b : Bool) → a ≡ false → b ≡ false → (a || b) ≡ false
+neither a b p q = rw (p, q) refl
+
+pub and_false : (a : Bool) → (a && false) ≡ false
+and_false true = refl
+and_false false = refl
+
+or_true : (a : Bool) → (a || true) ≡ true
+or_true true = refl
+or_true false = refl
+
+third_true : (a b c : Bool) → c ≡ true → (a || (b || c)) ≡ true
+third_true true b c h = refl
+third_true false true c h = refl
+third_true false false c h = h
+
+first_two : (a b c : Bool) → (a || b) ≡ true → (a || (b || c)) ≡ true
+first_two true b c h = refl
+first_two false true c h = refl
+first_two false false c h = absurd (true≢false (sym h))
+
+and_shorter : (a b c : Bool) → (a && b) ≡ false → (a && (b && c)) ≡ false
+and_shorter true true c h = absurd (true≢false h)
+and_shorter true false c h = refl
+and_shorter false b c h = refl
+
+-- ---- a byte that isn't in doubt
+
+pub record NoDoubt (before b : ℕ) (rest : List ℕ) : Type 0 where
+  pub steady : is_steady b ≡ true
+  pub no_bracket : (b == bracket) ≡ false
+  pub no_tag : (b == dollar && begins may_begin_tag rest) ≡ false
+  pub no_block : (b == slash && begins_special_block rest) ≡ false
+  pub no_dashes : (b == dash && (may_open_line rest || (may_take_dashes before && begins (λ c. c == dash) rest))) ≡ false
+  pub no_place : (may_take_place before && begins_place (b ∷ rest)) ≡ false
+
+pub no_doubt : (before b : ℕ) (rest : List ℕ) → is_in_doubt before b rest ≡ false → NoDoubt before b rest
+no_doubt before b rest h =
+    let p1 = or_parts (not (is_steady b)) _ h in
+    let p2 = or_parts (b == bracket) _ p1.1 in
+    let p3 = or_parts (b == dollar && begins may_begin_tag rest) _ p2.1 in
+    let p4 = or_parts (b == slash && begins_special_block rest) _ p3.1 in
+    let p5 = or_parts (b == dash && (may_open_line rest || (may_take_dashes before && begins (λ c. c == dash) rest))) _ p4.1 in
+    record { steady = not-false _ p1.0; no_bracket = p2.0; no_tag = p3.0; no_block = p4.0; no_dashes = p5.0; no_place = p5.1 }
+
+pub clear_step : (before b : ℕ) (bs : List ℕ) → is_clear_after before (b ∷ bs) ≡ true →
+    NoDoubt before b bs × (is_clear_after b bs ≡ true)
+clear_step before b bs h =
+    let p = and_parts (not (is_in_doubt before b bs)) (is_clear_after b bs) h in
+    (no_doubt before b bs (not-true _ p.0), p.1)
+
+-- what follows in a clear text is clear after some byte
+clear_rest : (xs ys : List ℕ) (before : ℕ) → is_clear_after before (xs ++ ys) ≡ true →
+    (last : ℕ) × (is_clear_after last ys ≡ true)
+clear_rest [] ys before h = (before, h)
+clear_rest (x ∷ xs) ys before h = clear_rest xs ys x ((clear_step before x (xs ++ ys) h).1)
+
+clear_is_steady : (before : ℕ) (bs : List ℕ) → is_clear_after before bs ≡ true → list_all is_steady bs ≡ true
+clear_is_steady before [] h = refl
+clear_is_steady before (b ∷ bs) h =
+    let s = clear_step before b bs h in
+    and_from _ _ s.0.steady (clear_is_steady b bs s.1)
+
+-- ---- what begins in it
+
+no_tag_front : (bs : List ℕ) → begins may_begin_tag bs ≡ false → begins_tag bs ≡ false
+no_tag_front [] h = refl
+no_tag_front (b ∷ bs) h =
+    let p1 = or_parts (b == dollar) _ h in
+    let p2 = or_parts (b == question_mark) _ p1.1 in
+    let p3 = or_parts (b == colon) (is_tag_byte b) p2.1 in
+    neither _ _ p1.0 (neither _ _ (neither _ _ p2.0 (ap (λ x. x && begins is_start_byte bs) p3.0)) (ap (λ x. x && begins_tag bs) p3.1))
+
+no_place_after : (before : ℕ) (bs : List ℕ) → may_take_place before ≡ true → is_clear_after before bs ≡ true →
+    begins_place bs ≡ false
+no_place_after before [] t h = refl
+no_place_after before (b ∷ bs) t h = second_false _ _ ((clear_step before b bs h).0.no_place) t
+
+no_dashes_after : (before : ℕ) (bs : List ℕ) → may_take_dashes before ≡ true → is_clear_after before bs ≡ true →
+    begins_dashes bs ≡ false
+no_dashes_after before [] t h = refl
+no_dashes_after before (a ∷ []) t h = refl
+no_dashes_after before (a ∷ b ∷ []) t h = refl
+no_dashes_after before (a ∷ b ∷ gap ∷ bs) t h =
+    let n = (clear_step before a (b ∷ gap ∷ bs) h).0 in
+    false_if (a == dash) (b == dash && not (keeps_dashes gap)) (λ e.
+    let both = or_parts (may_open_line (b ∷ gap ∷ bs)) (may_take_dashes before && b == dash) (second_false _ _ n.no_dashes e) in
+    ap (λ x. x && not (keeps_dashes gap)) (second_false (may_take_dashes before) (b == dash) both.1 t))
+
+no_exponent_dashes : (before : ℕ) (bs : List ℕ) → may_take_dashes before ≡ true → is_clear_after before bs ≡ true →
+    begins_exponent_dashes bs ≡ false
+no_exponent_dashes before [] t h = refl
+no_exponent_dashes before (a ∷ bs) t h =
+    neither _ _ (no_dashes_after before (a ∷ bs) t h)
+    (false_if (a == plus || a == dash) (begins_dashes bs) (λ sign. no_dashes_after a bs (third_true _ _ _ sign) ((clear_step before a bs h).1)))
+
+no_fraction : (before : ℕ) (bs : List ℕ) → (is_ascii_digit before || before == point) ≡ true →
+    is_clear_after before bs ≡ true → begins_fraction bs ≡ false
+no_fraction before [] t h = refl
+no_fraction before (b ∷ bs) t h =
+    let more = (clear_step before b bs h).1 in
+    neither _ _ (no_place_after before (b ∷ bs) (first_two (is_ascii_digit before) (before == point) (is_sign before) t) h)
+    (neither _ _ (false_if (is_ascii_digit b) (begins_fraction bs) (λ d. no_fraction b bs (ap (λ x. x || b == point) d) more))
+    (false_if (b == byte "e" || b == byte "E") (begins_exponent_dashes bs) (λ e. no_exponent_dashes b bs (first_two (b == byte "e") (b == byte "E") (is_sign b) e) more)))
+
+no_exponent : (before : ℕ) (bs : List ℕ) → is_clear_after before bs ≡ true → begins_exponent bs ≡ false
+no_exponent before [] h = refl
+no_exponent before (e ∷ []) h = refl
+no_exponent before (e ∷ sign ∷ bs) h =
+    let more = (clear_step e sign bs ((clear_step before e (sign ∷ bs) h).1)).1 in
+    false_if (e == byte "e" || e == byte "E") _ (λ x.
+    false_if (sign == plus || sign == dash) (begins_place bs) (λ s. no_place_after sign bs (third_true _ _ _ s) more))
+
+no_block_front : (bs : List ℕ) → begins_special_block bs ≡ false → block_construct bs ≡ None
+no_block_front [] h = refl
+no_block_front (b ∷ bs) h =
+    ap (λ x. cond x (Some (special_construct bs)) None) (and_shorter (b == asterisk) (begins_special bs) (not (is_quiet bs)) h)
+
+none_of : (a s d k t f e : Bool) (block : Option Construct) → a ≡ false → (s ≡ true → block ≡ None) → d ≡ false →
+    k ≡ false → t ≡ false → f ≡ false → e ≡ false →
+    cond a (Some construct.EscapedQuote) (cond s block (cond d (Some construct.Dashes)
+    (cond k (Some construct.Bracket) (cond t (Some construct.DollarQuote)
+    (cond f (Some construct.DashesAfterExponent) (cond e (Some construct.PlaceAfterExponent) None)))))) ≡ None
+none_of a true d k t f e block p slash q1 q2 q3 q4 q5 = rw p (slash refl)
+none_of a false d k t f e block p slash q1 q2 q3 q4 q5 = rw (p, q1, q2, q3, q4, q5) refl
+
+-- no construct begins with the first byte, if no quote stands inside of a text in `"`
+none_at_front : (before b : ℕ) (bs : List ℕ) (len : ℕ) → is_clear_after before (b ∷ bs) ≡ true →
+    (b == double_quote && stands_inside double_quote (take (len - 1) bs)) ≡ false →
+    front_construct (b ∷ bs) len ≡ None
+none_at_front before b bs len h q =
+    let s = clear_step before b bs h in
+    let n = s.0 in
+    none_of _ (b == slash) (b == dash && may_open_line bs) (b == bracket) (b == dollar && begins_tag bs)
+    (b == point && begins_fraction bs) ((is_ascii_digit b || b == point) && begins_exponent bs) (block_construct bs)
+    q
+    (λ e. no_block_front bs (second_false _ _ n.no_block e))
+    (false_if _ _ (λ e. (or_parts (may_open_line bs) _ (second_false _ _ n.no_dashes e)).0))
+    n.no_bracket
+    (false_if _ _ (λ e. no_tag_front bs (second_false _ _ n.no_tag e)))
+    (false_if _ _ (λ e. no_fraction b bs (ap (λ x. is_ascii_digit b || x) e ∙ or_true (is_ascii_digit b)) s.1))
+    (false_if _ _ (λ e. no_exponent b bs s.1))
+
+-- ---- tokens
+
+none_passes : (t : Token) (rest : List ℕ) → unportable_at t rest ≡ None → passes t rest ≡ true
+none_passes t rest = go (passes t rest)
+  where
+    go : (p : Bool) → cond p None (Some (construct_at t rest)) ≡ None → p ≡ true
+    go true e = refl
+    go false e = cc
+
+no_quote_inside : (q : ℕ) (tail rest : List ℕ) (n : ℕ) → n ≡ length tail → stands_inside q tail ≡ false →
+    (q == double_quote && stands_inside double_quote (take n (tail ++ rest))) ≡ false
+no_quote_inside q tail rest n l h =
+    false_if _ _ (λ e. ap (stands_inside double_quote) (take_at tail rest n (sym l)) ∙ subst (λ x. stands_inside x tail ≡ false) (eqb-true q double_quote e) h)
+
+token_passes : (t : Token) (rest : List ℕ) (before : ℕ) → IsToken true t rest →
+    is_clear_after before (bytes_of t ++ rest) ≡ true → passes t rest ≡ true
+token_passes t rest before h c = none_passes t rest (sym (front_is true t rest h) ∙ go t h c)
+  where
+    go : (t : Token) → IsToken true t rest → is_clear_after before (bytes_of t ++ rest) ≡ true →
+        front_construct (bytes_of t ++ rest) (length (bytes_of t)) ≡ None
+    go (QuotedString quote tail) h c =
+        none_at_front before quote (tail ++ rest) (length (quote ∷ tail)) c (no_quote_inside quote tail rest (length (quote ∷ tail) - 1) (omega arith) (string_ends quote tail rest h.1))
+    go (QuotedIdentifier tail) h c = none_at_front before backquote (tail ++ rest) (length (bytes_of (QuotedIdentifier tail))) c refl
+    go (HashComment tail) h c = none_at_front before hash (tail ++ rest) (length (bytes_of (HashComment tail))) c refl
+    go (DashComment gap tail) h c = none_at_front before dash (dash ∷ gap ∷ (tail ++ rest)) (length (bytes_of (DashComment gap tail))) c refl
+    go (BlockComment tail) h c = none_at_front before slash (asterisk ∷ (tail ++ rest)) (length (bytes_of (BlockComment tail))) c refl
+    go (Name name) h c = none_at_front before colon (name ++ rest) (length (bytes_of (Name name))) c refl
+    go Mark h c = none_at_front before question_mark rest (length (bytes_of Mark)) c refl
+    go (Plain b) h c = none_at_front before b rest 1 c (and_false (b == double_quote))
+
+all_pass : (ts : List Token) (before : ℕ) → AreTokensBefore true [] ts →
+    is_clear_after before (text_of ts) ≡ true → AllPass [] ts
+all_pass [] before h c = tt
+all_pass (t ∷ ts) before h c =
+    let more = clear_rest (bytes_of t) (text_of ts) before c in
+    (token_passes t (text_of ts) before h.0 c, all_pass ts more.0 h.1 more.1)
+
+-- ---- queries
+
+pass_parts : (ts : List Token) → AllPass [] ts → AreReadAlikeBefore [] ts × JoinNoNumberBefore [] ts
+pass_parts [] h = (tt, tt)
+pass_parts (t ∷ ts) h =
+    let p = and_parts _ _ h.0 in
+    let more = pass_parts ts h.1 in
+    ((p.0, more.0), (not-true _ p.1, more.1))
+
+portable_if_all_pass : (ts : List Token) → AllPass [] ts → IsPortable ts
+portable_if_all_pass ts h = let p = pass_parts ts h in record { alike = p.0; apart = p.1 }
+
+pub clear_query_is_steady : (query : List ℕ) → is_clear query ≡ true → list_all is_steady query ≡ true
+clear_query_is_steady query c = clear_is_steady _ query c
+
+pub clear_has_none : (mode : Bool) (query : List ℕ) (ts : List Token) → IsTokens mode query ts → is_clear query ≡ true →
+    first_unportable ts ≡ None
+clear_has_none mode query ts is c =
+    let same : IsTokens true query ts = steady_other mode true query ts (clear_query_is_steady query c) is in
+    let pass : AllPass [] ts = all_pass ts _ same.each (subst (λ x. is_clear x ≡ true) (sym same.text) c) in
+    portable_has_none ts (portable_if_all_pass ts pass)

@@ -1,0 +1,185 @@
+//! A quick test for queries that are steady and portable: it looks at 16 bytes at once, and closer
+//! only at those that may begin or end a construct.
+ghost use Rattle.std.specs.Prelude.{◌≡◌, ◌==◌, ◌+◌, ◌≤◌, false, length, IsTrue, IsFalse};
+ghost use Rattle.mysql_named_params.specs.Bytes.{begins, dash, is_start_byte};
+ghost use Rattle.mysql_named_params.specs.Portable.{may_open_line};
+ghost use Rattle.mysql_named_params.specs.Server.{keeps_dashes};
+ghost use Rattle.mysql_steady_text.specs.Clear.{AreSure, begins_special_block, byte_before, is_clear, is_clear_from, is_in_doubt, is_sign, is_sure, may_begin_tag, may_take_dashes, may_take_place};
+
+use std::simd::prelude::*;
+
+// The number of bytes that are passed at once.
+const LANES: usize = 16;
+
+/// Whether no byte of the text is in doubt. A clear query is steady and portable.
+pub(crate) fn is_clear(text: &[u8]) -> bool
+    ensures { result ≡ is_clear text.now }
+{
+    let mut at = 0;
+    'by_lanes: while text.len() - at >= LANES {
+        if !are_sure(text, at) && is_doubt_within(text, at, at + LANES) {
+            return false;
+        }
+        at += LANES;
+    }
+    !is_doubt_within(text, at, text.len())
+}
+
+// Whether the 16 bytes from this one on are sure. `false` promises nothing: the caller then looks
+// at each byte.
+fn are_sure(text: &[u8], at: usize) -> bool
+    requires { at + LANES ≤ length text.now }
+    ensures { IsTrue result → AreSure text.now at (at + LANES) }
+{
+    let bytes = u8x16::from_slice(&text[at..]);
+    let unsteady = bytes.simd_ge(u8x16::splat(128)) | bytes.simd_eq(u8x16::splat(b'\\'));
+    let bracket_or_dollar = bytes.simd_eq(u8x16::splat(b'[')) | bytes.simd_eq(u8x16::splat(b'$'));
+    let slash_or_dash = bytes.simd_eq(u8x16::splat(b'/')) | bytes.simd_eq(u8x16::splat(b'-'));
+    let places = bytes.simd_eq(u8x16::splat(b':')) | bytes.simd_eq(u8x16::splat(b'?'));
+    let others = (unsteady | bracket_or_dollar) | (slash_or_dash | places);
+    others.to_bitmask() == 0
+}
+
+// Whether a byte from the first index up to the second is in doubt.
+fn is_doubt_within(text: &[u8], from: usize, to: usize) -> bool
+    requires order { from ≤ to }
+    requires in_range { to ≤ length text.now }
+    ensures some { IsTrue result → is_clear_from text.now from ≡ false }
+    ensures none { IsFalse result →
+        is_clear_from text.now to ≡ is_clear_from text.now from }
+{
+    for at in from..to {
+        if !is_sure(text[at]) && is_in_doubt(byte_before(text, at), text[at], &text[at + 1..]) {
+            return true;
+        }
+    }
+    false
+}
+
+// The byte before this index, and a space before the first.
+fn byte_before(text: &[u8], at: usize) -> u8
+    requires { at ≤ length text.now }
+    ensures { result ≡ byte_before text.now at }
+{
+    if at == 0 { b' ' } else { text[at - 1] }
+}
+
+// Whether the byte, after the one before and before this rest, isn't steady, or may begin or end a
+// construct.
+fn is_in_doubt(before: u8, byte: u8, rest: &[u8]) -> bool
+    ensures { result ≡ is_in_doubt before byte rest.now }
+{
+    match byte {
+        b'[' | b'\\' | 128.. => true,
+        b'$' => begins_tag(rest),
+        b'/' => begins_special_block(rest),
+        b'-' => may_open_line(rest) || may_take_dashes(before) && begins_dash(rest),
+        b'?' => may_take_place(before),
+        b':' => may_take_place(before) && begins_name(rest),
+        _ => false,
+    }
+}
+
+// Whether the text begins with a byte that may begin a tag after a `$`, or a place.
+fn begins_tag(text: &[u8]) -> bool
+    ensures { result ≡ begins may_begin_tag text.now }
+{
+    match text {
+        [first, ..] => may_begin_tag(*first),
+        [] => false,
+    }
+}
+
+// Whether the byte may begin a tag after a `$`, or a place.
+fn may_begin_tag(byte: u8) -> bool
+    ensures { result ≡ may_begin_tag byte }
+{
+    byte == b'$'
+        || byte == b'?'
+        || byte == b':'
+        || byte == b'_'
+        || byte.is_ascii_lowercase()
+        || byte.is_ascii_digit()
+        || byte.is_ascii_uppercase()
+        || 128 <= byte
+}
+
+// Whether a `/` and then this text make a comment that may be executed, or a hint.
+fn begins_special_block(text: &[u8]) -> bool
+    ensures { result ≡ begins_special_block text.now }
+{
+    matches!(text, [b'*', b'!' | b'+', ..] | [b'*', b'M', b'!', ..])
+}
+
+// Whether a `-` and then this text open a comment on some servers alone.
+fn may_open_line(text: &[u8]) -> bool
+    ensures { result ≡ may_open_line text.now }
+{
+    match text {
+        [b'-', gap, ..] => !(gap.is_ascii_whitespace() || keeps_dashes(*gap)),
+        _ => false,
+    }
+}
+
+// Whether `--` before the byte is two plain bytes on each server.
+fn keeps_dashes(byte: u8) -> bool
+    ensures { result ≡ keeps_dashes byte }
+{
+    33 <= byte && byte <= 126 && byte != b'/'
+}
+
+// Whether a byte is a sign.
+fn is_sign(byte: u8) -> bool
+    ensures { result ≡ is_sign byte }
+{
+    byte == b'+' || byte == b'-'
+}
+
+// Whether two dashes after this byte may belong to a number.
+fn may_take_dashes(byte: u8) -> bool
+    ensures { result ≡ may_take_dashes byte }
+{
+    byte == b'e' || byte == b'E' || is_sign(byte)
+}
+
+// Whether a place after this byte may belong to a number.
+fn may_take_place(byte: u8) -> bool
+    ensures { result ≡ may_take_place byte }
+{
+    byte.is_ascii_digit() || byte == b'.' || is_sign(byte)
+}
+
+// Whether the text begins with a dash.
+fn begins_dash(text: &[u8]) -> bool
+    ensures { result ≡ begins (λ c. c == dash) text.now }
+{
+    matches!(text, [b'-', ..])
+}
+
+// Whether the text begins with the start byte of a name.
+fn begins_name(text: &[u8]) -> bool
+    ensures { result ≡ begins is_start_byte text.now }
+{
+    match text {
+        [first, ..] => first.is_ascii_lowercase() || *first == b'_',
+        [] => false,
+    }
+}
+
+// Whether no construct and no place begins with the byte, and it is steady.
+fn is_sure(byte: u8) -> bool
+    ensures { result ≡ is_sure byte }
+{
+    SURE[byte as usize] == b'1'
+}
+
+// `1` for each sure byte, 32 bytes a line.
+static SURE: [u8; 256] = *b"\
+    11111111111111111111111111111111\
+    11110111111110101111111111011110\
+    11111111111111111111111111100111\
+    11111111111111111111111111111111\
+    00000000000000000000000000000000\
+    00000000000000000000000000000000\
+    00000000000000000000000000000000\
+    00000000000000000000000000000000";
