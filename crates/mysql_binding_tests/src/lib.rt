@@ -15,6 +15,8 @@ mod parsed_query;
 #[cfg(test)]
 mod paths;
 #[cfg(test)]
+mod query_refusals;
+#[cfg(test)]
 mod readme;
 #[cfg(test)]
 mod shared;
