@@ -1,7 +1,7 @@
 //! The rows of NDJSON: a JSON object on each line.
 use crate::columns::{Wanted, add_fixed};
 use crate::complaint::{Complaint, Fault, Place, add_fault, bad_row};
-use crate::json_members::add_members;
+use crate::json_members::{Decimals, add_members};
 use crate::matching::{add_unused, is_assigned, is_name_of};
 use crate::script::Script;
 use crate::values::Values;
@@ -63,7 +63,7 @@ fn object_assignments(
     wanted: &Wanted<'_>,
     line: u64,
     text: &[u8],
-    decimals: bool,
+    decimals: Decimals,
 ) -> Result<Vec<Assignment>, Complaint> {
     let mut values = Values::new(alloc);
     if let Err(complaint) = add_members(&mut values, alloc, wanted.path.as_str(), text, decimals) {
@@ -108,7 +108,7 @@ fn check_fixed(alloc: Global, wanted: &Wanted<'_>) -> Result<(), Complaint> {
 pub fn add_objects(
     script: &mut Script<'_>,
     rt: &HostRuntime,
-    decimals: bool,
+    decimals: Decimals,
     bytes: &[u8],
 ) -> Result<(), Complaint> {
     check_fixed(rt.alloc(), &script.wanted)?;

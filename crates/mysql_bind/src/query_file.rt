@@ -4,7 +4,9 @@ use crate::sources::{Sources, shown_path};
 use crate::values::{Values, wrong_values};
 use mysql_bind_core::{Failure, Request, line_and_column};
 use mysql_binding::BindError;
+use mysql_fragments::FragmentsError;
 use mysql_named_params::places::first_place;
+use mysql_steady_fragments::SteadyFragmentsError;
 use mysql_steady_text::SteadyTextError;
 use mysql_values::show::Shown;
 use std::alloc::{AllocError, Global};
@@ -115,6 +117,9 @@ fn steady_refused(
     }
 }
 
+// What is said of a name that doesn't stand alone.
+static JOINED: &str = "this name joins what stands beside it: write a space or a comma between them";
+
 // What is said if values can't be bound.
 fn binding_refused(
     alloc: Global,
@@ -123,11 +128,47 @@ fn binding_refused(
 ) -> Result<Complaint, AllocError> {
     match error {
         BindError::Memory(_) => Ok(Complaint::Memory),
-        BindError::NotAlone { at, .. } => refused_at(
+        BindError::NotAlone { at, .. } => refused_at(alloc, query, at, JOINED),
+        error => {
+            let what = format!(in alloc; "{error}")?;
+            let path = String::from_str(alloc, query.path)?;
+            Ok(Complaint::Refused(one_fault(alloc, Place::File(path), what)?))
+        }
+    }
+}
+
+// What is said if exact numbers, names and lists can't be bound. Each can be written, since its
+// bytes are what its type takes.
+fn fragments_refused(
+    alloc: Global,
+    query: &QueryFile<'_>,
+    error: FragmentsError,
+) -> Result<Complaint, AllocError> {
+    match error {
+        FragmentsError::Memory(_) => Ok(Complaint::Memory),
+        FragmentsError::NotAlone { at, .. } => refused_at(alloc, query, at, JOINED),
+        error => {
+            let what = format!(in alloc; "{error}")?;
+            let path = String::from_str(alloc, query.path)?;
+            Ok(Complaint::Refused(one_fault(alloc, Place::File(path), what)?))
+        }
+    }
+}
+
+// What is said if they can't be bound into a steady text.
+fn steady_fragments_refused(
+    alloc: Global,
+    query: &QueryFile<'_>,
+    error: SteadyFragmentsError,
+) -> Result<Complaint, AllocError> {
+    match error {
+        SteadyFragmentsError::Fragments(error) => fragments_refused(alloc, query, error),
+        SteadyFragmentsError::UnsteadyFragment { place } => refused_at(
             alloc,
             query,
-            at,
-            "this name joins what stands beside it: write a space or a comma between them",
+            place_index(query.bytes.as_slice(), place),
+            "the identifier for this name has a backslash or a byte that is not ASCII, which a \
+             mode or a character set may read otherwise: give --literals=plain",
         ),
         error => {
             let what = format!(in alloc; "{error}")?;
@@ -135,6 +176,28 @@ fn binding_refused(
             Ok(Complaint::Refused(one_fault(alloc, Place::File(path), what)?))
         }
     }
+}
+
+// The index of the place of this number in a steady query.
+fn place_index(text: &[u8], number: usize) -> usize {
+    let mut rest = text;
+    let mut at = 0usize;
+    // Each place has a byte.
+    for n in 0..text.len() {
+        let Some(found) = first_place(rest, false) else {
+            break;
+        };
+        let (before, _, after) = found.cut(rest);
+        at = text
+            .len()
+            .saturating_sub(rest.len())
+            .saturating_add(before.len());
+        if n == number {
+            break;
+        }
+        rest = after;
+    }
+    at
 }
 
 /// What is said of a refusal.
@@ -163,6 +226,8 @@ pub fn complaint_of(
         Failure::Redefined(name) => redefined(alloc, name.as_slice()),
         Failure::Plain(error) => binding_refused(alloc, query, error),
         Failure::Steady(error) => steady_refused(alloc, query, error),
+        Failure::Fragments(error) => fragments_refused(alloc, query, error),
+        Failure::SteadyFragments(error) => steady_fragments_refused(alloc, query, error),
         Failure::Write => Ok(Complaint::Write),
         Failure::Memory(_) => Ok(Complaint::Memory),
     }

@@ -2,6 +2,7 @@
 use crate::columns::{Wanted, column_types};
 use crate::complaint::{Complaint, bad_word};
 use crate::json_rows::add_objects;
+use crate::json_members::Decimals;
 use crate::matching::name_places;
 use crate::query_file::{QueryFile, complaint_of, read_query};
 use crate::records::add_records;
@@ -97,7 +98,7 @@ fn add_rows(
     script: &mut Script<'_>,
     rt: &HostRuntime,
     form: Form,
-    decimals: bool,
+    decimals: Decimals,
     bytes: &[u8],
 ) -> Result<(), Complaint> {
     match form {
@@ -121,7 +122,7 @@ pub fn rows(rt: &HostRuntime, matches: &ArgMatches<'_>) -> Result<(), Complaint>
     }
     let mut script = empty_script(rt.alloc(), matches, path, query, fixed, request)?;
     let bytes = sources.read(rt, path)?;
-    let decimals = matches.get_str("decimals").is_some();
+    let decimals = Decimals::of(matches);
     match add_rows(&mut script, rt, form, decimals, bytes.as_slice()) {
         Ok(()) => script.finish(rt, matches.get_str("output")),
         Err(complaint) => {

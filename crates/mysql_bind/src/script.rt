@@ -4,7 +4,7 @@ use crate::complaint::{Complaint, Fault, Place, add_fault, bad_row};
 use crate::output::write_text;
 use crate::query_file::complaint_of;
 use crate::values::{Values, wrong_value};
-use mysql_bind_core::{Assignment, Failure, Request, typed_value};
+use mysql_bind_core::{Assignment, Failure, Request, typed_fragment};
 use mysql_bind_rows::{
     COMMIT, RefusedRow, Row, RowsFailure, START, script_of, stream_rows, write_rows,
 };
@@ -182,7 +182,7 @@ impl Script<'_> {
         let mut faults: Vec<Fault> = Vec::new(alloc);
         for assignment in assignments {
             let value_type = assignment.value_type;
-            if typed_value(alloc, value_type, assignment.bytes.as_slice())?.is_some() {
+            if typed_fragment(alloc, value_type, assignment.bytes.as_slice())?.is_some() {
                 continue;
             }
             let what = format!(in alloc;

@@ -1,9 +1,9 @@
 //! The assignments that the options make, and what is said of a wrong one.
 use crate::complaint::{Complaint, Fault, Place, add_fault, bad_file, bad_word, unusable};
-use crate::json_members::add_members;
+use crate::json_members::{Decimals, add_members};
 use crate::sources::{Sources, read_variable, shown_path};
 use clap::ArgMatches;
-use mysql_bind_core::{Assignment, ValueType, typed_value};
+use mysql_bind_core::{Assignment, ValueType, typed_fragment};
 use std::alloc::{AllocError, Global};
 
 /// Assignments, and where each comes from: an option and a name, or a file.
@@ -48,7 +48,8 @@ impl Values {
 }
 
 /// The words of types.
-pub static TYPES: &str = "text, line, bytes, int, uint, bool, hex and base64";
+pub static TYPES: &str = "text, line, bytes, int, uint, bool, hex, base64, decimal, identifier \
+     and list";
 
 /// The type of a word.
 pub fn type_of(word: &str) -> Option<ValueType> {
@@ -61,6 +62,9 @@ pub fn type_of(word: &str) -> Option<ValueType> {
         "bool" => Some(ValueType::Bool),
         "hex" => Some(ValueType::Hex),
         "base64" => Some(ValueType::Base64),
+        "decimal" => Some(ValueType::Decimal),
+        "identifier" => Some(ValueType::Identifier),
+        "list" => Some(ValueType::List),
         _ => None,
     }
 }
@@ -73,10 +77,17 @@ pub fn wrong_value(value_type: ValueType) -> &'static str {
         ValueType::Int => "is no whole number from -2^63 to 2^63-1",
         ValueType::Uint => "is no whole number from 0 to 2^64-1",
         ValueType::Number =>
-            "is no whole number of 64 bits: write it as a string, or give --decimals=text",
+            "is no whole number of 64 bits: write it as a string, or give --decimals=exact or \
+             --decimals=text",
         ValueType::Bool => "is neither true nor false",
         ValueType::Hex => "is not pairs of hexadecimal digits",
         ValueType::Base64 => "is no base64 with padding",
+        ValueType::Decimal => "is no exact number of at most 65 digits, such as -1.50",
+        ValueType::Identifier =>
+            "is no name of 1 to 64 characters of UTF-8 without a byte 0 and a space at its end",
+        ValueType::List =>
+            "is no JSON array with an item, and all of them texts, numbers, true, false or null, \
+             such as [1, 2]",
         ValueType::Null | ValueType::Bytes => "has no value",
     }
 }
@@ -88,7 +99,7 @@ fn newline_hint(alloc: Global, assignment: &Assignment) -> Result<&'static str, 
         return Ok("");
     };
     if assignment.value_type != ValueType::Line
-        && typed_value(alloc, assignment.value_type, line)?.is_some()
+        && typed_fragment(alloc, assignment.value_type, line)?.is_some()
     {
         Ok(": a newline ends it, so write the file without (printf in place of echo)")
     } else {
@@ -101,7 +112,7 @@ pub fn wrong_values(alloc: Global, values: &Values) -> Result<Vec<Fault>, AllocE
     let mut faults = Vec::new(alloc);
     for i in 0..values.assignments.len() {
         let assignment = &values.assignments[i];
-        if typed_value(alloc, assignment.value_type, assignment.bytes.as_slice())?.is_some() {
+        if typed_fragment(alloc, assignment.value_type, assignment.bytes.as_slice())?.is_some() {
             continue;
         }
         let origin = origin_at(values, i);
@@ -312,7 +323,7 @@ pub fn values_of(
 ) -> Result<Values, Complaint> {
     let mut values = Values::new(rt.alloc());
     add_options(&mut values, sources, rt, matches)?;
-    let decimals = matches.get_str("decimals").is_some();
+    let decimals = Decimals::of(matches);
     for path in matches.get_strs("json").unwrap_or(&[]) {
         let bytes = sources.read(rt, path)?;
         add_members(

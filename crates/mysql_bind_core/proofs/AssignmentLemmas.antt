@@ -10,11 +10,11 @@ pub ok_or-found : {X : Type 0} (o : Option X) (x : X) → ok_or o no_value ≡ O
 ok_or-found None x h = absurd cc
 ok_or-found (Some y) x h = cc
 
-ok_or-refused : {X : Type 0} (o : Option X) (why : PairsRefusal) → ok_or o no_value ≡ Err why → (o ≡ None) × (why ≡ no_value)
+pub ok_or-refused : {X : Type 0} (o : Option X) (why : PairsRefusal) → ok_or o no_value ≡ Err why → (o ≡ None) × (why ≡ no_value)
 ok_or-refused None why h = (refl, cc)
 ok_or-refused (Some y) why h = absurd cc
 
-drop_at : {X : Type 0} (xs : List X) (i : ℕ) (d : X) → i < length xs → drop i xs ≡ get_or xs i d ∷ drop (i + 1) xs
+pub drop_at : {X : Type 0} (xs : List X) (i : ℕ) (d : X) → i < length xs → drop i xs ≡ get_or xs i d ∷ drop (i + 1) xs
 drop_at xs i d h =
     let next : suc i ≡ i + 1 = omega arith in
     drop-cons xs i d h ∙ ap (λ n. get_or xs i d ∷ drop n xs) next

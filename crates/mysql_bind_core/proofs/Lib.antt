@@ -1,3 +1,5 @@
 pub mod AssignmentLemmas
 pub mod BindingLemmas
+pub mod ContentLemmas
+pub mod EntryLemmas
 pub mod QueryEndLemmas

@@ -1,6 +1,6 @@
 -- What is written for a request, a query and assignments: the bound text of the whole query, whose
 -- values are exactly those that the bytes of the assignments mean.
-use Rattle.std.specs.Prelude.{◌≡◌, ℕ, List, ◌++◌, None, Some, Ok}
+use Rattle.std.specs.Prelude.{◌≡◌, ℕ, true, false, List, ◌++◌, map, None, Some, Ok}
 use Rattle.mysql_values.specs.declared.value.Value.{Value}
 use Rattle.mysql_named_params.specs.Tokens.{Token, OnTokens}
 use Rattle.mysql_named_params.specs.Places.{marks}
@@ -8,8 +8,12 @@ use Rattle.mysql_named_params.specs.Steady.{IsSteady}
 use Rattle.mysql_named_params.specs.FirstUnportableInClient.{IsPortableInClient}
 use Rattle.mysql_params_core.specs.Given.{Given}
 use Rattle.mysql_binding.specs.Isolation.{IsBoundText}
+use Rattle.mysql_fragments.specs.GivenFragments.{FragmentMap, named}
+use Rattle.mysql_fragments.specs.declared.fragment.Fragment.{Fragment}
 use Rattle.mysql_steady_text.specs.SteadyText.{IsAnywhereText, IsSteadyText}
 use Rattle.mysql_bind_core.specs.Assignments.{given_of, pairs_of}
+use Rattle.mysql_bind_core.specs.Contents.{contents_of, has_fragment}
+use Rattle.mysql_bind_core.specs.Entries.{IsFragmentsFor, entries_of, pair_said}
 use Rattle.mysql_bind_core.specs.QueryEnd.{end, long_end}
 use Rattle.mysql_bind_core.specs.Requests.{mode_of}
 use Rattle.mysql_bind_core.specs.declared.assignment.Assignment.{Assignment}
@@ -51,11 +55,9 @@ IsTextFor literals.Steady portability.Portable query ts given text =
 IsTextFor literals.Steady portability.Any query ts given text = IsSteadyText ts given text
 IsTextFor (literals.Plain mode) wanted query ts given text = IsBoundText mode ts given text
 
--- the text is what a request writes for this query and these assignments
-pub record IsWritten (request : Request) (query : List ℕ) (assignments : List Assignment)
+-- the text that is written for assignments that are all values
+pub record IsValuesText (request : Request) (query : List ℕ) (assignments : List Assignment)
     (text : List ℕ) : Type 0 where
-  -- the query is one that the request takes
-  pub taken : IsTaken request query
   -- there are exactly the values that the bytes of the assignments mean, and what they give,
   pub pairs : List (List ℕ × Value)
   pub given : Given
@@ -64,3 +66,33 @@ pub record IsWritten (request : Request) (query : List ℕ) (assignments : List 
   -- and the text is that of the whole query and of what is given
   pub bound : OnTokens (mode_of request.literals) query (λ ts.
       IsTextFor request.literals request.portability query ts given text)
+
+-- the text that is written for assignments of which one is an exact number, a name or a list
+pub record IsFragmentsText (request : Request) (query : List ℕ) (assignments : List Assignment)
+    (text : List ℕ) : Type 0 where
+  -- there are fragments that say exactly what the bytes of the assignments say, by their names,
+  pub pairs : List (List ℕ × Fragment)
+  pub entries : FragmentMap
+  pub contents_are : contents_of assignments ≡ Some (map pair_said pairs)
+  pub entries_are : entries_of pairs ≡ Ok entries
+  -- and the text is that of the whole query and of these fragments
+  pub bound : OnTokens (mode_of request.literals) query (λ ts.
+      IsFragmentsFor request.literals request.portability query ts (named entries) text)
+
+-- the text that is written for these assignments
+pub data IsAssignedText (request : Request) (query : List ℕ) (assignments : List Assignment)
+    (text : List ℕ) : Type 0 where
+  -- all are values
+  of_values : has_fragment assignments ≡ false → IsValuesText request query assignments text →
+      IsAssignedText request query assignments text
+  -- one is none
+  of_fragments : has_fragment assignments ≡ true →
+      IsFragmentsText request query assignments text →
+      IsAssignedText request query assignments text
+
+-- the text is what a request writes for this query and these assignments
+pub record IsWritten (request : Request) (query : List ℕ) (assignments : List Assignment)
+    (text : List ℕ) : Type 0 where
+  -- the query is one that the request takes, and the text that of the assignments
+  pub taken : IsTaken request query
+  pub assigned : IsAssignedText request query assignments text

@@ -2,6 +2,8 @@ pub mod ValueTypes
 pub mod Places
 pub mod Requests
 pub mod Assignments
+pub mod Contents
+pub mod Entries
 pub mod QueryEnd
 pub mod Bound
 pub mod Refusals

@@ -1,5 +1,5 @@
 -- Which refusal comes: the first that holds, in the order of `Failure`.
-use Rattle.std.specs.Prelude.{◌≡◌, ◌++◌, ◌≢◌, ℕ, List, Some, None, Result, Ok, Err, ⊤}
+use Rattle.std.specs.Prelude.{◌≡◌, ◌++◌, ◌≢◌, ℕ, true, false, List, map, Some, None, Result, Ok, Err, ⊤}
 use Rattle.mysql_values.specs.declared.value.Value.{Value}
 use Rattle.mysql_named_params.specs.Tokens.{Token, OnTokens}
 use Rattle.mysql_named_params.specs.Places.{marks}
@@ -11,8 +11,14 @@ use Rattle.mysql_params_core.specs.Made.{ToParamsRefusal, redefined}
 use Rattle.mysql_binding.specs.BindErrors.{IsCauseOrMemory}
 use Rattle.mysql_binding.specs.FirstCause.{first_cause}
 use Rattle.mysql_steady_text.specs.SteadyTextErrors.{IsSteadyRefusal}
+use Rattle.mysql_fragments.specs.FragmentErrors as fragments
+use Rattle.mysql_fragments.specs.GivenFragments.{FragmentMap, GivenFragments, named}
+use Rattle.mysql_fragments.specs.declared.fragment.Fragment.{Fragment}
+use Rattle.mysql_steady_fragments.specs.SteadyFragmentsErrors as steady
 use Rattle.mysql_bind_core.specs.Assignments.{given_of, pairs_of}
 use Rattle.mysql_bind_core.specs.Bound.{IsClosed, IsSteadyIfWanted, IsPortableIfWanted, IsTaken}
+use Rattle.mysql_bind_core.specs.Contents.{contents_of, has_fragment}
+use Rattle.mysql_bind_core.specs.Entries.{Entries, entries_of, pair_said}
 use Rattle.mysql_bind_core.specs.QueryEnd.{end, long_end}
 use Rattle.mysql_bind_core.specs.Requests.{mode_of}
 use Rattle.mysql_bind_core.specs.declared.assignment.Assignment.{Assignment}
@@ -57,6 +63,21 @@ IsAssignmentsRefusal assignments (failure.Memory error) = ⊤
 IsAssignmentsRefusal assignments why = (pairs : List (List ℕ × Value))
     × (pairs_of assignments ≡ Some pairs) × IsMadeRefusal (given_of pairs) why
 
+-- why pairs that make these entries give nothing, or out of memory
+abbrev pub IsEntriesRefusal : Entries → Failure → Type 0
+IsEntriesRefusal made (failure.Redefined name) = made ≡ Err name.items
+IsEntriesRefusal made (failure.Memory error) = ⊤
+IsEntriesRefusal made why = ⊥
+
+-- why these assignments give no fragments, or out of memory: the bytes of one say nothing, or a
+-- name comes twice
+abbrev pub IsContentsRefusal : List Assignment → Failure → Type 0
+IsContentsRefusal assignments failure.NoValue = contents_of assignments ≡ None
+IsContentsRefusal assignments (failure.Memory error) = ⊤
+IsContentsRefusal assignments why = (pairs : List (List ℕ × Fragment))
+    × (contents_of assignments ≡ Some (map pair_said pairs))
+    × IsEntriesRefusal (entries_of pairs) why
+
 -- the first construct that steady binding looks for
 abbrev pub looked_for : Portability → List Token → Option Unportable
 looked_for portability.Portable ts = first_unportable ts
@@ -71,15 +92,45 @@ IsTextRefusal literals.Steady wanted query ts given (failure.Steady error) =
     IsSteadyRefusal query (looked_for wanted ts) (first_cause ts given) error
 IsTextRefusal asked wanted query ts given why = ⊥
 
+-- why fragments can't be bound, in the literals that are asked for, into a query with these tokens
+abbrev pub IsFragmentsRefusal : Literals → Portability → List ℕ → List Token → GivenFragments →
+    Failure → Type 0
+IsFragmentsRefusal (literals.Plain mode) wanted query ts given (failure.Fragments error) =
+    fragments.IsCauseOrMemory (fragments.first_cause true ts given) error
+IsFragmentsRefusal literals.Steady wanted query ts given (failure.SteadyFragments error) =
+    steady.IsSteadyRefusal query (looked_for wanted ts) ts given error
+IsFragmentsRefusal asked wanted query ts given why = ⊥
+
+-- why nothing is written for assignments that are all values: they give nothing, or what they give
+-- can't be bound
+pub data IsValuesRefusal (request : Request) (query : List ℕ) (assignments : List Assignment)
+    (why : Failure) : Type 0 where
+  of_assignments : IsAssignmentsRefusal assignments why →
+      IsValuesRefusal request query assignments why
+  of_text : (pairs : List (List ℕ × Value)) → (given : Given) →
+      pairs_of assignments ≡ Some pairs → given_of pairs ≡ Ok given →
+      OnTokens (mode_of request.literals) query (λ ts.
+      IsTextRefusal request.literals request.portability query ts given why) →
+      IsValuesRefusal request query assignments why
+
+-- the same for assignments of which one is none
+pub data IsFragmentsTextRefusal (request : Request) (query : List ℕ)
+    (assignments : List Assignment) (why : Failure) : Type 0 where
+  of_contents : IsContentsRefusal assignments why →
+      IsFragmentsTextRefusal request query assignments why
+  of_named : (pairs : List (List ℕ × Fragment)) → (entries : FragmentMap) →
+      contents_of assignments ≡ Some (map pair_said pairs) → entries_of pairs ≡ Ok entries →
+      OnTokens (mode_of request.literals) query (λ ts.
+      IsFragmentsRefusal request.literals request.portability query ts (named entries) why) →
+      IsFragmentsTextRefusal request query assignments why
+
 -- why a request writes nothing for this query and these assignments: the query isn't taken, or the
 -- assignments give nothing, or what they give can't be bound
 pub data IsRefusal (request : Request) (query : List ℕ) (assignments : List Assignment)
     (why : Failure) : Type 0 where
   of_query : IsQueryRefusal request query why → IsRefusal request query assignments why
-  of_assignments : IsTaken request query → IsAssignmentsRefusal assignments why →
-      IsRefusal request query assignments why
-  of_text : IsTaken request query → (pairs : List (List ℕ × Value)) → (given : Given) →
-      pairs_of assignments ≡ Some pairs → given_of pairs ≡ Ok given →
-      OnTokens (mode_of request.literals) query (λ ts.
-      IsTextRefusal request.literals request.portability query ts given why) →
+  of_values : IsTaken request query → has_fragment assignments ≡ false →
+      IsValuesRefusal request query assignments why → IsRefusal request query assignments why
+  of_fragments : IsTaken request query → has_fragment assignments ≡ true →
+      IsFragmentsTextRefusal request query assignments why →
       IsRefusal request query assignments why

@@ -8,12 +8,14 @@ ghost use Rattle.mysql_program.specs.ReadersAndWriters.{AppendsPrefix};
 ghost use Rattle.mysql_program.specs.WordErrors.{seen_pair};
 ghost use Rattle.mysql_program.specs.Words.{given_by_name};
 ghost use Rattle.mysql_bind_core.specs.Assignments.{given_of, pairs_of};
-ghost use Rattle.mysql_bind_core.specs.Bound.{IsClosed, IsNamed, IsSteadyIfWanted, IsPortableIfWanted, IsTaken, IsTextFor, IsWritten};
-ghost use Rattle.mysql_bind_core.specs.Refusals.{IsQueryRefusal, IsAssignmentsRefusal, IsMadeRefusal, IsTextRefusal, IsRefusal};
+ghost use Rattle.mysql_bind_core.specs.Bound.{IsClosed, IsNamed, IsSteadyIfWanted, IsPortableIfWanted, IsTaken, IsTextFor, IsValuesText, IsWritten};
+ghost use Rattle.mysql_bind_core.specs.Refusals.{IsQueryRefusal, IsAssignmentsRefusal, IsMadeRefusal, IsTextRefusal, IsValuesRefusal, IsRefusal};
 ghost use Rattle.mysql_bind_core.specs.Requests.{mode_of};
 
 use crate::assignment::{Assignment, PairsError, pairs_of};
+use crate::entries::has_fragment;
 use crate::failure::Failure;
+use crate::fragments_text::fragments_text;
 use crate::query_end::open_end;
 use crate::request::{Literals, Portability, Request};
 use mysql_binding::{ParsedQuery, bind_text_in};
@@ -137,6 +139,25 @@ pub fn taken_text(
     ensures bound { IfOk result (λ text.
         IsWritten request query.now assignments.now text.items) }
     ensures refused { IfErr result (IsRefusal request query.now assignments.now) }
+    ensures only { IfErr result (λ e. e ≢ Failure.Write) }
+{
+    if has_fragment(assignments) {
+        fragments_text(alloc, query, assignments, request)
+    } else {
+        values_text(alloc, query, assignments, request)
+    }
+}
+
+// The text of assignments that are all values.
+fn values_text(
+    alloc: Global,
+    query: &[u8],
+    assignments: &[Assignment],
+    request: Request,
+) -> Result<Vec<u8>, Failure>
+    ensures bound { IfOk result (λ text.
+        IsValuesText request query.now assignments.now text.items) }
+    ensures refused { IfErr result (IsValuesRefusal request query.now assignments.now) }
     ensures only { IfErr result (λ e. e ≢ Failure.Write) }
 {
     match assigned_params(alloc, assignments) {

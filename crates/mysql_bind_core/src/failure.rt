@@ -1,6 +1,8 @@
 //! Why nothing was written.
 use mysql_binding::BindError;
+use mysql_fragments::FragmentsError;
 use mysql_named_params::portable::Unportable;
+use mysql_steady_fragments::SteadyFragmentsError;
 use mysql_steady_text::SteadyTextError;
 use std::alloc::AllocError;
 
@@ -23,7 +25,7 @@ pub enum Failure {
     Unportable(Unportable),
     /// The query has a mark, which has no name.
     Marks,
-    /// The bytes of an assignment have no value of its type.
+    /// The bytes of an assignment aren't what its type takes.
     NoValue,
     /// This name is assigned twice.
     Redefined(Vec<u8>),
@@ -31,6 +33,10 @@ pub enum Failure {
     Plain(BindError),
     /// The same with steady literals.
     Steady(SteadyTextError),
+    /// Fragments can't be bound into the query with the literals of a mode, or out of memory.
+    Fragments(FragmentsError),
+    /// The same with steady literals.
+    SteadyFragments(SteadyFragmentsError),
     /// A write failed, or took no byte.
     Write,
     /// Out of memory. It may come in place of any other.

@@ -7,7 +7,10 @@
 
 mod assignment;
 mod binding;
+mod entries;
 mod failure;
+mod fragment_type;
+mod fragments_text;
 mod positions;
 mod query_end;
 mod request;
@@ -16,6 +19,7 @@ mod value_type;
 pub use assignment::Assignment;
 pub use binding::{bound_text, check_query, taken_text, write_bound};
 pub use failure::Failure;
+pub use fragment_type::typed_fragment;
 pub use positions::line_and_column;
 pub use request::{Literals, Portability, Request};
 pub use value_type::{ValueType, typed_value};

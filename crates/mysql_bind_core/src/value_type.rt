@@ -36,9 +36,19 @@ pub enum ValueType {
     Hex,
     /// As the bytes that they encode in base64 with padding (RFC 4648, section 4).
     Base64,
+    /// As an exact number, which is written as it is: at most one `-`, then at most 65 digits with
+    /// at most one point between them. It is no value.
+    Decimal,
+    /// As the name of a table or a column, in UTF-8, which is written in backquotes. It is no
+    /// value.
+    Identifier,
+    /// As a list: a JSON array of null, truth values, texts, whole numbers of 64 bits and exact
+    /// numbers. It is no value.
+    List,
 }
 
-/// The value of the bytes, if they have one of this type.
+/// The value of the bytes, if they have one of this type. An exact number, a name and a list are
+/// no values: [`typed_fragment`](crate::typed_fragment) has them.
 pub fn typed_value(
     alloc: Global,
     value_type: ValueType,
@@ -57,11 +67,12 @@ pub fn typed_value(
         ValueType::Bool => Ok(truth_value(bytes)),
         ValueType::Hex => hex_value(alloc, bytes),
         ValueType::Base64 => base64_value(alloc, bytes),
+        ValueType::Decimal | ValueType::Identifier | ValueType::List => Ok(None),
     }
 }
 
 // The bytes as a value.
-fn some_bytes(alloc: Global, bytes: &[u8]) -> Result<Option<Value>, AllocError>
+pub(crate) fn some_bytes(alloc: Global, bytes: &[u8]) -> Result<Option<Value>, AllocError>
     ensures { IfOk result (λ value. value ≡ Some (BytesOf bytes.now)) }
 {
     let copy = Vec::from_slice(alloc, bytes)?;
@@ -69,7 +80,7 @@ fn some_bytes(alloc: Global, bytes: &[u8]) -> Result<Option<Value>, AllocError>
 }
 
 // Whether the bytes are UTF-8.
-fn is_utf8(bytes: &[u8]) -> bool
+pub(crate) fn is_utf8(bytes: &[u8]) -> bool
     ensures { result ≡ is_utf8 bytes.now }
 {
     match std::str::from_utf8(bytes) {
@@ -143,7 +154,7 @@ fn uint_value(alloc: Global, bytes: &[u8]) -> Result<Option<Value>, AllocError>
 }
 
 // The number of a decimal text, if an `i64` or else a `u64` holds it.
-fn number_value(alloc: Global, bytes: &[u8]) -> Result<Option<Value>, AllocError>
+pub(crate) fn number_value(alloc: Global, bytes: &[u8]) -> Result<Option<Value>, AllocError>
     ensures { IfOk result (λ value. value ≡ number_value bytes.now) }
 {
     match int_value(alloc, bytes)? {

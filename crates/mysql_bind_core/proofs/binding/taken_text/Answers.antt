@@ -1,31 +1,20 @@
-use Rattle.mysql_named_params.specs.Tokens.{OnTokens}
-use Rattle.mysql_params_core.specs.Given.{given}
-use Rattle.mysql_bind_core.specs.Bound.{IsTextFor, IsWritten}
-use Rattle.mysql_bind_core.specs.Refusals.{IsTextRefusal, IsRefusal, of_text}
-use Rattle.mysql_bind_core.specs.Requests.{mode_of}
-use Rattle.mysql_bind_core.proofs.BindingLemmas.{if_ok, if_err}
+use Rattle.std.proofs.Common.{sym, ◌∙◌}
+use Rattle.mysql_bind_core.specs.Refusals.{IsFragmentsTextRefusal, IsRefusal, IsValuesRefusal, of_fragments, of_values}
+use Rattle.mysql_bind_core.proofs.BindingLemmas.{if_err}
 use Rattle.mysql_bind_core.proofs.binding.taken_text.Goals as goal
 
-pub returns-in-Ok-clause-bound : goal.returns-in-Ok-clause-bound
-returns-in-Ok-clause-bound c =
+pub returns-then-has_fragment-clause-refused : goal.returns-then-has_fragment-clause-refused
+returns-then-has_fragment-clause-refused c =
     let request = c.args.request in
     let query = c.args.query.now in
-    let params = given c.in-Ok.params in
-    let found = c.in-Ok.ensures.given in
-    if_ok c.params_text.result
-    (λ text. OnTokens (mode_of request.literals) query (λ ts. IsTextFor request.literals request.portability query ts params text.items))
-    (λ text. IsWritten request query c.args.assignments.now text.items)
-    (λ text bound. record { taken = c.requires; pairs = found.0; given = params; pairs_are = found.1; given_is = found.2; bound = bound })
-    c.params_text.ensures.bound
+    let assignments = c.args.assignments.now in
+    if_err c.fragments_text.result (IsFragmentsTextRefusal request query assignments) (IsRefusal request query assignments)
+    (λ why refused. of_fragments c.requires (sym c.has_fragment.ensures ∙ c.if-has_fragment.true) refused) c.fragments_text.ensures.refused
 
-pub returns-in-Ok-clause-refused : goal.returns-in-Ok-clause-refused
-returns-in-Ok-clause-refused c =
+pub returns-else-has_fragment-clause-refused : goal.returns-else-has_fragment-clause-refused
+returns-else-has_fragment-clause-refused c =
     let request = c.args.request in
     let query = c.args.query.now in
-    let params = given c.in-Ok.params in
-    let found = c.in-Ok.ensures.given in
-    if_err c.params_text.result
-    (λ why. OnTokens (mode_of request.literals) query (λ ts. IsTextRefusal request.literals request.portability query ts params why))
-    (IsRefusal request query c.args.assignments.now)
-    (λ why refused. of_text c.requires found.0 params found.1 found.2 refused)
-    c.params_text.ensures.refused
+    let assignments = c.args.assignments.now in
+    if_err c.values_text.result (IsValuesRefusal request query assignments) (IsRefusal request query assignments)
+    (λ why refused. of_values c.requires (sym c.has_fragment.ensures ∙ c.if-has_fragment.false) refused) c.values_text.ensures.refused

@@ -1,0 +1,155 @@
+//! What the bytes of a source put in the place of a name.
+ghost use Rattle.std.specs.Prelude.{◌≡◌, IfOk, Some, map, option_map};
+ghost use Rattle.json.specs.Json.{document};
+ghost use Rattle.json.specs.Value.{value_view};
+ghost use Rattle.mysql_bind_core.specs.Contents.{all_of, content, is_value_type, item_of, item_said, list_in, list_of_json, name_of, number_item, number_of, said};
+
+use crate::value_type::{ValueType, is_utf8, number_value, typed_value};
+use json::{Error as JsonError, Scratch, Value as Json};
+use mysql_fragments::{Fragment, Item};
+use mysql_values::bytes::Bytes;
+use mysql_values::value::Value;
+use std::alloc::{AllocError, Global};
+
+/// What the bytes put in the place of a name, if they are what the type takes: a fragment, which can
+/// be written.
+pub fn typed_fragment(
+    alloc: Global,
+    value_type: ValueType,
+    bytes: &[u8],
+) -> Result<Option<Fragment>, AllocError>
+    ensures { IfOk result (λ found. option_map said found ≡ content value_type bytes.now) }
+{
+    match value_type {
+        ValueType::Decimal => number_of(alloc, bytes),
+        ValueType::Identifier => name_of(alloc, bytes),
+        ValueType::List => list_in(alloc, bytes),
+        value_type => match typed_value(alloc, value_type, bytes)? {
+            Some(value) => Ok(Some(Fragment::Value(value))),
+            None => Ok(None),
+        },
+    }
+}
+
+// Whether the type gives values.
+pub(crate) fn is_value_type(value_type: ValueType) -> bool
+    ensures { result ≡ is_value_type value_type }
+{
+    !matches!(
+        value_type,
+        ValueType::Decimal | ValueType::Identifier | ValueType::List
+    )
+}
+
+// An exact number.
+fn number_of(alloc: Global, text: &[u8]) -> Result<Option<Fragment>, AllocError>
+    ensures { IfOk result (λ found. option_map said found ≡ number_of text.now) }
+{
+    let number = Fragment::Decimal(Vec::from_slice(alloc, text)?);
+    if number.fault().is_none() {
+        Ok(Some(number))
+    } else {
+        Ok(None)
+    }
+}
+
+// A name that servers take, in UTF-8.
+fn name_of(alloc: Global, bytes: &[u8]) -> Result<Option<Fragment>, AllocError>
+    ensures { IfOk result (λ found. option_map said found ≡ name_of bytes.now) }
+{
+    if !is_utf8(bytes) {
+        return Ok(None);
+    }
+    let name = Fragment::Identifier(Vec::from_slice(alloc, bytes)?);
+    if name.fault().is_none() {
+        Ok(Some(name))
+    } else {
+        Ok(None)
+    }
+}
+
+// The list that a JSON text says.
+fn list_in(alloc: Global, bytes: &[u8]) -> Result<Option<Fragment>, AllocError>
+    ensures { IfOk result (λ found. option_map said found ≡ list_in bytes.now) }
+{
+    match std::str::from_utf8(bytes) {
+        Ok(text) => list_of_text(alloc, text),
+        Err(_) => Ok(None),
+    }
+}
+
+// The list that a JSON text in UTF-8 says.
+fn list_of_text(alloc: Global, text: &str) -> Result<Option<Fragment>, AllocError>
+    ensures { IfOk result (λ found. option_map said found ≡ list_of_json (document text.now)) }
+{
+    let mut scratch = Scratch::new(alloc);
+    match Json::parse(alloc, text, &mut scratch) {
+        Ok(json) => list_of_json(alloc, &json),
+        Err(JsonError::Invalid) => Ok(None),
+        Err(_) => Err(AllocError),
+    }
+}
+
+// The list of a JSON array that isn't empty.
+fn list_of_json(alloc: Global, json: &Json<'_>) -> Result<Option<Fragment>, AllocError>
+    ensures { IfOk result (λ found.
+        option_map said found ≡ list_of_json (Some (value_view json.now))) }
+{
+    let Json::Array(values) = json else {
+        return Ok(None);
+    };
+    if values.is_empty() {
+        return Ok(None);
+    }
+    match items_of(alloc, values.as_slice())? {
+        Some(items) => Ok(Some(Fragment::List(items))),
+        None => Ok(None),
+    }
+}
+
+// The items of JSON values.
+fn items_of(alloc: Global, values: &[Json<'_>]) -> Result<Option<Vec<Item>>, AllocError>
+    ensures { IfOk result (λ found. option_map (λ items. map item_said items.items) found
+        ≡ all_of item_of (map value_view values.now)) }
+{
+    let mut items = Vec::new(alloc);
+    for json in values {
+        match item_of(alloc, json)? {
+            Some(item) => items.push(item)?,
+            None => return Ok(None),
+        }
+    }
+    Ok(Some(items))
+}
+
+// The item of a JSON value.
+fn item_of(alloc: Global, json: &Json<'_>) -> Result<Option<Item>, AllocError>
+    ensures { IfOk result (λ found. option_map item_said found ≡ item_of (value_view json.now)) }
+{
+    match json {
+        Json::Null => Ok(Some(Item::Value(Value::NULL))),
+        Json::Bool(true) => Ok(Some(Item::Value(Value::Int(1)))),
+        Json::Bool(false) => Ok(Some(Item::Value(Value::Int(0)))),
+        Json::Number(text) => number_item(alloc, text.as_bytes()),
+        Json::String(text) => {
+            let copy = Vec::from_slice(alloc, text.as_bytes())?;
+            Ok(Some(Item::Value(Value::Bytes(Bytes::from(copy)))))
+        }
+        Json::Array(_) | Json::Object(_) => Ok(None),
+    }
+}
+
+// The item of a number: a whole one of 64 bits, or else an exact one.
+fn number_item(alloc: Global, text: &[u8]) -> Result<Option<Item>, AllocError>
+    ensures { IfOk result (λ found. option_map item_said found ≡ number_item text.now) }
+{
+    if let Some(value) = number_value(alloc, text)? {
+        return Ok(Some(Item::Value(value)));
+    }
+    let number = Fragment::Decimal(Vec::from_slice(alloc, text)?);
+    if number.fault().is_none() {
+        Ok(Some(Item::Decimal(Vec::from_slice(alloc, text)?)))
+    } else {
+        Ok(None)
+    }
+}

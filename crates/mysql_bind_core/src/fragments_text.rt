@@ -1,0 +1,116 @@
+//! The text of a query and of assignments of which one is an exact number, a name or a list.
+ghost use Rattle.std.specs.Prelude.{◌≡◌, ◌≢◌, false, IfOk, IfErr};
+ghost use Rattle.mysql_named_params.specs.Tokens.{OnTokens};
+ghost use Rattle.mysql_fragments.specs.GivenFragments.{given_fragments};
+ghost use Rattle.mysql_bind_core.specs.Bound.{IsFragmentsText};
+ghost use Rattle.mysql_bind_core.specs.Entries.{IsFragmentsFor};
+ghost use Rattle.mysql_bind_core.specs.Refusals.{IsFragmentsRefusal, IsFragmentsTextRefusal};
+ghost use Rattle.mysql_bind_core.specs.Requests.{mode_of};
+
+use crate::assignment::Assignment;
+use crate::entries::assigned_fragments;
+use crate::failure::Failure;
+use crate::request::{Literals, Portability, Request};
+use mysql_fragments::{Fragments, bind_fragments_in};
+use mysql_steady_fragments::{bind_fragments_anywhere, bind_fragments_in_any_mode};
+use std::alloc::Global;
+
+// The text of fragments that assignments give.
+pub(crate) fn fragments_text(
+    alloc: Global,
+    query: &[u8],
+    assignments: &[Assignment],
+    request: Request,
+) -> Result<Vec<u8>, Failure>
+    ensures bound { IfOk result (λ text.
+        IsFragmentsText request query.now assignments.now text.items) }
+    ensures refused { IfErr result (IsFragmentsTextRefusal request query.now assignments.now) }
+    ensures only { IfErr result (λ e. e ≢ Failure.Write) }
+{
+    match assigned_fragments(alloc, assignments) {
+        Ok(entries) => named_text(alloc, query, &Fragments::Named(entries), request),
+        Err(failure) => Err(failure),
+    }
+}
+
+// The text of a query and of fragments, with the literals that are asked for.
+fn named_text(
+    alloc: Global,
+    query: &[u8],
+    fragments: &Fragments,
+    request: Request,
+) -> Result<Vec<u8>, Failure>
+    ensures bound { IfOk result (λ text. OnTokens (mode_of request.literals) query.now (λ ts.
+        IsFragmentsFor request.literals request.portability query.now ts
+        (given_fragments fragments.now) text.items)) }
+    ensures refused { IfErr result (λ e. OnTokens (mode_of request.literals) query.now (λ ts.
+        IsFragmentsRefusal request.literals request.portability query.now ts
+        (given_fragments fragments.now) e)) }
+{
+    match request.literals {
+        Literals::Plain {
+            no_backslash_escape,
+        } => plain_text(
+            alloc,
+            query,
+            fragments,
+            no_backslash_escape,
+            request.portability,
+        ),
+        Literals::Steady => match request.portability {
+            Portability::Portable => anywhere_text(alloc, query, fragments),
+            Portability::Any => any_mode_text(alloc, query, fragments),
+        },
+    }
+}
+
+// The text with literals of a mode.
+fn plain_text(
+    alloc: Global,
+    query: &[u8],
+    fragments: &Fragments,
+    no_backslash_escape: bool,
+    portability: Portability,
+) -> Result<Vec<u8>, Failure>
+    ensures bound { IfOk result (λ text. OnTokens no_backslash_escape query.now (λ ts.
+        IsFragmentsFor (Literals.Plain no_backslash_escape) portability query.now ts
+        (given_fragments fragments.now) text.items)) }
+    ensures refused { IfErr result (λ e. OnTokens no_backslash_escape query.now (λ ts.
+        IsFragmentsRefusal (Literals.Plain no_backslash_escape) portability query.now ts
+        (given_fragments fragments.now) e)) }
+{
+    match bind_fragments_in(alloc, query, fragments, no_backslash_escape) {
+        Ok(text) => Ok(text),
+        Err(error) => Err(Failure::Fragments(error)),
+    }
+}
+
+// The text with steady literals, of a portable query.
+fn anywhere_text(alloc: Global, query: &[u8], fragments: &Fragments) -> Result<Vec<u8>, Failure>
+    ensures bound { IfOk result (λ text. OnTokens false query.now (λ ts.
+        IsFragmentsFor Literals.Steady Portability.Portable query.now ts
+        (given_fragments fragments.now) text.items)) }
+    ensures refused { IfErr result (λ e. OnTokens false query.now (λ ts.
+        IsFragmentsRefusal Literals.Steady Portability.Portable query.now ts
+        (given_fragments fragments.now) e)) }
+{
+    match bind_fragments_anywhere(alloc, query, fragments) {
+        Ok(text) => Ok(text),
+        Err(error) => Err(Failure::SteadyFragments(error)),
+    }
+}
+
+// The text with steady literals, of any query.
+fn any_mode_text(alloc: Global, query: &[u8], fragments: &Fragments) -> Result<Vec<u8>, Failure>
+    ensures bound { IfOk result (λ text. OnTokens false query.now (λ ts.
+        IsFragmentsFor Literals.Steady Portability.Any query.now ts
+        (given_fragments fragments.now) text.items)) }
+    ensures refused { IfErr result (λ e. OnTokens false query.now (λ ts.
+        IsFragmentsRefusal Literals.Steady Portability.Any query.now ts
+        (given_fragments fragments.now) e)) }
+{
+    match bind_fragments_in_any_mode(alloc, query, fragments) {
+        Ok(text) => Ok(text),
+        Err(error) => Err(Failure::SteadyFragments(error)),
+    }
+}
