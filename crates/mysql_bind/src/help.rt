@@ -20,7 +20,7 @@ is text unless given:
       --file NAME[:TYPE]=PATH    the whole of a file
       --env NAME[:TYPE][=VAR]    the variable VAR (without =VAR, one named NAME)
       --null NAME                NULL
-      --json PATH                the members of one JSON object
+      --json PATH                the members of a JSON object; arrays are lists
       --pairs PATH               NAME[:TYPE]=VALUE, each ended by a byte 0
 A PATH of - is standard input, one of /dev/fd/N a pipe (a file is read whole).
 Types:
@@ -28,7 +28,10 @@ Types:
   line   UTF-8, one line; its newline is     uint   0 to 2^64-1
          dropped (a secret in a file)        bool   true or false: 1 or 0
   bytes  any bytes                           hex    bytes, in hexadecimal
-                                             base64 bytes, in base64
+  decimal     an exact number, as -1.50      base64 bytes, in base64
+  identifier  the name of a table or column, written in backquotes
+  list        a JSON array, as [1, 2], for IN (:ids): texts, whole and exact
+              numbers, true, false and null
 
 Rows (rows). The first line of CSV and TSV has the names. Each statement ends
 with `;` on a line of its own. The values above are the same in each row:
@@ -52,8 +55,8 @@ Literals:
 What is refused, unless you say otherwise:
       --allow-unportable     a query that servers or clients read in different ways
       --allow-unused         a value for a name that the query has not
-      --decimals=text        a JSON number that is no whole one of 64 bits: bind it
-                             as its own text
+      --decimals=exact|text  a JSON number that is no whole one of 64 bits: bind it
+                             as an exact number, or as its own text
 
 Output:
   -o, --output=PATH    write PATH, whole or not at all, in place of standard
