@@ -1,8 +1,8 @@
 //! The command `rows`: the query once for each row of a table.
 use crate::columns::{Wanted, column_types};
 use crate::complaint::{Complaint, bad_word};
-use crate::json_rows::add_objects;
 use crate::json_members::Decimals;
+use crate::json_rows::add_objects;
 use crate::matching::name_places;
 use crate::query_file::{QueryFile, complaint_of, read_query};
 use crate::records::add_records;

@@ -42,4 +42,5 @@ abbrev pub IsFragmentsFor : Literals → Portability → List ℕ → List Token
 IsFragmentsFor literals.Steady portability.Portable query ts given text =
     IsAnywhereFragments query ts given text
 IsFragmentsFor literals.Steady portability.Any query ts given text = IsSteadyFragments ts given text
-IsFragmentsFor (literals.Plain mode) wanted query ts given text = IsBoundFragments mode ts given text
+IsFragmentsFor (literals.Plain mode) wanted query ts given text =
+    IsBoundFragments mode ts given text

@@ -1,6 +1,6 @@
 //! The fragments that assignments give to the names of a query.
 ghost use Rattle.std.specs.Prelude.{◌≡◌, ◌≢◌, ℕ, List, Some, Ok, map, ok_or, IfOk, IfErr, OnOk, ⊤};
-ghost use Rattle.std.specs.FinMap.{contains_key, insert};
+ghost use Rattle.std.specs.FinMap.{contains_key};
 ghost use Rattle.mysql_values.specs.Answer.{IsAnswer};
 ghost use Rattle.mysql_fragments.specs.GivenFragments.{fragment_map};
 ghost use Rattle.mysql_fragments.specs.declared.fragment.Fragment as declared;

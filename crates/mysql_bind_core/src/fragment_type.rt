@@ -11,8 +11,8 @@ use mysql_values::bytes::Bytes;
 use mysql_values::value::Value;
 use std::alloc::{AllocError, Global};
 
-/// What the bytes put in the place of a name, if they are what the type takes: a fragment, which can
-/// be written.
+/// What the bytes put in the place of a name, if they are what the type takes: a fragment, which
+/// can be written.
 pub fn typed_fragment(
     alloc: Global,
     value_type: ValueType,

@@ -1,4 +1,4 @@
-use Rattle.std.proofs.Common.{◌≡◌, ◌++◌, drop, map}
+use Rattle.std.proofs.Common.{◌≡◌, drop, map}
 use Rattle.mysql_bind_core.specs.Contents.{all_of, named_content}
 use Rattle.mysql_bind_core.specs.Entries.{pair_said, pair_seen}
 use Rattle.mysql_bind_core.proofs.ContentLemmas.{before}

@@ -1,4 +1,4 @@
-use Rattle.std.proofs.Common.{◌≡◌, ◌++◌, drop, map}
+use Rattle.std.proofs.Common.{◌≡◌, drop, map}
 use Rattle.json.specs.Value.{value_view}
 use Rattle.mysql_bind_core.specs.Contents.{all_of, item_of, item_said}
 use Rattle.mysql_bind_core.proofs.ContentLemmas.{before}
