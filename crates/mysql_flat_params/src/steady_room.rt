@@ -152,6 +152,22 @@ fn query_refusal(query: &[u8], steadiness: Steadiness) -> Option<Outcome>
     ensures agree { result ≡ None → OnTokens true query.now HoldNoEscapes }
     ensures no_answer { IfSome result HasNoAnswer }
 {
+    if let Steadiness::Anywhere = steadiness {
+        // One walk passes most queries for any server.
+        let Some(_) = mysql_steady_text::query_refusal(query) else {
+            return None;
+        };
+    }
+    refusal_by_walks(query, steadiness)
+}
+
+// The same by a walk over its bytes and one over its tokens.
+fn refusal_by_walks(query: &[u8], steadiness: Steadiness) -> Option<Outcome>
+    ensures told { (mode : Bool) → OnTokens mode query.now (λ ts.
+        result ≡ refusal_as steadiness query.now ts) }
+    ensures agree { result ≡ None → OnTokens true query.now HoldNoEscapes }
+    ensures no_answer { IfSome result HasNoAnswer }
+{
     if let Some(outcome) = byte_refusal(query, steadiness) {
         return Some(outcome);
     }

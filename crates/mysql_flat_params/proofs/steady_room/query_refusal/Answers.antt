@@ -1,24 +1,17 @@
-use Rattle.std.proofs.Common.{Some, ap, refl, sym, ◌∙◌}
-use Rattle.mysql_flat_params.specs.declared.outcome.Outcome.TheVariants as variant
-use Rattle.mysql_flat_params.proofs.SteadyRoomLemmas.{both_told}
+use Rattle.std.specs.Prelude.{true}
+use Rattle.std.proofs.Common.{refl, sym, ◌∙◌}
+use Rattle.mysql_steady_text.proofs.QueryRefusalLemmas.{passed, passed_is_steady}
+use Rattle.mysql_flat_params.proofs.SteadyRoomLemmas.{agree_without_unsteady}
 use Rattle.mysql_flat_params.proofs.steady_room.query_refusal.Goals as goal
 
-pub returns-in-Some-clause-told : goal.returns-in-Some-clause-told
-returns-in-Some-clause-told c mode =
-    let t = c.byte_refusal.ensures.told mode in
-    let is = sym t.2 ∙ c.in-Some.is in
-    (t.0, t.1, rw is refl)
+pub returns-in_default-query_refusal-clause-told : goal.returns-in_default-query_refusal-clause-told
+returns-in_default-query_refusal-clause-told c mode =
+    let o = c.query_refusal.ensures mode in
+    let is = c.in-Anywhere.is in
+    let p = passed c.args.query.now o.0 (sym c.in_default-query_refusal.is ∙ o.2) in
+    (o.0, o.1, rw is (rw p.0 (rw p.1 refl)))
 
-pub returns-in-Some-first_unportable-clause-told : goal.returns-in-Some-first_unportable-clause-told
-returns-in-Some-first_unportable-clause-told c mode =
-    let o = both_told c.args.steadiness c.args.query.now c.byte_refusal.result c.first_unportable.result c.byte_refusal.ensures.told (c.byte_refusal.ensures.agree c.in_default.is) c.in_default.is c.first_unportable.ensures.first mode in
-    let byte = o.2.0 in
-    let found = o.2.1 ∙ c.in-Some-first_unportable.is in
-    (o.0, o.1, rw byte (rw found (ap (λ n. Some (variant.Unportable n c.in-Some-first_unportable.found.at)) c.construct_number.ensures)))
-
-pub returns-in-None-clause-told : goal.returns-in-None-clause-told
-returns-in-None-clause-told c mode =
-    let o = both_told c.args.steadiness c.args.query.now c.byte_refusal.result c.first_unportable.result c.byte_refusal.ensures.told (c.byte_refusal.ensures.agree c.in_default.is) c.in_default.is c.first_unportable.ensures.first mode in
-    let byte = o.2.0 in
-    let found = o.2.1 ∙ c.in-None.is in
-    (o.0, o.1, rw byte (rw found refl))
+pub returns-in_default-query_refusal-clause-agree : goal.returns-in_default-query_refusal-clause-agree
+returns-in_default-query_refusal-clause-agree c = λ none.
+    let o = c.query_refusal.ensures true in
+    agree_without_unsteady c.args.query.now (passed_is_steady c.args.query.now o.0 (sym c.in_default-query_refusal.is ∙ o.2))
