@@ -19,7 +19,8 @@ use Rattle.mysql_steady_text.specs.declared.steady_text_error.SteadyTextError.Th
 abbrev pub is_sure : ℕ → Bool
 is_sure b =
     is_steady b
-    && not (b == bracket || (b == dollar || (b == slash || (b == dash || (b == colon || b == question_mark)))))
+    && not (b == bracket || (b == dollar
+    || (b == slash || (b == dash || (b == colon || b == question_mark)))))
 
 -- after a `$` such a byte may begin a tag, or a place
 abbrev pub may_begin_tag : ℕ → Bool
@@ -42,14 +43,16 @@ may_take_dashes b = b == byte "e" || (b == byte "E" || is_sign b)
 abbrev pub may_take_place : ℕ → Bool
 may_take_place b = is_ascii_digit b || (b == point || is_sign b)
 
--- the byte, after the one before and before this rest, isn't steady, or may begin or end a construct
+-- the byte, after the one before and before this rest, isn't steady, or may begin or end a
+-- construct
 abbrev pub is_in_doubt : ℕ → ℕ → List ℕ → Bool
 is_in_doubt before b rest =
     not (is_steady b)
     || (b == bracket
     || ((b == dollar && begins may_begin_tag rest)
     || ((b == slash && begins_special_block rest)
-    || ((b == dash && (may_open_line rest || (may_take_dashes before && begins (λ c. c == dash) rest)))
+    || ((b == dash
+    && (may_open_line rest || (may_take_dashes before && begins (λ c. c == dash) rest)))
     || (may_take_place before && begins_place (b ∷ rest))))))
 
 -- after this byte, no byte of the text is in doubt

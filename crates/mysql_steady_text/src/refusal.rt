@@ -8,9 +8,8 @@ use crate::steady_text_error::SteadyTextError;
 use mysql_named_params::portable::first_unportable;
 use mysql_named_params::steady::first_unsteady;
 
-/// The refusal of a query for which
-/// [`bind_text_anywhere`](crate::bind_text_anywhere) needn't look at parameters: `Unsteady`, or else
-/// `Unportable`; lent to the crates above. It allocates nothing.
+/// The refusal of a query for which [`bind_text_anywhere`](crate::bind_text_anywhere) needn't look
+/// at parameters: `Unsteady`, or else `Unportable`; lent to the crates above. It allocates nothing.
 ///
 /// Most queries pass by one quick walk. If a byte is in doubt there, two more find what refuses the
 /// query, or that nothing does.

@@ -12,9 +12,12 @@ returns-clause-written c = λ zero.
 
 pub returns-clause-refused : goal.returns-clause-refused
 returns-clause-refused c mode =
-    let o = c.bind_in_both_modes_into-outcome.ensures.refused mode in
-    (o.0, o.1, λ none told is.
-    ap (λ z. to_z w32 (of_z w32 z)) (c.number.ensures.number ∙ ap (λ x. pos (number_of x)) (o.2 none told is)) ∙ number_kept told)
+    let o = c.bind_in_both_modes_into-outcome.ensures.refused mode in (
+      o.0,
+      o.1,
+      λ none told is.
+          ap (λ z. to_z w32 (of_z w32 z)) (c.number.ensures.number ∙ ap (λ x. pos (number_of x)) (o.2 none told is)) ∙ number_kept told,
+    )
 
 pub returns-clause-mixed : goal.returns-clause-mixed
 returns-clause-mixed c mode =
