@@ -127,7 +127,7 @@ fn read_lines(rt: &HostRuntime, room: &mut [u8]) -> io::Result<usize> {
 }
 
 fn main(rt: HostRuntime) -> io::Result<()> {
-    let mut room = [0u8; 8192];
+    let mut room = [0u8; 16_384];
     let len = read_lines(&rt, &mut room)?;
     let read = room.get(..len).unwrap_or(&[]);
     let text = str::from_utf8(read).unwrap_or("");
