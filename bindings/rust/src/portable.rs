@@ -5,15 +5,15 @@ use std::fmt;
 /// to write instead.
 #[derive(Clone, Copy, Debug, PartialEq, Eq, Hash)]
 pub enum Construct {
-    /// `/*!`, not quiet: executed, or skipped by the version of the server. It is quiet if it is closed, no `*` stands
-    /// directly after it, and it holds no quote, backquote, `#`, `--`, `/*`, place, `;`, backslash, `[`, `$$`, `$tag$` or
-    /// `.5e-- `.
+    /// `/*!`, not quiet: executed, or skipped by the version of the server. It is quiet if it is closed, white space, `,`,
+    /// `)`, `;` or the end stands directly after it, white space or its end after its `!` (and a version of 5 or 6 digits
+    /// there), and it holds no quote, backquote, `#`, `-`, `/*`, place, `;`, backslash, `[`, `$$`, `$tag$` or `.5e-- `.
     ExecutableComment,
     /// `/*+`, not quiet: an optimizer hint after some words, a comment elsewhere.
     Hint,
     /// `/*M!`, not quiet: executed by MariaDB, a comment to MySQL.
     MariaDbComment,
-    /// `--` before a byte that is neither printable ASCII nor white space: a comment on some servers.
+    /// `--` before a byte that is neither printable ASCII nor white space: a comment on some servers. Or before `/`.
     Dashes,
     /// `"..\".."`: with `ANSI_QUOTES` an identifier, which ends at the quote after the backslash.
     EscapedQuote,
