@@ -10,7 +10,7 @@ import random
 import mysql_params
 from harness import Tests, same
 from mysql_params import Identifier, Keyword
-from protocol import Connection, ServerError
+from protocol import Connection, code_of
 from search import random_query, sql_modes
 from strings import is_utf8, random_strings
 
@@ -93,18 +93,9 @@ def _ascii_names(connection: Connection, mode: bool) -> str:
     for byte in range(1, 128):
         name = f"a{chr(byte)}"
         if chr(byte) in _SPACES[:-1]:
-            refused = _code(connection, _bound(b"CREATE TABLE strings.never (? INT)", [Identifier(name)], mode))
+            refused = code_of(connection, _bound(b"CREATE TABLE strings.never (? INT)", [Identifier(name)], mode))
             same(refused, _WRONG_COLUMN, name)
     return f"{len(names)} names"
-
-
-def _code(connection: Connection, text: bytes) -> int:
-    """Return the code of the server's refusal, or 0."""
-    try:
-        connection.query(text)
-    except ServerError as error:
-        return error.code
-    return 0
 
 
 def _hostile_names(connection: Connection, mode: bool) -> str:

@@ -310,3 +310,12 @@ def _minus_code(packet: bytes) -> int:
 def _count(packet: bytes) -> int:
     """Return the number of columns that begins a result."""
     return int.from_bytes(packet[1:3], "little") if packet[0] == 0xFC else packet[0]
+
+
+def code_of(connection: Connection, text: bytes) -> int:
+    """Return the code of the server's refusal, or 0."""
+    try:
+        connection.query(text)
+    except ServerError as error:
+        return error.code
+    return 0
