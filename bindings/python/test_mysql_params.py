@@ -6,6 +6,7 @@ import decimal
 import doctest
 import enum
 import gc
+import itertools
 import os
 import pathlib
 import pickle
@@ -15,7 +16,7 @@ import unittest
 from unittest import mock
 
 import mysql_params
-from mysql_params import Construct, _archive, _form, bind, bind_anywhere, bind_form, bind_form_anywhere, bind_rows
+from mysql_params import Construct, _archive, _form, _rows, bind, bind_anywhere, bind_form, bind_form_anywhere, bind_rows
 from mysql_params import first_unportable, first_unportable_in_client, names
 from shared_cases import CASES, CONSTRUCTS, FIELDS, NUMBERS, cases, text_of
 
@@ -151,6 +152,37 @@ class Test(unittest.TestCase):
         self.assertEqual(_form.row_form({"a": None}), b"\4\1a\6\0")
         self.assertEqual(_form.row_form(None), b"\0")
 
+    def test_forms_of_rows_together(self):
+        columns = (
+            [0, -1, (1 << 63) - 1, -(1 << 63), True],
+            ["", "it's", "\u20ac" * 30, "x" * 100],
+            [b"", b"\xff\0", b"y" * 100],
+            [None] * 3,
+            [None, 7, False, "x", b"y"],
+        )
+        for width in range(4):
+            for chosen in itertools.product(columns, repeat=width):
+                rows = [kind(column[at % len(column)] for column in chosen) for at, kind in enumerate([tuple, list] * 3)]
+                if any(len(_form.form_of(row)) > 250 for row in rows):
+                    self.assertIsNone(_rows.rows_form(rows))
+                else:
+                    self.assertEqual(_rows.rows_form(rows), b"".join(map(_form.row_form, rows)))
+        for others in ([], [(1,), (1, 2)], [(1,), {"a": 1}], [{1}], ["x"], [None], [(0.5,)], [(1 << 63,)], [("\ud800",)]):
+            with self.subTest(rows=others):
+                self.assertIsNone(_rows.rows_form(others))
+
+    def test_rows_that_change(self):
+        def changed():
+            row, text = [0, bytearray(b"x")], bytearray(b"a")
+            for number in range(1000):
+                row[0], text[0] = number, 97 + number % 26
+                yield row
+                yield (number, text)
+
+        texts = bind_rows("?, ?", changed())
+        wanted = [(b"%d, 'x'" % number, b"%d, '%c'" % (number, 97 + number % 26)) for number in range(1000)]
+        self.assertEqual(texts, list(itertools.chain.from_iterable(wanted)))
+
     def test_rows_of_use(self):
         for error, row in (
             (OverflowError, [1 << 64]),
@@ -163,6 +195,10 @@ class Test(unittest.TestCase):
             with self.subTest(row=row), self.assertRaises(error) as raised:
                 bind_rows("?", [["x"], row, ["y"]])
             self.assertEqual((raised.exception.row, raised.exception.texts), (1, [b"'x'"]))
+            rows = [("x",)] * 600 + [row] + [("y",)] * 600
+            with self.subTest(row=row, rows=1201), self.assertRaises(error) as raised:
+                bind_rows("?", rows)
+            self.assertEqual((raised.exception.row, raised.exception.texts), (600, [b"'x'"] * 600))
             # An earlier row is refused first.
             with self.subTest(row=row), self.assertRaises(mysql_params.MarkCountError) as raised:
                 bind_rows("?", [["x"], [], row])
@@ -171,6 +207,9 @@ class Test(unittest.TestCase):
             bind_rows("?", 5)
         with self.assertRaises(TypeError):
             bind_rows("?", [], "ANSI_QUOTES")
+        with self.assertRaises(mysql_params.MarkCountError) as raised:
+            bind_rows("?", [(1,)] * 1000 + [()] + [(1,)] * 1000)
+        self.assertEqual((raised.exception.row, raised.exception.texts), (1000, [b"1"] * 1000))
         with self.assertRaises(mysql_params.FloatError) as raised:
             bind_rows(":a", [{"a": 1}, {"a": 0.5}])
         self.assertEqual((raised.exception.name, raised.exception.row), ("a", 1))

@@ -118,6 +118,7 @@ class Test(unittest.TestCase):
                     call("?", [value])
                 self.assertIn(message, str(raised.exception))
 
+    @unittest.skipIf(numpy is None, "numpy is missing")
     def test_numpy(self):
         for value, wanted in (
             (numpy.int64(-1), b"-1"),

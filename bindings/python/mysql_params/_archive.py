@@ -10,6 +10,7 @@ from collections.abc import Iterable
 from typing import Optional, Union
 
 from . import _form
+from ._rows import rows_form
 from .errors import _ERRORS, Error, Fault, FloatError, FragmentError, OutOfMemoryError, RepeatedNameError
 from .portable import Construct, Unportable
 
@@ -218,6 +219,8 @@ def refusal(number: int, report: Report, query: bytes, form: bytes, mode: Union[
 
 # Once the forms of rows, or their texts by a guess, have so many bytes, the rows are bound.
 BATCH = 1 << 18
+# Of so many rows at most the forms are made together.
+ROWS = 512
 
 
 class Binder:
@@ -227,6 +230,7 @@ class Binder:
         self.query, self.mode = query, flag(mode)
         self.texts: list[bytes] = []
         self.room = bytearray()
+        self.most = 1 + BATCH // (len(query) + 1)
 
     def bind(self, forms: bytes, guess: int) -> None:
         """Append the texts of rows whose forms stand one after another, each as a length-encoded string.
@@ -253,14 +257,18 @@ class Binder:
                 raise refusal(number, report, self.query, next_string(forms, 0)[0], self.mode)
             guess = max(2 * room_len, report.len)
 
-    def bind_batch(self, forms: list[bytes], size: int) -> None:
-        """Do so of rows whose forms have this size. A literal of bytes has at most twice their number, and quotes."""
-        self.bind(b"".join(forms), 2 * size + len(forms) * (len(self.query) + 9))
+    def guess(self, size: int, count: int) -> int:
+        """Return how long texts of rows are, by the size of their forms: a literal has twice its bytes at most, and quotes."""
+        return 2 * size + count * (len(self.query) + 9)
 
-    def bind_all(self, rows: Iterable[object]) -> None:
-        """Append the texts of all rows, batch after batch, or raise for the first that is refused."""
+    def bind_batch(self, forms: list[bytes], size: int) -> None:
+        """Append the texts of rows whose forms have this size."""
+        self.bind(b"".join(forms), self.guess(size, len(forms)))
+
+    def bind_each(self, rows: Iterable[object]) -> None:
+        """Append the texts of rows whose forms are made one after another, or raise for the first that is refused."""
         forms: list[bytes] = []
-        size, most = 0, 1 + BATCH // (len(self.query) + 1)
+        size = 0
         row_form = _form.row_form
         for params in rows:
             try:
@@ -272,10 +280,28 @@ class Binder:
                 raise
             forms.append(form)
             size += len(form)
-            if size >= BATCH or len(forms) >= most:
+            if size >= BATCH or len(forms) >= self.most:
                 self.bind_batch(forms, size)
                 forms, size = [], 0
         self.bind_batch(forms, size)
+
+    def bind_all(self, rows: Iterable[object]) -> None:
+        """Append the texts of all rows, batch after batch, or raise for the first that is refused.
+
+        Only of a list or a tuple of rows may the forms be made together: what makes rows one after another may change a row, or a
+        value of it, as soon as it is asked for the next.
+        """
+        if type(rows) is not list and type(rows) is not tuple:
+            self.bind_each(rows)
+            return
+        count = min(ROWS, self.most)
+        for first in range(0, len(rows), count):
+            batch = rows[first : first + count]
+            forms = rows_form(batch)
+            if forms is None:
+                self.bind_each(batch)
+            else:
+                self.bind(forms, self.guess(len(forms), len(batch)))
 
 
 def bind_rows(query: bytes, rows: Iterable[object], mode: bool) -> list[bytes]:
@@ -321,18 +347,19 @@ def next_string(answer: bytes, begin: int) -> tuple[bytes, int]:
 
 def append_strings(to: list[bytes], answer: bytes) -> None:
     """Append the length-encoded strings of which an answer is a row."""
+    append = to.append
     at, end = 0, len(answer)
     while at < end:
+        begin = at + 1
         length = answer[at]
         if length > 250:
             string, at = next_string(answer, at)
-            to.append(string)
+            append(string)
             continue
-        begin = at + 1
         at = begin + length
-        if at > end:
-            raise RuntimeError("the answer of the archive is no row of strings")
-        to.append(answer[begin:at])
+        append(answer[begin:at])
+    if at > end:
+        raise RuntimeError("the answer of the archive is no row of strings")
 
 
 def names_of(query: bytes, mode: bool) -> tuple[bytes, list[str]]:

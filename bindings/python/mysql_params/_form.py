@@ -183,10 +183,11 @@ def form_of(params: object, zone: Optional[datetime.tzinfo] = None) -> bytes:
     return form_by(params, lambda value, which: value_form(value, which, zone))
 
 
-# Heads of parameters by position, up to their values.
-_INT_HEAD = bytes([0, _LONGLONG, 0])
-_TEXT_HEADS = [bytes([0, _VAR_STRING, 0, length]) for length in range(251)]
-_NULL_FORM = bytes([0, _NULL, 0])
+# Heads of parameters by position, up to their values, or up to the length of a string.
+INT_HEAD = bytes([0, _LONGLONG, 0])
+TEXT_HEAD = bytes([0, _VAR_STRING, 0])
+_TEXT_HEADS = [TEXT_HEAD + bytes([length]) for length in range(251)]
+NULL_FORM = bytes([0, _NULL, 0])
 _LENGTHS = [bytes([length]) for length in range(251)]
 
 _pack_int = struct.Struct("<3sq").pack
@@ -194,7 +195,7 @@ _pack_int = struct.Struct("<3sq").pack
 
 def _quick_int(number: int) -> bytes:
     """Return the flat form of a whole number by position; it is a struct.error if that has more than 64 bits."""
-    return _pack_int(_INT_HEAD, number)
+    return _pack_int(INT_HEAD, number)
 
 
 def _quick_text(text: str) -> bytes:
@@ -210,10 +211,10 @@ def _quick_bytes(string: bytes) -> bytes:
 
 def _quick_null(value: None) -> bytes:
     """Return the flat form of NULL by position."""
-    return _NULL_FORM
+    return NULL_FORM
 
 
-_QUICK: dict[type, Callable[[Any], bytes]] = {
+QUICK: dict[type, Callable[[Any], bytes]] = {
     int: _quick_int,
     bool: _quick_int,
     str: _quick_text,
@@ -227,7 +228,7 @@ def quick_form(params: object) -> Optional[bytes]:
     """Return the flat form of a row's parameters; None unless they are in order, and of what most rows are of."""
     if type(params) is tuple or type(params) is list:
         try:
-            return b"".join([_QUICK[type(value)](value) for value in params])
+            return b"".join([QUICK[type(value)](value) for value in params])
         except (KeyError, IndexError, UnicodeEncodeError, struct.error):
             pass
     return None
@@ -236,7 +237,7 @@ def quick_form(params: object) -> Optional[bytes]:
 def quick_items(values: Iterable[object]) -> Optional[bytes]:
     """Return the flat form of values as items; None unless they are what most rows are of."""
     try:
-        return b"".join([_QUICK[type(value)](value)[1:] for value in values])  # The first byte is of a name.
+        return b"".join([QUICK[type(value)](value)[1:] for value in values])  # The first byte is of a name.
     except (KeyError, IndexError, UnicodeEncodeError, struct.error):
         return None
 

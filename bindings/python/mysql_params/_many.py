@@ -20,7 +20,7 @@ class _Binder(_archive.Binder):
         super().__init__(query, mode)
         self.zone = zone
         self.forms: list[bytes] = []
-        self.size, self.most = 0, 1 + _archive.BATCH // (len(query) + 1)
+        self.size = 0
 
     def bind_gathered(self) -> None:
         """Append the texts of the rows that wait for it."""
