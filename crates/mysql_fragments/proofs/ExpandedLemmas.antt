@@ -1,7 +1,7 @@
 -- Queries with fragments, as the code writes them.
 use Rattle.std.specs.Prelude.{Bool, Ok, option_map, alloc_error}
 use Rattle.std.specs.Option.{option_or}
-use Rattle.std.proofs.Common.{◌≡◌, ◌+◌, ◌++◌, ◌<◌, ◌≤◌, ℕ, true, false, List, [], ◌∷◌, length, map, take, drop, get_or, Some, None, Option, arith, inl, inr, refl, sym, ap, ◌∙◌, subst, append_assoc, drop-drop, add-one, drop-cons, eq-eqb}
+use Rattle.std.proofs.Common.{◌≡◌, ◌+◌, ◌++◌, ◌<◌, ◌≤◌, ℕ, true, false, List, [], ◌∷◌, length, map, take, drop, get_or, Some, None, Option, arith, inl, inr, refl, sym, ap, ◌∙◌, subst, append_assoc, add-one, drop-cons, eq-eqb}
 use Rattle.std.proofs.lemmas.List.{drop_all, length-map, get_or-map}
 use Rattle.mysql_values.specs.declared.value.Value.{Value}
 use Rattle.mysql_named_params.specs.Tokens.{Token, IsTokens, OnTokens, text_of, bytes_of, Name, Mark}
@@ -168,14 +168,14 @@ module _ (mode : Bool) (query rest : List ℕ) (fragments : List Fragment) (i : 
       let same : o.0 ≡ s.left = one_token_list mode rest o.0 s.left o.1 s.rest_tokens in
       omega (arith, below, s.places_left, ap place_count same, o.2)
 
-  pub spliced_more : (run from_place after text1 text2 : List ℕ) (fragment : Fragment) (found : FoundPlace) →
+  pub spliced_more : (run after text1 text2 : List ℕ) (fragment : Fragment) (found : FoundPlace) →
       i < length fragments → fragment ≡ get_or fragments i fragment →
       OnTokens mode rest (λ us. IsFirstPlace us found) → run ≡ take found.before rest →
-      from_place ≡ drop found.before rest → after ≡ drop found.len from_place → text1 ≡ text ++ run →
+      after ≡ drop (found.before + found.len) rest → text1 ≡ text ++ run →
       text2 ≡ text1 ++ fragment_text fragment → SplicedSoFar mode query after fragments (i + 1) text2
-  spliced_more run from_place after text1 text2 fragment found below fragment_is o run_is from_is after_is more more' =
+  spliced_more run after text1 text2 fragment found below fragment_is o run_is after_is more more' =
       let p = parted mode rest s.left found s.rest_tokens o in
-      let after_rest : drop (found.before + found.len) rest ≡ after = sym (drop-drop found.len found.before rest) ∙ sym (after_is ∙ ap (drop found.len) from_is) in
+      let after_rest : drop (found.before + found.len) rest ≡ after = sym after_is in
       let texts : List (List ℕ) = map fragment_text fragments in
       let below_texts : i < length texts = omega (arith, below, length-map fragments fragment_text) in
       let cut : drop i texts ≡ fragment_text fragment ∷ drop (i + 1) texts =

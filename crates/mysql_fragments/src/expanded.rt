@@ -344,8 +344,7 @@ fn spliced_text(
         let Some(found) = first_place(rest, no_backslash_escape) else {
             unreachable!()
         };
-        let (piece, from_place) = rest.split_at(found.before);
-        let (_, after) = from_place.split_at(found.len);
+        let (piece, _, after) = found.cut(rest);
         text.extend_from_slice(piece)?;
         push_fragment(&mut text, *fragment)?;
         rest = after;

@@ -15,9 +15,9 @@ unreachable-requires c =
 
 pub loop-fragment-preserved : goal.loop-fragment-preserved
 loop-fragment-preserved c =
-    spliced_more _ _ _ (referents c.args.fragments.now) _ _ c.loop-fragment.invariant _ _ _ _ _ _ _ (omega (arith, c.loop-fragment-test.true, length-map c.args.fragments.now (λ r. r.now)))
+    spliced_more _ _ _ (referents c.args.fragments.now) _ _ c.loop-fragment.invariant _ _ _ _ _ _ (omega (arith, c.loop-fragment-test.true, length-map c.args.fragments.now (λ r. r.now)))
     (referent_is c.args.fragments.now c.loop-fragment.fragment-index c.fragment-item.result c.loop-fragment-test.true c.fragment-item.is)
-    c.in-Some.ensures.place c.split_at.ensures.front c.split_at.ensures.back c.split_at-in-loop-fragment.ensures.back
+    c.in-Some.ensures.place c.cut.ensures.before c.cut.ensures.after
     c.in_ok-extend_from_slice.ensures.items c.in_ok-push_fragment.ensures
 
 pub returns : goal.returns
