@@ -200,7 +200,7 @@ fn value_of_kind(alloc: Global, kind: u8, text: &[u8]) -> Result<Value, WordsErr
     match kind {
         b'i' => int_of_text(alloc, text),
         b'u' => uint_of_text(alloc, text),
-        b's' => bytes_value(alloc, text),
+        b's' => bytes_of_text(alloc, text),
         _ => Err(WordsError::Usage),
     }
 }
@@ -222,7 +222,7 @@ fn int_of_text(alloc: Global, text: &[u8]) -> Result<Value, WordsError>
     ensures { IsAnswer (λ value. value) words_refusal
         (ok_or (int_of_text text.now) usage) ⊤ result }
 {
-    match from_value_opt::<i64>(bytes_value(alloc, text)?) {
+    match from_value_opt::<i64>(bytes_of_text(alloc, text)?) {
         Ok(number) => Ok(Value::Int(number)),
         Err(_) => Err(WordsError::Usage),
     }
@@ -233,14 +233,14 @@ fn uint_of_text(alloc: Global, text: &[u8]) -> Result<Value, WordsError>
     ensures { IsAnswer (λ value. value) words_refusal
         (ok_or (uint_of_text text.now) usage) ⊤ result }
 {
-    match from_value_opt::<u64>(bytes_value(alloc, text)?) {
+    match from_value_opt::<u64>(bytes_of_text(alloc, text)?) {
         Ok(number) => Ok(Value::UInt(number)),
         Err(_) => Err(WordsError::Usage),
     }
 }
 
 // The `Bytes` of a text.
-fn bytes_value(alloc: Global, text: &[u8]) -> Result<Value, WordsError>
+fn bytes_of_text(alloc: Global, text: &[u8]) -> Result<Value, WordsError>
     ensures { IsAnswer (λ value. value) words_refusal (Ok (BytesOf text.now)) ⊤ result }
 {
     let bytes = Vec::from_slice(alloc, text).map_err(WordsError::Memory)?;
