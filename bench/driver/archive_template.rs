@@ -82,7 +82,7 @@ impl<'q> Template<'q> {
     }
 }
 
-/// The template in these places. Where they are too few, the template of the empty query, with the
+/// The template in these places. If they are too few, the template of the empty query, with the
 /// number of places in the report's `len`.
 fn places_of(query: &[u8], no_backslash_escape: bool, places: &mut [Place]) -> (Fields, Report) {
     let mut fields = Fields {

@@ -122,7 +122,7 @@ fn query(random: &mut Random) -> Vec<u8> {
     query
 }
 
-/// Parameters in flat form, and as they are to be read where the form has no fault.
+/// Parameters in flat form, and as they are to be read if the form has no fault.
 fn form(random: &mut Random, query: &[u8]) -> (Vec<u8>, Option<Params>) {
     let names = names_for(random, query);
     let mut form = Vec::new();

@@ -57,7 +57,7 @@ fn short_queries(longest: usize, differences: &mut Differences) -> u64 {
     queries
 }
 
-/// The query in the mode with backslash escapes, and, where it has a backslash, in the other.
+/// The query in the mode with backslash escapes, and, if it has a backslash, in the other.
 fn short_query(query: &[u8], values: &[Vec<u8>], one_name: &[u8], differences: &mut Differences) {
     short_query_in::<Table>(Mode::WithBackslashes, query, values, one_name, differences);
     if query.contains(&b'\\') {

@@ -21,7 +21,7 @@ pub enum Mode {
     Anywhere,
 }
 
-/// A call: of `names` where there is no form.
+/// A call: of `names` if there is no form.
 #[derive(Clone)]
 struct Call {
     mode: Mode,
@@ -152,7 +152,7 @@ impl Differences {
         }
     }
 
-    /// Prints the counts and the smallest difference. It fails where there is one, and where a
+    /// Prints the counts and the smallest difference. It fails if there is one, and if a
     /// number was never answered.
     pub fn print(mut self) -> ExitCode {
         let counts =

@@ -42,7 +42,7 @@ impl Report {
         self.tables += &format!("\n| {} |\n{rule}\n", columns.join(" | "));
     }
 
-    /// The time of the first side over that of each other, and over that of the second where freed
+    /// The time of the first side over that of each other, and over that of the second if freed
     /// memory is given back.
     pub fn ratios(&mut self, input: &Input, kept: &[f64], given_back: &[f64]) {
         let mut cells: Vec<String> =

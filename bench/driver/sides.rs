@@ -39,7 +39,7 @@ pub const BY_TEMPLATE: [&str; 6] = [
     "`memcpy` of the query",
 ];
 
-/// The archive and plain Rust, and upstream's parser where it is built in.
+/// The archive and plain Rust, and upstream's parser if it is built in.
 const NAMES: &[Names] = &[
     archive::names,
     TABLE.names,

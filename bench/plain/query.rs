@@ -82,7 +82,7 @@ fn string_end<S: Search>(query: &[u8], mut at: usize, quote: u8) -> usize {
     }
 }
 
-/// The names of a query, and the query with `?` in their places, which is empty where there are no
+/// The names of a query, and the query with `?` in their places, which is empty if there are no
 /// names.
 pub struct Parsed<'q> {
     pub renamed: Vec<u8>,

@@ -64,7 +64,7 @@ pub fn names<S: Search>(query: &[u8], room: &mut [u8]) -> (i32, Report) {
     fill_names(if names.is_empty() { query } else { &renamed }, &names, room)
 }
 
-/// Writes the answer of `names` into the room, or nothing where it is longer.
+/// Writes the answer of `names` into the room, or nothing if it is longer.
 pub fn fill_names<N: AsRef<[u8]>>(renamed: &[u8], names: &[N], room: &mut [u8]) -> (i32, Report) {
     let names_len: usize = names.iter().map(|name| string_len(name.as_ref())).sum();
     let len = string_len(renamed) + names_len;
@@ -124,7 +124,7 @@ pub fn bind_form(
     }
 }
 
-/// Copies a text into the room, or nothing where it is longer.
+/// Copies a text into the room, or nothing if it is longer.
 #[inline(always)]
 pub fn fill_text(text: &[u8], room: &mut [u8]) -> (i32, Report) {
     let report = Report { len: text.len(), ..Report::default() };

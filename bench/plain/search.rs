@@ -1,6 +1,6 @@
 //! Searches for the next byte of a set: by a table of 256, and by 16 bytes at once.
 //!
-//! Each search gives the first index at or after `from`, and the length of the text where it finds
+//! Each search gives the first index at or after `from`, and the length of the text if it finds
 //! nothing.
 
 #[cfg(not(target_arch = "x86_64"))]

@@ -16,7 +16,7 @@ class Tests:
         self.failed = 0
 
     def run(self, name: str, function, *arguments) -> None:
-        """Run a test: it fails where it raises, and may return a note."""
+        """Run a test: it fails if it raises, and may return a note."""
         begin = time.monotonic()
         try:
             note = function(*arguments)
@@ -36,6 +36,6 @@ class Tests:
 
 
 def same(got, wanted, of) -> None:
-    """Fail where something isn't what is wanted."""
+    """Fail if something isn't what is wanted."""
     if got != wanted:
         raise AssertionError(f"{of!r}: got {got!r}, wanted {wanted!r}")

@@ -225,7 +225,7 @@ class Connection:
         self._logged_in(3)
 
     def _logged_in(self, number: int) -> None:
-        """Answer the server where it names a plugin once more, by a packet of this number: there is no password."""
+        """Answer the server if it names a plugin once more, by a packet of this number: there is no password."""
         if self._checked()[0] == 0xFE:
             self._send(b"", number)
             self._checked()

@@ -96,7 +96,7 @@ _ACCOUNTS = {
     b" MICROSECOND(c)",
 }
 
-# How the server compares a value with a literal, where not by the bytes of both.
+# How the server compares a value with a literal, if not by the bytes of both.
 _COMPARED = {"whole": b"c <=> ?", "date": b"c <=> ?", "time": b"c <=> ?", "text": b"HEX(CAST(c AS CHAR)) <=> HEX(?)",
              "bits": b"HEX(CAST(c AS BINARY)) <=> HEX(?)"}
 

@@ -144,7 +144,7 @@ _FORMS = {
 
 
 def _forms(source: random.Random, query: bytes, mode: bool) -> Optional[list]:
-    """Return the forms of four values by which the query can be bound, or None where it can't."""
+    """Return the forms of four values by which the query can be bound, or None if it can't."""
     kind = 0 if source.random() < 0.85 else 1
     name, marks = b"a", 1
     try:
@@ -163,7 +163,7 @@ def _forms(source: random.Random, query: bytes, mode: bool) -> Optional[list]:
 
 
 def bound_query(source: random.Random, query: bytes, mode: bool) -> Optional[Bound]:
-    """Return a query with its texts. Of queries that are not portable one in eight has some."""
+    """Return a query with its texts. One in eight of those that are not portable has some."""
     forms = _forms(source, query, mode)
     if forms is None:
         return None

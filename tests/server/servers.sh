@@ -13,7 +13,7 @@ is_root() {
     [ "$(id -u)" -eq 0 ]
 }
 
-# Installs packages: install_packages COMMAND PACKAGE.. does so where the command is missing.
+# Installs packages: install_packages COMMAND PACKAGE.. does so if the command is missing.
 install_packages() {
     command=$1
     shift
@@ -30,7 +30,7 @@ install_packages() {
     has "$command"
 }
 
-# Makes a root of sid with packages in it, where it doesn't stand: make_root NAME PACKAGES
+# Makes a root of sid with packages in it, if it doesn't stand: make_root NAME PACKAGES
 make_root() {
     root=$roots/$1
     [ ! -d "$root" ] || return 0
@@ -114,7 +114,7 @@ own_tables() {
     cat "$root/usr/share/mariadb/maria_add_gis_sp_bootstrap.sql" "$root/usr/share/mariadb/mariadb_sys_schema.sql"
 }
 
-# Makes the data folders of both servers: for nobody where this is root, since a server refuses to be root.
+# Makes the data folders of both servers: for nobody if this is root, since a server refuses to be root.
 make_data() {
     user=
     mkdir "$place/server" "$place/second"

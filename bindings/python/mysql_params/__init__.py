@@ -167,7 +167,7 @@ def names(query: Union[str, bytes], no_backslash_escape: bool = False) -> Names:
 def first_unportable(query: Union[str, bytes], no_backslash_escape: bool = False) -> Optional[Unportable]:
     """Return the first construct of a query that servers read in different ways, and where it begins.
 
-    A place after an exponent, where a value's digits would join a number, is one too. None says that the query is
+    A place after an exponent, since a value's digits would join the number, is one too. None says that the query is
     portable. Ask it of each query, once, before you bind to it. What stands within strings, quoted identifiers and
     comments is none, but a quote after a backslash in a string in double quotes. A str is taken as its UTF-8, and
     positions count its bytes. The flag is that of bind.

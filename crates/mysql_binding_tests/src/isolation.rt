@@ -6,7 +6,7 @@ use crate::shared::{
 use std::alloc::{AllocError, Global};
 use std::process::Abort;
 
-/// With backslash escapes: what stands after the backslash for a byte between quotes, where it
+/// With backslash escapes: what stands after the backslash for a byte between quotes, if it
 /// isn't the byte itself.
 const ESCAPES: &[(u8, u8)] = &[
     (0, b'0'),

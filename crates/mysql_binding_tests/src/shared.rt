@@ -229,7 +229,7 @@ pub(crate) fn are_bound_by(
     }
 }
 
-/// By each of the calls, the query is bound to the text where its one mark stands for this string.
+/// By each of the calls, the query, with this string for its one mark, is bound to the text.
 pub(crate) fn string_is_bound_by(
     rt: &impl Abort,
     alloc: Global,

@@ -23,7 +23,7 @@ fn refused(byte: u8, at: usize) -> Refused<'static> {
     }
 }
 
-/// In either mode, the query is bound to the text where its byte may stand beside the place, and
+/// In either mode, the query is bound to the text if its byte may stand beside the place, and
 /// else it is refused so.
 fn answers(
     rt: &impl Abort,

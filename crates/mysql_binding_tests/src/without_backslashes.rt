@@ -63,7 +63,7 @@ fn a_name_after_a_string_with_a_backslash(rt: HostRuntime) {
     are_refused_by(&rt, rt.alloc(), WITHOUT_BACKSLASHES, AFTER_A_STRING);
 }
 
-/// Queries that have the name `b` where a backslash escapes nothing; else it stands in an open
+/// Queries that have the name `b` if a backslash escapes nothing; else it stands in an open
 /// string.
 const NAMELESS_WITH_BACKSLASHES: &[(&[u8], Given<'_>, Refused<'_>)] = &[
     (b"SELECT 'a\\':b", TEXT_FOR_B, Refused::NamedGiven),

@@ -180,7 +180,7 @@ fn refused_forms(rt: HostRuntime) {
 /// Queries, forms, and why binding is refused.
 const CAUSES: &[(&[u8], &[u8], Outcome)] = &[
     (b":a ?", b"", Outcome::Mixed),
-    // Nothing is given: the first name. By name: the last, where the given ones are a beginning.
+    // Nothing is given: the first name. By name: the last, if the given ones are a prefix.
     (
         b"x, :a, :b",
         b"",

@@ -182,7 +182,7 @@ const KINDS: &[Kind] = &[
 ];
 
 /// Appends an open token with so many bytes inside, and a backslash before one place of these,
-/// where there is one.
+/// if there is one.
 fn append_open(
     text: &mut Vec<u8>,
     kind: &Kind,

@@ -156,7 +156,7 @@ const LITERALS: &[(Plain, bool, &str)] = &[
         false,
         "'2019-11-27 12:30:00.123456'",
     ),
-    // Six digits of microseconds at least, also where all but they are zero.
+    // Six digits of microseconds at least, also if all others are zero.
     (
         Date(12, 1, 2, 3, 4, 5, 99999),
         false,
