@@ -19,7 +19,7 @@ long_end_from at [] = None
 long_end_from at (t ∷ []) = last_at at (length (bytes_of t))
 long_end_from at (t ∷ u ∷ ts) = long_end_from (at + length (bytes_of t)) (u ∷ ts)
 
--- The index at which the last token begins, if it has several bytes. Of a query with its end this
+-- The index at which the last token begins, if it has several bytes. In a query with its end this
 -- is the token in which the `;` stands, and the query is open; none if the `;` stands on its own.
 abbrev pub long_end : List Token → Option ℕ
 long_end = long_end_from 0

@@ -39,7 +39,7 @@ pub fn isolation()
 /// A text that is bound to a portable query is portable, and on every honest server, whatever
 /// stands in the values, its tokens are the query's, with those of one literal in place of each
 /// name and mark: those that the grammar reads, except for `--` before a newline and for what
-/// stands in quiet comments (`read`), and where the server decides about a quiet comment by its own
+/// stands in quiet comments (`read`), and if the server decides about a quiet comment by its own
 /// text, exactly those that it reads in the query (`tokens`).
 pub fn bound_texts_on_servers()
     ensures portable { (mode : Bool) (query text : List ℕ) (ts : List Token) (given : Given) →

@@ -36,7 +36,7 @@ use std::collections::BTreeMap;
 /// `bind_text_in` refuses it. `Missing` tells the first place that has the missing name. The empty
 /// form over a query with names and marks is `Mixed` without allocating, and a form that is refused
 /// for its first parameter is refused without allocating too. Any other outcome may be
-/// `OutOfMemory` instead, which also comes where the text would be longer than `isize::MAX` bytes.
+/// `OutOfMemory` instead, which also comes if the text would be longer than `isize::MAX` bytes.
 /// After every outcome but `Done` the room is as before.
 pub fn bind_into(
     alloc: Global,

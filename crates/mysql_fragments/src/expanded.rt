@@ -31,8 +31,8 @@ pub struct ExpandedQuery {
     pub values: Vec<Value>,
 }
 
-/// The query with the text of a fragment in the place of each name and mark, where a mark stands
-/// for each value of the fragment, and these values: `a IN (?)` with a list of three values is
+/// The query with the text of a fragment in the place of each name and mark, with a mark in it for
+/// each value of the fragment, and these values: `a IN (?)` with a list of three values is
 /// `a IN (?, ?, ?)`. Nothing else of the query changes. A server prepares the text, and executes it
 /// with the values.
 ///

@@ -141,9 +141,9 @@ abbrev pub closes_before_joined : List ℕ → Bool
 closes_before_joined [] = false
 closes_before_joined (b ∷ bs) = b == slash && begins is_joined bs
 
--- after a plain `-`, by which a statement begins: another, also before a newline, where the client
--- takes both for a comment and begins the statement after it; or a place, whose value may begin
--- with one
+-- after a plain `-`, by which a statement begins: another, also before a newline, since then the
+-- client takes both for a comment and begins the statement after it; or a place, whose value may
+-- begin with one
 abbrev pub drops_line : List ℕ → Bool
 drops_line [] = false
 drops_line (b ∷ bs) =

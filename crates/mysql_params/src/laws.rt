@@ -1,5 +1,5 @@
 //! Laws of the definitions that the contracts cite, and of equality, of all crates below, handed on
-//! by name. A program calls them for what they ensure alone, where a proof needs it.
+//! by name. A program calls them for what they ensure alone, if a proof needs it.
 
 pub use mysql_binding::laws::{
     bind_error_equality, bound_again_is_the_same, bound_texts_in_clients, bound_texts_on_servers,

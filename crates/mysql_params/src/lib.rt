@@ -9,7 +9,7 @@
 //! [`first_unportable`] finds what servers read in different ways or with which a value would join
 //! a number, before a query is bound; [`first_unportable_in_client`] also what the client `mysql`
 //! or `mariadb` reads or sends otherwise; [`first_unsteady`] the first byte that a mode or a
-//! character set may read otherwise. Where the query is a constant, [`fixed_query`] binds it,
+//! character set may read otherwise. If the query is a constant, [`fixed_query`] binds it,
 //! refused for nothing but memory. [`run`] is the program, with its commands `names` and `bind`,
 //! for any reader and writer, and [`words_of`] has its words.
 #![tactic(auto)]

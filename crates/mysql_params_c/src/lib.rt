@@ -267,10 +267,10 @@ pub extern "C" fn mysql_params_bind_fragments(
 /// Finds the first construct of the query that servers read in different ways, or in which a value
 /// would join a number: [`report_first_unportable`].
 ///
-/// Returns 0 where there is none, and only there: then the query is portable. Else it returns the
+/// Returns 0 if and only if there is none: then the query is portable. Else it returns the
 /// number of the [`Construct`](mysql_named_params::portable::Construct), 1 to 9 in the order of its
 /// declaration, and the report has its position in the query. All other fields of the report are 0.
-/// Nothing is allocated. The flag is true where the connection's `sql_mode` has
+/// Nothing is allocated. The flag is true if the connection's `sql_mode` has
 /// `NO_BACKSLASH_ESCAPES`.
 #[unsafe(no_mangle)]
 pub extern "C" fn mysql_params_first_unportable(

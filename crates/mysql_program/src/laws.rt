@@ -4,7 +4,7 @@ ghost use Rattle.mysql_program.specs.RunErrors.{AreEqualRunErrors};
 
 use crate::run_error::RunError;
 
-/// Errors of a run are equal where variant and field are.
+/// Errors of a run are equal if and only if variant and field are.
 pub fn run_error_equality(a: &RunError, b: &RunError) -> bool
     ensures same { IsTrue result ↔ AreEqualRunErrors a.now b.now }
     ensures member { result ≡ ⟦<RunError as PartialEq>⟧.eq a.now b.now }

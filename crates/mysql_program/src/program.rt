@@ -70,7 +70,7 @@ pub fn run<R: Read, W: Write>(
     // Every other refusal leaves the writer alone.
     ensures unwritten { IfErr result (λ e. e ≢ RunError.Write → output.new ≡ output.old) }
 
-    // Out of memory is an error of its own, also where binding ran out of it.
+    // Out of memory is an error of its own, also if binding ran out of it.
     ensures cause { IfErr result HoldsCause }
 {
     let command = match judge(alloc, words) {

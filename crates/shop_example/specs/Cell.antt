@@ -7,8 +7,8 @@ use Rattle.mysql_values.specs.TextCell.{read_cell}
 use Rattle.shop_example.specs.declared.cell.CellError.{CellError}
 use Rattle.shop_example.specs.declared.cell.CellError.TheVariants as cell
 
--- Of a cell of these bytes, where `rest` is left: it can't be read, and nothing was taken; or it
--- converts to nothing, and was taken.
+-- Why a cell of these bytes gave nothing, and `rest` is left: it can't be read, and nothing was
+-- taken; or it converts to nothing, and was taken.
 abbrev pub IsCellRefusal : {X : Type 0} → (Value → Option X) → (bytes rest : List ℕ) → CellError
     → Type 0
 IsCellRefusal conversion bytes rest (cell.Wire error) =

@@ -21,7 +21,7 @@ IsCustomerRow id name bytes rest = (first second : Value) × (after : List ℕ)
     × (read_cell bytes ≡ Ok (first, after)) × (read_cell after ≡ Ok (second, rest))
     × (number_of first ≡ Some id) × (value_text second ≡ Some name)
 
--- Why a row of a number and a text gave nothing, where `rest` is left: its first cell was refused,
+-- Why a row of a number and a text gave nothing, and `rest` is left: its first cell was refused,
 -- or that gave a number, and the second was refused.
 abbrev pub IsRowRefusal : (bytes rest : List ℕ) → CellError → Type 0
 IsRowRefusal bytes rest error = IsCellRefusal number_of bytes rest error

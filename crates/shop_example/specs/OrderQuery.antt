@@ -18,7 +18,7 @@ abbrev pub search_made : ℕ → Day → List ℕ → Made
 search_made customer from text = pairs_made ((codes "customer", uint_value customer)
     ∷ (codes "from", day_value from) ∷ (codes "text", bytes_value text) ∷ [])
 
--- The error is the refusal of the parameters, or out of memory; or, where they were made, the first
+-- The error is the refusal of the parameters, or out of memory; or, if they were made, the first
 -- cause that refuses the query with them, or out of memory.
 abbrev pub IsQueryRefusal : List ℕ → Made → QueryError → Type 0
 IsQueryRefusal query made (Params error) = IsExpectedRefusal made ⊤ (to_params_refusal error)
