@@ -173,7 +173,7 @@ mark_first list (first ∷ more) lists =
     ap (λ x. (list ++ with_literal_tokens first lists) ∷ statements_with_literals more x) (place_more (place_count first) list lists)
     ∙ sym (in_front-cons list (with_literal_tokens first lists) (statements_with_literals more (drop (place_count first) lists)))
 
--- where no list is left, a place is a token as any other
+-- if no list is left, a place is a token as any other
 nothing_left : (m n : ℕ) (t : Token) (first : List Token) (more : List (List Token)) →
     (t ∷ with_literal_tokens first []) ∷ statements_with_literals more (drop m []) ≡ (t ∷ with_literal_tokens first []) ∷ statements_with_literals more (drop n [])
 nothing_left m n t first more = ap (λ x. (t ∷ with_literal_tokens first []) ∷ statements_with_literals more x) (drop-nil m ∙ sym (drop-nil n))

@@ -1,4 +1,4 @@
--- The text with literals in the places of the tokens, where there are as many, in the form for
+-- The text with literals in the places of the tokens, if there are as many, in the form for
 -- induction; `joined_text` says it of the pieces.
 use Rattle.std.proofs.Common.{◌++◌, ℕ, List, [], ◌∷◌}
 use Rattle.mysql_named_params.specs.Tokens.{Token, bytes_of, Name, Mark}

@@ -156,7 +156,7 @@ module _ (mode : Bool) (query : List ℕ) (given : Given) (survey : Survey) (val
           let same : cause_of error ≡ Some why = cc in
           inr (why, first_by ts given values (Some why) mixed found r, same)
 
-  -- where there is no later cause
+  -- if there is no later cause
   pub looked_up : ((ts : List Token) → IsSurvey survey ts → None ≡ option_map Some (later_cause ts values)) →
       OnTokens mode query (λ ts. IsLookedUp ts given values)
   looked_up later =

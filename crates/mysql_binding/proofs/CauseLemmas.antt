@@ -163,7 +163,7 @@ no_later : (ts : List Token) (values : List Value) → count_cause ts values ≡
     first_not_alone ts ≡ None → float_cause values ≡ None → later_cause ts values ≡ None
 no_later ts values a b c = later_by ts values None None None a (ap (option_map (λ p. not_alone p.0 p.1)) b) c
 
--- where there is no cause and the values were looked up, there is no later cause
+-- if there is no cause and the values were looked up, there is no later cause
 pub no_cause_parts : (ts : List Token) (given : Given) (values : List Value) →
     first_cause ts given ≡ None → lookup given (names ts) ≡ Ok values →
     (mixed_cause ts ≡ None) × (later_cause ts values ≡ None)

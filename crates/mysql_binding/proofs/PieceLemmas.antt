@@ -50,7 +50,7 @@ more_pieces piece ts text e = go [] ts e
     go next (Mark ∷ ts) e = cc
     go next (t ∷ ts) e = go (next ++ bytes_of t) ts e
 
--- where a text can be joined_text, there are as many literals as places, and it is the bound text
+-- if a text can be joined, there are as many literals as places, and it is the bound text
 pub joined_text_count : (piece : List ℕ) (ts : List Token) (literals : List (List ℕ)) (text : List ℕ) →
     joined_text (pieces_from piece ts) literals ≡ Some text → length literals ≡ place_count ts
 joined_text_count piece [] [] text e = refl

@@ -1,4 +1,4 @@
--- Where the places of a query stand alone, so do those of the query with a mark in place of each name.
+-- If the places of a query stand alone, so do those of the query with a mark in place of each name.
 use Rattle.std.proofs.Common.{◌≡◌, ◌+◌, ◌++◌, ℕ, Bool, true, false, List, [], ◌∷◌, if◌then◌else◌, arith, refl, ◌∙◌, sym, Option, Some, None, true≢false}
 use Rattle.std.specs.List.{list_all}
 use Rattle.std.proofs.lemmas.Bool.{and_parts, and_from}

@@ -162,7 +162,7 @@ module _ (mode : Bool) (query rest : List ℕ) (at i j : ℕ) (not_alone : Optio
       (omega (arith, el, ap marks p.tokens_are, marks_at_mark p.front p.place p.back p.no_place is))
       n_is c_is not_alone_is
 
--- where no place is left, all are surveyed
+-- if no place is left, all are surveyed
 pub surveyed_all : (mode : Bool) (query rest : List ℕ) (at i j : ℕ) (not_alone : Option (ℕ × ℕ)) (b c : ℕ) →
     SurveyedSoFar mode query at i j not_alone b → c ≡ b + (length query - at) → rest ≡ drop at query →
     OnTokens mode rest (λ us. place_count us ≡ 0) →

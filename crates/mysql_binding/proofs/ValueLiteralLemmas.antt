@@ -40,7 +40,7 @@ module _ (literal : Literals) (IsKnown : LiteralFacts) where
   mapped_literals (v ∷ values) (t ∷ texts) h =
       ap (λ x. x ∷ map literal values) h.0 ∙ ap (λ xs. Some t ∷ xs) (mapped_literals values texts h.2)
 
--- the next value is no float, where there is none from its place on
+-- the next value is no float, if there is none from its place on
 pub float_step : (b : Bool) (place : ℕ) (rest : Option ℕ) → cond b (Some place) rest ≡ None →
     (b ≡ false) × (rest ≡ None)
 float_step true place rest e = cc

@@ -1,4 +1,4 @@
--- What is said of an answer is said of it where what is expected is known.
+-- What is said of an answer is said of it if what is expected is known.
 use Rattle.std.specs.Prelude.{Result, Ok, IfOk, ⊤}
 use Rattle.std.proofs.Common.{◌≡◌, sym, subst}
 use Rattle.mysql_values.specs.Answer.{IsAnswer}

@@ -91,7 +91,7 @@ pub whole_read : (total place : ℕ) (given : Given) (bytes : List ℕ) (place' 
 whole_read total place given bytes place' given' [] leads none = leads _ (read_to_end total place' given')
 whole_read total place given bytes place' given' (b ∷ rest) leads none = absurd (omega (arith, ap length none))
 
--- an error that is out of memory is returned where memory is asked for
+-- an error that is out of memory is returned if memory is asked for
 pub out_of_memory : {X Seen : Type 0} (expected : Result Seen FormRefusal) (Takes : Type 0) (error : FormError) →
     IsExpectedRefusal expected Takes (form_refusal error) → ◌≡◌ {A = Result X FormError} (Err error) (Err (Memory alloc_error)) → Takes
 out_of_memory {X = X} expected Takes error answer is =
@@ -104,7 +104,7 @@ pub handed_on : {A : Type 0} (P : FormError → Type 0) (r : Result A FormError)
 handed_on P (Ok a) e same h = absurd same
 handed_on P (Err t) e same h = subst P (sym same) h
 
--- .. and an error that is out of memory only where memory is asked for
+-- .. and an error that is out of memory only if memory is asked for
 pub memory_handed_on : {A Seen : Type 0} (expected : Result Seen FormRefusal) (Takes : Type 0) (r : Result A FormError) (e : FormError) →
     IsErrAnd r (λ t. t ≡ e) → IsExpectedRefusal expected Takes (form_refusal e) →
     ◌≡◌ {A = Result A FormError} r (Err (Memory alloc_error)) → Takes
@@ -145,7 +145,7 @@ module _ (form : List ℕ) where
     parameter_is_ok (Ok read) e ok = subst (λ r. IsOk r) (sym (first_parameter (Ok (name, rest)) is ∙ ap (after_value empty name) e)) refl
     parameter_is_ok (Err why) e ok = cc
 
-    -- where its value is read, it is read
+    -- if its value is read, it is read
     pub first_is_ok : IsOk (read_value 0 0 rest) → IsOk (read_parameter (length form) 0 empty form)
     first_is_ok ok = parameter_is_ok (read_value 0 0 rest) refl ok
 

@@ -1,4 +1,4 @@
--- How many bytes a reading leaves: fewer than before, where a parameter is read.
+-- How many bytes a reading leaves: fewer than before, if a parameter is read.
 use Rattle.std.specs.Prelude.{nat_le, nat_lt, Result, Ok, Err, Option, Some, None, ⊤, ◌==◌}
 use Rattle.std.proofs.Common.{◌≡◌, ℕ, ◌+◌, ◌-◌, ◌<◌, ◌≤◌, Bool, true, false, List, [], ◌∷◌, length, take, drop, if◌then◌else◌, ap, subst, arith, length-append}
 use Rattle.std.proofs.lemmas.List.{length-drop, take-append-drop}
@@ -178,7 +178,7 @@ leaves_parameter total place given b bytes =
     leaves_after_name (length bytes) total place position given (read_name place position (b ∷ bytes))
     (leaves_in (length bytes) place position 0 (read_lenenc (b ∷ bytes)) (leaves_lenenc b bytes))
 
--- what a value leaves, where it is read
+-- what a value leaves, if it is read
 pub value_leaves : (place position : ℕ) (bytes : List ℕ) (value : Value) (rest : List ℕ) →
     read_value place position bytes ≡ Ok (value, rest) → length rest ≤ length bytes
 value_leaves place position bytes value rest is = subst (Leaves (length bytes)) is (leaves_value place position bytes)

@@ -121,7 +121,7 @@ refused_lookup : (ts : List Token) (r : Result (List Value) LookupRefusal) (refu
 refused_lookup ts (Err why) refusal e = ap (λ x. Err x) (same_refusal why refusal e)
 refused_lookup ts (Ok values) refusal e = absurd (no_lookup_later ts values refusal e)
 
--- where the first cause is that a name is missing, the name is one of the query's
+-- if the first cause is that a name is missing, the name is one of the query's
 pub missing_is_name : (ts : List Token) (given : Given) (absent : List ℕ) →
     first_cause ts given ≡ Some (refused_params (missing absent)) → Contains (names ts) absent
 missing_is_name ts given absent e =

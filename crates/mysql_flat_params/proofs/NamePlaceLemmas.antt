@@ -66,7 +66,7 @@ neither : (xs ys : List (List ℕ)) (name : List ℕ) → (Contains xs name → 
 neither xs ys name no_x no_y c = elim (Contains-append_cases xs ys name c) [ inl x ↦ no_x x | inr y ↦ no_y y ]
 
 module _ (mode : Bool) (query rest name : List ℕ) (place : ℕ) (s : SearchedSoFar mode query rest name place) where
-  -- where no place is left, the query doesn't have the name
+  -- if no place is left, the query doesn't have the name
   pub searched_all : OnTokens mode rest (λ us. place_count us ≡ 0) →
       OnTokens mode query (λ ts. Contains (names ts) name → ⊥)
   searched_all o =

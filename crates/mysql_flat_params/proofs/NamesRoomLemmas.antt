@@ -83,7 +83,7 @@ module _ (mode : Bool) (query rest text row : List ℕ) (s : GatheredSoFar mode 
           ∙ (ap (λ x. row ++ x) (sym row_next) ∙ s.row_is));
     }
 
-  -- where no place is left, the rest follows as it is, and the row is whole
+  -- if no place is left, the rest follows as it is, and the row is whole
   pub gathered_all : OnTokens mode rest (λ us. place_count us ≡ 0) → (text' : List ℕ) → text' ≡ text ++ rest →
       OnTokens mode query (λ ts. (text' ≡ text_of (with_marks ts)) × (row ≡ lenenc_row (names ts)))
   gathered_all o text' text_more =
@@ -205,7 +205,7 @@ module _ (mode : Bool) (query rest text row : List ℕ) (text_at row_at : ℕ) (
         row_in_range = omega (arith, name_fits, row_at'_is, same_row);
       }
 
-  -- where no place is left, the rest follows as it is, and the row is written
+  -- if no place is left, the rest follows as it is, and the row is written
   module _ (o : OnTokens mode rest (λ us. place_count us ≡ 0)) where
     nameless : length (names s.left) ≡ 0
     nameless =

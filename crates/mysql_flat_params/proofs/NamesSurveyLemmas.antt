@@ -118,7 +118,7 @@ module _ (mode : Bool) (query rest : List ℕ) (i j m r : ℕ) (s : SurveyedSoFa
             small = omega (arith, m_is, r_is, after_length, p.has_length, s.small);
           }
 
-  -- where no place is left, all are surveyed
+  -- if no place is left, all are surveyed
   pub surveyed_all : (m' : ℕ) → m' ≡ m + length rest → OnTokens mode rest (λ us. place_count us ≡ 0) →
       OnTokens mode query (λ ts. (i ≡ length (names ts)) × (j ≡ marks ts) × (m' ≡ length (text_of (with_marks ts))) × (r ≡ length (lenenc_row (names ts))))
   surveyed_all m' m_is o =

@@ -1,4 +1,4 @@
--- The refusal of a value, which allocates only where it is read.
+-- The refusal of a value, which allocates only if it is read.
 use Rattle.std.specs.Prelude.{Option, Some, None, IsOk, IfSome, Ok, Err, alloc_error}
 use Rattle.std.proofs.Common.{◌≡◌, ℕ, ◌-◌, ◌≤◌, List, [], ◌∷◌, Bool, length, take, drop, get_or, refl, sym, ap, ◌∙◌, subst, arith}
 use Rattle.std.proofs.lemmas.List.{take_rest}

@@ -39,7 +39,7 @@ if_alone : (b : Bool) (x : Option (ℕ × ℕ)) (p : ℕ × ℕ) → b ≡ true 
 if_alone true x p e h = h
 if_alone false x p e h = absurd (true≢false (sym e))
 
--- the places of the list stand alone where it does, before tokens whose places do
+-- the places of the list stand alone if it does, before tokens whose places do
 abbrev pub StandAlone : List Token → Type 0
 StandAlone list = (more : List Token) → none_or_first may_stand_after (text_of more) ≡ true →
     ((place : ℕ) (before : List ℕ) → first_not_alone_from place before more ≡ None) →
@@ -214,7 +214,7 @@ run_ends (b ∷ run) all (c ∷ front) back e =
     let p = and_parts (not_quote b) (list_all not_quote run) all in
     run_ends run p.1 front back cc
 
--- the tokens of the text in backquotes, where this run stands before the name
+-- the tokens of the text in backquotes, if this run stands before the name
 identifier_tokens : List ℕ → List ℕ → List Token
 identifier_tokens run [] = QuotedIdentifier (run ++ backquote ∷ []) ∷ []
 identifier_tokens run (b ∷ bs) =

@@ -80,7 +80,7 @@ not_plain_by_is client mode (Name name) rest h = not_plain_on_is client.reader m
 not_plain_by_is client mode Mark rest h = refl
 not_plain_by_is client mode (Plain b) rest h = absurd h
 
--- where none is computed, the first byte is a plain token
+-- if none is computed, the first byte is a plain token
 plain_by : (client : Client) (mode : Bool) (b : ℕ) (rest : List ℕ) →
     not_plain_by client mode (b ∷ rest) ≡ None → IsTokenBy client mode (Plain b) rest
 plain_by client mode b rest none_there t after h e =
@@ -140,7 +140,7 @@ pub one_list_by : (client : Client) (mode : Bool) (text : List ℕ) (ts us : Lis
     IsReadBy client mode text ts → IsReadBy client mode text us → ts ≡ us
 one_list_by client mode text ts us ht hu = one_cut_by client mode ts us ht.each hu.each (ht.text_is ∙ sym hu.text_is)
 
--- ---- where no comment holds an opener
+-- ---- if no comment holds an opener
 
 -- the client isn't asked about what stands in the comment
 abbrev pub IsAskedNothing : Token → List ℕ → Type 0

@@ -231,7 +231,7 @@ walked_found mode query rest kind n position s l c w f d e =
       sym (found_from w.tokens back.0 f.token 0 position true true c (subst (λ x. AllClear true true x w.tokens) (sym after) w.clear) here place),
     )
 
--- ---- none is found exactly where nothing is to be found
+-- ---- none is found exactly if nothing is to be found
 
 found_or-none : (o : Option Construct) (n : ℕ) (later : Option Unportable) → found_or o n later ≡ None →
     (o ≡ None) × (later ≡ None)

@@ -60,7 +60,7 @@ module _ (mode : Bool) (query rest : List ℕ) (i j k l : ℕ) (found : FoundPla
         room = omega (arith, c.room, ek, el, p.has_length, p.in_range, length-drop (found.before + found.len) rest);
       })
 
--- where no place is left, all are counted
+-- if no place is left, all are counted
 pub counted_all : (mode : Bool) (query rest : List ℕ) (i j : ℕ) → CountedSoFar mode query rest i j →
     OnTokens mode rest (λ us. place_count us ≡ 0) →
     OnTokens mode query (λ ts. (i ≡ length (names ts)) × (j ≡ marks ts))

@@ -24,7 +24,7 @@ cut_more mode query rest ts kind n c f = record {
   each = AreTokensBefore-append mode ts (f.token ∷ []) (drop n rest) (subst (λ x. AreTokensBefore mode x ts) (sym f.bytes) c.each) (f.holds, tt);
 }
 
--- where nothing is left, these are the tokens
+-- if nothing is left, these are the tokens
 pub all_tokens : (mode : Bool) (query rest : List ℕ) (ts : List Token) → length rest ≡ 0 →
     BeginsWithTokens mode query rest ts → IsTokens mode query ts
 all_tokens mode query rest ts e c =

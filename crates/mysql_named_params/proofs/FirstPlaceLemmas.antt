@@ -124,7 +124,7 @@ module _ (mode : Bool) (text rest : List ℕ) (at n : ℕ) (k : TokenKind) (h : 
       mark Mark g = refl
       mark t g = cc
 
--- where the text ends, it has no place
+-- at its end a text has no place left
 pub no_place_at_all : (mode : Bool) (text : List ℕ) (at : ℕ) → HasNoPlaceBefore mode text at →
     length text ≤ at → OnTokens mode text (λ ts. place_count ts ≡ 0)
 no_place_at_all mode text at h le =

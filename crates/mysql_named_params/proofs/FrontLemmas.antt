@@ -21,7 +21,7 @@ use Rattle.mysql_named_params.proofs.PortableLemmas.{special_in_front, special_m
 abbrev pub passes : Token → List ℕ → Bool
 passes t rest = is_read_alike t rest && not (joins_number t rest)
 
--- the construct with which the token begins, before this text; none where it passes
+-- the construct with which the token begins, before this text; none if it passes
 abbrev pub unportable_at : Token → List ℕ → Option Construct
 unportable_at t rest = cond (passes t rest) None (Some (construct_at t rest))
 

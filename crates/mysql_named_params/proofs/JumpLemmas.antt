@@ -71,7 +71,7 @@ occurs_from_begins text word k le h =
       reads = λ j lt. at_reads 0 text word k r.0 (sym r.1) j lt;
     }
 
--- where the word begins nowhere before
+-- if the word begins nowhere before
 word_after : (word text : List ℕ) (k : ℕ) → k ≤ length text →
     ((j : ℕ) → j < k → begins_with word (drop j text) ≡ false) →
     k + len_up_to word (drop k text) ≡ len_up_to word text

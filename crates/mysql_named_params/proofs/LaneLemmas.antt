@@ -32,7 +32,7 @@ module _ (q : ℕ → Bool) (d : List ℕ) (i n : ℕ) (z : List ℕ) (room : i 
       let mask = ap (λ l. mask_l l % 2 ^ 64) (ap (map (top 7)) lanes ∙ map-map (top 7) f v) ∙ mask_l-mod (map stops v) 64 (omega (arith, length-map v stops, long)) in
       leading_from_mask_l stops v (sym mask ∙ none) ∙ long
 
-  -- where no lane stops, and each byte at which none stops passes q, all pass
+  -- if no lane stops, and each byte at which none stops passes q, all pass
   pub all_pass : agree_below (λ x. stops x || q x) (λ _. true) 256 ≡ true →
       (k : ℕ) → i ≤ k → k < i + n → q (get_or d k 0) ≡ true
   all_pass all k from to =

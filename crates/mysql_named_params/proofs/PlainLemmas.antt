@@ -1,4 +1,4 @@
--- A byte is a plain token only where no other token is computed there.
+-- A byte is a plain token only if no other token is computed there.
 use Rattle.std.proofs.Common.{◌≡◌, ◌≢◌, ℕ, Bool, true, false, cond, not, ◌==◌, ◌&&◌, List, [], ◌∷◌, ◌++◌, take, drop, Option, Some, None, refl, sym, ap, subst, take-append-drop, arith, true≢false}
 use Rattle.std.proofs.lemmas.Bool.{and_parts, eqb-true, eqb-false}
 use Rattle.mysql_named_params.specs.Bytes.{asterisk, backquote, colon, dash, hash, newline, question_mark, slash, is_white_space, is_start_byte, is_string_quote, is_extension, begins}
@@ -78,7 +78,7 @@ not_plain_found mode (b ∷ bs) t e =
     (λ h. cond_some (b == question_mark) _ _ t _ (λ h f. token_found mode _ _ t (bs, tt, ap (λ x. x ∷ bs) (sym (eqb-true b question_mark h))) f) (λ h f. cc)))))))
     e
 
--- a plain token stands only where none is computed
+-- a plain token stands only if none is computed
 pub plain_none : (mode : Bool) (b : ℕ) (rest : List ℕ) → IsToken mode (Plain b) rest →
     not_plain_at mode (b ∷ rest) ≡ None
 plain_none mode b rest h = go (not_plain_at mode (b ∷ rest)) refl

@@ -128,7 +128,7 @@ special_more (b ∷ c ∷ tail) rest h = h
 
 -- ---- plain bytes
 
--- where `--` and a newline follow, the server opens no comment there
+-- if `--` and a newline follow, the server opens no comment there
 abbrev pub NoEmptyComment : Server → List ℕ → Type 0
 NoEmptyComment server rest = (more : List ℕ) → dash ∷ newline ∷ more ≡ rest → opens_line server newline ≡ false
 

@@ -113,7 +113,7 @@ module _ {Z : Type 0} (mode : Bool) (query rest text : List ℕ) (params : List 
         borrowed = subst (All IsBorrowedSlice) (sym params_more) (All-push IsBorrowedSlice params name r.borrowed name_borrowed);
       }
 
-  -- where no place is left, the rest follows as it is
+  -- if no place is left, the rest follows as it is
   module _ (o : OnTokens mode rest (λ us. place_count us ≡ 0)) where
     none_left : length (names r.left) ≡ 0
     none_left =

@@ -1,4 +1,4 @@
--- What is read where the query with a mark in place of each name is read again.
+-- What is read when the query with a mark in place of each name is read again.
 use Rattle.std.specs.Prelude.{Bool}
 use Rattle.std.proofs.Common.{◌≡◌, ◌≢◌, ◌+◌, ◌∙◌, ℕ, false, List, [], ◌∷◌, length, arith, inl, refl, ap}
 use Rattle.mysql_named_params.specs.Bytes.{question_mark}

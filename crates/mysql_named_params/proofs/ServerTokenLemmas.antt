@@ -114,7 +114,7 @@ not_plain_on_is server mode (Name (b ∷ bs)) rest h =
 not_plain_on_is server mode Mark rest h = refl
 not_plain_on_is server mode (Plain b) rest h = absurd h
 
--- where none is computed, the first byte is a plain token
+-- if none is computed, the first byte is a plain token
 pub plain_on : (server : Server) (mode : Bool) (b : ℕ) (rest : List ℕ) →
     not_plain_on server mode (b ∷ rest) ≡ None → IsTokenOn server mode (Plain b) rest
 plain_on server mode b rest none_there t after h e =

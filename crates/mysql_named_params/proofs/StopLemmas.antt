@@ -66,7 +66,7 @@ past_escape mode q text at next h lt ne escapes next_is =
 
 -- ---- the jump
 
--- the byte that escapes, or the quote again where none does
+-- the byte that escapes, or the quote again if none does
 pub data IsEscapeOf (mode : Bool) (q escape : ℕ) : Type 0 where
   no_escape : mode ≡ true → escape ≡ q → IsEscapeOf mode q escape
   backslash : mode ≡ false → escape ≡ byte "\\" → IsEscapeOf mode q escape

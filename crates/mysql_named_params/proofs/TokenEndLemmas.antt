@@ -13,7 +13,7 @@ use Rattle.mysql_named_params.proofs.TokenEnds.{begins_with_front, word_begins}
 
 -- ---- words
 
--- a byte more in front, where the word doesn't begin with it
+-- a byte more in front, if the word doesn't begin with it
 cons_up_to : (word : List ℕ) (b : ℕ) (bytes rest : List ℕ) →
     begins_with word (b ∷ (bytes ++ rest)) ≡ false → IsUpTo word bytes rest →
     IsUpTo word (b ∷ bytes) rest

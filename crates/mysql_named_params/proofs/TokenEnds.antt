@@ -140,7 +140,7 @@ not_plain_at_is mode (Name (b ∷ bs)) rest h =
 not_plain_at_is mode Mark rest h = refl
 not_plain_at_is mode (Plain b) rest h = absurd h
 
--- where none is computed, the first byte is a plain token
+-- if none is computed, the first byte is a plain token
 pub plain_at : (mode : Bool) (b : ℕ) (rest : List ℕ) → not_plain_at mode (b ∷ rest) ≡ None →
     IsToken mode (Plain b) rest
 plain_at mode b rest none_there t after h e =

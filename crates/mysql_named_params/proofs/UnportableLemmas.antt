@@ -115,7 +115,7 @@ walked_found mode query rest kind n position c w f d e =
 pub slice_within : (n : ℕ) (rest query : List ℕ) → length rest ≤ length query → length (slice_from n rest) ≤ length query
 slice_within n rest query le = rw take_rest (omega (arith, length-drop n rest))
 
--- ---- none is found exactly where each passes
+-- ---- none is found exactly if each passes
 
 first_step : (p : Bool) (u : Unportable) (more : Option Unportable) → cond p more (Some u) ≡ None →
     (p ≡ true) × (more ≡ None)

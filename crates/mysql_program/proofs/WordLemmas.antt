@@ -13,7 +13,7 @@ use Rattle.std.specs.Borrow.{Bor}
 use Rattle.std.proofs.lemmas.List.Folds.{list_all-map}
 use Rattle.mysql_params_core.proofs.MissingLemmas.{list_any-map}
 
--- where no element passes the test, none is found to pass
+-- if no element passes the test, none is found to pass
 pub list_any-none : {X : Type 0} (p : X → Bool) (xs : List X) → position_or_len p xs ≡ length xs → list_any p xs ≡ false
 list_any-none p [] h = refl
 list_any-none p (x ∷ xs) h =
