@@ -1,10 +1,11 @@
 //! All that is wrong with a query, of the kind for which it is refused.
 use crate::complaint::{Complaint, Fault, add_fault};
 use crate::query_file::{MARK, QueryFile, UNSTEADY, complaint_of, marks_of, place_of};
+use crate::rewritten::in_single_quotes;
 use crate::values::Values;
 use mysql_bind_core::{Failure, Request};
 use mysql_named_params::client::first_unportable_in_client;
-use mysql_named_params::portable::Unportable;
+use mysql_named_params::portable::{Construct, Unportable};
 use mysql_named_params::steady::first_unsteady;
 use mysql_named_params::tokens::first_token;
 use std::alloc::{AllocError, Global};
@@ -107,6 +108,23 @@ fn blanked(text: &mut [u8], at: usize, mode: bool) -> bool {
     changed
 }
 
+// What is said of a construct. Of a text in `"` also what to write instead of it, if that is short.
+fn construct_told(
+    alloc: Global,
+    text: &[u8],
+    found: Unportable,
+    mode: bool,
+) -> Result<String, AllocError> {
+    if found.construct == Construct::EscapedQuote && found.at < text.len() {
+        let rest = &text[found.at..];
+        let (_, len) = first_token(rest, mode);
+        if let Some(written) = in_single_quotes(alloc, &rest[..len])? {
+            return format!(in alloc; "{}: {}", found.construct, written);
+        }
+    }
+    format!(in alloc; "{}", found.construct)
+}
+
 // Adds a fault for each construct. Each further one is looked for as if spaces stood in the places
 // of those before it.
 fn add_constructs(
@@ -120,7 +138,7 @@ fn add_constructs(
     let mut found = first;
     // Each turn makes a space of a byte.
     for _ in 0..query.bytes.len() {
-        let what = format!(in alloc; "{}", found.construct)?;
+        let what = construct_told(alloc, text.as_slice(), found, mode)?;
         add_at(faults, alloc, query, found.at, what.as_str())?;
         if !blanked(text.as_mut_slice(), found.at, mode) {
             break;

@@ -16,6 +16,7 @@ mod output;
 mod query_file;
 mod records;
 mod requests;
+mod rewritten;
 mod rows;
 mod script;
 mod sources;

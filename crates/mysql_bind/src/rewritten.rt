@@ -1,0 +1,49 @@
+//! A text in `"` of a query, written anew in `'`.
+use std::alloc::{AllocError, Global};
+
+// A longer text is not repeated in a message.
+const LONGEST: usize = 200;
+
+// Printable ASCII, so that a message stays on its line.
+fn is_shown(byte: u8) -> bool {
+    (b' '..=b'~').contains(&byte)
+}
+
+// What stands between the quotes of a text in `"`. None of a text that is open, or not to be shown.
+fn shown_inside(token: &[u8]) -> Option<&[u8]> {
+    match token {
+        [b'"', inside @ .., b'"'] => {
+            let is_short = inside.len() <= LONGEST && inside.iter().all(|byte| is_shown(*byte));
+            is_short.then_some(inside)
+        }
+        _ => None,
+    }
+}
+
+/// The text in `'` that says, with backslash escapes, what a text in `"` says: `'say "it''s"'` for
+/// `"say \"it's\""`. None of a text that is open, longer than 200 bytes or not printable ASCII.
+pub fn in_single_quotes(alloc: Global, token: &[u8]) -> Result<Option<String>, AllocError> {
+    let Some(inside) = shown_inside(token) else {
+        return Ok(None);
+    };
+    let mut text = String::from_str(alloc, "'")?;
+    let mut before = b' ';
+    for byte in inside {
+        let (is_escaped, is_second) = (before == b'\\', before == b'"');
+        match *byte {
+            b'\\' if !is_escaped => (),
+            b'"' if is_second => (),
+            b'\'' if !is_escaped => text.push_str("''")?,
+            letter => {
+                if is_escaped && letter != b'"' {
+                    text.push('\\')?;
+                }
+                text.push(char::from(letter))?;
+            }
+        }
+        // The second byte of a pair begins none.
+        before = if is_escaped || is_second { b' ' } else { *byte };
+    }
+    text.push('\'')?;
+    Ok(Some(text))
+}
