@@ -18,6 +18,7 @@ import fragments
 import leaks
 import limits
 import literals
+import names
 import others
 import pipes
 import program
@@ -57,6 +58,7 @@ def main(path: str, mysql_query: str, folder: str) -> int:
     again.run(tests, path, folder)
     rewritten.run(tests, path, folder)
     anew.run(tests, path, folder)
+    names.run(tests, path, folder)
     # It ends the second server.
     others.run(tests, path, mysql_query, folder)
     print(f"{version}: {tests.passed} passed, {tests.failed} failed", flush=True)
