@@ -1,5 +1,6 @@
 """Tests of mysql_params: the cases of bindings/cases, every value of one byte, rooms that are lent, errors of use."""
 
+import collections
 import ctypes
 import datetime
 import decimal
@@ -149,6 +150,10 @@ class Test(unittest.TestCase):
             for row in ([value], (value, None), [1, value, "x"]):
                 form = _form.form_of(row)
                 self.assertEqual(_archive.next_string(_form.row_form(row), 0), (form, len(_form.row_form(row))))
+            for name in ("n", "n" * 250, "n" * 251, "\u20ac"):
+                named = _form.string_form(name.encode()) + _form.form_of([value])[1:]
+                self.assertEqual(_form.form_of({name: value}), named)
+                self.assertEqual(_form.form_of(collections.UserDict({name: value})), named)
         self.assertEqual(_form.row_form({"a": None}), b"\4\1a\6\0")
         self.assertEqual(_form.row_form(None), b"\0")
 

@@ -166,6 +166,9 @@ def form_by(params: object, value_of: Callable[[object, Union[bytes, int]], byte
     """Return the flat form of parameters, of which a function gives type, flags and value."""
     if params is None:
         return b""
+    quick = quick_form(params)
+    if quick is not None:
+        return quick
     if isinstance(params, Mapping):
         forms = []
         for number, (name, value) in enumerate(params.items()):
@@ -224,13 +227,24 @@ QUICK: dict[type, Callable[[Any], bytes]] = {
 """Of types themselves, not of their subclasses: what most rows are of."""
 
 
+def _quick_name(name: object) -> bytes:
+    """Return a name as a length-encoded string; it is a KeyError if it is no str or empty, an IndexError if it is long."""
+    if type(name) is str and name:
+        own = name.encode()
+        return _LENGTHS[len(own)] + own
+    raise KeyError
+
+
 def quick_form(params: object) -> Optional[bytes]:
-    """Return the flat form of a row's parameters; None unless they are in order, and of what most rows are of."""
-    if type(params) is tuple or type(params) is list:
-        try:
+    """Return the flat form of parameters; None unless they are in order or a dict, and of what most are of."""
+    try:
+        if type(params) is tuple or type(params) is list:
             return b"".join([QUICK[type(value)](value) for value in params])
-        except (KeyError, IndexError, UnicodeEncodeError, struct.error):
-            pass
+        if type(params) is dict:
+            # The first byte of the form of a value by position is the length of its name.
+            return b"".join([_quick_name(name) + QUICK[type(value)](value)[1:] for name, value in params.items()])
+    except (KeyError, IndexError, UnicodeEncodeError, struct.error):
+        pass
     return None
 
 
