@@ -8,7 +8,7 @@ import unittest
 import mysql_params
 from mysql_params import Fault, Identifier, execute_rows, executemany
 from test_mysql_params import Result
-from test_sending import NONE, Connection, MySQLCursorPrepared, PyMySQL
+from test_sending import NONE, Connection, Connector, MySQLCursorPrepared, PyMySQL
 
 INSERT, ROWS = "INSERT INTO t VALUES (?, ?)", "INSERT INTO t VALUES ?"
 MOMENT = datetime.datetime(2019, 11, 27, 23, 30, tzinfo=datetime.timezone.utc)
@@ -95,6 +95,13 @@ class Test(unittest.TestCase):
                 continue
             found = self.refused(mysql_params.PacketError, executemany, INSERT, rows, connection)
             self.assertEqual((found.row, found.most), (row, packet - 4))
+
+    def test_a_text_that_a_driver_would_cut(self):
+        rows = [(1, "a"), (2, "delimiter ;")]
+        found = self.refused(mysql_params.DelimiterError, executemany, INSERT, rows, Connector())
+        self.assertEqual((found.row, found.position), (1, 26))
+        found = self.refused(mysql_params.DelimiterError, execute_rows, ROWS, rows, Connector())
+        self.assertEqual((found.row, found.position), (None, 36))
 
     def test_what_is_asked_first(self):
         for call, query in ((executemany, INSERT), (execute_rows, ROWS)):

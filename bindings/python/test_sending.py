@@ -5,6 +5,7 @@ import pickle
 import sys
 import unittest
 import unittest.mock
+import weakref
 
 import mysql_params
 from mysql_params import Construct, ask_again, exec_driver_sql, execute
@@ -61,6 +62,16 @@ class MySQLdb(Connection):
 
 
 MySQLdb.__module__ = "MySQLdb.connections"
+
+
+class Connector(Connection):
+    """A connection as of MySQL Connector, whose cursors have a weak reference to it."""
+
+    def cursor(self):
+        return Cursor(weakref.proxy(self))
+
+
+Connector.__module__ = "mysql.connector.connection"
 
 
 class Cursor:
@@ -230,6 +241,23 @@ class Test(unittest.TestCase):
             self.assertEqual(str(raised.exception), message)
             self.assertEqual(connection.sent, [])
 
+    def test_texts_that_a_driver_would_cut(self):
+        for value, position in (("a DELIMiter\t", 10), ("'delimiter x", 10), ("delimiter\n", None), ("delimiter", None), ("limiter ;", None)):
+            for kind in (Connector, PyMySQL, MySQLdb, Connection):
+                connection = kind()
+                if kind is not Connector or position is None:
+                    self.send(connection, "SELECT :a", {"a": value})
+                    continue
+                with self.assertRaises(mysql_params.DelimiterError) as raised:
+                    self.send(connection, "SELECT :a", {"a": value})
+                self.assertEqual((raised.exception.position, connection.sent), (position, []))
+        # Without backslash escapes a newline stands as it is. A query is refused for its own text too.
+        for query, params in (("SELECT :a", {"a": "delimiter\n"}), ("SELECT delimiter\r", {})):
+            with self.assertRaises(mysql_params.DelimiterError):
+                self.send(Connector(NONE), query, params)
+        message = "The text has `delimiter` and white space at byte 7, where MySQL Connector would cut it, in a value too: "
+        self.assertEqual(str(mysql_params.DelimiterError(7)), message + "take another driver")
+
     def test_what_is_refused_before_the_connection_is_asked(self):
         connection = PyMySQL()
         with self.assertRaises(TypeError):
@@ -288,6 +316,7 @@ class Test(unittest.TestCase):
             mysql_params.UnportableError(3, Construct.BRACKET),
             mysql_params.SessionError("character_set_client", "gbk"),
             mysql_params.PacketError(5, 4),
+            mysql_params.DelimiterError(7),
         ):
             copy = pickle.loads(pickle.dumps(error))
             self.assertIsInstance(copy, mysql_params.Error)

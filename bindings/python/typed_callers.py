@@ -103,6 +103,8 @@ def sent(cursor: Any, connection: Any, day: datetime.datetime) -> None:
         print(error.variable + error.value)
     except mysql_params.PacketError as error:
         print(error.length - error.most)
+    except mysql_params.DelimiterError as error:
+        print(error.position + 1)
 
 
 def answers() -> None:

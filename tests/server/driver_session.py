@@ -256,6 +256,24 @@ def other_cursors(session):
     same(refused(mysql_params.SessionError, other.rows, "SELECT 1").args, ("character_set_client", "latin1"))
 
 
+def cut_texts(session):
+    """MySQL Connector looks for a delimiter in values too. A text with one runs a value, and is refused by each call."""
+    query, values = "SELECT :a AS a, :b AS b", {"a": "delimiter x", "b": ", CURRENT_USER() -- '"}
+    same(mysql_params.first_unportable_in_client(query), None)
+    for given, ran in ((values, "root@localhost"), ({**values, "a": "delimiterx"}, values["b"])):
+        same(session.run(mysql_params.bind(query, given))[0][1], ran)
+    # Where the quotes of the query are those of its texts, steady ones stay whole.
+    same(session.run(mysql_params.bind_anywhere(query, values)), [tuple(values.values())])
+    others = mysql_params.bind_anywhere("SELECT 1 AS `it's`, :a AS a # it's\n", {"a": "delimiter ; "})
+    same(session.run(others), [(1, ";\n")])
+    cursor = session.own.cursor()
+    insert, rows = "INSERT INTO strings.none VALUES ", [(1, 2), tuple(values.values())]
+    same(refused(mysql_params.DelimiterError, mysql_params.execute, cursor, query, values).position, 8)
+    same(refused(mysql_params.DelimiterError, mysql_params.executemany, cursor, insert + "(?, ?)", rows).row, 1)
+    refused(mysql_params.DelimiterError, mysql_params.execute_rows, cursor, insert + "?", rows)
+    cursor.close()
+
+
 def main(driver, path):
     session = Session(driver, path)
     asked_once(session)
@@ -267,6 +285,7 @@ def main(driver, path):
     long_rows(session)
     long_texts(session)
     if driver == "mysql.connector":
+        cut_texts(session)
         other_cursors(session)
     elif session.alchemy is None:
         cursors = session.module.cursors if driver == "pymysql" else importlib.import_module("MySQLdb.cursors")

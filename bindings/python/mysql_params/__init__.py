@@ -28,7 +28,7 @@ from typing import NamedTuple, Optional, Union
 from . import _archive, _form
 from ._fragments import KEYWORDS, Identifier, Keyword, fragments_form_of
 from ._many import execute_rows, executemany
-from ._sending import PacketError, SessionError, ask_again, exec_driver_sql, execute
+from ._sending import DelimiterError, PacketError, SessionError, ask_again, exec_driver_sql, execute
 from ._values import decimal_text, register
 from .errors import (
     BackslashError,
@@ -59,6 +59,7 @@ __version__ = "0.1.0"
 __all__ = [
     "BackslashError",
     "Construct",
+    "DelimiterError",
     "Error",
     "Fault",
     "FloatError",

@@ -8,7 +8,7 @@ from typing import Any, NoReturn, Optional, Union
 
 from . import _archive, _form
 from ._fragments import fragments_form_of, row_items, rows_form
-from ._sending import PacketError, Told, connection_of, told_for
+from ._sending import Told, connection_of, told_for
 from ._values import zone_of
 from .errors import Error, FloatError, FragmentError, MarkCountError
 
@@ -60,10 +60,10 @@ def _texts(query: bytes, told: Told, rows: Iterable[object], zone: Optional[date
         fault.row = len(binder.texts)
         raise
     for number, text in enumerate(binder.texts):
-        if len(text) > told.most:
-            long = PacketError(len(text), told.most)
-            long.row = number
-            raise long
+        refusal = told.refusal(text)
+        if refusal is not None:
+            refusal.row = number
+            raise refusal
     return binder.texts
 
 
@@ -215,6 +215,7 @@ def execute_rows(
         gatherer.add(row)
     gatherer.bind_gathered()
     for text in gatherer.texts:
-        if len(text) > told.most:
-            raise PacketError(len(text), told.most)
+        refusal = told.refusal(text)
+        if refusal is not None:
+            raise refusal
     return _sent(cursor, gatherer.texts)

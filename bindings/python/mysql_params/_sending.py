@@ -4,6 +4,7 @@ from __future__ import annotations
 
 import datetime
 import functools
+import re
 from collections.abc import Mapping
 from typing import Any, NamedTuple, Optional, Union
 
@@ -49,11 +50,34 @@ class PacketError(Error):
     _text = "The text has {length} bytes, and the connection's max_allowed_packet lets {most} through"
 
 
+_DELIMITER = re.compile(rb"delimiter\s", re.IGNORECASE)
+"""Without it in a text MySQL Connector sends the text as it is; it looks for it in literals too."""
+
+
+class DelimiterError(Error):
+    """The text has `delimiter` and white space at byte `position`, where MySQL Connector would cut it, in a value too."""
+
+    position: int
+    _fields: tuple[str, ...] = ("position",)
+    _text = (
+        "The text has `delimiter` and white space at byte {position}, where MySQL Connector would cut it, in a value too: "
+        "take another driver"
+    )
+
+
 class Told(NamedTuple):
-    """What a connection answered: its mode, and the length of the longest text."""
+    """What a connection answered: its mode, and the length of the longest text; and whether its driver cuts texts."""
 
     no_backslash_escape: bool
     most: int
+    is_cut: bool
+
+    def refusal(self, text: bytes) -> Optional[Error]:
+        """Return why a text can't be sent over the connection, or None."""
+        if len(text) > self.most:
+            return PacketError(len(text), self.most)
+        found = _DELIMITER.search(text) if self.is_cut else None
+        return None if found is None else DelimiterError(found.start())
 
 
 _Signs = tuple[bool, tuple[object, ...]]
@@ -67,12 +91,20 @@ class _Kept(NamedTuple):
     told: Told
 
 
+def _makers(connection: Any) -> set[str]:
+    """Return the packages that a driver's connection is of.
+
+    The connection of MySQL Connector's cursor is a weak reference, whose `__class__` alone is the connection's.
+    """
+    return {kind.__module__.partition(".")[0] for kind in connection.__class__.__mro__}
+
+
 def _signs(connection: Any) -> Optional[_Signs]:
     """Return a driver's own idea of the mode, and what changes if the driver connects anew; None of another driver.
 
     Nothing is sent. The mode is what the server said beside its last answer.
     """
-    makers = {kind.__module__.partition(".")[0] for kind in type(connection).__mro__}
+    makers = _makers(connection)
     if "pymysql" in makers:
         mode = bool(connection.server_status & _NO_BACKSLASH_ESCAPES)
         return mode, (connection._sock, connection.thread_id(), connection.charset)
@@ -109,7 +141,8 @@ def _ask(connection: Any) -> Told:
     for variable, value in (("character_set_client", client), ("character_set_connection", own)):
         if value != "utf8mb4":
             raise SessionError(variable, value)
-    return Told("NO_BACKSLASH_ESCAPES" in sql_mode.upper().split(","), int(most) - _BESIDE_TEXT)
+    mode = "NO_BACKSLASH_ESCAPES" in sql_mode.upper().split(",")
+    return Told(mode, int(most) - _BESIDE_TEXT, "mysql" in _makers(connection))
 
 
 def _told(connection: Any, always_ask: bool) -> Told:
@@ -174,8 +207,9 @@ def _bound(
     told = told_for(connection, query, always_ask)
     mode = told.no_backslash_escape
     text = _archive.whole_answer(query, form, mode, len(query) + 2 * len(form) + 64, fragments)
-    if len(text) > told.most:
-        raise PacketError(len(text), told.most)
+    refusal = told.refusal(text)
+    if refusal is not None:
+        raise refusal
     return text
 
 
@@ -212,8 +246,8 @@ def execute(
     stays one.
 
     Raise as bind; UnportableError; SessionError for a connection that isn't utf8mb4; PacketError for a text that is too
-    long; and what the driver raises, whose message may show the text. After a ``SET`` of the mode or a character set
-    call ask_again.
+    long; DelimiterError for one that MySQL Connector would cut; and what the driver raises, whose message may show the
+    text. After a ``SET`` of the mode or a character set call ask_again.
     """
     text = _bound(connection_of(cursor), _form.bytes_of(query), params, zone, always_ask)
     return cursor.execute(text)
