@@ -1,1 +1,5 @@
 pub mod ScriptLemmas
+pub mod LineLemmas
+pub mod ClosedQueryLemmas
+pub mod BoundLineLemmas
+pub mod ScriptTokenLemmas

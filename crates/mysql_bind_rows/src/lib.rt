@@ -3,6 +3,7 @@
 //! [`write_rows`] is the call; `specs/Scripts.antt` says what it promises of the script.
 #![tactic(auto)]
 
+pub mod laws;
 mod row;
 mod rows;
 mod script;

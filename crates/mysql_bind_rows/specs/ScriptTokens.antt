@@ -1,0 +1,58 @@
+-- The tokens of a script: those of its texts, and a line with `;` after each. No token of a text
+-- reaches beyond the newline after it.
+use Rattle.std.specs.Prelude.{◌≡◌, ◌==◌, ◌++◌, ℕ, Bool, List, [], ◌∷◌, map, codes, if◌then◌else◌, ⊤}
+use Rattle.std.specs.List.{list_any}
+use Rattle.mysql_named_params.specs.Bytes.{newline}
+use Rattle.mysql_named_params.specs.Tokens.{Token, HashComment, DashComment, Plain}
+use Rattle.mysql_bind_core.specs.declared.request.Literals.{Literals}
+use Rattle.mysql_bind_core.specs.declared.request.Literals.TheVariants as literals
+
+-- a mode in which texts with such literals are read: either with steady ones, theirs with plain
+abbrev pub IsReadIn : Literals → Bool → Type 0
+IsReadIn literals.Steady mode = ⊤
+IsReadIn (literals.Plain own) mode = own ≡ mode
+
+-- b';'
+abbrev pub semicolon : ℕ
+semicolon = 59
+
+-- a newline is in the bytes
+abbrev pub has_newline : List ℕ → Bool
+has_newline bytes = list_any (λ b. b == newline) bytes
+
+-- The last token of a text, and a newline after it. A comment to the end of the line that is still
+-- open ends with the newline; after every other token the newline is a token of its own.
+abbrev pub then_newline : Token → List Token
+then_newline (HashComment tail) =
+    if has_newline tail then HashComment tail ∷ Plain newline ∷ []
+    else HashComment (tail ++ newline ∷ []) ∷ []
+then_newline (DashComment gap tail) =
+    if has_newline tail then DashComment gap tail ∷ Plain newline ∷ []
+    else DashComment gap (tail ++ newline ∷ []) ∷ []
+then_newline t = t ∷ Plain newline ∷ []
+
+-- the tokens of a text, and a newline after it
+abbrev pub with_newline : List Token → List Token
+with_newline [] = Plain newline ∷ []
+with_newline (t ∷ []) = then_newline t
+with_newline (t ∷ u ∷ ts) = t ∷ with_newline (u ∷ ts)
+
+-- the tokens of a statement, by those of its text: those, a newline, `;` and a newline
+abbrev pub statement_tokens : List Token → List Token
+statement_tokens ts = with_newline ts ++ (Plain semicolon ∷ Plain newline ∷ [])
+
+-- the tokens of the statements, in their order, by those of their texts
+abbrev pub tokens_of_statements : List (List Token) → List Token
+tokens_of_statements [] = []
+tokens_of_statements (ts ∷ lists) = statement_tokens ts ++ tokens_of_statements lists
+
+-- the tokens of a statement of words alone: one for each byte
+abbrev pub word_tokens : List ℕ → List Token
+word_tokens bytes = statement_tokens (map (λ b. Plain b) bytes)
+
+-- the tokens of a script, by those of its texts
+abbrev pub script_tokens : Bool → List (List Token) → List Token
+script_tokens transaction lists =
+    ((if transaction then word_tokens (codes "START TRANSACTION") else [])
+    ++ tokens_of_statements lists)
+    ++ (if transaction then word_tokens (codes "COMMIT") else [])
