@@ -3,3 +3,4 @@ pub mod LineLemmas
 pub mod ClosedQueryLemmas
 pub mod BoundLineLemmas
 pub mod ScriptTokenLemmas
+pub mod ScriptCountLemmas

@@ -1,8 +1,9 @@
 -- The tokens of a script: those of its texts, and a line with `;` after each. No token of a text
 -- reaches beyond the newline after it.
-use Rattle.std.specs.Prelude.{◌≡◌, ◌==◌, ◌++◌, ℕ, Bool, List, [], ◌∷◌, map, codes, if◌then◌else◌, ⊤}
+use Rattle.std.specs.Prelude.{◌≡◌, ◌==◌, ◌+◌, ◌++◌, ℕ, Bool, List, [], ◌∷◌, length, map, codes, if◌then◌else◌, ⊤}
 use Rattle.std.specs.List.{list_any}
 use Rattle.mysql_named_params.specs.Bytes.{newline}
+use Rattle.mysql_named_params.specs.Statements.{statements}
 use Rattle.mysql_named_params.specs.Tokens.{Token, HashComment, DashComment, Plain}
 use Rattle.mysql_bind_core.specs.declared.request.Literals.{Literals}
 use Rattle.mysql_bind_core.specs.declared.request.Literals.TheVariants as literals
@@ -45,6 +46,12 @@ statement_tokens ts = with_newline ts ++ (Plain semicolon ∷ Plain newline ∷ 
 abbrev pub tokens_of_statements : List (List Token) → List Token
 tokens_of_statements [] = []
 tokens_of_statements (ts ∷ lists) = statement_tokens ts ++ tokens_of_statements lists
+
+-- how many statements these texts have together, as clients cut them (Statements.antt of
+-- mysql_named_params)
+abbrev pub count_of_statements : List (List Token) → ℕ
+count_of_statements [] = 0
+count_of_statements (ts ∷ lists) = length (statements ts) + count_of_statements lists
 
 -- the tokens of a statement of words alone: one for each byte
 abbrev pub word_tokens : List ℕ → List Token
