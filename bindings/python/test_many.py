@@ -84,7 +84,7 @@ class Test(unittest.TestCase):
                     found = self.refused(kind, executemany, INSERT, [*good[:at], row, *good[:3], 7])
                     self.assertEqual(found.row, at)
         found = self.refused(mysql_params.FloatError, executemany, INSERT, [(1, 2), (1, 1.5), (1, {2})])
-        self.assertEqual((found.row, str(found)), (1, "row 1: Float at place 1"))
+        self.assertEqual((found.row, str(found)), (1, "row 1: Float at place 1; give a Decimal, or a text"))
 
     def test_a_row_that_is_too_long(self):
         for packet, row in ((34, None), (33, 1), (32, 0)):

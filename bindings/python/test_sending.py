@@ -295,6 +295,7 @@ class Test(unittest.TestCase):
             ("SELECT ?", [1, 2], "Query has 1 marks and 2 values"),
             ("VALUES ?", [], "Query has 1 marks and 0 values"),
             ("SELECT %(a)s", {"a": 1}, named + ": a place is `:name`, and not `%(name)s`"),
+            ("SELECT ?, ':a'", {"a": 1}, named + ": no `:name` stands outside of strings and comments"),
         ):
             with self.subTest(query=query), self.assertRaises(mysql_params.Error) as raised:
                 self.send(PyMySQL(), query, params)

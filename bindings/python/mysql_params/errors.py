@@ -171,8 +171,9 @@ class NamedForPositionalError(_WordError):
     def _look_at(self, query: bytes) -> None:
         """Take the first word after a colon that begins no name."""
         self._take(_WORD_WITHOUT_NAME.search(query))
-        if self.word is None and b"%(" in query:
-            self._hint = ": a place is `:name`, and not `%(name)s`"
+        if self.word is None:
+            other = ": a place is `:name`, and not `%(name)s`"
+            self._hint = other if b"%(" in query else ": no `:name` stands outside of strings and comments"
 
     def _more(self) -> str:
         return super()._more() + self._hint
@@ -224,8 +225,8 @@ class NotAloneError(_WordError):
 class FloatError(Error):
     """The value for the place `place` is a floating-point number, which has no literal.
 
-    For a decimal give its text, and write ``CAST(:p AS DECIMAL(20,2))`` in the query: a text in arithmetic is computed
-    as a double.
+    Give a Decimal, or by the calls that take values alone its text, and write ``CAST(:p AS DECIMAL(20,2))`` in the query: a
+    text in arithmetic is computed as a double. Of a finite float that is to stay one give ``repr(value)``.
     """
 
     number = 14
@@ -236,7 +237,8 @@ class FloatError(Error):
     """The name that stands in that place. None for a ``?``."""
 
     def _more(self) -> str:
-        return "" if self.name is None else f": the value of `:{self.name}`"
+        which = "" if self.name is None else f": the value of `:{self.name}`"
+        return f"{which}; give a Decimal, or a text"
 
 
 class UnsteadyError(Error):

@@ -96,7 +96,8 @@ pub enum Error {
         /// The word that begins with the name of the place, if it has one and the word is longer.
         word: Option<Vec<u8>>,
     },
-    /// The value for a place is a floating-point number, which has no literal. For a decimal give its text, and write
+    /// The value for a place is a floating-point number, which has no literal. Give
+    /// [`Fragment::Decimal`](crate::Fragment::Decimal), or where a place takes one value a text, and write
     /// `CAST(:p AS DECIMAL(20,2))` in the query: a text in arithmetic is computed as a double.
     Float {
         /// Number of the place.
@@ -247,7 +248,11 @@ impl fmt::Display for Error {
                 write!(
                     f,
                     "Named params given where positional params are expected{more}"
-                )
+                )?;
+                match word {
+                    Some(_) => Ok(()),
+                    None => write!(f, ": no `:name` stands outside of strings and comments"),
+                }
             }
             Error::PositionalForNamed => {
                 write!(f, "Positional params given where named params are expected")
@@ -266,11 +271,13 @@ impl fmt::Display for Error {
                     "Place {place} at byte {position} does not stand alone{more}"
                 )
             }
-            Error::Float { place, name: None } => write!(f, "Float at place {place}"),
-            Error::Float {
-                place,
-                name: Some(name),
-            } => write!(f, "Float at place {place}: the value of `:{name}`"),
+            Error::Float { place, name } => {
+                write!(f, "Float at place {place}")?;
+                if let Some(name) = name {
+                    write!(f, ": the value of `:{name}`")?;
+                }
+                write!(f, "; give a Decimal, or a text")
+            }
             Error::Unsteady { position } => write!(
                 f,
                 "Backslash or byte that is not ASCII at byte {position} of the query"
