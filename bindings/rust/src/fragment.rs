@@ -39,8 +39,8 @@ pub enum Fragment<'a> {
     Identifier(&'a str),
     /// The name of what is in something else, as a database and a table in it.
     Qualified(Vec<&'a str>),
-    /// A keyword of the program's own, as `DESC`: never a text from outside. It is written if it is one of those that
-    /// bindings/README.md lists.
+    /// A keyword of the program's own, as `DESC`: never a text from outside. It is written if it is one of those that the
+    /// crate's README.md lists.
     Keyword(&'static str),
 }
 

@@ -46,6 +46,11 @@ pub use value::{Date, Params, Time, Value};
 
 use archive::{Call, copy_of};
 
+/// The examples of README.md, as tests.
+#[cfg(doctest)]
+#[doc = include_str!("../README.md")]
+struct Readme;
+
 const _: () = {
     const fn is_send_and_sync<T: Send + Sync>() {}
     is_send_and_sync::<(Construct, Date, Error, Names, Params<'_>)>();
