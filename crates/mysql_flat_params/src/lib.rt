@@ -28,4 +28,6 @@ pub use names_room::names_into;
 pub use outcome::{Outcome, Report};
 pub use rows::{Rows, bind_rows_into};
 pub use steady_room::{bind_anywhere_into, bind_in_both_modes_into};
-pub use unportable::{report_first_unportable, report_first_unportable_in_client};
+pub use unportable::{
+    construct_number, report_first_unportable, report_first_unportable_in_client,
+};

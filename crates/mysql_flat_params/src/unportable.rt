@@ -72,8 +72,9 @@ fn number_and_report(found: Option<Unportable>, report: &mut Report) -> i32
     }
 }
 
-// The number of a construct.
-pub(crate) fn construct_number(construct: Construct) -> u8
+/// The number of a construct: 1 for [`Construct::ExecutableComment`], and then in the order of the
+/// declaration up to 18.
+pub fn construct_number(construct: Construct) -> u8
     ensures { result ≡ construct_number construct }
 {
     match construct {
