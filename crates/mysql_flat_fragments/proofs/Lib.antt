@@ -4,3 +4,4 @@ pub mod FormLemmas
 pub mod FragmentMapLemmas
 pub mod KeywordLemmas
 pub mod RoomLemmas
+pub mod AnywhereLemmas

@@ -11,7 +11,7 @@ use Rattle.mysql_flat_params.specs.declared.outcome.Outcome.{Outcome}
 use Rattle.mysql_flat_params.specs.declared.outcome.Outcome.TheVariants.{Done, OutOfMemory, Room, FormEnd, FormLengthLead, FormType, FormMixed, FormRepeated, Mixed, Missing, NamedForPositional, PositionalForNamed, MarkCount, NotAlone, Float, Unsteady, Unportable, Backslash}
 use Rattle.mysql_flat_fragments.specs.FlatFragments.{IsFormReading}
 use Rattle.mysql_flat_fragments.specs.declared.outcome.FragmentsOutcome.{FragmentsOutcome}
-use Rattle.mysql_flat_fragments.specs.declared.outcome.FragmentsOutcome.TheVariants.{AsValues, Fault}
+use Rattle.mysql_flat_fragments.specs.declared.outcome.FragmentsOutcome.TheVariants.{AsValues, Fault, UnsteadyFragment}
 
 -- the form says fragments, and this is the query bound to them
 abbrev pub IsBoundForm : (mode : Bool) (query form text : List ℕ) → Type 0
@@ -70,3 +70,4 @@ abbrev pub IsFragmentsOutcome : (mode : Bool) (query form : List ℕ) → Fragme
 IsFragmentsOutcome mode query form (AsValues outcome) = IsOutcomeAsValues mode query form outcome
 IsFragmentsOutcome mode query form (Fault place fault) =
     IsRefusedFor mode query form (faulty place fault)
+IsFragmentsOutcome mode query form (UnsteadyFragment place) = ⊥

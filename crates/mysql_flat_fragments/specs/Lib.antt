@@ -4,3 +4,4 @@ pub mod FlatFragments
 pub mod FragmentsFormErrors
 pub mod FragmentsOutcomes
 pub mod FragmentsIntoRoom
+pub mod FragmentsAnywhereIntoRoom

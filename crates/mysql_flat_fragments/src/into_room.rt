@@ -8,6 +8,7 @@ ghost use Rattle.mysql_fragments.specs.GivenFragments.{GivenFragments};
 ghost use Rattle.mysql_flat_params.specs.IntoRoom.{IsInRoom, IsMissingName};
 ghost use Rattle.mysql_flat_params.specs.Outcomes as values;
 ghost use Rattle.mysql_flat_fragments.specs.FlatFragments.{IsFormReading};
+ghost use Rattle.mysql_flat_fragments.specs.FragmentsAnywhereIntoRoom.{IsAnywhereAsValues};
 ghost use Rattle.mysql_flat_fragments.specs.FragmentsFormErrors.{IsFormRefusal};
 ghost use Rattle.mysql_flat_fragments.specs.FragmentsIntoRoom.{IsBoundForm, IsFragmentsOutcome, IsOutcomeAsValues};
 ghost use Rattle.mysql_flat_fragments.specs.FragmentsOutcomes.{HasNoAnswer, IfDone, IfTooLong, UnlessDone};
@@ -53,8 +54,8 @@ pub fn bind_fragments_into(
     }
 }
 
-// Writes the answer to the front of the room, if the room has its length.
-fn fill_front(room: &mut [u8], answer: &[u8]) -> Outcome
+/// Writes the answer to the front of the room, if the room has its length.
+pub(crate) fn fill_front(room: &mut [u8], answer: &[u8]) -> Outcome
     ensures { IsInRoom answer.now room.old room.new result }
 {
     if room.len() < answer.len() {
@@ -64,10 +65,12 @@ fn fill_front(room: &mut [u8], answer: &[u8]) -> Outcome
     Outcome::Done { len: answer.len() }
 }
 
-// A refusal of a form.
-fn form_outcome(error: FormError) -> Outcome
+/// A refusal of a form.
+pub(crate) fn form_outcome(error: FormError) -> Outcome
     ensures outcome { (mode : Bool) (query form : List ℕ) → IsFormRefusal form error →
         IsOutcomeAsValues mode query form result }
+    ensures anywhere { (query form : List ℕ) → IsFormRefusal form error →
+        IsAnywhereAsValues query form result }
     ensures no_answer { values.HasNoAnswer result }
 {
     match error {
@@ -104,8 +107,8 @@ fn form_outcome(error: FormError) -> Outcome
     }
 }
 
-// A refusal of binding to this query.
-fn fragments_outcome(
+/// A refusal of binding to this query.
+pub(crate) fn fragments_outcome(
     query: &[u8],
     error: FragmentsError,
     no_backslash_escape: bool,

@@ -1,10 +1,11 @@
 //! Binding of fragments for callers in other languages: lists, rows, exact numbers, identifiers and
 //! keywords come in as bytes in one flat form, and the text goes into a room that the caller lends.
 //!
-//! [`form_fragments`] reads the form. [`bind_fragments_into`] writes the bound text into the room,
-//! or leaves it as it was and says by a [`FragmentsOutcome`] why.
+//! [`form_fragments`] reads the form. [`bind_fragments_into`] and [`bind_fragments_anywhere_into`]
+//! write the bound text into the room, or leave it as it was and say by a [`FragmentsOutcome`] why.
 #![tactic(auto)]
 
+mod anywhere_room;
 mod column_number;
 mod form;
 mod fragment;
@@ -15,6 +16,7 @@ mod missing_place;
 mod outcome;
 mod parts;
 
+pub use anywhere_room::bind_fragments_anywhere_into;
 pub use form::form_fragments;
 pub use into_room::bind_fragments_into;
 pub use outcome::FragmentsOutcome;

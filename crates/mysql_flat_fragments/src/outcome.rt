@@ -9,8 +9,9 @@ use mysql_fragments::FragmentFault;
 /// is as it was.
 #[derive(Clone, Copy, Debug, PartialEq, Eq)]
 pub enum FragmentsOutcome {
-    /// What becomes of a call that binds values too; it is neither `Unsteady`, `Unportable` nor
-    /// `Backslash`.
+    /// What becomes of a call that binds values too. `Unsteady` and `Unportable` come from
+    /// [`bind_fragments_anywhere_into`](crate::bind_fragments_anywhere_into) alone, and `Backslash`
+    /// never.
     AsValues(Outcome),
     /// The fragment for a place can't be written; of several it is the first.
     Fault {
@@ -19,22 +20,32 @@ pub enum FragmentsOutcome {
         /// What is wrong with it.
         fault: FragmentFault,
     },
+    /// The fragment for a place has a name with a backslash or a byte from 128 on; of several it is
+    /// the first. It comes from
+    /// [`bind_fragments_anywhere_into`](crate::bind_fragments_anywhere_into) alone.
+    UnsteadyFragment {
+        /// The number of its place, from 0.
+        place: usize,
+    },
 }
 
 impl FragmentsOutcome {
-    /// The number of the outcome's kind: that of an [`Outcome`], and 17 for a fault.
+    /// The number of the outcome's kind: that of an [`Outcome`], 17 for a fault, and 19 for a
+    /// fragment that isn't steady.
     pub fn number(self) -> i32
         ensures number { result ≡ pos (number_of self) }
     {
         match self {
             FragmentsOutcome::AsValues(outcome) => outcome.number(),
             FragmentsOutcome::Fault { .. } => 17,
+            FragmentsOutcome::UnsteadyFragment { .. } => 19,
         }
     }
 
     /// The fields of the outcome. Those of a fault are its place, its number as `byte`, 1 for
     /// [`FragmentFault::Empty`] and then in the order of the declaration, its row as `position`,
-    /// and its item or its part of a qualified identifier as `values`.
+    /// and its item or its part of a qualified identifier as `values`. A fragment that isn't steady
+    /// has its place.
     pub fn report(self) -> Report
         ensures fields { result ≡ report_of self }
     {
@@ -47,6 +58,14 @@ impl FragmentsOutcome {
                 marks: 0,
                 values: fault_item(fault),
                 byte: fault_number(fault),
+            },
+            FragmentsOutcome::UnsteadyFragment { place } => Report {
+                len: 0,
+                place,
+                position: 0,
+                marks: 0,
+                values: 0,
+                byte: 0,
             },
         }
     }

@@ -2,6 +2,8 @@
 #![tactic(auto)]
 
 #[cfg(test)]
+mod anywhere;
+#[cfg(test)]
 mod bound;
 #[cfg(test)]
 mod shared;

@@ -20,6 +20,7 @@ ghost use Rattle.mysql_flat_params.specs.FlatForm.{HasFirstParameter};
 ghost use Rattle.mysql_flat_params.specs.IntoRoom.{IfMixed, IsBindOutcome, IsBoundForm, IsNamesAnswer, IsNamesOutcome};
 ghost use Rattle.mysql_flat_params.specs.Outcomes.{IsTold, number_of};
 ghost use Rattle.mysql_flat_params.specs.declared.outcome.Outcome as outcome;
+ghost use Rattle.mysql_flat_fragments.specs.FragmentsAnywhereIntoRoom as anywhere_fragments;
 ghost use Rattle.mysql_flat_fragments.specs.FragmentsIntoRoom as fragments;
 ghost use Rattle.mysql_flat_fragments.specs.FragmentsOutcomes as fragments_outcomes;
 ghost use Rattle.mysql_flat_params.specs.UnportableReport.{unportable_number, unportable_report};
@@ -29,7 +30,7 @@ ghost use Rattle.mysql_named_params.specs.Places.{marks, HasMark, HasName};
 ghost use Rattle.mysql_named_params.specs.Portable.{IsPortable};
 ghost use Rattle.mysql_named_params.specs.Tokens.{OnTokens};
 
-use mysql_flat_fragments::bind_fragments_into;
+use mysql_flat_fragments::{bind_fragments_anywhere_into, bind_fragments_into};
 use mysql_flat_params::{
     Report, Rows, bind_anywhere_into, bind_in_both_modes_into, bind_into, bind_rows_into,
     names_into, report_first_unportable, report_first_unportable_in_client,
@@ -260,6 +261,36 @@ pub extern "C" fn mysql_params_bind_fragments(
     ensures unchanged { result ≢ pos 0 → room.new ≡ room.old }
 {
     let outcome = bind_fragments_into(alloc, query, form, no_backslash_escape, room);
+    *report = outcome.report();
+    outcome.number()
+}
+
+/// Binds into the query the fragments that the form says, and writes to the front of the room a
+/// text that no `sql_mode` and no character set of a connection reads otherwise, on any server:
+/// [`bind_fragments_anywhere_into`](mysql_flat_fragments::bind_fragments_anywhere_into).
+///
+/// It returns the numbers of [`mysql_params_bind_fragments`], and after those for a form and before
+/// those for a query 15 (`Unsteady`) and 16 (`Unportable`) as [`mysql_params_bind_anywhere`], and
+/// after all of them 19 (`UnsteadyFragment`) for a fragment with a name that has a backslash or a
+/// byte from 128 on, whose place is in the report. At each number but 0 the room is as before.
+#[unsafe(no_mangle)]
+pub extern "C" fn mysql_params_bind_fragments_anywhere(
+    alloc: Global,
+    query: &[u8],
+    form: &[u8],
+    room: &mut [u8],
+    report: &mut Report,
+) -> i32
+    ensures outcome { fragments_outcomes.IsTold result report.new
+        (anywhere_fragments.IsAnywhereOutcome query.now form.now) }
+    ensures written { result ≡ pos 0 → anywhere_fragments.IsAnywhereForm query.now form.now
+        (take report.new.len room.new) }
+    ensures rest { result ≡ pos 0 → (report.new.len ≤ length room.old)
+        × (drop report.new.len room.new ≡ drop report.new.len room.old) }
+    ensures too_long { result ≡ pos 2 → length room.old < report.new.len }
+    ensures unchanged { result ≢ pos 0 → room.new ≡ room.old }
+{
+    let outcome = bind_fragments_anywhere_into(alloc, query, form, room);
     *report = outcome.report();
     outcome.number()
 }
