@@ -237,7 +237,7 @@ static void append_param(bytes *to, char *param)
 static const char *const NUMBERS[] = {
     "DONE", "OUT_OF_MEMORY", "ROOM", "FORM_END", "FORM_LENGTH_LEAD", "FORM_TYPE", "FORM_MIXED", "FORM_REPEATED", "MIXED",
     "MISSING", "NAMED_FOR_POSITIONAL", "POSITIONAL_FOR_NAMED", "MARK_COUNT", "NOT_ALONE", "FLOAT",
-    "UNSTEADY", "UNPORTABLE", "FAULT", "BACKSLASH"};
+    "UNSTEADY", "UNPORTABLE", "FAULT", "BACKSLASH", "UNSTEADY_FRAGMENT"};
 
 /* The number of a name: its index in the names, from first to last. */
 static int32_t index_of(const char *name, const char *const *names, int32_t first, int32_t last)
@@ -251,7 +251,7 @@ static int32_t index_of(const char *name, const char *const *names, int32_t firs
 
 static int32_t number_of(const char *name)
 {
-    return index_of(name, NUMBERS, 0, MYSQL_PARAMS_BACKSLASH);
+    return index_of(name, NUMBERS, 0, MYSQL_PARAMS_UNSTEADY_FRAGMENT);
 }
 
 /* Reads one FIELD=VALUE of a refusal or a construct. What Rust and Python tell alone is read over. */

@@ -151,7 +151,7 @@ public:
     }
     /* Appends a parameter in order. */
     Form &append(const Value &value) { return append_as(nullptr, value); }
-    /* Those below append what bind_fragments alone takes; in order if the name is null. An exact number, as "-1.50". */
+    /* Those below append what bind_fragments and bind_fragments_anywhere alone take; in order if the name is null. An exact number, as "-1.50". */
     Form &append_decimal(const char *name, const std::string &digits)
     {
         return fitting(mysql_params_append_decimal(&form_, name, whole(digits)));
@@ -295,6 +295,14 @@ struct BindFragments : Bind {
     }
 };
 
+struct BindFragmentsAnywhere : Bind {
+    std::int32_t operator()(std::uint8_t *room, std::size_t room_len, mysql_params_report *report) const
+    {
+        return mysql_params_bind_fragments_anywhere(bytes_of(query), query.size(), form.room, form.len, room, room_len,
+                                                    report);
+    }
+};
+
 struct NamesOf {
     std::string_view query;
     bool no_backslash_escape;
@@ -336,6 +344,15 @@ inline std::string bind_fragments(std::string_view query, const Form &form, Mode
     const mysql_params_form &flat = form.get();
     return detail::whole_answer(query.size() + 2 * flat.len + 64,
                                 detail::BindFragments{{query, flat, mode == Mode::no_backslash_escapes}});
+}
+
+/* A text of such a form that no sql_mode and no character set reads otherwise, on MySQL or MariaDB. The query and the
+ * identifiers have to be ASCII without a backslash, and the query portable. It takes a form of values alone too. Throws
+ * Error. */
+inline std::string bind_fragments_anywhere(std::string_view query, const Form &form = {})
+{
+    const mysql_params_form &flat = form.get();
+    return detail::whole_answer(query.size() + 2 * flat.len + 64, detail::BindFragmentsAnywhere{{query, flat, false}});
 }
 
 /* The names of a query. Throws Error for one with names and marks. */

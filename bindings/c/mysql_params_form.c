@@ -20,7 +20,7 @@ enum {
     TYPE_VAR_STRING = 253
 };
 
-/* Numbers of the types that mysql_params_bind_fragments alone takes. */
+/* Numbers of the types that the calls that bind fragments alone take. */
 enum {
     TYPE_NUMBER = 128,
     TYPE_LIST = 129,
@@ -566,6 +566,9 @@ static void append_of_numbers(line *to, int32_t number, const mysql_params_repor
     case MYSQL_PARAMS_BACKSLASH:
         append_text(to, "Backslash in a string at byte %zu of the query", report->position);
         return;
+    case MYSQL_PARAMS_UNSTEADY_FRAGMENT:
+        append_text(to, "Fragment at place %zu has a name with a backslash or a byte that is not ASCII", report->place);
+        return;
     default:
         append_text(to, "Unknown number %ld", (long)number);
     }
@@ -695,7 +698,7 @@ const char *mysql_params_construct_message(int32_t construct)
     }
 }
 
-/* Either call that binds by a mode. */
+/* A call that binds by a mode. */
 typedef int32_t bind_call(const uint8_t *query, size_t query_len, const uint8_t *form, size_t form_len,
                           bool no_backslash_escape, uint8_t *room, size_t room_len, mysql_params_report *report);
 
@@ -738,6 +741,20 @@ int32_t mysql_params_bind_fragments_form(const uint8_t *query, size_t query_len,
                                          bool no_backslash_escape, char **text, mysql_params_report *report)
 {
     return bind_into_memory(mysql_params_bind_fragments, query, query_len, form, no_backslash_escape, text, report);
+}
+
+/* As mysql_params_bind_fragments_anywhere; the mode is not looked at. */
+static int32_t bind_in_no_mode(const uint8_t *query, size_t query_len, const uint8_t *form, size_t form_len,
+                               bool no_backslash_escape, uint8_t *room, size_t room_len, mysql_params_report *report)
+{
+    (void)no_backslash_escape;
+    return mysql_params_bind_fragments_anywhere(query, query_len, form, form_len, room, room_len, report);
+}
+
+int32_t mysql_params_bind_fragments_anywhere_form(const uint8_t *query, size_t query_len, const mysql_params_form *form,
+                                                  char **text, mysql_params_report *report)
+{
+    return bind_into_memory(bind_in_no_mode, query, query_len, form, false, text, report);
 }
 
 bool mysql_params_processor_suffices(void)

@@ -98,7 +98,8 @@ bool mysql_params_append_time(mysql_params_form *form, const char *name, mysql_p
  * double. */
 bool mysql_params_append_double(mysql_params_form *form, const char *name, double number);
 
-/* The functions below append what mysql_params_bind_fragments alone takes. Each returns as those above. */
+/* The functions below append what mysql_params_bind_fragments and mysql_params_bind_fragments_anywhere alone take. Each
+ * returns as those above. */
 
 /* Appends an exact number, as "-1.50" or a whole number of any length. It may stand in a list. */
 bool mysql_params_append_decimal(mysql_params_form *form, const char *name, const char *digits);
@@ -134,6 +135,10 @@ bool mysql_params_end_rows(mysql_params_form *form);
 /* Binds as mysql_params_bind_fragments, as mysql_params_bind_form binds by mysql_params_bind. */
 int32_t mysql_params_bind_fragments_form(const uint8_t *query, size_t query_len, const mysql_params_form *form,
                                          bool no_backslash_escape, char **text, mysql_params_report *report);
+
+/* Binds as mysql_params_bind_fragments_anywhere, so too. */
+int32_t mysql_params_bind_fragments_anywhere_form(const uint8_t *query, size_t query_len, const mysql_params_form *form,
+                                                  char **text, mysql_params_report *report);
 
 /* Binds as mysql_params_bind, into memory of `malloc`: `*text` gets the text, `report->len` bytes and a zero byte after
  * them, which the caller gives back by `free`; null unless the number is MYSQL_PARAMS_DONE. It never returns

@@ -101,7 +101,7 @@ typedef struct outcome {
 } outcome;
 
 /* The call to try: of names, of binding values or fragments in a mode, or of binding for any server or both modes. */
-static enum { NAMES, BIND, BIND_FRAGMENTS, BIND_ANYWHERE, BIND_IN_BOTH_MODES } tried;
+static enum { NAMES, BIND, BIND_FRAGMENTS, BIND_ANYWHERE, BIND_IN_BOTH_MODES, BIND_FRAGMENTS_ANYWHERE } tried;
 
 /* How many allocations of a call succeed: all of them. */
 enum { ALL = -1 };
@@ -126,6 +126,9 @@ static outcome call(const test_case *it, size_t room_len, long allocations)
     else if (tried == BIND_IN_BOTH_MODES)
         is.number = mysql_params_bind_in_both_modes(query, it->query.len, form, it->form.len, is.room, room_len,
                                                     &is.report);
+    else if (tried == BIND_FRAGMENTS_ANYWHERE)
+        is.number = mysql_params_bind_fragments_anywhere(query, it->query.len, form, it->form.len, is.room, room_len,
+                                                         &is.report);
     else if (tried == BIND_FRAGMENTS)
         is.number = mysql_params_bind_fragments(query, it->query.len, form, it->form.len, mode, is.room, room_len,
                                                 &is.report);
@@ -215,6 +218,14 @@ static void table_of_fragments(void)
     tried = BIND_FRAGMENTS;
     each_case(folder, "fragments.txt", try_rooms);
     each_case(folder, "forms.txt", try_rooms);
+}
+
+/* The same for any server. */
+static void table_of_steady_fragments(void)
+{
+    tried = BIND_FRAGMENTS_ANYWHERE;
+    each_case(folder, "fragments_anywhere.txt", try_rooms);
+    each_case(folder, "anywhere.txt", try_rooms);
 }
 
 static void names_of_queries(void)
@@ -683,6 +694,9 @@ static void forms_of_lists(void)
         number = mysql_params_bind_fragments_form(query, sizeof query - 1, &cut, false, &text, &report);
         expect(number == MYSQL_PARAMS_OUT_OF_MEMORY && text == NULL, &it, "a cut form is bound");
     }
+    number = mysql_params_bind_fragments_anywhere_form(query, sizeof query - 1, &form, &text, &report);
+    expect(number == MYSQL_PARAMS_DONE && strcmp(text, "0, 1, 2; (0.5), (0.5), (0.5)") == 0, &it, "another steady text");
+    free(text);
     mysql_params_form_free(&form);
     append_lists(&form, 40000);
     number = mysql_params_bind_fragments_form(query, sizeof query - 1, &form, false, &text, &report);
@@ -751,13 +765,14 @@ static void other_messages(void)
         {MYSQL_PARAMS_UNPORTABLE, "Not portable at byte 0 of the query: unknown construct"},
         {MYSQL_PARAMS_FAULT, "Fragment at place 0 can't be written: unknown fault"},
         {MYSQL_PARAMS_BACKSLASH, "Backslash in a string at byte 0 of the query"},
-        {MYSQL_PARAMS_BACKSLASH + 1, "Unknown number 19"},
+        {MYSQL_PARAMS_UNSTEADY_FRAGMENT, "Fragment at place 0 has a name with a backslash or a byte that is not ASCII"},
+        {MYSQL_PARAMS_UNSTEADY_FRAGMENT + 1, "Unknown number 20"},
         {-1, "Unknown number -1"},
     };
     mysql_params_report report = {0};
     report.len = 7;
     for (size_t i = 0; i < sizeof wanted / sizeof wanted[0]; i++) {
-        char line[64];
+        char line[96];
         test_case it = {0};
         it.line = (int)i;
         mysql_params_message(wanted[i].number, &report, (const uint8_t *)":a", 2, line, sizeof line);
@@ -822,6 +837,8 @@ static void out_of_memory(void)
     each_case(folder, "forms.txt", try_without_memory);
     tried = BIND_FRAGMENTS;
     each_case(folder, "fragments.txt", try_without_memory);
+    tried = BIND_FRAGMENTS_ANYWHERE;
+    each_case(folder, "fragments_anywhere.txt", try_without_memory);
     tried = BIND_ANYWHERE;
     each_case(folder, "anywhere.txt", try_without_memory);
     tried = BIND_IN_BOTH_MODES;
@@ -859,6 +876,7 @@ int main(int count, char **words)
     all &= passed("table_of_steady_binding", table_of_steady_binding);
     all &= passed("flat_forms", flat_forms);
     all &= passed("table_of_fragments", table_of_fragments);
+    all &= passed("table_of_steady_fragments", table_of_steady_fragments);
     all &= passed("forms_of_lists", forms_of_lists);
     all &= passed("names_of_queries", names_of_queries);
     all &= passed("rows_of_queries", rows_of_queries);

@@ -148,6 +148,24 @@ static void fragments()
     same(thrown([] { mysql_params::Form().append_identifier("t", "a\0b"s); }), "invalid argument");
 }
 
+/* The same for any server. */
+static void steady_fragments()
+{
+    using mysql_params::bind_fragments_anywhere;
+    mysql_params::Form form;
+    form.append_list("ids", std::vector<std::string>{"it's", "\xC3\xA9"}).append_identifier("t", "a`b").append("x", 7);
+    same(bind_fragments_anywhere(":ids; :t; :x", form), "_utf8mb4'it''s', _utf8mb4 0xC3A9; `a``b`; 7");
+    same(bind_fragments_anywhere("SELECT 1"), "SELECT 1");
+    try {
+        mysql_params::Form name;
+        bind_fragments_anywhere("SELECT ?, ?", name.append(1).append_identifier(nullptr, "\xC3\xA9"));
+        expect(false, "a name that isn't ASCII is refused");
+    } catch (const Error &error) {
+        expect(error.number() == MYSQL_PARAMS_UNSTEADY_FRAGMENT && error.report().place == 1, "it isn't steady");
+        same(error.what(), "Fragment at place 1 has a name with a backslash or a byte that is not ASCII");
+    }
+}
+
 static bool passed(const char *name, void test())
 {
     failures = 0;
@@ -164,5 +182,6 @@ int main()
     all &= passed("refusals", refusals);
     all &= passed("queries", queries);
     all &= passed("fragments", fragments);
+    all &= passed("steady_fragments", steady_fragments);
     return all ? 0 : 1;
 }

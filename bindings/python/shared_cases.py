@@ -26,6 +26,7 @@ ERRORS = {
     "UNPORTABLE": mysql_params.UnportableError,
     "FAULT": mysql_params.FragmentError,
     "BACKSLASH": mysql_params.BackslashError,
+    "UNSTEADY_FRAGMENT": mysql_params.UnsteadyFragmentError,
 }
 
 FIELDS = {
@@ -42,11 +43,13 @@ FIELDS = {
     "UNPORTABLE": ("position", "construct"),
     "FAULT": ("place", "fault", "in_row", "item"),
     "BACKSLASH": ("position",),
+    "UNSTEADY_FRAGMENT": ("place",),
 }
 
 NUMBERS = {"FORM_END": 3, "FORM_LENGTH_LEAD": 4, "FORM_TYPE": 5, "FORM_MIXED": 6, "FORM_REPEATED": 7, "MIXED": 8}
 NUMBERS.update({"MISSING": 9, "NAMED_FOR_POSITIONAL": 10, "POSITIONAL_FOR_NAMED": 11, "MARK_COUNT": 12})
 NUMBERS.update({"NOT_ALONE": 13, "FLOAT": 14, "UNSTEADY": 15, "UNPORTABLE": 16, "FAULT": 17, "BACKSLASH": 18})
+NUMBERS["UNSTEADY_FRAGMENT"] = 19
 
 CONSTRUCTS = ["EXECUTABLE_COMMENT", "HINT", "MARIADB_COMMENT", "DASHES", "ESCAPED_QUOTE", "BRACKET", "DOLLAR_QUOTE"]
 CONSTRUCTS += ["DASHES_AFTER_EXPONENT", "PLACE_AFTER_EXPONENT", "OPENER_IN_COMMENT", "JOINING_COMMENT"]

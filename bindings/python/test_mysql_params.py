@@ -43,7 +43,7 @@ def literal(byte):
 def library_of(suffices: bool, *more: str) -> mock.Mock:
     """Return a library with the functions of the archive and more, on a processor that suffices or doesn't."""
     names = ("names", "bind", "bind_anywhere", "bind_rows", "first_unportable", "first_unportable_in_client")
-    names += ("bind_fragments", "bind_in_both_modes", "processor_suffices")
+    names += ("bind_fragments", "bind_fragments_anywhere", "bind_in_both_modes", "processor_suffices")
     library = mock.Mock(spec=[*(f"mysql_params_{name}" for name in names), *more])
     library.mysql_params_processor_suffices.return_value = suffices
     return library
@@ -69,7 +69,7 @@ class Test(unittest.TestCase):
                 self.assertEqual(getattr(error, field), argument)
             word = case.fields.get("word")
             self.assertEqual(getattr(error, "word", None), None if word is None else text_of(word))
-            if case.refusal in ("FLOAT", "FAULT"):
+            if case.refusal in ("FLOAT", "FAULT", "UNSTEADY_FRAGMENT"):
                 self.assertEqual(error.name, case.fields.get("of"))
             if case.message is not None:
                 self.assertEqual(str(error), case.message)
@@ -90,6 +90,10 @@ class Test(unittest.TestCase):
                 self.expect(case, lambda: bind_form_anywhere(case.query, case.form))
             else:
                 self.expect(case, lambda: bind_anywhere(case.query, case.given()))
+
+    def test_table_of_steady_fragments(self):
+        for case in cases("fragments_anywhere.txt"):
+            self.expect(case, lambda: bind_anywhere(case.query, case.given()))
 
     def test_table_of_both_modes(self):
         for case in cases("both_modes.txt"):
@@ -472,7 +476,7 @@ class Test(unittest.TestCase):
     def test_messages_of_values(self):
         aware = datetime.datetime(2019, 11, 27, tzinfo=datetime.timezone.utc)
         a_list = "a list, which has no literal: write a place for each of its values"
-        bare = "which bind and the calls that send write bare, where a place takes more than a value"
+        bare = "which bind, bind_anywhere and the calls that send write bare, where a place takes more than a value"
         wide = f"a whole number of more than 64 bits, {bare}: give str(..) of it, and write CAST({{}} AS DECIMAL(65,0))"
         price = "a Decimal, which has no literal: give str(..) of it, and write CAST({} AS DECIMAL(20,2))"
         double = ": a text in arithmetic is a double"
@@ -488,7 +492,7 @@ class Test(unittest.TestCase):
             for params, place in (({"a": None, "ids": value}, ":ids"), ([None, value], "?")):
                 with self.subTest(value=value, place=place), self.assertRaises(kind) as raised:
                     # bind takes a list and exact numbers.
-                    call = bind_anywhere if isinstance(value, (list, int, decimal.Decimal)) else bind
+                    call = mysql_params.bind_in_both_modes if isinstance(value, (list, int, decimal.Decimal)) else bind
                     call("SELECT 1", params)
                 which = "the value of `:ids` is " if place == ":ids" else "the value for place 1 is "
                 self.assertEqual(str(raised.exception), which + message.format(place))
@@ -640,7 +644,7 @@ class Test(unittest.TestCase):
         self.assertIsInstance(error, mysql_params.OutOfMemoryError)
         self.assertIsInstance(error, MemoryError)
         self.assertEqual((str(error), error.args), ("out of memory", ()))
-        for number in (-1, 0, 2, 19):
+        for number in (-1, 0, 2, 20):
             self.assertIs(type(_archive.error(number, report, b"", b"")), RuntimeError)
         for number in (16, 17):  # a construct of no number, and a fault of none
             with self.assertRaises(RuntimeError):
@@ -651,7 +655,10 @@ class Test(unittest.TestCase):
         word.word, place.name = b"bA", "b"
         unportable = mysql_params.UnportableError(7, Construct.HINT)
         fault = mysql_params.FragmentError(0, mysql_params.Fault.ROW_LENGTH, 1, 0)
-        for error in (fault, mysql_params.MissingError(1, 5, b"b"), mysql_params.MixedError(), word, place, unportable):
+        unsteady = mysql_params.UnsteadyFragmentError(3)
+        unsteady.name = "t"
+        errors = (fault, mysql_params.MissingError(1, 5, b"b"), mysql_params.MixedError(), word, place, unportable, unsteady)
+        for error in errors:
             copy = pickle.loads(pickle.dumps(error))
             self.assertEqual((type(copy), copy.args, str(copy)), (type(error), error.args, str(error)))
 

@@ -113,7 +113,7 @@ class Test(unittest.TestCase):
             ([1], "the value for place 0 is a list, which has no literal: write a place for each of its values"),
             (mysql_params.Identifier("t"), "the value for place 0 is of type Identifier, which has no literal"),
         ):
-            for call in (mysql_params.bind_anywhere, lambda query, given: mysql_params.bind_rows(query, [given])):
+            for call in (mysql_params.bind_in_both_modes, lambda query, given: mysql_params.bind_rows(query, [given])):
                 with self.subTest(value=value), self.assertRaises(TypeError) as raised:
                     call("?", [value])
                 self.assertIn(message, str(raised.exception))
@@ -187,8 +187,9 @@ class Test(unittest.TestCase):
                 self.assertEqual(bind(":a", {"a": value}), wanted)
                 self.assertEqual(bind("?", [[1, value]]), b"1, " + wanted)
                 self.assertEqual(bind("?", [[(1, value)]]), b"(1, " + wanted + b")")
-                for call in (mysql_params.bind_anywhere, lambda query, given: mysql_params.bind_rows(query, [given])):
-                    message = "^the value for place 0 is a whole number of more than 64 bits, which bind and the calls that"
+                self.assertEqual(mysql_params.bind_anywhere("?, ?", [value, [value]]), wanted + b", " + wanted)
+                for call in (mysql_params.bind_in_both_modes, lambda query, given: mysql_params.bind_rows(query, [given])):
+                    message = "^the value for place 0 is a whole number of more than 64 bits, which bind, bind_anywhere and"
                     with self.assertRaisesRegex(OverflowError, message):
                         call("?", [value])
         for value in (10**65, -(10**65), 10**5000, Number(10**65)):

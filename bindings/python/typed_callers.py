@@ -67,6 +67,7 @@ def fragments(idents: list[int], prices: list[tuple[int, decimal.Decimal]], colu
     bind("id IN (:ids)", {"ids": idents})
     bind("id IN (?) AND price < ?", [(1, 2), decimal.Decimal("9.99")])
     bind("VALUES ?", [prices])
+    bind_anywhere("VALUES ?", [prices])
     bind("VALUES ?", [[[1, "a"], [2, None]]])
     direction = Keyword("DESC", among=("ASC", "DESC"))
     words: tuple[str, ...] = mysql_params.KEYWORDS

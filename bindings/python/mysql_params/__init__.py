@@ -51,6 +51,7 @@ from .errors import (
     RepeatedNameError,
     UnportableError,
     UnsteadyError,
+    UnsteadyFragmentError,
 )
 from .portable import Construct, Unportable
 
@@ -87,6 +88,7 @@ __all__ = [
     "Unportable",
     "UnportableError",
     "UnsteadyError",
+    "UnsteadyFragmentError",
     "Value",
     "__version__",
     "ask_again",
@@ -244,17 +246,18 @@ def bind_anywhere(
     It is a text for MySQL and MariaDB. The query has to be ASCII without a backslash, also in its comments, and portable.
 
     A text of printable ASCII without a backslash is written as ``_utf8mb4'it''s'``, other UTF-8 as ``_utf8mb4 0xC3A9``,
-    and bytes that aren't UTF-8 as ``0xFF``; all else as by bind, but each place takes one value. "Steady texts" in
+    and bytes that aren't UTF-8 as ``0xFF``; all else as by bind, also what isn't one value. "Steady texts" in
     docs/LIMITS.md says where a server takes no such literal. The zone is as for bind.
 
-    Of the parameters it raises what bind raises, and OverflowError for a whole number of more than 64 bits. Then, of the
-    query, the first that holds: UnsteadyError;
-    UnportableError; those of bind from MixedError on. In place of any of them, and of a text, OutOfMemoryError.
+    Of the parameters it raises what bind raises. Then, of the query, the first that holds: UnsteadyError; UnportableError;
+    those of bind from MixedError on; UnsteadyFragmentError, for an Identifier that isn't ASCII without a backslash. In
+    place of any of them, and of a text, OutOfMemoryError.
 
     >>> bind_anywhere("SELECT ?, ?", ["it's", "\u00e9"])
     b"SELECT _utf8mb4'it''s', _utf8mb4 0xC3A9"
     """
-    return bind_form_anywhere(query, _form.form_of(params, zone))
+    query, (form, fragments) = _form.bytes_of(query), fragments_form_of(params, zone)
+    return _archive.whole_answer(query, form, _archive.ANYWHERE, _guess(query, form), fragments)
 
 
 def bind_form_anywhere(query: Union[str, bytes], form: bytes) -> bytes:
@@ -271,7 +274,8 @@ def bind_in_both_modes(
     It is a text for MySQL and MariaDB. The connection's character set has to be that of the query's bytes, utf8mb4 for a
     str. No string of the query may hold a backslash, nor a text in ``"``; and the query has to be portable.
 
-    It raises what bind_anywhere raises, with BackslashError in place of UnsteadyError.
+    Each place takes one value. It raises what bind_anywhere raises of a value, with BackslashError in place of
+    UnsteadyError, and OverflowError for a whole number of more than 64 bits.
 
     >>> bind_in_both_modes("SELECT * FROM b\u00fccher WHERE t = ?", ["\u00e9"]).decode()
     'SELECT * FROM b\xfccher WHERE t = _utf8mb4 0xC3A9'

@@ -12,6 +12,7 @@ from typing import Optional, Union
 from . import _form
 from ._rows import rows_form
 from .errors import _ERRORS, Error, Fault, FloatError, FragmentError, OutOfMemoryError, RepeatedNameError
+from .errors import UnsteadyFragmentError
 from .portable import Construct, Unportable
 
 DONE, ROOM, PORTABLE = 0, 2, 0
@@ -70,6 +71,8 @@ def load() -> ctypes.CDLL:
         library.mysql_params_bind_fragments.restype = ctypes.c_int32
         library.mysql_params_bind_anywhere.argtypes = (*string, *string, *answer)
         library.mysql_params_bind_anywhere.restype = ctypes.c_int32
+        library.mysql_params_bind_fragments_anywhere.argtypes = library.mysql_params_bind_anywhere.argtypes
+        library.mysql_params_bind_fragments_anywhere.restype = ctypes.c_int32
         library.mysql_params_bind_in_both_modes.argtypes = library.mysql_params_bind_anywhere.argtypes
         library.mysql_params_bind_in_both_modes.restype = ctypes.c_int32
         rows = (ctypes.c_void_p, ctypes.c_size_t, ctypes.POINTER(Rows), ctypes.POINTER(Report))
@@ -127,7 +130,8 @@ def call(
     if form is None:
         number = LIBRARY.mysql_params_names(query, len(query), flag(mode), *answer)
     elif mode is ANYWHERE:
-        number = LIBRARY.mysql_params_bind_anywhere(query, len(query), form, len(form), *answer)
+        bind = LIBRARY.mysql_params_bind_fragments_anywhere if fragments else LIBRARY.mysql_params_bind_anywhere
+        number = bind(query, len(query), form, len(form), *answer)
     elif mode is BOTH_MODES:
         number = LIBRARY.mysql_params_bind_in_both_modes(query, len(query), form, len(form), *answer)
     else:
@@ -211,7 +215,7 @@ def error(number: int, report: Report, query: bytes, form: bytes) -> Exception:
 def refusal(number: int, report: Report, query: bytes, form: bytes, mode: Union[bool, Anywhere]) -> Exception:
     """Return what to raise for a number other than done, with the name of the place of a float or a fragment."""
     found = error(number, report, query, form)
-    if isinstance(found, (FloatError, FragmentError)):
+    if isinstance(found, (FloatError, FragmentError, UnsteadyFragmentError)):
         names = names_of(query, mode is True)[1]
         found.name = names[found.place] if names else None
     return found

@@ -61,7 +61,7 @@ def _int_form(number: int, which: Union[bytes, int]) -> bytes:
         return struct.pack("<BBq", _LONGLONG, 0, number)
     if 0 <= number < 1 << 64:
         return struct.pack("<BBQ", _LONGLONG, _UNSIGNED, number)
-    bare = "which bind and the calls that send write bare, where a place takes more than a value"
+    bare = "which bind, bind_anywhere and the calls that send write bare, where a place takes more than a value"
     raise OverflowError(f"{place(which)} is a whole number of more than 64 bits, {bare}: {_cast(which, '65,0')}")
 
 

@@ -333,6 +333,20 @@ class FragmentError(Error):
         return f": {fault}" if self.name is None else f": {fault}: the value of `:{self.name}`"
 
 
+class UnsteadyFragmentError(Error):
+    """The Identifier for the place `place` has a backslash or a character that isn't ASCII. It is of bind_anywhere alone."""
+
+    number = 19
+    place: int
+    _fields: tuple[str, ...] = ("place",)
+    _text = "Fragment at place {place} has a name with a backslash or a byte that is not ASCII"
+    name: Optional[str] = None
+    """The name that stands in that place. None for a ``?``."""
+
+    def _more(self) -> str:
+        return "" if self.name is None else f": the value of `:{self.name}`"
+
+
 _ERRORS: dict[int, type[Error]] = {
     error.number: error
     for error in (
@@ -353,5 +367,6 @@ _ERRORS: dict[int, type[Error]] = {
         UnportableError,
         FragmentError,
         BackslashError,
+        UnsteadyFragmentError,
     )
 }

@@ -76,6 +76,16 @@ unsafe extern "C" {
         report: *mut Report,
     ) -> i32;
 
+    fn mysql_params_bind_fragments_anywhere(
+        query: *const u8,
+        query_len: usize,
+        form: *const u8,
+        form_len: usize,
+        room: *mut u8,
+        room_len: usize,
+        report: *mut Report,
+    ) -> i32;
+
     fn mysql_params_bind_rows(
         query: *const u8,
         query_len: usize,
@@ -135,6 +145,8 @@ pub(crate) enum Call<'a> {
     BindAnywhere { query: &'a [u8], form: &'a [u8] },
     /// As `Bind`, for both modes and any server.
     BindInBothModes { query: &'a [u8], form: &'a [u8] },
+    /// As `BindFragments`, for any server.
+    BindFragmentsAnywhere { query: &'a [u8], form: &'a [u8] },
 }
 
 impl Call<'_> {
@@ -204,6 +216,18 @@ impl Call<'_> {
                     &mut report,
                 )
             },
+            // SAFETY: the same.
+            Call::BindFragmentsAnywhere { query, form } => unsafe {
+                mysql_params_bind_fragments_anywhere(
+                    query.as_ptr(),
+                    query.len(),
+                    form.as_ptr(),
+                    form.len(),
+                    room.as_mut_ptr(),
+                    room.len(),
+                    &mut report,
+                )
+            },
         };
         (number, report)
     }
@@ -215,7 +239,8 @@ impl Call<'_> {
             | Call::Bind { query, .. }
             | Call::BindFragments { query, .. }
             | Call::BindAnywhere { query, .. }
-            | Call::BindInBothModes { query, .. } => query,
+            | Call::BindInBothModes { query, .. }
+            | Call::BindFragmentsAnywhere { query, .. } => query,
         }
     }
 
@@ -226,6 +251,7 @@ impl Call<'_> {
             | Call::BindFragments { form, .. }
             | Call::BindAnywhere { form, .. }
             | Call::BindInBothModes { form, .. }
+            | Call::BindFragmentsAnywhere { form, .. }
                 if number == 7 =>
             {
                 form
@@ -243,10 +269,13 @@ impl Call<'_> {
             .unwrap_or_else(|other| other)
     }
 
-    /// The same in a mode, a float or a fault with the name of its place.
+    /// The same in a mode, what is wrong with a value or a fragment with the name of its place.
     fn error_in(self, number: i32, report: &Report, no_backslash_escape: bool) -> Error {
         let mut error = self.error(number, report);
-        if let Error::Float { place, name } | Error::Fault { place, name, .. } = &mut error {
+        if let Error::Float { place, name }
+        | Error::Fault { place, name, .. }
+        | Error::UnsteadyFragment { place, name } = &mut error
+        {
             match names_in(self.query(), no_backslash_escape) {
                 Ok(found) => *name = found.names.into_iter().nth(*place),
                 Err(other) => return other,
@@ -325,6 +354,7 @@ impl Call<'_> {
                 }
             }
             18 => Error::Backslash { position },
+            19 => Error::UnsteadyFragment { place, name: None },
             _ => return Err(Error::UnknownAnswer { number }),
         })
     }

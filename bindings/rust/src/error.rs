@@ -105,15 +105,18 @@ pub enum Error {
         /// The name that stands in that place; none for a `?`.
         name: Option<String>,
     },
-    /// The query has a backslash or a byte from 128 on. It is of [`bind_anywhere`](crate::bind_anywhere) alone.
+    /// The query has a backslash or a byte from 128 on. It is of [`bind_anywhere`](crate::bind_anywhere) and
+    /// [`bind_fragments_anywhere`](crate::bind_fragments_anywhere) alone.
     Unsteady {
         /// The first such byte of the query.
         position: usize,
     },
-    /// The query isn't portable; told is the first construct. It is of [`bind_anywhere`](crate::bind_anywhere) and
+    /// The query isn't portable; told is the first construct. It is of [`bind_anywhere`](crate::bind_anywhere),
+    /// [`bind_fragments_anywhere`](crate::bind_fragments_anywhere) and
     /// [`bind_in_both_modes`](crate::bind_in_both_modes) alone.
     Unportable(Unportable),
-    /// What is given for a place can't be written. It is of [`bind_fragments`](crate::bind_fragments) alone.
+    /// What is given for a place can't be written. It is of [`bind_fragments`](crate::bind_fragments) and
+    /// [`bind_fragments_anywhere`](crate::bind_fragments_anywhere) alone.
     Fault {
         /// Number of the place.
         place: usize,
@@ -126,6 +129,14 @@ pub enum Error {
     Backslash {
         /// The first such byte of the query.
         position: usize,
+    },
+    /// The identifier for a place has a backslash or a byte from 128 on. It is of
+    /// [`bind_fragments_anywhere`](crate::bind_fragments_anywhere) alone.
+    UnsteadyFragment {
+        /// Number of the place.
+        place: usize,
+        /// The name that stands in that place; none for a `?`.
+        name: Option<String>,
     },
     /// The archive answered what this crate doesn't know: it is not the archive that this crate was written for.
     UnknownAnswer {
@@ -190,6 +201,7 @@ impl Error {
             Error::Unportable(_) => 16,
             Error::Fault { .. } => 17,
             Error::Backslash { .. } => 18,
+            Error::UnsteadyFragment { .. } => 19,
             Error::UnknownAnswer { number } => *number,
         })
     }
@@ -301,6 +313,16 @@ impl fmt::Display for Error {
             }
             Error::Backslash { position } => {
                 write!(f, "Backslash in a string at byte {position} of the query")
+            }
+            Error::UnsteadyFragment { place, name } => {
+                write!(
+                    f,
+                    "Fragment at place {place} has a name with a backslash or a byte that is not ASCII"
+                )?;
+                match name {
+                    Some(name) => write!(f, ": the value of `:{name}`"),
+                    None => Ok(()),
+                }
             }
             Error::UnknownAnswer { number } => write!(f, "Unknown answer {number} of the archive"),
         }

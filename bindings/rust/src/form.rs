@@ -12,7 +12,7 @@ const TIME: u8 = 11;
 const DATETIME: u8 = 12;
 const VAR_STRING: u8 = 253;
 
-/// Numbers of the types that [`bind_fragments`](crate::bind_fragments) alone takes.
+/// Numbers of the types that the calls that bind fragments alone take.
 const NUMBER: u8 = 128;
 const LIST: u8 = 129;
 const ROWS: u8 = 130;

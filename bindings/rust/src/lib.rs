@@ -268,6 +268,27 @@ pub fn bind_anywhere(query: &[u8], params: &Params<'_>) -> Result<Vec<u8>, Error
     bind_form_anywhere(query, &form::form_of(params)?)
 }
 
+/// As [`bind_fragments`], with a text as of [`bind_anywhere`], which depends on no connection. An identifier has to be ASCII
+/// without a backslash too.
+///
+/// ```
+/// use mysql_params::{Fragment, Fragments, bind_fragments_anywhere};
+///
+/// let given = [Fragment::Identifier("t"), vec!["it's", "é"].into()];
+/// let text = bind_fragments_anywhere(b"SELECT * FROM ? WHERE a IN (?)", &Fragments::Positional(&given))?;
+/// assert_eq!(text, b"SELECT * FROM `t` WHERE a IN (_utf8mb4'it''s', _utf8mb4 0xC3A9)");
+/// # Ok::<(), mysql_params::Error>(())
+/// ```
+///
+/// # Errors
+///
+/// The first that holds: those of [`bind_anywhere`]; [`Error::Fault`]; [`Error::UnsteadyFragment`].
+pub fn bind_fragments_anywhere(query: &[u8], fragments: &Fragments<'_>) -> Result<Vec<u8>, Error> {
+    let form = &form::form_of_fragments(fragments)?;
+    let guess = bound_guess(query, form);
+    Call::BindFragmentsAnywhere { query, form }.whole_answer(false, guess)
+}
+
 /// As [`bind_anywhere`], of a query that may have bytes from 128 on: no `sql_mode` reads the text otherwise, on MySQL or
 /// MariaDB. The connection's character set has to be that of the query's bytes, utf8mb4 for UTF-8. No string of the query
 /// may hold a backslash, nor a text in `"`.

@@ -2,9 +2,10 @@
 use mysql_params::{
     Construct, Date, Error, Fault, Fragment, Fragments, Item, Names, Params, RowError, Texts, Time,
     Unportable, Value, bind, bind_anywhere, bind_form, bind_form_anywhere, bind_form_in,
-    bind_form_in_both_modes, bind_fragments, bind_fragments_in, bind_in, bind_in_both_modes,
-    bind_rows, bind_rows_in, bind_str, bind_str_in, first_unportable, first_unportable_in,
-    first_unportable_in_client, first_unportable_in_client_in, names, names_in,
+    bind_form_in_both_modes, bind_fragments, bind_fragments_anywhere, bind_fragments_in, bind_in,
+    bind_in_both_modes, bind_rows, bind_rows_in, bind_str, bind_str_in, first_unportable,
+    first_unportable_in, first_unportable_in_client, first_unportable_in_client_in, names,
+    names_in,
 };
 use std::collections::HashMap;
 use std::path::Path;
@@ -213,7 +214,7 @@ fn cases(file: &str) -> Vec<Case> {
 }
 
 /// Names of the refusals in cases, in the order of their numbers from 3 on.
-const NUMBERS: [&str; 16] = [
+const NUMBERS: [&str; 17] = [
     "FORM_END",
     "FORM_LENGTH_LEAD",
     "FORM_TYPE",
@@ -230,6 +231,7 @@ const NUMBERS: [&str; 16] = [
     "UNPORTABLE",
     "FAULT",
     "BACKSLASH",
+    "UNSTEADY_FRAGMENT",
 ];
 
 /// The fault of a number in mysql_params.h, with its row and its item or name.
@@ -307,6 +309,10 @@ fn wanted_error(case: &Case) -> Error {
         },
         "UNSTEADY" => Error::Unsteady { position },
         "BACKSLASH" => Error::Backslash { position },
+        "UNSTEADY_FRAGMENT" => Error::UnsteadyFragment {
+            place,
+            name: fields.get("of").cloned(),
+        },
         "UNPORTABLE" => Error::Unportable(Unportable {
             construct: CONSTRUCTS[usize::from(byte) - 1].1,
             position,
@@ -384,6 +390,14 @@ fn table_of_fragments() {
             let result = with_fragments(&case, |given| bind_fragments(&case.query, given));
             expect(&case, result);
         }
+    }
+}
+
+#[test]
+fn table_of_steady_fragments() {
+    for case in cases("fragments_anywhere.txt") {
+        let result = with_fragments(&case, |given| bind_fragments_anywhere(&case.query, given));
+        expect(&case, result);
     }
 }
 
