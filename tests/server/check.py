@@ -28,6 +28,7 @@ import search
 import sent
 import signs
 import steady
+import steady_fragments
 from harness import Tests
 from protocol import Connection
 
@@ -55,6 +56,7 @@ def main(path: str, mysql_query: str, folder: str) -> int:
     search.run(tests, path)
     signs.run(tests, path)
     steady.run(tests, path, folder)
+    steady_fragments.run(tests, path)
     again.run(tests, path, folder)
     rewritten.run(tests, path, folder)
     anew.run(tests, path, folder)
