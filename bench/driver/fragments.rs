@@ -27,7 +27,7 @@ enum Things {
 }
 
 pub struct FragmentInput {
-    name: &'static str,
+    pub name: &'static str,
     query: &'static [u8],
     things: Things,
 }
@@ -100,7 +100,7 @@ fn fragment_of(things: &Things) -> Fragment {
 }
 
 /// The form in a new vector, the call, and the text in lent room.
-fn behind_calls(
+pub fn behind_calls(
     call: impl Fn(&[u8], &[u8], &mut [u8]) -> (i32, plain::room::Report),
     input: &FragmentInput,
     room: &RefCell<Vec<u8>>,

@@ -1,6 +1,7 @@
 //! The sides that are timed.
 
 use crate::archive;
+use crate::fragments;
 #[cfg(templates)]
 use crate::archive_template::Template;
 use crate::inputs::{self, Binding, form_of, params_of};
@@ -234,9 +235,17 @@ pub fn repeat(side: &str, call: &str, input: &str) -> ExitCode {
     let room = RefCell::new(vec![0; ROOM]);
     let queries = inputs::queries();
     let bindings = inputs::bindings();
+    let fragments = fragments::inputs();
+    let given = fragments.iter().find(|given| given.name == input);
     let query = queries.iter().find(|query| query.0 == input);
     let binding = bindings.iter().find(|binding| binding.name == input);
     let side: Side = match (side, call, query, binding) {
+        ("archive" | "table", "bind_fragments", ..) if given.is_some() => {
+            let given = given.expect("it is some");
+            let kind = TABLE.bind_fragment_form;
+            let call = if side == "archive" { archive::bind_fragments } else { kind };
+            Box::new(move || fragments::behind_calls(call, given, &room))
+        }
         ("archive" | "table" | "wide", "names", Some((_, query)), _) => {
             let names = match side {
                 "archive" => archive::names,
@@ -261,6 +270,7 @@ pub fn repeat(side: &str, call: &str, input: &str) -> ExitCode {
             eprintln!("Sides: archive, table, wide");
             eprintln!("Inputs of names: {}", list(queries.iter().map(|query| query.0)));
             eprintln!("Inputs of bind and bind_anywhere: {}", list(bindings.iter().map(|binding| binding.name)));
+            eprintln!("Inputs of bind_fragments: {}", list(fragments.iter().map(|given| given.name)));
             return ExitCode::from(2);
         }
     };
