@@ -84,7 +84,7 @@ mixed_none_of ts n k en ek never = mixed_none ts (λ both. never (omega (arith, 
 counts_same : (k v : ℕ) → k ≡ v → mark_count_differs 0 k v ≡ false
 counts_same k v e = rw (eq-eqb k v e) refl
 
-same_counts : (k v : ℕ) → mark_count_differs 0 k v ≡ false → k ≡ v
+pub same_counts : (k v : ℕ) → mark_count_differs 0 k v ≡ false → k ≡ v
 same_counts k v e = elim (cases_Bool (k == v)) [ inl h ↦ eqb-true k v h | inr h ↦ absurd (apart h) ]
   where
     apart : (k == v) ≡ false → ⊥
@@ -217,7 +217,7 @@ ok_of : {A E : Type 0} (o : Option A) (error : E) (a : A) → ok_or o error ≡ 
 ok_of None error a e = cc
 ok_of (Some x) error a e = cc
 
-lookup_each : (given : Given) (n : List ℕ) (ns : List (List ℕ)) (values : List Value) →
+pub lookup_each : (given : Given) (n : List ℕ) (ns : List (List ℕ)) (values : List Value) →
     lookup given (n ∷ ns) ≡ Ok values → length values ≡ length (n ∷ ns)
 lookup_each empty n ns values e = cc
 lookup_each (positional list) n ns values e = cc

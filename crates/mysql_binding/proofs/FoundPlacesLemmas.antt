@@ -122,7 +122,7 @@ place_len : (mode : Bool) (rest : List ℕ) (left : List Token) (found : FoundPl
     length (bytes_of p.place) ≡ found.len
 place_len mode rest left found p = omega (arith, ap length p.place_bytes, length-take-le found.len (drop found.before rest) (omega (arith, p.in_range, length-drop found.before rest)))
 
-found_count : (before : ℕ) (ts : List Token) → length (found_from before ts) ≡ place_count ts
+pub found_count : (before : ℕ) (ts : List Token) → length (found_from before ts) ≡ place_count ts
 found_count before [] = refl
 found_count before (Name name ∷ ts) = omega (arith, found_count 0 ts)
 found_count before (Mark ∷ ts) = omega (arith, found_count 0 ts)

@@ -22,6 +22,9 @@ pub mod FilledTextLemmas
 pub mod BoundAgainLemmas
 pub mod BoundTextLemmas
 pub mod MeasuredTextLemmas
+pub mod SpanLemmas
+pub mod SpanTextLemmas
+pub mod SpanBindLemmas
 pub mod TextInRoomLemmas
 pub mod BoundOnServerLemmas
 pub mod BoundStatementLemmas

@@ -13,8 +13,9 @@ pub mod ValueLiterals
 pub mod LiteralForm
 pub mod WrittenText
 pub mod TextInRoom
-pub mod MeasuredText
 pub mod BindErrors
+pub mod MeasuredText
+pub mod PlaceSpans
 pub mod Isolation
 pub mod BoundAgain
 pub mod BoundStatements

@@ -1,5 +1,5 @@
 //! Queries with the literals of values in the places of names and marks.
-ghost use Rattle.std.specs.Prelude.{◌≡◌, List, None, Ok, Some, IfErr, IfOk, IsErrOf, alloc_error, length, option_map};
+ghost use Rattle.std.specs.Prelude.{◌≡◌, false, List, None, Ok, Some, IfErr, IfOk, IsErrOf, alloc_error, length, option_map};
 ghost use Rattle.mysql_sql_text.specs.StringUnits.{with_backslashes};
 ghost use Rattle.mysql_named_params.specs.Tokens.{OnTokens, Token};
 ghost use Rattle.mysql_named_params.specs.Places.{names, HasName, HasMark};
@@ -9,7 +9,7 @@ ghost use Rattle.mysql_params_core.specs.Lookup.{lookup};
 ghost use Rattle.mysql_params_core.specs.Referents.{referents};
 ghost use Rattle.mysql_binding.specs.BindErrors.{IsCauseOrMemory, cause_of};
 ghost use Rattle.mysql_binding.specs.BoundAgain.{IsSameBoundAgain, IsSameByPosition};
-ghost use Rattle.mysql_binding.specs.FirstCause.{mark_count_differs, first_cause, later_cause, mixed_cause, refused_params};
+ghost use Rattle.mysql_binding.specs.FirstCause.{mark_count_differs, first_cause, first_float, later_cause, mixed_cause, refused_params};
 ghost use Rattle.mysql_binding.specs.FoundPlaces.{BeginWithPlaces};
 ghost use Rattle.mysql_binding.specs.Isolation.{IsBoundText};
 ghost use Rattle.mysql_binding.specs.MeasuredText.{IsMeasured};
@@ -23,6 +23,7 @@ mod measured;
 mod names;
 mod parsed_query;
 mod room;
+mod spans;
 mod stands_alone;
 mod survey;
 mod text;
@@ -35,6 +36,7 @@ use crate::binding::measured::with_lengths;
 use crate::binding::names::query_names;
 pub use crate::binding::parsed_query::ParsedQuery;
 pub use crate::binding::room::{TextInRoom, bind_borrowed_into};
+pub use crate::binding::spans::{PlaceSpan, bind_spans_into, can_be_spans, place_spans};
 pub use crate::binding::survey::{Survey, place_survey};
 pub use crate::binding::text::fill_measured;
 use crate::binding::text::written_text;
@@ -322,8 +324,11 @@ fn bind_error_of(error: ParamsError) -> BindError
 
 // The first of the causes after the lookup: the marks, the places, the floats.
 fn later_error(survey: Survey, values: &[&Value]) -> Option<BindError>
-    ensures { (ts : List Token) → IsSurvey survey ts →
+    ensures cause { (ts : List Token) → IsSurvey survey ts →
         option_map cause_of result ≡ option_map Some (later_cause ts (referents values.now)) }
+    ensures none { result ≡ None →
+        (mark_count_differs survey.names survey.marks (length (referents values.now)) ≡ false)
+        × (first_float (referents values.now) ≡ None) }
 {
     if mark_count_differs(survey, values.len()) {
         return Some(BindError::MarkCount {

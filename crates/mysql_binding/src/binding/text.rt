@@ -118,9 +118,9 @@ fn fill_text<F: LiteralForm>(
     append_piece(text, at, rest);
 }
 
-// Copies the piece into the text from this index on, and returns the index after it. What stands
-// before it is kept.
-fn append_piece(text: &mut [u8], at: usize, piece: &[u8]) -> usize
+/// Copies the piece into the text from this index on, and returns the index after it. What stands
+/// before it is kept.
+pub(super) fn append_piece(text: &mut [u8], at: usize, piece: &[u8]) -> usize
     requires { at + length piece.now ≤ length text.old }
     ensures next { result ≡ at + length piece.now }
     ensures front { take result text.new ≡ take at text.old ++ piece.now }

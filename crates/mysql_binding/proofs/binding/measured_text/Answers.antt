@@ -10,7 +10,7 @@ pub returns-in-Some-clause-refused : goal.returns-in-Some-clause-refused
 returns-in-Some-clause-refused g c =
     refused_later _ _ (given_by_borrowed c.args.params) c.args.survey (referents c.in_ok-values.values.items) c.requires.survey
     (λ both. elim c.else-survey-gt0.branch [ else-survey-gt0-via-then-survey-gt0+else-survey-gt0-2 w ↦ omega (arith, both.1, w.if-survey-gt0-2.false) | else-survey-gt0-via-else-survey-gt0 w ↦ omega (arith, both.0, w.if-survey-gt0.false) ])
-    c.in_ok-values.ensures.values c.in-Some.error (rw c.as_slice.ensures.value at c.in-Some.ensures)
+    c.in_ok-values.ensures.values c.in-Some.error (rw c.as_slice.ensures.value at c.in-Some.ensures.cause)
 
 pub returns-in-Some-clause-mixed : goal.returns-in-Some-clause-mixed
 returns-in-Some-clause-mixed g c =
@@ -21,7 +21,7 @@ pub returns-in-Ok-clause-measured : goal.returns-in-Ok-clause-measured
 returns-in-Ok-clause-measured g c =
     let known = looked_up _ _ (given_by_borrowed c.args.params) c.args.survey (referents c.in_ok-values.values.items) c.requires.survey
     (λ both. elim c.else-survey-gt0.branch [ else-survey-gt0-via-then-survey-gt0+else-survey-gt0-2 w ↦ omega (arith, both.1, w.if-survey-gt0-2.false) | else-survey-gt0-via-else-survey-gt0 w ↦ omega (arith, both.0, w.if-survey-gt0.false) ])
-    c.in_ok-values.ensures.values (rw c.as_slice.ensures.value at c.in_default.ensures) in
+    c.in_ok-values.ensures.values (rw c.as_slice.ensures.value at c.in_default.ensures.cause) in
     is_measured c.args.no_backslash_escape (g.F.LiteralForm.literal c.args.form.now) c.args.query.now (given_by_borrowed c.args.params) c.args.survey c.in_ok-values.values.items c.in-Ok.measured
     c.requires.survey known c.in-Ok.ensures.values c.in-Ok.ensures.in_range c.in-Ok.ensures.lens c.in-Ok.ensures.len c.in-Ok.ensures.fits
 

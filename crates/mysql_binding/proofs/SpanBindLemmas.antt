@@ -1,0 +1,118 @@
+-- What is bound by the spans of a query's places is what is bound to the query.
+use Rattle.std.specs.Prelude.{Bool, Ok, Err, option_map}
+use Rattle.std.specs.Borrow.{Bor}
+use Rattle.std.proofs.Common.{◌≡◌, ◌⊎◌, inl, inr, ℕ, zero, suc, ◌+◌, ◌<◌, ◌≤◌, false, List, [], ◌∷◌, length, length-append, take, take_all, drop, Some, None, refl, sym, ap, ◌∙◌, subst, arith}
+use Rattle.std.proofs.lemmas.List.{nil_from_length}
+use Rattle.mysql_values.specs.declared.value.Value.{Value}
+use Rattle.mysql_named_params.specs.Tokens.{Token, IsTokens, OnTokens}
+use Rattle.mysql_named_params.specs.Places.{names, marks, place_count}
+use Rattle.mysql_params_core.specs.Given.{Given}
+use Rattle.mysql_params_core.specs.Lookup.{lookup}
+use Rattle.mysql_params_core.specs.Referents.{referents}
+use Rattle.mysql_binding.specs.BindErrors.{IsCauseOrMemory}
+use Rattle.mysql_binding.specs.FirstCause.{first_cause, mark_count_differs, mixed_cause}
+use Rattle.mysql_binding.specs.LiteralForm.{Literals, LiteralFacts}
+use Rattle.mysql_binding.specs.MeasuredText.{IsMeasured}
+use Rattle.mysql_binding.specs.PlaceSpans.{AreSpansOf, FitIn, FitSurvey, IsLookupError, IsTextAt, after_span, names_at}
+use Rattle.mysql_binding.specs.Survey.{IsSurvey}
+use Rattle.mysql_binding.specs.WrittenText.{IsGivenText, IsWrittenText}
+use Rattle.mysql_binding.specs.declared.bind_error.BindError.{BindError}
+use Rattle.mysql_binding.specs.declared.binding.measured.MeasuredText.{MeasuredText}
+use Rattle.mysql_binding.specs.declared.binding.spans.PlaceSpan.{PlaceSpan}
+use Rattle.mysql_binding.specs.declared.binding.survey.Survey.{Survey}
+use Rattle.mysql_named_params.proofs.TokenListLemmas.{one_token_list}
+use Rattle.mysql_binding.proofs.BoundText.{bound}
+use Rattle.mysql_binding.proofs.BoundTextLemmas.{looked_up_names, refused_lookup, unmixed_survey}
+use Rattle.mysql_binding.proofs.CauseLemmas.{lookup_each, mixed_none_of, same_counts, unmixed}
+use Rattle.mysql_binding.proofs.MeasuredTextLemmas.{fill_places, filled_text}
+use Rattle.mysql_binding.proofs.PieceLemmas.{joined_text-pieces_from}
+use Rattle.mysql_binding.proofs.SpanLemmas.{own_survey, own_names_are, own_text_is}
+use Rattle.mysql_binding.proofs.ValueLiteralLemmas.{as_many_texts}
+
+-- ---- any spans
+
+-- the first of them fit too
+pub fit_front : (spans : List PlaceSpan) (n : ℕ) (bytes : List ℕ) → FitIn spans bytes → FitIn (take n spans) bytes
+fit_front [] zero bytes f = tt
+fit_front [] (suc n) bytes f = tt
+fit_front (span ∷ spans) zero bytes f = tt
+fit_front (span ∷ spans) (suc n) bytes f = (f.0, f.1, fit_front spans n (after_span span bytes) f.2)
+
+names_at-len : (spans : List PlaceSpan) (bytes : List ℕ) → length (names_at spans bytes) ≡ length spans
+names_at-len [] bytes = refl
+names_at-len (span ∷ spans) bytes = ap suc (names_at-len spans (after_span span bytes))
+
+-- as many values as names, if there are names
+values_of_names : (given : Given) (ns : List (List ℕ)) (values : List Value) → 0 < length ns → lookup given ns ≡ Ok values →
+    length values ≡ length ns
+values_of_names given [] values some looked = absurd (omega (arith, some))
+values_of_names given (n ∷ ns) values some looked = lookup_each given n ns values looked
+
+-- there is a value for each place
+pub value_for_each_span : (survey : Survey) (spans : List PlaceSpan) (query : List ℕ) (given : Given) (values : List Value) →
+    FitSurvey survey spans query → (0 < survey.names × 0 < survey.marks → ⊥) →
+    lookup given (names_at (take survey.names spans) query) ≡ Ok values →
+    mark_count_differs survey.names survey.marks (length values) ≡ false → length values ≡ length spans
+value_for_each_span survey spans query given values fit never looked counted = by survey.names refl
+  where
+    by : (n : ℕ) → survey.names ≡ n → length values ≡ length spans
+    by zero e =
+        let same : survey.marks ≡ length values = same_counts survey.marks (length values) (ap (λ n. mark_count_differs n survey.marks (length values)) (sym e) ∙ counted) in
+        omega (arith, same, fit.count, e)
+    by (suc n) e =
+        let no_marks : survey.marks ≡ 0 = none survey.marks refl in
+        let all : take survey.names spans ≡ spans = take_all survey.names spans (omega (arith, fit.count, no_marks)) in
+        let count : length (names_at (take survey.names spans) query) ≡ length spans = names_at-len (take survey.names spans) query ∙ ap length all in
+        values_of_names given (names_at (take survey.names spans) query) values (omega (arith, count, fit.count, e)) looked ∙ count
+      where
+        none : (k : ℕ) → survey.marks ≡ k → survey.marks ≡ 0
+        none zero m = m
+        none (suc k) m = absurd (never (omega (arith, e), omega (arith, m)))
+
+-- ---- the spans of a query
+
+module _ (survey : Survey) (spans : List PlaceSpan) (mode : Bool) (query : List ℕ) (own : AreSpansOf survey spans mode query) where
+  pub own_surveyed : OnTokens mode query (IsSurvey survey)
+  own_surveyed = (own.0, own.1, own.2.0)
+
+  module _ (never : 0 < survey.names × 0 < survey.marks → ⊥) where
+    -- the names of the query are those at the places
+    own_listed : OnTokens mode query (λ ts. names_at (take survey.names spans) query ≡ names ts)
+    own_listed = (own.0, own.1, listed (unmixed own.0 (mixed_none_of own.0 survey.names survey.marks own.2.0.0 own.2.0.1 never)))
+      where
+        listed : (length (names own.0) ≡ 0) ⊎ (marks own.0 ≡ 0) → names_at (take survey.names spans) query ≡ names own.0
+        listed (inl none) =
+            let zero_names : survey.names ≡ 0 = own.2.0.0 ∙ none in
+            ap (λ n. names_at (take n spans) query) zero_names ∙ sym (nil_from_length (names own.0) none)
+        listed (inr none) =
+            let fit = own_survey survey spans mode query own in
+            let all : take survey.names spans ≡ spans = take_all survey.names spans (omega (arith, fit.count, own.2.0.1, none)) in
+            ap (λ x. names_at x query) all ∙ own_names_are survey spans mode query own none
+
+    pub own_lookup_refused : (given : Given) (error : BindError) → IsLookupError given (names_at (take survey.names spans) query) error →
+        OnTokens mode query (λ ts. IsCauseOrMemory (first_cause ts given) error)
+    own_lookup_refused given error (inl memory) = (own.0, own.1, inl memory)
+    own_lookup_refused given error (inr r) =
+        refused_lookup mode query given survey.names (names_at (take survey.names spans) query) error (unmixed_survey mode query survey own_surveyed never) own_listed r
+
+    pub own_looked_up : (given : Given) (values : List Value) → lookup given (names_at (take survey.names spans) query) ≡ Ok values →
+        OnTokens mode query (λ ts. lookup given (names ts) ≡ Ok values)
+    own_looked_up given values looked = looked_up_names mode query given (names_at (take survey.names spans) query) values own_listed looked
+
+  -- the text in the room is that of the query
+  pub own_given_text : (literal : Literals) (IsKnown : LiteralFacts) (given : Given) (measured : MeasuredText) (text : List ℕ) →
+      OnTokens mode query (λ ts. IsMeasured literal ts given measured) →
+      IsTextAt literal IsKnown spans query (referents measured.values.items) text →
+      OnTokens mode query (λ ts. IsGivenText literal IsKnown ts given text)
+  own_given_text literal IsKnown given measured text is at =
+      let values = referents measured.values.items in
+      let places : OnTokens mode query (λ ts. length values ≡ place_count ts) = fill_places mode literal query given measured is in
+      let same : places.0 ≡ own.0 = one_token_list mode query places.0 own.0 places.1 own.1 in
+      let each : length at.0 ≡ place_count own.0 = as_many_texts literal IsKnown values at.0 at.1 ∙ (places.2 ∙ ap place_count same) in
+      let text_is : text ≡ bound own.0 at.0 = at.2 ∙ own_text_is survey spans mode query own at.0 each in
+      let written : IsWrittenText literal IsKnown own.0 values text = record {
+        literals = at.0;
+        written = at.1;
+        text_is = joined_text-pieces_from [] own.0 at.0 each ∙ ap Some (sym text_is);
+      } in
+      filled_text mode literal query given measured is IsKnown text (own.0, own.1, written)

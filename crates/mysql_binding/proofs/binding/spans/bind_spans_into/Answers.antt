@@ -1,0 +1,46 @@
+use Rattle.std.specs.Prelude.{Result, Ok, Err}
+use Rattle.std.proofs.Common.{◌≡◌, ap, refl, arith}
+use Rattle.std.proofs.lemmas.List.{length-take-le}
+use Rattle.mysql_params_core.specs.Given.{given_by_borrowed}
+use Rattle.mysql_binding.proofs.MeasuredTextLemmas.{measured_length, front_text}
+use Rattle.mysql_binding.proofs.SpanBindLemmas.{own_given_text}
+use Rattle.mysql_binding.proofs.binding.spans.bind_spans_into.Goals as goal
+
+pub returns-then-room-len-clause-text : goal.returns-then-room-len-clause-text
+returns-then-room-len-clause-text g c = λ mode own.
+    let o = c.in-Ok.ensures.measured mode own in
+    (o.0, o.1, (omega (arith, c.if-room-len.true), measured_length (g.F.LiteralForm.literal c.args.form.now) o.0 (given_by_borrowed c.args.params) c.in-Ok.measured o.2 (g.met.F.LiteralForm.floats c.args.form.now), refl))
+
+pub returns-clause-text : goal.returns-clause-text
+returns-clause-text g c = λ mode own.
+    front_text mode (g.F.LiteralForm.literal c.args.form.now) (g.F.LiteralForm.IsKnown c.args.form.now) c.args.query.now (given_by_borrowed c.args.params) c.in-Ok.measured.len
+    c.fill_spans.new.room c.args.room.now (omega (arith, c.if-room-len.false)) (omega (arith, c.fill_spans.auto.room, c.if-room-len.false, length-take-le c.in-Ok.measured.len c.args.room.now (omega (arith, c.if-room-len.false))))
+    (own_given_text c.args.survey c.args.spans.now mode c.args.query.now own (g.F.LiteralForm.literal c.args.form.now) (g.F.LiteralForm.IsKnown c.args.form.now) (given_by_borrowed c.args.params) c.in-Ok.measured c.fill_spans.new.room (c.in-Ok.ensures.measured mode own) c.fill_spans.ensures)
+
+-- what is measured isn't refused
+never : {T E X : Type 0} → (a : T) (e : E) → ◌≡◌ {A = Result T E} (Ok a) (Err e) → X
+never {T = T} {E = E} a e h = absurd (apart h)
+  where
+    apart : ◌≡◌ {A = Result T E} (Ok a) (Err e) → ⊥
+    apart h = cc
+
+-- an error is the same of whatever would be there without it
+same_error : {T U E : Type 0} → (e f : E) → ◌≡◌ {A = Result T E} (Err e) (Err f) → ◌≡◌ {A = Result U E} (Err e) (Err f)
+same_error e f h =
+    let same : e ≡ f = cc in
+    ap (λ x. Err x) same
+
+pub returns-in-Err-clause-mixed : goal.returns-in-Err-clause-mixed
+returns-in-Err-clause-mixed g c = λ mode own.
+    let o = c.in-Err.ensures.mixed mode own in
+    (o.0, o.1, λ both. same_error _ _ (o.2 both))
+
+pub returns-then-room-len-clause-mixed : goal.returns-then-room-len-clause-mixed
+returns-then-room-len-clause-mixed g c = λ mode own.
+    let o = c.in-Ok.ensures.mixed mode own in
+    (o.0, o.1, λ both. never _ _ (o.2 both))
+
+pub returns-clause-mixed : goal.returns-clause-mixed
+returns-clause-mixed g c = λ mode own.
+    let o = c.in-Ok.ensures.mixed mode own in
+    (o.0, o.1, λ both. never _ _ (o.2 both))

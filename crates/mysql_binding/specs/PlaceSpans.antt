@@ -1,0 +1,91 @@
+-- Where the places of a query stand, as plain numbers that a caller keeps: for `place_spans` and
+-- `bind_spans_into`, which are lent to the crate above.
+use Rattle.std.specs.Prelude.{◌≡◌, ◌⊎◌, ◌+◌, ◌++◌, ◌<◌, ◌≤◌, ℕ, Bool, List, [], ◌∷◌, length, map, take, drop, None, Some, Err, alloc_error, ⊤}
+use Rattle.std.specs.List.{sum}
+use Rattle.mysql_values.specs.declared.value.Value.{Value}
+use Rattle.mysql_named_params.specs.Tokens.{OnTokens}
+use Rattle.mysql_named_params.specs.declared.places.FoundPlace.{FoundPlace}
+use Rattle.mysql_params_core.specs.Given.{Given}
+use Rattle.mysql_params_core.specs.Lookup.{LookupRefusal, lookup}
+use Rattle.mysql_params_core.specs.Referents.{referents}
+use Rattle.mysql_binding.specs.BindErrors.{cause_of}
+use Rattle.mysql_binding.specs.FirstCause.{first_float, refused_params}
+use Rattle.mysql_binding.specs.FoundPlaces.{found_places}
+use Rattle.mysql_binding.specs.LiteralForm.{Literals, LiteralFacts, AreWrittenAs, literal_len}
+use Rattle.mysql_binding.specs.Survey.{IsSurvey}
+use Rattle.mysql_binding.specs.TextInRoom.{IsTextInRoom}
+use Rattle.mysql_binding.specs.declared.bind_error.BindError.{BindError}
+use Rattle.mysql_binding.specs.declared.bind_error.BindError.TheVariants.{Memory}
+use Rattle.mysql_binding.specs.declared.binding.measured.MeasuredText.{MeasuredText}
+use Rattle.mysql_binding.specs.declared.binding.room.TextInRoom.{TextInRoom}
+use Rattle.mysql_binding.specs.declared.binding.spans.PlaceSpan.{PlaceSpan}
+use Rattle.mysql_binding.specs.declared.binding.survey.Survey.{Survey}
+
+-- where a place that was found stands
+abbrev pub span_of : FoundPlace → PlaceSpan
+span_of found = record { before = found.before; len = found.len }
+
+-- the survey and the spans are those of the query in the mode
+abbrev pub AreSpansOf : Survey → List PlaceSpan → Bool → List ℕ → Type 0
+AreSpansOf survey spans mode query =
+    OnTokens mode query (λ ts. IsSurvey survey ts × (spans ≡ map span_of (found_places ts)))
+
+-- what is left of the bytes after a place
+abbrev pub after_span : PlaceSpan → List ℕ → List ℕ
+after_span span bytes = drop (span.before + span.len) bytes
+
+-- each place has bytes, and they stand one after another within these bytes
+abbrev pub FitIn : List PlaceSpan → List ℕ → Type 0
+FitIn [] bytes = ⊤
+FitIn (span ∷ spans) bytes = (0 < span.len) × (span.before + span.len ≤ length bytes)
+    × FitIn spans (after_span span bytes)
+
+-- how many of these bytes stand outside of the places
+abbrev pub outside_len : List PlaceSpan → List ℕ → ℕ
+outside_len [] bytes = length bytes
+outside_len (span ∷ spans) bytes = span.before + outside_len spans (after_span span bytes)
+
+-- what stands in the places, each without its first byte
+abbrev pub names_at : List PlaceSpan → List ℕ → List (List ℕ)
+names_at [] bytes = []
+names_at (span ∷ spans) bytes =
+    drop 1 (take span.len (drop span.before bytes)) ∷ names_at spans (after_span span bytes)
+
+-- these bytes with the literals in the places; places for which no literal is left end it
+abbrev pub text_at : List PlaceSpan → List ℕ → List (List ℕ) → List ℕ
+text_at [] bytes literals = bytes
+text_at (span ∷ spans) bytes [] = []
+text_at (span ∷ spans) bytes (literal ∷ literals) =
+    take span.before bytes ++ (literal ++ text_at spans (after_span span bytes) literals)
+
+-- the numbers are those that a query of these bytes can have
+pub record FitSurvey (survey : Survey) (spans : List PlaceSpan) (query : List ℕ) : Type 0 where
+  pub fit : FitIn spans query
+  pub outside : survey.piece_bytes ≡ outside_len spans query
+  pub count : survey.names + survey.marks ≡ length spans
+
+-- why values of these names were not found
+abbrev pub IsLookupError : Given → List (List ℕ) → BindError → Type 0
+IsLookupError given names error = (error ≡ Memory alloc_error)
+    ⊎ ((refusal : LookupRefusal) × (lookup given names ≡ Err refusal)
+    × (cause_of error ≡ Some (refused_params refusal)))
+
+-- there is a value for each place and none is a float, and the lengths are those of their literals
+-- and of the text
+pub record IsReady (literal : Literals) (spans : List PlaceSpan) (query : List ℕ)
+    (measured : MeasuredText) : Type 0 where
+  pub each : length (referents measured.values.items) ≡ length spans
+  pub no_float : first_float (referents measured.values.items) ≡ None
+  pub lens_are : measured.lens.items ≡ map (literal_len literal) (referents measured.values.items)
+  pub len_is : measured.len ≡ outside_len spans query + sum measured.lens.items
+
+-- these bytes with the literals of the values in the places
+abbrev pub IsTextAt : Literals → LiteralFacts → List PlaceSpan → List ℕ → List Value → List ℕ
+    → Type 0
+IsTextAt literal IsKnown spans query values text = (literals : List (List ℕ))
+    × AreWrittenAs literal IsKnown values literals × (text ≡ text_at spans query literals)
+
+-- whatever the text is, it is at the front of the room, and what is after it is unchanged; or the
+-- room is too short for it, and unchanged
+abbrev pub StaysInRoom : (old new : List ℕ) → TextInRoom → Type 0
+StaysInRoom = IsTextInRoom (λ text. ⊤) (λ len. ⊤)

@@ -1,0 +1,271 @@
+//! Where the places of a query stand, as plain numbers that a caller keeps, and binding by them
+//! without a walk of the query.
+ghost use Rattle.std.specs.Prelude.{◌≡◌, ◌↔◌, ◌+◌, ◌≤◌, Bool, None, Ok, length, map, take, drop, IfErr, IfOk, IfSome, IsErrOf, IsTrue, OnErr, OnOk};
+ghost use Rattle.mysql_named_params.specs.Tokens.{OnTokens};
+ghost use Rattle.mysql_named_params.specs.Places.{HasMark, HasName, place_count};
+ghost use Rattle.mysql_params_core.specs.Given.{given_by_borrowed};
+ghost use Rattle.mysql_params_core.specs.Lookup.{lookup};
+ghost use Rattle.mysql_params_core.specs.Referents.{referents};
+ghost use Rattle.mysql_binding.specs.BindErrors.{IsCauseOrMemory};
+ghost use Rattle.mysql_binding.specs.FirstCause.{first_cause};
+ghost use Rattle.mysql_binding.specs.FoundPlaces.{found_places};
+ghost use Rattle.mysql_binding.specs.MeasuredText.{HasGivenLength, IsMeasured};
+ghost use Rattle.mysql_binding.specs.PlaceSpans.{AreSpansOf, FitIn, FitSurvey, IsLookupError, IsReady, IsTextAt, StaysInRoom, after_span, names_at, outside_len, span_of};
+ghost use Rattle.mysql_binding.specs.TextInRoom.{IsTextInRoom};
+ghost use Rattle.mysql_binding.specs.WrittenText.{IsGivenText};
+
+use crate::bind_error::BindError;
+use crate::binding::found::all_places;
+use crate::binding::form::LiteralForm;
+use crate::binding::literals::append_literal;
+use crate::binding::measured::{MeasuredText, with_lengths};
+use crate::binding::room::TextInRoom;
+use crate::binding::survey::Survey;
+use crate::binding::text::append_piece;
+use crate::binding::{bind_error_of, later_error};
+use mysql_named_params::places::FoundPlace;
+use mysql_params_core::params::{BorrowedParams, place_values};
+use mysql_values::value::Value;
+use std::alloc::{AllocError, Global};
+
+/// Where a place of a query stands.
+#[derive(Clone, Copy, Debug, PartialEq, Eq)]
+#[repr(C)]
+pub struct PlaceSpan {
+    /// The number of bytes between it and the place before it, or the front of the query.
+    pub before: usize,
+    /// The number of its bytes; those of a name include the colon.
+    pub len: usize,
+}
+
+impl PlaceSpan {
+    // The text cut at the place: the bytes before it, its own, and those after it.
+    fn cut<'a>(&self, text: &'a [u8]) -> (&'a [u8], &'a [u8], &'a [u8])
+        requires in_range { self.now.before + self.now.len ≤ length text.now }
+        ensures before { result.0.now ≡ take self.now.before text.now }
+        ensures place { result.1.now ≡ take self.now.len (drop self.now.before text.now) }
+        ensures after { result.2.now ≡ after_span self.now text.now }
+    {
+        let (before, from_place) = text.split_at(self.before);
+        let (place, after) = from_place.split_at(self.len);
+        (before, place, after)
+    }
+}
+
+/// Writes where the places of a query stand over the whole of `room`, which has as many items. It
+/// is lent to the crate above. If memory is refused, the room is as before.
+pub fn place_spans(
+    alloc: Global,
+    query: &[u8],
+    no_backslash_escape: bool,
+    room: &mut [PlaceSpan],
+) -> Result<(), AllocError>
+    requires { OnTokens no_backslash_escape query.now (λ ts.
+        length room.old ≡ place_count ts) }
+    ensures spans { OnOk result (OnTokens no_backslash_escape query.now (λ ts.
+        room.new ≡ map span_of (found_places ts))) }
+    ensures unchanged { OnErr result (room.new ≡ room.old) }
+{
+    let places = all_places(alloc, query, &[], room.len(), no_backslash_escape)?;
+    write_spans(places.as_slice(), room);
+    Ok(())
+}
+
+// Writes where these places stand over the whole of the room.
+fn write_spans(places: &[FoundPlace], room: &mut [PlaceSpan])
+    requires { length room.old ≡ length places.now }
+    ensures { room.new ≡ map span_of places.now }
+{
+    for (i, place) in places.iter().enumerate() {
+        room[i] = PlaceSpan {
+            before: place.before,
+            len: place.len,
+        };
+    }
+}
+
+/// Whether a query of these bytes can have this survey and these spans: each place has bytes, they
+/// stand one after another within the query, and the survey has their number and the number of the
+/// bytes outside of them. It is lent to the crate above. No byte of the query is looked at.
+pub fn can_be_spans(query: &[u8], survey: Survey, spans: &[PlaceSpan]) -> bool
+    ensures fit { IsTrue result ↔ FitSurvey survey spans.now query.now }
+    ensures own { (mode : Bool) → AreSpansOf survey spans.now mode query.now → IsTrue result }
+{
+    fit_survey(query, survey, spans)
+}
+
+// Whether they fit.
+fn fit_survey(query: &[u8], survey: Survey, spans: &[PlaceSpan]) -> bool
+    ensures { IsTrue result ↔ FitSurvey survey spans.now query.now }
+{
+    let Some(len) = outside_len(query, spans) else {
+        return false;
+    };
+    len == survey.piece_bytes
+        && survey.names <= spans.len()
+        && survey.marks == spans.len() - survey.names
+}
+
+// How many bytes of the text stand outside of the spans, if each has bytes and they stand one after
+// another within the text.
+fn outside_len(text: &[u8], spans: &[PlaceSpan]) -> Option<usize>
+    ensures fit { IfSome result (λ len.
+        FitIn spans.now text.now × (len ≡ outside_len spans.now text.now)) }
+    ensures none { result ≡ None → FitIn spans.now text.now → ⊥ }
+{
+    let mut len = 0;
+    let mut rest = text;
+    for span in spans {
+        if span.len == 0 || span.before > rest.len() || span.len > rest.len() - span.before {
+            return None;
+        }
+        len += span.before;
+        rest = &rest[span.before + span.len..];
+    }
+    Some(len + rest.len())
+}
+
+/// [`bind_borrowed_into`](crate::bind_borrowed_into) by what is known of a query, lent to the crate
+/// above: the text, or the refusal, of the query in the mode that has this survey and these spans.
+/// No byte of the query is looked at; only those outside of its places are copied.
+///
+/// With another survey, or other spans, that a query of this length can have, any text or refusal
+/// may come, but nothing is written behind the text, and after a refusal the room is as before.
+pub fn bind_spans_into<F: LiteralForm>(
+    alloc: Global,
+    query: &[u8],
+    survey: Survey,
+    spans: &[PlaceSpan],
+    params: BorrowedParams<'_>,
+    form: &F,
+    room: &mut [u8],
+) -> Result<TextInRoom, BindError>
+    requires fit { FitSurvey survey spans.now query.now }
+    ensures text { (mode : Bool) → AreSpansOf survey spans.now mode query.now →
+        OnTokens mode query.now (λ ts. IfOk result (IsTextInRoom
+        (IsGivenText (F.literal form.now) (F.IsKnown form.now) ts (given_by_borrowed params.entry))
+        (HasGivenLength (F.literal form.now) ts (given_by_borrowed params.entry))
+        room.old room.new)) }
+    ensures refused { (mode : Bool) → AreSpansOf survey spans.now mode query.now →
+        OnTokens mode query.now (λ ts. IfErr result
+        (IsCauseOrMemory (first_cause ts (given_by_borrowed params.entry)))) }
+    ensures mixed { (mode : Bool) → AreSpansOf survey spans.now mode query.now →
+        OnTokens mode query.now (λ ts. HasName ts × HasMark ts → IsErrOf result BindError.Mixed) }
+    ensures in_room { IfOk result (StaysInRoom room.old room.new) }
+    ensures unchanged { OnErr result (room.new ≡ room.old) }
+{
+    let measured = match measured_spans(alloc, query, survey, spans, params, form) {
+        Ok(measured) => measured,
+        Err(error) => return Err(error),
+    };
+    let len = measured.len;
+    if room.len() < len {
+        return Ok(TextInRoom::TooShort { len });
+    }
+    fill_spans(query, spans, &measured, form, &mut room[..len]);
+    Ok(TextInRoom::Written { len })
+}
+
+// What the text is written from, and how long it will be.
+fn measured_spans<'p, F: LiteralForm>(
+    alloc: Global,
+    query: &[u8],
+    survey: Survey,
+    spans: &[PlaceSpan],
+    params: BorrowedParams<'p>,
+    form: &F,
+) -> Result<MeasuredText<'p>, BindError>
+    requires fit { FitSurvey survey spans.now query.now }
+    ensures ready { IfOk result (IsReady (F.literal form.now) spans.now query.now) }
+    ensures measured { (mode : Bool) → AreSpansOf survey spans.now mode query.now →
+        OnTokens mode query.now (λ ts. IfOk result
+        (IsMeasured (F.literal form.now) ts (given_by_borrowed params.entry))) }
+    ensures refused { (mode : Bool) → AreSpansOf survey spans.now mode query.now →
+        OnTokens mode query.now (λ ts. IfErr result
+        (IsCauseOrMemory (first_cause ts (given_by_borrowed params.entry)))) }
+    ensures mixed { (mode : Bool) → AreSpansOf survey spans.now mode query.now →
+        OnTokens mode query.now (λ ts. HasName ts × HasMark ts → IsErrOf result BindError.Mixed) }
+{
+    if survey.names > 0 && survey.marks > 0 {
+        return Err(BindError::Mixed);
+    }
+    let values = match values_at(alloc, query, &spans[..survey.names], params) {
+        Ok(values) => values,
+        Err(error) => return Err(error),
+    };
+    if let Some(error) = later_error(survey, values.as_slice()) {
+        return Err(error);
+    }
+    match with_lengths(alloc, survey.piece_bytes, values, form) {
+        Ok(measured) => Ok(measured),
+        Err(error) => Err(BindError::Memory(error)),
+    }
+}
+
+// References to the values that are given to the names at these places.
+fn values_at<'p>(
+    alloc: Global,
+    query: &[u8],
+    spans: &[PlaceSpan],
+    params: BorrowedParams<'p>,
+) -> Result<Vec<&'p Value>, BindError>
+    requires fit { FitIn spans.now query.now }
+    ensures values { IfOk result (λ values. lookup (given_by_borrowed params.entry)
+        (names_at spans.now query.now) ≡ Ok (referents values.items)) }
+    ensures refused { IfErr result
+        (IsLookupError (given_by_borrowed params.entry) (names_at spans.now query.now)) }
+{
+    let names = match span_names(alloc, query, spans) {
+        Ok(names) => names,
+        Err(error) => return Err(BindError::Memory(error)),
+    };
+    match place_values(alloc, params, names.as_slice()) {
+        Ok(values) => Ok(values),
+        Err(error) => Err(bind_error_of(error)),
+    }
+}
+
+// What stands at these places, without its first byte: slices of the query.
+fn span_names<'q>(
+    alloc: Global,
+    query: &'q [u8],
+    spans: &[PlaceSpan],
+) -> Result<Vec<&'q [u8]>, AllocError>
+    requires fit { FitIn spans.now query.now }
+    ensures { IfOk result (λ list. referents list.items ≡ names_at spans.now query.now) }
+{
+    let mut list = Vec::with_capacity(alloc, spans.len())?;
+    let mut rest = query;
+    for span in spans {
+        let (_, place, after) = span.cut(rest);
+        list.push(&place[1..])?;
+        rest = after;
+    }
+    Ok(list)
+}
+
+// Fills the room with the text of a query that is measured, whose places stand there.
+fn fill_spans<F: LiteralForm>(
+    query: &[u8],
+    spans: &[PlaceSpan],
+    measured: &MeasuredText<'_>,
+    form: &F,
+    room: &mut [u8],
+)
+    requires fit { FitIn spans.now query.now }
+    requires ready { IsReady (F.literal form.now) spans.now query.now measured.now }
+    requires room { length room.old ≡ measured.now.len }
+    ensures { IsTextAt (F.literal form.now) (F.IsKnown form.now) spans.now query.now
+        (referents measured.now.values.items) room.new }
+{
+    let lens = measured.lens.as_slice();
+    let mut rest = query;
+    let mut at = 0;
+    for (i, value) in measured.values.iter().enumerate() {
+        let (piece, _, after) = spans[i].cut(rest);
+        at = append_piece(room, at, piece);
+        at = append_literal(room, at, value, lens[i] as usize, form);
+        rest = after;
+    }
+    append_piece(room, at, rest);
+}
