@@ -1,16 +1,15 @@
 -- What is bound by the spans of a query's places is what is bound to the query.
-use Rattle.std.specs.Prelude.{Bool, Ok, Err, option_map}
-use Rattle.std.specs.Borrow.{Bor}
-use Rattle.std.proofs.Common.{◌≡◌, ◌⊎◌, inl, inr, ℕ, zero, suc, ◌+◌, ◌<◌, ◌≤◌, false, List, [], ◌∷◌, length, length-append, take, take_all, drop, Some, None, refl, sym, ap, ◌∙◌, subst, arith}
+use Rattle.std.specs.Prelude.{Bool, Ok}
+use Rattle.std.proofs.Common.{◌≡◌, ◌⊎◌, inl, inr, ℕ, zero, suc, ◌<◌, false, List, [], ◌∷◌, length, take, take_all, Some, refl, sym, ap, ◌∙◌, arith}
 use Rattle.std.proofs.lemmas.List.{nil_from_length}
 use Rattle.mysql_values.specs.declared.value.Value.{Value}
-use Rattle.mysql_named_params.specs.Tokens.{Token, IsTokens, OnTokens}
+use Rattle.mysql_named_params.specs.Tokens.{OnTokens}
 use Rattle.mysql_named_params.specs.Places.{names, marks, place_count}
 use Rattle.mysql_params_core.specs.Given.{Given}
 use Rattle.mysql_params_core.specs.Lookup.{lookup}
 use Rattle.mysql_params_core.specs.Referents.{referents}
 use Rattle.mysql_binding.specs.BindErrors.{IsCauseOrMemory}
-use Rattle.mysql_binding.specs.FirstCause.{first_cause, mark_count_differs, mixed_cause}
+use Rattle.mysql_binding.specs.FirstCause.{first_cause, mark_count_differs}
 use Rattle.mysql_binding.specs.LiteralForm.{Literals, LiteralFacts}
 use Rattle.mysql_binding.specs.MeasuredText.{IsMeasured}
 use Rattle.mysql_binding.specs.PlaceSpans.{AreSpansOf, FitIn, FitSurvey, IsLookupError, IsTextAt, after_span, names_at}

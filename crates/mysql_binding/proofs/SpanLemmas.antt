@@ -1,18 +1,13 @@
 -- Where the places of a query stand, as numbers, and what is written by them.
 use Rattle.std.specs.Prelude.{Bool}
-use Rattle.std.specs.Borrow.{Bor}
-use Rattle.std.specs.List.{sum, sum_by}
-use Rattle.std.proofs.Common.{◌≡◌, ℕ, ◌+◌, ◌<◌, ◌≤◌, false, List, [], ◌∷◌, ◌++◌, length, length-append, length-drop, map, take, take_all, drop, drop-cons, drop-drop, add-one, get_or, Some, None, refl, sym, ap, ◌∙◌, subst, arith, append_assoc, append-nil}
-use Rattle.std.proofs.lemmas.List.{drop_all, take_more, length-take-le, length-map, get_or-map, map-append}
-use Rattle.std.proofs.lemmas.Slice.{drop-append-drop}
-use Rattle.mysql_values.specs.declared.value.Value.{Value}
-use Rattle.mysql_values.specs.Literal.{is_float}
-use Rattle.mysql_named_params.specs.Tokens.{Token, IsTokens, OnTokens, bytes_of, text_of, Name, Mark}
+use Rattle.std.proofs.Common.{◌≡◌, ℕ, ◌+◌, ◌<◌, ◌≤◌, List, [], ◌∷◌, ◌++◌, length, length-append, map, take, drop, drop-cons, drop-drop, add-one, get_or, refl, sym, ap, ◌∙◌, subst, arith, append_assoc}
+use Rattle.std.proofs.lemmas.List.{length-map}
+use Rattle.mysql_named_params.specs.Tokens.{Token, OnTokens, bytes_of, text_of, Name, Mark}
 use Rattle.mysql_named_params.specs.Places.{names, marks, place_count}
 use Rattle.mysql_named_params.specs.declared.places.FoundPlace.{FoundPlace}
 use Rattle.mysql_named_params.proofs.TokenListLemmas.{one_token_list}
 use Rattle.mysql_binding.specs.FoundPlaces.{found_from, found_places}
-use Rattle.mysql_binding.specs.PlaceSpans.{AreSpansOf, FitIn, FitSurvey, after_span, names_at, outside_len, span_of, text_at}
+use Rattle.mysql_binding.specs.PlaceSpans.{AreSpansOf, FitIn, FitSurvey, names_at, outside_len, span_of, text_at}
 use Rattle.mysql_binding.specs.declared.binding.spans.PlaceSpan.{PlaceSpan}
 use Rattle.mysql_binding.specs.declared.binding.survey.Survey.{Survey}
 use Rattle.mysql_binding.proofs.BoundText.{bound}

@@ -1,17 +1,14 @@
 -- A text of a fixed length that is filled by the spans of its places, as far as an index.
-use Rattle.std.specs.Prelude.{Bool, Result, Ok, Err, IfOk}
 use Rattle.std.specs.Borrow.{Bor}
-use Rattle.std.specs.List.{sum, sum_by}
-use Rattle.std.proofs.Common.{◌≡◌, ℕ, ◌+◌, ◌<◌, ◌≤◌, false, List, [], ◌∷◌, ◌++◌, length, length-append, length-drop, map, take, take_all, drop, get_or, Some, None, refl, sym, ap, ◌∙◌, subst, arith, append_assoc, append-nil}
+use Rattle.std.specs.List.{sum_by}
+use Rattle.std.proofs.Common.{◌≡◌, ℕ, ◌+◌, ◌<◌, ◌≤◌, false, List, [], ◌∷◌, ◌++◌, length, map, take, take_all, drop, get_or, Some, None, sym, ap, ◌∙◌, subst, arith, append_assoc, append-nil}
 use Rattle.std.proofs.lemmas.List.{drop_all, take_more, length-take-le, length-map, get_or-map}
-use Rattle.std.proofs.lemmas.List.Sums.{sum-map}
 use Rattle.mysql_values.specs.declared.value.Value.{Value}
 use Rattle.mysql_values.specs.Literal.{is_float}
 use Rattle.mysql_params_core.specs.Referents.{referents}
-use Rattle.mysql_binding.specs.FirstCause.{first_float_from, first_float}
+use Rattle.mysql_binding.specs.FirstCause.{first_float_from}
 use Rattle.mysql_binding.specs.LiteralForm.{Literals, LiteralFacts, AreWrittenAs, literal_len, written_literal}
-use Rattle.mysql_binding.specs.PlaceSpans.{FitIn, IsReady, IsTextAt, after_span, outside_len, text_at}
-use Rattle.mysql_binding.specs.declared.binding.measured.MeasuredText.{MeasuredText}
+use Rattle.mysql_binding.specs.PlaceSpans.{FitIn, IsTextAt, after_span, outside_len, text_at}
 use Rattle.mysql_binding.specs.declared.binding.spans.PlaceSpan.{PlaceSpan}
 use Rattle.mysql_binding.proofs.SpanLemmas.{spans_from}
 use Rattle.mysql_binding.proofs.TextLengthLemmas.{lens_left, len_at}
@@ -25,23 +22,6 @@ pub record SpansFilled (literal : Literals) (IsKnown : LiteralFacts) (query rest
   pub no_float_left : first_float_from i (drop i (referents values)) ≡ None
   pub text_is : (more : List (List ℕ)) → take at text ++ text_at (drop i spans) rest more ≡ text_at spans query (literals ++ more)
   pub len_is : at + (outside_len (drop i spans) rest + sum_by (literal_len literal) (drop i (referents values))) ≡ length text
-
-pub filled_none : (literal : Literals) (IsKnown : LiteralFacts) (query : List ℕ) (spans : List PlaceSpan) (measured : MeasuredText) (text : List ℕ) →
-    FitIn spans query → IsReady literal spans query measured → length text ≡ measured.len →
-    SpansFilled literal IsKnown query query spans measured.values.items 0 text 0
-filled_none literal IsKnown query spans measured text fit ready whole =
-    let values = referents measured.values.items in
-    record {
-      each = omega (arith, ready.each, length-map measured.values.items (λ r. r.now));
-      fit = fit;
-      literals = [];
-      written = tt;
-      no_float_left = ready.no_float;
-      text_is = λ more. refl;
-      len_is =
-          let sums : sum measured.lens.items ≡ sum_by (literal_len literal) values = ap sum ready.lens_are ∙ sum-map (literal_len literal) values in
-          omega (arith, whole, ready.len_is, sums);
-    }
 
 module _ (literal : Literals) (IsKnown : LiteralFacts) (query rest : List ℕ) (spans : List PlaceSpan) (values : List (Bor Value)) (i : ℕ) (text : List ℕ) (at : ℕ) (s : SpansFilled literal IsKnown query rest spans values i text at) where
   module _ (below : i < length values) (v : Bor Value) (v_is : v ≡ get_or values i v) where
@@ -67,9 +47,6 @@ module _ (literal : Literals) (IsKnown : LiteralFacts) (query rest : List ℕ) (
       fits_here : FitIn (span ∷ drop (i + 1) spans) rest
       fits_here = subst (λ x. FitIn x rest) here s.fit
 
-      pub span_fits : span.before + span.len ≤ length rest
-      span_fits = fits_here.1
-
       outside_here : outside_len (drop i spans) rest ≡ span.before + outside_len (drop (i + 1) spans) (after_span span rest)
       outside_here = ap (λ x. outside_len x rest) here
 
@@ -79,9 +56,6 @@ module _ (literal : Literals) (IsKnown : LiteralFacts) (query rest : List ℕ) (
       module _ (piece : List ℕ) (piece_is : piece ≡ take span.before rest) where
         piece_len : length piece ≡ span.before
         piece_len = ap length piece_is ∙ length-take-le span.before rest (omega (arith, fits_here.1))
-
-        pub span_piece_fits : at + length piece ≤ length text
-        span_piece_fits = omega (arith, s.len_is, outside_here, piece_len)
 
         module _ (text' : List ℕ) (at' : ℕ) (at'_is : at' ≡ at + length piece) (same : length text' ≡ length text) (put : take at' text' ≡ take at text ++ piece) where
           pub span_literal_fits : (len : ℕ) → len ≡ literal_len literal v.now → at' + len ≤ length text'
@@ -123,7 +97,7 @@ module _ (literal : Literals) (IsKnown : LiteralFacts) (query rest : List ℕ) (
     no_lens = ap (sum_by (literal_len literal)) (drop_all i (referents values) (omega (arith, done, length-map values (λ r. r.now))))
 
     -- once all values are written, the rest has exactly its room
-    pub spans_last_fits : at + length rest ≡ length text
+    spans_last_fits : at + length rest ≡ length text
     spans_last_fits = omega (arith, s.len_is, no_lens, ap (λ x. outside_len x rest) none_left)
 
     pub spans_filled_all : (text' : List ℕ) (at' : ℕ) → at' ≡ at + length rest → length text' ≡ length text →
@@ -132,5 +106,5 @@ module _ (literal : Literals) (IsKnown : LiteralFacts) (query rest : List ℕ) (
       s.literals,
       subst (λ x. AreWrittenAs literal IsKnown x s.literals) (take_all i (referents values) (omega (arith, done, length-map values (λ r. r.now)))) s.written,
       sym (take_all at' text' (omega (arith, spans_last_fits, at'_is, same)))
-      ∙ (put ∙ (ap (λ x. take at text ++ text_at x rest []) (sym none_left) ∙ (s.text_is [] ∙ ap (text_at spans query) (append-nil s.literals)))),
+          ∙ (put ∙ (ap (λ x. take at text ++ text_at x rest []) (sym none_left) ∙ (s.text_is [] ∙ ap (text_at spans query) (append-nil s.literals)))),
     )

@@ -15,8 +15,8 @@ ghost use Rattle.mysql_binding.specs.TextInRoom.{IsTextInRoom};
 ghost use Rattle.mysql_binding.specs.WrittenText.{IsGivenText};
 
 use crate::bind_error::BindError;
-use crate::binding::found::all_places;
 use crate::binding::form::LiteralForm;
+use crate::binding::found::all_places;
 use crate::binding::literals::append_literal;
 use crate::binding::measured::{MeasuredText, with_lengths};
 use crate::binding::room::TextInRoom;

@@ -1,5 +1,5 @@
 use Rattle.std.proofs.Common.{◌∙◌, rules}
-use Rattle.mysql_binding.proofs.SpanTextLemmas.{filled_none, value_no_float, value_len, span_fits, span_piece_fits, span_literal_fits, spans_filled_more, spans_last_fits, spans_filled_all}
+use Rattle.mysql_binding.proofs.SpanTextLemmas.{value_no_float, value_len, span_literal_fits, spans_filled_more, spans_filled_all}
 use Rattle.mysql_binding.proofs.binding.spans.fill_spans.Goals as goal
 
 pub append_literal-at-requires-clause-no_float : goal.append_literal-at-requires-clause-no_float

@@ -1,5 +1,4 @@
 use Rattle.std.proofs.Common.{ap, sym, ◌∙◌, length}
-use Rattle.mysql_named_params.proofs.TokenListLemmas.{one_token_list}
 use Rattle.mysql_binding.proofs.SpanLemmas.{as_many_places}
 use Rattle.mysql_binding.proofs.binding.spans.place_spans.Goals as goal
 
