@@ -1,5 +1,5 @@
 -- What an outcome says, by what the calls below returned.
-use Rattle.std.specs.Prelude.{Option, Some, None, Result, Ok, Err, IsOk, alloc_error, option_map}
+use Rattle.std.specs.Prelude.{Option, Some, None, Result, Ok, Err, IfSome, IsOk, alloc_error, option_map}
 use Rattle.std.specs.List.{Contains}
 use Rattle.std.proofs.Common.{arith, ◌≡◌, ◌⊎◌, ◌<◌, inl, inr, ℕ, zero, suc, Bool, List, [], ◌∷◌, length, take, refl, sym, ap, ◌∙◌, subst}
 use Rattle.mysql_named_params.specs.Tokens.{OnTokens}
@@ -62,10 +62,14 @@ name_is_not_there mode query name o none =
     none.2 (subst (λ ts. Contains (names ts) name) same o.2)
 
 -- the outcome tells where it is
-pub missing_told : (mode : Bool) (query form name : List ℕ) (outcome : Outcome) → IsRefusedFor mode query form (refused_params (missing name)) →
-    IsMissingName mode query name outcome → IsBindOutcome mode query form outcome
-missing_told mode query form name (Missing place position len) refused told = (name, refused, told)
-missing_told mode query form name outcome refused told = absurd told
+pub missing_told : (mode : Bool) (query form name : List ℕ) (told : Option Outcome) → IsRefusedFor mode query form (refused_params (missing name)) →
+    IfSome told (IsMissingName mode query name) → IfSome told (IsBindOutcome mode query form)
+missing_told mode query form name None refused at = tt
+missing_told mode query form name (Some outcome) refused at = here outcome at
+  where
+    here : (outcome : Outcome) → IsMissingName mode query name outcome → IsBindOutcome mode query form outcome
+    here (Missing place position len) at = (name, refused, at)
+    here outcome at = absurd at
 
 -- the empty form is not refused
 pub empty_not_refused : {X : Type 0} (form : List ℕ) (error : FormError) → form ≡ [] → IsFormRefusal form error →

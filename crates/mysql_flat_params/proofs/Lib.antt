@@ -4,6 +4,7 @@ pub mod ValueErrorLemmas
 pub mod NamePlaceLemmas
 pub mod MissingLemmas
 pub mod IntoRoomLemmas
+pub mod PlaceTableLemmas
 pub mod SteadyOutcomeLemmas
 pub mod MarkedLemmas
 pub mod NamesSurveyLemmas

@@ -7,6 +7,7 @@ pub mod NamePlace
 pub mod NamesAnswer
 pub mod NamesSurvey
 pub mod IntoRoom
+pub mod PlaceTable
 pub mod SteadyIntoRoom
 pub mod AnywhereIntoRoom
 pub mod BothModesIntoRoom

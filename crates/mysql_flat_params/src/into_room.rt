@@ -172,39 +172,61 @@ pub(crate) fn bind_outcome(query: &[u8], error: BindError, no_backslash_escape: 
     ensures mixed { error ≡ BindError.Mixed → result ≡ Outcome.Mixed }
     ensures no_answer { HasNoAnswer result }
 {
+    match told_outcome(query, error, no_backslash_escape) {
+        Some(outcome) => outcome,
+        None => unreachable!(),
+    }
+}
+
+// What is told of a refusal by this query; none if it misses a name that the query doesn't have.
+pub(crate) fn told_outcome(
+    query: &[u8],
+    error: BindError,
+    no_backslash_escape: bool,
+) -> Option<Outcome>
+    ensures outcome { (form : List ℕ) (given : Given) → IsFormReading form (Ok given) →
+        OnTokens no_backslash_escape query.now (λ ts.
+        IsCauseOrMemory (first_cause ts given) error) →
+        IfSome result (IsBindOutcome no_backslash_escape query.now form) }
+    ensures none { ((given : Given) × OnTokens no_backslash_escape query.now (λ ts.
+        IsCauseOrMemory (first_cause ts given) error)) → result ≡ None → ⊥ }
+    ensures mixed { error ≡ BindError.Mixed → result ≡ Some Outcome.Mixed }
+    ensures no_answer { IfSome result HasNoAnswer }
+{
     match error {
-        BindError::Mixed => Outcome::Mixed,
+        BindError::Mixed => Some(Outcome::Mixed),
         BindError::Params(ParamsError::Missing(missing)) => {
             missing_outcome(query, missing.0.as_slice(), no_backslash_escape)
         }
         BindError::Params(
             ParamsError::Confusion(ParamsConfusionError::NamedParamsForPositionalQuery),
-        ) => Outcome::NamedForPositional,
+        ) => Some(Outcome::NamedForPositional),
         BindError::Params(
             ParamsError::Confusion(ParamsConfusionError::PositionalParamsForNamedQuery),
-        ) => Outcome::PositionalForNamed,
-        BindError::Params(ParamsError::Memory(_)) => Outcome::OutOfMemory,
-        BindError::MarkCount { marks, values } => Outcome::MarkCount { marks, values },
-        BindError::NotAlone { place, at } => Outcome::NotAlone {
+        ) => Some(Outcome::PositionalForNamed),
+        BindError::Params(ParamsError::Memory(_)) => Some(Outcome::OutOfMemory),
+        BindError::MarkCount { marks, values } => Some(Outcome::MarkCount { marks, values }),
+        BindError::NotAlone { place, at } => Some(Outcome::NotAlone {
             place,
             position: at,
-        },
-        BindError::Float { place } => Outcome::Float { place },
-        BindError::Memory(_) => Outcome::OutOfMemory,
+        }),
+        BindError::Float { place } => Some(Outcome::Float { place }),
+        BindError::Memory(_) => Some(Outcome::OutOfMemory),
     }
 }
 
-// The refusal of a name of this query that has no value.
-fn missing_outcome(query: &[u8], name: &[u8], no_backslash_escape: bool) -> Outcome
-    requires { OnTokens no_backslash_escape query.now (λ ts. Contains (names ts) name.now) }
-    ensures { IsMissingName no_backslash_escape query.now name.now result }
+// The refusal of a name that has no value; none if the query doesn't have it.
+fn missing_outcome(query: &[u8], name: &[u8], no_backslash_escape: bool) -> Option<Outcome>
+    ensures some { IfSome result (IsMissingName no_backslash_escape query.now name.now) }
+    ensures none { result ≡ None →
+        OnTokens no_backslash_escape query.now (λ ts. Contains (names ts) name.now) → ⊥ }
 {
     match name_place(query, name, no_backslash_escape) {
-        Some((place, position)) => Outcome::Missing {
+        Some((place, position)) => Some(Outcome::Missing {
             place,
             position,
             len: name.len(),
-        },
-        None => unreachable!(),
+        }),
+        None => None,
     }
 }

@@ -4,8 +4,9 @@
 //! [`params_of_form`] reads the form. [`bind_into`], [`bind_anywhere_into`],
 //! [`bind_in_both_modes_into`] and [`names_into`] write their answer into the room, or leave it as
 //! it was and say by an [`Outcome`] why.
-//! [`bind_rows_into`] parses a query once and binds it to many forms. [`report_first_unportable`]
-//! reports the first construct for which a query isn't portable, and
+//! [`table_into`] makes a table of a query's places, and [`bind_by_table_into`] binds by it without
+//! a walk of the query. [`bind_rows_into`] parses a query once and binds it to many forms.
+//! [`report_first_unportable`] reports the first construct for which a query isn't portable, and
 //! [`report_first_unportable_in_client`] also what a client reads or sends otherwise.
 #![tactic(auto)]
 
@@ -17,6 +18,7 @@ pub mod laws;
 mod missing_place;
 mod names_room;
 mod outcome;
+mod place_table;
 mod rows;
 mod steady_room;
 mod unportable;
@@ -24,8 +26,10 @@ mod unportable;
 pub use form::params_of_form;
 pub use form_error::FormError;
 pub use into_room::bind_into;
+pub use mysql_binding::PlaceSpan;
 pub use names_room::names_into;
 pub use outcome::{Outcome, Report};
+pub use place_table::{TableHead, TableOutcome, bind_by_table_into, table_into};
 pub use rows::{Rows, bind_rows_into};
 pub use steady_room::{bind_anywhere_into, bind_in_both_modes_into};
 pub use unportable::{

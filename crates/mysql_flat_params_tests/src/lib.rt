@@ -20,6 +20,8 @@ mod rows;
 #[cfg(test)]
 mod shared;
 #[cfg(test)]
+mod tables;
+#[cfg(test)]
 mod types;
 #[cfg(test)]
 mod without_backslashes;

@@ -1,5 +1,8 @@
 //! Forms, and what binding over them answers in a room.
-use mysql_flat_params::{Outcome, bind_into, names_into};
+use mysql_flat_params::{
+    Outcome, PlaceSpan, TableHead, TableOutcome, bind_by_table_into, bind_into, names_into,
+    table_into,
+};
 use std::alloc::Global;
 use std::fmt::Debug;
 use std::process::Abort;
@@ -53,8 +56,37 @@ pub(crate) const WITH_BACKSLASHES: bool = false;
 /// The flag of the mode without backslash escapes.
 pub(crate) const WITHOUT_BACKSLASHES: bool = true;
 
+/// What stands in a room before a table is made in it.
+pub(crate) const NO_PLACE: PlaceSpan = PlaceSpan { before: 9, len: 9 };
+
+/// A head before a table is made.
+pub(crate) const NO_HEAD: TableHead = TableHead {
+    names: 9,
+    marks: 9,
+    not_alone: 9,
+    place: 9,
+    position: 9,
+    piece_bytes: 9,
+};
+
+// What becomes of the query and the form by the query's table, and what it leaves in a room of 64
+// bytes.
+fn by_table(alloc: Global, mode: bool, query: &[u8], form: &[u8]) -> (TableOutcome, [u8; 64]) {
+    let mut room = [b'#'; 64];
+    let mut head = NO_HEAD;
+    let mut places = [NO_PLACE; 64];
+    match table_into(alloc, query, mode, &mut head, &mut places) {
+        Outcome::Done { len } => {
+            let table = &places[..len];
+            let told = bind_by_table_into(alloc, query, head, table, form, mode, &mut room);
+            (told, room)
+        }
+        outcome => (TableOutcome::AsQuery(outcome), room),
+    }
+}
+
 /// In the mode, the query bound to the form is the text, in a room of 64 bytes, of which the rest
-/// is unchanged.
+/// is unchanged; also by its table.
 pub(crate) fn binds_in(
     rt: &impl Abort,
     alloc: Global,
@@ -66,6 +98,10 @@ pub(crate) fn binds_in(
     let mut room = [b'#'; 64];
     let outcome = bind_into(alloc, query, form, mode, &mut room);
     wrote(rt, outcome, &room, text, &(query, form, mode));
+    let (told, room) = by_table(alloc, mode, query, form);
+    let wanted = TableOutcome::AsQuery(Outcome::Done { len: text.len() });
+    same_in(rt, told, wanted, &(query, form, mode));
+    wrote(rt, outcome, &room, text, &(query, form, mode));
 }
 
 /// The same in the mode in which a backslash escapes.
@@ -73,7 +109,8 @@ pub(crate) fn binds(rt: &impl Abort, alloc: Global, query: &[u8], form: &[u8], t
     binds_in(rt, alloc, WITH_BACKSLASHES, query, form, text);
 }
 
-/// In the mode, this becomes of the query and the form, and the room is as before.
+/// In the mode, this becomes of the query and the form, and the room is as before; also by the
+/// query's table.
 pub(crate) fn refuses_in(
     rt: &impl Abort,
     alloc: Global,
@@ -87,6 +124,9 @@ pub(crate) fn refuses_in(
     let case = (query, form, mode);
     same_in(rt, outcome, wanted, &case);
     same_in(rt, room, [b'#'; 64], &case);
+    let by_table = by_table(alloc, mode, query, form);
+    let wanted = (TableOutcome::AsQuery(wanted), [b'#'; 64]);
+    same_in(rt, by_table, wanted, &case);
 }
 
 /// The same in the mode in which a backslash escapes.

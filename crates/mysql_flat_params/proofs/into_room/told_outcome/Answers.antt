@@ -3,12 +3,7 @@ use Rattle.mysql_params_core.specs.Lookup.{missing}
 use Rattle.mysql_binding.specs.BindErrors.{cause_of}
 use Rattle.mysql_binding.specs.FirstCause.{refused_params}
 use Rattle.mysql_flat_params.proofs.IntoRoomLemmas.{is_missing, refused_for, name_is_there, missing_told}
-use Rattle.mysql_flat_params.proofs.into_room.bind_outcome.Goals as goal
-
-pub missing_outcome-requires : goal.missing_outcome-requires
-missing_outcome-requires c =
-    name_is_there c.args.no_backslash_escape c.args.query.now c.as_slice.result.now c.args.error
-    (is_missing _ _ _ _ c.in-Params-Missing.is c.in-Params-Missing.field-0-is c.as_slice.ensures.value) c.requires
+use Rattle.mysql_flat_params.proofs.into_room.told_outcome.Goals as goal
 
 pub returns-in-Params-Missing-clause-outcome : goal.returns-in-Params-Missing-clause-outcome
 returns-in-Params-Missing-clause-outcome c = λ form given reads o.
@@ -16,7 +11,13 @@ returns-in-Params-Missing-clause-outcome c = λ form given reads o.
     (refused_for c.args.error (refused_params (missing c.as_slice.result.now))
     (is_missing _ _ _ _ c.in-Params-Missing.is c.in-Params-Missing.field-0-is c.as_slice.ensures.value)
     c.args.no_backslash_escape c.args.query.now form given reads o)
-    c.missing_outcome.ensures
+    c.missing_outcome.ensures.some
+
+pub returns-in-Params-Missing-clause-none : goal.returns-in-Params-Missing-clause-none
+returns-in-Params-Missing-clause-none c = λ why none.
+    c.missing_outcome.ensures.none none
+    (name_is_there c.args.no_backslash_escape c.args.query.now c.as_slice.result.now c.args.error
+    (is_missing _ _ _ _ c.in-Params-Missing.is c.in-Params-Missing.field-0-is c.as_slice.ensures.value) why)
 
 pub returns-in-MarkCount-clause-outcome : goal.returns-in-MarkCount-clause-outcome
 returns-in-MarkCount-clause-outcome c = λ form given reads o.

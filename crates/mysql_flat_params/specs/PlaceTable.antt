@@ -1,0 +1,81 @@
+-- A table of the places of a query, as plain numbers that the caller keeps.
+use Rattle.std.specs.Prelude.{◌≡◌, ◌≤◌, ℕ, ℤ, pos, Bool, List, nat_eq, if◌then◌else◌, Some, None, length, take, drop, ⊤}
+use Rattle.mysql_named_params.specs.Tokens.{OnTokens}
+use Rattle.mysql_named_params.specs.Places.{place_count}
+use Rattle.mysql_binding.specs.PlaceSpans.{AreSpansOf}
+use Rattle.mysql_binding.specs.declared.binding.spans.PlaceSpan.{PlaceSpan}
+use Rattle.mysql_binding.specs.declared.binding.survey.Survey.{Survey}
+use Rattle.mysql_flat_params.specs.IntoRoom.{IsBindOutcome}
+use Rattle.mysql_flat_params.specs.Outcomes as outcomes
+use Rattle.mysql_flat_params.specs.Outcomes.{no_fields}
+use Rattle.mysql_flat_params.specs.declared.outcome.Outcome.{Outcome}
+use Rattle.mysql_flat_params.specs.declared.outcome.Outcome.TheVariants.{Done, OutOfMemory, Room}
+use Rattle.mysql_flat_params.specs.declared.outcome.Report.{Report}
+use Rattle.mysql_flat_params.specs.declared.place_table.TableHead.{TableHead}
+use Rattle.mysql_flat_params.specs.declared.place_table.TableOutcome.{TableOutcome}
+use Rattle.mysql_flat_params.specs.declared.place_table.TableOutcome.TheVariants.{AsQuery, OtherTable}
+
+-- what the head of a table says of the places
+abbrev pub survey_of : TableHead → Survey
+survey_of head = record {
+  names = head.names;
+  marks = head.marks;
+  not_alone = if nat_eq head.not_alone 0 then None else Some (head.place, head.position);
+  piece_bytes = head.piece_bytes;
+}
+
+-- head and places are the table of the query in the mode
+abbrev pub IsTableOf : TableHead → List PlaceSpan → Bool → List ℕ → Type 0
+IsTableOf head places = AreSpansOf (survey_of head) places
+
+-- the table of the query in the mode is made: its head, and its places at the front of the room,
+-- behind which nothing is changed
+abbrev pub IsMadeTable : (mode : Bool) (query : List ℕ) → TableHead → (old new : List PlaceSpan) → ℕ
+    → Type 0
+IsMadeTable mode query head old new len = (len ≤ length old)
+    × IsTableOf head (take len new) mode query × (drop len new ≡ drop len old)
+
+-- what an outcome of making the table says of the query
+abbrev pub IsTableOutcome : (mode : Bool) (query : List ℕ) → Outcome → Type 0
+-- it has so many places
+IsTableOutcome mode query (Done len) = OnTokens mode query (λ ts. len ≡ place_count ts)
+IsTableOutcome mode query (Room len) = OnTokens mode query (λ ts. len ≡ place_count ts)
+-- it has some
+IsTableOutcome mode query OutOfMemory = OnTokens mode query (λ ts. place_count ts ≡ 0 → ⊥)
+-- it is none of the others
+IsTableOutcome mode query outcome = ⊥
+
+-- what an outcome of binding by the table of a query says of the query and the form
+abbrev pub IsTableBindOutcome : (mode : Bool) (query form : List ℕ) → TableOutcome → Type 0
+IsTableBindOutcome mode query form (AsQuery outcome) = IsBindOutcome mode query form outcome
+IsTableBindOutcome mode query form OtherTable = ⊥
+
+-- the number of an outcome: those of binding to a query, and one more
+abbrev pub number_of : TableOutcome → ℕ
+number_of (AsQuery outcome) = outcomes.number_of outcome
+number_of OtherTable = 20
+
+-- the fields of an outcome; those that it doesn't have are 0
+abbrev pub report_of : TableOutcome → Report
+report_of (AsQuery outcome) = outcomes.report_of outcome
+report_of OtherTable = no_fields
+
+-- if the text is written, this holds of its length
+abbrev pub IfDone : TableOutcome → (ℕ → Type 0) → Type 0
+IfDone (AsQuery outcome) P = outcomes.IfDone outcome P
+IfDone OtherTable P = ⊤
+
+-- if the room is too short for the text, this holds of the text's length
+abbrev pub IfTooLong : TableOutcome → (ℕ → Type 0) → Type 0
+IfTooLong (AsQuery outcome) P = outcomes.IfTooLong outcome P
+IfTooLong OtherTable P = ⊤
+
+-- unless the text is written, this holds
+abbrev pub UnlessDone : TableOutcome → Type 0 → Type 0
+UnlessDone (AsQuery outcome) P = outcomes.UnlessDone outcome P
+UnlessDone OtherTable P = P
+
+-- this number and these fields are those of an outcome of which this holds
+abbrev pub IsTold : ℤ → Report → (TableOutcome → Type 0) → Type 0
+IsTold number report P = (outcome : TableOutcome) × (number ≡ pos (number_of outcome))
+    × (report ≡ report_of outcome) × P outcome

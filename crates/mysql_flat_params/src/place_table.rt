@@ -1,0 +1,257 @@
+//! A table of the places of a query, made once and kept by the caller, and binding by it.
+ghost use Rattle.std.specs.Prelude.{◌≡◌, ◌⊎◌, ◌+◌, ◌≤◌, ◌<◌, ℕ, List, [], None, Some, Ok, pos, length, take, drop, IfErr, IfOk, IfSome, IsErrOf, OnErr};
+ghost use Rattle.mysql_named_params.specs.Tokens.{OnTokens};
+ghost use Rattle.mysql_named_params.specs.Places.{HasMark, HasName};
+ghost use Rattle.mysql_params_core.specs.Given.{Given};
+ghost use Rattle.mysql_binding.specs.BindErrors.{IsCauseOrMemory};
+ghost use Rattle.mysql_binding.specs.FirstCause.{first_cause};
+ghost use Rattle.mysql_binding.specs.Isolation.{IsBoundText};
+ghost use Rattle.mysql_binding.specs.PlaceSpans.{AreSpansOf, FitSurvey, StaysInRoom};
+ghost use Rattle.mysql_binding.specs.TextInRoom.{HasTextOf, IsTextInRoom};
+ghost use Rattle.mysql_flat_params.specs.FlatForm.{HasFirstParameter, IsFormReading};
+ghost use Rattle.mysql_flat_params.specs.FormParams.{given_by_sorted};
+ghost use Rattle.mysql_flat_params.specs.IntoRoom.{IfMixed, IsBoundForm};
+ghost use Rattle.mysql_flat_params.specs.Outcomes as outcomes;
+ghost use Rattle.mysql_flat_params.specs.PlaceTable.{IfDone, IfTooLong, IsMadeTable, IsTableBindOutcome, IsTableOf, IsTableOutcome, UnlessDone, number_of, report_of, survey_of};
+
+use crate::form::{FormParams, form_params};
+use crate::into_room::{borrowed_params, form_outcome, text_outcome, told_outcome};
+use crate::outcome::{NO_FIELDS, Outcome, Report};
+use mysql_binding::{
+    BindError, PlaceSpan, PlainForm, Survey, TextInRoom, bind_spans_into, can_be_spans,
+    place_spans, place_survey,
+};
+use mysql_values::value::Value;
+use std::alloc::Global;
+use std::collections::BTreeMap;
+
+/// What a table says of a query's places together.
+#[derive(Clone, Copy, Debug, PartialEq, Eq)]
+#[repr(C)]
+pub struct TableHead {
+    /// The number of names, with repeats.
+    pub names: usize,
+    /// The number of marks.
+    pub marks: usize,
+    /// 0 if each name and mark stands alone.
+    pub not_alone: usize,
+    /// The number of the first place that doesn't, from 0; else 0.
+    pub place: usize,
+    /// The index of that place's first byte in the query; else 0.
+    pub position: usize,
+    /// The number of bytes of the query outside of its places.
+    pub piece_bytes: usize,
+}
+
+/// What became of a call that binds by a table. After each but a `Done` the room is as it was.
+#[derive(Clone, Copy, Debug, PartialEq, Eq)]
+pub enum TableOutcome {
+    /// What becomes of a call that binds to the query; it is neither `Unsteady`, `Unportable` nor
+    /// `Backslash`.
+    AsQuery(Outcome),
+    /// The table isn't that of the query.
+    OtherTable,
+}
+
+impl TableOutcome {
+    /// The number of the outcome's kind: that of an [`Outcome`], and 20 for another table.
+    pub fn number(self) -> i32
+        ensures number { result ≡ pos (number_of self) }
+    {
+        match self {
+            TableOutcome::AsQuery(outcome) => outcome.number(),
+            TableOutcome::OtherTable => 20,
+        }
+    }
+
+    /// The fields of the outcome.
+    pub fn report(self) -> Report
+        ensures fields { result ≡ report_of self }
+    {
+        match self {
+            TableOutcome::AsQuery(outcome) => outcome.report(),
+            TableOutcome::OtherTable => NO_FIELDS,
+        }
+    }
+}
+
+/// Makes the table of a query's places in a mode, to bind by it as often as wanted: its head, and
+/// at the front of the room where each place stands.
+///
+/// `Done` has the number of the places; the rest of the room is unchanged. `Room` has the number of
+/// the places that the room would need; `OutOfMemory` comes only for a query with places. After
+/// both, head and room are as before.
+pub fn table_into(
+    alloc: Global,
+    query: &[u8],
+    no_backslash_escape: bool,
+    head: &mut TableHead,
+    room: &mut [PlaceSpan],
+) -> Outcome
+    ensures outcome { IsTableOutcome no_backslash_escape query.now result }
+    ensures made { outcomes.IfDone result
+        (IsMadeTable no_backslash_escape query.now head.new room.old room.new) }
+    ensures too_long { outcomes.IfTooLong result (λ len. length room.old < len) }
+    ensures unchanged { outcomes.UnlessDone result
+        ((head.new ≡ head.old) × (room.new ≡ room.old)) }
+{
+    let (survey, _) = place_survey(query, &mut [], no_backslash_escape);
+    let len = survey.names + survey.marks;
+    if len == 0 {
+        *head = head_of(survey);
+        return Outcome::Done { len };
+    }
+    if room.len() < len {
+        return Outcome::Room { len };
+    }
+    match place_spans(alloc, query, no_backslash_escape, &mut room[..len]) {
+        Ok(()) => {
+            *head = head_of(survey);
+            Outcome::Done { len }
+        }
+        Err(_) => Outcome::OutOfMemory,
+    }
+}
+
+// The head that says this of the places.
+fn head_of(survey: Survey) -> TableHead
+    ensures { survey_of result ≡ survey }
+{
+    let (not_alone, (place, position)) = match survey.not_alone {
+        Some(found) => (1, found),
+        None => (0, (0, 0)),
+    };
+    TableHead {
+        names: survey.names,
+        marks: survey.marks,
+        not_alone,
+        place,
+        position,
+        piece_bytes: survey.piece_bytes,
+    }
+}
+
+// What the head says of the places.
+fn survey_of(head: TableHead) -> Survey
+    ensures { result ≡ survey_of head }
+{
+    let not_alone = if head.not_alone == 0 {
+        None
+    } else {
+        Some((head.place, head.position))
+    };
+    Survey {
+        names: head.names,
+        marks: head.marks,
+        not_alone,
+        piece_bytes: head.piece_bytes,
+    }
+}
+
+/// Binds into a query what a form says by the query's table, exactly as
+/// [`bind_into`](crate::bind_into) does in the mode of the table: with its outcomes, and the text
+/// at the front of the room. The query isn't walked; only for `Missing` the place is looked up in
+/// it.
+///
+/// A table of another query, or of another mode, is told as `OtherTable` before the form is read if
+/// the query can't have it: if the places aren't as many as the head says, if one is empty or
+/// beyond the query, or if not so many bytes stand outside of them as the head says. Else any text
+/// or outcome may come, but nothing is written behind the text, and after every outcome but `Done`
+/// the room is as before.
+pub fn bind_by_table_into(
+    alloc: Global,
+    query: &[u8],
+    head: TableHead,
+    places: &[PlaceSpan],
+    form: &[u8],
+    no_backslash_escape: bool,
+    room: &mut [u8],
+) -> TableOutcome
+    ensures outcome { IsTableOf head places.now no_backslash_escape query.now →
+        IsTableBindOutcome no_backslash_escape query.now form.now result }
+    ensures written { IsTableOf head places.now no_backslash_escape query.now →
+        IfDone result (λ len.
+        IsBoundForm no_backslash_escape query.now form.now (take len room.new)) }
+
+    // The empty form over a query with a name and a mark is refused without allocating.
+    ensures mixed { IsTableOf head places.now no_backslash_escape query.now → form.now ≡ [] →
+        IfMixed no_backslash_escape query.now (result ≡ TableOutcome.AsQuery Outcome.Mixed) }
+
+    // A form that is refused for its first parameter is refused without allocating.
+    ensures memory { result ≡ TableOutcome.AsQuery Outcome.OutOfMemory →
+        (form.now ≡ []) ⊎ HasFirstParameter form.now }
+    ensures rest { IfDone result (λ len.
+        (len ≤ length room.old) × (drop len room.new ≡ drop len room.old)) }
+    ensures too_long { IfTooLong result (λ len. length room.old < len) }
+    ensures unchanged { UnlessDone result (room.new ≡ room.old) }
+{
+    let survey = survey_of(head);
+    if !can_be_spans(query, survey, places) {
+        return TableOutcome::OtherTable;
+    }
+    let params = match form_params::<BTreeMap<Vec<u8>, Value>>(alloc, form) {
+        Ok(params) => params,
+        Err(error) => return TableOutcome::AsQuery(form_outcome(error)),
+    };
+    match bind_places(
+        alloc,
+        query,
+        survey,
+        places,
+        params,
+        no_backslash_escape,
+        room,
+    ) {
+        Ok(text) => TableOutcome::AsQuery(text_outcome(text)),
+        Err(error) => table_outcome(query, error, no_backslash_escape),
+    }
+}
+
+// The text of a query with what a form says, at the front of the room.
+fn bind_places(
+    alloc: Global,
+    query: &[u8],
+    survey: Survey,
+    places: &[PlaceSpan],
+    params: FormParams<BTreeMap<Vec<u8>, Value>>,
+    no_backslash_escape: bool,
+    room: &mut [u8],
+) -> Result<TextInRoom, BindError>
+    requires fit { FitSurvey survey places.now query.now }
+    ensures bound { AreSpansOf survey places.now no_backslash_escape query.now →
+        OnTokens no_backslash_escape query.now (λ ts. IfOk result (IsTextInRoom
+        (IsBoundText no_backslash_escape ts (given_by_sorted params))
+        (HasTextOf (IsBoundText no_backslash_escape ts (given_by_sorted params)))
+        room.old room.new)) }
+    ensures refused { AreSpansOf survey places.now no_backslash_escape query.now →
+        OnTokens no_backslash_escape query.now (λ ts. IfErr result
+        (IsCauseOrMemory (first_cause ts (given_by_sorted params)))) }
+    ensures mixed { AreSpansOf survey places.now no_backslash_escape query.now →
+        OnTokens no_backslash_escape query.now (λ ts.
+        HasName ts × HasMark ts → IsErrOf result BindError.Mixed) }
+    ensures in_room { IfOk result (StaysInRoom room.old room.new) }
+    ensures unchanged { OnErr result (room.new ≡ room.old) }
+{
+    let form = PlainForm {
+        no_backslash_escape,
+    };
+    let borrowed = borrowed_params(&params);
+    bind_spans_into(alloc, query, survey, places, borrowed, &form, room)
+}
+
+// A refusal of binding by a table; if it misses a name that the query doesn't have, the table is
+// that of another one.
+fn table_outcome(query: &[u8], error: BindError, no_backslash_escape: bool) -> TableOutcome
+    ensures outcome { (form : List ℕ) (given : Given) → IsFormReading form (Ok given) →
+        OnTokens no_backslash_escape query.now (λ ts.
+        IsCauseOrMemory (first_cause ts given) error) →
+        IsTableBindOutcome no_backslash_escape query.now form result }
+    ensures mixed { error ≡ BindError.Mixed → result ≡ TableOutcome.AsQuery Outcome.Mixed }
+    ensures not_done { IfDone result (λ len. ⊥) }
+    ensures not_too_long { IfTooLong result (λ len. ⊥) }
+{
+    match told_outcome(query, error, no_backslash_escape) {
+        Some(outcome) => TableOutcome::AsQuery(outcome),
+        None => TableOutcome::OtherTable,
+    }
+}
