@@ -4,3 +4,4 @@ pub mod ClosedQueryLemmas
 pub mod BoundLineLemmas
 pub mod ScriptTokenLemmas
 pub mod ScriptCountLemmas
+pub mod AlikeLineLemmas

@@ -163,7 +163,7 @@ newline_text [] = refl
 newline_text (t ∷ []) = last_text t
 newline_text (t ∷ u ∷ ts) = ap (λ x. bytes_of t ++ x) (newline_text (u ∷ ts)) ∙ sym (append_assoc (bytes_of t) (text_of (u ∷ ts)) (newline ∷ []))
 
-newline_then : (ts : List Token) (more : List ℕ) → text_then more (with_newline ts) ≡ text_of ts ++ newline ∷ more
+pub newline_then : (ts : List Token) (more : List ℕ) → text_then more (with_newline ts) ≡ text_of ts ++ newline ∷ more
 newline_then ts more = text_then-text_of (with_newline ts) more ∙ ap (λ x. x ++ more) (newline_text ts) ∙ append_assoc (text_of ts) (newline ∷ []) more
 
 -- a comment to the end of the line

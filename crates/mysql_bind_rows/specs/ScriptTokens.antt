@@ -3,6 +3,7 @@
 use Rattle.std.specs.Prelude.{◌≡◌, ◌==◌, ◌+◌, ◌++◌, ℕ, Bool, List, [], ◌∷◌, length, map, codes, if◌then◌else◌, ⊤}
 use Rattle.std.specs.List.{list_any}
 use Rattle.mysql_named_params.specs.Bytes.{newline}
+use Rattle.mysql_named_params.specs.Portable.{AreReadAlike}
 use Rattle.mysql_named_params.specs.Statements.{statements}
 use Rattle.mysql_named_params.specs.Tokens.{Token, HashComment, DashComment, Plain}
 use Rattle.mysql_bind_core.specs.declared.request.Literals.{Literals}
@@ -46,6 +47,11 @@ statement_tokens ts = with_newline ts ++ (Plain semicolon ∷ Plain newline ∷ 
 abbrev pub tokens_of_statements : List (List Token) → List Token
 tokens_of_statements [] = []
 tokens_of_statements (ts ∷ lists) = statement_tokens ts ++ tokens_of_statements lists
+
+-- with the newline after it, each of these texts passes the tests of a portable query
+abbrev pub AreLinesReadAlike : List (List Token) → Type 0
+AreLinesReadAlike [] = ⊤
+AreLinesReadAlike (ts ∷ lists) = AreReadAlike (with_newline ts) × AreLinesReadAlike lists
 
 -- how many statements these texts have together, as clients cut them (Statements.antt of
 -- mysql_named_params)

@@ -1,11 +1,12 @@
 //! The law of scripts. It does nothing: it is called for what it ensures.
 ghost use Rattle.std.specs.Prelude.{◌≡◌, ◌+◌, ℕ, Bool, List, [], if◌then◌else◌, length};
+ghost use Rattle.mysql_named_params.specs.Portable.{AreReadAlike};
 ghost use Rattle.mysql_named_params.specs.Statements.{statements};
 ghost use Rattle.mysql_named_params.specs.Tokens.{Token, IsTokens};
 ghost use Rattle.mysql_binding.specs.Replaced.{AreTokensOf};
 ghost use Rattle.mysql_bind_core.specs.declared.request.Request as declared;
 ghost use Rattle.mysql_bind_rows.specs.Scripts.{AreStatements, IsScript};
-ghost use Rattle.mysql_bind_rows.specs.ScriptTokens.{IsReadIn, count_of_statements, script_tokens, tokens_of_statements};
+ghost use Rattle.mysql_bind_rows.specs.ScriptTokens.{AreLinesReadAlike, IsReadIn, count_of_statements, script_tokens, tokens_of_statements};
 ghost use Rattle.mysql_bind_rows.specs.declared.row.Row as row;
 
 /// The tokens of a script are those of its texts, in their order, each with a newline after it, and
@@ -14,7 +15,8 @@ ghost use Rattle.mysql_bind_rows.specs.declared.row.Row as row;
 /// steady literals, and in theirs of one with literals of a mode. A comment to the end of the line
 /// at the end of a query takes the newline, and so never the `;`. Cut at each `;` that is a token,
 /// as clients cut it, the script has the statements of the texts, those of a transaction, and after
-/// its last `;` a newline alone (`count`).
+/// its last `;` a newline alone (`count`). If every server reads each text alike with the newline
+/// after it, so it reads the script (`alike`).
 pub fn tokens_of_scripts()
     ensures script { (request : declared.Request) (query : List ℕ) (rows : List row.Row)
         (transaction mode : Bool) (bytes : List ℕ) → IsReadIn request.literals mode →
@@ -27,4 +29,6 @@ pub fn tokens_of_scripts()
     ensures count { (transaction : Bool) (lists : List (List Token)) →
         length (statements (script_tokens transaction lists)) ≡
         (if transaction then 2 else 0) + (count_of_statements lists + 1) }
+    ensures alike { (transaction : Bool) (lists : List (List Token)) → AreLinesReadAlike lists →
+        AreReadAlike (script_tokens transaction lists) }
 {}
