@@ -106,6 +106,15 @@ pub fn bad_file(alloc: Global, path: &str, what: &str) -> Complaint {
     }
 }
 
+/// A complaint about a file with which a call of the system failed.
+pub fn failed_file(alloc: Global, path: &str, error: &io::Error) -> Result<Complaint, AllocError> {
+    if error.kind() == io::ErrorKind::OutOfMemory {
+        return Ok(Complaint::Memory);
+    }
+    let what = format!(in alloc; "{error}")?;
+    Ok(bad_file(alloc, path, what.as_str()))
+}
+
 /// A complaint about a row of a file.
 pub fn bad_row(alloc: Global, path: &str, line: u64, what: &str) -> Complaint {
     match (String::from_str(alloc, path), String::from_str(alloc, what)) {

@@ -1,5 +1,5 @@
 //! Where the text is written: standard output, or a file, which is there whole or not at all.
-use crate::complaint::{Complaint, bad_file};
+use crate::complaint::{Complaint, failed_file};
 use mysql_program::readers_and_writers::write_whole;
 use std::alloc::{AllocError, Global};
 use std::fs;
@@ -23,10 +23,7 @@ fn write_new(rt: &HostRuntime, path: &str, text: &[u8]) -> Result<(), Complaint>
                 Err(_) => Err(Complaint::Write),
             }
         }
-        Err(error) => {
-            let what = format!(in rt.alloc(); "{error}")?;
-            Err(bad_file(rt.alloc(), path, what.as_str()))
-        }
+        Err(error) => Err(failed_file(rt.alloc(), path, &error)?),
     }
 }
 
@@ -36,8 +33,7 @@ fn rename_new(rt: &HostRuntime, new: &str, path: &str) -> Result<(), Complaint> 
         Ok(()) => Ok(()),
         Err(error) => {
             let _ = fs::remove_file(rt, new);
-            let what = format!(in rt.alloc(); "{error}")?;
-            Err(bad_file(rt.alloc(), path, what.as_str()))
+            Err(failed_file(rt.alloc(), path, &error)?)
         }
     }
 }

@@ -1,5 +1,5 @@
 //! What sources hold: files, descriptors and the environment.
-use crate::complaint::{Complaint, bad_file};
+use crate::complaint::{Complaint, bad_file, failed_file};
 use mysql_program::readers_and_writers::{ReadError, read_whole};
 use std::alloc::{AllocError, Global};
 use std::env::{Env, FillError};
@@ -84,10 +84,7 @@ impl Sources {
 fn read_file(rt: &HostRuntime, path: &str) -> Result<Vec<u8>, Complaint> {
     match fs::read(rt, path) {
         Ok(bytes) => Ok(bytes),
-        Err(error) => {
-            let what = format!(in rt.alloc(); "{error}")?;
-            Err(bad_file(rt.alloc(), path, what.as_str()))
-        }
+        Err(error) => Err(failed_file(rt.alloc(), path, &error)?),
     }
 }
 
