@@ -151,7 +151,8 @@ public:
     }
     /* Appends a parameter in order. */
     Form &append(const Value &value) { return append_as(nullptr, value); }
-    /* Those below append what bind_fragments and bind_fragments_anywhere alone take; in order if the name is null. An exact number, as "-1.50". */
+    /* Those below append what bind_fragments and bind_fragments_anywhere alone take; in order if the name is null. An exact
+     * number, as "-1.50". */
     Form &append_decimal(const char *name, const std::string &digits)
     {
         return fitting(mysql_params_append_decimal(&form_, name, whole(digits)));

@@ -5,6 +5,7 @@ Each text is bound by `bind_anywhere` of the archive, once, and sent as it is, w
 
 import decimal
 import random
+from typing import Optional
 
 import mysql_params
 from harness import Tests, same
@@ -31,7 +32,8 @@ _STRINGS = [
 ]  # fmt: skip
 _NUMBERS = ["0", "-0.50", "1.10", "9" * 65, "-" + "9" * 35 + "." + "9" * 30]
 _HOSTILE = [
-    b"a", b"' , 7 -- ", b"\\' , 7 -- ", "é' , 7 -- ".encode(), b"*/ , 7 -- ", b"\n, 7 # ", b'" , 7 # ', b"` , 7 # ", b") , 7 -- ",
+    b"a", b"' , 7 -- ", b"\\' , 7 -- ", "é' , 7 -- ".encode(), b"*/ , 7 -- ", b"\n, 7 # ", b'" , 7 # ', b"` , 7 # ",
+    b") , 7 -- ",
 ]  # fmt: skip
 
 
@@ -61,17 +63,20 @@ def _settings(connection: Connection, sets: list):
 
 def _names(connection: Connection) -> str:
     """Columns of such names are found by them, in the order of another."""
-    names = [f"{name[: 64 - len(str(i))]}{i}" if name[-1] in " \n" or i % 2 else f"{i}{name}"[:64] for i, name in enumerate(_NAMES)]
+    # A number makes the names differ, which are the same in either case of letters.
+    names = [f"{name[:62]}{i}" if i % 2 else f"{i}{name}"[:64] for i, name in enumerate(_NAMES)]
     identifiers = [Identifier(name) for name in names]
     numbers = tuple(range(len(names)))
     marks = ", ".join(["?"] * len(names))
     connection.query(b"DROP TABLE IF EXISTS strings.named")
     columns = ", ".join(["? INT"] * len(names))
-    connection.query(mysql_params.bind_anywhere(f"CREATE TABLE strings.named ({columns}) CHARACTER SET utf8mb4", identifiers))
+    create = f"CREATE TABLE strings.named ({columns}) CHARACTER SET utf8mb4"
+    connection.query(mysql_params.bind_anywhere(create, identifiers))
     account = b"SELECT column_name FROM information_schema.columns WHERE table_schema = 'strings' AND table_name = 'named'"
     found = [row[0].decode() for row in connection.query(account + b" ORDER BY ordinal_position").rows()]
     same(found, names, "columns of the table")
-    connection.query(mysql_params.bind_anywhere(f"INSERT INTO strings.named ({marks}) VALUES ?", [*identifiers, [numbers]]))
+    insert = f"INSERT INTO strings.named ({marks}) VALUES ?"
+    connection.query(mysql_params.bind_anywhere(insert, [*identifiers, [numbers]]))
     table = Identifier("strings", "named")
     given = [*identifiers[::-1], table, identifiers[3], Keyword("DESC", among=("ASC", "DESC"))]
     text = mysql_params.bind_anywhere(f"SELECT {marks} FROM ? ORDER BY ? ?", given)
@@ -86,6 +91,10 @@ def _bytes(value) -> bytes:
     return value if isinstance(value, bytes) else str(value).encode()
 
 
+def _hexadecimal(value) -> Optional[bytes]:
+    return None if value is None else _bytes(value).hex().upper().encode()
+
+
 def _items(connection: Connection) -> str:
     """Each item of a list is what was handed in, by its number (ELT), and there are no more than were handed in."""
     source = random.Random(20261201)
@@ -96,8 +105,7 @@ def _items(connection: Connection) -> str:
         numbers = range(1, len(values) + 2)
         query = "SELECT " + ", ".join(["HEX(ELT(?, ?))"] * len(numbers))
         texts.append(mysql_params.bind_anywhere(query, [each for number in numbers for each in (number, values)]))
-        row = [None if value is None else _bytes(value).hex().upper().encode() for value in values]
-        wanted.append([[*row, None]])
+        wanted.append([[*map(_hexadecimal, values), None]])
     sets = character_sets(connection)
     for setting in _settings(connection, sets):
         for values, expected, answer in zip(lists, wanted, connection.answers(texts)):
@@ -128,7 +136,7 @@ def _rows(connection: Connection) -> str:
     pairs = [row[:2] for row in rows] + [(0, b"never"), (1, None)]
     find = mysql_params.bind_anywhere("SELECT COUNT(*) FROM strings.rowed WHERE (i, a) IN (?)", [pairs])
     look = b"SELECT i, HEX(a), HEX(b) FROM strings.rowed ORDER BY i"
-    hexadecimal = [[row[0], *(cell if cell is None else cell.hex().upper().encode() for cell in row[1:])] for row in wanted]
+    hexadecimal = [[row[0], *map(_hexadecimal, row[1:])] for row in wanted]
     sets = character_sets(connection)
     for setting in _settings(connection, sets):
         connection.query(b"DELETE FROM strings.rowed")
