@@ -2,7 +2,7 @@
 use crate::columns::{Column, Wanted, add_fixed, columns_of};
 use crate::complaint::{Complaint, bad_file, bad_row};
 use crate::script::Script;
-use csv::{ByteRecord, Error as CsvError, ErrorKind, Reader, ReaderBuilder};
+use csv::{ByteRecord, Error as CsvError, ErrorKind, Position, Reader, ReaderBuilder};
 use mysql_bind_core::{Assignment, ValueType};
 use std::alloc::{AllocError, Global};
 
@@ -16,18 +16,33 @@ fn reader_of<'a>(alloc: Global, tabs: bool, bytes: &'a [u8]) -> Reader<&'a [u8]>
     builder.from_reader(alloc, bytes)
 }
 
+// The line at which a record begins: the reader's position is before a newline that is left of the
+// record before, as of CR LF, and before empty lines.
+fn line_of(position: Option<Position>, bytes: &[u8]) -> u64 {
+    let Some(position) = position else {
+        return 0;
+    };
+    let from = (position.byte as usize).min(bytes.len());
+    let mut line = position.line;
+    for byte in &bytes[from..] {
+        match *byte {
+            b'\n' => line = line.saturating_add(1),
+            b'\r' => {}
+            _ => break,
+        }
+    }
+    line
+}
+
 // What is said of a record that can't be read.
-fn record_refused(alloc: Global, path: &str, error: CsvError) -> Complaint {
+fn record_refused(alloc: Global, path: &str, error: CsvError, bytes: &[u8]) -> Complaint {
     match error.into_kind() {
         ErrorKind::UnequalLengths {
             pos,
             expected_len,
             len,
         } => {
-            let line = match pos {
-                Some(pos) => pos.line,
-                None => 0,
-            };
+            let line = line_of(pos, bytes);
             match format!(in alloc; "{len} fields, and the first line has {expected_len}") {
                 Ok(what) => bad_row(alloc, path, line, what.as_str()),
                 Err(_) => Complaint::Memory,
@@ -106,12 +121,9 @@ fn next_line(
     match reader.read_byte_record(record) {
         Ok(true) => {}
         Ok(false) => return Ok(None),
-        Err(error) => return Err(record_refused(alloc, path, error)),
+        Err(error) => return Err(record_refused(alloc, path, error, bytes)),
     }
-    let line = match record.position() {
-        Some(position) => position.line,
-        None => 0,
-    };
+    let line = line_of(record.position(), bytes);
     if !tabs && has_odd_quote(bytes, before, reader.position().byte) {
         return Err(bad_row(
             alloc,
