@@ -1,13 +1,16 @@
 //! All that is wrong with a query, of the kind for which it is refused.
 use crate::complaint::{Complaint, Fault, add_fault};
-use crate::query_file::{MARK, QueryFile, UNSTEADY, complaint_of, marks_of, place_of};
+use crate::matching::name_places;
+use crate::query_file::{JOINED, MARK, QueryFile, UNSTEADY, complaint_of, marks_of, place_of};
 use crate::rewritten::in_single_quotes;
 use crate::values::Values;
-use mysql_bind_core::{Failure, Request};
+use mysql_bind_core::{Assignment, Failure, Request, ValueType, bound_text};
+use mysql_binding::BindError;
 use mysql_named_params::client::first_unportable_in_client;
 use mysql_named_params::portable::{Construct, Unportable};
 use mysql_named_params::steady::first_unsteady;
 use mysql_named_params::tokens::first_token;
+use mysql_steady_text::SteadyTextError;
 use std::alloc::{AllocError, Global};
 
 /// Adds what is wrong with a query that is refused for this: all unsteady bytes, all constructs, or
@@ -33,6 +36,58 @@ pub fn add_all_faults(
             }
             complaint => Err(complaint),
         },
+    }
+}
+
+/// Adds a fault for each name that doesn't stand alone in a query that is taken. Each further one
+/// is looked for as if spaces stood in the places of those before it.
+pub fn add_joined(
+    faults: &mut Vec<Fault>,
+    alloc: Global,
+    query: &QueryFile<'_>,
+    request: Request,
+) -> Result<(), Complaint> {
+    let mut text = Vec::from_slice(alloc, query.bytes.as_slice())?;
+    // Each turn makes a space of a byte.
+    for _ in 0..query.bytes.len() {
+        let Some(at) = first_joined(alloc, text.as_slice(), request)? else {
+            break;
+        };
+        add_at(faults, alloc, query, at, JOINED)?;
+        if !blanked(
+            text.as_mut_slice(),
+            at,
+            request.literals.no_backslash_escape(),
+        ) {
+            break;
+        }
+    }
+    Ok(())
+}
+
+// The index of the first name that doesn't stand alone: with NULL for each name binding refuses a
+// query that is taken for nothing else.
+fn first_joined(alloc: Global, text: &[u8], request: Request) -> Result<Option<usize>, Complaint> {
+    let mut nulls = Vec::new(alloc);
+    for place in name_places(alloc, text, request.literals.no_backslash_escape())? {
+        let null = Assignment {
+            name: place.name,
+            value_type: ValueType::Null,
+            bytes: Vec::new(alloc),
+        };
+        if nulls.push(null).is_err() {
+            return Err(Complaint::Memory);
+        }
+    }
+    match bound_text(alloc, text, nulls.as_slice(), request) {
+        Err(Failure::Plain(BindError::NotAlone { at, .. }))
+        | Err(Failure::Steady(SteadyTextError::Bind(BindError::NotAlone { at, .. }))) => Ok(Some(
+            at,
+        )),
+        Err(Failure::Plain(BindError::Memory(_)))
+        | Err(Failure::Steady(SteadyTextError::Bind(BindError::Memory(_))))
+        | Err(Failure::Memory(_)) => Err(Complaint::Memory),
+        _ => Ok(None),
     }
 }
 

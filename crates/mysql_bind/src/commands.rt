@@ -1,5 +1,5 @@
 //! What each command does.
-use crate::all_faults::add_all_faults;
+use crate::all_faults::{add_all_faults, add_joined};
 use crate::complaint::{Complaint, Fault, add_fault};
 use crate::matching::matched_values;
 use crate::output::write_text;
@@ -144,8 +144,9 @@ fn check_one(
         }
         Err(complaint) => return Err(complaint),
     };
-    if let Err(failure) = check_query(rt.alloc(), query.bytes.as_slice(), request) {
-        add_all_faults(faults, rt.alloc(), &query, request, failure)?;
+    match check_query(rt.alloc(), query.bytes.as_slice(), request) {
+        Ok(()) => add_joined(faults, rt.alloc(), &query, request)?,
+        Err(failure) => add_all_faults(faults, rt.alloc(), &query, request, failure)?,
     }
     Ok(true)
 }

@@ -117,8 +117,8 @@ fn steady_refused(
     }
 }
 
-// What is said of a name that doesn't stand alone.
-static JOINED: &str =
+/// What is said of a name that doesn't stand alone.
+pub static JOINED: &str =
     "this name joins what stands beside it: write a space or a comma between them";
 
 // What is said if values can't be bound.
