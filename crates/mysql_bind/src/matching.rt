@@ -49,6 +49,20 @@ pub fn name_places(alloc: Global, text: &[u8], mode: bool) -> Result<Vec<NamePla
     Ok(places)
 }
 
+// Whether a byte is one of those that names are of.
+fn is_of_names(byte: u8) -> bool {
+    byte.is_ascii_lowercase() || byte.is_ascii_digit() || byte == b'_'
+}
+
+// What is said further of a name after which a letter stands that no name has.
+fn alphabet_hint(text: &[u8], place: &NamePlace) -> &'static str {
+    match text.get(place.at.saturating_add(1).saturating_add(place.name.len())) {
+        Some(byte) if byte.is_ascii_uppercase() || !byte.is_ascii() =>
+            ", which ends there (names are of a to z, 0 to 9 and _)",
+        _ => "",
+    }
+}
+
 // A fault for each name without a value, at its first place.
 fn add_missing(
     faults: &mut Vec<Fault>,
@@ -59,8 +73,10 @@ fn add_missing(
 ) -> Result<(), AllocError> {
     for place in places {
         if !is_assigned(values.assignments.as_slice(), place.name.as_slice()) {
+            let hint = alphabet_hint(query.bytes.as_slice(), place);
             let what = format!(in alloc;
-                "no value for `:{}`: give it by --set, --file, --env, --null, --json or --pairs",
+                "no value for `:{}`{hint}: give it by --set, --file, --env, --null, --json or \
+                 --pairs",
                 Shown(place.name.as_slice())
             )?;
             add_fault(faults, place_of(alloc, query, place.at)?, what)?;
@@ -85,8 +101,14 @@ pub fn add_unused(
     for i in 0..values.assignments.len() {
         if !is_name_of(places, values.assignments[i].name.as_slice()) {
             let origin = origin_at(values, i);
+            let name = values.assignments[i].name.as_slice();
+            let hint = if name.iter().all(|byte| is_of_names(*byte)) {
+                ""
+            } else {
+                ", since names are of a to z, 0 to 9 and _"
+            };
             let what = format!(in alloc;
-                "{origin}: {} has no such name (--allow-unused takes it)",
+                "{origin}: {} has no such name{hint} (--allow-unused takes it)",
                 query.path
             )?;
             add_fault(faults, Place::Words, what)?;

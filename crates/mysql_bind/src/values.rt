@@ -155,6 +155,10 @@ fn parts_of<'a>(alloc: Global, option: &str, word: &'a str) -> Result<Parts<'a>,
             value_type,
             rest,
         }),
+        None if name.is_empty() => {
+            let what = format!(in alloc; "--{option}: write the name without its colon")?;
+            Err(unusable(alloc, Place::Words, what))
+        }
         None => {
             let what = format!(in alloc; "--{option}: the type after NAME: is one of {TYPES}")?;
             Err(unusable(alloc, Place::Words, what))
