@@ -163,7 +163,8 @@ fn blanked(text: &mut [u8], at: usize, mode: bool) -> bool {
     changed
 }
 
-// What is said of a construct. Of a text in `"` also what to write instead of it, if that is short.
+// What is said of a construct. Of a text in `"` also what to write instead of it, if that is short,
+// and none stands directly beside it: `""` between two is a quote.
 fn construct_told(
     alloc: Global,
     text: &[u8],
@@ -171,9 +172,12 @@ fn construct_told(
     mode: bool,
 ) -> Result<String, AllocError> {
     if found.construct == Construct::EscapedQuote && found.at < text.len() {
-        let rest = &text[found.at..];
-        let (_, len) = first_token(rest, mode);
-        if let Some(written) = in_single_quotes(alloc, &rest[..len])? {
+        let (before, rest) = text.split_at(found.at);
+        let (token, after) = rest.split_at(first_token(rest, mode).1);
+        if before.last() != Some(&b'"')
+            && after.first() != Some(&b'"')
+            && let Some(written) = in_single_quotes(alloc, token)?
+        {
             return format!(in alloc; "{}: {}", found.construct, written);
         }
     }

@@ -27,12 +27,10 @@ pub fn in_single_quotes(alloc: Global, token: &[u8]) -> Result<Option<String>, A
         return Ok(None);
     };
     let mut text = String::from_str(alloc, "'")?;
-    let mut before = b' ';
+    let mut is_escaped = false;
     for byte in inside {
-        let (is_escaped, is_second) = (before == b'\\', before == b'"');
         match *byte {
             b'\\' if !is_escaped => (),
-            b'"' if is_second => (),
             b'\'' if !is_escaped => text.push_str("''")?,
             letter => {
                 if is_escaped && letter != b'"' {
@@ -41,8 +39,7 @@ pub fn in_single_quotes(alloc: Global, token: &[u8]) -> Result<Option<String>, A
                 text.push(char::from(letter))?;
             }
         }
-        // The second byte of a pair begins none.
-        before = if is_escaped || is_second { b' ' } else { *byte };
+        is_escaped = !is_escaped && *byte == b'\\';
     }
     text.push('\'')?;
     Ok(Some(text))
