@@ -108,6 +108,14 @@ fn add_rows(
     }
 }
 
+// The query with what ends a statement: what servers read in different ways there, as `.e--` before
+// the newline, they would read so in the script.
+fn ended_text(alloc: Global, query: &[u8]) -> Result<Vec<u8>, AllocError> {
+    let mut ended = Vec::from_slice(alloc, query)?;
+    ended.extend_from_slice(b"\n;\n")?;
+    Ok(ended)
+}
+
 /// Writes the query once for each row of the table.
 pub fn rows(rt: &HostRuntime, matches: &ArgMatches<'_>) -> Result<(), Complaint> {
     let request = request_of(rt.alloc(), matches)?;
@@ -116,7 +124,8 @@ pub fn rows(rt: &HostRuntime, matches: &ArgMatches<'_>) -> Result<(), Complaint>
     let mut sources = Sources::new(rt.alloc());
     let query = read_query(&mut sources, rt, matches.get_str("query").unwrap_or("-"))?;
     let fixed = values_of(&mut sources, rt, matches)?;
-    if let Err(failure) = check_query(rt.alloc(), query.bytes.as_slice(), request) {
+    let ended = ended_text(rt.alloc(), query.bytes.as_slice())?;
+    if let Err(failure) = check_query(rt.alloc(), ended.as_slice(), request) {
         let values = Values::new(rt.alloc());
         return Err(complaint_of(rt.alloc(), &query, &values, request, failure)?);
     }
