@@ -14,8 +14,8 @@ Commands:
 
 QUERY is a file. Without QUERY, or if it is -, it is standard input.
 
-Values (bind, rows). NAME[:TYPE] is a name of the query without its colon; TYPE
-is text unless given:
+Values (bind, rows). NAME[:TYPE] is a name of the query without its colon, of a
+to z, 0 to 9 and _; TYPE is text unless given:
       --set NAME[:TYPE]=VALUE    VALUE itself. Others see it in `ps`
       --file NAME[:TYPE]=PATH    the whole of a file
       --env NAME[:TYPE][=VAR]    the variable VAR (without =VAR, one named NAME)
@@ -71,10 +71,12 @@ wrong or a source can't be read; 3 a write failed, and a beginning may have been
 written; 4 out of memory. With 1, 2 and 4 nothing was written (rows --stream:
 the statements of the rows before).
 
-Example:
+Examples:
   mysql_bind bind --set id:int=42 --env token=API_TOKEN -o bound.sql q.sql &&
       mysql --comments --skip-force --skip-binary-mode --skip-named-commands \\
           --default-character-set=utf8mb4 shop < bound.sql
+  mysql_bind rows --csv t.csv --column id:int --transaction -o bound.sql q.sql
+  mysql_bind check --errors=github sql/*.sql
 ";
 
 /// The line of `--version`.

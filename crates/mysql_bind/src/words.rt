@@ -100,7 +100,9 @@ fn usage_text(kind: ErrorKind) -> &'static str {
         ErrorKind::ArgumentConflict =>
             "an option that is taken once is given twice (mysql_bind --help)",
         ErrorKind::TooManyValues => "a flag takes no value (mysql_bind --help)",
-        _ => "a word is not one that this command takes (mysql_bind --help)",
+        _ =>
+            "a word is not one that this command takes: a second QUERY, or an option of none or of \
+             another command (mysql_bind --help)",
     }
 }
 
