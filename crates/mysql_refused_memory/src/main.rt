@@ -17,6 +17,7 @@ mod query_cases;
 mod read_cases;
 mod rows_cases;
 mod steady_cases;
+mod table_cases;
 mod value_cases;
 mod wire_cases;
 mod written_cases;
@@ -84,6 +85,9 @@ fn query_case(alloc: Global, name: &str) -> Option<Case> {
         return Some(case);
     }
     if let Some(case) = rows_cases::case(alloc, name) {
+        return Some(case);
+    }
+    if let Some(case) = table_cases::case(alloc, name) {
         return Some(case);
     }
     archive_cases::case(alloc, name)
