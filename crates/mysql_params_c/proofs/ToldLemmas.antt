@@ -6,6 +6,9 @@ use Rattle.mysql_flat_params.specs.declared.outcome.Outcome.TheVariants.{Done, O
 use Rattle.mysql_flat_fragments.specs.FragmentsOutcomes as fragments
 use Rattle.mysql_flat_fragments.specs.declared.outcome.FragmentsOutcome.{FragmentsOutcome}
 use Rattle.mysql_flat_fragments.specs.declared.outcome.FragmentsOutcome.TheVariants.{AsValues, Fault, UnsteadyFragment}
+use Rattle.mysql_flat_params.specs.PlaceTable as table
+use Rattle.mysql_flat_params.specs.declared.place_table.TableOutcome.{TableOutcome}
+use Rattle.mysql_flat_params.specs.declared.place_table.TableOutcome.TheVariants.{AsQuery, OtherTable}
 
 -- the number of an outcome stands in 32 bits as it is
 pub number_kept : (outcome : Outcome) → to_z w32 (of_z w32 (pos (number_of outcome))) ≡ pos (number_of outcome)
@@ -40,3 +43,9 @@ pub fragments_written_told : (outcome : FragmentsOutcome) (P : ℕ → Type 0) �
 fragments_written_told (AsValues outcome) P zero done = written_told outcome P zero done
 fragments_written_told (Fault place fault) P zero done = cc
 fragments_written_told (UnsteadyFragment place) P zero done = cc
+
+-- .. and of one of binding by a table
+pub table_written_told : (outcome : TableOutcome) (P : ℕ → Type 0) →
+    to_z w32 (of_z w32 (pos (table.number_of outcome))) ≡ pos 0 → table.IfDone outcome P → P (table.report_of outcome).len
+table_written_told (AsQuery outcome) P zero done = written_told outcome P zero done
+table_written_told OtherTable P zero done = cc

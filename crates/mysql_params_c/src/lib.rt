@@ -19,6 +19,8 @@ ghost use Rattle.mysql_flat_params.specs.BoundRows.{AreBoundRows, IsRowsOutcome}
 ghost use Rattle.mysql_flat_params.specs.FlatForm.{HasFirstParameter};
 ghost use Rattle.mysql_flat_params.specs.IntoRoom.{IfMixed, IsBindOutcome, IsBoundForm, IsNamesAnswer, IsNamesOutcome};
 ghost use Rattle.mysql_flat_params.specs.Outcomes.{IsTold, number_of};
+ghost use Rattle.mysql_flat_params.specs.PlaceTable as table;
+ghost use Rattle.mysql_flat_params.specs.PlaceTable.{IsMadeTable, IsTableBindOutcome, IsTableOf, IsTableOutcome};
 ghost use Rattle.mysql_flat_params.specs.declared.outcome.Outcome as outcome;
 ghost use Rattle.mysql_flat_fragments.specs.FragmentsAnywhereIntoRoom as anywhere_fragments;
 ghost use Rattle.mysql_flat_fragments.specs.FragmentsIntoRoom as fragments;
@@ -32,8 +34,9 @@ ghost use Rattle.mysql_named_params.specs.Tokens.{OnTokens};
 
 use mysql_flat_fragments::{bind_fragments_anywhere_into, bind_fragments_into};
 use mysql_flat_params::{
-    Report, Rows, bind_anywhere_into, bind_in_both_modes_into, bind_into, bind_rows_into,
-    names_into, report_first_unportable, report_first_unportable_in_client,
+    PlaceSpan, Report, Rows, TableHead, bind_anywhere_into, bind_by_table_into,
+    bind_in_both_modes_into, bind_into, bind_rows_into, names_into, report_first_unportable,
+    report_first_unportable_in_client, table_into,
 };
 use std::alloc::Global;
 
@@ -227,6 +230,75 @@ pub extern "C" fn mysql_params_bind_rows(
 {
     let (bound, outcome) = bind_rows_into(alloc, query, forms, no_backslash_escape, room);
     *rows = bound;
+    *report = outcome.report();
+    outcome.number()
+}
+
+/// Makes the table of the query's places, to bind by it as often as wanted:
+/// [`table_into`](mysql_flat_params::table_into).
+///
+/// Returns 0 (`Done`) with the number of the places in the report's `len`: then `head` is the
+/// table's, and so many items at the front of the room are its places. It returns 2 (`Room`) with
+/// the number of the places in `len`, or, for a query with places, 1 (`OutOfMemory`); after both
+/// head and room are as before. The flag is true if the connection's `sql_mode` has
+/// `NO_BACKSLASH_ESCAPES`.
+#[unsafe(no_mangle)]
+pub extern "C" fn mysql_params_table(
+    alloc: Global,
+    query: &[u8],
+    no_backslash_escape: bool,
+    head: &mut TableHead,
+    room: &mut [PlaceSpan],
+    report: &mut Report,
+) -> i32
+    ensures outcome { IsTold result report.new (IsTableOutcome no_backslash_escape query.now) }
+    ensures made { result ≡ pos 0 → IsMadeTable no_backslash_escape query.now head.new
+        room.old room.new report.new.len }
+    ensures too_long { result ≡ pos 2 → length room.old < report.new.len }
+    ensures unchanged { result ≢ pos 0 → (head.new ≡ head.old) × (room.new ≡ room.old) }
+{
+    let outcome = table_into(alloc, query, no_backslash_escape, head, room);
+    *report = outcome.report();
+    outcome.number()
+}
+
+/// Binds into the query what the form says by the query's table, and writes the text to the front
+/// of the room: [`bind_by_table_into`](mysql_flat_params::bind_by_table_into).
+///
+/// With the table that [`mysql_params_table`] made of this query with this flag, it returns what
+/// [`mysql_params_bind`] returns, and the report has the same fields. Of any other table it returns
+/// 20 (`OtherTable`) if the query can't have it, else any of those numbers; it writes nothing
+/// behind the text, and at each number but 0 the room is as before.
+#[unsafe(no_mangle)]
+pub extern "C" fn mysql_params_bind_template(
+    alloc: Global,
+    query: &[u8],
+    head: &TableHead,
+    places: &[PlaceSpan],
+    form: &[u8],
+    no_backslash_escape: bool,
+    room: &mut [u8],
+    report: &mut Report,
+) -> i32
+    ensures outcome { table.IsTold result report.new (λ told.
+        IsTableOf head.now places.now no_backslash_escape query.now →
+        IsTableBindOutcome no_backslash_escape query.now form.now told) }
+    ensures written { IsTableOf head.now places.now no_backslash_escape query.now →
+        result ≡ pos 0 →
+        IsBoundForm no_backslash_escape query.now form.now (take report.new.len room.new) }
+
+    // The empty form over a query with a name and a mark is refused without allocating.
+    ensures mixed { IsTableOf head.now places.now no_backslash_escape query.now → form.now ≡ [] →
+        IfMixed no_backslash_escape query.now (result ≡ pos 8) }
+
+    // A form that is refused for its first parameter is refused without allocating.
+    ensures memory { result ≡ pos 1 → (form.now ≡ []) ⊎ HasFirstParameter form.now }
+    ensures rest { result ≡ pos 0 → (report.new.len ≤ length room.old)
+        × (drop report.new.len room.new ≡ drop report.new.len room.old) }
+    ensures too_long { result ≡ pos 2 → length room.old < report.new.len }
+    ensures unchanged { result ≢ pos 0 → room.new ≡ room.old }
+{
+    let outcome = bind_by_table_into(alloc, query, *head, places, form, no_backslash_escape, room);
     *report = outcome.report();
     outcome.number()
 }
