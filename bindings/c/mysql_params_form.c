@@ -505,6 +505,8 @@ static const char *fixed_message(int32_t number)
         return "out of memory";
     case MYSQL_PARAMS_MIXED:
         return "Named and positional params in one query";
+    case MYSQL_PARAMS_OTHER_TABLE:
+        return "The table is that of another query";
     case MYSQL_PARAMS_NAMED_FOR_POSITIONAL:
         return "Named params given where positional params are expected";
     case MYSQL_PARAMS_POSITIONAL_FOR_NAMED:
@@ -755,6 +757,90 @@ int32_t mysql_params_bind_fragments_anywhere_form(const uint8_t *query, size_t q
                                                   char **text, mysql_params_report *report)
 {
     return bind_into_memory(bind_in_no_mode, query, query_len, form, false, text, report);
+}
+
+/* A query and its table, in one block: the places and the query's bytes follow the fields. */
+struct mysql_params_template {
+    mysql_params_table_head head;
+    size_t places_len;
+    size_t query_len;
+    bool no_backslash_escape;
+};
+
+/* Returns the places of a template, which stand after its fields. */
+static const mysql_params_place *places_of(const mysql_params_template *made)
+{
+    const void *after = made + 1;
+    return (const mysql_params_place *)after;
+}
+
+/* Returns the query of a template, which stands after its places. */
+static const uint8_t *query_of(const mysql_params_template *made)
+{
+    const void *after = places_of(made) + made->places_len;
+    return (const uint8_t *)after;
+}
+
+mysql_params_template *mysql_params_template_new(const uint8_t *query, size_t query_len, bool no_backslash_escape)
+{
+    mysql_params_table_head head = {0, 0, 0, 0, 0, 0};
+    mysql_params_place none = {0, 0};
+    mysql_params_report report = {0, 0, 0, 0, 0, 0};
+    size_t places_len = 0;
+    /* With no room it tells the number of the places. A query has at most as many places as bytes. */
+    int32_t number = mysql_params_table(query, query_len, no_backslash_escape, &head, &none, 0, &report);
+    if (number == MYSQL_PARAMS_ROOM)
+        places_len = report.len;
+    else if (number != MYSQL_PARAMS_DONE)
+        return NULL;
+    if (places_len > (PTRDIFF_MAX - sizeof(mysql_params_template) - query_len) / sizeof(mysql_params_place))
+        return NULL;
+    size_t len = sizeof(mysql_params_template) + places_len * sizeof(mysql_params_place) + query_len;
+    mysql_params_template *made = (mysql_params_template *)malloc(len);
+    if (made == NULL)
+        return NULL;
+    memset(made, 0, len);
+    made->places_len = places_len;
+    made->query_len = query_len;
+    made->no_backslash_escape = no_backslash_escape;
+    void *places = made + 1;
+    void *copy = (mysql_params_place *)places + places_len;
+    memcpy(copy, query, query_len);
+    if (mysql_params_table((uint8_t *)copy, query_len, no_backslash_escape, &made->head, (mysql_params_place *)places,
+                           places_len, &report) == MYSQL_PARAMS_DONE)
+        return made;
+    free(made);
+    return NULL;
+}
+
+void mysql_params_template_free(mysql_params_template *made)
+{
+    free(made);
+}
+
+int32_t mysql_params_template_bind(const mysql_params_template *made, const uint8_t *form, size_t form_len,
+                                   uint8_t *room, size_t room_len, mysql_params_report *report)
+{
+    return mysql_params_bind_template(query_of(made), made->query_len, &made->head, places_of(made), made->places_len,
+                                      form, form_len, made->no_backslash_escape, room, room_len, report);
+}
+
+/* Binds to a template, to which `query` points. */
+static int32_t bind_made(const uint8_t *query, size_t query_len, const uint8_t *form, size_t form_len,
+                         bool no_backslash_escape, uint8_t *room, size_t room_len, mysql_params_report *report)
+{
+    const void *made = query;
+    (void)query_len;
+    (void)no_backslash_escape;
+    return mysql_params_template_bind((const mysql_params_template *)made, form, form_len, room, room_len, report);
+}
+
+int32_t mysql_params_template_bind_form(const mysql_params_template *made, const mysql_params_form *form, char **text,
+                                        mysql_params_report *report)
+{
+    const void *as_query = made;
+    return bind_into_memory(bind_made, (const uint8_t *)as_query, made->query_len, form, made->no_backslash_escape, text,
+                            report);
 }
 
 bool mysql_params_processor_suffices(void)

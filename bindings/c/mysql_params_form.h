@@ -148,6 +148,26 @@ int32_t mysql_params_bind_fragments_anywhere_form(const uint8_t *query, size_t q
 int32_t mysql_params_bind_form(const uint8_t *query, size_t query_len, const mysql_params_form *form,
                                bool no_backslash_escape, char **text, mysql_params_report *report);
 
+/* A query whose places were found once, to bind it many times: it owns a copy of the query, and doesn't change after it
+ * was made, so that many threads may bind it at once. */
+typedef struct mysql_params_template mysql_params_template;
+
+/* Makes a template of a query in the mode of the flag, which is that of mysql_params_bind: in one block of `malloc`. Give
+ * it back by mysql_params_template_free. Null if there is no memory. */
+mysql_params_template *mysql_params_template_new(const uint8_t *query, size_t query_len, bool no_backslash_escape);
+
+/* Gives back a template, which no call may be binding. Does nothing to null. */
+void mysql_params_template_free(mysql_params_template *made);
+
+/* Binds as mysql_params_bind does to the template's query: it returns the same numbers, and writes the same reports and
+ * texts. `form` and `room` are as there. */
+int32_t mysql_params_template_bind(const mysql_params_template *made, const uint8_t *form, size_t form_len,
+                                   uint8_t *room, size_t room_len, mysql_params_report *report);
+
+/* Binds as mysql_params_bind_form does to the template's query. */
+int32_t mysql_params_template_bind_form(const mysql_params_template *made, const mysql_params_form *form, char **text,
+                                        mysql_params_report *report);
+
 /* Appends a row to the forms of mysql_params_bind_rows: a form as a length-encoded string. `forms` is set up as a form is,
  * and has nothing else appended. Returns as the functions above. It appends no row that lacks a parameter, whose own
  * `needed` isn't its `len`: then `needed` of `forms` is SIZE_MAX. The row doesn't overlap the room. */

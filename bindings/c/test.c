@@ -100,8 +100,9 @@ typedef struct outcome {
     size_t room_len;
 } outcome;
 
-/* The call to try: of names, of binding values or fragments in a mode, or of binding for any server or both modes. */
-static enum { NAMES, BIND, BIND_FRAGMENTS, BIND_ANYWHERE, BIND_IN_BOTH_MODES, BIND_FRAGMENTS_ANYWHERE } tried;
+/* The call to try: of names, of binding values, by a template or not, or fragments in a mode, or of binding for any server
+ * or both modes. */
+static enum { NAMES, BIND, BIND_TEMPLATE, BIND_FRAGMENTS, BIND_ANYWHERE, BIND_IN_BOTH_MODES, BIND_FRAGMENTS_ANYWHERE } tried;
 
 /* How many allocations of a call succeed: all of them. */
 enum { ALL = -1 };
@@ -115,11 +116,17 @@ static outcome call(const test_case *it, size_t room_len, long allocations)
     if (is.room == NULL)
         exit(2);
     memset(is.room, UNTOUCHED, room_len > 0 ? room_len : 1);
+    bool mode = it->no_backslash_escape;
+    mysql_params_template *made = mysql_params_template_new(query, it->query.len, mode);
+    /* It has a copy of the query. */
+    if (tried == BIND_TEMPLATE && it->query.len > 0)
+        memset(query, '?', it->query.len);
     long before = blocks;
     allocation_refused = false;
     allocations_left = allocations;
-    bool mode = it->no_backslash_escape;
-    if (tried == NAMES)
+    if (tried == BIND_TEMPLATE)
+        is.number = mysql_params_template_bind(made, form, it->form.len, is.room, room_len, &is.report);
+    else if (tried == NAMES)
         is.number = mysql_params_names(query, it->query.len, mode, is.room, room_len, &is.report);
     else if (tried == BIND_ANYWHERE)
         is.number = mysql_params_bind_anywhere(query, it->query.len, form, it->form.len, is.room, room_len, &is.report);
@@ -136,6 +143,7 @@ static outcome call(const test_case *it, size_t room_len, long allocations)
         is.number = mysql_params_bind(query, it->query.len, form, it->form.len, mode, is.room, room_len, &is.report);
     allocations_left = ALL;
     expect(blocks == before, it, "memory isn't given back");
+    mysql_params_template_free(made);
     free(query);
     free(form);
     return is;
@@ -196,6 +204,14 @@ static void table_of_binding(void)
 {
     tried = BIND;
     each_case(folder, "bind.txt", try_rooms);
+}
+
+/* A template gives what mysql_params_bind gives. */
+static void templates(void)
+{
+    tried = BIND_TEMPLATE;
+    each_case(folder, "bind.txt", try_rooms);
+    each_case(folder, "forms.txt", try_rooms);
 }
 
 static void table_of_steady_binding(void)
@@ -715,6 +731,136 @@ static void forms_of_lists(void)
     mysql_params_form_free(&form);
 }
 
+/* A query, and the table that RULES gives it. */
+static const uint8_t tabled_query[] = "SELECT :id, :name, x:id";
+static const mysql_params_table_head tabled_head = {3, 0, 1, 2, 20, 12};
+static const mysql_params_place tabled_places[] = {{7, 3}, {2, 5}, {3, 3}};
+enum { TABLED_LEN = sizeof tabled_query - 1, TABLED_PLACES = 3 };
+
+/* The table of a query stands in a room that is long enough; a shorter one is told how many places there are, and is as
+ * before. */
+static void tables(void)
+{
+    test_case it = {0};
+    for (size_t room_len = 0; room_len <= TABLED_PLACES + 1; room_len++) {
+        mysql_params_place room[TABLED_PLACES + 1], untouched = {9, 9};
+        mysql_params_table_head head = {9, 9, 9, 9, 9, 9}, before = head;
+        mysql_params_report report = {9, 9, 9, 9, 9, 9}, wanted = {TABLED_PLACES, 0, 0, 0, 0, 0};
+        it.line = (int)room_len;
+        for (size_t i = 0; i <= TABLED_PLACES; i++)
+            room[i] = untouched;
+        int32_t number = mysql_params_table(tabled_query, TABLED_LEN, false, &head, room, room_len, &report);
+        bool fits = room_len >= TABLED_PLACES;
+        expect(number == (fits ? MYSQL_PARAMS_DONE : MYSQL_PARAMS_ROOM), &it, "another number is wanted");
+        expect(same_report(&report, &wanted), &it, "the number of places is wanted");
+        expect(memcmp(&head, fits ? &tabled_head : &before, sizeof head) == 0, &it, "another head is wanted");
+        for (size_t i = 0; i <= TABLED_PLACES; i++)
+            expect(memcmp(&room[i], fits && i < TABLED_PLACES ? &tabled_places[i] : &untouched, sizeof untouched) == 0, &it,
+                   "another place is wanted");
+    }
+}
+
+/* Binds by a table in blocks of exactly their length. */
+static outcome bind_by_table(const uint8_t *query, size_t query_len, const mysql_params_table_head *head,
+                             const mysql_params_place *places, size_t places_len, size_t room_len)
+{
+    static const uint8_t form[] = {2, 'i', 'd', 8, 0, 1, 0, 0, 0, 0, 0, 0, 0, 4, 'n', 'a', 'm', 'e', 253, 0, 1, 'x'};
+    outcome is = {-1, {9, 9, 9, 9, 9, 9}, malloc(room_len > 0 ? room_len : 1), room_len};
+    uint8_t *copy = exact_copy((bytes){(uint8_t *)query, query_len});
+    mysql_params_place *table = malloc(places_len > 0 ? places_len * sizeof *table : 1);
+    if (is.room == NULL || table == NULL)
+        exit(2);
+    memset(is.room, UNTOUCHED, room_len > 0 ? room_len : 1);
+    if (places_len > 0)
+        memcpy(table, places, places_len * sizeof *table);
+    is.number = mysql_params_bind_template(copy, query_len, head, table, places_len, form, sizeof form, false, is.room,
+                                           room_len, &is.report);
+    free(copy);
+    free(table);
+    return is;
+}
+
+/* Tables that the query can't have are told, and those that it could have give something within the room. */
+static void other_tables(void)
+{
+    static const uint8_t alone[] = "SELECT :id, :name, x :id";
+    static const char *const text = "SELECT 1, 'x', x 1";
+    mysql_params_table_head head = {3, 0, 0, 0, 0, 13}, others[5];
+    mysql_params_place places[] = {{7, 3}, {2, 5}, {4, 3}};
+    test_case it = {0};
+    outcome is = bind_by_table(alone, sizeof alone - 1, &head, places, 3, 18);
+    expect(is.number == MYSQL_PARAMS_DONE && is.report.len == 18 && memcmp(is.room, text, 18) == 0, &it, "a text is wanted");
+    free(is.room);
+    for (size_t i = 0; i < 5; i++)
+        others[i] = head;
+    others[0].names = 2;
+    others[1].marks = 1;
+    others[2].piece_bytes = 12;
+    others[3].names = SIZE_MAX;
+    others[4].marks = SIZE_MAX - 2;
+    for (size_t i = 0; i < 5; i++) {
+        is = bind_by_table(alone, sizeof alone - 1, &others[i], places, 3, 64);
+        it.line = (int)i;
+        expect(is.number == MYSQL_PARAMS_OTHER_TABLE && is.report.len == 0, &it, "another table's head is bound by");
+        expect(is_untouched(is.room, 0, 64), &it, "the room is written");
+        free(is.room);
+    }
+    static const size_t numbers[] = {0, 1, 2, 3, 5, 7, 23, 24, 25, SIZE_MAX, SIZE_MAX - 1, SIZE_MAX / 2};
+    for (size_t i = 0; i < 6 * 12 * 12; i++) {
+        mysql_params_place table[3] = {{7, 3}, {2, 5}, {4, 3}};
+        size_t *numbered = i % 2 == 0 ? &table[i / 2 % 3].before : &table[i / 2 % 3].len;
+        *numbered = numbers[i / 6 % 12];
+        table[2].len = i / 72 < 3 ? table[2].len : numbers[i / 72 % 12];
+        it.line = (int)i;
+        is = bind_by_table(alone, sizeof alone - 1, &head, table, 3, 18);
+        bool same = memcmp(table, places, sizeof table) == 0;
+        expect(!same || is.number == MYSQL_PARAMS_DONE, &it, "the own table is refused");
+        expect(is.number == MYSQL_PARAMS_DONE || is_untouched(is.room, 0, 18), &it, "a refusal writes");
+        free(is.room);
+    }
+    /* A table of as many places and bytes, of which one isn't a name of the query. */
+    mysql_params_place shifted[] = {{6, 3}, {3, 5}, {4, 3}};
+    is = bind_by_table(alone, sizeof alone - 1, &head, shifted, 3, 64);
+    expect(is.number == MYSQL_PARAMS_OTHER_TABLE, &it, "a name that the query doesn't have is told");
+    free(is.room);
+}
+
+/* A template that gets no memory, and one whose text stands in memory of malloc. */
+static void templates_in_memory(void)
+{
+    static const uint8_t query[] = "SELECT :id, :a";
+    test_case it = {0};
+    long before = blocks;
+    for (long allowed = 0;; allowed++) {
+        allocations_left = allowed;
+        allocation_refused = false;
+        mysql_params_template *made = mysql_params_template_new(query, sizeof query - 1, false);
+        allocations_left = ALL;
+        expect((made == NULL) == allocation_refused, &it, "memory is refused, or there is a template");
+        if (made == NULL) {
+            expect(blocks == before, &it, "memory is kept");
+            continue;
+        }
+        for (int round = 0; round < 2; round++) {
+            char *text = NULL;
+            mysql_params_report report = {9, 9, 9, 9, 9, 9};
+            mysql_params_form form = mysql_params_form_growing();
+            mysql_params_append_int(&form, "id", 42);
+            mysql_params_append_text(&form, "a", round == 0 ? "x" : "it's");
+            const char *wanted = round == 0 ? "SELECT 42, 'x'" : "SELECT 42, 'it\\'s'";
+            int32_t number = mysql_params_template_bind_form(made, &form, &text, &report);
+            expect(number == MYSQL_PARAMS_DONE && report.len == strlen(wanted) && strcmp(text, wanted) == 0, &it,
+                   "another text is wanted");
+            free(text);
+            mysql_params_form_free(&form);
+        }
+        mysql_params_template_free(made);
+        break;
+    }
+    mysql_params_template_free(NULL);
+    expect(blocks == before, &it, "memory is kept");
+}
+
 /* Answers that end within a string, or begin with no length. */
 static void broken_answers(void)
 {
@@ -766,7 +912,8 @@ static void other_messages(void)
         {MYSQL_PARAMS_FAULT, "Fragment at place 0 can't be written: unknown fault"},
         {MYSQL_PARAMS_BACKSLASH, "Backslash in a string at byte 0 of the query"},
         {MYSQL_PARAMS_UNSTEADY_FRAGMENT, "Fragment at place 0 has a name with a backslash or a byte that is not ASCII"},
-        {MYSQL_PARAMS_UNSTEADY_FRAGMENT + 1, "Unknown number 20"},
+        {MYSQL_PARAMS_OTHER_TABLE, "The table is that of another query"},
+        {MYSQL_PARAMS_OTHER_TABLE + 1, "Unknown number 21"},
         {-1, "Unknown number -1"},
     };
     mysql_params_report report = {0};
@@ -835,6 +982,9 @@ static void out_of_memory(void)
     tried = BIND;
     each_case(folder, "bind.txt", try_without_memory);
     each_case(folder, "forms.txt", try_without_memory);
+    tried = BIND_TEMPLATE;
+    each_case(folder, "bind.txt", try_without_memory);
+    each_case(folder, "forms.txt", try_without_memory);
     tried = BIND_FRAGMENTS;
     each_case(folder, "fragments.txt", try_without_memory);
     tried = BIND_FRAGMENTS_ANYWHERE;
@@ -875,6 +1025,10 @@ int main(int count, char **words)
     bool all = passed("table_of_binding", table_of_binding);
     all &= passed("table_of_steady_binding", table_of_steady_binding);
     all &= passed("flat_forms", flat_forms);
+    all &= passed("templates", templates);
+    all &= passed("tables", tables);
+    all &= passed("other_tables", other_tables);
+    all &= passed("templates_in_memory", templates_in_memory);
     all &= passed("table_of_fragments", table_of_fragments);
     all &= passed("table_of_steady_fragments", table_of_steady_fragments);
     all &= passed("forms_of_lists", forms_of_lists);
