@@ -23,6 +23,26 @@ struct Rows {
     written: usize,
 }
 
+/// A place of a query: `mysql_params_place` of mysql_params.h.
+#[repr(C)]
+#[derive(Clone, Copy, Debug, Default, PartialEq, Eq)]
+struct Place {
+    before: usize,
+    len: usize,
+}
+
+/// What a table says of all places: `mysql_params_table_head` of mysql_params.h.
+#[repr(C)]
+#[derive(Clone, Copy, Debug, Default, PartialEq, Eq)]
+struct TableHead {
+    names: usize,
+    marks: usize,
+    not_alone: usize,
+    place: usize,
+    position: usize,
+    piece_bytes: usize,
+}
+
 // SAFETY: types and order of the parameters are those of mysql_params.h.
 unsafe extern "C" {
     fn mysql_params_names(
@@ -37,6 +57,30 @@ unsafe extern "C" {
     fn mysql_params_bind(
         query: *const u8,
         query_len: usize,
+        form: *const u8,
+        form_len: usize,
+        no_backslash_escape: bool,
+        room: *mut u8,
+        room_len: usize,
+        report: *mut Report,
+    ) -> i32;
+
+    fn mysql_params_table(
+        query: *const u8,
+        query_len: usize,
+        no_backslash_escape: bool,
+        head: *mut TableHead,
+        places: *mut Place,
+        places_len: usize,
+        report: *mut Report,
+    ) -> i32;
+
+    fn mysql_params_bind_template(
+        query: *const u8,
+        query_len: usize,
+        head: *const TableHead,
+        places: *const Place,
+        places_len: usize,
         form: *const u8,
         form_len: usize,
         no_backslash_escape: bool,
@@ -139,6 +183,12 @@ pub(crate) enum Call<'a> {
     Names { query: &'a [u8] },
     /// A query and the form of its parameters.
     Bind { query: &'a [u8], form: &'a [u8] },
+    /// A query with its table, and the form of its parameters.
+    BindTemplate {
+        query: &'a [u8],
+        table: &'a Table,
+        form: &'a [u8],
+    },
     /// A query and the form of its fragments.
     BindFragments { query: &'a [u8], form: &'a [u8] },
     /// As `Bind`, for any server. It has no mode.
@@ -171,6 +221,22 @@ impl Call<'_> {
                 mysql_params_bind(
                     query.as_ptr(),
                     query.len(),
+                    form.as_ptr(),
+                    form.len(),
+                    no_backslash_escape,
+                    room.as_mut_ptr(),
+                    room.len(),
+                    &mut report,
+                )
+            },
+            // SAFETY: the same, and of the table's places and its head, which is borrowed.
+            Call::BindTemplate { query, table, form } => unsafe {
+                mysql_params_bind_template(
+                    query.as_ptr(),
+                    query.len(),
+                    &table.head,
+                    table.places.as_ptr(),
+                    table.places.len(),
                     form.as_ptr(),
                     form.len(),
                     no_backslash_escape,
@@ -237,6 +303,7 @@ impl Call<'_> {
         match self {
             Call::Names { query }
             | Call::Bind { query, .. }
+            | Call::BindTemplate { query, .. }
             | Call::BindFragments { query, .. }
             | Call::BindAnywhere { query, .. }
             | Call::BindInBothModes { query, .. }
@@ -248,6 +315,7 @@ impl Call<'_> {
     fn name(self, number: i32, report: &Report) -> Result<Vec<u8>, Error> {
         let source = match self {
             Call::Bind { form, .. }
+            | Call::BindTemplate { form, .. }
             | Call::BindFragments { form, .. }
             | Call::BindAnywhere { form, .. }
             | Call::BindInBothModes { form, .. }
@@ -379,6 +447,59 @@ impl Call<'_> {
             return Err(self.error_in(number, &report, no_backslash_escape));
         }
         written(room, &report)
+    }
+}
+
+/// The table of a query's places in a mode.
+#[derive(Clone, Debug, PartialEq, Eq)]
+pub(crate) struct Table {
+    head: TableHead,
+    places: Vec<Place>,
+}
+
+impl Table {
+    /// The table of a query in a mode.
+    pub(crate) fn of(query: &[u8], no_backslash_escape: bool) -> Result<Table, Error> {
+        if !processor_suffices() {
+            return Err(Error::Processor);
+        }
+        let mut table = Table {
+            head: TableHead::default(),
+            places: Vec::new(),
+        };
+        let (mut number, report) = table.make(query, no_backslash_escape);
+        if number == ROOM {
+            table
+                .places
+                .try_reserve_exact(report.len)
+                .map_err(|_| Error::OutOfMemory)?;
+            table.places.resize(report.len, Place::default());
+            (number, _) = table.make(query, no_backslash_escape);
+        }
+        match number {
+            DONE => Ok(table),
+            1 => Err(Error::OutOfMemory),
+            _ => Err(Error::UnknownAnswer { number }),
+        }
+    }
+
+    /// The number and the report of the call that makes it, if it has room for the places.
+    fn make(&mut self, query: &[u8], no_backslash_escape: bool) -> (i32, Report) {
+        let mut report = Report::default();
+        // SAFETY: each pointer is that of a slice with its length, and so not null, and all bytes have a value. The head, the
+        // places and the report are borrowed for writing alone, and so overlap nothing. The call keeps no pointer.
+        let number = unsafe {
+            mysql_params_table(
+                query.as_ptr(),
+                query.len(),
+                no_backslash_escape,
+                &mut self.head,
+                self.places.as_mut_ptr(),
+                self.places.len(),
+                &mut report,
+            )
+        };
+        (number, report)
     }
 }
 

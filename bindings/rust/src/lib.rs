@@ -32,6 +32,7 @@ mod fragment;
 mod macros;
 mod portable;
 mod rows;
+mod template;
 #[cfg(test)]
 mod tests;
 mod value;
@@ -42,6 +43,7 @@ pub use error::Error;
 pub use fragment::{Fault, Fragment, Fragments, Item};
 pub use portable::{Construct, Unportable};
 pub use rows::{RowError, Texts, TextsIter, bind_rows, bind_rows_in};
+pub use template::Template;
 pub use value::{Date, Params, Time, Value};
 
 use archive::{Call, copy_of};
@@ -55,7 +57,8 @@ const _: () = {
     const fn is_send_and_sync<T: Send + Sync>() {}
     is_send_and_sync::<(Construct, Date, Error, Names, Params<'_>)>();
     is_send_and_sync::<(Fault, Fragment<'_>, Fragments<'_>, Item<'_>)>();
-    is_send_and_sync::<(RowError, Texts, TextsIter<'_>, Time, Unportable, Value<'_>)>();
+    is_send_and_sync::<(RowError, Template, Texts, TextsIter<'_>)>();
+    is_send_and_sync::<(Time, Unportable, Value<'_>)>();
 };
 
 /// The names of a query.

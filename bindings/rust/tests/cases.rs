@@ -1,11 +1,11 @@
 //! The cases of bindings/cases, which say what they are in README.md there, and every value of one byte.
 use mysql_params::{
-    Construct, Date, Error, Fault, Fragment, Fragments, Item, Names, Params, RowError, Texts, Time,
-    Unportable, Value, bind, bind_anywhere, bind_form, bind_form_anywhere, bind_form_in,
-    bind_form_in_both_modes, bind_fragments, bind_fragments_anywhere, bind_fragments_in, bind_in,
-    bind_in_both_modes, bind_rows, bind_rows_in, bind_str, bind_str_in, first_unportable,
-    first_unportable_in, first_unportable_in_client, first_unportable_in_client_in, names,
-    names_in,
+    Construct, Date, Error, Fault, Fragment, Fragments, Item, Names, Params, RowError, Template,
+    Texts, Time, Unportable, Value, bind, bind_anywhere, bind_form, bind_form_anywhere,
+    bind_form_in, bind_form_in_both_modes, bind_fragments, bind_fragments_anywhere,
+    bind_fragments_in, bind_in, bind_in_both_modes, bind_rows, bind_rows_in, bind_str, bind_str_in,
+    first_unportable, first_unportable_in, first_unportable_in_client,
+    first_unportable_in_client_in, names, names_in,
 };
 use std::collections::HashMap;
 use std::path::Path;
@@ -362,6 +362,8 @@ fn table_of_binding() {
         let mode = case.no_backslash_escape;
         let result = with_params(&case, |params| bind_in(&case.query, params, mode));
         expect(&case, result);
+        let template = Template::new_in(&case.query, mode).expect(&case.at);
+        expect(&case, with_params(&case, |params| template.bind(params)));
         if !mode {
             let result = with_params(&case, |params| bind(&case.query, params));
             expect(&case, result);
@@ -571,6 +573,8 @@ fn flat_forms() {
     for case in cases("forms.txt") {
         let mode = case.no_backslash_escape;
         expect(&case, bind_form_in(&case.query, &case.form, mode));
+        let template = Template::new_in(&case.query, mode).expect(&case.at);
+        expect(&case, template.bind_form(&case.form));
         if !mode {
             expect(&case, bind_form(&case.query, &case.form));
         }

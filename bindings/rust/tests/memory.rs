@@ -1,6 +1,6 @@
 //! Memory refused to this crate after each number of allocations: the process goes on, and the call says so. The
 //! archive's own memory is C's, which isn't refused here.
-use mysql_params::{Error, Params, Texts, Value, bind, bind_rows, names};
+use mysql_params::{Error, Params, Template, Texts, Value, bind, bind_rows, names};
 use std::alloc::{GlobalAlloc, Layout, System};
 use std::cell::Cell;
 use std::fmt::Debug;
@@ -97,6 +97,16 @@ fn texts_without_memory() {
     let long = [("a", Value::Bytes(&[b'\''; 300]))];
     let query = vec![":a"; 100].join(",");
     survives(|| bind(query.as_bytes(), &Params::Named(&long)));
+}
+
+#[test]
+fn templates_without_memory() {
+    let query = vec![":a"; 100].join(",");
+    survives(|| Template::new(query.as_bytes()));
+    let template = Template::new(query.as_bytes()).expect("a template");
+    let pairs = [("a", "x' OR '1'='1".into())];
+    survives(|| template.bind(&Params::Named(&pairs)));
+    survives(|| template.bind(&Params::Named(&[("b", Value::Null)])));
 }
 
 /// The texts of rows; or the error of the one that is refused, before which each row has its text.
