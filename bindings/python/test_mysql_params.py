@@ -17,7 +17,8 @@ import unittest
 from unittest import mock
 
 import mysql_params
-from mysql_params import Construct, _archive, _form, _rows, bind, bind_anywhere, bind_form, bind_form_anywhere, bind_rows
+from mysql_params import Construct, Template, _archive, _form, _rows, _template
+from mysql_params import bind, bind_anywhere, bind_form, bind_form_anywhere, bind_rows
 from mysql_params import first_unportable, first_unportable_in_client, names
 from shared_cases import CASES, CONSTRUCTS, FIELDS, NUMBERS, cases, text_of
 
@@ -43,7 +44,8 @@ def literal(byte):
 def library_of(suffices: bool, *more: str) -> mock.Mock:
     """Return a library with the functions of the archive and more, on a processor that suffices or doesn't."""
     names = ("names", "bind", "bind_anywhere", "bind_rows", "first_unportable", "first_unportable_in_client")
-    names += ("bind_fragments", "bind_fragments_anywhere", "bind_in_both_modes", "processor_suffices")
+    names += ("bind_fragments", "bind_fragments_anywhere", "bind_in_both_modes")
+    names += ("bind_template", "processor_suffices", "table")
     library = mock.Mock(spec=[*(f"mysql_params_{name}" for name in names), *more])
     library.mysql_params_processor_suffices.return_value = suffices
     return library
@@ -77,12 +79,104 @@ class Test(unittest.TestCase):
     def test_table_of_binding(self):
         for case in cases("bind.txt"):
             self.expect(case, lambda: bind(case.query, case.given(), case.no_backslash_escape))
+            template = Template(case.query, case.no_backslash_escape)
+            for _ in range(2):
+                self.expect(case, lambda: template.bind(case.given()))
             if not case.no_backslash_escape:
                 self.expect(case, lambda: bind(case.query, case.given()))
+                self.expect(case, lambda: Template(case.query).bind(case.given()))
 
     def test_table_of_fragments(self):
         for case in cases("fragments.txt"):
             self.expect(case, lambda: bind(case.query, case.given(), case.no_backslash_escape))
+            self.expect(case, lambda: Template(case.query, case.no_backslash_escape).bind(case.given()))
+
+    def test_tables_that_are_kept(self):
+        """Every case, with a table that is kept of each query, also of a short one."""
+        tables = _archive.Tables(128, 1 << 23, 0)
+        with mock.patch.object(_archive, "TABLES", tables):
+            for _ in range(2):
+                for case in cases("bind.txt"):
+                    self.expect(case, lambda: bind(case.query, case.given(), case.no_backslash_escape))
+                for case in cases("forms.txt"):
+                    self.expect(case, lambda: bind_form(case.query, case.form, case.no_backslash_escape))
+        self.assertTrue(0 < len(tables.kept) <= 128)
+
+    def test_tables_that_are_let_go(self):
+        tables = _archive.Tables(2, 100, 3)
+        first = tables.of("? ?", False)
+        self.assertEqual((first.query, first.mode, first.count, first.size), (b"? ?", False, 2, 35))
+        self.assertIs(tables.of("? ?", False), first)
+        # Another mode, and bytes in place of a str, are another table.
+        self.assertIsNot(tables.of("? ?", True), first)
+        self.assertIsNot(tables.of(b"? ?", True), tables.of("? ?", True))
+        self.assertEqual(len(tables.kept), 2)
+        self.assertIsNot(tables.of("? ?", False), first)
+        # One that is asked for again stays.
+        kept = tables.of("aaa", False)
+        tables.of("bbb", False)
+        self.assertIs(tables.of("aaa", False), kept)
+        tables.of("ccc", False)
+        self.assertIs(tables.of("aaa", False), kept)
+        self.assertEqual({key[2] for key in tables.kept}, {"aaa", "ccc"})
+        # A longer one takes the place of both, and one that is too long is none.
+        self.assertEqual(tables.of("x" * 98, False).count, 0)
+        self.assertEqual((len(tables.kept), tables.size), (1, 98))
+        self.assertEqual(tables.of("?" * 90, False).count, 90)
+        self.assertEqual((len(tables.kept), tables.size), (1, 98))
+        self.assertIsNone(tables.of("x" * 101, False))
+        self.assertIsNone(tables.of("\u00e9", False))
+
+        class Text(str):
+            pass
+
+        for query, mode in (("??", False), (Text("? ?"), False), (bytearray(b"? ?"), False), ("? ?", 1), (None, False)):
+            self.assertIsNone(tables.of(query, mode))
+
+    def test_long_queries(self):
+        query = "SELECT ? /*" + "x" * 5000 + "*/"
+        for given in (query, query.encode()):
+            for number in (1, 2):
+                self.assertEqual(bind(given, [number]), query.replace("?", str(number)).encode())
+        self.assertRaises(mysql_params.MarkCountError, bind, query, [])
+        self.assertRaises(TypeError, bind, query, [1], 0)
+
+    def test_templates(self):
+        template = Template("'\\' :a '", True)
+        self.assertEqual((template.query, template.no_backslash_escape), (b"'\\' :a '", True))
+        self.assertEqual(template.bind({"a": 1}), b"'\\' 1 '")
+        self.assertEqual(Template("'\\' :a '").bind(), b"'\\' :a '")
+        for name in ("query", "no_backslash_escape", "other"):
+            with self.assertRaises(AttributeError):
+                setattr(template, name, b"")
+        self.assertRaises(TypeError, Template, 1)
+        self.assertRaises(TypeError, Template, "", 0)
+        self.assertRaises(UnicodeEncodeError, Template, "\ud800")
+        # It has a copy of the query.
+        query = bytearray(b"?, ?")
+        template = Template(query)
+        query[:] = b"xxxx"
+        self.assertEqual(template.bind([1, 2]), b"1, 2")
+
+    def test_threads_of_a_template(self):
+        template, wrong = Template("?, ?"), []
+        tables = _archive.Tables(2, 100, 0)
+
+        def work(number):
+            for row in range(200):
+                if template.bind([number, row]) != b"%d, %d" % (number, row):
+                    wrong.append(number)
+                query = f"? {row % 5}"
+                if tables.of(query, False).query != query.encode():
+                    wrong.append(query)
+
+        threads = [threading.Thread(target=work, args=(number,)) for number in range(4)]
+        for thread in threads:
+            thread.start()
+        for thread in threads:
+            thread.join()
+        self.assertEqual(wrong, [])
+        self.assertEqual(tables.size, sum(table.size for table in tables.kept.values()))
 
     def test_table_of_steady_binding(self):
         for case in cases("anywhere.txt"):
@@ -105,6 +199,7 @@ class Test(unittest.TestCase):
     def test_flat_forms(self):
         for case in cases("forms.txt"):
             self.expect(case, lambda: bind_form(case.query, case.form, case.no_backslash_escape))
+            self.expect(case, lambda: Template(case.query, case.no_backslash_escape).bind_form(case.form))
 
     def expect_rows(self, case, rows, *mode):
         """The rows have the texts that the case wants, each as by itself; or are refused after them."""
@@ -680,6 +775,7 @@ class Test(unittest.TestCase):
 
     def test_examples_of_the_documentation(self):
         self.assertEqual(doctest.testmod(mysql_params), (0, 8))
+        self.assertEqual(doctest.testmod(_template), (0, 2))
 
 
 class Result(unittest.TestResult):

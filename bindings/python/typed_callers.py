@@ -10,7 +10,7 @@ from collections import OrderedDict
 from typing import Any, Optional, Union
 
 import mysql_params
-from mysql_params import Identifier, Keyword, Params, Value
+from mysql_params import Identifier, Keyword, Params, Template, Value
 from mysql_params import bind, bind_anywhere, bind_form, bind_in_both_modes, bind_rows, first_unportable, names
 
 QUERY = "SELECT * FROM t WHERE id = :id AND name = :name"
@@ -44,6 +44,14 @@ def rows(idents: list[int], name: str) -> list[bytes]:
     bind_rows("?, ?", ((ident, name) for ident in idents))
     bind_rows(QUERY, [{"id": ident, "name": name} for ident in idents])
     return bind_rows("SELECT 1", [None, None], no_backslash_escape=True)
+
+
+def template(ident: int, name: str) -> tuple[bytes, bool, bytes]:
+    """Bind a template."""
+    made = Template(QUERY, no_backslash_escape=True)
+    made.bind_form(b"")
+    made.bind()
+    return made.query, made.no_backslash_escape, made.bind({"id": ident, "name": name}, zone=datetime.timezone.utc)
 
 
 def by_position(ident: int, name: str, given: Params) -> bytes:

@@ -29,6 +29,7 @@ from . import _archive, _form
 from ._fragments import KEYWORDS, Identifier, Keyword, fragments_form_of
 from ._many import execute_rows, executemany
 from ._sending import DelimiterError, PacketError, SessionError, ask_again, exec_driver_sql, execute
+from ._template import Template
 from ._values import decimal_text, register
 from .errors import (
     BackslashError,
@@ -85,6 +86,7 @@ __all__ = [
     "PositionalForNamedError",
     "RepeatedNameError",
     "SessionError",
+    "Template",
     "Unportable",
     "UnportableError",
     "UnsteadyError",
@@ -225,8 +227,9 @@ def bind(
     FragmentError, as for an empty list or rows of two lengths. In place of any of them, and of a text,
     OutOfMemoryError.
     """
-    query, (form, fragments) = _form.bytes_of(query), fragments_form_of(params, zone)
-    return _archive.whole_answer(query, form, no_backslash_escape, _guess(query, form), fragments)
+    query, table = _archive.with_table(query, no_backslash_escape)
+    form, fragments = fragments_form_of(params, zone)
+    return _archive.bound(query, table, form, no_backslash_escape, fragments)
 
 
 def bind_form(query: Union[str, bytes], form: bytes, no_backslash_escape: bool = False) -> bytes:
@@ -234,8 +237,8 @@ def bind_form(query: Union[str, bytes], form: bytes, no_backslash_escape: bool =
 
     Raise a FormError for the first parameter that can't be taken; then as bind.
     """
-    query, form = _form.bytes_of(query), _form.copy(form)
-    return _archive.whole_answer(query, form, no_backslash_escape, _guess(query, form))
+    query, table = _archive.with_table(query, no_backslash_escape)
+    return _archive.bound(query, table, _form.copy(form), no_backslash_escape)
 
 
 def bind_anywhere(
@@ -263,7 +266,7 @@ def bind_anywhere(
 def bind_form_anywhere(query: Union[str, bytes], form: bytes) -> bytes:
     """Bind parameters that stand in their flat form already, as for bind_form, to a text as of bind_anywhere."""
     query, form = _form.bytes_of(query), _form.copy(form)
-    return _archive.whole_answer(query, form, _archive.ANYWHERE, _guess(query, form))
+    return _archive.bound(query, None, form, _archive.ANYWHERE)
 
 
 def bind_in_both_modes(
@@ -286,12 +289,7 @@ def bind_in_both_modes(
 def bind_form_in_both_modes(query: Union[str, bytes], form: bytes) -> bytes:
     """Bind parameters that stand in their flat form already, as for bind_form, to a text as of bind_in_both_modes."""
     query, form = _form.bytes_of(query), _form.copy(form)
-    return _archive.whole_answer(query, form, _archive.BOTH_MODES, _guess(query, form))
-
-
-def _guess(query: bytes, form: bytes) -> int:
-    """Return the room of a first call that binds: a literal of bytes has at most twice their number, and quotes."""
-    return len(query) + 2 * len(form) + 64
+    return _archive.bound(query, None, form, _archive.BOTH_MODES)
 
 
 def bind_rows(query: Union[str, bytes], rows: Iterable[Params], no_backslash_escape: bool = False) -> list[bytes]:

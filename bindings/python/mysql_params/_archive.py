@@ -6,6 +6,8 @@ import ctypes
 import enum
 import os
 import pathlib
+import threading
+from collections import OrderedDict
 from collections.abc import Iterable
 from typing import Optional, Union
 
@@ -52,6 +54,18 @@ class Rows(ctypes.Structure):
     written: int
 
 
+class Head(ctypes.Structure):
+    """What a table says of all places: mysql_params_table_head of mysql_params.h."""
+
+    _fields_ = [
+        (name, ctypes.c_size_t) for name in ("names", "marks", "not_alone", "place", "position", "piece_bytes")
+    ]
+
+
+PLACE = 2 * ctypes.sizeof(ctypes.c_size_t)
+"""The bytes of a place of a query in a table: mysql_params_place of mysql_params.h."""
+
+
 def load() -> ctypes.CDLL:
     """Load the library, with the types of its functions. Raise ImportError if it can't be used."""
     beside = pathlib.Path(__file__).resolve().parent / "libmysql_params_c.so"
@@ -67,6 +81,11 @@ def load() -> ctypes.CDLL:
         library.mysql_params_names.restype = ctypes.c_int32
         library.mysql_params_bind.argtypes = (*string, *string, ctypes.c_bool, *answer)
         library.mysql_params_bind.restype = ctypes.c_int32
+        table = (ctypes.c_void_p, ctypes.c_void_p, ctypes.c_size_t)
+        library.mysql_params_table.argtypes = (*string, ctypes.c_bool, *table, ctypes.POINTER(Report))
+        library.mysql_params_table.restype = ctypes.c_int32
+        library.mysql_params_bind_template.argtypes = (*string, *table, *string, ctypes.c_bool, *answer)
+        library.mysql_params_bind_template.restype = ctypes.c_int32
         library.mysql_params_bind_fragments.argtypes = library.mysql_params_bind.argtypes
         library.mysql_params_bind_fragments.restype = ctypes.c_int32
         library.mysql_params_bind_anywhere.argtypes = (*string, *string, *answer)
@@ -109,6 +128,78 @@ def flag(mode: Union[bool, Anywhere]) -> bool:
     raise TypeError(f"no_backslash_escape is True or False, and not {mode!r}")
 
 
+class Table:
+    """A query and the table of its places in a mode. Nothing changes it once it is made, so threads may bind by it at once."""
+
+    __slots__ = ("query", "mode", "count", "size", "_head", "_places")
+
+    def __init__(self, query: bytes, mode: bool) -> None:
+        """Make it. Raise OutOfMemoryError."""
+        self.query, self.mode, self.count = query, flag(mode), 0
+        number, report = self._make()
+        if number == ROOM:
+            self.count = report.len
+            number, report = self._make()
+        if number != DONE:
+            raise error(number, report, query, b"")
+        self.size = len(query) + PLACE * self.count
+
+    def _make(self) -> tuple[int, Report]:
+        """Return the number and the report of the call that makes it in new room for so many places.
+
+        What is made of a bytearray holds it where it is. It has a byte more, so that there is a first one.
+        """
+        self._head, self._places = Head(), ctypes.c_char.from_buffer(new_room(PLACE * self.count))
+        report, query = Report(), self.query
+        number = LIBRARY.mysql_params_table(query, len(query), self.mode, *self.pointers(), ctypes.byref(report))
+        return int(number), report
+
+    def pointers(self) -> tuple[int, int, int]:
+        """Return the pointers of the head and the places, which last as long as this, and the number of the places."""
+        return ctypes.addressof(self._head), ctypes.addressof(self._places), self.count
+
+
+class Tables:
+    """Tables of the last queries that were long, each by the query as it was given."""
+
+    def __init__(self, most: int, size: int, least: int) -> None:
+        """Keep so many tables at most, of so many bytes in all with their queries, of queries of at least so many bytes."""
+        self.most, self.room, self.least = most, size, least
+        self.size = 0
+        self.kept: OrderedDict[tuple[bool, bool, Union[str, bytes]], Table] = OrderedDict()
+        self.lock = threading.Lock()
+
+    def of(self, query: object, mode: object) -> Optional[Table]:
+        """Return the table of a query in a mode; None if none is kept of such a query."""
+        if type(query) is not str and type(query) is not bytes or type(mode) is not bool:
+            return None
+        if len(query) < self.least or len(query) > self.room:
+            return None
+        key = (type(query) is str, mode, query)
+        with self.lock:
+            found = self.kept.get(key)
+            if found is not None:
+                self.kept.move_to_end(key)
+                return found
+        made = Table(_form.bytes_of(query), mode)
+        if made.size <= self.room:
+            self._keep(key, made)
+        return made
+
+    def _keep(self, key: tuple[bool, bool, Union[str, bytes]], made: Table) -> None:
+        """Keep a table, and as many of the last ones as there is room for."""
+        with self.lock:
+            before = self.kept.pop(key, None)
+            self.size += made.size - (0 if before is None else before.size)
+            self.kept[key] = made
+            while len(self.kept) > self.most or self.size > self.room:
+                self.size -= self.kept.popitem(last=False)[1].size
+
+
+TABLES = Tables(128, 1 << 23, 1 << 12)
+"""The tables by which bind and execute bind. A short query is walked in less time than its table is found."""
+
+
 def call(
     query: bytes,
     form: Optional[bytes],
@@ -116,11 +207,13 @@ def call(
     room: bytearray,
     room_len: int,
     fragments: bool = False,
+    table: Optional[Table] = None,
 ) -> tuple[int, Report]:
     """Bind the form, or take the names if it is None, into the room. Return the number and the report.
 
     The mode is True without backslash escapes, and ANYWHERE or BOTH_MODES to bind for any server. The form may have more than values
-    if `fragments` says so. The room is longer than `room_len`, so that it has a first byte.
+    if `fragments` says so. The table, if there is one, is that of the query in the mode. The room is longer than `room_len`,
+    so that it has a first byte.
 
     A pointer is never null: that of a bytes object isn't, also of an empty one.
     """
@@ -134,6 +227,10 @@ def call(
         number = bind(query, len(query), form, len(form), *answer)
     elif mode is BOTH_MODES:
         number = LIBRARY.mysql_params_bind_in_both_modes(query, len(query), form, len(form), *answer)
+    elif table is not None and not fragments:
+        number = LIBRARY.mysql_params_bind_template(
+            query, len(query), *table.pointers(), form, len(form), flag(mode), *answer
+        )
     else:
         bind = LIBRARY.mysql_params_bind_fragments if fragments else LIBRARY.mysql_params_bind
         number = bind(query, len(query), form, len(form), flag(mode), *answer)
@@ -152,22 +249,43 @@ def new_room(length: int) -> bytearray:
 
 
 def whole_answer(
-    query: bytes, form: Optional[bytes], mode: Union[bool, Anywhere], guess: int, fragments: bool = False
+    query: bytes,
+    form: Optional[bytes],
+    mode: Union[bool, Anywhere],
+    guess: int,
+    fragments: bool = False,
+    table: Optional[Table] = None,
 ) -> bytes:
     """Return the whole answer: asked for in a room of a guessed length, and again in one of the length needed."""
     try:
         room = new_room(guess)
     except OutOfMemoryError:
         guess, room = 0, new_room(0)  # The answer may be far shorter than the guess, and then there is room for it.
-    number, report = call(query, form, mode, room, guess, fragments)
+    number, report = call(query, form, mode, room, guess, fragments, table)
     if number == ROOM:
         guess, room = report.len, new_room(report.len)
-        number, report = call(query, form, mode, room, guess, fragments)
+        number, report = call(query, form, mode, room, guess, fragments, table)
     if number != DONE:
         raise refusal(number, report, query, form or b"", mode)
     if report.len > guess:
         raise RuntimeError(f"the archive says that it wrote {report.len} bytes, and had room for {guess}")
     return bytes(memoryview(room)[: report.len])
+
+
+def with_table(query: object, mode: object) -> tuple[bytes, Optional[Table]]:
+    """Return the bytes of a query as it was given, and its table in the mode if such tables are kept."""
+    table = TABLES.of(query, mode)
+    return (_form.bytes_of(query), None) if table is None else (table.query, table)
+
+
+def bound(
+    query: bytes, table: Optional[Table], form: bytes, mode: Union[bool, Anywhere], fragments: bool = False
+) -> bytes:
+    """Return the text of a query and its table, if there is one.
+
+    The first room is a guess: a literal of bytes has at most twice their number, and quotes.
+    """
+    return whole_answer(query, form, mode, len(query) + 2 * len(form) + 64, fragments, table)
 
 
 def construct_of(number: int) -> Construct:

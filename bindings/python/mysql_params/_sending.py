@@ -206,7 +206,7 @@ def _bound(
     form, fragments = fragments_form_of(params, zone)
     told = told_for(connection, query, always_ask)
     mode = told.no_backslash_escape
-    text = _archive.whole_answer(query, form, mode, len(query) + 2 * len(form) + 64, fragments)
+    text = _archive.bound(query, _archive.TABLES.of(query, mode), form, mode, fragments)
     refusal = told.refusal(text)
     if refusal is not None:
         raise refusal

@@ -1,0 +1,49 @@
+"""A query whose places are found once."""
+
+from __future__ import annotations
+
+import datetime
+from typing import Optional, Union
+
+from . import _archive, _form
+from ._fragments import fragments_form_of
+
+
+class Template:
+    """A query whose names and marks are found once, to bind it many times: it gives what bind gives.
+
+    It keeps a copy of the query, and nothing changes it, so that threads may bind it at once. bind keeps the tables of the
+    last long queries by itself; a template is for a query that shouldn't be asked for, or found to be another, each time.
+
+        >>> template = Template("SELECT * FROM t WHERE id = ?")
+        >>> [template.bind([number]) for number in (1, 2)]
+        [b'SELECT * FROM t WHERE id = 1', b'SELECT * FROM t WHERE id = 2']
+    """
+
+    __slots__ = ("_table",)
+
+    def __init__(self, query: Union[str, bytes], no_backslash_escape: bool = False) -> None:
+        """Find the places of a query. The flag is that of bind. Raise OutOfMemoryError.
+
+        A query that can't be bound is refused when it is bound.
+        """
+        self._table = _archive.Table(_form.bytes_of(query), no_backslash_escape)
+
+    @property
+    def query(self) -> bytes:
+        """The query."""
+        return self._table.query
+
+    @property
+    def no_backslash_escape(self) -> bool:
+        """The mode for which the query is read and its values are written."""
+        return self._table.mode
+
+    def bind(self, params: object = None, *, zone: Optional[datetime.tzinfo] = None) -> bytes:
+        """Return what bind returns for the query in its mode, and raise what it raises."""
+        form, fragments = fragments_form_of(params, zone)
+        return _archive.bound(self._table.query, self._table, form, self._table.mode, fragments)
+
+    def bind_form(self, form: bytes) -> bytes:
+        """Return what bind_form returns for the query in its mode, and raise what it raises."""
+        return _archive.bound(self._table.query, self._table, _form.copy(form), self._table.mode)
