@@ -1,8 +1,7 @@
 //! The archive's templates.
 
 use crate::archive::number_and_report;
-use plain::room::{DONE, Report};
-use std::marker::PhantomData;
+use plain::room::{DONE, ROOM, Report};
 
 /// A place of a query.
 #[repr(C)]
@@ -12,106 +11,100 @@ struct Place {
     len: usize,
 }
 
-/// A query and its places, in memory of the caller's.
+/// What a table says of all places.
 #[repr(C)]
-pub struct Fields {
-    query: *const u8,
-    query_len: usize,
-    places: *const Place,
-    places_len: usize,
+#[derive(Clone, Copy, Default)]
+struct Head {
     names: usize,
     marks: usize,
+    not_alone: usize,
+    place: usize,
+    position: usize,
     piece_bytes: usize,
-    not_alone: bool,
-    not_alone_place: usize,
-    not_alone_position: usize,
-    no_backslash_escape: bool,
 }
 
 #[link(name = "mysql_params_c", kind = "static")]
 unsafe extern "C" {
-    fn mysql_params_template_of(
+    fn mysql_params_table(
         query: *const u8,
         query_len: usize,
         no_backslash_escape: bool,
+        head: *mut Head,
         places: *mut Place,
         places_len: usize,
-        template: *mut Fields,
         report: *mut Report,
     ) -> i32;
     fn mysql_params_bind_template(
-        template: *const Fields,
+        query: *const u8,
+        query_len: usize,
+        head: *const Head,
+        places: *const Place,
+        places_len: usize,
         form: *const u8,
         form_len: usize,
+        no_backslash_escape: bool,
         room: *mut u8,
         room_len: usize,
         report: *mut Report,
     ) -> i32;
 }
 
-/// A template of the archive, with its places.
+/// A query and its table.
 pub struct Template<'q> {
-    fields: Fields,
-    /// The memory to which the fields point.
-    _places: Vec<Place>,
-    _query: PhantomData<&'q [u8]>,
+    query: &'q [u8],
+    no_backslash_escape: bool,
+    head: Head,
+    places: Vec<Place>,
 }
 
 impl<'q> Template<'q> {
     pub fn new(query: &'q [u8], no_backslash_escape: bool) -> Template<'q> {
-        let (_, report) = places_of(query, no_backslash_escape, &mut []);
-        let mut places = vec![Place { before: 0, len: 0 }; report.len];
-        let (fields, _) = places_of(query, no_backslash_escape, &mut places);
-        Template { fields, _places: places, _query: PhantomData }
+        let (head, places) = (Head::default(), Vec::new());
+        let mut template = Template { query, no_backslash_escape, head, places };
+        let (number, report) = template.make();
+        if number == ROOM {
+            template.places = vec![Place { before: 0, len: 0 }; report.len];
+            assert_eq!(template.make().0, DONE);
+        }
+        template
+    }
+
+    /// Makes the table, if it has room for the places.
+    fn make(&mut self) -> (i32, Report) {
+        let (places, places_len) = (self.places.as_mut_ptr(), self.places.len());
+        // SAFETY: the pointers and lengths are those of slices; head, places and report are the
+        // archive's to write.
+        number_and_report(|report| unsafe {
+            mysql_params_table(
+                self.query.as_ptr(),
+                self.query.len(),
+                self.no_backslash_escape,
+                &mut self.head,
+                places,
+                places_len,
+                report,
+            )
+        })
     }
 
     pub fn bind(&self, form: &[u8], room: &mut [u8]) -> (i32, Report) {
         let (form_at, room_at) = (form.as_ptr(), room.as_mut_ptr());
-        // SAFETY: the fields are a template that the archive wrote, whose query and places stand
-        // unchanged; the others are slices, and the report is the archive's to write.
+        // SAFETY: the pointers and lengths are those of slices, and the room and the report are the
+        // archive's to write.
         number_and_report(|report| unsafe {
             mysql_params_bind_template(
-                &self.fields,
+                self.query.as_ptr(),
+                self.query.len(),
+                &self.head,
+                self.places.as_ptr(),
+                self.places.len(),
                 form_at,
                 form.len(),
+                self.no_backslash_escape,
                 room_at,
                 room.len(),
                 report,
             )
         })
     }
-}
-
-/// The template in these places. If they are too few, the template of the empty query, with the
-/// number of places in the report's `len`.
-fn places_of(query: &[u8], no_backslash_escape: bool, places: &mut [Place]) -> (Fields, Report) {
-    let mut fields = Fields {
-        query: b"".as_ptr(),
-        query_len: 0,
-        places: places.as_ptr(),
-        places_len: 0,
-        names: 0,
-        marks: 0,
-        piece_bytes: 0,
-        not_alone: false,
-        not_alone_place: 0,
-        not_alone_position: 0,
-        no_backslash_escape,
-    };
-    let (query_at, places_at, places_len) = (query.as_ptr(), places.as_mut_ptr(), places.len());
-    // SAFETY: the pointers and lengths are those of slices; template and report are the archive's
-    // to write.
-    let (number, report) = number_and_report(|report| unsafe {
-        mysql_params_template_of(
-            query_at,
-            query.len(),
-            no_backslash_escape,
-            places_at,
-            places_len,
-            &mut fields,
-            report,
-        )
-    });
-    assert!(number == DONE || report.len > places_len);
-    (fields, report)
 }

@@ -19,7 +19,7 @@ pub struct Report {
 }
 
 pub const DONE: i32 = 0;
-const ROOM: i32 = 2;
+pub const ROOM: i32 = 2;
 const FORM_END: i32 = 3;
 const FORM_LENGTH_LEAD: i32 = 4;
 const FORM_TYPE: i32 = 5;
