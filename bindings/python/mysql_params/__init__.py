@@ -260,7 +260,7 @@ def bind_anywhere(
     b"SELECT _utf8mb4'it''s', _utf8mb4 0xC3A9"
     """
     query, (form, fragments) = _form.bytes_of(query), fragments_form_of(params, zone)
-    return _archive.whole_answer(query, form, _archive.ANYWHERE, _guess(query, form), fragments)
+    return _archive.bound(query, None, form, _archive.ANYWHERE, fragments)
 
 
 def bind_form_anywhere(query: Union[str, bytes], form: bytes) -> bytes:
