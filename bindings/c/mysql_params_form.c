@@ -787,16 +787,16 @@ mysql_params_template *mysql_params_template_new(const uint8_t *query, size_t qu
     mysql_params_place none = {0, 0};
     mysql_params_report report = {0, 0, 0, 0, 0, 0};
     size_t places_len = 0;
-    /* With no room it tells the number of the places. A query has at most as many places as bytes. */
+    /* With no room it tells the number of the places. */
     int32_t number = mysql_params_table(query, query_len, no_backslash_escape, &head, &none, 0, &report);
     if (number == MYSQL_PARAMS_ROOM)
         places_len = report.len;
     else if (number != MYSQL_PARAMS_DONE)
         return NULL;
-    if (places_len > (PTRDIFF_MAX - sizeof(mysql_params_template) - query_len) / sizeof(mysql_params_place))
+    if (places_len > PTRDIFF_MAX / sizeof(mysql_params_place))
         return NULL;
-    size_t len = sizeof(mysql_params_template) + places_len * sizeof(mysql_params_place) + query_len;
-    mysql_params_template *made = (mysql_params_template *)malloc(len);
+    size_t len = sum(sum(sizeof(mysql_params_template), query_len), places_len * sizeof(mysql_params_place));
+    mysql_params_template *made = len > PTRDIFF_MAX ? NULL : (mysql_params_template *)malloc(len);
     if (made == NULL)
         return NULL;
     memset(made, 0, len);
