@@ -1,6 +1,9 @@
 //! The first construct for which a query isn't portable, as a number and a report.
 use crate::shared::{WITH_BACKSLASHES, WITHOUT_BACKSLASHES, same_in};
-use mysql_flat_params::{Report, report_first_unportable, report_first_unportable_in_client};
+use mysql_flat_params::{
+    Report, construct_number, report_first_unportable, report_first_unportable_in_client,
+};
+use mysql_named_params::portable::Construct;
 
 /// Queries, and in either mode the number and the position of their first construct: none is 0.
 /// `bindings/cases/portable.txt` has more, which run through the archive.
@@ -113,5 +116,34 @@ fn first_constructs_in_a_client(rt: HostRuntime) {
             let wanted = (*number, report_of(*position));
             same_in(&rt, (told, report), wanted, &(query, mode));
         }
+    }
+}
+
+/// Each construct and its number, in the order of the rows of RULES.
+const NUMBERS: &[(Construct, u8)] = &[
+    (Construct::ExecutableComment, 1),
+    (Construct::Hint, 2),
+    (Construct::MariaDbComment, 3),
+    (Construct::Dashes, 4),
+    (Construct::EscapedQuote, 5),
+    (Construct::Bracket, 6),
+    (Construct::DollarQuote, 7),
+    (Construct::DashesAfterExponent, 8),
+    (Construct::PlaceAfterExponent, 9),
+    (Construct::OpenerInComment, 10),
+    (Construct::JoiningComment, 11),
+    (Construct::DashesBeforeComment, 12),
+    (Construct::ClientCommand, 13),
+    (Construct::DashInFront, 14),
+    (Construct::Delimiter, 15),
+    (Construct::ClientWord, 16),
+    (Construct::EscapedNewline, 17),
+    (Construct::ZeroByte, 18),
+];
+
+#[test]
+fn numbers_of_constructs(rt: HostRuntime) {
+    for (construct, number) in NUMBERS {
+        same_in(&rt, construct_number(*construct), *number, construct);
     }
 }
