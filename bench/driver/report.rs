@@ -27,6 +27,11 @@ fn processor() -> String {
     format!("{count} x {name}")
 }
 
+/// A ratio. One of 10 or more is left out: the sides don't do the same, as where one only copies a short query.
+fn told(ratio: f64) -> String {
+    if ratio < 10.0 { format!("{ratio:.2}") } else { "-".to_owned() }
+}
+
 impl Report {
     pub fn new() -> Report {
         Report { source: String::new(), load: load(), tables: String::new() }
@@ -46,7 +51,7 @@ impl Report {
     /// memory is given back.
     pub fn ratios(&mut self, input: &Input, kept: &[f64], given_back: &[f64]) {
         let mut cells: Vec<String> =
-            kept[1..].iter().map(|time| format!("{:.2}", kept[0] / time)).collect();
+            kept[1..].iter().map(|time| told(kept[0] / time)).collect();
         if input.last_differs
             && let Some(last) = cells.last_mut()
         {
