@@ -1,8 +1,8 @@
 -- What servers read alike in a text with a newline at its end, they read so whatever follows.
-use Rattle.std.specs.Prelude.{Bool, codes, drop}
+use Rattle.std.specs.Prelude.{Bool, codes, cond, drop}
 use Rattle.std.proofs.Common.{◌≡◌, ◌+◌, ◌++◌, ◌==◌, ◌&&◌, ◌||◌, not, ℕ, true, false, List, [], ◌∷◌, map, inl, inr, refl, sym, ap, ◌∙◌, subst, append_assoc, true≢false}
 use Rattle.std.specs.Str.{byte}
-use Rattle.std.proofs.lemmas.Bool.{cases_Bool, and_from, and_parts, and_left, and_right, or_cases, or_right}
+use Rattle.std.proofs.lemmas.Bool.{and_from, and_parts, and_left, and_right, or_cases, or_right}
 use Rattle.mysql_named_params.specs.Bytes.{asterisk, colon, dash, exclamation_mark, newline, plus, question_mark, slash, is_start_byte, begins}
 use Rattle.mysql_named_params.specs.Tokens.{Token, text_of, text_then, QuotedString, HashComment, DashComment, BlockComment, Plain}
 use Rattle.mysql_named_params.specs.Server.{begins_place, begins_tag, begins_dashes, begins_exponent_dashes, begins_fraction, begins_own, begins_special}
@@ -137,16 +137,18 @@ module _ (more : List ℕ) where
   -- ---- a line
 
   last_more : (t : Token) → AreReadAlikeBefore [] (then_newline t) → AreReadAlikeBefore more (then_newline t)
-  last_more (HashComment tail) h =
-      elim (cases_Bool (has_newline tail)) [
-        | inl e ↦ rw e (refl, (refl, tt))
-        | inr e ↦ rw e (refl, tt)
-      ]
-  last_more (DashComment gap tail) h =
-      elim (cases_Bool (has_newline tail)) [
-        | inl e ↦ rw e (refl, (refl, tt))
-        | inr e ↦ rw e (refl, tt)
-      ]
+  last_more (HashComment tail) h = go (has_newline tail) h
+    where
+      go : (n : Bool) → AreReadAlikeBefore [] (cond n (HashComment tail ∷ Plain newline ∷ []) (HashComment (tail ++ newline ∷ []) ∷ [])) →
+          AreReadAlikeBefore more (cond n (HashComment tail ∷ Plain newline ∷ []) (HashComment (tail ++ newline ∷ []) ∷ []))
+      go true g = (g.0, (refl, tt))
+      go false g = (g.0, tt)
+  last_more (DashComment gap tail) h = go (has_newline tail) h
+    where
+      go : (n : Bool) → AreReadAlikeBefore [] (cond n (DashComment gap tail ∷ Plain newline ∷ []) (DashComment gap (tail ++ newline ∷ []) ∷ [])) →
+          AreReadAlikeBefore more (cond n (DashComment gap tail ∷ Plain newline ∷ []) (DashComment gap (tail ++ newline ∷ []) ∷ []))
+      go true g = (g.0, (refl, tt))
+      go false g = (g.0, tt)
   last_more t h = (token_more t [] h.0, (refl, tt))
 
   line_more : (ts : List Token) → AreReadAlike (with_newline ts) → AreReadAlikeBefore more (with_newline ts)

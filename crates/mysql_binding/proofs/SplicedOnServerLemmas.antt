@@ -8,10 +8,10 @@ use Rattle.std.proofs.Common.{◌≡◌, ◌++◌, ℕ, true, List, [], ◌∷�
 use Rattle.std.proofs.lemmas.Bool.{cases_Bool}
 use Rattle.mysql_named_params.specs.Bytes.{asterisk, dash, newline, slash, space, colon, question_mark}
 use Rattle.mysql_named_params.specs.Tokens.{Token, IsToken, IsTokens, bytes_of, text_of, text_then, AreTokensBefore, BlockComment, DashComment, Name, Mark, Plain}
-use Rattle.mysql_named_params.specs.Server.{Server, executed, comment, comment_of, block_on, IsBlockTail, usual_block, own_block, opens_line, IsTokenOn, AreTokensOn, IsReadOn}
+use Rattle.mysql_named_params.specs.Server.{Server, executed, comment, comment_of, block_on, IsBlockTail, usual_block, own_block, ended_tail, opens_line, IsTokenOn, AreTokensOn, IsReadOn}
 use Rattle.mysql_named_params.specs.Portable.{is_read_alike, AreReadAlikeBefore, IsReadAs, read_all, read_same, read_empty_comment, read_skipped, read_executed}
 use Rattle.mysql_named_params.specs.Quiet.{IsQuietComment, IsHonest, DecidesWithin, plain_then}
-use Rattle.mysql_named_params.proofs.PortableLemmas.{NoEmptyComment, token_on, empty_line, special_more}
+use Rattle.mysql_named_params.proofs.PortableLemmas.{NoEmptyComment, token_on, special_more}
 use Rattle.mysql_named_params.proofs.ServerTokenLemmas.{comment_by}
 use Rattle.mysql_named_params.proofs.QuietLemmas.{AreQuiet, each_quiet, plain_text, row_on, read_text, block_ways, opener_on, star_on, usual_token, opens_text, whole_comment, quiet_kind, quiet_row, portable_read}
 use Rattle.mysql_named_params.proofs.SharpLemmas.{plain_none_on, after_row, after_row_on}
@@ -44,7 +44,7 @@ dash_stays server mode t before x y h a d more e =
     let m = empty_move a more e in
     let h' : IsTokenOn server mode (Plain dash) (dash ∷ newline ∷ m.0) = subst (λ u. IsTokenOn server mode (Plain dash) u) (sym m.1) (subst (λ u. IsTokenOn server mode u x) d h) in
     elim (cases_Bool (opens_line server newline)) [
-      | inl o ↦ absurd (h' (DashComment newline []) m.0 (o, empty_line m.0) refl)
+      | inl o ↦ absurd (h' (DashComment newline []) m.0 (o, ended_tail refl refl) refl)
       | inr o ↦ o
     ]
 
@@ -174,7 +174,7 @@ places_on server honest within mode before (read_same {t = t} {ts = ts} {us = us
     p.0 h.1 p.1 s (subst (IsTokenOn server mode t) (read_text r) o.0) in
     (subst (IsTokenOn server mode t) (sym (replaced_alike r lists)) there, places_on server honest within mode (last_byte before (bytes_of t)) r lists o.1 h.1 p.1 s q)
 places_on server honest within mode before (read_empty_comment {ts = ts} {us = us} r) lists o h p s q =
-    ((o.0.0, empty_line _), places_on server honest within mode newline r lists o.1 h.1.1.1 p.1.1.1 s q)
+    ((o.0.0, ended_tail refl refl), places_on server honest within mode newline r lists o.1 h.1.1.1 p.1.1.1 s q)
 places_on server honest within mode before (read_skipped {ts = ts} {us = us} tail c r) lists o h p s q =
     let h' : AreTokensBefore mode [] ts = after_row mode tail ts h.1.1 in
     let p' : AreReadAlikeBefore [] ts = after_alike tail ts p.1.1 in

@@ -6,7 +6,7 @@ use Rattle.std.specs.Char.{is_ascii_digit}
 use Rattle.std.specs.Str.{byte}
 use Rattle.std.proofs.lemmas.Bool.{eqb-true, not-true, or_cases, or_parts, or_from, and_parts, false_from_ne_true}
 use Rattle.std.proofs.lemmas.Bool.Decides.{nat_tests}
-use Rattle.mysql_named_params.specs.Bytes.{asterisk, backquote, colon, dash, hash, newline, question_mark, slash, is_white_space, is_start_byte, is_string_quote, is_extension, begins, plus, bracket, dollar, point}
+use Rattle.mysql_named_params.specs.Bytes.{asterisk, backquote, colon, dash, hash, newline, question_mark, slash, space, is_start_byte, is_string_quote, is_extension, begins, plus, bracket, dollar, point}
 use Rattle.mysql_named_params.specs.Tokens.{Token, IsToken, bytes_of, QuotedString, QuotedIdentifier, HashComment, DashComment, BlockComment, Name, Mark, Plain}
 use Rattle.mysql_named_params.specs.FirstToken.{opens_dash_comment, opens_block_comment}
 use Rattle.mysql_named_params.specs.TokensOf.{not_plain_at}
@@ -198,12 +198,13 @@ star_move (same a) e = e
 star_move (at_place {before = c} {y = y} p l) e = splice_no_star c y l
 
 gap_closed : (b w : ℕ) → ((b == dash) ≡ true → keeps_dashes w ≡ true) →
-    (b == dash && not (is_white_space w || keeps_dashes w)) ≡ false
-gap_closed b w f = false_if (b == dash) _ (λ e. go (is_white_space w) (keeps_dashes w) (f e))
+    (b == dash && not (w == space || (w == newline || keeps_dashes w))) ≡ false
+gap_closed b w f = false_if (b == dash) _ (λ e. go (w == space) (w == newline) (keeps_dashes w) (f e))
   where
-    go : (c d : Bool) → d ≡ true → not (c || d) ≡ false
-    go true d e = refl
-    go false d e = ap not e
+    go : (s l k : Bool) → k ≡ true → not (s || (l || k)) ≡ false
+    go true l k e = refl
+    go false true k e = refl
+    go false false k e = ap not e
 
 splice_no_line : (before : ℕ) (y : List ℕ) → opens_nothing_after before y ≡ true → may_open_line y ≡ false
 splice_no_line before [] h = refl

@@ -5,7 +5,7 @@ use Rattle.std.proofs.Common.{◌≡◌, ◌+◌, ◌++◌, ◌==◌, ◌&&◌, 
 use Rattle.std.specs.Char.{is_ascii_alphabetic, is_ascii_digit}
 use Rattle.std.specs.List.{list_all}
 use Rattle.std.specs.Str.{byte}
-use Rattle.std.proofs.lemmas.Bool.{and_parts, and_from, cases_Bool, eqb-true, false_from_ne_true}
+use Rattle.std.proofs.lemmas.Bool.{and_parts, and_from, cases_Bool, eqb-true, false_from_ne_true, or_from, or_parts}
 use Rattle.std.proofs.lemmas.Bool.Decides.{nat_tests}
 use Rattle.std.proofs.lemmas.List.{nil_from_length}
 use Rattle.mysql_sql_text.specs.LiteralEnd.{continues_literal}
@@ -13,15 +13,15 @@ use Rattle.mysql_sql_text.specs.LiteralShape.{AreDigits, IsLiteral}
 use Rattle.mysql_named_params.specs.Bytes.{backquote, colon, dash, point, question_mark, space, underscore, is_start_byte, HoldsOnlyAtEnd, IsUpTo, up_to_word}
 use Rattle.mysql_named_params.specs.Tokens.{Token, IsToken, AreTokensBefore, text_of, text_then, bytes_of, QuotedIdentifier, Name, Mark, Plain}
 use Rattle.mysql_named_params.specs.Places.{names, marks, place_count}
-use Rattle.mysql_named_params.specs.Server.{begins_fraction}
-use Rattle.mysql_named_params.proofs.PortableLemmas.{is_alike_on_all}
+use Rattle.mysql_named_params.specs.Server.{begins_fraction, escapes_backquote}
+use Rattle.mysql_named_params.proofs.PortableLemmas.{false_if, is_alike_on_all}
 use Rattle.mysql_named_params.proofs.TokenEnds.{plain_at}
 use Rattle.mysql_named_params.proofs.TokenRowLemmas.{text_then-append, text_then-text_of, text_of-append, AreTokensBefore-append, names-append, marks-append, place_count-append, place_count-sum}
 use Rattle.mysql_binding.specs.StandsAlone.{may_stand_before, may_stand_after, none_or_first, none_or_last, first_not_alone_from}
 use Rattle.mysql_binding.proofs.ByteTestLemmas.{behind_ends}
 use Rattle.mysql_binding.proofs.LiteralTokenLemmas.{AreSettledBefore, AreSettledBefore-append, no_double, plain_tokens, other, plain_text, plain_places, plain_before, plain_settled, is_alphanumeric-plain, alphanumeric_portable, alphanumeric_single, is_alphanumeric, AreDigits-alphanumeric, minus_plain, minus_portable, minus_single, digits_open_nothing, minus_opens_nothing, IsLiteral-cut, IsLiteral-opens_nothing}
 use Rattle.mysql_binding.proofs.UpToSpliceLemmas.{joins_nothing, opens_nothing_after}
-use Rattle.mysql_fragments.specs.FragmentFaults.{is_keyword, is_keyword_from}
+use Rattle.mysql_fragments.specs.FragmentFaults.{escapes_end, is_keyword, is_keyword_from}
 use Rattle.mysql_fragments.specs.FragmentShape.{IsIdentifier, one_name, more_names, IsFragment, mark_fragment, literal_fragment, decimal_fragment, negative_decimal_fragment, identifier_fragment, keyword_fragment, list_fragment, row_fragment}
 use Rattle.mysql_fragments.specs.FragmentText.{doubled, identifier_text}
 
@@ -239,33 +239,50 @@ record IsQuotedRun (mode : Bool) (run name : List ℕ) (list : List Token) : Typ
   run_settled : (rest : List ℕ) → AreSettledBefore rest list
   run_places : place_count list ≡ 0
 
+-- the run up to its backquote, if what follows it in the name is nothing or a backquote
+run_plain : (run ys : List ℕ) → none_or_first (λ c. c == backquote) ys ≡ true → escapes_end (run ++ ys) ≡ false →
+    escapes_backquote (run ++ backquote ∷ []) ≡ false
+run_plain [] ys f h = refl
+run_plain (b ∷ []) ys f h =
+    let p = or_parts (b == byte "\\" && none_or_first (λ c. c == backquote) ys) (escapes_end ys) h in
+    false_if (not (b == backquote)) _ (λ e. or_from _ _ (rw f at p.0) refl)
+run_plain (b ∷ c ∷ run) ys f h =
+    let p = or_parts (b == byte "\\" && c == backquote) (escapes_end (c ∷ (run ++ ys))) h in
+    false_if (not (b == backquote)) _ (λ e. or_from _ _ p.0 (run_plain (c ∷ run) ys f p.1))
+
+-- what follows a byte of a name
+later_plain : (run : List ℕ) (b : ℕ) (bs : List ℕ) → escapes_end (run ++ b ∷ bs) ≡ false → escapes_end bs ≡ false
+later_plain [] b bs h = (or_parts (b == byte "\\" && none_or_first (λ c. c == backquote) bs) (escapes_end bs) h).1
+later_plain (x ∷ run) b bs h =
+    later_plain run b bs ((or_parts (x == byte "\\" && none_or_first (λ c. c == backquote) (run ++ b ∷ bs)) (escapes_end (run ++ b ∷ bs)) h).1)
+
 doubled_quote : (b : ℕ) (bs : List ℕ) → (b == backquote) ≡ true → doubled (b ∷ bs) ≡ b ∷ b ∷ doubled bs
 doubled_quote b bs e = rw e refl
 
 doubled_other : (b : ℕ) (bs : List ℕ) → (b == backquote) ≡ false → doubled (b ∷ bs) ≡ b ∷ doubled bs
 doubled_other b bs e = rw e refl
 
-quoted_run : (mode : Bool) (run name : List ℕ) → list_all not_quote run ≡ true →
+quoted_run : (mode : Bool) (run name : List ℕ) → list_all not_quote run ≡ true → escapes_end (run ++ name) ≡ false →
     IsQuotedRun mode run name (identifier_tokens run name)
 unfolding identifier_tokens
-quoted_run mode run [] all = record {
+quoted_run mode run [] all plain = record {
   run_text = append-nil (backquote ∷ (run ++ backquote ∷ []));
   run_tokens = λ rest. (quoted_before mode run rest all, tt);
-  run_settled = λ rest. (refl, refl, tt);
+  run_settled = λ rest. (ap not (run_plain run [] refl plain), refl, tt);
   run_places = refl;
 }
-quoted_run mode run (b ∷ bs) all =
+quoted_run mode run (b ∷ bs) all plain =
     elim (cases_Bool (b == backquote)) [
       | inl e ↦
-          let h = quoted_run mode [] bs refl in
+          let h = quoted_run mode [] bs refl (later_plain run b bs plain) in
           rw e (record {
             run_text = ap (λ x. backquote ∷ ((run ++ backquote ∷ []) ++ x)) h.run_text ∙ (ap (λ x. backquote ∷ x) (append_assoc run (backquote ∷ []) _) ∙ (ap (λ x. backquote ∷ (run ++ (x ∷ x ∷ (doubled bs ++ backquote ∷ [])))) (sym (eqb-true b backquote e)) ∙ ap (λ x. backquote ∷ (run ++ (x ++ backquote ∷ []))) (sym (doubled_quote b bs e))));
             run_tokens = λ rest. (quoted_before mode run _ all, h.run_tokens rest);
-            run_settled = λ rest. (refl, refl, h.run_settled rest);
+            run_settled = λ rest. (ap not (run_plain run (b ∷ bs) e plain), refl, h.run_settled rest);
             run_places = h.run_places;
           })
       | inr e ↦
-          let h = quoted_run mode (run ++ b ∷ []) bs (run_more run b all e) in
+          let h = quoted_run mode (run ++ b ∷ []) bs (run_more run b all e) (subst (λ x. escapes_end x ≡ false) (sym (append_assoc run (b ∷ []) bs)) plain) in
           rw e (record {
             run_text = h.run_text ∙ (ap (λ x. backquote ∷ x) (append_assoc run (b ∷ []) _) ∙ ap (λ x. backquote ∷ (run ++ (x ++ backquote ∷ []))) (sym (doubled_other b bs e)));
             run_tokens = h.run_tokens;
@@ -283,9 +300,9 @@ record IsIdentifierList (mode : Bool) (text : List ℕ) (list : List Token) : Ty
   path_more : List ℕ
   path_begins : text ≡ backquote ∷ path_more
 
-name_list : (mode : Bool) (name : List ℕ) → IsIdentifierList mode (identifier_text name) (identifier_tokens [] name)
-name_list mode name =
-    let h = quoted_run mode [] name refl in
+name_list : (mode : Bool) (name : List ℕ) → escapes_end name ≡ false → IsIdentifierList mode (identifier_text name) (identifier_tokens [] name)
+name_list mode name plain =
+    let h = quoted_run mode [] name refl plain in
     record {
       path_text = h.run_text;
       path_tokens = h.run_tokens;
@@ -300,9 +317,9 @@ point_settled : (text more : List ℕ) → text ≡ backquote ∷ more → is_al
 point_settled text more e = rw e refl
 
 path_list : (mode : Bool) {text : List ℕ} → IsIdentifier text → (list : List Token) × IsIdentifierList mode text list
-path_list mode (one_name name) = (identifier_tokens [] name, name_list mode name)
-path_list mode (more_names name more h) =
-    let a = name_list mode name in
+path_list mode (one_name name plain) = (identifier_tokens [] name, name_list mode name plain)
+path_list mode (more_names name more plain h) =
+    let a = name_list mode name plain in
     let b = path_list mode h in
     let us : List Token = identifier_tokens [] name in
     let vs : List Token = Plain point ∷ b.0 in (

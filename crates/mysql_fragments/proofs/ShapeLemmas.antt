@@ -1,16 +1,16 @@
 -- The shapes of fragments that can be written.
-use Rattle.std.specs.Prelude.{Bool, codes, if◌then◌else◌, ⊤}
-use Rattle.std.specs.List.{flat_map, list_all}
+use Rattle.std.specs.Prelude.{Bool, codes, if◌then◌else◌, nat_lt, ⊤}
+use Rattle.std.specs.List.{flat_map, list_all, list_any}
 use Rattle.std.specs.Global.{Vec}
 use Rattle.std.specs.Char.{is_ascii_digit}
-use Rattle.std.proofs.Common.{◌≡◌, ◌+◌, ◌++◌, ◌==◌, ◌&&◌, not, ℕ, true, false, List, [], ◌∷◌, length, map, Some, None, Option, option_map, nat_eq, nat_le, inl, inr, refl, sym, ap, ◌∙◌, subst, append_assoc, append-nil, true≢false, length-append}
+use Rattle.std.proofs.Common.{◌≡◌, cond, ◌+◌, ◌++◌, ◌==◌, ◌&&◌, not, ℕ, true, false, List, [], ◌∷◌, length, map, Some, None, Option, option_map, nat_eq, nat_le, inl, inr, refl, sym, ap, ◌∙◌, subst, append_assoc, append-nil, true≢false, length-append}
 use Rattle.std.proofs.lemmas.Bool.{and_parts, and_from, cases_Bool, eqb-true}
 use Rattle.mysql_values.specs.declared.value.Value.{Value}
 use Rattle.mysql_sql_text.specs.LiteralShape.{AreDigits, natural_literal, negative_literal}
 use Rattle.mysql_named_params.specs.Bytes.{dash, point}
 use Rattle.mysql_binding.proofs.CauseLemmas.{or_none}
 use Rattle.mysql_fragments.specs.FragmentErrors.{first_fault_from}
-use Rattle.mysql_fragments.specs.FragmentFaults.{digit_count, fault_of, is_decimal, is_keyword, is_number_from, item_fault, items_fault, list_fault, names_fault, number_fault, row_fault, rows_fault, rows_fault_from}
+use Rattle.mysql_fragments.specs.FragmentFaults.{character_count, digit_count, ends_in_space, escapes_end, fault_of, is_decimal, is_keyword, is_number_from, item_fault, items_fault, list_fault, name_fault, names_fault, names_fault_from, number_fault, row_fault, rows_fault, rows_fault_from}
 use Rattle.mysql_fragments.specs.FragmentShape.{IsIdentifier, one_name, more_names, IsFragment, AreFragments, mark_fragment, literal_fragment, decimal_fragment, negative_decimal_fragment, identifier_fragment, keyword_fragment, list_fragment, row_fragment}
 use Rattle.mysql_fragments.specs.FragmentText.{joined, identifier_text, item_text, item_values, items_text, row_text, fragment_text, fragment_values, all_values, mark_number}
 use Rattle.mysql_fragments.proofs.SplicedFragmentLemmas.{total}
@@ -19,6 +19,7 @@ use Rattle.mysql_fragments.specs.declared.fragment.Item.TheVariants as item
 use Rattle.mysql_fragments.specs.declared.fragment.Fragment.{Fragment}
 use Rattle.mysql_fragments.specs.declared.fragment.Fragment.TheVariants as one
 use Rattle.mysql_fragments.specs.declared.fragments_error.FragmentFault.{FragmentFault}
+use Rattle.mysql_fragments.specs.declared.fragments_error.FragmentFault.TheVariants as fault
 
 -- ---- exact numbers
 
@@ -165,10 +166,28 @@ rows_shape mode (row ∷ rows) h = joined_shape mode row_text row_values row row
 
 -- ---- identifiers
 
-path_shape : (name : Vec ℕ) (names : List (Vec ℕ)) →
+last_fault : (z l t e : Bool) (p q r s : FragmentFault) →
+    ◌≡◌ {A = Option FragmentFault} (cond z (Some p) (cond l (Some q) (cond t (Some r) (cond e (Some s) None)))) None → e ≡ false
+last_fault true l t e p q r s h = cc
+last_fault false true t e p q r s h = cc
+last_fault false false true e p q r s h = cc
+last_fault false false false true p q r s h = cc
+last_fault false false false false p q r s h = refl
+
+plain_name : (part : ℕ) (name : List ℕ) → name_fault part name ≡ None → escapes_end name ≡ false
+plain_name part [] h = refl
+plain_name part (b ∷ bytes) h =
+    last_fault (list_any (λ c. c == 0) (b ∷ bytes)) (nat_lt 64 (character_count (b ∷ bytes))) (ends_in_space (b ∷ bytes)) (escapes_end (b ∷ bytes))
+    (fault.ZeroByte part) (fault.LongName part) (fault.TrailingSpace part) (fault.Backslash part) h
+
+path_shape : (part : ℕ) (name : Vec ℕ) (names : List (Vec ℕ)) → names_fault_from part (name ∷ names) ≡ None →
     IsIdentifier (joined (codes ".") (map (λ name. identifier_text name.items) (name ∷ names)))
-path_shape name [] = subst IsIdentifier (sym (append-nil (identifier_text name.items))) (one_name name.items)
-path_shape name (next ∷ names) = more_names name.items _ (path_shape next names)
+path_shape part name [] h =
+    let p = or_none (name_fault part name.items) (names_fault_from (part + 1) []) h in
+    subst IsIdentifier (sym (append-nil (identifier_text name.items))) (one_name name.items (plain_name part name.items p.0))
+path_shape part name (next ∷ names) h =
+    let p = or_none (name_fault part name.items) (names_fault_from (part + 1) (next ∷ names)) h in
+    more_names name.items _ (plain_name part name.items p.0) (path_shape (part + 1) next names p.1)
 
 -- ---- fragments that can be written
 
@@ -182,12 +201,12 @@ fragment_shape mode (one.List items) h = go items.items h
     go [] h = cc
     go (x ∷ items) h = items_shape mode 0 x items h
 fragment_shape mode (one.Rows rows) h = rows_shape mode rows.items h
-fragment_shape mode (one.Identifier name) h = identifier_fragment (identifier_text name.items) (one_name name.items)
+fragment_shape mode (one.Identifier name) h = identifier_fragment (identifier_text name.items) (one_name name.items (plain_name 0 name.items h))
 fragment_shape mode (one.Qualified names) h = go names.items h
   where
     go : (names : List (Vec ℕ)) → names_fault names ≡ None → IsFragment mode 0 (joined (codes ".") (map (λ name. identifier_text name.items) names))
     go [] h = cc
-    go (name ∷ names) h = identifier_fragment _ (path_shape name names)
+    go (name ∷ names) h = identifier_fragment _ (path_shape 0 name names h)
 fragment_shape mode (one.Keyword keyword) h = keyword_fragment keyword.word.items (if_fault (is_keyword keyword.word.items) _ h)
 
 pub fragment_shapes : (mode : Bool) (place : ℕ) (fragments : List Fragment) → first_fault_from place fragments ≡ None →

@@ -1,18 +1,20 @@
 -- Why a fragment can't be written: its first fault. Names are refused as servers refuse them (MySQL
 -- Reference Manual, "Schema Object Names", "Identifier Length Limits"), and numbers of more digits
 -- than servers keep of a literal ("DECIMAL Data Type Characteristics").
-use Rattle.std.specs.Prelude.{◌+◌, ◌-◌, ◌==◌, ◌&&◌, nat_eq, nat_le, nat_lt, not, ℕ, Bool, true, false, List, [], ◌∷◌, length, if◌then◌else◌, Option, None, Some, slice_index_or}
+use Rattle.std.specs.Prelude.{◌+◌, ◌-◌, ◌==◌, ◌&&◌, ◌||◌, nat_eq, nat_le, nat_lt, not, ℕ, Bool, true, false, List, [], ◌∷◌, length, if◌then◌else◌, Option, None, Some, slice_index_or}
 use Rattle.std.specs.Char.{is_ascii_alphabetic, is_ascii_digit}
 use Rattle.std.specs.List.{list_any}
 use Rattle.std.specs.Option.{option_or}
+use Rattle.std.specs.Str.{byte}
 use Rattle.std.specs.Global.{Vec}
-use Rattle.mysql_named_params.specs.Bytes.{dash, point, space, underscore}
+use Rattle.mysql_named_params.specs.Bytes.{backquote, dash, point, space, underscore}
+use Rattle.mysql_binding.specs.StandsAlone.{none_or_first}
 use Rattle.mysql_fragments.specs.declared.fragment.Item.{Item}
 use Rattle.mysql_fragments.specs.declared.fragment.Item.TheVariants as item
 use Rattle.mysql_fragments.specs.declared.fragment.Fragment.{Fragment}
 use Rattle.mysql_fragments.specs.declared.fragment.Fragment.TheVariants as one
 use Rattle.mysql_fragments.specs.declared.fragments_error.FragmentFault.{FragmentFault}
-use Rattle.mysql_fragments.specs.declared.fragments_error.FragmentFault.TheVariants.{Empty, EmptyRow, RowLength, Number, EmptyName, ZeroByte, LongName, TrailingSpace, Keyword}
+use Rattle.mysql_fragments.specs.declared.fragments_error.FragmentFault.TheVariants.{Empty, EmptyRow, RowLength, Number, EmptyName, ZeroByte, LongName, TrailingSpace, Keyword, Backslash}
 
 -- ---- exact numbers
 
@@ -94,6 +96,13 @@ character_count (b ∷ bytes) =
 abbrev pub ends_in_space : List ℕ → Bool
 ends_in_space name = slice_index_or name (length name - 1) 0 == space
 
+-- a backslash directly before a backquote, or as the last byte: to InnoDB, which reads an
+-- `ALTER TABLE` again, it escapes the backquote that follows it in the text
+abbrev pub escapes_end : List ℕ → Bool
+escapes_end [] = false
+escapes_end (b ∷ bytes) =
+    (b == byte "\\" && none_or_first (λ c. c == backquote) bytes) || escapes_end bytes
+
 -- the fault of the name with this number in an identifier
 abbrev pub name_fault : ℕ → List ℕ → Option FragmentFault
 name_fault part [] = Some (EmptyName part)
@@ -101,6 +110,7 @@ name_fault part (b ∷ bytes) =
     if list_any (λ c. c == 0) (b ∷ bytes) then Some (ZeroByte part)
     else if nat_lt 64 (character_count (b ∷ bytes)) then Some (LongName part)
     else if ends_in_space (b ∷ bytes) then Some (TrailingSpace part)
+    else if escapes_end (b ∷ bytes) then Some (Backslash part)
     else None
 
 -- the first fault of names from this number on

@@ -1,14 +1,14 @@
 -- The shape of what is put in a place of a query, with the number of its marks: a mark, a literal,
 -- an exact number, an identifier, a keyword, or several of these in a list or a row.
-use Rattle.std.specs.Prelude.{◌+◌, ℕ, Bool, IsTrue, List, [], ◌∷◌, ◌++◌, codes, ⊤}
+use Rattle.std.specs.Prelude.{◌+◌, ℕ, Bool, IsTrue, IsFalse, List, [], ◌∷◌, ◌++◌, codes, ⊤}
 use Rattle.mysql_sql_text.specs.LiteralShape.{AreDigits, IsLiteral}
-use Rattle.mysql_fragments.specs.FragmentFaults.{is_keyword}
+use Rattle.mysql_fragments.specs.FragmentFaults.{escapes_end, is_keyword}
 use Rattle.mysql_fragments.specs.FragmentText.{identifier_text}
 
--- identifiers in backquotes with `.` between them
+-- identifiers in backquotes with `.` between them, whose backquotes no backslash stands before
 pub data IsIdentifier : List ℕ → Type 0 where
-  one_name : (name : List ℕ) → IsIdentifier (identifier_text name)
-  more_names : (name more : List ℕ) → IsIdentifier more →
+  one_name : (name : List ℕ) → IsFalse (escapes_end name) → IsIdentifier (identifier_text name)
+  more_names : (name more : List ℕ) → IsFalse (escapes_end name) → IsIdentifier more →
       IsIdentifier (identifier_text name ++ (codes "." ++ more))
 
 -- the text has the shape of a fragment with this number of marks

@@ -1,7 +1,7 @@
 //! Which fragments can be written.
 ghost use Rattle.std.specs.Prelude.{◌≡◌, ◌==◌, false, None, Some, if◌then◌else◌};
 ghost use Rattle.std.specs.List.{list_any};
-ghost use Rattle.mysql_fragments.specs.FragmentFaults.{character_count, digit_count, ends_in_space, fault_of, is_continuation, is_decimal, is_keyword, is_keyword_from, is_number_from, item_fault, items_fault, list_fault, name_fault, names_fault, names_fault_from, number_fault, row_fault, rows_fault, rows_fault_from};
+ghost use Rattle.mysql_fragments.specs.FragmentFaults.{character_count, digit_count, ends_in_space, escapes_end, fault_of, is_continuation, is_decimal, is_keyword, is_keyword_from, is_number_from, item_fault, items_fault, list_fault, name_fault, names_fault, names_fault_from, number_fault, row_fault, rows_fault, rows_fault_from};
 
 use crate::fragment::{Fragment, Item};
 use crate::fragments_error::FragmentFault;
@@ -180,9 +180,24 @@ fn name_fault(name: &[u8], part: usize) -> Option<FragmentFault>
         Some(FragmentFault::LongName { part })
     } else if name[name.len() - 1] == b' ' {
         Some(FragmentFault::TrailingSpace { part })
+    } else if escapes_end(name) {
+        Some(FragmentFault::Backslash { part })
     } else {
         None
     }
+}
+
+// Whether a backslash stands directly before a backquote, or is the last byte.
+fn escapes_end(name: &[u8]) -> bool
+    ensures { result ≡ escapes_end name.now }
+{
+    for i in 0..name.len() {
+        let rest = &name[i + 1..];
+        if name[i] == b'\\' && matches!(rest, [b'`', ..] | []) {
+            return true;
+        }
+    }
+    false
 }
 
 // Whether a byte of the name is 0.

@@ -1,11 +1,11 @@
 -- The construct that is found at the front of a text is that of its first token.
 use Rattle.std.specs.Prelude.{Bool}
-use Rattle.std.proofs.Common.{◌≡◌, ◌⊎◌, ℕ, suc, ◌-◌, true, false, cond, not, ◌==◌, ◌&&◌, ◌||◌, List, [], ◌∷◌, ◌++◌, length, take, Option, Some, None, refl, sym, ap, ◌∙◌, subst, inl, inr, arith, true≢false, take_at}
+use Rattle.std.proofs.Common.{◌≡◌, ◌≢◌, ◌⊎◌, ℕ, suc, ◌-◌, true, false, cond, not, ◌==◌, ◌&&◌, ◌||◌, List, [], ◌∷◌, ◌++◌, length, take, Option, Some, None, refl, sym, ap, ◌∙◌, subst, inl, inr, arith, true≢false, ne_eqb, take_at}
 use Rattle.std.specs.Char.{is_ascii_digit}
-use Rattle.std.proofs.lemmas.Bool.{cases_Bool, or_cases, eqb-true}
-use Rattle.mysql_named_params.specs.Bytes.{asterisk, dash, double_quote, single_quote, slash, is_string_quote, is_extension, begins, IsUpTo, bracket, dollar, point}
+use Rattle.std.proofs.lemmas.Bool.{cases_Bool, and_right, or_cases, or_from, eqb-true}
+use Rattle.mysql_named_params.specs.Bytes.{asterisk, backquote, dash, double_quote, hash, newline, single_quote, slash, space, is_white_space, is_string_quote, is_extension, begins, IsUpTo, bracket, dollar, point}
 use Rattle.mysql_named_params.specs.Tokens.{Token, bytes_of, IsToken, QuotedString, QuotedIdentifier, HashComment, DashComment, BlockComment, Name, Mark, Plain}
-use Rattle.mysql_named_params.specs.Server.{begins_special, begins_tag, begins_fraction}
+use Rattle.mysql_named_params.specs.Server.{keeps_dashes, begins_special, begins_tag, begins_fraction, holds_return, escapes_backquote}
 use Rattle.mysql_named_params.specs.Quiet.{is_quiet}
 use Rattle.mysql_named_params.specs.Portable.{stands_inside, may_open_line, begins_exponent, is_read_alike, joins_number}
 use Rattle.mysql_named_params.specs.FirstUnportable.{special_construct, construct_at}
@@ -15,7 +15,7 @@ use Rattle.mysql_named_params.specs.declared.portable.Construct.TheVariants as c
 use Rattle.mysql_named_params.specs.TokensOf.{not_plain_at, block_comment}
 use Rattle.mysql_named_params.proofs.PlainLemmas.{plain_none}
 use Rattle.mysql_named_params.proofs.RestLemmas.{block_none}
-use Rattle.mysql_named_params.proofs.PortableLemmas.{special_in_front, special_more}
+use Rattle.mysql_named_params.proofs.PortableLemmas.{keeps_no_white, special_in_front, special_more}
 
 -- the token, before this text, is portable and joins no number
 abbrev pub passes : Token → List ℕ → Bool
@@ -52,7 +52,57 @@ string_front q tail rest len h l = go (quote_is q h)
     go (inr e) = subst (λ x. front_construct (x ∷ (tail ++ rest)) len ≡ unportable_at (QuotedString x tail) rest) (sym e)
         (ap (λ x. cond (stands_inside double_quote x) (Some construct.EscapedQuote) None) front ∙ double (stands_inside double_quote tail))
 
--- ---- a comment
+-- ---- an identifier, and a comment of one line
+
+-- a test of what follows the first byte
+one_test : (t : Bool) (c : Construct) → ◌≡◌ {A = Option Construct} (cond t (Some c) None) (cond (not t && true) None (Some c))
+one_test true c = refl
+one_test false c = refl
+
+identifier_front : (tail rest : List ℕ) (len : ℕ) → len ≡ suc (length tail) →
+    front_construct (backquote ∷ (tail ++ rest)) len ≡ unportable_at (QuotedIdentifier tail) rest
+identifier_front tail rest len l =
+    ap (λ x. cond (escapes_backquote x) (Some construct.EscapedBackquote) None) (take_at tail rest (len - 1) (omega arith))
+    ∙ one_test (escapes_backquote tail) construct.EscapedBackquote
+
+hash_front : (tail rest : List ℕ) (len : ℕ) → len ≡ suc (length tail) →
+    front_construct (hash ∷ (tail ++ rest)) len ≡ unportable_at (HashComment tail) rest
+hash_front tail rest len l =
+    ap (λ x. cond (holds_return x) (Some construct.ReturnInComment) None) (take_at tail rest (len - 1) (omega arith))
+    ∙ one_test (holds_return tail) construct.ReturnInComment
+
+dash_front : (gap : ℕ) (tail rest : List ℕ) (len : ℕ) → is_white_space gap ≡ true → gap ≢ newline →
+    len ≡ suc (length (dash ∷ gap ∷ tail)) →
+    front_construct (dash ∷ dash ∷ gap ∷ (tail ++ rest)) len ≡ unportable_at (DashComment gap tail) rest
+dash_front gap tail rest len w ne l =
+    ap (λ x. cond (holds_return x) (Some construct.ReturnInComment) (cond (may_open_line (dash ∷ gap ∷ [])) (Some construct.Dashes) None)) (take_at (dash ∷ gap ∷ tail) rest (len - 1) (omega arith))
+    ∙ by_gap (cases_Bool (gap == space))
+  where
+    Ends : ℕ → Type 0
+    Ends x = ◌≡◌ {A = Option Construct} (cond (holds_return (x ∷ tail)) (Some construct.ReturnInComment) (cond (not (x == space || (x == newline || keeps_dashes x))) (Some construct.Dashes) None))
+        (unportable_at (DashComment x tail) rest)
+
+    ends : (r : Bool) → ◌≡◌ {A = Option Construct} (cond r (Some construct.ReturnInComment) None)
+        (cond (not r && true) None (Some (cond r construct.ReturnInComment construct.Dashes)))
+    ends true = refl
+    ends false = refl
+
+    other : (r m s h : Bool) → m ≡ true → s ≡ false →
+        ◌≡◌ {A = Option Construct} (cond r (Some construct.ReturnInComment) (cond m (Some construct.Dashes) None))
+        (cond ((s && not h) && true) None (Some (cond r construct.ReturnInComment construct.Dashes)))
+    other true true false h e f = refl
+    other false true false h e f = refl
+    other r false s h e f = absurd (true≢false (sym e))
+    other r true true h e f = absurd (true≢false f)
+
+    opens : (gap == space) ≡ false → not (gap == space || (gap == newline || keeps_dashes gap)) ≡ true
+    opens e = ap not (or_from _ _ e (or_from _ _ (ne_eqb gap newline ne) (keeps_no_white gap w)))
+
+    by_gap : ((gap == space) ≡ true) ⊎ ((gap == space) ≡ false) → Ends gap
+    by_gap (inl e) = subst Ends (sym (eqb-true gap space e)) (ends (holds_return tail))
+    by_gap (inr e) = other (holds_return (gap ∷ tail)) _ (gap == space) (holds_return tail) (opens e) e
+
+-- ---- a block comment
 
 special_same : (tail rest : List ℕ) → begins_special tail ≡ true →
     special_construct (tail ++ rest) ≡ special_construct tail
@@ -177,16 +227,17 @@ byte_front b rest n = at_slash (cases_Bool (b == slash))
 plain_front : (mode : Bool) (b : ℕ) (rest : List ℕ) → not_plain_at mode (b ∷ rest) ≡ None →
     front_construct (b ∷ rest) 1 ≡ unportable_at (Plain b) rest
 plain_front mode b rest n =
-    let quote : front_construct (b ∷ rest) 1 ≡ byte_construct b rest = rw (no_double_quote mode b rest n) refl in
+    let quote : front_construct (b ∷ rest) 1 ≡ byte_construct b rest =
+    rw (no_double_quote mode b rest n, and_right (b == backquote) false refl, and_right (b == hash || b == dash) false refl) refl in
     quote ∙ byte_front b rest (λ e. slash_block mode b rest e n)
 
 -- what is found at the front of a text
 pub front_is : (mode : Bool) (t : Token) (rest : List ℕ) → IsToken mode t rest →
     front_construct (bytes_of t ++ rest) (length (bytes_of t)) ≡ unportable_at t rest
 front_is mode (QuotedString quote tail) rest h = string_front quote tail rest (length (quote ∷ tail)) h.0 (omega arith)
-front_is mode (QuotedIdentifier tail) rest h = refl
-front_is mode (HashComment tail) rest h = refl
-front_is mode (DashComment gap tail) rest h = rw h.0 refl
+front_is mode (QuotedIdentifier tail) rest h = identifier_front tail rest (length (backquote ∷ tail)) (omega arith)
+front_is mode (HashComment tail) rest h = hash_front tail rest (length (hash ∷ tail)) (omega arith)
+front_is mode (DashComment gap tail) rest h = dash_front gap tail rest (length (dash ∷ dash ∷ gap ∷ tail)) h.0 h.1 (omega arith)
 front_is mode (BlockComment tail) rest h = block_front tail rest h.1
 front_is mode (Name name) rest h = refl
 front_is mode Mark rest h = refl

@@ -1,8 +1,8 @@
 -- Each query has tokens, of the grammar and on each server; the grammar is one of the servers.
 use Rattle.std.specs.Prelude.{Bool}
-use Rattle.std.proofs.Common.{◌≡◌, ◌⊎◌, ℕ, zero, suc, ◌≤◌, true, false, cond, not, ◌==◌, ◌&&◌, ◌||◌, List, [], ◌∷◌, ◌++◌, length, take, drop, Option, Some, None, refl, sym, ap, ◌∙◌, subst, inl, inr, arith, true≢false, take-append-drop, length-append}
-use Rattle.std.proofs.lemmas.Bool.{cases_Bool, and_parts, and_right, eqb-true, eqb-false}
-use Rattle.mysql_named_params.specs.Bytes.{asterisk, backquote, colon, dash, hash, newline, question_mark, slash, is_white_space, is_start_byte, is_string_quote, is_extension, begins, IsUpTo}
+use Rattle.std.proofs.Common.{◌≡◌, ◌≢◌, ◌⊎◌, ℕ, zero, suc, ◌≤◌, true, false, cond, not, ◌==◌, ◌&&◌, ◌||◌, List, [], ◌∷◌, ◌++◌, length, take, drop, Option, Some, None, refl, sym, ap, ◌∙◌, subst, inl, inr, arith, true≢false, take-append-drop, length-append, ne_eqb}
+use Rattle.std.proofs.lemmas.Bool.{cases_Bool, and_parts, and_right, or_from, or_right, eqb-true, eqb-false}
+use Rattle.mysql_named_params.specs.Bytes.{asterisk, backquote, colon, dash, hash, newline, question_mark, slash, space, is_white_space, is_start_byte, is_string_quote, is_extension, begins, IsUpTo}
 use Rattle.mysql_named_params.specs.Tokens.{Token, bytes_of, text_of, IsToken, IsTokens, AreTokensBefore, IsStringTail, QuotedString, QuotedIdentifier, HashComment, DashComment, BlockComment, Name, Mark, Plain}
 use Rattle.mysql_named_params.specs.TokensOf.{len_up_to, string_len, name_len, name_at, not_plain_at, dash_comment, block_comment}
 use Rattle.mysql_named_params.proofs.RestLemmas.{cond_none, some_none, dash_none, block_none}
@@ -10,9 +10,9 @@ use Rattle.mysql_named_params.proofs.TokenEndLemmas.{up_to_gives, string_gives, 
 use Rattle.mysql_named_params.proofs.PlainLemmas.{cond_some, plain_none}
 use Rattle.mysql_named_params.proofs.CutLemmas.{token_length}
 use Rattle.mysql_named_params.proofs.TokensExistLemmas.{tokens_exist}
-use Rattle.mysql_named_params.specs.Server.{Server, grammar, keeps_dashes, opens_line, begins_special, begins_own, Block, executed, comment, comment_of, block_on, reads_in, usual_block, own_block, usual_quotes, own_quotes, IsNotPlainOn, IsTokenOn, AreTokensOn, IsReadOn}
-use Rattle.mysql_named_params.proofs.ServerTokenLemmas.{line_tail, dash_comment_on, comment_by, block_comment_on, own_text, own_on, not_plain_on, plain_on, one_list_on}
-use Rattle.mysql_named_params.proofs.PortableLemmas.{line_on, empty_line, opens_at_white}
+use Rattle.mysql_named_params.specs.Server.{Server, grammar, keeps_dashes, opens_line, holds_return, escapes_backquote, line_on, identifier_on, begins_special, begins_own, Block, executed, comment, comment_of, block_on, reads_in, usual_block, own_block, IsTailBy, usual_end, own_end, ended_tail, open_tail, usual_quotes, own_quotes, IsNotPlainOn, IsTokenOn, AreTokensOn, IsReadOn}
+use Rattle.mysql_named_params.proofs.ServerTokenLemmas.{tail_by, line_tail, dash_comment_on, comment_by, block_comment_on, own_text, own_on, not_plain_on, plain_on, one_list_on}
+use Rattle.mysql_named_params.proofs.PortableLemmas.{second_false, false_if, keeps_no_white}
 
 -- ---- a token that is computed is there
 
@@ -24,17 +24,38 @@ found_on : (server : Server) (mode : Bool) (text : List ℕ) (u t : Token) → B
     Some u ≡ Some t → BeginsOn server mode text t
 found_on server mode text u t f e = let p : u ≡ t = cc in subst (BeginsOn server mode text) p f
 
+-- the text up to this end, or by the server's own number, and what follows
+tail_found : (own : List ℕ → Option ℕ) (end : ℕ) (bs : List ℕ) →
+    (after : List ℕ) × IsTailBy (own (tail_by (own bs) end bs ++ after)) end (tail_by (own bs) end bs) after
+    × (tail_by (own bs) end bs ++ after ≡ bs)
+tail_found own end bs = go (own bs) refl
+  where
+    go : (k : Option ℕ) → own bs ≡ k →
+        (after : List ℕ) × IsTailBy (own (tail_by k end bs ++ after)) end (tail_by k end bs) after × (tail_by k end bs ++ after ≡ bs)
+    go None e = (drop (len_up_to (end ∷ []) bs) bs, usual_end (rw take-append-drop e) (up_to_gives (end ∷ []) bs (omega arith)), rw take-append-drop refl)
+    go (Some n) e = (drop n bs, own_end n (rw take-append-drop e) (rw take-append-drop refl), rw take-append-drop refl)
+
+identifier_found : (server : Server) (mode : Bool) (bs : List ℕ) →
+    BeginsOn server mode (backquote ∷ bs) (QuotedIdentifier (tail_by (identifier_on server bs) backquote bs))
+identifier_found server mode bs =
+    let f = tail_found (identifier_on server) backquote bs in
+    (f.0, f.1, ap (λ x. backquote ∷ x) f.2)
+
+hash_found : (server : Server) (mode : Bool) (bs : List ℕ) →
+    BeginsOn server mode (hash ∷ bs) (HashComment (tail_by (line_on server bs) newline bs))
+hash_found server mode bs =
+    let f = tail_found (line_on server) newline bs in
+    (f.0, f.1, ap (λ x. hash ∷ x) f.2)
+
 line_found : (server : Server) (mode : Bool) (gap : ℕ) (bs : List ℕ) → opens_line server gap ≡ true →
-    BeginsOn server mode (dash ∷ dash ∷ gap ∷ bs) (DashComment gap (line_tail gap bs))
+    BeginsOn server mode (dash ∷ dash ∷ gap ∷ bs) (DashComment gap (line_tail server gap bs))
 line_found server mode gap bs o = go (cases_Bool (gap == newline))
   where
-    go : ((gap == newline) ≡ true) ⊎ ((gap == newline) ≡ false) → BeginsOn server mode (dash ∷ dash ∷ gap ∷ bs) (DashComment gap (line_tail gap bs))
-    go (inl e) =
-        let tail_is : [] ≡ line_tail gap bs = rw e refl in
-        subst (λ x. BeginsOn server mode (dash ∷ dash ∷ gap ∷ bs) (DashComment gap x)) tail_is (bs, (o, subst (λ x. IsUpTo (newline ∷ []) (x ∷ []) bs) (sym (eqb-true gap newline e)) (empty_line bs)), refl)
+    go : ((gap == newline) ≡ true) ⊎ ((gap == newline) ≡ false) → BeginsOn server mode (dash ∷ dash ∷ gap ∷ bs) (DashComment gap (line_tail server gap bs))
+    go (inl e) = rw e (bs, (o, ended_tail (eqb-true gap newline e) refl), refl)
     go (inr e) =
-        let tail_is : take (len_up_to (newline ∷ []) bs) bs ≡ line_tail gap bs = rw e refl in
-        subst (λ x. BeginsOn server mode (dash ∷ dash ∷ gap ∷ bs) (DashComment gap x)) tail_is (drop (len_up_to (newline ∷ []) bs) bs, (o, line_on gap _ _ (eqb-false gap newline e) (up_to_gives (newline ∷ []) bs (omega arith))), ap (λ x. dash ∷ dash ∷ gap ∷ x) (take-append-drop (len_up_to (newline ∷ []) bs) bs))
+        let f = tail_found (line_on server) newline bs in
+        rw e (f.0, (o, open_tail (eqb-false gap newline e) f.1), ap (λ x. dash ∷ dash ∷ gap ∷ x) f.2)
 
 dash_found : (server : Server) (mode : Bool) (xs : List ℕ) (t : Token) → dash_comment_on server xs ≡ Some t →
     BeginsOn server mode (dash ∷ xs) t
@@ -91,8 +112,8 @@ pub not_plain_found_on : (server : Server) (mode : Bool) (text : List ℕ) (t : 
 not_plain_found_on server mode [] t e = cc
 not_plain_found_on server mode (b ∷ bs) t e =
     cond_some (is_string_quote b) _ _ t _ (λ h f. found_on server mode _ _ t (drop (string_len (reads_in server mode b) b false bs) bs, usual_quotes h (string_gives (reads_in server mode b) b bs), rw take-append-drop refl) f)
-    (λ h. cond_some (b == backquote) _ _ t _ (λ h f. rw (eqb-true b backquote h) (found_on server mode _ (QuotedIdentifier (take (len_up_to (backquote ∷ []) bs) bs)) t (drop (len_up_to (backquote ∷ []) bs) bs, up_to_gives (backquote ∷ []) bs (omega arith), rw take-append-drop refl) f))
-    (λ h. cond_some (b == hash) _ _ t _ (λ h f. rw (eqb-true b hash h) (found_on server mode _ (HashComment (take (len_up_to (newline ∷ []) bs) bs)) t (drop (len_up_to (newline ∷ []) bs) bs, up_to_gives (newline ∷ []) bs (omega arith), rw take-append-drop refl) f))
+    (λ h. cond_some (b == backquote) _ _ t _ (λ h f. rw (eqb-true b backquote h) (found_on server mode _ _ t (identifier_found server mode bs) f))
+    (λ h. cond_some (b == hash) _ _ t _ (λ h f. rw (eqb-true b hash h) (found_on server mode _ _ t (hash_found server mode bs) f))
     (λ h. cond_some (b == dash) _ _ t _ (λ h f. rw (eqb-true b dash h) (dash_found server mode bs t f))
     (λ h. cond_some (b == slash) _ _ t _ (λ h f. rw (eqb-true b slash h) (block_found server mode bs t f))
     (λ h. cond_some (b == colon) _ _ t _ (λ h f. rw (eqb-true b colon h) (name_found server mode bs t f))
@@ -165,12 +186,16 @@ block_executed (b ∷ bs) h = rw h refl
 
 line_none : (b gap : ℕ) → (b == dash && (is_white_space gap && not (gap == newline))) ≡ false →
     (b == dash && opens_line grammar gap) ≡ false
-line_none b gap h = go (b == dash) (is_white_space gap && not (gap == newline)) (not (keeps_dashes gap)) h
+line_none b gap h = false_if (b == dash) (opens_line grammar gap) (λ d. closed (second_false (b == dash) _ h d))
   where
-    go : (d w p : Bool) → (d && w) ≡ false → (d && (w || (p && false))) ≡ false
-    go false w p h = refl
-    go true true p h = absurd (true≢false h)
-    go true false p h = and_right p false refl
+    no_space : (c : Bool) → (gap == space) ≡ c → (is_white_space gap && not (gap == newline)) ≡ false → c ≡ false
+    no_space false e w = refl
+    no_space true e w = absurd (true≢false (subst (λ x. (is_white_space x && not (x == newline)) ≡ false) (eqb-true gap space e) w))
+
+    closed : (is_white_space gap && not (gap == newline)) ≡ false → opens_line grammar gap ≡ false
+    closed w =
+        or_from _ _ (no_space (gap == space) refl w)
+        (ap (λ x. not (keeps_dashes gap) && x) w ∙ and_right (not (keeps_dashes gap)) false refl)
 
 dash_none_on : (xs : List ℕ) → dash_comment xs ≡ None → dash_comment_on grammar xs ≡ None
 dash_none_on [] e = refl
@@ -206,11 +231,20 @@ plain_none_on mode b rest =
     (cond_none (b == colon) _ _ _ _ (λ e. e)
     (cond_none (b == question_mark) _ _ _ _ (some_none _ _) (λ e. own_none_on b rest)))))))
 
+-- before white space other than the newline the grammar opens a comment
+opens_at_white : (b : ℕ) → is_white_space b ≡ true → b ≢ newline → opens_line grammar b ≡ true
+opens_at_white b h ne = rw (keeps_no_white b h, h, ne_eqb b newline ne) (or_right (b == space) true refl)
+
+none_asked : (asked : Bool) → ◌≡◌ {A = Option ℕ} (cond asked None None) None
+none_asked true = refl
+none_asked false = refl
+
 token_to : (mode : Bool) (t : Token) (rest : List ℕ) → IsToken mode t rest → IsTokenOn grammar mode t rest
 token_to mode (QuotedString quote tail) rest h = usual_quotes h.0 (subst (λ m. IsStringTail m quote tail rest) (reads_as_said mode quote) h.1)
-token_to mode (QuotedIdentifier tail) rest h = h
-token_to mode (HashComment tail) rest h = h
-token_to mode (DashComment gap tail) rest h = (opens_at_white grammar gap h.0 h.1, line_on gap tail rest h.1 h.2)
+token_to mode (QuotedIdentifier tail) rest h = usual_end (none_asked (escapes_backquote (tail ++ rest))) h
+token_to mode (HashComment tail) rest h = usual_end (none_asked (holds_return (tail ++ rest))) h
+token_to mode (DashComment gap tail) rest h =
+    (opens_at_white gap h.0 h.1, open_tail h.1 (usual_end (none_asked (holds_return (tail ++ rest))) h.2))
 token_to mode (BlockComment tail) rest h = usual_block (block_read (tail ++ rest) h.0) h.1
 token_to mode (Name name) rest h = h
 token_to mode Mark rest h = tt

@@ -1,9 +1,9 @@
 -- The tokens that every server reads alike.
 use Rattle.std.specs.Prelude.{Bool}
-use Rattle.std.proofs.Common.{◌≡◌, ◌≢◌, ◌⊎◌, ℕ, true, false, cond, not, ◌==◌, ◌&&◌, ◌||◌, List, [], ◌∷◌, ◌++◌, length, Option, None, refl, sym, ap, ◌∙◌, subst, inl, inr, arith, true≢false, length-append, ne_eqb}
-use Rattle.std.proofs.lemmas.Bool.{cases_Bool, or_parts, not-true, not-false, eqb-true, eqb-false}
+use Rattle.std.proofs.Common.{◌≡◌, ◌≢◌, ◌⊎◌, ℕ, true, false, cond, not, ◌==◌, ◌&&◌, ◌||◌, List, [], ◌∷◌, ◌++◌, length, Option, None, refl, sym, ap, ◌∙◌, subst, inl, inr, arith, true≢false, length-append, append-nil}
+use Rattle.std.proofs.lemmas.Bool.{cases_Bool, and_parts, or_parts, not-true, not-false, eqb-true, eqb-false}
 use Rattle.std.proofs.lemmas.Bool.Decides.{nat_tests}
-use Rattle.mysql_named_params.specs.Bytes.{asterisk, backquote, colon, dash, double_quote, exclamation_mark, hash, newline, question_mark, slash, is_white_space, is_string_quote, begins, HoldsOnlyAtEnd, IsUpTo, up_to_word, up_to_end}
+use Rattle.mysql_named_params.specs.Bytes.{asterisk, backquote, colon, dash, double_quote, exclamation_mark, hash, newline, question_mark, slash, space, is_white_space, is_string_quote, begins, IsUpTo, up_to_word, up_to_end}
 use Rattle.mysql_sql_text.specs.StringUnits.{AreUnits, no_units, byte_unit}
 use Rattle.mysql_named_params.specs.Tokens.{Token, bytes_of, text_of, IsToken, AreTokensBefore, IsStringTail, closed_string, open_string, open_in_escape, QuotedString, QuotedIdentifier, HashComment, DashComment, BlockComment, Name, Mark, Plain}
 use Rattle.mysql_named_params.specs.FirstToken.{opens_dash_comment}
@@ -12,7 +12,7 @@ use Rattle.mysql_named_params.proofs.TokenEnds.{plain_at}
 use Rattle.mysql_named_params.proofs.PlainLemmas.{plain_none}
 use Rattle.mysql_named_params.proofs.RestLemmas.{cond_none, some_none, dash_none}
 use Rattle.mysql_named_params.proofs.TokenListLemmas.{one_token}
-use Rattle.mysql_named_params.specs.Server.{Server, opens_line, keeps_dashes, begins_special, begins_own, reads_in, usual_block, usual_quotes, IsTokenOn}
+use Rattle.mysql_named_params.specs.Server.{Server, opens_line, line_on, keeps_dashes, begins_special, begins_own, holds_return, escapes_backquote, reads_in, usual_block, IsTailBy, usual_end, open_tail, usual_quotes, IsTokenOn}
 use Rattle.mysql_named_params.specs.Portable.{stands_inside, may_open_line, differs_at}
 use Rattle.mysql_named_params.proofs.ServerTokenLemmas.{not_plain_on, plain_on, dash_comment_on, block_comment_on, own_on}
 
@@ -31,14 +31,14 @@ cond_none_if : (c : Bool) (p q p' q' : Option Token) → (c ≡ true → p ≡ N
 cond_none_if true p q p' q' f g e = f refl e
 cond_none_if false p q p' q' f g e = g e
 
-pub opens_at_white : (server : Server) (b : ℕ) → is_white_space b ≡ true → b ≢ newline → opens_line server b ≡ true
-opens_at_white server b h ne = rw (h, ne_eqb b newline ne) refl
+pub keeps_no_white : (b : ℕ) → is_white_space b ≡ true → keeps_dashes b ≡ false
+keeps_no_white b h = grind (arith, nat_tests)
 
-keeps_no_white_space : (b : ℕ) → keeps_dashes b ≡ true → is_white_space b ≡ false
-keeps_no_white_space b h = grind (arith, nat_tests)
+keeps_no_space : (b : ℕ) → keeps_dashes b ≡ true → (b == space) ≡ false
+keeps_no_space b h = grind (arith, nat_tests)
 
 keeps_opens_no_line : (server : Server) (b : ℕ) → keeps_dashes b ≡ true → opens_line server b ≡ false
-keeps_opens_no_line server b h = rw (h, keeps_no_white_space b h) refl
+keeps_opens_no_line server b h = rw (h, keeps_no_space b h) refl
 
 -- ---- strings
 
@@ -87,25 +87,32 @@ string_on server false q tail rest h p = go server.ansi_quotes (q == double_quot
 
 -- ---- comments
 
-pub line_on : (gap : ℕ) (tail rest : List ℕ) → gap ≢ newline → IsUpTo (newline ∷ []) tail rest →
-    IsUpTo (newline ∷ []) (gap ∷ tail) rest
-line_on gap tail rest ne (up_to_word body e ends) = up_to_word (gap ∷ body) (ap (λ x. gap ∷ x) e) ends'
+-- a carriage return stands in the comment, or nowhere before its end
+pub returns_alike : (tail rest : List ℕ) → IsUpTo (newline ∷ []) tail rest →
+    holds_return (tail ++ rest) ≡ holds_return tail
+returns_alike tail rest (up_to_end lacks e) = rw e (ap holds_return (append-nil tail))
+returns_alike tail rest (up_to_word body e ends) = subst (λ x. holds_return (x ++ rest) ≡ holds_return x) e (closed body)
   where
-    ends' : HoldsOnlyAtEnd (newline ∷ []) (gap ∷ tail)
-    ends' [] back f = let g : newline ≡ gap = cc in absurd (ne (sym g))
-    ends' (c ∷ front) back f = let g : front ++ newline ∷ back ≡ tail = cc in ends front back g
-line_on gap tail rest ne (up_to_end lacks e) = up_to_end lacks' e
-  where
-    lacks' : (front back : List ℕ) → front ++ newline ∷ back ≢ gap ∷ tail
-    lacks' [] back f = let g : newline ≡ gap = cc in ne (sym g)
-    lacks' (c ∷ front) back f = let g : front ++ newline ∷ back ≡ tail = cc in lacks front back g
+    closed : (xs : List ℕ) → holds_return ((xs ++ newline ∷ []) ++ rest) ≡ holds_return (xs ++ newline ∷ [])
+    closed [] = refl
+    closed (b ∷ []) = refl
+    closed (b ∷ c ∷ xs) = rw (closed (c ∷ xs)) refl
 
-pub empty_line : (rest : List ℕ) → IsUpTo (newline ∷ []) (newline ∷ []) rest
-empty_line rest = up_to_word [] refl ends
+-- a backslash stands before the end of the identifier, or not
+pub escapes_alike : (tail rest : List ℕ) → IsUpTo (backquote ∷ []) tail rest →
+    escapes_backquote (tail ++ rest) ≡ escapes_backquote tail
+escapes_alike tail rest (up_to_end lacks e) = rw e (ap escapes_backquote (append-nil tail))
+escapes_alike tail rest (up_to_word body e ends) = subst (λ x. escapes_backquote (x ++ rest) ≡ escapes_backquote x) e (closed body)
   where
-    ends : HoldsOnlyAtEnd (newline ∷ []) (newline ∷ [])
-    ends front [] e = refl
-    ends front (b ∷ back) e = absurd (omega (arith, ap length e, length-append front (newline ∷ b ∷ back)))
+    closed : (xs : List ℕ) → escapes_backquote ((xs ++ backquote ∷ []) ++ rest) ≡ escapes_backquote (xs ++ backquote ∷ [])
+    closed [] = refl
+    closed (b ∷ []) = refl
+    closed (b ∷ c ∷ xs) = rw (closed (c ∷ xs)) refl
+
+-- a comment of one line that every server ends alike
+pub line_usual : (server : Server) (tail rest : List ℕ) → IsUpTo (newline ∷ []) tail rest →
+    holds_return tail ≡ false → IsTailBy (line_on server (tail ++ rest)) newline tail rest
+line_usual server tail rest h p = usual_end (rw (returns_alike tail rest h ∙ p) refl) h
 
 -- what tells a comment from a special text stands in the comment, or nowhere
 pub special_in_front : (tail rest : List ℕ) → IsUpTo (asterisk ∷ slash ∷ []) tail rest →
@@ -138,17 +145,20 @@ dash_on server [] p n e = refl
 dash_on server (b ∷ []) p n e = refl
 dash_on server (b ∷ gap ∷ bs) p n e = rw (opens (cases_Bool (b == dash)) (dash_none (b ∷ gap ∷ bs) e) p) refl
   where
-    no_gap : (w s : Bool) → is_white_space gap ≡ w → keeps_dashes gap ≡ s → b ≡ dash →
-        (w && not (gap == newline)) ≡ false → not (w || s) ≡ false → opens_line server gap ≡ false
-    no_gap true s we se d e p =
-        let g : gap ≡ newline = eqb-true gap newline (not-false (gap == newline) e) in
+    no_gap : (s l k : Bool) → (gap == space) ≡ s → (gap == newline) ≡ l → keeps_dashes gap ≡ k → b ≡ dash →
+        (is_white_space gap && not (gap == newline)) ≡ false → not (s || (l || k)) ≡ false → opens_line server gap ≡ false
+    no_gap true l k se le ke d e p =
+        absurd (true≢false (subst (λ x. (is_white_space x && not (x == newline)) ≡ false) (eqb-true gap space se) e))
+    no_gap false true k se le ke d e p =
+        let g : gap ≡ newline = eqb-true gap newline le in
         ap (opens_line server) g ∙ n bs (ap (λ x. x ∷ newline ∷ bs) (sym d) ∙ ap (λ x. b ∷ x ∷ bs) (sym g))
-    no_gap false true we se d e p = keeps_opens_no_line server gap se
-    no_gap false false we se d e p = absurd (true≢false p)
+    no_gap false false true se le ke d e p = keeps_opens_no_line server gap ke
+    no_gap false false false se le ke d e p = absurd (true≢false p)
 
     opens : ((b == dash) ≡ true) ⊎ ((b == dash) ≡ false) → opens_dash_comment (b ∷ gap ∷ bs) ≡ false →
         may_open_line (b ∷ gap ∷ bs) ≡ false → (b == dash && opens_line server gap) ≡ false
-    opens (inl d) e p = rw d (no_gap (is_white_space gap) (keeps_dashes gap) refl refl (eqb-true b dash d) (rw d at e) (rw d at p))
+    opens (inl d) e p =
+        rw d (no_gap (gap == space) (gap == newline) (keeps_dashes gap) refl refl refl (eqb-true b dash d) (rw d at e) (rw d at p))
     opens (inr d) e p = rw d refl
 
 pub slash_on : (server : Server) (rest : List ℕ) → begins (λ c. c == asterisk) rest ≡ false →
@@ -177,6 +187,9 @@ plain_alike server mode b rest p n =
 -- texts
 abbrev pub is_alike_on_all : Token → List ℕ → Bool
 is_alike_on_all (QuotedString quote tail) rest = not (quote == double_quote && stands_inside quote tail)
+is_alike_on_all (QuotedIdentifier tail) rest = not (escapes_backquote tail)
+is_alike_on_all (HashComment tail) rest = not (holds_return tail)
+is_alike_on_all (DashComment gap tail) rest = gap == space && not (holds_return tail)
 is_alike_on_all (BlockComment tail) rest = not (begins_special tail)
 is_alike_on_all (Plain b) rest = not (differs_at b rest)
 is_alike_on_all t rest = true
@@ -186,9 +199,11 @@ pub token_on : (server : Server) (mode : Bool) (t : Token) (rest : List ℕ) →
     is_alike_on_all t rest ≡ true → (t ≡ Plain dash → NoEmptyComment server rest) →
     IsTokenOn server mode t rest
 token_on server mode (QuotedString quote tail) rest h p n = usual_quotes h.0 (string_on server mode quote tail rest h.1 p)
-token_on server mode (QuotedIdentifier tail) rest h p n = h
-token_on server mode (HashComment tail) rest h p n = h
-token_on server mode (DashComment gap tail) rest h p n = (opens_at_white server gap h.0 h.1, line_on gap tail rest h.1 h.2)
+token_on server mode (QuotedIdentifier tail) rest h p n = usual_end (rw (escapes_alike tail rest h ∙ not-true _ p) refl) h
+token_on server mode (HashComment tail) rest h p n = line_usual server tail rest h (not-true _ p)
+token_on server mode (DashComment gap tail) rest h p n =
+    let parts = and_parts (gap == space) (not (holds_return tail)) p in
+    (rw parts.0 refl, open_tail h.1 (line_usual server tail rest h.2 (not-true _ parts.1)))
 token_on server mode (BlockComment tail) rest h p n = usual_block (rw (special_in_front tail rest h.1 (not-true _ p)) refl) h.1
 token_on server mode (Name name) rest h p n = h
 token_on server mode Mark rest h p n = tt

@@ -8,13 +8,13 @@ use Rattle.mysql_named_params.specs.Tokens.{Token, bytes_of, text_of, IsToken, I
 use Rattle.mysql_named_params.specs.Places.{names, marks}
 use Rattle.mysql_named_params.specs.Positions.{positions_from}
 use Rattle.mysql_named_params.specs.TokensOf.{not_plain_at, dash_comment, block_comment, name_at, begins_with, len_up_to}
-use Rattle.mysql_named_params.specs.Server.{Server, Block, executed, comment, comment_of, begins_special, begins_place, begins_own, block_on, opens_line, usual_block, IsTokenOn, AreTokensOn, IsReadOn}
+use Rattle.mysql_named_params.specs.Server.{Server, Block, executed, comment, comment_of, begins_special, begins_place, begins_own, block_on, opens_line, usual_block, ended_tail, IsTokenOn, AreTokensOn, IsReadOn}
 use Rattle.mysql_named_params.specs.Portable.{is_read_alike, AreReadAlikeBefore, IsReadAs, read_all, read_same, read_empty_comment, read_skipped, read_executed}
 use Rattle.mysql_named_params.specs.Quiet.{is_loud, is_for_client, stands_apart, closes, is_quiet, IsQuietComment, reads_or_skips, IsHonest, begins_quiet, plain_then}
 use Rattle.mysql_named_params.proofs.TokenEnds.{take_front, up_to_is}
 use Rattle.mysql_named_params.proofs.TokenEndLemmas.{up_to_gives}
 use Rattle.mysql_named_params.proofs.ServerTokenLemmas.{not_plain_on, dash_comment_on, plain_on, comment_by, one_list_on}
-use Rattle.mysql_named_params.proofs.PortableLemmas.{second_false, is_alike_on_all, special_more, slash_on, own_none, token_on, head_is, dash_line, has_empty, empty_here, none_here, empty_line}
+use Rattle.mysql_named_params.proofs.PortableLemmas.{second_false, is_alike_on_all, special_more, slash_on, own_none, token_on, head_is, dash_line, has_empty, empty_here, none_here}
 
 -- ---- a byte that is not loud
 
@@ -257,7 +257,7 @@ reading_empty : (server : Server) (mode : Bool) (ts : List Token) → opens_line
 reading_empty server mode ts o r = record {
   tokens = DashComment newline [] ∷ r.tokens;
   alike = read_empty_comment r.alike;
-  holds = ((o, empty_line _), r.holds);
+  holds = ((o, ended_tail refl refl), r.holds);
 }
 
 -- what an honest server makes of `/*` before a quiet text

@@ -8,19 +8,24 @@ use Rattle.mysql_named_params.specs.Tokens.{Token, bytes_of, text_of, QuotedStri
 use Rattle.mysql_named_params.specs.TokensOf.{len_up_to, string_len, name_at}
 use Rattle.mysql_named_params.proofs.TokenEnds.{take_front, up_to_is, string_len_is, name_len_is}
 use Rattle.mysql_named_params.proofs.TokenListLemmas.{some_byte}
-use Rattle.mysql_named_params.specs.Server.{Server, opens_line, begins_tag, begins_fraction, begins_own, Block, executed, comment, comment_of, block_on, reads_in, usual_block, own_block, usual_quotes, own_quotes, IsNotPlainOn, IsTokenOn, AreTokensOn, IsReadOn}
+use Rattle.mysql_named_params.specs.Server.{Server, opens_line, line_on, identifier_on, begins_tag, begins_fraction, begins_own, Block, executed, comment, comment_of, block_on, reads_in, usual_block, own_block, IsTailBy, usual_end, own_end, IsDashTail, ended_tail, open_tail, usual_quotes, own_quotes, IsNotPlainOn, IsTokenOn, AreTokensOn, IsReadOn}
 
 -- ---- the token, computed
 
+-- what follows the first byte of a token, up to this end or by the server's own number
+abbrev pub tail_by : Option ℕ → ℕ → List ℕ → List ℕ
+tail_by None end bs = take (len_up_to (end ∷ []) bs) bs
+tail_by (Some n) end bs = take n bs
+
 -- what follows the byte after `--` in a comment
-abbrev pub line_tail : ℕ → List ℕ → List ℕ
-line_tail gap bs = cond (gap == newline) [] (take (len_up_to (newline ∷ []) bs) bs)
+abbrev pub line_tail : Server → ℕ → List ℕ → List ℕ
+line_tail server gap bs = cond (gap == newline) [] (tail_by (line_on server bs) newline bs)
 
 abbrev pub dash_comment_on : Server → List ℕ → Option Token
 dash_comment_on server [] = None
 dash_comment_on server (b ∷ []) = None
 dash_comment_on server (b ∷ gap ∷ bs) =
-    cond (b == dash && opens_line server gap) (Some (DashComment gap (line_tail gap bs))) None
+    cond (b == dash && opens_line server gap) (Some (DashComment gap (line_tail server gap bs))) None
 
 abbrev pub comment_by : List ℕ → Block → Option Token
 comment_by bs executed = None
@@ -43,8 +48,8 @@ abbrev pub not_plain_on : Server → Bool → List ℕ → Option Token
 not_plain_on server mode [] = None
 not_plain_on server mode (b ∷ bs) =
     cond (is_string_quote b) (Some (QuotedString b (take (string_len (reads_in server mode b) b false bs) bs)))
-    (cond (b == backquote) (Some (QuotedIdentifier (take (len_up_to (backquote ∷ []) bs) bs)))
-    (cond (b == hash) (Some (HashComment (take (len_up_to (newline ∷ []) bs) bs)))
+    (cond (b == backquote) (Some (QuotedIdentifier (tail_by (identifier_on server bs) backquote bs)))
+    (cond (b == hash) (Some (HashComment (tail_by (line_on server bs) newline bs)))
     (cond (b == dash) (dash_comment_on server bs)
     (cond (b == slash) (block_comment_on server bs)
     (cond (b == colon) (name_at bs)
@@ -52,26 +57,17 @@ not_plain_on server mode (b ∷ bs) =
 
 -- ---- a token on the server is the one that is computed
 
-line_tail_is : (gap : ℕ) (tail rest : List ℕ) → IsUpTo (newline ∷ []) (gap ∷ tail) rest →
-    line_tail gap (tail ++ rest) ≡ tail
-line_tail_is gap tail rest h = go (cases_Bool (gap == newline)) (up_to_is (newline ∷ []) (gap ∷ tail) rest (omega arith) h)
-  where
-    go : ((gap == newline) ≡ true) ⊎ ((gap == newline) ≡ false) →
-        len_up_to (newline ∷ []) (gap ∷ (tail ++ rest)) ≡ suc (length tail) →
-        line_tail gap (tail ++ rest) ≡ tail
-    go (inl e) l =
-        let g : gap ≡ newline = eqb-true gap newline e in
-        let s : (newline == gap) ≡ true = eq-eqb newline gap (sym g) in
-        let n : 1 ≡ suc (length tail) = rw s at l in
-        rw e (sym (nil tail (omega arith)))
-      where
-        nil : (xs : List ℕ) → length xs ≡ 0 → xs ≡ []
-        nil [] z = refl
-        nil (x ∷ xs) z = absurd (omega arith)
-    go (inr e) l =
-        let s : (newline == gap) ≡ false = ne_eqb newline gap (λ g. eqb-false gap newline e (sym g)) in
-        let n : suc (len_up_to (newline ∷ []) (tail ++ rest)) ≡ suc (length tail) = rw s at l in
-        rw e (take_front tail rest _ (omega arith))
+tail_by_is : (own : Option ℕ) (end : ℕ) (tail rest : List ℕ) → IsTailBy own end tail rest →
+    tail_by own end (tail ++ rest) ≡ tail
+tail_by_is own end tail rest (usual_end o h) =
+    ap (λ k. tail_by k end (tail ++ rest)) o ∙ take_front tail rest _ (up_to_is (end ∷ []) tail rest (omega arith) h)
+tail_by_is own end tail rest (own_end n o e) = ap (λ k. tail_by k end (tail ++ rest)) o ∙ e
+
+line_tail_is : (server : Server) (gap : ℕ) (tail rest : List ℕ) → IsDashTail server gap tail rest →
+    line_tail server gap (tail ++ rest) ≡ tail
+line_tail_is server gap tail rest (ended_tail g nil) = rw (eq-eqb gap newline g) (sym nil)
+line_tail_is server gap tail rest (open_tail ne h) =
+    rw (ne_eqb gap newline ne) (tail_by_is (line_on server (tail ++ rest)) newline tail rest h)
 
 -- a byte that may begin a text of a server's own is none that begins a token of the grammar
 pub own_is : (b : ℕ) (bs : List ℕ) → begins_own b bs ≡ true → (b ≡ bracket) ⊎ ((b ≡ dollar) ⊎ (b ≡ point))
@@ -99,11 +95,11 @@ not_plain_on_is server mode (QuotedString quote tail) rest (usual_quotes q h) =
 not_plain_on_is server mode (QuotedString quote tail) rest (own_quotes n b s e) =
     own_at server mode quote (tail ++ rest) b ∙ (ap (own_text quote (tail ++ rest)) s ∙ ap (λ x. Some (QuotedString quote x)) e)
 not_plain_on_is server mode (QuotedIdentifier tail) rest h =
-    ap (λ x. Some (QuotedIdentifier x)) (take_front tail rest _ (up_to_is (backquote ∷ []) tail rest (omega arith) h))
+    ap (λ x. Some (QuotedIdentifier x)) (tail_by_is (identifier_on server (tail ++ rest)) backquote tail rest h)
 not_plain_on_is server mode (HashComment tail) rest h =
-    ap (λ x. Some (HashComment x)) (take_front tail rest _ (up_to_is (newline ∷ []) tail rest (omega arith) h))
+    ap (λ x. Some (HashComment x)) (tail_by_is (line_on server (tail ++ rest)) newline tail rest h)
 not_plain_on_is server mode (DashComment gap tail) rest h =
-    rw h.0 (ap (λ x. Some (DashComment gap x)) (line_tail_is gap tail rest h.1))
+    rw h.0 (ap (λ x. Some (DashComment gap x)) (line_tail_is server gap tail rest h.1))
 not_plain_on_is server mode (BlockComment tail) rest (usual_block s h) =
     ap (comment_by (tail ++ rest)) s ∙ ap (λ x. Some (BlockComment x)) (take_front tail rest _ (up_to_is (asterisk ∷ slash ∷ []) tail rest (omega arith) h))
 not_plain_on_is server mode (BlockComment tail) rest (own_block n s e) =

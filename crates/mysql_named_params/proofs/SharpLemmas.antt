@@ -1,17 +1,20 @@
 -- No weaker condition than `AreReadAlike` serves: a query that every honest server reads alike, except
 -- within quiet comments, passes.
 use Rattle.std.specs.Prelude.{Bool}
-use Rattle.std.proofs.Common.{◌≡◌, ◌⊎◌, ℕ, true, false, cond, not, ◌==◌, ◌&&◌, ◌||◌, List, [], ◌∷◌, ◌++◌, take, Option, Some, None, refl, sym, ap, ◌∙◌, subst, inl, inr, true≢false, ne_eqb}
+use Rattle.std.proofs.Common.{◌≡◌, ◌≢◌, ◌⊎◌, ℕ, true, false, cond, not, ◌==◌, ◌&&◌, ◌||◌, List, [], ◌∷◌, ◌++◌, take, Option, Some, None, refl, sym, ap, ◌∙◌, subst, inl, inr, true≢false, ne_eqb}
 use Rattle.std.proofs.lemmas.Bool.{cases_Bool, or_from, or_right, false_from_ne_true, eqb-true, not-true}
 use Rattle.mysql_sql_text.specs.StringUnits.{AreUnits, no_units, byte_unit, escape_unit}
-use Rattle.mysql_named_params.specs.Bytes.{asterisk, dash, double_quote, newline, slash, is_white_space, is_string_quote, begins, bracket, dollar, point}
+use Rattle.mysql_named_params.specs.Bytes.{asterisk, backquote, dash, double_quote, newline, slash, space, is_white_space, is_string_quote, begins, IsUpTo, bracket, dollar, point}
 use Rattle.mysql_named_params.specs.Tokens.{Token, text_of, IsToken, IsTokens, AreTokensBefore, IsStringTail, closed_string, open_string, open_in_escape, QuotedString, QuotedIdentifier, HashComment, DashComment, BlockComment, Name, Mark, Plain}
-use Rattle.mysql_named_params.specs.Server.{Server, keeps_dashes, begins_special, begins_own, comment, comment_of, block_on, reads_in, IsBlockTail, usual_block, own_block, IsQuotedTail, usual_quotes, own_quotes, IsTokenOn, AreTokensOn, IsReadOn}
+use Rattle.mysql_named_params.specs.Server.{Server, keeps_dashes, opens_line, holds_return, escapes_backquote, line_on, identifier_on, begins_special, begins_own, comment, comment_of, block_on, reads_in, IsBlockTail, usual_block, own_block, IsTailBy, usual_end, own_end, IsDashTail, ended_tail, open_tail, IsQuotedTail, usual_quotes, own_quotes, IsTokenOn, AreTokensOn, IsReadOn}
 use Rattle.mysql_named_params.specs.Portable.{stands_inside, may_open_line, differs_at, is_read_alike, AreReadAlikeBefore, IsReadAs, read_all, read_same, read_empty_comment, read_skipped, read_executed}
 use Rattle.mysql_named_params.specs.Quiet.{is_loud, is_quiet, IsHonest, begins_quiet, plain_then}
+use Rattle.mysql_named_params.specs.TokensOf.{not_plain_at, dash_comment}
+use Rattle.mysql_named_params.proofs.PlainLemmas.{plain_none}
+use Rattle.mysql_named_params.proofs.RestLemmas.{dash_none}
 use Rattle.mysql_named_params.proofs.ServerTokenLemmas.{not_plain_on, dash_comment_on, block_comment_on, comment_by, own_is, own_at}
 use Rattle.mysql_named_params.proofs.GrammarLemmas.{not_plain_found_on, tokens_on}
-use Rattle.mysql_named_params.proofs.PortableLemmas.{false_if, special_more, is_alike_on_all}
+use Rattle.mysql_named_params.proofs.PortableLemmas.{false_if, returns_alike, escapes_alike, special_more, is_alike_on_all}
 use Rattle.mysql_named_params.proofs.QuietLemmas.{AreQuiet, quiet_byte, each_quiet, plain_text, read_text}
 
 -- a server that skips quiet comments, and differs from the grammar wherever else one may
@@ -19,7 +22,9 @@ abbrev pub contrary : Server
 contrary = record {
   special = λ text. cond (is_quiet text) comment (comment_of 0);
   quotes = λ b text. Some 0;
-  also_opens = λ b. true;
+  also_opens = λ b. not (is_white_space b) || b == newline;
+  lines = λ text. Some 0;
+  identifiers = λ text. Some 0;
   ansi_quotes = true;
 }
 
@@ -78,16 +83,24 @@ dash_none_there : (mode : Bool) (b : ℕ) (rest : List ℕ) → b ≡ dash → n
     dash_comment_on contrary rest ≡ None
 dash_none_there mode b rest e = subst (λ x. not_plain_on contrary mode (x ∷ rest) ≡ None → dash_comment_on contrary rest ≡ None) (sym e) (λ n. n)
 
-no_line : (rest : List ℕ) → dash_comment_on contrary rest ≡ None → may_open_line rest ≡ false
-no_line [] e = refl
-no_line (b ∷ []) e = refl
-no_line (b ∷ gap ∷ bs) e = go (b == dash) (is_white_space gap) (not (gap == newline)) (keeps_dashes gap) _ e
+dash_none_here : (mode : Bool) (b : ℕ) (rest : List ℕ) → b ≡ dash → not_plain_at mode (b ∷ rest) ≡ None →
+    dash_comment rest ≡ None
+dash_none_here mode b rest e = subst (λ x. not_plain_at mode (x ∷ rest) ≡ None → dash_comment rest ≡ None) (sym e) (λ n. n)
+
+no_line : (rest : List ℕ) → dash_comment rest ≡ None → dash_comment_on contrary rest ≡ None → may_open_line rest ≡ false
+no_line [] g e = refl
+no_line (b ∷ []) g e = refl
+no_line (b ∷ gap ∷ bs) g e =
+    go (b == dash) (gap == space) (gap == newline) (keeps_dashes gap) (is_white_space gap) _ (dash_none (b ∷ gap ∷ bs) g) e
   where
-    go : (d w n p : Bool) (t : Token) → cond (d && ((w && n) || (not p && true))) (Some t) None ≡ None → (d && not (w || p)) ≡ false
-    go false w n p t e = refl
-    go true true n p t e = refl
-    go true false n true t e = refl
-    go true false n false t e = cc
+    go : (d s l k w : Bool) (t : Token) → (d && (w && not l)) ≡ false →
+        cond (d && (s || (not k && (not w || l)))) (Some t) None ≡ None → (d && not (s || (l || k))) ≡ false
+    go false s l k w t g e = refl
+    go true true l k w t g e = refl
+    go true false true k w t g e = refl
+    go true false false true w t g e = refl
+    go true false false false true t g e = absurd (true≢false g)
+    go true false false false false t g e = cc
 
 no_own : (mode : Bool) (b : ℕ) (rest : List ℕ) → not_plain_on contrary mode (b ∷ rest) ≡ None → begins_own b rest ≡ false
 no_own mode b rest n =
@@ -125,6 +138,46 @@ block_quiet tail rest h = go (cases_Bool (begins_special tail)) (cases_Bool (is_
     go (inl p) (inl r) = rw r (or_right (not (begins_special tail)) true refl)
     go (inl p) (inr r) = absurd (loud p r h)
 
+-- ---- what ends at one byte
+
+-- the server has no number of its own, or ends what follows at once
+tail_quiet : (asked : Bool) (end : ℕ) (tail rest : List ℕ) → IsTailBy (cond asked (Some 0) None) end tail rest →
+    (asked ≡ false) ⊎ (tail ≡ [])
+tail_quiet false end tail rest h = inl refl
+tail_quiet true end tail rest (usual_end o u) = cc
+tail_quiet true end tail rest (own_end n o e) =
+    let z : n ≡ 0 = cc in
+    inr (sym e ∙ ap (λ k. take k (tail ++ rest)) z)
+
+line_quiet : (tail rest : List ℕ) → IsUpTo (newline ∷ []) tail rest → IsTailBy (line_on contrary (tail ++ rest)) newline tail rest →
+    holds_return tail ≡ false
+line_quiet tail rest u h =
+    elim (tail_quiet (holds_return (tail ++ rest)) newline tail rest h) [
+      | inl e ↦ sym (returns_alike tail rest u) ∙ e
+      | inr nil ↦ ap holds_return nil
+    ]
+
+identifier_quiet : (tail rest : List ℕ) → IsUpTo (backquote ∷ []) tail rest →
+    IsTailBy (identifier_on contrary (tail ++ rest)) backquote tail rest → escapes_backquote tail ≡ false
+identifier_quiet tail rest u h =
+    elim (tail_quiet (escapes_backquote (tail ++ rest)) backquote tail rest h) [
+      | inl e ↦ sym (escapes_alike tail rest u) ∙ e
+      | inr nil ↦ ap escapes_backquote nil
+    ]
+
+space_alone : (gap : ℕ) → is_white_space gap ≡ true → gap ≢ newline → opens_line contrary gap ≡ true → (gap == space) ≡ true
+space_alone gap w ne o = go (gap == space) (keeps_dashes gap) (rw (w, ne_eqb gap newline ne) at o)
+  where
+    go : (s k : Bool) → (s || (not k && (not true || false))) ≡ true → s ≡ true
+    go true k e = refl
+    go false true e = e
+    go false false e = e
+
+no_newline : (server : Server) (gap : ℕ) (tail rest : List ℕ) → gap ≢ newline → IsDashTail server gap tail rest →
+    IsTailBy (line_on server (tail ++ rest)) newline tail rest
+no_newline server gap tail rest ne (ended_tail e nil) = absurd (ne e)
+no_newline server gap tail rest ne (open_tail other h) = h
+
 -- ---- plain bytes
 
 slash_none : (mode : Bool) (b : ℕ) (rest : List ℕ) → b ≡ slash → not_plain_on contrary mode (b ∷ rest) ≡ None →
@@ -147,25 +200,30 @@ no_star (b ∷ bs) e = go (b == asterisk) e
     go true e = absurd (always_block bs e)
     go false e = refl
 
-plain_quiet : (mode : Bool) (b : ℕ) (rest : List ℕ) → not_plain_on contrary mode (b ∷ rest) ≡ None → differs_at b rest ≡ false
-plain_quiet mode b rest n =
+plain_quiet : (mode : Bool) (b : ℕ) (rest : List ℕ) → not_plain_at mode (b ∷ rest) ≡ None →
+    not_plain_on contrary mode (b ∷ rest) ≡ None → differs_at b rest ≡ false
+plain_quiet mode b rest g n =
     or_from _ _ (false_if (b == slash) _ (λ h. no_star rest (slash_none mode b rest (eqb-true b slash h) n)))
-    (or_from _ _ (false_if (b == dash) _ (λ h. no_line rest (dash_none_there mode b rest (eqb-true b dash h) n))) (no_own mode b rest n))
+    (or_from _ _ (false_if (b == dash) _ (λ h. no_line rest (dash_none_here mode b rest (eqb-true b dash h) g) (dash_none_there mode b rest (eqb-true b dash h) n))) (no_own mode b rest n))
 
 by_first : (p q : Bool) → p ≡ true → (p || q) ≡ true
 by_first p q e = rw e refl
 
+both : (p q : Bool) → p ≡ true → q ≡ true → (p && q) ≡ true
+both p q e f = rw (e, f) refl
+
 token_quiet : (mode : Bool) (t : Token) (rest : List ℕ) → IsToken mode t rest → IsTokenOn contrary mode t rest →
     is_read_alike t rest ≡ true
 token_quiet mode (QuotedString quote tail) rest h o = quoted_alike mode quote tail rest h.0 o
-token_quiet mode (QuotedIdentifier tail) rest h o = refl
-token_quiet mode (HashComment tail) rest h o = refl
-token_quiet mode (DashComment gap tail) rest h o = refl
+token_quiet mode (QuotedIdentifier tail) rest h o = ap not (identifier_quiet tail rest h o)
+token_quiet mode (HashComment tail) rest h o = ap not (line_quiet tail rest h o)
+token_quiet mode (DashComment gap tail) rest h o =
+    both _ _ (space_alone gap h.0 h.1 o.0) (ap not (line_quiet tail rest h.2 (no_newline contrary gap tail rest h.1 o.1)))
 token_quiet mode (BlockComment tail) rest h o = block_quiet tail rest o
 token_quiet mode (Name name) rest h o = refl
 token_quiet mode Mark rest h o = refl
 token_quiet mode (Plain b) rest h o =
-    by_first (is_alike_on_all (Plain b) rest) (b == slash && begins_quiet rest) (ap not (plain_quiet mode b rest (plain_none_on contrary mode b rest o)))
+    by_first (is_alike_on_all (Plain b) rest) (b == slash && begins_quiet rest) (ap not (plain_quiet mode b rest (plain_none mode b rest h) (plain_none_on contrary mode b rest o)))
 
 -- ---- rows of plain bytes
 
@@ -197,9 +255,6 @@ after_row_on server mode (b ∷ bs) us h = after_row_on server mode bs us h.1
 second_dash : (text : List ℕ) → is_read_alike (Plain dash) (newline ∷ text) ≡ true
 second_dash [] = refl
 second_dash (b ∷ text) = refl
-
-both : (p q : Bool) → p ≡ true → q ≡ true → (p && q) ≡ true
-both p q e f = rw (e, f) refl
 
 all_quiet : (mode : Bool) {ts us : List Token} → IsReadAs ts us → AreTokensBefore mode [] ts →
     AreTokensOn contrary mode us → AreReadAlikeBefore [] ts

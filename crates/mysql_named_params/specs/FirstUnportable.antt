@@ -1,8 +1,8 @@
 -- The first construct for which a query isn't portable: its kind and its position.
 use Rattle.std.specs.Prelude.{◌+◌, ◌==◌, ◌&&◌, not, ℕ, List, [], ◌∷◌, if◌then◌else◌, length, drop, Option, Some, None}
 use Rattle.mysql_named_params.specs.Bytes.{dash, exclamation_mark, plus, slash, begins, bracket, dollar, point}
-use Rattle.mysql_named_params.specs.Tokens.{Token, bytes_of, text_of, QuotedString, BlockComment, Plain}
-use Rattle.mysql_named_params.specs.Server.{begins_fraction}
+use Rattle.mysql_named_params.specs.Tokens.{Token, bytes_of, text_of, QuotedString, QuotedIdentifier, HashComment, DashComment, BlockComment, Plain}
+use Rattle.mysql_named_params.specs.Server.{begins_fraction, holds_return}
 use Rattle.mysql_named_params.specs.Portable.{is_read_alike, joins_number}
 use Rattle.mysql_named_params.specs.declared.portable.Construct.{Construct}
 use Rattle.mysql_named_params.specs.declared.portable.Construct.TheVariants as construct
@@ -26,9 +26,13 @@ plain_construct b rest =
     else construct.PlaceAfterExponent
 
 -- the construct that begins with this token before this text, which is not portable or joins a
--- number; only strings, block comments and plain bytes can be
+-- number; no name and no mark can be
 abbrev pub construct_at : Token → List ℕ → Construct
 construct_at (QuotedString quote tail) rest = construct.EscapedQuote
+construct_at (QuotedIdentifier tail) rest = construct.EscapedBackquote
+construct_at (HashComment tail) rest = construct.ReturnInComment
+construct_at (DashComment gap tail) rest =
+    if holds_return (gap ∷ tail) then construct.ReturnInComment else construct.Dashes
 construct_at (BlockComment tail) rest = special_construct tail
 construct_at (Plain b) rest = plain_construct b rest
 construct_at t rest = construct.PlaceAfterExponent

@@ -2,8 +2,8 @@
 -- functions of `portable.rt`; no public contract cites it.
 use Rattle.std.specs.Prelude.{◌-◌, ◌==◌, ◌&&◌, ◌||◌, not, ℕ, List, [], ◌∷◌, if◌then◌else◌, take, Option, Some, None}
 use Rattle.std.specs.Char.{is_ascii_digit}
-use Rattle.mysql_named_params.specs.Bytes.{asterisk, dash, double_quote, slash, bracket, dollar, point}
-use Rattle.mysql_named_params.specs.Server.{begins_special, begins_tag, begins_fraction}
+use Rattle.mysql_named_params.specs.Bytes.{asterisk, backquote, dash, double_quote, hash, slash, bracket, dollar, point}
+use Rattle.mysql_named_params.specs.Server.{begins_special, begins_tag, begins_fraction, holds_return, escapes_backquote}
 use Rattle.mysql_named_params.specs.Quiet.{is_quiet}
 use Rattle.mysql_named_params.specs.Portable.{stands_inside, may_open_line, begins_exponent}
 use Rattle.mysql_named_params.specs.FirstUnportable.{special_construct}
@@ -24,6 +24,10 @@ front_construct [] len = None
 front_construct (b ∷ bs) len =
     if b == double_quote && stands_inside double_quote (take (len - 1) bs)
     then Some construct.EscapedQuote
+    else if b == backquote && escapes_backquote (take (len - 1) bs)
+    then Some construct.EscapedBackquote
+    else if (b == hash || b == dash) && holds_return (take (len - 1) bs)
+    then Some construct.ReturnInComment
     else if b == slash then block_construct bs
     else if b == dash && may_open_line bs then Some construct.Dashes
     else if b == bracket then Some construct.Bracket

@@ -4,9 +4,9 @@
 use Rattle.std.specs.Prelude.{ℕ, IsTrue, IsFalse, Bool, true, false, not, ◌==◌, ◌&&◌, ◌||◌, List, [], ◌∷◌, ◌++◌, ⊤}
 use Rattle.std.specs.Char.{is_ascii_digit}
 use Rattle.std.specs.Str.{byte}
-use Rattle.mysql_named_params.specs.Bytes.{asterisk, dash, double_quote, newline, plus, slash, is_white_space, begins, point}
-use Rattle.mysql_named_params.specs.Tokens.{Token, text_of, text_then, QuotedString, DashComment, BlockComment, Plain}
-use Rattle.mysql_named_params.specs.Server.{keeps_dashes, begins_special, begins_own, begins_place}
+use Rattle.mysql_named_params.specs.Bytes.{asterisk, dash, double_quote, newline, plus, slash, space, begins, point}
+use Rattle.mysql_named_params.specs.Tokens.{Token, text_of, text_then, QuotedString, QuotedIdentifier, HashComment, DashComment, BlockComment, Plain}
+use Rattle.mysql_named_params.specs.Server.{keeps_dashes, begins_special, begins_own, begins_place, holds_return, escapes_backquote}
 use Rattle.mysql_named_params.specs.Quiet.{IsQuietComment, is_quiet, begins_quiet, plain_then}
 
 -- the byte stands before the last one
@@ -15,11 +15,12 @@ stands_inside q [] = false
 stands_inside q (b ∷ []) = false
 stands_inside q (b ∷ c ∷ bs) = b == q || stands_inside q (c ∷ bs)
 
--- after a plain `-`: another, and a byte with which some servers open a comment
+-- after a `-`: another, and a byte before which some servers alone open a comment
 abbrev pub may_open_line : List ℕ → Bool
 may_open_line [] = false
 may_open_line (b ∷ []) = false
-may_open_line (b ∷ gap ∷ bs) = b == dash && not (is_white_space gap || keeps_dashes gap)
+may_open_line (b ∷ gap ∷ bs) =
+    b == dash && not (gap == space || (gap == newline || keeps_dashes gap))
 
 -- this plain byte, before this text, begins a construct that servers read in different ways
 abbrev pub differs_at : ℕ → List ℕ → Bool
@@ -32,6 +33,9 @@ differs_at b rest =
 abbrev pub is_read_alike : Token → List ℕ → Bool
 is_read_alike (QuotedString quote tail) rest =
     not (quote == double_quote && stands_inside quote tail)
+is_read_alike (QuotedIdentifier tail) rest = not (escapes_backquote tail)
+is_read_alike (HashComment tail) rest = not (holds_return tail)
+is_read_alike (DashComment gap tail) rest = gap == space && not (holds_return tail)
 is_read_alike (BlockComment tail) rest = not (begins_special tail) || is_quiet (tail ++ rest)
 is_read_alike (Plain b) rest = not (differs_at b rest) || (b == slash && begins_quiet rest)
 is_read_alike t rest = true

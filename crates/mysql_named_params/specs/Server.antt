@@ -10,19 +10,23 @@
 --   `[`             MariaDB Knowledge Base, "SQL_MODE=MSSQL"
 --   `$$`, `$tag$`   MySQL Reference Manual 9, "JavaScript Stored Programs" (dollar-quoted text)
 --   `1.e--`         MySQL Reference Manual, "Numeric Literals" (an exponent has digits)
+--   CR, `--`, `\`   the ends of comments and identifiers to MariaDB's InnoDB, which reads an
+--                   `ALTER TABLE` again (MariaDB 10.11, `storage/innobase/dict/dict0dict.cc`): a
+--                   carriage return ends a comment of one line, `--` begins one before a space
+--                   alone, and a backslash escapes in backquotes
 -- A point is asked of the text after the construct. MySQL asks what stands before it too: `/*+` is
 -- a hint after some words alone, and `$$` within a name opens nothing. So MySQL is one of these
 -- servers for each text, since no two places of a text have the same text after them, and none of
--- them for all texts.
+-- them for all texts. InnoDB is one of them with backslash escapes, up to a byte 0, where it stops.
 -- No server here has these readings: `;` and white space at the end of a text are cut off before it
 -- is read, so that `--` before them opens a comment (MySQL and MariaDB; no value stands in it);
--- `/*T! .. */` is executed (TiDB); `--` before a form feed is two plain bytes (Vitess). And MySQL
--- and MariaDB refuse each text in which one of them reads a quote, `#` or a byte of `/*` or `*/` as
--- a plain byte: after `1.e`, after a backslash outside of quotes, after `@@`.
+-- `/*T! .. */` is executed (TiDB). And MySQL and MariaDB refuse each text in which one of them
+-- reads a quote, `#` or a byte of `/*` or `*/` as a plain byte: after `1.e`, after a backslash
+-- outside of quotes, after `@@`.
 use Rattle.std.specs.Prelude.{◌≡◌, ◌≢◌, ℕ, IsTrue, IsFalse, Bool, false, not, ◌==◌, ◌&&◌, ◌||◌, nat_le, if◌then◌else◌, List, [], ◌∷◌, ◌++◌, take, Option, Some, None, ⊤}
 use Rattle.std.specs.Char.{is_ascii_digit}
 use Rattle.std.specs.Str.{byte}
-use Rattle.mysql_named_params.specs.Bytes.{asterisk, backquote, colon, dash, double_quote, exclamation_mark, newline, plus, question_mark, slash, is_white_space, is_name_byte, is_start_byte, is_string_quote, is_extension, begins, IsUpTo, bracket, dollar, point}
+use Rattle.mysql_named_params.specs.Bytes.{asterisk, backquote, carriage_return, colon, dash, double_quote, exclamation_mark, newline, plus, question_mark, slash, space, is_white_space, is_name_byte, is_start_byte, is_string_quote, is_extension, begins, IsUpTo, bracket, dollar, point}
 use Rattle.mysql_named_params.specs.Tokens.{Token, bytes_of, text_of, IsStringTail, IsName, QuotedString, QuotedIdentifier, HashComment, DashComment, BlockComment, Name, Mark, Plain}
 
 -- Before this byte `--` is two plain bytes on each server: printable ASCII except the space and
@@ -81,6 +85,20 @@ abbrev pub begins_own : ℕ → List ℕ → Bool
 begins_own b bs =
     b == bracket || ((b == dollar && begins_tag bs) || (b == point && begins_fraction bs))
 
+-- in the text, up to its first newline, a carriage return that doesn't stand directly before that
+abbrev pub holds_return : List ℕ → Bool
+holds_return [] = false
+holds_return (b ∷ bs) =
+    not (b == newline)
+    && ((b == carriage_return && not (begins (λ c. c == newline) bs)) || holds_return bs)
+
+-- a backslash directly before the first backquote of the text
+abbrev pub escapes_backquote : List ℕ → Bool
+escapes_backquote [] = false
+escapes_backquote (b ∷ bs) =
+    not (b == backquote)
+    && ((b == byte "\\" && begins (λ c. c == backquote) bs) || escapes_backquote bs)
+
 -- what a server makes of `/*` and the text after it
 pub data Block : Type 0 where
   -- the `/` is a plain byte, and what follows is read
@@ -97,17 +115,30 @@ pub record Server : Type 0 where
   -- the number of bytes after this byte that belong to it, a closing quote among them; none: it is
   -- a plain byte; asked if `begins_own`
   pub quotes : ℕ → List ℕ → Option ℕ
-  -- the bytes before which `--` opens a comment, beside the white space before which it always
-  -- does; asked for the newline, with which the comment is empty, and for bytes that do not
-  -- keep dashes plain
+  -- the bytes before which `--` opens a comment, beside the space, before which it always does;
+  -- asked for the newline, with which the comment is empty, and for bytes that do not keep dashes
+  -- plain
   pub also_opens : ℕ → Bool
+  -- the number of bytes that belong to a comment of one line, after `#` or after `--` and a byte;
+  -- none: those up to the newline; asked if `holds_return`
+  pub lines : List ℕ → Option ℕ
+  -- the number of bytes after a backquote that belong to the identifier; none: those up to the next
+  -- backquote; asked if `escapes_backquote`
+  pub identifiers : List ℕ → Option ℕ
   -- whether `"` opens an identifier, in which nothing escapes
   pub ansi_quotes : Bool
 
 -- `--` before this byte opens a comment on the server
 abbrev pub opens_line : Server → ℕ → Bool
-opens_line server b =
-    (is_white_space b && not (b == newline)) || (not (keeps_dashes b) && server.also_opens b)
+opens_line server b = b == space || (not (keeps_dashes b) && server.also_opens b)
+
+-- the number of bytes of a comment of one line on the server, if it isn't up to the newline
+abbrev pub line_on : Server → List ℕ → Option ℕ
+line_on server text = if holds_return text then server.lines text else None
+
+-- the number of bytes of an identifier on the server, if it isn't up to the next backquote
+abbrev pub identifier_on : Server → List ℕ → Option ℕ
+identifier_on server text = if escapes_backquote text then server.identifiers text else None
 
 -- the mode in which a text in these quotes is read: that of strings, or without escapes
 abbrev pub reads_in : Server → Bool → ℕ → Bool
@@ -126,6 +157,21 @@ pub data IsBlockTail (server : Server) (tail rest : List ℕ) : Type 0 where
   own_block : (n : ℕ) → block_on server (tail ++ rest) ≡ comment_of n →
       take n (tail ++ rest) ≡ tail → IsBlockTail server tail rest
 
+-- what follows the sign that opens a token, before a rest, by the number that the server may have
+pub data IsTailBy (own : Option ℕ) (end : ℕ) (tail rest : List ℕ) : Type 0 where
+  -- up to the end of the grammar
+  usual_end : own ≡ None → IsUpTo (end ∷ []) tail rest → IsTailBy own end tail rest
+  -- as the server has it
+  own_end : (n : ℕ) → own ≡ Some n → take n (tail ++ rest) ≡ tail → IsTailBy own end tail rest
+
+-- what follows `--` and this byte in a comment, before a rest
+pub data IsDashTail (server : Server) (gap : ℕ) (tail rest : List ℕ) : Type 0 where
+  -- nothing, since the byte is a newline
+  ended_tail : gap ≡ newline → tail ≡ [] → IsDashTail server gap tail rest
+  -- what follows in a comment of one line
+  open_tail : gap ≢ newline → IsTailBy (line_on server (tail ++ rest)) newline tail rest →
+      IsDashTail server gap tail rest
+
 -- what follows this byte, which opens a text in quotes, before a rest
 pub data IsQuotedTail (server : Server) (mode : Bool) (quote : ℕ) (tail rest : List ℕ)
     : Type 0 where
@@ -141,10 +187,12 @@ pub data IsQuotedTail (server : Server) (mode : Bool) (quote : ℕ) (tail rest :
 -- a token other than a plain byte on the server, before a rest
 abbrev pub IsNotPlainOn : Server → Bool → Token → List ℕ → Type 0
 IsNotPlainOn server mode (QuotedString quote tail) rest = IsQuotedTail server mode quote tail rest
-IsNotPlainOn server mode (QuotedIdentifier tail) rest = IsUpTo (backquote ∷ []) tail rest
-IsNotPlainOn server mode (HashComment tail) rest = IsUpTo (newline ∷ []) tail rest
+IsNotPlainOn server mode (QuotedIdentifier tail) rest =
+    IsTailBy (identifier_on server (tail ++ rest)) backquote tail rest
+IsNotPlainOn server mode (HashComment tail) rest =
+    IsTailBy (line_on server (tail ++ rest)) newline tail rest
 IsNotPlainOn server mode (DashComment gap tail) rest =
-    IsTrue (opens_line server gap) × IsUpTo (newline ∷ []) (gap ∷ tail) rest
+    IsTrue (opens_line server gap) × IsDashTail server gap tail rest
 IsNotPlainOn server mode (BlockComment tail) rest = IsBlockTail server tail rest
 IsNotPlainOn server mode (Name name) rest = IsName name × IsFalse (begins is_name_byte rest)
 IsNotPlainOn server mode Mark rest = ⊤
@@ -179,6 +227,8 @@ abbrev pub grammar : Server
 grammar = record {
   special = grammar_special;
   quotes = λ b text. None;
-  also_opens = λ b. false;
+  also_opens = λ b. is_white_space b && not (b == newline);
+  lines = λ text. None;
+  identifiers = λ text. None;
   ansi_quotes = false;
 }

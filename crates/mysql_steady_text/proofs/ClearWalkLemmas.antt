@@ -3,7 +3,7 @@ use Rattle.std.specs.Prelude.{Bool, cond, not}
 use Rattle.std.proofs.Common.{◌≡◌, ◌==◌, ◌&&◌, ◌||◌, ◌+◌, ◌-◌, ◌<◌, ◌≤◌, ℕ, zero, suc, true, false, List, [], ◌∷◌, length, drop, get_or, refl, sym, ap, ◌∙◌, subst, arith, ne_eqb}
 use Rattle.std.proofs.lemmas.Bool.{and_parts, or_parts, not-true}
 use Rattle.std.proofs.lemmas.List.{drop_more}
-use Rattle.mysql_named_params.specs.Bytes.{bracket, colon, dash, dollar, question_mark, slash, space}
+use Rattle.mysql_named_params.specs.Bytes.{bracket, carriage_return, colon, dash, dollar, question_mark, slash, space}
 use Rattle.mysql_named_params.specs.Steady.{is_steady}
 use Rattle.mysql_steady_text.specs.Clear.{is_sure, is_in_doubt, is_clear_after, byte_before, is_clear_from, AreSure}
 use Rattle.mysql_steady_text.proofs.ClearLemmas.{and_false}
@@ -32,12 +32,13 @@ passed_here text k lt h = sym (clear_here text k lt ∙ ap (λ d. not d && is_cl
 pub sure_is_in_no_doubt : (before b : ℕ) (rest : List ℕ) → is_sure b ≡ true → is_in_doubt before b rest ≡ false
 sure_is_in_no_doubt before b rest h =
     let p = and_parts (is_steady b) _ h in
-    let q1 = or_parts (b == bracket) _ (not-true _ p.1) in
+    let q0 = or_parts (b == carriage_return) _ (not-true _ p.1) in
+    let q1 = or_parts (b == bracket) _ q0.1 in
     let q2 = or_parts (b == dollar) _ q1.1 in
     let q3 = or_parts (b == slash) _ q2.1 in
     let q4 = or_parts (b == dash) _ q3.1 in
     let q5 = or_parts (b == colon) (b == question_mark) q4.1 in
-    rw (p.0, q1.0, q2.0, q3.0, q4.0, q5.0, q5.1) (and_false _)
+    rw (p.0, q0.0, q1.0, q2.0, q3.0, q4.0, q5.0, q5.1) (and_false _)
 
 pub sure_run : (text : List ℕ) (from n : ℕ) → from + n ≤ length text → AreSure text from (from + n) →
     is_clear_from text (from + n) ≡ is_clear_from text from

@@ -4,7 +4,7 @@
 use Rattle.std.specs.Prelude.{◌≡◌, ◌-◌, ◌<◌, ◌≤◌, ◌==◌, ◌&&◌, ◌||◌, not, ℕ, Bool, true, false, List, [], ◌∷◌, if◌then◌else◌, drop, slice_index, Option, Some, None, option_map}
 use Rattle.std.specs.Char.{is_ascii_digit}
 use Rattle.std.specs.Str.{byte}
-use Rattle.mysql_named_params.specs.Bytes.{asterisk, bracket, colon, dash, dollar, plus, point, question_mark, slash, space, begins}
+use Rattle.mysql_named_params.specs.Bytes.{asterisk, bracket, carriage_return, colon, dash, dollar, newline, plus, point, question_mark, slash, space, begins}
 use Rattle.mysql_named_params.specs.FirstUnportable.{first_unportable}
 use Rattle.mysql_named_params.specs.Portable.{may_open_line}
 use Rattle.mysql_named_params.specs.Server.{begins_place, begins_special, is_tag_byte}
@@ -14,13 +14,13 @@ use Rattle.mysql_named_params.specs.declared.portable.Unportable.{Unportable}
 use Rattle.mysql_steady_text.specs.declared.steady_text_error.SteadyTextError.{SteadyTextError}
 use Rattle.mysql_steady_text.specs.declared.steady_text_error.SteadyTextError.TheVariants as error
 
--- a steady byte with which no construct begins, in whatever text it stands, and that no place
--- begins with
+-- a steady byte with which no construct begins, in whatever text it stands, that no place begins
+-- with, and that ends no comment
 abbrev pub is_sure : ℕ → Bool
 is_sure b =
     is_steady b
-    && not (b == bracket || (b == dollar
-    || (b == slash || (b == dash || (b == colon || b == question_mark)))))
+    && not (b == carriage_return || (b == bracket || (b == dollar
+    || (b == slash || (b == dash || (b == colon || b == question_mark))))))
 
 -- after a `$` such a byte may begin a tag, or a place
 abbrev pub may_begin_tag : ℕ → Bool
@@ -48,12 +48,13 @@ may_take_place b = is_ascii_digit b || (b == point || is_sign b)
 abbrev pub is_in_doubt : ℕ → ℕ → List ℕ → Bool
 is_in_doubt before b rest =
     not (is_steady b)
+    || ((b == carriage_return && not (begins (λ c. c == newline) rest))
     || (b == bracket
     || ((b == dollar && begins may_begin_tag rest)
     || ((b == slash && begins_special_block rest)
     || ((b == dash
     && (may_open_line rest || (may_take_dashes before && begins (λ c. c == dash) rest)))
-    || (may_take_place before && begins_place (b ∷ rest))))))
+    || (may_take_place before && begins_place (b ∷ rest)))))))
 
 -- after this byte, no byte of the text is in doubt
 abbrev pub is_clear_after : ℕ → List ℕ → Bool

@@ -1,7 +1,7 @@
 //! A quick test for queries that are steady and portable: it looks at 16 bytes at once, and closer
 //! only at those that may begin or end a construct.
 ghost use Rattle.std.specs.Prelude.{◌≡◌, ◌==◌, ◌+◌, ◌≤◌, false, length, IsTrue, IsFalse};
-ghost use Rattle.mysql_named_params.specs.Bytes.{begins, dash, is_start_byte};
+ghost use Rattle.mysql_named_params.specs.Bytes.{begins, dash, is_start_byte, newline};
 ghost use Rattle.mysql_named_params.specs.Portable.{may_open_line};
 ghost use Rattle.mysql_named_params.specs.Server.{keeps_dashes};
 ghost use Rattle.mysql_steady_text.specs.Clear.{AreSure, begins_special_block, byte_before, is_clear, is_clear_from, is_in_doubt, is_sign, is_sure, may_begin_tag, may_take_dashes, may_take_place};
@@ -36,7 +36,8 @@ fn are_sure(text: &[u8], at: usize) -> bool
     let bracket_or_dollar = bytes.simd_eq(u8x16::splat(b'[')) | bytes.simd_eq(u8x16::splat(b'$'));
     let slash_or_dash = bytes.simd_eq(u8x16::splat(b'/')) | bytes.simd_eq(u8x16::splat(b'-'));
     let places = bytes.simd_eq(u8x16::splat(b':')) | bytes.simd_eq(u8x16::splat(b'?'));
-    let others = (unsteady | bracket_or_dollar) | (slash_or_dash | places);
+    let returns = bytes.simd_eq(u8x16::splat(b'\r'));
+    let others = ((unsteady | bracket_or_dollar) | (slash_or_dash | places)) | returns;
     others.to_bitmask() == 0
 }
 
@@ -71,6 +72,7 @@ fn is_in_doubt(before: u8, byte: u8, rest: &[u8]) -> bool
 {
     match byte {
         b'[' | b'\\' | 128.. => true,
+        b'\r' => !begins_newline(rest),
         b'$' => begins_tag(rest),
         b'/' => begins_special_block(rest),
         b'-' => may_open_line(rest) || may_take_dashes(before) && begins_dash(rest),
@@ -78,6 +80,13 @@ fn is_in_doubt(before: u8, byte: u8, rest: &[u8]) -> bool
         b':' => may_take_place(before) && begins_name(rest),
         _ => false,
     }
+}
+
+// Whether the text begins with a newline.
+fn begins_newline(text: &[u8]) -> bool
+    ensures { result ≡ begins (λ c. c == newline) text.now }
+{
+    matches!(text, [b'\n', ..])
 }
 
 // Whether the text begins with a byte that may begin a tag after a `$`, or a place.
@@ -116,7 +125,7 @@ fn may_open_line(text: &[u8]) -> bool
     ensures { result ≡ may_open_line text.now }
 {
     match text {
-        [b'-', gap, ..] => !(gap.is_ascii_whitespace() || keeps_dashes(*gap)),
+        [b'-', gap, ..] => !(*gap == b' ' || *gap == b'\n' || keeps_dashes(*gap)),
         _ => false,
     }
 }
@@ -166,7 +175,7 @@ fn begins_name(text: &[u8]) -> bool
     }
 }
 
-// Whether no construct and no place begins with the byte, and it is steady.
+// Whether no construct and no place begins with the byte, it ends no comment, and it is steady.
 fn is_sure(byte: u8) -> bool
     ensures { result ≡ is_sure byte }
 {
@@ -175,7 +184,7 @@ fn is_sure(byte: u8) -> bool
 
 // `1` for each sure byte, 32 bytes a line.
 static SURE: [u8; 256] = *b"\
-    11111111111111111111111111111111\
+    11111111111110111111111111111111\
     11110111111110101111111111011110\
     11111111111111111111111111100111\
     11111111111111111111111111111111\

@@ -16,4 +16,4 @@ returns c whole =
     let slash_or_dash = joined _ _ _ v (zip2_splat _ v 16 _ long) (zip2_splat _ v 16 _ long) in
     let places = joined _ _ _ v (zip2_splat _ v 16 _ long) (zip2_splat _ v 16 _ long) in
     all_pass is_sure c.args.text.now c.args.at 16 _ c.requires few c.type_inv.text (eqb-true _ _ whole) _
-    (joined _ _ _ v (joined _ _ _ v unsteady bracket_or_dollar) (joined _ _ _ v slash_or_dash places)) refl
+    (joined _ _ _ v (joined _ _ _ v (joined _ _ _ v unsteady bracket_or_dollar) (joined _ _ _ v slash_or_dash places)) (zip2_splat _ v 16 _ long)) refl
