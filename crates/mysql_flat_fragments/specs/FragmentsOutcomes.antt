@@ -1,7 +1,7 @@
 -- What became of a call that binds fragments into a caller's room, as a number and fields.
 use Rattle.std.specs.Prelude.{◌≡◌, ℕ, ℤ, pos, ⊤}
 use Rattle.mysql_fragments.specs.declared.fragments_error.FragmentFault.{FragmentFault}
-use Rattle.mysql_fragments.specs.declared.fragments_error.FragmentFault.TheVariants.{Empty, EmptyRow, RowLength, Number, EmptyName, ZeroByte, LongName, TrailingSpace, Keyword}
+use Rattle.mysql_fragments.specs.declared.fragments_error.FragmentFault.TheVariants.{Empty, EmptyRow, RowLength, Number, EmptyName, ZeroByte, LongName, TrailingSpace, Keyword, Backslash}
 use Rattle.mysql_flat_params.specs.Outcomes as values
 use Rattle.mysql_flat_params.specs.Outcomes.{no_fields}
 use Rattle.mysql_flat_params.specs.declared.outcome.Report.{Report}
@@ -19,6 +19,7 @@ fault_number (ZeroByte part) = 6
 fault_number (LongName part) = 7
 fault_number (TrailingSpace part) = 8
 fault_number Keyword = 9
+fault_number (Backslash part) = 10
 
 -- the row of a fault; 0 if it has none
 abbrev pub fault_row : FragmentFault → ℕ
@@ -34,6 +35,7 @@ fault_item (EmptyName part) = part
 fault_item (ZeroByte part) = part
 fault_item (LongName part) = part
 fault_item (TrailingSpace part) = part
+fault_item (Backslash part) = part
 fault_item fault = 0
 
 -- the number of an outcome: those of binding values, and two more

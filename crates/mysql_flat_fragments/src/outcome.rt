@@ -85,6 +85,7 @@ fn fault_number(fault: FragmentFault) -> usize
         FragmentFault::LongName { .. } => 7,
         FragmentFault::TrailingSpace { .. } => 8,
         FragmentFault::Keyword => 9,
+        FragmentFault::Backslash { .. } => 10,
     }
 }
 
@@ -109,7 +110,8 @@ fn fault_item(fault: FragmentFault) -> usize
         FragmentFault::EmptyName { part }
         | FragmentFault::ZeroByte { part }
         | FragmentFault::LongName { part }
-        | FragmentFault::TrailingSpace { part } => part,
+        | FragmentFault::TrailingSpace { part }
+        | FragmentFault::Backslash { part } => part,
         _ => 0,
     }
 }

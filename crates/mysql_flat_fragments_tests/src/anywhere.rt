@@ -86,7 +86,15 @@ const REFUSED: &[(&[u8], &[u8], FragmentsOutcome)] = &[
     ),
     (
         b"?, ?",
-        b"\0\xfd\0\x02\xc3\xa9\0\x84\0\x02\0\0\0\x01a\x02b\\",
+        b"\0\x83\0\x02\xc3\xa9\0\x83\0\x02b\\",
+        FragmentsOutcome::Fault {
+            place: 1,
+            fault: FragmentFault::Backslash { part: 0 },
+        },
+    ),
+    (
+        b"?, ?",
+        b"\0\xfd\0\x02\xc3\xa9\0\x84\0\x02\0\0\0\x01a\x02\\b",
         FragmentsOutcome::UnsteadyFragment { place: 1 },
     ),
 ];

@@ -25,6 +25,7 @@ const TEXTS: &[(&[u8], &[u8], &[u8])] = &[
         b"VALUES (1, 'it'), (-1, '\\'')",
     ),
     (b"FROM ?", b"\0\x83\0\x03a`b", b"FROM `a``b`"),
+    (b"FROM ?", b"\0\x83\0\x03a\\b", b"FROM `a\\b`"),
     (
         b"FROM ?",
         b"\0\x84\0\x02\0\0\0\x02db\x01t",
@@ -151,6 +152,23 @@ const REFUSED: &[(&[u8], &[u8], FragmentsOutcome)] = &[
         FragmentsOutcome::Fault {
             place: 1,
             fault: FragmentFault::EmptyName { part: 1 },
+        },
+    ),
+    // A backslash at the end, and before a backquote in the second name.
+    (
+        b"?",
+        b"\0\x83\0\x02a\\",
+        FragmentsOutcome::Fault {
+            place: 0,
+            fault: FragmentFault::Backslash { part: 0 },
+        },
+    ),
+    (
+        b"?",
+        b"\0\x84\0\x02\0\0\0\x01a\x04b\\`c",
+        FragmentsOutcome::Fault {
+            place: 0,
+            fault: FragmentFault::Backslash { part: 1 },
         },
     ),
     // A text from outside is no keyword.

@@ -1,7 +1,7 @@
 -- The report on the first construct for which a query isn't portable: a number and a position.
 use Rattle.std.specs.Prelude.{ℕ, Option, Some, None}
 use Rattle.mysql_named_params.specs.declared.portable.Construct.{Construct}
-use Rattle.mysql_named_params.specs.declared.portable.Construct.TheVariants.{ExecutableComment, Hint, MariaDbComment, Dashes, EscapedQuote, Bracket, DollarQuote, DashesAfterExponent, PlaceAfterExponent, OpenerInComment, JoiningComment, DashesBeforeComment, ClientCommand, DashInFront, Delimiter, ClientWord, EscapedNewline, ZeroByte}
+use Rattle.mysql_named_params.specs.declared.portable.Construct.TheVariants.{ExecutableComment, Hint, MariaDbComment, Dashes, EscapedQuote, Bracket, DollarQuote, DashesAfterExponent, PlaceAfterExponent, OpenerInComment, JoiningComment, DashesBeforeComment, ClientCommand, DashInFront, Delimiter, ClientWord, EscapedNewline, ZeroByte, EscapedBackquote, ReturnInComment}
 use Rattle.mysql_named_params.specs.declared.portable.Unportable.{Unportable}
 use Rattle.mysql_flat_params.specs.Outcomes.{no_fields}
 use Rattle.mysql_flat_params.specs.declared.outcome.Report.{Report}
@@ -26,6 +26,8 @@ construct_number Delimiter = 15
 construct_number ClientWord = 16
 construct_number EscapedNewline = 17
 construct_number ZeroByte = 18
+construct_number EscapedBackquote = 19
+construct_number ReturnInComment = 20
 
 -- the number of what was found: 0 if nothing was
 abbrev pub unportable_number : Option Unportable → ℕ

@@ -15,7 +15,7 @@ use mysql_named_params::portable::{Construct, Unportable, first_unportable};
 /// query is portable; the position is 0 then too.
 ///
 /// The numbers are 1 for [`Construct::ExecutableComment`], and then in the order of the
-/// declaration up to 9. All other fields of the report are 0. Nothing is allocated.
+/// declaration up to 9, 19 and 20. All other fields of the report are 0. Nothing is allocated.
 pub fn report_first_unportable(query: &[u8], no_backslash_escape: bool, report: &mut Report) -> i32
     ensures number { OnTokens no_backslash_escape query.now (λ ts.
         result ≡ pos (unportable_number (first_unportable ts))) }
@@ -32,7 +32,7 @@ pub fn report_first_unportable(query: &[u8], no_backslash_escape: bool, report: 
 /// [`report_first_unportable`] does. It returns 0 if and only if there is none.
 ///
 /// The numbers are 1 for [`Construct::ExecutableComment`], and then in the order of the
-/// declaration up to 18.
+/// declaration up to 20.
 pub fn report_first_unportable_in_client(
     query: &[u8],
     no_backslash_escape: bool,
@@ -73,7 +73,7 @@ fn number_and_report(found: Option<Unportable>, report: &mut Report) -> i32
 }
 
 /// The number of a construct: 1 for [`Construct::ExecutableComment`], and then in the order of the
-/// declaration up to 18.
+/// declaration up to 20.
 pub fn construct_number(construct: Construct) -> u8
     ensures { result ≡ construct_number construct }
 {
@@ -96,5 +96,7 @@ pub fn construct_number(construct: Construct) -> u8
         Construct::ClientWord => 16,
         Construct::EscapedNewline => 17,
         Construct::ZeroByte => 18,
+        Construct::EscapedBackquote => 19,
+        Construct::ReturnInComment => 20,
     }
 }

@@ -13,9 +13,9 @@ const TEXTS: &[(&[u8], &[u8], &[u8])] = &[
     ),
     // Backslashes outside of strings.
     (
-        b"`\xC3\xBC\\`, :b # \\'",
+        b"`\\\xC3\xBC`, :b # \\'",
         b"\x01b\xfd\0\x02\xc3\xa9",
-        b"`\xC3\xBC\\`, _utf8mb4 0xC3A9 # \\'",
+        b"`\\\xC3\xBC`, _utf8mb4 0xC3A9 # \\'",
     ),
     // Bytes that are no UTF-8, in the query and in the value.
     (b"'\xFF', ?", b"\0\xfd\0\x01\xff", b"'\xFF', 0xFF"),
@@ -70,6 +70,14 @@ const REFUSALS: &[(&[u8], &[u8], Outcome)] = &[
         Outcome::Unportable {
             number: 6,
             position: 3,
+        },
+    ),
+    (
+        b"`\xC3\xBC\\` [:a ?",
+        b"",
+        Outcome::Unportable {
+            number: 19,
+            position: 0,
         },
     ),
     (b"'\xC3\xBC', :a ?", b"", Outcome::Mixed),

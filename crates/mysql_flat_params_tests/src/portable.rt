@@ -28,6 +28,13 @@ const CONSTRUCTS: &[(&[u8], i32, usize)] = &[
     (b"$x y$_0\xff$", 7, 4),
     (b"1.5e-- x", 8, 1),
     (b"12.75E-:a", 9, 4),
+    // What an engine of MariaDB's reads again.
+    (b"1 --\t2", 4, 2),
+    (b"1 --\r\n2", 4, 2),
+    (b"1, `a\\`", 19, 3),
+    (b"1 # a\r2\n", 20, 2),
+    (b"1 --\ta\r2", 20, 2),
+    (b"1, `\\a` # a\r\n -- b\r\n", 0, 0),
     // Of several the first.
     (b"'[', $$, [", 7, 5),
     (b"\"\\\\\" $:a", 7, 5),
@@ -105,6 +112,8 @@ const IN_CLIENT: &[(&[u8], i32, usize)] = &[
     (b"use a", 16, 0),
     (b"1, 'a\\\n'", 17, 3),
     (b"1, '\0'", 18, 3),
+    (b"1, `a\\`", 19, 3),
+    (b"1 -- a\r2", 20, 2),
 ];
 
 #[test]
@@ -139,6 +148,8 @@ const NUMBERS: &[(Construct, u8)] = &[
     (Construct::ClientWord, 16),
     (Construct::EscapedNewline, 17),
     (Construct::ZeroByte, 18),
+    (Construct::EscapedBackquote, 19),
+    (Construct::ReturnInComment, 20),
 ];
 
 #[test]

@@ -371,9 +371,9 @@ pub extern "C" fn mysql_params_bind_fragments_anywhere(
 /// would join a number: [`report_first_unportable`].
 ///
 /// Returns 0 if and only if there is none: then the query is portable. Else it returns the
-/// number of the [`Construct`](mysql_named_params::portable::Construct), 1 to 9 in the order of its
-/// declaration, and the report has its position in the query. All other fields of the report are 0.
-/// Nothing is allocated. The flag is true if the connection's `sql_mode` has
+/// number of the [`Construct`](mysql_named_params::portable::Construct), in the order of its
+/// declaration 1 to 9, 19 or 20, and the report has its position in the query. All other fields of
+/// the report are 0. Nothing is allocated. The flag is true if the connection's `sql_mode` has
 /// `NO_BACKSLASH_ESCAPES`.
 #[unsafe(no_mangle)]
 pub extern "C" fn mysql_params_first_unportable(
@@ -395,7 +395,7 @@ pub extern "C" fn mysql_params_first_unportable(
 /// keeps comments reads or sends something else: [`report_first_unportable_in_client`].
 ///
 /// Returns 0 if and only if there is none. Else it returns the number of the
-/// [`Construct`](mysql_named_params::portable::Construct), 1 to 18 in the order of its declaration,
+/// [`Construct`](mysql_named_params::portable::Construct), 1 to 20 in the order of its declaration,
 /// and the report has its position in the query. All other fields of the report are 0. Nothing is
 /// allocated. The flag is true if the connection's `sql_mode` has `NO_BACKSLASH_ESCAPES`.
 #[unsafe(no_mangle)]
