@@ -38,9 +38,9 @@ const TEXTS: &[(&[u8], Given<'_>, &[u8])] = &[
     ),
     // Backslashes outside of strings.
     (
-        b"SELECT `\xC3\xBC\\`, 'a''b', ? # \\'",
+        b"SELECT `\\\xC3\xBC`, 'a''b', ? # \\'",
         Given::Positional(&[Plain::Text(b"it's")]),
-        b"SELECT `\xC3\xBC\\`, 'a''b', _utf8mb4'it''s' # \\'",
+        b"SELECT `\\\xC3\xBC`, 'a''b', _utf8mb4'it''s' # \\'",
     ),
     // Bytes that are no UTF-8, in the query and in the value.
     (
@@ -101,6 +101,16 @@ const REFUSALS: &[(&[u8], Given<'_>, BothModesRefused<'_>)] = &[
         b"\xC3\xBC[?, :a",
         FIVE,
         BothModesRefused::Unportable(Construct::Bracket, 2),
+    ),
+    (
+        b"SELECT `\xC3\xBC\\`, [?, :a",
+        FIVE,
+        BothModesRefused::Unportable(Construct::EscapedBackquote, 7),
+    ),
+    (
+        b"SELECT \xC3\xBC # a\r?, :a",
+        FIVE,
+        BothModesRefused::Unportable(Construct::ReturnInComment, 10),
     ),
     // Then what `bind_text` refuses.
     (

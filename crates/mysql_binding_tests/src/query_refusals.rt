@@ -42,11 +42,19 @@ const PIECES: &[(&[u8], Construct)] = &[
     (b"/*+ '*/", Construct::Hint),
     (b"/*M! '*/", Construct::MariaDbComment),
     (b"--\x01", Construct::Dashes),
+    (b"--\t", Construct::Dashes),
+    (b"--\x0c", Construct::Dashes),
+    (b"--\r\n", Construct::Dashes),
     (b".e-- ", Construct::DashesAfterExponent),
     (b".5E+-- ", Construct::DashesAfterExponent),
     (b".5?", Construct::DashesAfterExponent),
     (b"1e+?", Construct::PlaceAfterExponent),
     (b"1E-:a", Construct::PlaceAfterExponent),
+    (b"#\r", Construct::ReturnInComment),
+    (b"# abcdefgh\r", Construct::ReturnInComment),
+    (b"-- x\r", Construct::ReturnInComment),
+    (b"--\r", Construct::ReturnInComment),
+    (b"--\tx\r", Construct::ReturnInComment),
 ];
 
 /// Writes the piece into the query, from this index on.
@@ -88,6 +96,10 @@ const PORTABLE: &[&[u8]] = &[
     b"'12:30'",
     b"'$.a'",
     b"-- x",
+    b"# x\r\n",
+    b"-- x\r\n",
+    b"a\r\nb\r",
+    b"'#\r-- x\r'",
     b"a.b = :b",
     b"1e-5",
 ];
@@ -104,7 +116,7 @@ fn portable_queries_in_long_runs(rt: HostRuntime) {
 }
 
 /// A byte of each kind of which the quick walk tells some apart.
-const BYTES: &[u8] = b"[$/*!-.e+1?:a'\\\xC3 ";
+const BYTES: &[u8] = b"[$/*!-.e+1?:a'#\r\n\t\\\xC3 ";
 
 /// Every four of these bytes across the border, against the walks that are no quick ones.
 #[test]

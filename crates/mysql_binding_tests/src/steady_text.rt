@@ -196,6 +196,9 @@ fn first_cause_of_refusal(rt: HostRuntime) {
 /// The place of a construct that isn't portable.
 const BRACKET: SteadyRefused<'_> = SteadyRefused::Unportable(Construct::Bracket, 2);
 
+/// That of a comment that may end at a carriage return.
+const RETURN: SteadyRefused<'_> = SteadyRefused::Unportable(Construct::ReturnInComment, 2);
+
 #[test]
 fn queries_that_are_not_portable(rt: HostRuntime) {
     let alloc = rt.alloc();
@@ -204,6 +207,9 @@ fn queries_that_are_not_portable(rt: HostRuntime) {
     let mixed = SteadyRefused::Bind(Refused::Mixed);
     is_refused_by(&rt, alloc, ANYWHERE, b"? [:a]", FIVE, BRACKET);
     is_refused_by(&rt, alloc, IN_ANY_MODE, b"? [:a]", FIVE, mixed);
+    is_refused_by(&rt, alloc, ANYWHERE, b"? # a\r", FIVE, RETURN);
+    is_bound_by(&rt, alloc, IN_ANY_MODE, b"? # a\r", FIVE, b"5 # a\r");
+    is_bound_by(&rt, alloc, ANYWHERE, b"? # a\r\n", FIVE, b"5 # a\r\n");
 }
 
 /// Refusals, and what they print.

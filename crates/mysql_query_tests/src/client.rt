@@ -105,7 +105,8 @@ const SENT: &[&[u8]] = &[
     b"SELECT '/* /*! */', :a",
     b"SELECT /*+ MAX_EXECUTION_TIME(1000) */ ? /*! + 1 */ /*M! + 2 */",
     b"SELECT \\N, :a",
-    b"SELECT 'a\\n', \"\\\\\", `\\`, :a",
+    b"SELECT 'a\\n', \"\\\\\", `\\a`, :a",
+    b"SELECT :a # a\r\n, 2 -- b\r\n, `c\\ `",
     b"SELECT 5 /**/ \xc3\xa9",
     b"SELECT 5 - -:a, 5 -- :a\n, --5",
     b"-- a\nSELECT -:a",
@@ -137,6 +138,14 @@ const OF_SERVERS: &[(&[u8], Construct, usize)] = &[
     (b"SELECT /*+ ? */ 1", Construct::Hint, 7),
     (b"SELECT 1 AS [a], /*/*!*/ 2", Construct::Bracket, 12),
     (b"USE [a]", Construct::ClientWord, 0),
+    (b"SELECT 1 --\t:a", Construct::Dashes, 9),
+    (b"SELECT `a\\`, :a", Construct::EscapedBackquote, 7),
+    (b"SELECT 1 # a\r:a", Construct::ReturnInComment, 9),
+    (b"SELECT 1 -- a\r:a", Construct::ReturnInComment, 9),
+    // Before what the client does with the same token.
+    (b"SELECT `a\\\n\\`", Construct::EscapedBackquote, 7),
+    (b"SELECT 1 # a\r\0", Construct::ReturnInComment, 9),
+    (b"--\t", Construct::Dashes, 0),
 ];
 
 #[test]

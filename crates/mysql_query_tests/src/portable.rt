@@ -61,6 +61,22 @@ const FOUND: &[(&[u8], Construct, usize)] = &[
     (b"SELECT $js$ :a $js$", Construct::DollarQuote, 7),
     (b"SELECT 2 1.e-- :a", Construct::DashesAfterExponent, 10),
     (b"SELECT 1.5e+?", Construct::PlaceAfterExponent, 9),
+    // MariaDB's InnoDB reads an `ALTER TABLE` again.
+    (
+        b"ALTER TABLE t --\tdon't\n ALTER a SET DEFAULT :a, ALGORITHM=COPY",
+        Construct::Dashes,
+        14,
+    ),
+    (
+        b"ALTER TABLE t ADD `c\\` INT, ADD d CHAR(99) DEFAULT :a",
+        Construct::EscapedBackquote,
+        18,
+    ),
+    (
+        b"ALTER TABLE t # a\rdon't\n, ALTER a SET DEFAULT :a",
+        Construct::ReturnInComment,
+        14,
+    ),
     // Each construct in other forms, and where it stands.
     (b"/*!", Construct::ExecutableComment, 0),
     (b"*/*! ; */", Construct::ExecutableComment, 1),
@@ -80,6 +96,11 @@ const FOUND: &[(&[u8], Construct, usize)] = &[
     (b"--\xa0", Construct::Dashes, 0),
     (b"--\xff", Construct::Dashes, 0),
     (b"---\x01", Construct::Dashes, 1),
+    (b"--\t[", Construct::Dashes, 0),
+    (b"--\x0c[", Construct::Dashes, 0),
+    (b"--\r\n[", Construct::Dashes, 0),
+    (b"---\t", Construct::Dashes, 1),
+    (b"--\ta\r\n", Construct::Dashes, 0),
     (b"?[", Construct::Bracket, 1),
     (b":a_b[", Construct::Bracket, 4),
     (b"$A_z9\xc3\xa9$", Construct::DollarQuote, 0),
@@ -98,6 +119,24 @@ const FOUND: &[(&[u8], Construct, usize)] = &[
     (b"12E-:a", Construct::PlaceAfterExponent, 1),
     (b"1.e+:_", Construct::PlaceAfterExponent, 1),
     (b"1.e-?", Construct::PlaceAfterExponent, 1),
+    (b"`\\`", Construct::EscapedBackquote, 0),
+    (b"1, `a\\\\` ", Construct::EscapedBackquote, 3),
+    // One identifier is two tokens: that of the quote is told.
+    (b"`a``b\\`", Construct::EscapedBackquote, 3),
+    (b"`a\\``b`", Construct::EscapedBackquote, 0),
+    (b"'`' `\\\\\\`[", Construct::EscapedBackquote, 4),
+    (b"#\r", Construct::ReturnInComment, 0),
+    (b"1 # a\r[\n", Construct::ReturnInComment, 2),
+    (b"1 -- a\r?", Construct::ReturnInComment, 2),
+    (b"-- \r", Construct::ReturnInComment, 0),
+    (b"# a\r\r\n", Construct::ReturnInComment, 0),
+    (b"# \r \r\n", Construct::ReturnInComment, 0),
+    // Before other white space than the space too, and so is a carriage return right after `--`.
+    (b"--\ta\r?", Construct::ReturnInComment, 0),
+    (b"--\r[", Construct::ReturnInComment, 0),
+    (b"--\r", Construct::ReturnInComment, 0),
+    (b"--\r\r\n", Construct::ReturnInComment, 0),
+    (b"/* \r */# b\r\n`\\`# c\r", Construct::EscapedBackquote, 12),
     // These belong to no number.
     (b"x1e+?", Construct::PlaceAfterExponent, 1),
     (b"t.e+?", Construct::PlaceAfterExponent, 1),
@@ -202,6 +241,14 @@ const PORTABLE: &[&[u8]] = &[
     b"SELECT 1 # /*! /*+ /*M! --\x01 [ $$ .e-- 1e+? \" '",
     b"SELECT 1 -- /*! /*+ /*M! --\x01 [ $$ .e-- 1e+? \" '",
     b"SELECT 1 /* /*! /*+ /*M! --\x01 [ $$ .e-- 1e+? \" ' */",
+    b"SELECT '--\t`\\`#\r', \"--\t`\\`#\r\", `--\t#\r`, 1 /* --\t`\\` #\r */ # --\t`\\`",
+    // Lines that end in CR LF, and backslashes in a name.
+    b"SELECT :a # a\r\n, 2 -- b\r\n, 3 #\r\n-- \r\n\r",
+    b"# a\nb\r",
+    b"--\n\r",
+    b"`\\a`, `a\\ `, `\\\\a`, ``, `\r`",
+    b"`a\\",
+    b"\\`b`",
     // What is near a construct.
     b"SELECT 7 --\n-?",
     b"SELECT 7 --",
@@ -210,9 +257,6 @@ const PORTABLE: &[&[u8]] = &[
     b"a--b",
     b"--'a'",
     b"---?",
-    b"--\t[",
-    b"--\r[",
-    b"--\x0c[",
     b"/* ! */",
     b"/* + */",
     b"/* M! */",
@@ -285,7 +329,7 @@ fn escaped_quotes(rt: HostRuntime) {
     }
 }
 
-// How those of the queries of the other tests begin that aren't portable.
+// How those of the queries of the other tests begin that aren't portable in either mode.
 const UNPORTABLE: &[(&[u8], Construct, usize)] = &[
     (b"/*! :a */", Construct::ExecutableComment, 0),
     (b":a/*! :b", Construct::ExecutableComment, 2),
@@ -297,17 +341,24 @@ const UNPORTABLE: &[(&[u8], Construct, usize)] = &[
     (b"--\x0b:a", Construct::Dashes, 0),
     (b"--\x01:a", Construct::Dashes, 0),
     (b"--\x7f:a", Construct::Dashes, 0),
-    // With backslash escapes.
-    (
-        b"SELECT '\"\\':a' \"'\\\"':c\" :b",
-        Construct::EscapedQuote,
-        15,
-    ),
+    (b"--\t:a", Construct::Dashes, 0),
+    (b"--\x0c:a", Construct::Dashes, 0),
+    (b"--\r:a", Construct::ReturnInComment, 0),
+    (b"#\r:a", Construct::ReturnInComment, 0),
+    (b"-- \r:a", Construct::ReturnInComment, 0),
+    (b"`a\\`:b", Construct::EscapedBackquote, 0),
 ];
 
+// .. and with backslash escapes alone.
+const UNPORTABLE_WITH: &[(&[u8], Construct, usize)] = &[(
+    b"SELECT '\"\\':a' \"'\\\"':c\" :b",
+    Construct::EscapedQuote,
+    15,
+)];
+
 /// The construct of the row that begins the query, if there is one.
-fn row_of(query: &[u8]) -> Option<Unportable> {
-    for (beginning, construct, at) in UNPORTABLE {
+fn row_of(rows: &[(&[u8], Construct, usize)], query: &[u8]) -> Option<Unportable> {
+    for (beginning, construct, at) in rows {
         if query.starts_with(*beginning) {
             return Some(Unportable {
                 construct: *construct,
@@ -321,13 +372,19 @@ fn row_of(query: &[u8]) -> Option<Unportable> {
 #[test]
 fn queries_of_the_other_tests(rt: HostRuntime) {
     for (query, _) in QUERIES {
-        is_found(&rt, query.as_bytes(), WITH, row_of(query.as_bytes()));
+        let query = query.as_bytes();
+        let wanted = match row_of(UNPORTABLE_WITH, query) {
+            None => row_of(UNPORTABLE, query),
+            found => found,
+        };
+        is_found(&rt, query, WITH, wanted);
     }
     for (query, _) in QUERIES_WITHOUT_BACKSLASHES {
-        is_found(&rt, query.as_bytes(), WITHOUT, None);
+        let query = query.as_bytes();
+        is_found(&rt, query, WITHOUT, row_of(UNPORTABLE, query));
     }
     for (query, _) in COMMENTS {
-        is_found(&rt, *query, BOTH, row_of(*query));
+        is_found(&rt, *query, BOTH, row_of(UNPORTABLE, *query));
     }
 }
 
@@ -367,6 +424,14 @@ const MESSAGES: &[(Construct, &str)] = &[
     (
         Construct::PlaceAfterExponent,
         "a value's digits would join this number: write a space before the place",
+    ),
+    (
+        Construct::EscapedBackquote,
+        "`\\` may escape this name's end: no name here ends in `\\` or has it before a backquote",
+    ),
+    (
+        Construct::ReturnInComment,
+        "the comment may end at its carriage return: write a newline after that, or leave it out",
     ),
 ];
 
