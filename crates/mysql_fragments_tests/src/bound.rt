@@ -33,6 +33,12 @@ const TEXTS: &[(&[u8], Plain, &[u8])] = &[
         Identifier(b"a`b"),
         b"SELECT `a``b` FROM t",
     ),
+    // A backslash that stands neither last nor before a backquote.
+    (
+        b"SELECT ? FROM t",
+        Identifier(b"\\a`\\\\b"),
+        b"SELECT `\\a``\\\\b` FROM t",
+    ),
     (
         b"TABLE ?",
         Qualified(&[b"db.x", b"`"]),

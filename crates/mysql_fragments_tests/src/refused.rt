@@ -41,6 +41,23 @@ const FAULTS: &[(Plain, FragmentFault)] = &[
         FragmentFault::TrailingSpace { part: 1 },
     ),
     (Identifier(&[b'a'; 65]), FragmentFault::LongName { part: 0 }),
+    (Identifier(b"a\\"), FragmentFault::Backslash { part: 0 }),
+    (Identifier(b"\\\\"), FragmentFault::Backslash { part: 0 }),
+    (Identifier(b"\\`b"), FragmentFault::Backslash { part: 0 }),
+    (
+        Qualified(&[b"a\\b", b"a``\\`b"]),
+        FragmentFault::Backslash { part: 1 },
+    ),
+    // A name is tried for a backslash last.
+    (Identifier(b"\\`\0"), FragmentFault::ZeroByte { part: 0 }),
+    (
+        Identifier(&[b'\\'; 65]),
+        FragmentFault::LongName { part: 0 },
+    ),
+    (
+        Identifier(b"\\` "),
+        FragmentFault::TrailingSpace { part: 0 },
+    ),
     (Keyword(b"ASC "), FragmentFault::Keyword),
     (Keyword(b"_utf8mb4"), FragmentFault::Keyword),
     (Keyword(b"a;b"), FragmentFault::Keyword),

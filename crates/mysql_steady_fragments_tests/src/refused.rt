@@ -21,23 +21,23 @@ enum Refused {
 const REFUSED: &[(&[u8], &[Plain], Refused)] = &[
     (
         b"a[1]?:a '\\",
-        &[Float(0), Identifier(b"\\")],
+        &[Float(0), Identifier(b"\\a")],
         Refused::Unsteady(9),
     ),
     (
         b"a[1] ? :a",
-        &[Float(0), Identifier(b"\\")],
+        &[Float(0), Identifier(b"\\a")],
         Refused::Bracket(1),
     ),
-    (b"? :a", &[Float(0), Identifier(b"\\")], Refused::Mixed),
+    (b"? :a", &[Float(0), Identifier(b"\\a")], Refused::Mixed),
     (
         b"? ? ?",
-        &[Identifier(b"\\"), Decimal(b"x"), Float(0)],
+        &[Identifier(b"\\a"), Decimal(b"x"), Float(0)],
         Refused::Float(2),
     ),
     (
         b"? ?",
-        &[Identifier(b"\\"), Decimal(b"x")],
+        &[Identifier(b"\\a"), Decimal(b"x")],
         Refused::Number(1),
     ),
     (
@@ -47,7 +47,7 @@ const REFUSED: &[(&[u8], &[Plain], Refused)] = &[
     ),
     (
         b"? ?",
-        &[Qualified(&[b"a", &[0xC3, 0xA9]]), Identifier(b"\\")],
+        &[Qualified(&[b"a", &[0xC3, 0xA9]]), Identifier(b"\\a")],
         Refused::UnsteadyFragment(0),
     ),
 ];
