@@ -283,11 +283,12 @@ static void read_field(test_case *it, char *field)
 static const char *const CONSTRUCTS[] = {
     "PORTABLE", "EXECUTABLE_COMMENT", "HINT", "MARIADB_COMMENT", "DASHES", "ESCAPED_QUOTE", "BRACKET", "DOLLAR_QUOTE",
     "DASHES_AFTER_EXPONENT", "PLACE_AFTER_EXPONENT", "OPENER_IN_COMMENT", "JOINING_COMMENT", "DASHES_BEFORE_COMMENT",
-    "CLIENT_COMMAND", "DASH_IN_FRONT", "DELIMITER", "CLIENT_WORD", "ESCAPED_NEWLINE", "ZERO_BYTE"};
+    "CLIENT_COMMAND", "DASH_IN_FRONT", "DELIMITER", "CLIENT_WORD", "ESCAPED_NEWLINE", "ZERO_BYTE", "ESCAPED_BACKQUOTE",
+    "RETURN_IN_COMMENT"};
 
 static int32_t construct_of(const char *name)
 {
-    return index_of(name, CONSTRUCTS, 1, MYSQL_PARAMS_ZERO_BYTE);
+    return index_of(name, CONSTRUCTS, 1, MYSQL_PARAMS_RETURN_IN_COMMENT);
 }
 
 /* Reads a name, which the function knows, and the fields after it. */

@@ -616,6 +616,9 @@ static void append_fault(line *to, const mysql_params_report *report)
     case MYSQL_PARAMS_FAULT_KEYWORD:
         append_text(to, "it is none of the keywords that are written");
         return;
+    case MYSQL_PARAMS_FAULT_BACKSLASH:
+        append_text(to, "name %zu has a backslash before a backquote or at its end", report->values);
+        return;
     default:
         append_text(to, "unknown fault");
     }
@@ -695,6 +698,10 @@ const char *mysql_params_construct_message(int32_t construct)
         return "the client changes a `\\` at the end of a line: write `\\n`, or the newline alone";
     case MYSQL_PARAMS_ZERO_BYTE:
         return "the client sends nothing from this line on: write `\\0` in a string, or hexadecimal";
+    case MYSQL_PARAMS_ESCAPED_BACKQUOTE:
+        return "`\\` may escape this name's end: no name here ends in `\\` or has it before a backquote";
+    case MYSQL_PARAMS_RETURN_IN_COMMENT:
+        return "the comment may end at its carriage return: write a newline after that, or leave it out";
     default:
         return NULL;
     }

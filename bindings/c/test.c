@@ -347,7 +347,7 @@ static void portable_queries(void)
     first_of_case = mysql_params_first_unportable_in_client;
     each_case(folder, "in_client.txt", try_construct);
     /* Numbers that are no construct. */
-    static const int32_t others[] = {0, 19, -1, INT32_MAX, INT32_MIN};
+    static const int32_t others[] = {0, 21, -1, INT32_MAX, INT32_MIN};
     test_case it = {0};
     for (size_t i = 0; i < sizeof others / sizeof others[0]; i++)
         expect(mysql_params_construct_message(others[i]) == NULL, &it, "a message of no construct");

@@ -363,7 +363,7 @@ class Test(unittest.TestCase):
 
     def test_constructs(self):
         self.assertEqual([construct.name for construct in Construct], CONSTRUCTS)
-        self.assertEqual([int(construct) for construct in Construct], list(range(1, 19)))
+        self.assertEqual([int(construct) for construct in Construct], list(range(1, 21)))
         found = first_unportable("\u00e4 [")
         self.assertEqual(found, (Construct.BRACKET, 3))
         self.assertEqual((found.construct, found.position), (6, 3))
@@ -371,7 +371,7 @@ class Test(unittest.TestCase):
         copy = pickle.loads(pickle.dumps(found))
         self.assertIs(copy.construct, Construct.BRACKET)
         report = _archive.Report()
-        for number in (-1, 19):
+        for number in (-1, 21):
             with self.subTest(number=number), self.assertRaises(RuntimeError):
                 _archive.unportable(number, report)
         for query in (None, 5):

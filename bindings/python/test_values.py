@@ -279,6 +279,9 @@ class Test(unittest.TestCase):
     def test_identifiers_and_keywords(self):
         self.assertEqual(repr(mysql_params.Identifier("a", "b")), "Identifier('a', 'b')")
         self.assertEqual(bind("?", [mysql_params.Identifier("\u00e9`")]), "`\u00e9```".encode())
+        with self.assertRaises(mysql_params.FragmentError) as raised:
+            bind("?", [mysql_params.Identifier("a", "b\\")])
+        self.assertEqual((raised.exception.fault, raised.exception.item), (mysql_params.Fault.BACKSLASH, 1))
         for parts in ((), (b"t",), (None,), ("a", 1)):
             with self.subTest(parts=parts), self.assertRaises(TypeError):
                 mysql_params.Identifier(*parts)

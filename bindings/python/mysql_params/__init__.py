@@ -174,7 +174,8 @@ def first_unportable(query: Union[str, bytes], no_backslash_escape: bool = False
 
     A place after an exponent, since a value's digits would join the number, is one too. None says that the query is
     portable. Ask it of each query, once, before you bind to it. What stands within strings, quoted identifiers and
-    comments is none, but a quote after a backslash in a string in double quotes. A str is taken as its UTF-8, and
+    comments is none, except a quote after a backslash in a string in double quotes, a backslash before the end of an
+    identifier, and a carriage return in a comment of one line, not at its end. A str is taken as its UTF-8, and
     positions count its bytes. The flag is that of bind.
 
     >>> found = first_unportable("SELECT /*! :a */ 1")

@@ -296,6 +296,8 @@ class Fault(enum.IntEnum):
     """A name that ends in a space."""
     KEYWORD = 9
     """A word that is none of the keywords that are written."""
+    BACKSLASH = 10
+    """A name with a backslash before a backquote or at its end."""
 
 
 _FAULTS = {
@@ -308,6 +310,7 @@ _FAULTS = {
     Fault.LONG_NAME: "name {item} has more than 64 characters",
     Fault.TRAILING_SPACE: "name {item} ends in a space",
     Fault.KEYWORD: "it is none of the keywords that are written",
+    Fault.BACKSLASH: "name {item} has a backslash before a backquote or at its end",
 }
 
 

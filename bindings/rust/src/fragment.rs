@@ -97,6 +97,11 @@ pub enum Fault {
     },
     /// A text that is none of the keywords that are written.
     Keyword,
+    /// A name with a backslash before a backquote or at its end.
+    Backslash {
+        /// Its number in a qualified name; 0 for a name alone.
+        part: usize,
+    },
 }
 
 impl Fault {
@@ -113,6 +118,7 @@ impl Fault {
             7 => Fault::LongName { part },
             8 => Fault::TrailingSpace { part },
             9 => Fault::Keyword,
+            10 => Fault::Backslash { part },
             _ => return None,
         })
     }
@@ -132,6 +138,10 @@ impl fmt::Display for Fault {
             Fault::LongName { part } => write!(f, "name {part} has more than 64 characters"),
             Fault::TrailingSpace { part } => write!(f, "name {part} ends in a space"),
             Fault::Keyword => write!(f, "it is none of the keywords that are written"),
+            Fault::Backslash { part } => write!(
+                f,
+                "name {part} has a backslash before a backquote or at its end"
+            ),
         }
     }
 }

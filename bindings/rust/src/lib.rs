@@ -111,7 +111,8 @@ pub fn names_in(query: &[u8], no_backslash_escape: bool) -> Result<Names, Error>
 
 /// The first construct of a query that servers read in different ways, or in which a value's digits would join a
 /// number; none exactly if the query is portable. Ask it of each query, once, before you bind to it. What stands
-/// within strings, quoted identifiers and comments is none, except `\"` in a string in `"`. It allocates nothing.
+/// within strings, quoted identifiers and comments is none, except `\"` in a string in `"`, a backslash before the end
+/// of an identifier, and a carriage return in a comment of one line, not at its end. It allocates nothing.
 ///
 /// ```
 /// use mysql_params::{Construct, first_unportable};

@@ -13,7 +13,7 @@ pub enum Construct {
     Hint,
     /// `/*M!`, not quiet: executed by MariaDB, a comment to MySQL.
     MariaDbComment,
-    /// `--` before a byte that is neither printable ASCII nor white space: a comment on some servers. Or before `/`.
+    /// `--` before a byte that is neither printable ASCII nor a newline: a comment to some readers. Or before `/`.
     Dashes,
     /// `"..\".."`: with `ANSI_QUOTES` an identifier, which ends at the quote after the backslash.
     EscapedQuote,
@@ -25,7 +25,7 @@ pub enum Construct {
     DashesAfterExponent,
     /// `1e+?`: the digits of a value would join the number.
     PlaceAfterExponent,
-    /// `/*!`, `/*+` or `/*/` in a block comment. This and all that follow are found for a client alone.
+    /// `/*!`, `/*+` or `/*/` in a block comment. This and those up to `ZeroByte` are found for a client alone.
     OpenerInComment,
     /// `*/` directly before a byte from 128 on, or a backslash.
     JoiningComment,
@@ -43,6 +43,10 @@ pub enum Construct {
     EscapedNewline,
     /// A byte 0.
     ZeroByte,
+    /// A backslash directly before the backquote that ends an identifier: to MariaDB's InnoDB it escapes that.
+    EscapedBackquote,
+    /// A carriage return in a comment of one line, except directly before its newline: to InnoDB it ends the comment.
+    ReturnInComment,
 }
 
 /// A construct of a query, and where it begins. It is an [`Error`](std::error::Error), for callers who refuse such a
@@ -87,6 +91,8 @@ impl Construct {
             Construct::ClientWord => 16,
             Construct::EscapedNewline => 17,
             Construct::ZeroByte => 18,
+            Construct::EscapedBackquote => 19,
+            Construct::ReturnInComment => 20,
         }
     }
 
@@ -111,6 +117,8 @@ impl Construct {
             16 => Construct::ClientWord,
             17 => Construct::EscapedNewline,
             18 => Construct::ZeroByte,
+            19 => Construct::EscapedBackquote,
+            20 => Construct::ReturnInComment,
             _ => return None,
         })
     }
@@ -170,6 +178,12 @@ impl fmt::Display for Construct {
             }
             Construct::ZeroByte => {
                 "the client sends nothing from this line on: write `\\0` in a string, or hexadecimal"
+            }
+            Construct::EscapedBackquote => {
+                "`\\` may escape this name's end: no name here ends in `\\` or has it before a backquote"
+            }
+            Construct::ReturnInComment => {
+                "the comment may end at its carriage return: write a newline after that, or leave it out"
             }
         })
     }

@@ -252,11 +252,13 @@ fn numbers_of_constructs() {
     assert_eq!(unportable(9, &report), found(Construct::PlaceAfterExponent));
     assert_eq!(unportable(10, &report), found(Construct::OpenerInComment));
     assert_eq!(unportable(18, &report), found(Construct::ZeroByte));
-    for number in 1..19 {
+    assert_eq!(unportable(19, &report), found(Construct::EscapedBackquote));
+    assert_eq!(unportable(20, &report), found(Construct::ReturnInComment));
+    for number in 1..21 {
         let construct = Construct::of_number(number).expect("a construct");
         assert_eq!(construct.number(), number);
     }
-    for number in [-1, 19, i32::MAX, i32::MIN] {
+    for number in [-1, 21, i32::MAX, i32::MIN] {
         assert_eq!(
             unportable(number, &report),
             Err(Error::UnknownAnswer { number })

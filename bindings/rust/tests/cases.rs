@@ -246,6 +246,7 @@ fn fault(number: u8, row: usize, item: usize) -> Fault {
         7 => Fault::LongName { part: item },
         8 => Fault::TrailingSpace { part: item },
         9 => Fault::Keyword,
+        10 => Fault::Backslash { part: item },
         _ => panic!("{number} is no fault"),
     }
 }
@@ -608,7 +609,7 @@ fn names_of_queries() {
 }
 
 /// The constructs, by their names in cases, in the order of their numbers from 1 on.
-const CONSTRUCTS: [(&str, Construct); 18] = [
+const CONSTRUCTS: [(&str, Construct); 20] = [
     ("EXECUTABLE_COMMENT", Construct::ExecutableComment),
     ("HINT", Construct::Hint),
     ("MARIADB_COMMENT", Construct::MariaDbComment),
@@ -627,6 +628,8 @@ const CONSTRUCTS: [(&str, Construct); 18] = [
     ("CLIENT_WORD", Construct::ClientWord),
     ("ESCAPED_NEWLINE", Construct::EscapedNewline),
     ("ZERO_BYTE", Construct::ZeroByte),
+    ("ESCAPED_BACKQUOTE", Construct::EscapedBackquote),
+    ("RETURN_IN_COMMENT", Construct::ReturnInComment),
 ];
 
 /// The construct that a case wants.
