@@ -9,7 +9,7 @@ use plain::search::Table;
 use plain::value::{Params, Value};
 use std::collections::HashMap;
 
-const TEXTS: [&[u8]; 40] = [
+const TEXTS: [&[u8]; 43] = [
     b"SELECT ",
     b"a",
     b"x1",
@@ -38,12 +38,15 @@ const TEXTS: [&[u8]; 40] = [
     b"'it\\'s'",
     b"\"q\\\"?\"",
     b"`i``:d`",
+    b"`i\\`",
     b"/* :a ? */",
     b"/*! ",
     b"/*+ ",
     b"*/",
     b"-- ? :a\n",
     b"--\t'\n",
+    b"-- x\r",
+    b"# :a\r\n",
     b"--\n",
     b"# it's\n",
     b":1",

@@ -5,19 +5,19 @@
 use crate::archive;
 use crate::random::Random;
 use plain::client::{CLIENT_CONSTRUCTS, first_unportable_in_client};
-use plain::portable::{CONSTRUCTS, first_unportable};
+use plain::portable::{CONSTRUCTS, LATER_CONSTRUCTS, first_unportable};
 use plain::room::Report;
 use std::time::Instant;
 
 /// The bytes that begin, end or change a construct or a token.
 const ALPHABET: &[&[u8]] = &[
     b"/", b"*", b"!", b"+", b"M", b"-", b"[", b"$", b".", b"e", b"1", b"?", b":", b"a", b"\"",
-    b"'", b"\\", b"`", b"#", b"\n", b" ", b"\x01",
+    b"'", b"\\", b"`", b"#", b"\n", b"\r", b"\t", b" ",
 ];
 
 /// Pieces that mean something to a client.
 const CLIENT_ALPHABET: &[&[u8]] = &[
-    b"/*", b"*/", b"/", b"*", b"-", b"-- ", b"#", b";", b"\n", b" ", b"\x01", b"\0", b"\x7F",
+    b"/*", b"*/", b"/", b"*", b"-", b"-- ", b"#", b";", b"\n", b"\r", b" ", b"\x01", b"\0", b"\x7F",
     b"\x80", b"\xFF", b"\\", b"N", b"'", b"`", b"/*M!", b"/*+", b"?", b":a", b"delimiter",
     b"D\xC9LIM\xEDTER", b"go", b"g\xF2", b"x",
 ];
@@ -25,7 +25,8 @@ const CLIENT_ALPHABET: &[&[u8]] = &[
 /// Pieces of constructs, of tokens and of what stands between.
 const PIECES: &[&[u8]] = &[
     b"/*", b"*/", b"/*!", b"/*+", b"/*M!", b"M", b"!", b"--", b"-- ", b"--\x01", b"--\x0B",
-    b"--\n", b"\"", b"\\\"", b"\\", b"'", b"`", b"#", b"\n", b" ", b"\t", b"\x7F", b"\xFF", b"[",
+    b"--\n", b"--\t", b"--\x0C", b"--\r", b"\"", b"\\\"", b"\\", b"'", b"`", b"\\`", b"#", b"\n",
+    b"\r", b"\r\n", b" ", b"\t", b"\x7F", b"\xFF", b"[",
     b"]", b"$", b"$$", b"$a$", b".", b"1", b"90", b"e", b"E", b"1e+", b".5E-", b"+", b"-", b"?",
     b":", b":a", b":_1", b":A", b"a", b"Z", b"_", b"*", b"/", b";", b"/*+ a */", b"/*M!1*/",
 ];
@@ -60,24 +61,27 @@ struct Call {
     name: &'static str,
     archive: fn(&[u8], bool) -> (i32, Report),
     plain: fn(&[u8], bool) -> (i32, usize),
-    /// How many numbers it answers with.
-    numbers: usize,
+    /// Whether it answers with the numbers of a client too.
+    in_client: bool,
 }
 
-const NUMBERS: usize = CONSTRUCTS.len() + CLIENT_CONSTRUCTS.len();
+/// The numbers that are found for a client alone.
+const OF_CLIENT: std::ops::Range<usize> =
+    CONSTRUCTS.len()..CONSTRUCTS.len() + CLIENT_CONSTRUCTS.len();
+const NUMBERS: usize = OF_CLIENT.end + LATER_CONSTRUCTS.len();
 
 const CALLS: [Call; 2] = [
     Call {
         name: "first_unportable",
         archive: archive::first_unportable,
         plain: first_unportable,
-        numbers: CONSTRUCTS.len(),
+        in_client: false,
     },
     Call {
         name: "first_unportable_in_client",
         archive: archive::first_unportable_in_client,
         plain: first_unportable_in_client,
-        numbers: NUMBERS,
+        in_client: true,
     },
 ];
 
@@ -202,8 +206,13 @@ impl Judged {
     }
 
     fn print(&self, call: &Call) -> bool {
-        let counts = CONSTRUCTS.iter().chain(&CLIENT_CONSTRUCTS).zip(self.answers);
-        let told = counts.take(call.numbers).map(|(name, count)| format!("{name} {count}"));
+        let names = CONSTRUCTS.iter().chain(&CLIENT_CONSTRUCTS).chain(&LATER_CONSTRUCTS);
+        let counts: Vec<_> = (0..)
+            .zip(names.zip(self.answers))
+            .filter(|(number, _)| call.in_client || !OF_CLIENT.contains(number))
+            .map(|(_, counted)| counted)
+            .collect();
+        let told = counts.iter().map(|(name, count)| format!("{name} {count}"));
         println!("Judgements of {}: {}", call.name, told.collect::<Vec<_>>().join(", "));
         println!("{}: {} differences", call.name, self.differences);
         if let Some((query, mode)) = &self.smallest {
@@ -211,7 +220,7 @@ impl Judged {
             println!("archive: {:?}", (call.archive)(query, *mode));
             println!("plain Rust: {:?}", (call.plain)(query, *mode));
         }
-        let is_each_found = self.answers[..call.numbers].iter().all(|count| *count > 0);
+        let is_each_found = counts.iter().all(|(_, count)| *count > 0);
         if !is_each_found {
             println!("A construct was never found: give more random queries");
         }

@@ -11,8 +11,10 @@ const BRACKET: i32 = 6;
 const DOLLAR_QUOTE: i32 = 7;
 const DASHES_AFTER_EXPONENT: i32 = 8;
 const PLACE_AFTER_EXPONENT: i32 = 9;
+const ESCAPED_BACKQUOTE: i32 = 19;
+const RETURN_IN_COMMENT: i32 = 20;
 
-/// The names of the numbers, from 0.
+/// The names of the numbers up to those that are found for a client alone, from 0.
 pub const CONSTRUCTS: [&str; 10] = [
     "PORTABLE",
     "EXECUTABLE_COMMENT",
@@ -25,6 +27,9 @@ pub const CONSTRUCTS: [&str; 10] = [
     "DASHES_AFTER_EXPONENT",
     "PLACE_AFTER_EXPONENT",
 ];
+
+/// The names of the numbers after those that are found for a client alone.
+pub const LATER_CONSTRUCTS: [&str; 2] = ["ESCAPED_BACKQUOTE", "RETURN_IN_COMMENT"];
 
 /// The number of the construct, and the index of its first byte; both are 0 if there is none.
 pub fn first_unportable(query: &[u8], no_backslash_escape: bool) -> (i32, usize) {
@@ -52,9 +57,21 @@ pub fn first_token(text: &[u8], no_backslash_escape: bool) -> (Option<i32>, usiz
             }
             len
         }
-        b'`' => len_with(rest, b"`"),
-        b'#' => len_with(rest, b"\n"),
-        b'-' if matches!(rest, [b'-', 9 | 12 | 13 | 32, ..]) => 2 + len_with(&rest[2..], b"\n"),
+        b'`' => {
+            let len = len_with(rest, b"`");
+            if rest[..len].ends_with(b"\\`") {
+                found = Some(ESCAPED_BACKQUOTE);
+            }
+            len
+        }
+        b'#' | b'-' if opens_line(text) => {
+            let gap = if byte == b'-' { 2 } else { 0 };
+            let len = gap + len_with(&rest[gap..], b"\n");
+            if holds_return(&rest[..len]) {
+                found = Some(RETURN_IN_COMMENT);
+            }
+            len
+        }
         b'/' if opens_comment(rest) => 1 + len_with(&rest[1..], b"*/"),
         b':' if rest.first().is_some_and(begins_name) => {
             rest.iter().take_while(|byte| begins_name(byte) || byte.is_ascii_digit()).count()
@@ -62,6 +79,16 @@ pub fn first_token(text: &[u8], no_backslash_escape: bool) -> (Option<i32>, usiz
         _ => 0,
     };
     (found, 1 + len)
+}
+
+/// Whether the text begins with a comment of one line.
+fn opens_line(text: &[u8]) -> bool {
+    matches!(text, [b'#', ..] | [b'-', b'-', 9 | 12 | 13 | 32, ..])
+}
+
+/// Whether such a comment has a carriage return before its end, which is a newline, CR LF or none.
+fn holds_return(comment: &[u8]) -> bool {
+    comment.strip_suffix(b"\r\n").unwrap_or(comment).contains(&b'\r')
 }
 
 /// Whether a `/` before this text opens a comment of the grammar.
@@ -76,7 +103,7 @@ fn construct(byte: u8, rest: &[u8]) -> Option<i32> {
         (b'/', [b'*', b'!', ..]) => EXECUTABLE_COMMENT,
         (b'/', [b'*', b'+', ..]) => HINT,
         (b'/', [b'*', b'M', b'!', ..]) => MARIADB_COMMENT,
-        (b'-', [b'-', gap, ..]) if !keeps_dashes(*gap) && !gap.is_ascii_whitespace() => DASHES,
+        (b'-', [b'-', gap, ..]) if !keeps_dashes(*gap) && !matches!(gap, b' ' | b'\n') => DASHES,
         (b'[', _) => BRACKET,
         (b'$', _) if leads_to_dollar(rest) => DOLLAR_QUOTE,
         (b'.', _) if leads_to_dashes(rest) => DASHES_AFTER_EXPONENT,
