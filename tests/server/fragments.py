@@ -20,13 +20,14 @@ _NEWDECIMAL = 246
 
 # Names that end something in some lexer, places, comments, and words of the grammar.
 _NAMES = [
-    "`", "``", "a`b", "`a`", "`; DROP TABLE strings.t; -- ", "x` , 7 -- ", "\\", "\\`", "a\\", "'", '"', "a'b", 'a"b', "?", ":a",
+    "`", "``", "a`b", "`a`", "`; DROP TABLE strings.t; -- ", "x` , 7 -- ", "\\a", "`\\\\b", "a\\'", "'", '"', "a'b", 'a"b', "?", ":a",
     "%s", "--", "-- ", "#", "/*", "*/", "/*! */", "a.b", ".", "1", "1e5", "0x41", "a b", " a", "\n", "\r\na", "\t", "\x1a", "\x7f",
     "é", "表`", "ｘ", "\u00a0", "$$", "[a]", "@a", "@@a", ";", "()", ",", "\\N", "N'a", "_utf8",
     "select", "SELECT", "DESC", "null", "values", "rows", "lateral", "true", "default",
 ]  # fmt: skip
-# What servers refuse at the end of a name; the archive refuses the space.
+# What servers refuse at the end of a name; the archive refuses the space, and a backslash.
 _SPACES = "\t\n\v\f\r "
+_NO_ENDS = _SPACES + "\\"
 _WRONG_COLUMN = 1166
 _HOSTILE = ["a", "' , 7 -- ", "\\' , 7 -- ", "*/ , 7 -- ", "\n, 7 # ", '" , 7 # ', "` , 7 # ", ") , 7 -- ", "?", ":a"]
 
@@ -84,10 +85,11 @@ def _columns(connection: Connection, names: list, mode: bool) -> None:
 
 
 def _ascii_names(connection: Connection, mode: bool) -> str:
-    """Each pair of bytes of ASCII except 0 begins a name or ends one; it ends none if its last byte is a space."""
+    """Each pair of bytes of ASCII except 0 begins a name or ends one; it ends none if its last byte is a space or `\\`."""
     pairs = [chr(one) + chr(other) for one in range(1, 128) for other in range(1, 128)]
+    pairs.remove("\\`")
     # A number makes the names of one table differ, which are the same in either case of letters.
-    names = [f"{pair}{i}" if i % 2 == 0 or pair[-1] in _SPACES else f"{i}{pair}" for i, pair in enumerate(pairs)]
+    names = [f"{pair}{i}" if i % 2 == 0 or pair[-1] in _NO_ENDS else f"{i}{pair}" for i, pair in enumerate(pairs)]
     for begin in range(0, len(names), 1000):
         _columns(connection, names[begin : begin + 1000], mode)
     for byte in range(1, 128):
@@ -106,7 +108,7 @@ def _hostile_names(connection: Connection, mode: bool) -> str:
     same({len(name) for name in long}, {64}, "lengths")
     names = [f"{name}{i}" if name[-1] in _SPACES else f"{i}{name}" for i, name in enumerate(_NAMES)]
     _columns(connection, names + long, mode)
-    for name in ("", "\0", "a\0b", "a ", "x" * 65, "é" * 65, "`" * 65):
+    for name in ("", "\0", "a\0b", "a ", "x" * 65, "é" * 65, "`" * 65, "\\", "a\\", "\\`", "a\\\\`b"):
         for query in (b"SELECT ?", b"SELECT :a"):
             try:
                 _bound(query, [Identifier(name)] if b"?" in query else {"a": Identifier("t", name)}, mode)

@@ -148,7 +148,7 @@ def _rows(connection: Connection) -> str:
 
 def _refused(connection: Connection) -> str:
     """A name that isn't ASCII without a backslash is refused, in the place that it is given for."""
-    names = ("\\", "a\\", "é", "表", "\u00a0", "a\\`")
+    names = ("\\a", "a\\b", "é", "表", "\u00a0", "\\\\a`")
     for name in names:
         for given in (Identifier(name), Identifier("t", name)):
             try:
