@@ -84,7 +84,8 @@ pub fn wrong_value(value_type: ValueType) -> &'static str {
         ValueType::Base64 => "is no base64 with padding",
         ValueType::Decimal => "is no exact number of at most 65 digits, such as -1.50",
         ValueType::Identifier =>
-            "is no name of 1 to 64 characters of UTF-8 without a byte 0 and a space at its end",
+            "is no name of 1 to 64 characters of UTF-8 without a byte 0, a space at its end, and a \
+             backslash there or before a backquote",
         ValueType::List =>
             "is no JSON array with an item, and all of them texts, numbers, true, false or null, \
              such as [1, 2]",
