@@ -699,9 +699,9 @@ const char *mysql_params_construct_message(int32_t construct)
     case MYSQL_PARAMS_ZERO_BYTE:
         return "the client sends nothing from this line on: write `\\0` in a string, or hexadecimal";
     case MYSQL_PARAMS_ESCAPED_BACKQUOTE:
-        return "`\\` may escape this name's end: no name here ends in `\\` or has it before a backquote";
+        return "`\\` may escape this name's backquote: no name ends in `\\` or has it before one";
     case MYSQL_PARAMS_RETURN_IN_COMMENT:
-        return "the comment may end at its carriage return: write a newline after that, or leave it out";
+        return "a comment may end at a carriage return: leave it out, or write a newline after it";
     default:
         return NULL;
     }

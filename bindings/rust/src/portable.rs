@@ -180,10 +180,10 @@ impl fmt::Display for Construct {
                 "the client sends nothing from this line on: write `\\0` in a string, or hexadecimal"
             }
             Construct::EscapedBackquote => {
-                "`\\` may escape this name's end: no name here ends in `\\` or has it before a backquote"
+                "`\\` may escape this name's backquote: no name ends in `\\` or has it before one"
             }
             Construct::ReturnInComment => {
-                "the comment may end at its carriage return: write a newline after that, or leave it out"
+                "a comment may end at a carriage return: leave it out, or write a newline after it"
             }
         })
     }

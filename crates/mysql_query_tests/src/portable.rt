@@ -427,11 +427,11 @@ const MESSAGES: &[(Construct, &str)] = &[
     ),
     (
         Construct::EscapedBackquote,
-        "`\\` may escape this name's end: no name here ends in `\\` or has it before a backquote",
+        "`\\` may escape this name's backquote: no name ends in `\\` or has it before one",
     ),
     (
         Construct::ReturnInComment,
-        "the comment may end at its carriage return: write a newline after that, or leave it out",
+        "a comment may end at a carriage return: leave it out, or write a newline after it",
     ),
 ];
 
