@@ -14,9 +14,8 @@ ghost use Rattle.mysql_flat_fragments.specs.FragmentsIntoRoom.{IsBoundForm, IsFr
 ghost use Rattle.mysql_flat_fragments.specs.FragmentsOutcomes.{HasNoAnswer, IfDone, IfTooLong, UnlessDone};
 
 use crate::form::form_fragments;
-use crate::missing_place::name_place;
 use crate::outcome::FragmentsOutcome;
-use mysql_flat_params::{FormError, Outcome};
+use mysql_flat_params::{FormError, Outcome, name_place};
 use mysql_fragments::{FragmentsError, bind_fragments_in};
 use mysql_params_core::params::ParamsConfusionError;
 use std::alloc::Global;

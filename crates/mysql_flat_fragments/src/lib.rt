@@ -6,13 +6,11 @@
 #![tactic(auto)]
 
 mod anywhere_room;
-mod column_number;
 mod form;
 mod fragment;
 mod into_room;
 mod items;
 mod keywords;
-mod missing_place;
 mod outcome;
 mod parts;
 

@@ -9,8 +9,7 @@ ghost use Rattle.mysql_flat_params.specs.FlatForm.{read_name, read_of_type, refu
 ghost use Rattle.mysql_flat_params.specs.FormErrors.{form_refusal};
 ghost use Rattle.mysql_flat_fragments.specs.FlatFragments.{read_all, read_count};
 
-use crate::column_number::column_type;
-use mysql_flat_params::FormError;
+use mysql_flat_params::{FormError, column_type};
 use mysql_values::value::{BinValue, Value, ValueDeserializer};
 use mysql_wire_part::{ColumnFlags, Flags, MyDeserialize, ParseBuf, WireError};
 use std::alloc::{AllocError, Global};

@@ -5,7 +5,7 @@ ghost use Rattle.mysql_flat_params.specs.ColumnNumbers.{column_type};
 use mysql_wire_part::ColumnType;
 
 /// The type of columns that has this number in the protocol.
-pub(crate) fn column_type(number: u8) -> Option<ColumnType>
+pub fn column_type(number: u8) -> Option<ColumnType>
     ensures { result ≡ column_type number }
 {
     match number {

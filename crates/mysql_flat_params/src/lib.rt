@@ -8,6 +8,7 @@
 //! a walk of the query. [`bind_rows_into`] parses a query once and binds it to many forms.
 //! [`report_first_unportable`] reports the first construct for which a query isn't portable, and
 //! [`report_first_unportable_in_client`] also what a client reads or sends otherwise.
+//! [`column_type`] and [`name_place`] are lent to the form of fragments.
 #![tactic(auto)]
 
 mod column_number;
@@ -23,9 +24,11 @@ mod rows;
 mod steady_room;
 mod unportable;
 
+pub use column_number::column_type;
 pub use form::params_of_form;
 pub use form_error::FormError;
 pub use into_room::bind_into;
+pub use missing_place::name_place;
 pub use mysql_binding::PlaceSpan;
 pub use names_room::names_into;
 pub use outcome::{Outcome, Report};

@@ -9,11 +9,7 @@ use mysql_named_params::places::{PlaceKind, first_place};
 
 /// The first place of a query that has this name: its number, and the index of the name's first
 /// byte, after the colon.
-pub(crate) fn name_place(
-    query: &[u8],
-    name: &[u8],
-    no_backslash_escape: bool,
-) -> Option<(usize, usize)>
+pub fn name_place(query: &[u8], name: &[u8], no_backslash_escape: bool) -> Option<(usize, usize)>
     ensures found { OnTokens no_backslash_escape query.now (λ ts. IfSome result (λ found.
         IsFirstOfName ts name.now found.0 found.1)) }
     ensures none { OnTokens no_backslash_escape query.now (λ ts.
