@@ -1,6 +1,7 @@
 //! The archive's functions.
 
 use plain::room::Report;
+use plain::rows::Rows;
 
 #[link(name = "mysql_params_c", kind = "static")]
 unsafe extern "C" {
@@ -41,6 +42,15 @@ unsafe extern "C" {
         room_len: usize,
         report: *mut Report,
     ) -> i32;
+    fn mysql_params_bind_fragments_anywhere(
+        query: *const u8,
+        query_len: usize,
+        form: *const u8,
+        form_len: usize,
+        room: *mut u8,
+        room_len: usize,
+        report: *mut Report,
+    ) -> i32;
     fn mysql_params_bind_rows(
         query: *const u8,
         query_len: usize,
@@ -64,14 +74,6 @@ unsafe extern "C" {
         no_backslash_escape: bool,
         report: *mut Report,
     ) -> i32;
-}
-
-/// How far rows are bound.
-#[repr(C)]
-pub struct Rows {
-    pub count: usize,
-    pub read: usize,
-    pub written: usize,
 }
 
 /// A report that no call gives: the archive has to write each field.
@@ -104,11 +106,25 @@ pub fn bind(query: &[u8], form: &[u8], room: &mut [u8]) -> (i32, Report) {
 
 /// `bind` with lists, rows and more.
 pub fn bind_fragments(query: &[u8], form: &[u8], room: &mut [u8]) -> (i32, Report) {
+    bind_fragments_in(query, form, false, room)
+}
+
+/// The same in the mode without backslash escapes.
+pub fn bind_fragments_without_backslashes(
+    query: &[u8],
+    form: &[u8],
+    room: &mut [u8],
+) -> (i32, Report) {
+    bind_fragments_in(query, form, true, room)
+}
+
+/// The same for any mode and any server.
+pub fn bind_fragments_anywhere(query: &[u8], form: &[u8], room: &mut [u8]) -> (i32, Report) {
     let (query_at, form_at, room_at) = (query.as_ptr(), form.as_ptr(), room.as_mut_ptr());
     let (query_len, form_len, room_len) = (query.len(), form.len(), room.len());
     number_and_report(|report| unsafe {
-        mysql_params_bind_fragments(
-            query_at, query_len, form_at, form_len, false, room_at, room_len, report,
+        mysql_params_bind_fragments_anywhere(
+            query_at, query_len, form_at, form_len, room_at, room_len, report,
         )
     })
 }
@@ -160,14 +176,65 @@ fn bind_in(query: &[u8], form: &[u8], no_backslash_escape: bool, room: &mut [u8]
     })
 }
 
+#[inline(always)]
+fn bind_fragments_in(
+    query: &[u8],
+    form: &[u8],
+    no_backslash_escape: bool,
+    room: &mut [u8],
+) -> (i32, Report) {
+    let (query_at, form_at, room_at) = (query.as_ptr(), form.as_ptr(), room.as_mut_ptr());
+    let (query_len, form_len, room_len) = (query.len(), form.len(), room.len());
+    number_and_report(|report| unsafe {
+        mysql_params_bind_fragments(
+            query_at,
+            query_len,
+            form_at,
+            form_len,
+            no_backslash_escape,
+            room_at,
+            room_len,
+            report,
+        )
+    })
+}
+
 /// Rows, whose forms are length-encoded strings.
 pub fn bind_rows(query: &[u8], forms: &[u8], room: &mut [u8]) -> (i32, Rows, Report) {
+    bind_rows_in(query, forms, false, room)
+}
+
+/// The same in the mode without backslash escapes.
+pub fn bind_rows_without_backslashes(
+    query: &[u8],
+    forms: &[u8],
+    room: &mut [u8],
+) -> (i32, Rows, Report) {
+    bind_rows_in(query, forms, true, room)
+}
+
+#[inline(always)]
+fn bind_rows_in(
+    query: &[u8],
+    forms: &[u8],
+    no_backslash_escape: bool,
+    room: &mut [u8],
+) -> (i32, Rows, Report) {
+    // The archive has to write each field of these too.
     let mut rows = Rows { count: usize::MAX, read: usize::MAX, written: usize::MAX };
     let (query_at, forms_at, room_at) = (query.as_ptr(), forms.as_ptr(), room.as_mut_ptr());
     let (query_len, forms_len, room_len) = (query.len(), forms.len(), room.len());
     let (number, report) = number_and_report(|report| unsafe {
         mysql_params_bind_rows(
-            query_at, query_len, forms_at, forms_len, false, room_at, room_len, &mut rows, report,
+            query_at,
+            query_len,
+            forms_at,
+            forms_len,
+            no_backslash_escape,
+            room_at,
+            room_len,
+            &mut rows,
+            report,
         )
     });
     (number, rows, report)

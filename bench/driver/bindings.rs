@@ -1,6 +1,7 @@
 //! Random bindings, the same in each run.
 
-use crate::differences::{Differences, Mode};
+use crate::compared_sides::{Asked, Mode};
+use crate::differences::Differences;
 use crate::random::Random;
 use plain::TABLE;
 use plain::form;
@@ -70,26 +71,32 @@ pub fn compare(count: u64, differences: &mut Differences) {
             let read = form::read(&form);
             assert!(read.as_ref() == Ok(params), "the form of {params:?} is read as {read:?}");
         }
-        let room = match &params {
+        let len = match &params {
             Some(params) if !random.one_in(8) => {
                 (TABLE.bind)(&query, params).map_or(0, |text| text.len())
             }
             _ => random.below(1024),
         };
-        let room = if random.one_in(8) { room.saturating_sub(1) } else { room + random.below(2) };
+        let room = room_for(&mut random, len);
         for mode in [Mode::WithBackslashes, Mode::WithoutBackslashes] {
-            differences.compare_bind(mode, &query, &form, room);
+            differences.compare(Asked::Bind, mode, &query, &form, room);
         }
         // Steady literals are longer: the room may have them all, or miss some.
-        differences.compare_bind(Mode::Anywhere, &query, &form, room + random.below(256));
+        let longer = room + random.below(256);
+        differences.compare(Asked::Bind, Mode::Anywhere, &query, &form, longer);
         let room = query.len() + random.below(query.len() + 2);
         for mode in [Mode::WithBackslashes, Mode::WithoutBackslashes] {
-            differences.compare_names(mode, &query, room);
+            differences.compare(Asked::Names, mode, &query, &[], room);
         }
     }
 }
 
-fn query(random: &mut Random) -> Vec<u8> {
+/// A room for an answer of so many bytes, mostly: or it has one byte less, or one more.
+pub fn room_for(random: &mut Random, len: usize) -> usize {
+    if random.one_in(8) { len.saturating_sub(1) } else { len + random.below(2) }
+}
+
+pub fn query(random: &mut Random) -> Vec<u8> {
     if random.one_in(50) {
         let len = random.below(64);
         return random.bytes(len);
@@ -126,7 +133,7 @@ fn query(random: &mut Random) -> Vec<u8> {
 }
 
 /// Parameters in flat form, and as they are to be read if the form has no fault.
-fn form(random: &mut Random, query: &[u8]) -> (Vec<u8>, Option<Params>) {
+pub fn form(random: &mut Random, query: &[u8]) -> (Vec<u8>, Option<Params>) {
     let names = names_for(random, query);
     let mut form = Vec::new();
     let mut values = Vec::new();
@@ -138,17 +145,7 @@ fn form(random: &mut Random, query: &[u8]) -> (Vec<u8>, Option<Params>) {
         (1..names.len()).any(|at| !names[at].is_empty() && names[..at].contains(&names[at]));
     let positional = names.iter().filter(|name| name.is_empty()).count();
     let faulty = repeats || positional > 0 && positional < names.len();
-    if random.one_in(16) && !form.is_empty() {
-        let at = random.below(form.len());
-        match random.below(3) {
-            0 => form.truncate(at),
-            1 => form[at] = random.number() as u8,
-            // Leads and types that can't be read, and those of longer strings.
-            _ => {
-                form[at] =
-                    *random.pick(&[0xFB, 0xFF, 0xFC, 0xFD, 0xFE, 17, 18, 19, 20, 21, 243, 244])
-            }
-        }
+    if damage(random, &mut form, &LEADS_AND_TYPES) {
         return (form, None);
     }
     let params = if names.is_empty() {
@@ -161,8 +158,25 @@ fn form(random: &mut Random, query: &[u8]) -> (Vec<u8>, Option<Params>) {
     (form, if faulty { None } else { Some(params) })
 }
 
+/// Leads and types that can't be read, and leads of longer strings.
+const LEADS_AND_TYPES: [u8; 12] = [0xFB, 0xFF, 0xFC, 0xFD, 0xFE, 17, 18, 19, 20, 21, 243, 244];
+
+/// Cuts off one form in 16 or changes a byte of it, also to one of these; gives whether it did.
+pub fn damage(random: &mut Random, form: &mut Vec<u8>, bytes: &[u8]) -> bool {
+    if !random.one_in(16) || form.is_empty() {
+        return false;
+    }
+    let at = random.below(form.len());
+    match random.below(3) {
+        0 => form.truncate(at),
+        1 => form[at] = random.number() as u8,
+        _ => form[at] = *random.pick(bytes),
+    }
+    true
+}
+
 /// The names of the parameters, mostly such as the query needs; an empty one is by position.
-fn names_for(random: &mut Random, query: &[u8]) -> Vec<Vec<u8>> {
+pub fn names_for(random: &mut Random, query: &[u8]) -> Vec<Vec<u8>> {
     let mut names: Vec<Vec<u8>> = Vec::new();
     let mut at = 0;
     while let Some((start, end)) = next_place::<Table>(query, at) {
@@ -186,7 +200,7 @@ fn names_for(random: &mut Random, query: &[u8]) -> Vec<Vec<u8>> {
     names
 }
 
-fn random_text(random: &mut Random) -> Vec<u8> {
+pub fn random_text(random: &mut Random) -> Vec<u8> {
     let len = match random.below(2000) {
         0 => 65_530 + random.below(12),
         1..=20 => 245 + random.below(12),
@@ -201,7 +215,7 @@ fn random_text(random: &mut Random) -> Vec<u8> {
 }
 
 /// Appends a length-encoded string, now and then in a longer form than it needs.
-fn append_string(random: &mut Random, form: &mut Vec<u8>, bytes: &[u8]) {
+pub fn append_string(random: &mut Random, form: &mut Vec<u8>, bytes: &[u8]) {
     if !random.one_in(12) {
         return form::append_string(form, bytes);
     }
@@ -212,7 +226,7 @@ fn append_string(random: &mut Random, form: &mut Vec<u8>, bytes: &[u8]) {
 }
 
 /// Appends type, flags and value; gives the value as it is to be read.
-fn append_value(random: &mut Random, form: &mut Vec<u8>) -> Value {
+pub fn append_value(random: &mut Random, form: &mut Vec<u8>) -> Value {
     match random.below(16) {
         0..=5 => append_text(random, form),
         6..=9 => append_whole(random, form),

@@ -1,10 +1,13 @@
 //! Compares the archive with plain Rust: on every short query over the special bytes, on random
-//! bindings, and on portable queries.
+//! bindings, rows and fragments, and on portable queries.
 
 use crate::bindings;
-use crate::differences::{Differences, Mode};
+use crate::compared_sides::{Asked, Mode};
+use crate::differences::Differences;
+use crate::fragment_bindings;
 use crate::other_mode::WithoutBackslashes;
 use crate::portable;
+use crate::row_bindings;
 use plain::form;
 use plain::query::next_place;
 use plain::search::{Search, Table};
@@ -18,7 +21,8 @@ const ALPHABET: &[u8] = b"'\"`\\#-/*:?a1 \n\t!(+\xFF";
 /// Room for each answer to a query of up to 8 bytes.
 const SHORT_ROOM: usize = 256;
 
-/// Compares on every query of up to `longest` bytes, and on so many random bindings and queries.
+/// Compares on every query of up to `longest` bytes, and on so many random bindings, rows,
+/// fragments and queries.
 pub fn compare(longest: usize, count: u64) -> ExitCode {
     let start = Instant::now();
     let mut differences = Differences::default();
@@ -26,10 +30,17 @@ pub fn compare(longest: usize, count: u64) -> ExitCode {
     let (calls, seconds) = (differences.calls, start.elapsed().as_secs());
     let letters = ALPHABET.len();
     println!("{queries} queries of up to {longest} of {letters} bytes: {calls} calls, {seconds} s");
-    bindings::compare(count, &mut differences);
-    let calls = differences.calls - calls;
-    let seconds = start.elapsed().as_secs() - seconds;
-    println!("{count} random bindings: {calls} calls, {seconds} s");
+    let kinds: [(&str, fn(u64, &mut Differences)); 3] = [
+        ("bindings", bindings::compare),
+        ("rows", row_bindings::compare),
+        ("fragments", fragment_bindings::compare),
+    ];
+    for (kind, compare) in kinds {
+        let (start, calls) = (Instant::now(), differences.calls);
+        compare(count, &mut differences);
+        let (calls, seconds) = (differences.calls - calls, start.elapsed().as_secs());
+        println!("{count} random {kind}: {calls} calls, {seconds} s");
+    }
     let is_judged_alike = portable::compare(longest, count);
     let printed = differences.print();
     if is_judged_alike { printed } else { ExitCode::FAILURE }
@@ -75,10 +86,10 @@ fn short_query_in<S: Search>(
     differences: &mut Differences,
 ) {
     let one_value = positional_form(1, values);
-    differences.compare_names(mode, query, SHORT_ROOM);
+    differences.compare(Asked::Names, mode, query, &[], SHORT_ROOM);
     for form in [&[], one_name, one_value.as_slice()] {
-        differences.compare_bind(mode, query, form, SHORT_ROOM);
-        differences.compare_bind(Mode::Anywhere, query, form, SHORT_ROOM);
+        differences.compare(Asked::Bind, mode, query, form, SHORT_ROOM);
+        differences.compare(Asked::Bind, Mode::Anywhere, query, form, SHORT_ROOM);
     }
     let (mut names, mut marks) = (Vec::new(), 0);
     let mut at = 0;
@@ -93,7 +104,7 @@ fn short_query_in<S: Search>(
     if names.len() + marks > 1 || names.iter().any(|name| *name != b"a") {
         let form =
             if marks > 0 { positional_form(marks, values) } else { named_form(&names, values) };
-        differences.compare_bind(mode, query, &form, SHORT_ROOM);
+        differences.compare(Asked::Bind, mode, query, &form, SHORT_ROOM);
     }
 }
 

@@ -5,7 +5,9 @@ mod archive;
 mod archive_template;
 mod bindings;
 mod compare;
+mod compared_sides;
 mod differences;
+mod fragment_bindings;
 mod fragments;
 mod growth;
 mod inputs;
@@ -14,6 +16,7 @@ mod other_mode;
 mod portable;
 mod random;
 mod report;
+mod row_bindings;
 mod rows;
 mod sides;
 mod time;
@@ -25,7 +28,8 @@ use std::process::ExitCode;
 const USAGE: &str = "\
 time                    prints the ratios
 time FILE DATE KIT      also writes them into the file
-compare LONGEST COUNT   compares on all queries of up to LONGEST bytes, and on COUNT random bindings
+compare LONGEST COUNT   compares on all queries of up to LONGEST bytes, and on COUNT random bindings,
+                        rows, fragments and queries
 repeat SIDE CALL INPUT  does one call over and over, for two seconds
 peak SIDE CALL          prints by how many bytes one call of `bind`, `template` or `names` grows the
                         process";

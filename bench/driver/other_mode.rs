@@ -2,6 +2,7 @@
 
 use plain::bind::bind;
 use plain::room::{self, Report};
+use plain::rows::{self, Rows};
 use plain::search::{Search, Table};
 use plain::template::Template;
 use std::marker::PhantomData;
@@ -40,4 +41,14 @@ pub fn bind_form<S: Search>(query: &[u8], form: &[u8], room: &mut [u8]) -> (i32,
 pub fn bind_form_by_template(query: &[u8], form: &[u8], room: &mut [u8]) -> (i32, Report) {
     let template = Template::new::<WithoutBackslashes<Table>>(query);
     room::bind_form(form, room, |params| template.bind::<WithoutBackslashes<Table>>(params))
+}
+
+pub fn bind_rows<S: Search>(query: &[u8], forms: &[u8], room: &mut [u8]) -> (i32, Rows, Report) {
+    rows::bind_rows(forms, room, |params| bind::<WithoutBackslashes<S>>(query, params))
+}
+
+/// Rows by a template that is made for this call alone.
+pub fn bind_rows_by_template(query: &[u8], forms: &[u8], room: &mut [u8]) -> (i32, Rows, Report) {
+    let template = Template::new::<WithoutBackslashes<Table>>(query);
+    rows::bind_rows(forms, room, |params| template.bind::<WithoutBackslashes<Table>>(params))
 }

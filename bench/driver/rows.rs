@@ -9,7 +9,7 @@ use plain::{Kind, TABLE, WIDE};
 use std::cell::RefCell;
 use std::hint::black_box;
 
-/// The heads of the table: the call, and each side but the archive.
+/// The heads of the table: the call, and each side except the archive.
 pub const ROWS: [&str; 5] =
     ["`bind_rows`", "table", "16 bytes", "table, behind the calls", "the archive's `bind` by row"];
 

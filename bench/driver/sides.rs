@@ -19,7 +19,7 @@ const ROOM: usize = 8 << 20;
 /// The archive and both kinds of plain Rust.
 const OWN_SIDES: usize = 3;
 
-/// The heads of a table of `names`: the call, and each side but the archive.
+/// The heads of a table of `names`: the call, and each side except the archive.
 pub const PARSING: [&str; 4] = ["`names`", "table", "16 bytes", "upstream"];
 /// The same of `bind`.
 pub const BINDING: [&str; 5] =

@@ -1,6 +1,7 @@
 //! Plain Rust for the archive's task, written by hand for speed. It is a crate of its own, so that
 //! its machine code is the same whatever the driver does.
 
+pub mod all_fragments;
 pub mod bind;
 pub mod client;
 pub mod form;
@@ -8,6 +9,7 @@ pub mod fragments;
 pub mod portable;
 pub mod query;
 pub mod room;
+pub mod rows;
 pub mod search;
 pub mod template;
 pub mod value;

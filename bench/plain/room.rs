@@ -34,9 +34,11 @@ const NOT_ALONE: i32 = 13;
 const FLOAT: i32 = 14;
 const UNSTEADY: i32 = 15;
 const UNPORTABLE: i32 = 16;
+pub const FAULT: i32 = 17;
+pub(crate) const UNSTEADY_FRAGMENT: i32 = 19;
 
 /// The names of the numbers, from 0.
-pub const NUMBERS: [&str; 17] = [
+pub const NUMBERS: [&str; 20] = [
     "DONE",
     "OUT_OF_MEMORY",
     "ROOM",
@@ -54,6 +56,9 @@ pub const NUMBERS: [&str; 17] = [
     "FLOAT",
     "UNSTEADY",
     "UNPORTABLE",
+    "FAULT",
+    "BACKSLASH",
+    "UNSTEADY_FRAGMENT",
 ];
 
 #[inline(always)]
@@ -79,7 +84,7 @@ pub fn fill_names<N: AsRef<[u8]>>(renamed: &[u8], names: &[N], room: &mut [u8]) 
     (DONE, report)
 }
 
-fn string_len(bytes: &[u8]) -> usize {
+pub(crate) fn string_len(bytes: &[u8]) -> usize {
     bytes.len()
         + match bytes.len() {
             0..=250 => 1,
@@ -91,7 +96,7 @@ fn string_len(bytes: &[u8]) -> usize {
 
 /// Writes a length-encoded string at the front of the room, and gives the room after it.
 #[inline(always)]
-fn fill_string<'r>(room: &'r mut [u8], bytes: &[u8]) -> &'r mut [u8] {
+pub(crate) fn fill_string<'r>(room: &'r mut [u8], bytes: &[u8]) -> &'r mut [u8] {
     let lead_len = string_len(bytes) - bytes.len();
     let (lead, rest) = room.split_at_mut(lead_len);
     let tail = (bytes.len() as u64).to_le_bytes();
@@ -135,7 +140,7 @@ pub fn fill_text(text: &[u8], room: &mut [u8]) -> (i32, Report) {
     (DONE, report)
 }
 
-fn form_answer(error: &FormError, place: usize, position: usize) -> (i32, Report) {
+pub(crate) fn form_answer(error: &FormError, place: usize, position: usize) -> (i32, Report) {
     let at = Report { place, position, ..Report::default() };
     match *error {
         FormError::End => (FORM_END, at),
@@ -146,7 +151,7 @@ fn form_answer(error: &FormError, place: usize, position: usize) -> (i32, Report
     }
 }
 
-fn bind_answer(error: &BindError) -> (i32, Report) {
+pub(crate) fn bind_answer(error: &BindError) -> (i32, Report) {
     let none = Report::default();
     match *error {
         BindError::Mixed => (MIXED, none),
