@@ -850,6 +850,22 @@ int32_t mysql_params_template_bind_form(const mysql_params_template *made, const
                             report);
 }
 
+int32_t mysql_params_template_bind_rows(const mysql_params_template *made, const uint8_t *forms, size_t forms_len,
+                                        uint8_t *room, size_t room_len, mysql_params_rows *rows,
+                                        mysql_params_report *report)
+{
+    return mysql_params_bind_rows(query_of(made), made->query_len, forms, forms_len, made->no_backslash_escape, room,
+                                  room_len, rows, report);
+}
+
+int32_t mysql_params_template_bind_all_rows(const mysql_params_template *made, const uint8_t *forms, size_t forms_len,
+                                            mysql_params_texts *texts, mysql_params_rows *rows,
+                                            mysql_params_report *report)
+{
+    return mysql_params_bind_all_rows(query_of(made), made->query_len, forms, forms_len, made->no_backslash_escape, texts,
+                                      rows, report);
+}
+
 bool mysql_params_processor_suffices(void)
 {
 #if defined(__x86_64__) && defined(__GNUC__)

@@ -191,6 +191,21 @@ int32_t mysql_params_bind_all_rows(const uint8_t *query, size_t query_len,
                                    mysql_params_rows *rows,
                                    mysql_params_report *report);
 
+/* Binds rows as mysql_params_bind_rows does to the template's query. That finds the places once for all rows by itself, and
+ * not by the template's table: each call walks the query once, or twice if it has more than 16 places. */
+int32_t mysql_params_template_bind_rows(const mysql_params_template *made,
+                                        const uint8_t *forms, size_t forms_len,
+                                        uint8_t *room, size_t room_len,
+                                        mysql_params_rows *rows,
+                                        mysql_params_report *report);
+
+/* Binds rows as mysql_params_bind_all_rows does to the template's query. */
+int32_t mysql_params_template_bind_all_rows(const mysql_params_template *made,
+                                            const uint8_t *forms, size_t forms_len,
+                                            mysql_params_texts *texts,
+                                            mysql_params_rows *rows,
+                                            mysql_params_report *report);
+
 /* Bytes within an answer of mysql_params_names or mysql_params_bind_rows. */
 typedef struct mysql_params_string {
     const uint8_t *bytes; /* the first byte */

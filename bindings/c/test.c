@@ -250,6 +250,20 @@ static void names_of_queries(void)
     each_case(folder, "names.txt", try_rooms);
 }
 
+/* Returns a template of a case's query if templates are tried, else null. It has a copy of the query, which is written
+ * over. */
+static mysql_params_template *template_of(const test_case *it, uint8_t *query)
+{
+    if (tried != BIND_TEMPLATE)
+        return NULL;
+    mysql_params_template *made = mysql_params_template_new(query, it->query.len, it->no_backslash_escape);
+    if (made == NULL)
+        exit(2);
+    if (it->query.len > 0)
+        memset(query, '?', it->query.len);
+    return made;
+}
+
 /* Binds the rows of a case with a room of a length, and refuses memory after some allocations: the texts before the row at
  * which it ends are kept, and the rest of the room is as before. Returns whether an allocation was refused. */
 static bool try_rows_in(const test_case *it, size_t room_len, long allocations)
@@ -260,13 +274,17 @@ static bool try_rows_in(const test_case *it, size_t room_len, long allocations)
     if (room == NULL)
         exit(2);
     memset(room, UNTOUCHED, room_len > 0 ? room_len : 1);
+    mysql_params_template *made = template_of(it, query);
     long before = blocks;
     allocation_refused = false;
     allocations_left = allocations;
-    int32_t number = mysql_params_bind_rows(query, it->query.len, forms, it->forms.len, it->no_backslash_escape, room,
-                                            room_len, &rows, &report);
+    int32_t number =
+        made == NULL ? mysql_params_bind_rows(query, it->query.len, forms, it->forms.len, it->no_backslash_escape, room,
+                                              room_len, &rows, &report)
+                     : mysql_params_template_bind_rows(made, forms, it->forms.len, room, room_len, &rows, &report);
     allocations_left = ALL;
     expect(blocks == before, it, "memory isn't given back");
+    mysql_params_template_free(made);
     expect(rows.written <= room_len && rows.written <= it->answer.len && rows.read <= it->read && rows.count <= it->texts,
            it, "more rows are bound than there are");
     expect(memcmp(room, it->answer.at, rows.written) == 0, it, "other texts are wanted");
@@ -299,9 +317,14 @@ static void try_rows(const test_case *it)
     mysql_params_texts texts = {0};
     mysql_params_rows rows = {9, 9, 9};
     mysql_params_report report = {9, 9, 9, 9, 9, 9};
+    uint8_t *query = exact_copy(it->query);
+    mysql_params_template *made = template_of(it, query);
     for (int round = 1; round <= 2; round++) {
-        int32_t number = mysql_params_bind_all_rows(it->query.at, it->query.len, it->forms.at, it->forms.len,
-                                                    it->no_backslash_escape, &texts, &rows, &report);
+        int32_t number =
+            made == NULL
+                ? mysql_params_bind_all_rows(query, it->query.len, it->forms.at, it->forms.len, it->no_backslash_escape,
+                                             &texts, &rows, &report)
+                : mysql_params_template_bind_all_rows(made, it->forms.at, it->forms.len, &texts, &rows, &report);
         expect(number == it->number && same_report(&report, &it->report), it, "another end of all rows is wanted");
         expect(rows.count == it->texts && rows.read == it->read && rows.written == it->answer.len, it,
                "another number of all rows is wanted");
@@ -309,11 +332,21 @@ static void try_rows(const test_case *it)
         expect(it->answer.len == 0 || memcmp(texts.at + texts.len - it->answer.len, it->answer.at, it->answer.len) == 0, it,
                "another text of all rows is wanted");
     }
+    mysql_params_template_free(made);
+    free(query);
     free(texts.at);
 }
 
 static void rows_of_queries(void)
 {
+    tried = BIND;
+    each_case(folder, "rows.txt", try_rows);
+}
+
+/* A template binds rows as mysql_params_bind_rows does. */
+static void rows_of_templates(void)
+{
+    tried = BIND_TEMPLATE;
     each_case(folder, "rows.txt", try_rows);
 }
 
@@ -1034,6 +1067,7 @@ int main(int count, char **words)
     all &= passed("forms_of_lists", forms_of_lists);
     all &= passed("names_of_queries", names_of_queries);
     all &= passed("rows_of_queries", rows_of_queries);
+    all &= passed("rows_of_templates", rows_of_templates);
     all &= passed("rows_in_growing_memory", rows_in_growing_memory);
     all &= passed("rows_that_are_cut", rows_that_are_cut);
     all &= passed("portable_queries", portable_queries);

@@ -201,16 +201,16 @@ class Test(unittest.TestCase):
             self.expect(case, lambda: bind_form(case.query, case.form, case.no_backslash_escape))
             self.expect(case, lambda: Template(case.query, case.no_backslash_escape).bind_form(case.form))
 
-    def expect_rows(self, case, rows, *mode):
+    def expect_rows(self, case, rows, call):
         """The rows have the texts that the case wants, each as by itself; or are refused after them."""
         with self.subTest(case=case.lines):
             if case.refusal is None:
-                texts = bind_rows(case.query, iter(rows), *mode)
+                texts = call(iter(rows))
                 self.assertEqual(texts, case.texts)
-                self.assertEqual(texts, [bind(case.query, row, *mode) for row in rows])
+                self.assertEqual(texts, [bind(case.query, row, case.no_backslash_escape) for row in rows])
                 return
             with self.assertRaises(mysql_params.Error) as raised:
-                bind_rows(case.query, iter(rows), *mode)
+                call(iter(rows))
             error, row = raised.exception, len(case.texts)
             self.assertEqual((error.row, error.texts), (row, case.texts))
             self.assertTrue(str(error).startswith(f"row {row}: "))
@@ -224,9 +224,12 @@ class Test(unittest.TestCase):
     def test_rows_of_queries(self):
         for case in cases("rows.txt"):
             rows = [case.given_of(params) for params in case.rows]
-            self.expect_rows(case, rows, case.no_backslash_escape)
-            if not case.no_backslash_escape:
-                self.expect_rows(case, rows)
+            mode = case.no_backslash_escape
+            self.expect_rows(case, rows, lambda given: bind_rows(case.query, given, mode))
+            self.expect_rows(case, rows, Template(case.query, mode).bind_rows)
+            if not mode:
+                self.expect_rows(case, rows, lambda given: bind_rows(case.query, given))
+                self.expect_rows(case, rows, Template(case.query).bind_rows)
 
     def test_many_rows(self):
         for length, count in ((1, 100_000), (251, 2000), (70_000, 20)):

@@ -51,6 +51,8 @@ def template(ident: int, name: str) -> tuple[bytes, bool, bytes]:
     made = Template(QUERY, no_backslash_escape=True)
     made.bind_form(b"")
     made.bind()
+    made.bind_rows([{"id": ident, "name": name}])
+    made.bind_rows(row for row in ((ident, name), [ident]))
     return made.query, made.no_backslash_escape, made.bind({"id": ident, "name": name}, zone=datetime.timezone.utc)
 
 

@@ -3,6 +3,7 @@
 from __future__ import annotations
 
 import datetime
+from collections.abc import Iterable
 from typing import Optional, Union
 
 from . import _archive, _form
@@ -47,3 +48,10 @@ class Template:
     def bind_form(self, form: bytes) -> bytes:
         """Return what bind_form returns for the query in its mode, and raise what it raises."""
         return _archive.bound(self._table.query, self._table, _form.copy(form), self._table.mode)
+
+    def bind_rows(self, rows: Iterable[object]) -> list[bytes]:
+        """Return what bind_rows returns for the query in its mode, and raise what it raises.
+
+        That finds the places of the query once for many rows by itself, and not by the template's table.
+        """
+        return _archive.bind_rows(self._table.query, rows, self._table.mode)

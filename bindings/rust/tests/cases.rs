@@ -506,6 +506,8 @@ fn rows_of_queries() {
         let params = || rows.iter().map(params_of);
         let mode = case.no_backslash_escape;
         expect_rows(&case, &rows, bind_rows_in(&case.query, params(), mode));
+        let template = Template::new_in(&case.query, mode).expect("a template");
+        expect_rows(&case, &rows, template.bind_rows(params()));
         if !mode {
             expect_rows(&case, &rows, bind_rows(&case.query, params()));
         }
