@@ -10,9 +10,11 @@
 
 #include "mysql_params_form.h"
 
+#include <cstdlib>
 #include <cstring>
 #include <initializer_list>
 #include <limits>
+#include <memory>
 #include <new>
 #include <optional>
 #include <stdexcept>
@@ -44,6 +46,24 @@ public:
 private:
     std::int32_t number_;
     mysql_params_report report_;
+};
+
+/* A row that is refused: as Error, of the row's own call of bind; what() begins with the row. */
+class RowError : public Error {
+public:
+    RowError(std::size_t row, const Error &error, std::vector<std::string> texts)
+        : Error(error.number(), error.report(), "row " + std::to_string(row) + ": " + error.what()), row_(row),
+          texts_(std::make_shared<const std::vector<std::string>>(std::move(texts)))
+    {
+    }
+    /* The number of the row, from 0. */
+    std::size_t row() const noexcept { return row_; }
+    /* The texts of the rows before it. */
+    const std::vector<std::string> &texts() const noexcept { return *texts_; }
+
+private:
+    std::size_t row_;
+    std::shared_ptr<const std::vector<std::string>> texts_;
 };
 
 /* A construct that servers read in different ways, and the byte of the query at which it begins. */
@@ -304,6 +324,84 @@ struct BindFragmentsAnywhere : Bind {
     }
 };
 
+struct BindTemplate : Bind {
+    const mysql_params_template *made;
+    std::int32_t operator()(std::uint8_t *room, std::size_t room_len, mysql_params_report *report) const
+    {
+        return mysql_params_template_bind(made, form.room, form.len, room, room_len, report);
+    }
+};
+
+/* The forms of rows, each as a length-encoded string. */
+class RowForms {
+public:
+    RowForms() noexcept : forms_(mysql_params_form_growing()) {}
+    RowForms(const RowForms &) = delete;
+    RowForms &operator=(const RowForms &) = delete;
+    ~RowForms() { mysql_params_form_free(&forms_); }
+    void append(const Form &row)
+    {
+        if (!mysql_params_append_row(&forms_, &row.get()))
+            throw std::bad_alloc();
+    }
+    std::string_view bytes() const noexcept { return {reinterpret_cast<const char *>(forms_.room), forms_.len}; }
+
+private:
+    mysql_params_form forms_;
+};
+
+/* The texts of rows, each as a length-encoded string. */
+struct RowTexts {
+    mysql_params_texts texts{};
+    RowTexts() = default;
+    RowTexts(const RowTexts &) = delete;
+    RowTexts &operator=(const RowTexts &) = delete;
+    ~RowTexts() { std::free(texts.at); }
+};
+
+/* The strings of which bytes are a row. */
+inline std::vector<std::string> strings_of(const std::uint8_t *bytes, std::size_t len)
+{
+    std::vector<std::string> found;
+    mysql_params_string string{};
+    while (len > 0) {
+        if (!mysql_params_next_string(&bytes, &len, &string))
+            throw std::runtime_error("mysql_params: the answer is no row of strings");
+        found.emplace_back(reinterpret_cast<const char *>(string.bytes), string.len);
+    }
+    return found;
+}
+
+/* The texts of rows of a query. */
+template <typename Rows>
+std::vector<std::string> bound_rows(std::string_view query, const Rows &rows, bool no_backslash_escape)
+{
+    need_processor();
+    RowForms forms;
+    for (const Form &row : rows)
+        forms.append(row);
+    const std::string_view all = forms.bytes();
+    RowTexts room;
+    mysql_params_rows bound{};
+    mysql_params_report report{};
+    const std::int32_t number = mysql_params_bind_all_rows(bytes_of(query), query.size(), bytes_of(all), all.size(),
+                                                           no_backslash_escape, &room.texts, &bound, &report);
+    std::vector<std::string> texts = strings_of(room.texts.at, room.texts.len);
+    if (number == MYSQL_PARAMS_DONE)
+        return texts;
+    try {
+        if (number != MYSQL_PARAMS_FORM_REPEATED)
+            refuse(number, report, query);
+        const std::uint8_t *rest = bytes_of(all) + bound.read;
+        std::size_t left = all.size() - bound.read;
+        mysql_params_string form{};
+        mysql_params_next_string(&rest, &left, &form);
+        refuse(number, report, {reinterpret_cast<const char *>(form.bytes), form.len});
+    } catch (const Error &error) {
+        throw RowError(bound.count, error, std::move(texts));
+    }
+}
+
 struct NamesOf {
     std::string_view query;
     bool no_backslash_escape;
@@ -356,22 +454,79 @@ inline std::string bind_fragments_anywhere(std::string_view query, const Form &f
     return detail::whole_answer(query.size() + 2 * flat.len + 64, detail::BindFragmentsAnywhere{{query, flat, false}});
 }
 
+/* The text of each row: what bind gives for the query and the row, a Form. Rows are a std::vector<Form>, or anything else
+ * that gives them one after another. The query is parsed once for all rows. Throws RowError for the first that is
+ * refused. */
+template <typename Rows>
+std::vector<std::string> bind_rows(std::string_view query, const Rows &rows, Mode mode = Mode::backslash_escapes)
+{
+    return detail::bound_rows(query, rows, mode == Mode::no_backslash_escapes);
+}
+
+/* A query whose places are found once, to bind it many times: it gives what bind gives, without a walk of the query. It
+ * owns a copy of the query, and binding it changes nothing, so that many threads may do so at once. It is moved, not
+ * copied; to bind what was moved from throws std::logic_error. */
+class Template {
+public:
+    /* Throws std::bad_alloc. A query that can't be bound is refused when it is bound. */
+    explicit Template(std::string_view query, Mode mode = Mode::backslash_escapes)
+        : made_(made_of(query, mode)), mode_(mode)
+    {
+    }
+
+    /* What bind gives for the query in its mode. Throws Error. */
+    std::string bind(const Form &form = {}) const
+    {
+        const mysql_params_form &flat = form.get();
+        return detail::whole_answer(query().size() + 2 * flat.len + 64,
+                                    detail::BindTemplate{{query(), flat, escapes_nothing()}, made_.get()});
+    }
+    /* What bind_rows gives for the query in its mode. That finds the places once for all rows by itself, and not by the
+     * template's table. Throws RowError. */
+    template <typename Rows> std::vector<std::string> bind_rows(const Rows &rows) const
+    {
+        return detail::bound_rows(query(), rows, escapes_nothing());
+    }
+    /* The query, as long as the template lives. */
+    std::string_view query() const
+    {
+        if (!made_)
+            throw std::logic_error("mysql_params: the template was moved");
+        std::size_t len = 0;
+        const std::uint8_t *bytes = mysql_params_template_query(made_.get(), &len);
+        return {reinterpret_cast<const char *>(bytes), len};
+    }
+    /* The mode for which the query is read and its values are written. */
+    Mode mode() const noexcept { return mode_; }
+
+private:
+    struct Free {
+        void operator()(mysql_params_template *made) const noexcept { mysql_params_template_free(made); }
+    };
+    static mysql_params_template *made_of(std::string_view query, Mode mode)
+    {
+        detail::need_processor();
+        mysql_params_template *made =
+            mysql_params_template_new(detail::bytes_of(query), query.size(), mode == Mode::no_backslash_escapes);
+        if (made == nullptr)
+            throw std::bad_alloc();
+        return made;
+    }
+    bool escapes_nothing() const noexcept { return mode_ == Mode::no_backslash_escapes; }
+
+    std::unique_ptr<mysql_params_template, Free> made_;
+    Mode mode_;
+};
+
 /* The names of a query. Throws Error for one with names and marks. */
 inline Names names(std::string_view query, Mode mode = Mode::backslash_escapes)
 {
     const std::string answer =
         detail::whole_answer(query.size() + 64, detail::NamesOf{query, mode == Mode::no_backslash_escapes});
-    const std::uint8_t *rest = detail::bytes_of(answer);
-    std::size_t left = answer.size();
-    mysql_params_string string{};
-    const auto next = [&] {
-        if (!mysql_params_next_string(&rest, &left, &string))
-            throw std::runtime_error("mysql_params: the answer is no row of strings");
-        return std::string(reinterpret_cast<const char *>(string.bytes), string.len);
-    };
-    Names found{next(), {}};
-    while (left > 0)
-        found.names.push_back(next());
+    std::vector<std::string> strings = detail::strings_of(detail::bytes_of(answer), answer.size());
+    Names found{std::move(strings.at(0)), {}};
+    strings.erase(strings.begin());
+    found.names = std::move(strings);
     return found;
 }
 

@@ -825,6 +825,12 @@ void mysql_params_template_free(mysql_params_template *made)
     free(made);
 }
 
+const uint8_t *mysql_params_template_query(const mysql_params_template *made, size_t *query_len)
+{
+    *query_len = made->query_len;
+    return query_of(made);
+}
+
 int32_t mysql_params_template_bind(const mysql_params_template *made, const uint8_t *form, size_t form_len,
                                    uint8_t *room, size_t room_len, mysql_params_report *report)
 {

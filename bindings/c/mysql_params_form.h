@@ -159,6 +159,9 @@ mysql_params_template *mysql_params_template_new(const uint8_t *query, size_t qu
 /* Gives back a template, which no call may be binding. Does nothing to null. */
 void mysql_params_template_free(mysql_params_template *made);
 
+/* Returns the query that a template owns, with its length: the source for mysql_params_message. */
+const uint8_t *mysql_params_template_query(const mysql_params_template *made, size_t *query_len);
+
 /* Binds as mysql_params_bind does to the template's query: it returns the same numbers, and writes the same reports and
  * texts. `form` and `room` are as there. */
 int32_t mysql_params_template_bind(const mysql_params_template *made, const uint8_t *form, size_t form_len,

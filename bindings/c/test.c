@@ -874,6 +874,10 @@ static void templates_in_memory(void)
             expect(blocks == before, &it, "memory is kept");
             continue;
         }
+        size_t query_len = 0;
+        const uint8_t *owned = mysql_params_template_query(made, &query_len);
+        expect(owned != query && query_len == sizeof query - 1 && memcmp(owned, query, query_len) == 0, &it,
+               "it doesn't own the query");
         for (int round = 0; round < 2; round++) {
             char *text = NULL;
             mysql_params_report report = {9, 9, 9, 9, 9, 9};

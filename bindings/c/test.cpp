@@ -9,6 +9,8 @@ using mysql_params::bind;
 using mysql_params::Error;
 using mysql_params::Form;
 using mysql_params::Mode;
+using mysql_params::RowError;
+using mysql_params::Template;
 using mysql_params::Value;
 
 static int failures;
@@ -47,6 +49,9 @@ static_assert(!std::is_constructible_v<Value, char> && !std::is_constructible_v<
 static_assert(!std::is_constructible_v<Value, wchar_t> && !std::is_constructible_v<Value, decltype(u8'a')>);
 static_assert(!std::is_constructible_v<Value, char16_t> && !std::is_constructible_v<Value, char32_t>);
 static_assert(!std::is_copy_constructible_v<Form> && std::is_nothrow_move_constructible_v<Form>);
+static_assert(!std::is_copy_constructible_v<Template> && !std::is_copy_assignable_v<Template>);
+static_assert(std::is_nothrow_move_constructible_v<Template> && std::is_nothrow_move_assignable_v<Template>);
+static_assert(std::is_nothrow_copy_constructible_v<RowError>);
 
 static void values()
 {
@@ -166,6 +171,75 @@ static void steady_fragments()
     }
 }
 
+/* What a call of rows throws: the row, how many texts stand before it, and the message. */
+template <typename Call> static std::string row_thrown(Call call)
+{
+    try {
+        call();
+    } catch (const RowError &error) {
+        return std::to_string(error.row()) + " " + std::to_string(error.texts().size()) + " " + error.what();
+    }
+    return "nothing";
+}
+
+static void rows()
+{
+    using mysql_params::bind_rows;
+    std::vector<Form> rows;
+    rows.push_back({1, "it's"});
+    rows.push_back({2, nullptr});
+    const std::vector<std::string> wanted{"(1, 'it\\'s')", "(2, NULL)"};
+    expect(bind_rows("(?, ?)", rows) == wanted, "each row has its text");
+    expect(Template("(?, ?)").bind_rows(rows) == wanted, "so by a template");
+    expect(bind_rows(":a ?", std::vector<Form>()).empty(), "without rows nothing is refused");
+    const std::vector<std::string> escaped{"'\\', (1, 'it''s')", "'\\', (2, NULL)"};
+    expect(bind_rows("'\\', (?, ?)", rows, Mode::no_backslash_escapes) == escaped, "the mode counts");
+    expect(Template("'\\', (?, ?)", Mode::no_backslash_escapes).bind_rows(rows) == escaped, "so by a template");
+    rows.push_back({3});
+    same(row_thrown([&] { bind_rows("(?, ?)", rows); }), "2 2 row 2: Query has 2 marks and 1 values");
+    same(row_thrown([&] { Template("(?, ?)").bind_rows(rows); }), "2 2 row 2: Query has 2 marks and 1 values");
+    std::vector<Form> named;
+    named.push_back({{"id", 1}});
+    named.push_back({{"id", 2}, {"id", 3}});
+    same(row_thrown([&] { bind_rows(":id", named); }), "1 1 row 1: Redefinition of named parameter `id'");
+    try {
+        bind_rows("1, :userId", std::vector<Form>(1));
+        expect(false, "a name is missing");
+    } catch (const Error &error) {
+        expect(error.number() == MYSQL_PARAMS_MISSING && error.report().position == 4, "the report is handed on");
+    }
+}
+
+static void templates()
+{
+    std::string query = "SELECT :id, ':id', :name";
+    Template made(query);
+    query.assign(query.size(), '?');
+    same(std::string(made.query()), "SELECT :id, ':id', :name");
+    for (int round = 0; round < 2; round++) {
+        same(made.bind({{"id", 42}, {"name", "it's"}}), "SELECT 42, ':id', 'it\\'s'");
+        same(thrown([&] { made.bind({{"id", round}}); }), "9 Missing named parameter `name` for statement");
+        same(thrown([&] { made.bind({{"id", 1}, {"id", 2}}); }), "7 Redefinition of named parameter `id'");
+    }
+    const std::string quotes(100000, '\'');
+    expect(made.bind({{"id", quotes}, {"name", quotes}}).size() == 2 * 200002 + 16, "long texts are bound");
+    Template other(std::move(made));
+    same(other.bind({{"id", 1}, {"name", 2}}), "SELECT 1, ':id', 2");
+    bool moved = false;
+    try {
+        made.bind();
+    } catch (const std::logic_error &) {
+        moved = true;
+    }
+    expect(moved, "what was moved binds nothing");
+    made = Template("'\\' :a '", Mode::no_backslash_escapes);
+    expect(made.mode() == Mode::no_backslash_escapes && other.mode() == Mode::backslash_escapes, "each has its mode");
+    same(made.bind({{"a", "\\"}}), "'\\' '\\' '");
+    same(Template("'\\' :a '").bind(), "'\\' :a '");
+    same(Template("").bind(), "");
+    same(thrown([] { Template(":a ?").bind(); }), "8 Named and positional params in one query");
+}
+
 static bool passed(const char *name, void test())
 {
     failures = 0;
@@ -183,5 +257,7 @@ int main()
     all &= passed("queries", queries);
     all &= passed("fragments", fragments);
     all &= passed("steady_fragments", steady_fragments);
+    all &= passed("rows", rows);
+    all &= passed("templates", templates);
     return all ? 0 : 1;
 }
