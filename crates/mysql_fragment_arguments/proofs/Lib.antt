@@ -1,0 +1,2 @@
+pub mod ContentMapLemmas
+pub mod WalkLemmas

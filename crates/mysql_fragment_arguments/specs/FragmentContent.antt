@@ -1,0 +1,51 @@
+-- What a fragment says, without where its bytes and items stand in memory.
+use Rattle.std.specs.Prelude.{ℕ, List, map}
+use Rattle.mysql_value_core.specs.declared.value.Value.{Value}
+use Rattle.mysql_params_core.specs.Names.{names_of}
+use Rattle.mysql_fragments.specs.declared.fragment.Item.{Item}
+use Rattle.mysql_fragments.specs.declared.fragment.Item.TheVariants as item
+use Rattle.mysql_fragments.specs.declared.fragment.Fragment.{Fragment}
+use Rattle.mysql_fragments.specs.declared.fragment.Fragment.TheVariants as one
+
+-- what an item of a list or a row says
+pub data ItemContent : Type 0 where
+  -- a value
+  value_item : Value → ItemContent
+  -- the text of an exact number
+  number_item : List ℕ → ItemContent
+
+-- what a fragment says
+pub data FragmentContent : Type 0 where
+  -- a value
+  value : Value → FragmentContent
+  -- the text of an exact number
+  number : List ℕ → FragmentContent
+  -- items
+  list : List ItemContent → FragmentContent
+  -- rows of items
+  rows : List (List ItemContent) → FragmentContent
+  -- a name
+  identifier : List ℕ → FragmentContent
+  -- the parts of a qualified name
+  qualified : List (List ℕ) → FragmentContent
+  -- the text of a keyword
+  keyword : List ℕ → FragmentContent
+
+-- what this item says
+abbrev pub item_content : Item → ItemContent
+item_content (item.Value said) = value_item said
+item_content (item.Decimal text) = number_item text.items
+
+-- what these items say
+abbrev pub items_content : List Item → List ItemContent
+items_content items = map item_content items
+
+-- what this fragment says
+abbrev pub content_of : Fragment → FragmentContent
+content_of (one.Value said) = value said
+content_of (one.Decimal text) = number text.items
+content_of (one.List items) = list (items_content items.items)
+content_of (one.Rows items) = rows (map (λ row. items_content row.items) items.items)
+content_of (one.Identifier name) = identifier name.items
+content_of (one.Qualified names) = qualified (names_of names.items)
+content_of (one.Keyword word) = keyword word.word.items

@@ -1,0 +1,3 @@
+pub mod FragmentContent
+pub mod Arguments
+pub mod NamedContents

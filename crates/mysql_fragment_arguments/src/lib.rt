@@ -1,0 +1,19 @@
+//! Arguments of queries with fragments: what makes items, rows, fragments, and fragments by name.
+//!
+//! [`ToFragments`] makes the fragments of a query from pairs of a name and an argument. An argument
+//! is what has a value, or a wrapper of this crate, or a type of a caller's own.
+#![tactic(auto)]
+
+mod fragment;
+mod item;
+mod list;
+mod nested;
+mod pairs;
+mod rows;
+mod tuples;
+
+pub use fragment::{Identifier, Qualified, ToFragment, Word};
+pub use item::{Decimal, ToItem};
+pub use list::ListOf;
+pub use pairs::ToFragments;
+pub use rows::{RowsOf, ToRow};
