@@ -43,7 +43,7 @@ pub struct TableHead {
     pub piece_bytes: usize,
 }
 
-/// What became of a call that binds by a table. After each but a `Done` the room is as it was.
+/// What became of a call that binds by a table. After each except `Done` the room is as it was.
 #[derive(Clone, Copy, Debug, PartialEq, Eq)]
 pub enum TableOutcome {
     /// What becomes of a call that binds to the query; it is neither `Unsteady`, `Unportable` nor
@@ -156,7 +156,7 @@ fn survey_of(head: TableHead) -> Survey
 /// A table of another query, or of another mode, is told as `OtherTable` before the form is read if
 /// the query can't have it: if the places aren't as many as the head says, if one is empty or
 /// beyond the query, or if not so many bytes stand outside of them as the head says. Else any text
-/// or outcome may come, but nothing is written behind the text, and after every outcome but `Done`
+/// or outcome may come. Nothing is written behind the text, and after every outcome except `Done`
 /// the room is as before.
 pub fn bind_by_table_into(
     alloc: Global,
