@@ -37,7 +37,7 @@ use std::collections::BTreeMap;
 /// form over a query with names and marks is `Mixed` without allocating, and a form that is refused
 /// for its first parameter is refused without allocating too. Any other outcome may be
 /// `OutOfMemory` instead, which also comes if the text would be longer than `isize::MAX` bytes.
-/// After every outcome but `Done` the room is as before.
+/// After every outcome except `Done` the room is as before.
 pub fn bind_into(
     alloc: Global,
     query: &[u8],

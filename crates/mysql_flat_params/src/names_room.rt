@@ -28,7 +28,7 @@ use std::alloc::{AllocError, Global};
 /// `Done` has the length of the answer; the rest of the room is unchanged. `Room` has the length
 /// that the room would need. A query with names and marks is `Mixed`. `OutOfMemory` comes only for
 /// a query with names and without marks, and for a room longer than the query; nothing else
-/// allocates. There are no other outcomes. After every outcome but `Done` the room is as before.
+/// allocates. There are no other outcomes. After every outcome except `Done` the room is as before.
 pub fn names_into(
     alloc: Global,
     query: &[u8],

@@ -2,8 +2,8 @@
 ghost use Rattle.std.specs.Prelude.{◌≡◌, pos};
 ghost use Rattle.mysql_flat_params.specs.Outcomes.{no_fields, number_of, report_of};
 
-/// What became of a call that writes into a caller's room. After each but `Done` the room is as it
-/// was.
+/// What became of a call that writes into a caller's room. After each except `Done` the room is as
+/// it was.
 #[derive(Clone, Copy, Debug, PartialEq, Eq)]
 pub enum Outcome {
     /// The answer stands in the first `len` bytes of the room. The rest of the room is unchanged.

@@ -41,7 +41,7 @@ use std::collections::BTreeMap;
 /// before the query; then come `Unsteady` and `Unportable`, and then the causes of `bind_into`.
 /// Over the empty form `Unsteady`, `Unportable` and `Mixed` come without allocating, and a form
 /// that is refused for its first parameter is refused without allocating too. Any other outcome may
-/// be `OutOfMemory` instead. After every outcome but `Done` the room is as before.
+/// be `OutOfMemory` instead. After every outcome except `Done` the room is as before.
 // A steady query has the same tokens in both modes (`mysql_named_params::laws::steady_texts`).
 pub fn bind_anywhere_into(alloc: Global, query: &[u8], form: &[u8], room: &mut [u8]) -> Outcome
     ensures outcome { IsAnywhereOutcome query.now form.now result }
