@@ -1,3 +1,4 @@
 pub mod ArticleList
+pub mod ArticleSearch
 pub mod PriceRows
 pub mod SortedArticles

@@ -3,6 +3,7 @@
 #![tactic(auto)]
 
 pub mod article_list;
+pub mod article_search;
 mod one_fragment;
 pub mod price_rows;
 pub mod sorted_articles;
