@@ -76,3 +76,27 @@ pub fn articles_up_to(
         Err(error) => Err(SearchError::Fragments(error)),
     }
 }
+
+#[cfg(test)]
+mod tests {
+    use super::*;
+
+    const FOUND: &[u8] =
+        b"SELECT name FROM article WHERE id IN (7, 1) AND price <= 19.99 ORDER BY `a``b` DESC";
+
+    #[test]
+    fn among_two_up_to_a_price(rt: HostRuntime) {
+        let text = articles_up_to(
+            rt.alloc(),
+            &[7, 1],
+            b"19.99",
+            b"a`b",
+            Direction::Descending,
+        ).ok();
+        let is_bound = match &text {
+            Some(text) => text.as_slice() == FOUND,
+            None => false,
+        };
+        assert!(rt; is_bound);
+    }
+}
