@@ -20,7 +20,7 @@ use std::alloc::Global;
 /// form is refused before the query; then come `Unsteady` and `Unportable`, then the causes of
 /// `bind_fragments_into`, and then `UnsteadyFragment`, for a fragment with a name that has a
 /// backslash or a byte from 128 on. Any outcome may be `OutOfMemory` instead. After every outcome
-/// but `Done` the room is as before.
+/// except `Done` the room is as before.
 // A steady query has the same tokens in both modes (`mysql_named_params::laws::steady_texts`).
 pub fn bind_fragments_anywhere_into(
     alloc: Global,

@@ -27,7 +27,7 @@ use std::alloc::Global;
 /// the room would need. A form is refused before the query; then the first of the causes of
 /// `bind_fragments_in` refuses it. `Missing` tells the first place that has the missing name. Any
 /// outcome may be `OutOfMemory` instead, which also comes if the text would be longer than
-/// `isize::MAX` bytes. After every outcome but `Done` the room is as before.
+/// `isize::MAX` bytes. After every outcome except `Done` the room is as before.
 pub fn bind_fragments_into(
     alloc: Global,
     query: &[u8],

@@ -5,8 +5,8 @@ ghost use Rattle.mysql_flat_fragments.specs.FragmentsOutcomes.{fault_item, fault
 use mysql_flat_params::{Outcome, Report};
 use mysql_fragments::FragmentFault;
 
-/// What became of a call that binds fragments into a caller's room. After each but `Done` the room
-/// is as it was.
+/// What became of a call that binds fragments into a caller's room. After each except `Done` the
+/// room is as it was.
 #[derive(Clone, Copy, Debug, PartialEq, Eq)]
 pub enum FragmentsOutcome {
     /// What becomes of a call that binds values too. `Unsteady` and `Unportable` come from
