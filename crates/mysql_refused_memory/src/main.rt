@@ -7,6 +7,8 @@ mod binding_cases;
 mod conversion_cases;
 mod copy_cases;
 mod fixed_query_cases;
+mod fragment_cases;
+mod fragment_inputs;
 mod inputs;
 mod lookup_cases;
 mod maker_cases;
@@ -17,6 +19,7 @@ mod query_cases;
 mod read_cases;
 mod rows_cases;
 mod steady_cases;
+mod steady_fragment_cases;
 mod table_cases;
 mod value_cases;
 mod wire_cases;
@@ -29,10 +32,13 @@ use std::{io, str};
 
 /// How the call of this name went, if there is one.
 fn case(alloc: Global, name: &str) -> Option<Case> {
-    match value_case(alloc, name) {
-        Some(case) => Some(case),
-        None => query_case(alloc, name),
+    if let Some(case) = value_case(alloc, name) {
+        return Some(case);
     }
+    if let Some(case) = query_case(alloc, name) {
+        return Some(case);
+    }
+    bound_case(alloc, name)
 }
 
 /// Of the wire and values.
@@ -55,7 +61,7 @@ fn value_case(alloc: Global, name: &str) -> Option<Case> {
     conversion_cases::case(alloc, name)
 }
 
-/// Of queries, parameters, binding, the program and the archive.
+/// Of queries and parameters.
 fn query_case(alloc: Global, name: &str) -> Option<Case> {
     if let Some(case) = query_cases::case(alloc, name) {
         return Some(case);
@@ -66,13 +72,21 @@ fn query_case(alloc: Global, name: &str) -> Option<Case> {
     if let Some(case) = lookup_cases::case(alloc, name) {
         return Some(case);
     }
-    if let Some(case) = parsed_query_cases::case(alloc, name) {
-        return Some(case);
-    }
+    parsed_query_cases::case(alloc, name)
+}
+
+/// Of binding, the program and the archive.
+fn bound_case(alloc: Global, name: &str) -> Option<Case> {
     if let Some(case) = binding_cases::case(alloc, name) {
         return Some(case);
     }
     if let Some(case) = steady_cases::case(alloc, name) {
+        return Some(case);
+    }
+    if let Some(case) = fragment_cases::case(alloc, name) {
+        return Some(case);
+    }
+    if let Some(case) = steady_fragment_cases::case(alloc, name) {
         return Some(case);
     }
     if let Some(case) = fixed_query_cases::case(alloc, name) {

@@ -1,0 +1,113 @@
+//! Fragments as plain data for tables, and how they are made.
+use crate::inputs::Plain;
+use mysql_fragments::{Fragment, Fragments, Item, Keyword};
+use std::alloc::{AllocError, Global};
+use std::collections::HashMap;
+
+/// An item as plain data.
+#[derive(Clone, Copy)]
+pub(crate) enum PlainItem {
+    Value(Plain<'static>),
+    Decimal(&'static [u8]),
+}
+
+impl PlainItem {
+    fn item(self, alloc: Global) -> Result<Item, AllocError> {
+        match self {
+            PlainItem::Value(value) => Ok(Item::Value(value.value(alloc)?)),
+            PlainItem::Decimal(number) => Ok(Item::Decimal(Vec::from_slice(alloc, number)?)),
+        }
+    }
+}
+
+/// A fragment as plain data.
+#[derive(Clone, Copy)]
+pub(crate) enum PlainFragment {
+    Value(Plain<'static>),
+    Decimal(&'static [u8]),
+    List(&'static [PlainItem]),
+    Rows(&'static [&'static [PlainItem]]),
+    Identifier(&'static [u8]),
+    Qualified(&'static [&'static [u8]]),
+    Keyword(&'static [u8]),
+}
+
+impl PlainFragment {
+    fn fragment(self, alloc: Global) -> Result<Fragment, AllocError> {
+        match self {
+            PlainFragment::Value(value) => Ok(Fragment::Value(value.value(alloc)?)),
+            PlainFragment::Decimal(number) => {
+                Ok(Fragment::Decimal(Vec::from_slice(alloc, number)?))
+            }
+            PlainFragment::List(plain) => Ok(Fragment::List(items(alloc, plain)?)),
+            PlainFragment::Rows(plain) => Ok(Fragment::Rows(rows(alloc, plain)?)),
+            PlainFragment::Identifier(name) => {
+                Ok(Fragment::Identifier(Vec::from_slice(alloc, name)?))
+            }
+            PlainFragment::Qualified(plain) => Ok(Fragment::Qualified(parts(alloc, plain)?)),
+            PlainFragment::Keyword(word) => Ok(Fragment::Keyword(Keyword::new(alloc, word)?)),
+        }
+    }
+}
+
+fn items(alloc: Global, plain: &[PlainItem]) -> Result<Vec<Item>, AllocError> {
+    let mut items = Vec::new(alloc);
+    for item in plain {
+        items.push(item.item(alloc)?)?;
+    }
+    Ok(items)
+}
+
+fn rows(alloc: Global, plain: &[&[PlainItem]]) -> Result<Vec<Vec<Item>>, AllocError> {
+    let mut rows = Vec::new(alloc);
+    for row in plain {
+        rows.push(items(alloc, *row)?)?;
+    }
+    Ok(rows)
+}
+
+fn parts(alloc: Global, plain: &[&[u8]]) -> Result<Vec<Vec<u8>>, AllocError> {
+    let mut parts = Vec::new(alloc);
+    for name in plain {
+        parts.push(Vec::from_slice(alloc, *name)?)?;
+    }
+    Ok(parts)
+}
+
+/// What is given to the places of a query, as plain data.
+#[derive(Clone, Copy)]
+pub(crate) enum InPlaces {
+    Positional(&'static [PlainFragment]),
+    Named(&'static [(&'static [u8], PlainFragment)]),
+}
+
+impl InPlaces {
+    /// The fragments.
+    pub(crate) fn fragments(self, alloc: Global) -> Result<Fragments, AllocError> {
+        match self {
+            InPlaces::Positional(plain) => positional(alloc, plain),
+            InPlaces::Named(plain) => named(alloc, plain),
+        }
+    }
+}
+
+fn positional(alloc: Global, plain: &[PlainFragment]) -> Result<Fragments, AllocError> {
+    let mut list = Vec::new(alloc);
+    for fragment in plain {
+        list.push(fragment.fragment(alloc)?)?;
+    }
+    Ok(Fragments::Positional(list))
+}
+
+fn named(alloc: Global, plain: &[(&[u8], PlainFragment)]) -> Result<Fragments, AllocError> {
+    let mut entries = HashMap::new(alloc);
+    for (name, fragment) in plain {
+        let fragment = fragment.fragment(alloc)?;
+        let name = Vec::from_slice(alloc, *name)?;
+        match entries.insert(name, fragment) {
+            Ok(_) => {}
+            Err(_) => return Err(AllocError),
+        }
+    }
+    Ok(Fragments::Named(entries))
+}
