@@ -10,6 +10,8 @@ mod forms;
 #[cfg(test)]
 mod hostile;
 #[cfg(test)]
+mod lent;
+#[cfg(test)]
 mod outcomes;
 #[cfg(test)]
 mod portable;
