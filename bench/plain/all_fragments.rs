@@ -74,7 +74,7 @@ pub enum Fragment {
 }
 
 /// The names of a fault, from 1.
-pub const FAULTS: [&str; 9] = [
+pub const FAULTS: [&str; 10] = [
     "EMPTY",
     "EMPTY_ROW",
     "ROW_LENGTH",
@@ -84,6 +84,7 @@ pub const FAULTS: [&str; 9] = [
     "LONG_NAME",
     "TRAILING_SPACE",
     "KEYWORD",
+    "BACKSLASH",
 ];
 
 const EMPTY: usize = 1;
@@ -95,6 +96,7 @@ const ZERO_BYTE: usize = 6;
 const LONG_NAME: usize = 7;
 const TRAILING_SPACE: usize = 8;
 const NO_KEYWORD: usize = 9;
+const BACKSLASH: usize = 10;
 
 /// A fault: its number, its row, and its item or name.
 type Fault = (usize, usize, usize);
@@ -342,6 +344,8 @@ fn name_fault((number, name): (usize, &Vec<u8>)) -> Option<Fault> {
         _ if name.contains(&0) => ZERO_BYTE,
         _ if characters > 64 => LONG_NAME,
         Some(b' ') => TRAILING_SPACE,
+        Some(b'\\') => BACKSLASH,
+        _ if name.windows(2).any(|two| two == b"\\`") => BACKSLASH,
         _ => return None,
     };
     Some((fault, 0, number))
