@@ -3,7 +3,7 @@
 use crate::time::Input;
 use std::process::ExitCode;
 
-const BEGIN: &str = "<!-- bench/run writes from here -->";
+const BEGIN: &str = "<!-- bench/ratios writes from here -->";
 const END: &str = "<!-- to here -->";
 
 pub struct Report {

@@ -1,0 +1,76 @@
+//! The jobs that users wait for, by the public calls, on inputs that are made of a seed.
+//!
+//! The words are a job, a seed and a size, as `rows_in 7 100`; the job `all` runs each. It prints a
+//! digest of all results of a job, which depends on nothing but the words.
+#![tactic(auto)]
+
+mod awkward;
+mod batches;
+mod digest;
+mod pools;
+mod random;
+mod requests;
+mod rows_in;
+mod rows_out;
+mod scripts;
+
+use crate::digest::Digest;
+use crate::pools::Pools;
+use crate::random::Random;
+use std::alloc::AllocError;
+use std::process::ExitCode;
+use std::{env, io};
+
+const JOBS: [&str; 6] = [
+    "rows_in", "rows_out", "batches", "requests", "scripts", "awkward",
+];
+
+// The digest of a job.
+fn job(rt: &HostRuntime, name: &str, seed: u64, size: usize) -> Result<u64, AllocError> {
+    let alloc = rt.alloc();
+    let mut random = Random { state: seed };
+    let pools = Pools::new(alloc, &mut random)?;
+    let mut digest = Digest { state: seed };
+    match name {
+        "rows_in" => rows_in::run(alloc, &mut random, &pools, size, &mut digest)?,
+        "rows_out" => rows_out::run(alloc, &mut random, &pools, size, &mut digest)?,
+        "batches" => batches::run(alloc, &mut random, &pools, size, &mut digest)?,
+        "requests" => requests::run(alloc, &mut random, &pools, size, &mut digest)?,
+        "scripts" => scripts::run(alloc, &mut random, &pools, size, &mut digest)?,
+        _ => awkward::run(alloc, &mut random, &pools, size, &mut digest)?,
+    }
+    Ok(digest.state)
+}
+
+// Prints the digest of a job.
+fn print_job(rt: &HostRuntime, name: &str, seed: u64, size: usize) -> io::Result<()> {
+    match job(rt, name, seed, size) {
+        Ok(digest) => println!(rt; "{name} {digest:016x}"),
+        Err(_) => println!(rt; "{name}: out of memory"),
+    }
+}
+
+// Does what the words say.
+fn answer(rt: &HostRuntime) -> io::Result<()> {
+    let mut words = env::args(rt)?.skip(1);
+    let (Some(name), Some(seed), Some(size)) = (words.next(), words.next(), words.next()) else {
+        return println!(rt; "usage: JOB SEED SIZE");
+    };
+    let (Ok(seed), Ok(size)) = (seed.as_str().parse::<u32>(), size.as_str().parse::<usize>()) else {
+        return println!(rt; "SEED and SIZE are numbers");
+    };
+    for job in JOBS {
+        if name.as_str() == job || name.as_str() == "all" {
+            print_job(rt, job, u64::from(seed), size)?;
+        }
+    }
+    Ok(())
+}
+
+// Ends with the status 0, unless a line can't be printed.
+fn main(rt: HostRuntime) -> ExitCode {
+    match answer(&rt) {
+        Ok(()) => ExitCode::SUCCESS,
+        Err(_) => ExitCode::FAILURE,
+    }
+}
