@@ -1,4 +1,5 @@
 pub mod ByteNames
+mod TwoBytesLemmas
 pub mod PaddedLemmas
 mod EscapeTableLemmas
 mod BlockLemmas

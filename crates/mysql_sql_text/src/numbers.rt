@@ -2,9 +2,18 @@
 //!
 //! `fill_..` writes the whole slice. `append_..` writes from an index on, keeps what stands before
 //! it, and returns the index after the last byte that it wrote.
-ghost use Rattle.std.specs.Prelude.{◌≡◌, [], ◌∷◌, ◌++◌, ◌+◌, ◌<◌, ◌≤◌, length, take};
+ghost use Rattle.std.specs.Prelude.{◌≡◌, [], ◌∷◌, ◌++◌, ◌+◌, ◌/◌, ◌%◌, ◌<◌, ◌≤◌, length, take, drop};
 ghost use Rattle.std.specs.Fmt.{decimal, signed_decimal};
+ghost use Rattle.std.specs.Str.{byte};
 ghost use Rattle.mysql_sql_text.specs.LiteralText.{padded};
+
+// The two digits of each number below 100.
+static TWO_DIGITS: [u8; 200] = *b"\
+    0001020304050607080910111213141516171819\
+    2021222324252627282930313233343536373839\
+    4041424344454647484950515253545556575859\
+    6061626364656667686970717273747576777879\
+    8081828384858687888990919293949596979899";
 
 /// How long a signed number is, with its `-`.
 pub fn signed_len(number: i64) -> u128
@@ -15,16 +24,17 @@ pub fn signed_len(number: i64) -> u128
 }
 
 /// How many decimal digits a number has.
+///
+/// It divides nothing: the digits are guessed from the bits, and one power of ten decides.
 pub fn decimal_len(mut number: u64) -> usize
     ensures exact { result ≡ length (decimal number) }
     ensures few { result ≤ 20 }
 {
-    let mut len = 1;
-    while number >= 10 {
-        number /= 10;
-        len += 1;
+    if number == 0 {
+        // It has as many digits.
+        number = 1;
     }
-    len
+    number.ilog10() as usize + 1
 }
 
 /// Fills the slice with a signed number. The slice is exactly `signed_len` long.
@@ -52,16 +62,35 @@ fn append_decimal(buffer: &mut [u8], at: usize, number: u64) -> usize
 }
 
 /// Fills the slice with a number, after zeros. The slice is at least as long as the digits.
+///
+/// Two digits go at a time, from the last ones on, so that only every second one costs a division.
 pub fn fill_padded(buffer: &mut [u8], mut number: u64)
     requires { length (decimal number) ≤ length buffer.old }
     ensures { buffer.new ≡ padded (length buffer.old) number }
 {
     let mut at = buffer.len();
-    while at > 0 {
-        at -= 1;
-        buffer[at] = b'0' + (number % 10) as u8;
-        number /= 10;
+    while at >= 2 {
+        at -= 2;
+        put_two_digits(buffer, at, number % 100);
+        number /= 100;
     }
+    if at == 0 {
+        return;
+    }
+    buffer[0] = b'0' + (number % 10) as u8;
+}
+
+// Writes the two digits of a number below 100 at an index. Inline, since it is the body of a loop.
+#[inline(always)]
+fn put_two_digits(buffer: &mut [u8], at: usize, number: u64)
+    requires within { at + 2 ≤ length buffer.old }
+    requires small { number < 100 }
+    ensures { drop at buffer.new
+        ≡ (byte "0" + number / 10) ∷ (byte "0" + number % 10) ∷ drop (at + 2) buffer.old }
+{
+    let digits = 2 * number as usize;
+    buffer[at] = TWO_DIGITS[digits];
+    buffer[at + 1] = TWO_DIGITS[digits + 1];
 }
 
 // Appends a number, after as many zeros as the width asks for.
