@@ -1,15 +1,19 @@
 -- The number of digits: by std's parser, by the definition, and how large it is.
-use Rattle.std.proofs.Common.{◌≡◌, ◌∙◌, ap, sym, refl, ℕ, ◌+◌, ◌-◌, ◌*◌, ◌<◌, ◌≤◌, ◌^◌, Bool, true, false, ◌&&◌, nat_lt, List, length, Option, Some, None, arith, rules, inl, inr}
+use Rattle.std.proofs.Common.{◌≡◌, ◌∙◌, ap, ap₂, sym, refl, ℕ, ◌+◌, ◌-◌, ◌*◌, ◌<◌, ◌≤◌, ◌^◌, Bool, true, false, ◌&&◌, nat_lt, List, take, get_or, length, Option, Some, None, arith, rules, inl, inr}
 use Rattle.std.specs.Prelude.{IfSome, IfNone}
 use Rattle.std.specs.Option.{SomeIff}
 use Rattle.std.specs.Char.{is_ascii_digit}
 use Rattle.std.specs.List.{list_all}
 use Rattle.std.specs.Str.{IsUtf8}
 use Rattle.std.specs.Str.Parse.{IsNumeral, digits_value}
-use Rattle.std.proofs.lemmas.Str.{IsUtf8-from_ascii}
+use Rattle.std.specs.Int.{IsInRange}
+use Rattle.std.proofs.lemmas.Str.{IsUtf8-from_ascii, digit_value_digit}
+use Rattle.std.proofs.lemmas.List.{length-take}
+use Rattle.std.proofs.lemmas.List.Folds.{list_all_more}
+use Rattle.std.proofs.lemmas.Int.Digits.{digits_value_more}
 use Rattle.std.proofs.lemmas.Fmt.{IsAscii-from_digits}
 use Rattle.std.proofs.lemmas.Str.Parse.{IsNumeralModel, numerals_by_value, digits_value_short}
-use Rattle.std.proofs.lemmas.Bool.{cases_Bool, cond_both, and_parts, ltb-true, ltb-false, lt-ltb}
+use Rattle.std.proofs.lemmas.Bool.{cases_Bool, cond_both, and_parts, ltb-true, ltb-false, lt-ltb, false≢true}
 use Rattle.std.proofs.lemmas.Option.{same_Some}
 use Rattle.std.proofs.lemmas.Nat.{pow-add}
 use Rattle.std.proofs.Math.Nat.{mul-lt-mul_of_pos_right, one-le-pow}
@@ -84,16 +88,6 @@ pub parsed-refused : (digits : List ℕ) (result : Option ℕ)
 parsed-refused digits None parsed = value_of_digits-refused digits parsed
 parsed-refused digits (Some n) parsed = tt
 
--- up to six digits that write no number of 128 bits write none
-pub short-refused : (digits : List ℕ) → length digits ≤ 6
-    → IfSome (value_of_digits digits) (λ n. 2 ^ 128 ≤ n) → None ≡ value_of_digits digits
-short-refused digits short large = is_none (value_of_digits digits) refl large
-  where
-    is_none : (number : Option ℕ) → value_of_digits digits ≡ number → IfSome number (λ n. 2 ^ 128 ≤ n)
-        → None ≡ value_of_digits digits
-    is_none None e large = sym e
-    is_none (Some n) e large = absurd (omega (arith, value_of_digits-below digits n 6 e short))
-
 -- digits after a point, filled up to six, write a number below a million
 pub fraction_microseconds_below : (n width : ℕ) → n < 10 ^ width → width ≤ 6 → n * 10 ^ (6 - width) < 1000000
 fraction_microseconds_below n width small short =
@@ -103,3 +97,36 @@ fraction_microseconds_below n width small short =
     let whole : width + (6 - width) ≡ 6 = omega arith in
     let six : 10 ^ (width + (6 - width)) ≡ 10 ^ 6 = ap (λ m. 10 ^ m) whole in
     omega (arith, more, sum, six)
+
+-- digits so far, and one more
+
+pub digits_so_far_below : (digits : List ℕ) (i : ℕ) → i ≤ 18 → list_all is_ascii_digit (take i digits) ≡ true
+    → digits_value 10 (take i digits) < 10 ^ 18
+digits_so_far_below digits i few all =
+    digits_value_short numeral_model (take i digits) 18 all (omega (arith, length-take i digits))
+
+pub digits_so_far_more : (digits : List ℕ) (i : ℕ) → i < length digits → list_all is_ascii_digit (take i digits) ≡ true
+    → is_ascii_digit (get_or digits i 0) ≡ true → list_all is_ascii_digit (take (i + 1) digits) ≡ true
+digits_so_far_more digits i within all digit =
+    list_all_more is_ascii_digit digits i 0 within ∙ ap₂ (λ a b. a && b) all digit
+
+pub digits_so_far_value : (digits : List ℕ) (i : ℕ) → i < length digits → IsInRange 48 57 (get_or digits i 0)
+    → 10 * digits_value 10 (take i digits) + (get_or digits i 0 - 48) ≡ digits_value 10 (take (i + 1) digits)
+digits_so_far_value digits i within digit =
+    omega (arith, digits_value_more 10 digits i within, digit_value_digit (get_or digits i 0) digit)
+
+-- digits that were all read write the number, and others none
+pub value_of_digits-all : (digits : List ℕ) (n : ℕ) → 0 < length digits → list_all is_ascii_digit digits ≡ true
+    → n ≡ digits_value 10 digits → Some n ≡ value_of_digits digits
+value_of_digits-all digits n some all is =
+    let nonempty : nat_lt 0 (length digits) ≡ true = lt-ltb 0 (length digits) some in
+    rw (nonempty, all) (ap Some is)
+
+pub value_of_digits-other : (digits : List ℕ) → list_all is_ascii_digit digits ≡ false → None ≡ value_of_digits digits
+value_of_digits-other digits other =
+    elim (cases_Bool (nat_lt 0 (length digits) && list_all is_ascii_digit digits)) [
+      | inl h ↦
+          let p = and_parts (nat_lt 0 (length digits)) (list_all is_ascii_digit digits) h in
+          absurd (false≢true (sym other ∙ p.1))
+      | inr h ↦ rw h refl
+    ]

@@ -1,8 +1,11 @@
 //! The number that digits write.
-ghost use Rattle.std.specs.Prelude.{◌≡◌, ◌<◌, ◌≤◌, ◌^◌, Some, IfSome, IfNone};
+ghost use Rattle.std.specs.Prelude.{◌≡◌, ◌<◌, ◌≤◌, ◌^◌, length, Some, IfSome, IfNone};
 ghost use Rattle.std.specs.Option.{SomeIff};
 ghost use Rattle.std.specs.Str.Parse.{IsNumeral, digits_value};
 ghost use Rattle.mysql_sql_text.specs.Digits.{value_of_digits};
+
+// A number of so many decimal digits fits 64 bits.
+const FEW: usize = 19;
 
 /// The number that one or more ASCII digits write, if 128 bits hold it.
 pub fn value_of_digits(digits: &[u8]) -> Option<u128>
@@ -10,7 +13,29 @@ pub fn value_of_digits(digits: &[u8]) -> Option<u128>
     ensures refused { IfNone result
         (IfSome (value_of_digits digits.now) (λ number. 2 ^ 128 ≤ number)) }
 {
+    if digits.len() <= FEW {
+        let number = value_of_few_digits(digits)?;
+        return Some(u128::from(number));
+    }
     parsed_number(digits)
+}
+
+// The number of so few digits that 64 bits hold it, read digit by digit.
+pub(crate) fn value_of_few_digits(digits: &[u8]) -> Option<u64>
+    requires { length digits.now ≤ FEW }
+    ensures { result ≡ value_of_digits digits.now }
+{
+    if digits.is_empty() {
+        return None;
+    }
+    let mut number = 0;
+    for byte in digits {
+        if !byte.is_ascii_digit() {
+            return None;
+        }
+        number = 10 * number + u64::from(*byte - b'0');
+    }
+    Some(number)
 }
 
 // The number, in the words of the standard library's parser.

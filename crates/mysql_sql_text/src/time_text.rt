@@ -4,7 +4,7 @@ ghost use Rattle.mysql_sql_text.specs.Digits.{value_of_digits};
 ghost use Rattle.mysql_sql_text.specs.TimeText.{IsTimeText};
 ghost use Rattle.mysql_sql_text.specs.ReadTimeText.{at_most, fraction_of, fraction_microseconds, time_after_hours, time_of_text, time_of_three_digits, time_of_two_digits, unsigned_time};
 
-use crate::digits::value_of_digits;
+use crate::digits::value_of_few_digits;
 
 /// Whether a time text is negative, and how many microseconds it says; none if the bytes are no
 /// time text.
@@ -128,6 +128,6 @@ fn short_number(digits: &[u8]) -> Option<u32>
     ensures exact { result ≡ value_of_digits digits.now }
     ensures few { IfSome result (λ number. number < 10 ^ length digits.now) }
 {
-    let number = value_of_digits(digits)?;
+    let number = value_of_few_digits(digits)?;
     Some(number as u32)
 }
