@@ -5,7 +5,8 @@ use Rattle.std.proofs.lemmas.Bool.{agree_below, agree_below_at, cond_both, false
 use Rattle.std.proofs.lemmas.List.{length-map}
 use Rattle.std.proofs.lemmas.List.Sums.{sum_by-cons}
 use Rattle.std.proofs.lemmas.Grind.{flat_map-append}
-use Rattle.std.proofs.lemmas.Simd.{mask_l-mod, chunk-drop, length-chunk}
+use Rattle.std.proofs.lemmas.Simd.{mask_l-mod, ones-mask_l, chunk-drop, length-chunk}
+use Rattle.std.proofs.lemmas.Nat.{zero_from_ones}
 use lib.Lanes.{chunk, mask_l, top, Each1}
 use Rattle.mysql_sql_text.specs.LiteralText.{control_z, escaped, escaped_byte, is_escaped}
 use Rattle.mysql_sql_text.proofs.ByteNames.{newline, carriage_return, backslash, single_quote, double_quote}
@@ -38,12 +39,12 @@ on_escaped_byte P false b two one =
 length-escaped_byte : (mode : Bool) (b : ℕ) → length (escaped_byte mode b) ≡ 1 + cond (is_escaped mode b) 1 0
 length-escaped_byte mode b = on_escaped_byte (λ t. length t ≡ 1 + cond (eqb (length t) 2) 1 0) mode b (λ x y. refl) refl
 
-escaped_byte-plain : (mode : Bool) (b : ℕ) → is_escaped mode b ≡ false → escaped_byte mode b ≡ b ∷ []
+pub escaped_byte-plain : (mode : Bool) (b : ℕ) → is_escaped mode b ≡ false → escaped_byte mode b ≡ b ∷ []
 escaped_byte-plain mode b =
     on_escaped_byte (λ t. eqb (length t) 2 ≡ false → t ≡ b ∷ []) mode b (λ x y h. absurd (false≢true (sym h))) (λ h. refl)
 
 -- escaped bytes are longer by one for each that is escaped
-length-escaped : (mode : Bool) (bytes : List ℕ) → length (escaped mode bytes) ≡ length bytes + count_by (is_escaped mode) bytes
+pub length-escaped : (mode : Bool) (bytes : List ℕ) → length (escaped mode bytes) ≡ length bytes + count_by (is_escaped mode) bytes
 length-escaped mode [] = refl
 length-escaped mode (b ∷ bytes) =
     omega (
@@ -75,7 +76,7 @@ length-escaped-block mode d i buffer =
     omega (arith, length-escaped-cut mode d i, length-escaped mode (chunk i 16 d), length-chunk i 16 d buffer)
 
 -- an empty mask has no bit of the first byte, and none of the others
-no_bits : (first : Bool) (others : ℕ) → cond first 1 0 + 2 * others ≡ 0 → (first ≡ false) × (others ≡ 0)
+pub no_bits : (first : Bool) (others : ℕ) → cond first 1 0 + 2 * others ≡ 0 → (first ≡ false) × (others ≡ 0)
 no_bits true others h = absurd (omega arith)
 no_bits false others h = (refl, omega arith)
 
@@ -85,3 +86,9 @@ escaped-none mode [] h = refl
 escaped-none mode (b ∷ bytes) h =
     let bits = no_bits (is_escaped mode b) (mask_l (map (is_escaped mode) bytes)) h in
     ap₂ (λ a t. a ++ t) (escaped_byte-plain mode b bits.0) (escaped-none mode bytes bits.1)
+
+-- so do bytes that are no longer when they are escaped
+pub escaped-as_long : (mode : Bool) (bytes : List ℕ) → length (escaped mode bytes) ≡ length bytes → escaped mode bytes ≡ bytes
+escaped-as_long mode bytes same =
+    escaped-none mode bytes
+    (zero_from_ones _ (ones-mask_l (is_escaped mode) bytes ∙ omega (arith, length-escaped mode bytes)))

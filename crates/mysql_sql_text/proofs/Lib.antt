@@ -3,6 +3,7 @@ mod TwoBytesLemmas
 pub mod PaddedLemmas
 mod EscapeTableLemmas
 mod BlockLemmas
+mod EscapeWalkLemmas
 pub mod StringLemmas
 pub mod ValueOfDigitsLemmas
 pub mod TimeTextLemmas

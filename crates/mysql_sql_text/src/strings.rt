@@ -1,5 +1,6 @@
 //! Literals of bytes: strings with their escapes, and hexadecimal.
-ghost use Rattle.std.specs.Prelude.{◌≡◌, [], ◌∷◌, ◌++◌, ◌+◌, ◌*◌, ◌<◌, ◌≤◌, length, take, codes};
+ghost use Rattle.std.specs.Prelude.{◌≡◌, [], ◌∷◌, ◌++◌, ◌+◌, ◌*◌, ◌<◌, ◌≤◌, length, take, codes, IsTrue};
+ghost use Rattle.std.specs.Str.{IsAscii, is_utf8};
 ghost use Rattle.mysql_sql_text.specs.LiteralText.{bytes_literal, escaped, hexadecimal_digit, hexadecimal, quoted};
 
 use crate::escapes::{append_escaped, escaped_len};
@@ -9,9 +10,25 @@ use crate::numbers::append_byte;
 pub fn bytes_literal_len(bytes: &[u8], no_backslash_escape: bool) -> u128
     ensures { result ≡ length (bytes_literal no_backslash_escape bytes.now) }
 {
+    let (len, ascii) = escaped_len(bytes, no_backslash_escape);
+    if is_utf8(bytes, ascii) {
+        2 + len as u128
+    } else {
+        2 + 2 * bytes.len() as u128
+    }
+}
+
+// Whether bytes are UTF-8: if they are ASCII, that is known without a look.
+fn is_utf8(bytes: &[u8], ascii: bool) -> bool
+    requires { IsTrue ascii → IsAscii bytes.now }
+    ensures { result ≡ is_utf8 bytes.now }
+{
+    if ascii {
+        return true;
+    }
     match str::from_utf8(bytes) {
-        Ok(text) => 2 + escaped_len(text.as_bytes(), no_backslash_escape),
-        Err(_) => 2 + 2 * bytes.len() as u128,
+        Ok(_) => true,
+        Err(_) => false,
     }
 }
 
@@ -37,7 +54,8 @@ pub fn string_len(bytes: &[u8], no_backslash_escape: bool) -> u128
     ensures exact { result ≡ length (quoted (escaped no_backslash_escape bytes.now)) }
     ensures few { result ≤ 2 + 2 * length bytes.now }
 {
-    2 + escaped_len(bytes, no_backslash_escape)
+    let (escaped, _) = escaped_len(bytes, no_backslash_escape);
+    2 + escaped as u128
 }
 
 /// Fills the slice with bytes between quotes, escaped. The slice is exactly `string_len` long.
@@ -46,8 +64,38 @@ pub fn fill_string(buffer: &mut [u8], bytes: &[u8], no_backslash_escape: bool)
     ensures { buffer.new ≡ quoted (escaped no_backslash_escape bytes.now) }
 {
     let at = append_byte(buffer, 0, b'\'');
-    let at = append_escaped(buffer, at, bytes, no_backslash_escape);
+    let at = append_before_quote(buffer, at, bytes, no_backslash_escape);
     append_byte(buffer, at, b'\'');
+}
+
+// Appends bytes, escaped, up to the last byte of the buffer. If there is no room for escapes, no
+// byte is escaped, and they are copied whole.
+fn append_before_quote(
+    buffer: &mut [u8],
+    at: usize,
+    bytes: &[u8],
+    no_backslash_escape: bool,
+) -> usize
+    requires { at + length (escaped no_backslash_escape bytes.now) + 1 ≡ length buffer.old }
+    ensures next { result ≡ at + length (escaped no_backslash_escape bytes.now) }
+    ensures front { take result buffer.new
+        ≡ take at buffer.old ++ escaped no_backslash_escape bytes.now }
+{
+    if buffer.len() - at == bytes.len() + 1 {
+        return append_bytes(buffer, at, bytes);
+    }
+    append_escaped(buffer, at, bytes, no_backslash_escape)
+}
+
+// Appends bytes as they are.
+fn append_bytes(buffer: &mut [u8], at: usize, bytes: &[u8]) -> usize
+    requires { at + length bytes.now ≤ length buffer.old }
+    ensures next { result ≡ at + length bytes.now }
+    ensures front { take result buffer.new ≡ take at buffer.old ++ bytes.now }
+{
+    let end = at + bytes.len();
+    buffer[at..end].copy_from_slice(bytes);
+    end
 }
 
 /// Fills the slice with `0x` and two hexadecimal digits for each byte.

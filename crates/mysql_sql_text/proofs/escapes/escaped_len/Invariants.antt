@@ -1,4 +1,6 @@
-use Rattle.std.proofs.Common.{◌≡◌, ◌+◌, ◌-◌, ◌≤◌, drop, length}
+use Rattle.std.proofs.Common.{◌≡◌, ◌+◌, ◌-◌, ◌≤◌, take, drop, length}
+use Rattle.std.specs.Prelude.{IsTrue}
+use Rattle.std.specs.Str.{IsAscii}
 use Rattle.mysql_sql_text.specs.LiteralText.{escaped}
 use Rattle.mysql_sql_text.proofs.escapes.escaped_len.Given as goal
 
@@ -8,6 +10,7 @@ invariant-loop-at l = record {
   few : l.escapes ≤ l.at;
   exact : l.at + l.escapes + length (escaped l.no_backslash_escape (drop l.at l.bytes))
       ≡ length (escaped l.no_backslash_escape l.bytes);
+  ascii : IsTrue l.ascii → IsAscii (take l.at l.bytes);
 }
 
 abbrev pub decreases-loop-at : goal.decreases-loop-at

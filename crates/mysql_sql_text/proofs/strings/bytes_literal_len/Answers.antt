@@ -1,22 +1,23 @@
-use Rattle.std.proofs.Common.{◌≡◌, ap, ◌∙◌, length, arith, ◌+◌}
-use Rattle.mysql_sql_text.specs.LiteralText.{escaped, bytes_literal}
-use Rattle.mysql_sql_text.proofs.StringLemmas.{length-hexadecimal}
-use Rattle.mysql_sql_text.proofs.StringLemmas.{bytes_literal-utf8, bytes_literal-other, length-quoted}
+use Rattle.std.proofs.Common.{◌≡◌, ap, ◌∙◌, sym, length, arith}
+use Rattle.std.specs.Prelude.{codes, ◌++◌}
+use Rattle.std.proofs.lemmas.Bool.{cond-true, cond-false}
+use Rattle.std.specs.Str.{is_utf8}
+use Rattle.mysql_sql_text.specs.LiteralText.{escaped, bytes_literal, quoted, hexadecimal}
+use Rattle.mysql_sql_text.proofs.StringLemmas.{length-hexadecimal, length-quoted}
 use Rattle.mysql_sql_text.proofs.strings.bytes_literal_len.Goals as goal
 
-pub returns-in-Ok : goal.returns-in-Ok
-returns-in-Ok c =
+pub returns-then-is_utf8 : goal.returns-then-is_utf8
+returns-then-is_utf8 c =
     let mode = c.args.no_backslash_escape in
     let bytes = c.args.bytes.now in
-    let cases = c.in-Ok.ensures.cases in
-    let same = ap (λ t. length (escaped mode t)) (c.as_bytes.ensures.value ∙ cases.0) in
-    let whole : length (bytes_literal mode bytes) ≡ 2 + length (escaped mode bytes) =
-    ap length (bytes_literal-utf8 mode bytes cases.1) ∙ length-quoted _ in
-    omega (arith, same, whole)
+    let string : bytes_literal mode bytes ≡ quoted (escaped mode bytes) =
+    cond-true (is_utf8 bytes) _ _ (sym c.is_utf8.ensures ∙ c.if-is_utf8.true) in
+    omega (arith, ap length string, length-quoted (escaped mode bytes), c.escaped_len-len.ensures.exact)
 
-pub returns-in-Err : goal.returns-in-Err
-returns-in-Err c =
+pub returns-else-is_utf8 : goal.returns-else-is_utf8
+returns-else-is_utf8 c =
     let mode = c.args.no_backslash_escape in
     let bytes = c.args.bytes.now in
-    let whole = ap length (bytes_literal-other mode bytes c.in-Err.ensures.cases.0) in
-    omega (arith, whole, length-hexadecimal bytes)
+    let digits : bytes_literal mode bytes ≡ codes "0x" ++ hexadecimal bytes =
+    cond-false (is_utf8 bytes) _ _ (sym c.is_utf8.ensures ∙ c.if-is_utf8.false) in
+    omega (arith, ap length digits, length-hexadecimal bytes)

@@ -1,0 +1,195 @@
+-- Blocks that are looked at in part: up to their first escape, or from a byte on.
+use Rattle.std.proofs.Common.{◌≡◌, ℕ, zero, suc, ◌+◌, ◌-◌, ◌*◌, ◌/◌, ◌^◌, ◌<◌, ◌≤◌, Bool, true, false, not, cond, List, [], ◌∷◌, ◌++◌, map, length, take, drop, get_or, refl, sym, subst, ap, ap₂, ◌∙◌, arith, inl, inr, append_assoc, length-append}
+use Rattle.std.specs.List.{count_by, prefix_len}
+use Rattle.std.specs.Str.{IsAscii}
+use Rattle.std.specs.Int.RustNames.{count_ones}
+use Rattle.std.proofs.lemmas.Bool.{cases_Bool, cases_lt, leb-false}
+use Rattle.std.proofs.lemmas.List.{take_all, take-take, take-append-drop, length-take-le, drop-drop, drop-map, length-drop}
+use Rattle.std.proofs.lemmas.List.Sums.{count_by-le-length}
+use Rattle.std.proofs.lemmas.Str.{IsAscii-append, IsAscii-take}
+use Rattle.std.proofs.lemmas.Str.Ascii.{IsAscii-cons, IsAscii-nil}
+use Rattle.std.proofs.lemmas.Simd.{ones-mask_l, length-chunk, trailing_mask_l, run_in_chunk_le, run_in_chunk_fails}
+use Rattle.std.proofs.Math.Nat.{div-one, zero-div, div-div-eq-div-mul, pow-succ'}
+use Rattle.std.proofs.Math.Seq.{drop-cons, take-add, take-append-add}
+use lib.Dec.{leb}
+use lib.Count.{count_trailing_zeros}
+use lib.Lanes.{chunk, mask_l}
+use Rattle.mysql_sql_text.specs.LiteralText.{escaped, escaped_byte, is_escaped}
+use Rattle.mysql_sql_text.proofs.BlockLemmas.{escaped_byte-plain, escaped-block, length-escaped, length-escaped-cut, no_bits}
+
+-- a mask without its lowest bits is that of the other lanes
+mask_l-drop : (count : ℕ) (bits : List Bool) → mask_l bits / 2 ^ count ≡ mask_l (drop count bits)
+mask_l-drop zero bits = div-one (mask_l bits)
+mask_l-drop (suc count) [] = zero-div (2 ^ suc count)
+mask_l-drop (suc count) (bit ∷ bits) =
+    let half : mask_l (bit ∷ bits) / 2 ≡ mask_l bits = halved bit in
+    ap (λ power. mask_l (bit ∷ bits) / power) (pow-succ' 2 count)
+    ∙ sym (div-div-eq-div-mul (mask_l (bit ∷ bits)) 2 (2 ^ count))
+    ∙ ap (λ mask. mask / 2 ^ count) half ∙ mask_l-drop count bits
+  where
+    halved : (first : Bool) → (cond first 1 0 + 2 * mask_l bits) / 2 ≡ mask_l bits
+    halved true = omega arith
+    halved false = omega arith
+
+-- the last block is the end of the bytes, also without what an earlier one has of it
+block_to_end : (bytes : List ℕ) (last : ℕ) → last + 16 ≡ length bytes → chunk last 16 bytes ≡ drop last bytes
+block_to_end bytes last long = take_all 16 (drop last bytes) (omega (arith, length-drop last bytes))
+
+last_block : (bytes : List ℕ) (last at : ℕ) → last + 16 ≡ length bytes → last ≤ at
+    → drop (at - last) (chunk last 16 bytes) ≡ drop at bytes
+last_block bytes last at long within =
+    let place : last + (at - last) ≡ at = omega arith in
+    ap (drop (at - last)) (block_to_end bytes last long) ∙ drop-drop (at - last) last bytes ∙ ap (λ i. drop i bytes) place
+
+-- its escapes are counted, except those
+pub ones-last_block : (mode : Bool) (bytes : List ℕ) (last at : ℕ) → last + 16 ≡ length bytes → last ≤ at
+    → count_ones (mask_l (map (is_escaped mode) (chunk last 16 bytes)) / 2 ^ (at - last))
+    ≡ count_by (is_escaped mode) (drop at bytes)
+ones-last_block mode bytes last at long within =
+    let block = chunk last 16 bytes in
+    ap count_ones (mask_l-drop (at - last) (map (is_escaped mode) block)
+    ∙ ap mask_l (drop-map (is_escaped mode) (at - last) block ∙ ap (map (is_escaped mode)) (last_block bytes last at long within)))
+    ∙ ones-mask_l (is_escaped mode) (drop at bytes)
+
+-- the length of the end of the bytes, by its escapes
+pub length-escaped-end : (mode : Bool) (bytes : List ℕ) (at : ℕ) → at ≤ length bytes
+    → length (escaped mode (drop at bytes)) + at ≡ length bytes + count_by (is_escaped mode) (drop at bytes)
+length-escaped-end mode bytes at within = omega (arith, length-escaped mode (drop at bytes), length-drop at bytes)
+
+pub count-end-le : (mode : Bool) (bytes : List ℕ) (at : ℕ) → at ≤ length bytes
+    → count_by (is_escaped mode) (drop at bytes) + at ≤ length bytes
+count-end-le mode bytes at within = omega (arith, count_by-le-length (is_escaped mode) (drop at bytes), length-drop at bytes)
+
+-- bytes of which none has the high bit are ASCII
+pub IsAscii-from_mask : (bytes : List ℕ) → mask_l (map (leb 128) bytes) ≡ 0 → IsAscii bytes
+IsAscii-from_mask [] empty = IsAscii-nil
+IsAscii-from_mask (b ∷ bytes) empty =
+    let bits = no_bits (leb 128 b) (mask_l (map (leb 128) bytes)) empty in
+    IsAscii-cons b bytes (leb-false 128 b bits.0) (IsAscii-from_mask bytes bits.1)
+
+-- ASCII so far, and one block more
+pub IsAscii-next_block : (bytes : List ℕ) (at : ℕ) → IsAscii (take at bytes) → IsAscii (chunk at 16 bytes) → IsAscii (take (at + 16) bytes)
+IsAscii-next_block bytes at front block =
+    subst IsAscii (sym (take-add at 16 bytes)) (IsAscii-append (take at bytes) (chunk at 16 bytes) front block)
+
+-- and the last block
+pub IsAscii-last_block : (bytes : List ℕ) (last at : ℕ) → last + 16 ≡ length bytes → last ≤ at
+    → IsAscii (take at bytes) → IsAscii (chunk last 16 bytes) → IsAscii bytes
+IsAscii-last_block bytes last at long within front block =
+    let before : IsAscii (take last bytes) = subst IsAscii (take-take last at bytes within) (IsAscii-take (take at bytes) last front) in
+    let whole : take last bytes ++ chunk last 16 bytes ≡ bytes =
+    ap (λ t. take last bytes ++ t) (block_to_end bytes last long) ∙ take-append-drop last bytes in
+    subst IsAscii whole (IsAscii-append (take last bytes) (chunk last 16 bytes) before block)
+
+-- the bytes before an escape stand for themselves
+pub escaped-run : (mode : Bool) (bytes : List ℕ) (from count : ℕ) → from + count < length bytes
+    → ((k : ℕ) → from ≤ k → k < from + count → is_escaped mode (get_or bytes k 0) ≡ false)
+    → escaped mode (drop from bytes)
+    ≡ take count (drop from bytes) ++ (escaped_byte mode (get_or bytes (from + count) 0) ++ escaped mode (drop (from + count + 1) bytes))
+escaped-run mode bytes from zero within plain =
+    let here : from + 0 ≡ from = omega arith in
+    let next : suc from ≡ from + 0 + 1 = omega arith in
+    ap (escaped mode) (drop-cons bytes from 0 (omega arith))
+    ∙ ap₂ (λ i j. escaped_byte mode (get_or bytes i 0) ++ escaped mode (drop j bytes)) (sym here) next
+escaped-run mode bytes from (suc count) within plain =
+    let next : suc from + count ≡ from + suc count = omega arith in
+    let rest = escaped-run mode bytes (suc from) count (omega arith) (λ k low high. plain k (omega arith) (omega arith)) in
+    let byte = get_or bytes from 0 in
+    let cut = drop-cons bytes from 0 (omega arith) in
+    ap (escaped mode) cut
+    ∙ ap (λ t. t ++ escaped mode (drop (suc from) bytes)) (escaped_byte-plain mode byte (plain from (omega arith) (omega arith)))
+    ∙ ap (λ t. byte ∷ t) (rest ∙ ap (λ i. take count (drop (suc from) bytes)
+    ++ (escaped_byte mode (get_or bytes i 0) ++ escaped mode (drop (i + 1) bytes))) next)
+    ∙ ap (λ t. take (suc count) t ++ (escaped_byte mode (get_or bytes (from + suc count) 0) ++ escaped mode (drop (from + suc count + 1) bytes))) (sym cut)
+
+-- the step over a whole block
+pub block_next : (mode : Bool) (bytes : List ℕ) (from at next : ℕ) → next ≡ at + length (escaped mode (chunk from 16 bytes))
+    → next + length (escaped mode (drop (from + 16) bytes)) ≡ at + length (escaped mode (drop from bytes))
+block_next mode bytes from at next is = omega (arith, length-escaped-cut mode bytes from)
+
+pub block_front : (mode : Bool) (bytes : List ℕ) (from : ℕ) (front done : List ℕ) → done ≡ front ++ escaped mode (chunk from 16 bytes)
+    → done ++ escaped mode (drop (from + 16) bytes) ≡ front ++ escaped mode (drop from bytes)
+block_front mode bytes from front done is =
+    let rest = escaped mode (drop (from + 16) bytes) in
+    ap (λ t. t ++ rest) is ∙ append_assoc front (escaped mode (chunk from 16 bytes)) rest
+    ∙ ap (λ t. front ++ t) (sym (escaped-block mode bytes from))
+
+-- if no byte of a block is escaped, its mask is empty
+mask_empty : (p : ℕ → Bool) (bytes : List ℕ) → prefix_len (λ b. not (p b)) bytes ≡ length bytes → mask_l (map p bytes) ≡ 0
+mask_empty p [] all = refl
+mask_empty p (b ∷ bytes) all =
+    elim (cases_Bool (p b)) [
+      | inl escape ↦
+          let none : 0 ≡ length (b ∷ bytes) = rw escape at all in
+          absurd (omega arith)
+      | inr plain ↦
+          let more : 1 + prefix_len (λ b. not (p b)) bytes ≡ length (b ∷ bytes) = rw plain at all in
+          let rest = mask_empty p bytes (omega arith) in
+          rw plain (omega arith)
+    ]
+
+-- the first escape of a block, by the lowest bit of its mask
+module _ (mode : Bool) (bytes : List ℕ) (from mask : ℕ) (block : from + 16 ≤ length bytes)
+    (is : mask ≡ mask_l (map (is_escaped mode) (chunk from 16 bytes))) (some : ¬ (mask ≡ 0)) where
+  abbrev pub count : ℕ
+  count = count_trailing_zeros 64 mask
+
+  counted : count ≡ prefix_len (λ b. not (is_escaped mode b)) (chunk from 16 bytes)
+  counted =
+      ap (count_trailing_zeros 64) is
+      ∙ trailing_mask_l (is_escaped mode) 64 (chunk from 16 bytes) (omega (arith, length-chunk from 16 bytes block)) (omega arith)
+
+  pub first_escape_within : count < 16
+  first_escape_within =
+      elim (cases_lt count 16) [
+        | inl within ↦ within
+        | inr whole ↦
+            let few = run_in_chunk_le (is_escaped mode) bytes from 16 count 0 block counted in
+            let all = mask_empty (is_escaped mode) (chunk from 16 bytes) (omega (arith, counted, length-chunk from 16 bytes block)) in
+            absurd (omega arith)
+      ]
+
+  pub first_escape_cuts : escaped mode (drop from bytes)
+      ≡ take count (drop from bytes) ++ (escaped_byte mode (get_or bytes (from + count) 0) ++ escaped mode (drop (from + count + 1) bytes))
+  first_escape_cuts =
+      escaped-run mode bytes from count (omega (arith, first_escape_within))
+      (run_in_chunk_fails (is_escaped mode) bytes from 16 count 0 block counted)
+
+  abbrev pub escape : List ℕ
+  escape = escaped_byte mode (get_or bytes (from + count) 0)
+
+  abbrev pub after : List ℕ
+  after = escaped mode (drop (from + count + 1) bytes)
+
+  -- so long are the bytes, escaped
+  pub first_escape_len : length (escaped mode (drop from bytes)) ≡ count + length escape + length after
+  first_escape_len =
+      let front : length (take count (drop from bytes)) ≡ count =
+      length-take-le count (drop from bytes) (omega (arith, first_escape_within, length-drop from bytes)) in
+      omega (
+        arith,
+        ap length first_escape_cuts,
+        front,
+        length-append (take count (drop from bytes)) (escape ++ after),
+        length-append escape after,
+      )
+
+  -- a block that was copied, of which the bytes before its first escape stay
+  pub first_escape_front : (at whole next : ℕ) (old copied new : List ℕ) → at ≤ length old
+      → whole ≡ at + length (chunk from 16 bytes) → take whole copied ≡ take at old ++ chunk from 16 bytes
+      → take next new ≡ take (at + count) copied ++ escape
+      → take next new ++ after ≡ take at old ++ escaped mode (drop from bytes)
+  first_escape_front at whole next old copied new room to copy escaped_one =
+      let front = take at old in
+      let plain = take count (drop from bytes) in
+      let place : at ≡ length front = sym (length-take-le at old room) in
+      let kept : take (at + count) copied ≡ front ++ plain =
+      sym (take-take (at + count) whole copied (omega (arith, first_escape_within, length-chunk from 16 bytes block)))
+      ∙ ap (take (at + count)) copy
+      ∙ ap (λ i. take (i + count) (front ++ chunk from 16 bytes)) place
+      ∙ take-append-add front (chunk from 16 bytes) count
+      ∙ ap (λ t. front ++ t) (take-take count 16 (drop from bytes) (omega (arith, first_escape_within))) in
+      ap (λ t. t ++ after) (escaped_one ∙ ap (λ t. t ++ escape) kept)
+      ∙ ap (λ t. t ++ after) (append_assoc front plain escape)
+      ∙ append_assoc front (plain ++ escape) after
+      ∙ ap (λ t. front ++ t) (append_assoc plain escape after ∙ sym first_escape_cuts)
