@@ -14,6 +14,9 @@ use std::marker::PhantomData;
 // The byte that is a cell of NULL.
 const NULL_CELL: u8 = 0xFB;
 
+// A row has usually no more cells than these.
+const USUAL_CELLS: usize = 64;
+
 /// The text form of a value, a cell: NULL, or bytes.
 #[derive(Drop)]
 pub struct TextValue;
@@ -55,10 +58,22 @@ pub fn read_text_cells(
     let mut cells = Vec::new(alloc);
     for _ in 0..count {
         let cell = eat_cell(alloc, &mut rest)?;
+        reserve_once(&mut cells, count)?;
         cells.push(cell).map_err(AllocError::from)?;
     }
     *buf = rest;
     Ok(cells)
+}
+
+// Makes room for so many cells, and no more than those of a usual row, if there is none yet. So a
+// row is one piece of memory, and a count that no cells follow asks for little.
+fn reserve_once(cells: &mut Vec<Value>, count: usize) -> Result<(), AllocError>
+    ensures { cells.new.items ≡ cells.old.items }
+{
+    if cells.is_empty() {
+        cells.reserve_exact(count.min(USUAL_CELLS))?;
+    }
+    Ok(())
 }
 
 // The cell at the front of the buffer.

@@ -16,7 +16,8 @@ returns-in_err-cell-clause-read c =
 pub loop-preserved : goal.loop-preserved
 loop-preserved c =
     let pushed : c.push.new.self.items ≡ c.loop.cells.items ++ c.in_ok-cell.cell ∷ [] =
-    c.push.ensures.items ∙ cond-true (is_ok c.push.result) _ _ (sym c.in_ok-map_err.ensures.variant) in
+    c.push.ensures.items ∙ cond-true (is_ok c.push.result) _ _ (sym c.in_ok-map_err.ensures.variant)
+    ∙ ap (λ cells. cells ++ c.in_ok-cell.cell ∷ []) c.reserve_once.ensures in
     record {
       within = omega arith;
       read_on =
