@@ -59,16 +59,28 @@ impl TryFrom<Value> for String {
 
     fn try_from(value: Value) -> Result<String, FromValueError> {
         match value {
-            Value::Bytes(bytes) => match String::from_utf8(Vec::<u8>::from(bytes)) {
-                Ok(text) => {
-                    // A proof reads here that the text is UTF-8.
-                    let _text = text.as_str();
-                    Ok(text)
-                }
-                Err(error) => Err(FromValueError(Value::Bytes(Bytes::from(error.into_bytes())))),
-            },
+            Value::Bytes(bytes) => text_of(Vec::<u8>::from(bytes)),
             other => Err(FromValueError(other)),
         }
+    }
+}
+
+// The text of bytes. Most texts are ASCII, and that is a quicker test than that of UTF-8.
+fn text_of(bytes: Vec<u8>) -> Result<String, FromValueError>
+    ensures { ConvertsOrHandsBack string_bytes (value_text (Value.Bytes bytes.items))
+        (Value.Bytes bytes.items) result }
+{
+    if bytes.as_slice().is_ascii() {
+        let text = unsafe { String::from_utf8_unchecked(bytes) };
+        return Ok(text);
+    }
+    match String::from_utf8(bytes) {
+        Ok(text) => {
+            // A proof reads here that the text is UTF-8.
+            let _text = text.as_str();
+            Ok(text)
+        }
+        Err(error) => Err(FromValueError(Value::Bytes(Bytes::from(error.into_bytes())))),
     }
 }
 
