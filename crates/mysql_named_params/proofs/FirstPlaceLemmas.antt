@@ -49,7 +49,7 @@ always_plain-not : (b : ℕ) → is_always_plain b ≡ true → (bad : ℕ) → 
     b ≢ bad
 always_plain-not b p bad q e = cc
 
-plain_token : (mode : Bool) (b : ℕ) (rest : List ℕ) → is_always_plain b ≡ true →
+pub plain_token : (mode : Bool) (b : ℕ) (rest : List ℕ) → is_always_plain b ≡ true →
     IsFirstToken mode (b ∷ rest) kind.Other 1
 plain_token mode b rest p =
     let quotes : (b ≡ double_quote) ⊎ (b ≡ single_quote) → ⊥ = λ q. elim q [ inl e ↦ always_plain-not b p double_quote refl e | inr e ↦ always_plain-not b p single_quote refl e ] in

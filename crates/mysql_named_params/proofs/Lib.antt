@@ -26,10 +26,12 @@ pub mod QuietLemmas
 pub mod SharpLemmas
 pub mod FrontLemmas
 pub mod UnportableLemmas
+pub mod CalmLemmas
 pub mod PlaceTextLemmas
 pub mod OtherModeLemmas
 pub mod SteadyLemmas
 pub mod ClientLemmas
 pub mod StatementLemmas
 pub mod ClientWalkLemmas
+pub mod CalmClientLemmas
 pub mod ClientTextLemmas

@@ -8,6 +8,7 @@ pub mod TokensOf
 pub mod NextByte
 pub mod FirstPlace
 pub mod PlainBytes
+pub mod Lanes
 pub mod Parsed
 pub mod SameParsed
 pub mod NamedParamsErrors
@@ -16,6 +17,7 @@ pub mod Quiet
 pub mod Portable
 pub mod FirstUnportable
 pub mod FrontConstruct
+pub mod CalmBytes
 pub mod Steady
 pub mod CharacterSet
 pub mod Client

@@ -1,22 +1,17 @@
 //! The first construct of a query for which it isn't portable on servers, or for which the client
 //! `mysql` or `mariadb` sends something else than the query.
-ghost use Rattle.std.specs.Prelude.{◌≡◌, ◌↔◌, ◌≤◌, ◌<◌, length, None, IsTrue};
+ghost use Rattle.std.specs.Prelude.{◌≡◌, ◌↔◌, ◌≤◌, ◌<◌, false, length, None, IsTrue};
 ghost use Rattle.mysql_named_params.specs.Tokens.{OnTokens};
+ghost use Rattle.mysql_named_params.specs.CalmBytes.{is_calm, StandBeforeNoExponent};
 ghost use Rattle.mysql_named_params.specs.Client.{begins_opener, begins_end, holds_opener};
-ghost use Rattle.mysql_named_params.specs.Server.{begins_special};
 ghost use Rattle.mysql_named_params.specs.FoundInClient.{begins_no_word, begins_delimiter_line, without_accent, letter_of, begins_word, ends_word, begins_whole_word, is_word_of_mariadb, is_word_of_mysql, is_client_word, is_joined, closes_before_joined, drops_line, begins_comment, stand_before_comment, ends_line, escapes_newline, found_in_quotes, found_in_comment, found_word, found_at_byte};
 ghost use Rattle.mysql_named_params.specs.FirstUnportableInClient.{first_unportable_in_client, IsPortableInClient};
+ghost use Rattle.mysql_named_params.specs.Lanes.{EachPasses};
 ghost use Rattle.mysql_named_params.specs.FrontInClient.{are_comment, statement_after, line_after, found_in_bytes, found_or_zero, found_in_front};
 
-use crate::portable::{Construct, Unportable, begins_place, front_construct};
+use crate::calm_bytes::calm_len;
+use crate::portable::{Construct, Unportable, begins_place, begins_special, front_construct};
 use crate::tokens::{first_token, is_white_space};
-
-// Whether the text is that of `/*!`, `/*+` or `/*M!` after its `/*`.
-fn begins_special(text: &[u8]) -> bool
-    ensures { result ≡ begins_special text.now }
-{
-    matches!(text, [b'!' | b'+', ..] | [b'M', b'!', ..])
-}
 
 // Whether the bytes of a token are those of a comment.
 fn are_comment(token: &[u8]) -> bool
@@ -385,6 +380,17 @@ fn found_in_front(statement: bool, line: bool, text: &[u8], len: usize) -> Optio
     found_in_bytes(statement, line, token, rest)
 }
 
+// The number of calm bytes at the front of the text that are passed at once: none where a word of
+// the client may begin.
+fn passed_len(statement: bool, line: bool, text: &[u8]) -> usize
+    ensures in_range { result ≤ length text.now }
+    ensures calm { EachPasses is_calm text.now 0 result }
+    ensures no_exponent { StandBeforeNoExponent text.now result }
+    ensures no_word { 0 < result → (statement ≡ false) × (line ≡ false) }
+{
+    if statement || line { 0 } else { calm_len(text) }
+}
+
 /// The first construct of a query for which it isn't portable, as
 /// [`first_unportable`](crate::portable::first_unportable) has it, or for which the client `mysql`
 /// or `mariadb` sends something else than the query.
@@ -406,7 +412,11 @@ pub fn first_unportable_in_client(query: &[u8], no_backslash_escape: bool) -> Op
     let mut rest = query;
     let mut statement = true;
     let mut line = true;
-    while !rest.is_empty() {
+    'tokens: loop {
+        rest = &rest[passed_len(statement, line, rest)..];
+        if rest.is_empty() {
+            return None;
+        }
         let (_, len) = first_token(rest, no_backslash_escape);
         if let Some(construct) = found_in_front(statement, line, rest, len) {
             return Some(Unportable {
@@ -419,5 +429,4 @@ pub fn first_unportable_in_client(query: &[u8], no_backslash_escape: bool) -> Op
         line = line_after(line, token);
         rest = &rest[len..];
     }
-    None
 }

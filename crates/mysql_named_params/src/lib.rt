@@ -6,8 +6,10 @@
 //! hands on all three and the laws.
 #![tactic(auto)]
 
+mod calm_bytes;
 pub mod client;
 mod ends;
+mod lanes;
 pub mod laws;
 pub mod named_params;
 pub mod places;
