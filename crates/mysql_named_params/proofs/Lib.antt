@@ -34,4 +34,6 @@ pub mod ClientLemmas
 pub mod StatementLemmas
 pub mod ClientWalkLemmas
 pub mod CalmClientLemmas
+pub mod RunLemmas
+pub mod TameLemmas
 pub mod ClientTextLemmas

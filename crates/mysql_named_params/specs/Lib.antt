@@ -25,3 +25,4 @@ pub mod Statements
 pub mod FoundInClient
 pub mod FirstUnportableInClient
 pub mod FrontInClient
+pub mod TameBytes

@@ -7,10 +7,12 @@ ghost use Rattle.mysql_named_params.specs.Client.{begins_opener, begins_end, hol
 ghost use Rattle.mysql_named_params.specs.FoundInClient.{begins_no_word, begins_delimiter_line, without_accent, letter_of, begins_word, ends_word, begins_whole_word, is_word_of_mariadb, is_word_of_mysql, is_client_word, is_joined, closes_before_joined, drops_line, begins_comment, stand_before_comment, ends_line, escapes_newline, found_in_quotes, found_in_comment, found_word, found_at_byte};
 ghost use Rattle.mysql_named_params.specs.FirstUnportableInClient.{first_unportable_in_client, IsPortableInClient};
 ghost use Rattle.mysql_named_params.specs.Lanes.{EachPasses};
+ghost use Rattle.mysql_named_params.specs.TameBytes.{IsTameText};
 ghost use Rattle.mysql_named_params.specs.FrontInClient.{are_comment, statement_after, line_after, found_in_bytes, found_or_zero, found_in_front};
 
 use crate::calm_bytes::calm_len;
 use crate::portable::{Construct, Unportable, begins_place, begins_special, front_construct};
+use crate::tame_bytes::are_tame;
 use crate::tokens::{first_token, is_white_space};
 
 // Whether the bytes of a token are those of a comment.
@@ -364,6 +366,15 @@ fn found_in_quotes(tail: &[u8]) -> Option<Construct>
     None
 }
 
+// Whether the token of this length at the front of the text is a text in quotes or backquotes of
+// tame bytes. Most are, and nothing is found in them.
+fn is_tame_text(text: &[u8], len: usize) -> bool
+    requires { len ≤ length text.now }
+    ensures { IsTrue result → IsTameText text.now len }
+{
+    matches!(text, [b'\'' | b'"' | b'`', ..]) && len > 1 && are_tame(text, len)
+}
+
 // What is found in the token at the front of the text, which has this length.
 fn found_in_front(statement: bool, line: bool, text: &[u8], len: usize) -> Option<Construct>
     requires some { 0 < len }
@@ -372,6 +383,9 @@ fn found_in_front(statement: bool, line: bool, text: &[u8], len: usize) -> Optio
 {
     if let Some(found) = front_construct(text, len) {
         return Some(found);
+    }
+    if is_tame_text(text, len) {
+        return None;
     }
     let (token, rest) = text.split_at(len);
     if token.contains(&0) {

@@ -16,4 +16,5 @@ pub mod places;
 mod plain_bytes;
 pub mod portable;
 pub mod steady;
+mod tame_bytes;
 pub mod tokens;

@@ -1,0 +1,19 @@
+-- Bytes of which a client makes nothing in quotes. For private functions of `tame_bytes.rt` and
+-- `client.rt`; no public contract cites it.
+use Rattle.std.specs.Prelude.{◌≡◌, ◌<◌, ℕ, Bool, true, not, ◌||◌, ◌==◌, List}
+use Rattle.std.specs.Str.{byte}
+use Rattle.mysql_named_params.specs.Lanes.{EachPasses}
+use Rattle.mysql_named_params.specs.Bytes.{backquote, newline, is_string_quote, begins}
+
+-- a quote or a backquote
+abbrev pub opens_text : ℕ → Bool
+opens_text b = is_string_quote b || b == backquote
+
+-- no byte 0, no newline and no backslash
+abbrev pub is_tame : ℕ → Bool
+is_tame b = not (b == 0 || b == newline || b == byte "\\")
+
+-- the token of this length at the front of the text is one in quotes or backquotes of tame bytes
+abbrev pub IsTameText : List ℕ → ℕ → Type 0
+IsTameText text len =
+    (begins opens_text text ≡ true) × (1 < len) × EachPasses is_tame text 0 len
