@@ -1,12 +1,13 @@
 -- A text up to a word: the near bytes, one after another, and then a jump to the first place of the word.
 use Rattle.std.specs.Prelude.{Option}
-use Rattle.std.proofs.Common.{◌≡◌, ◌≢◌, ℕ, zero, suc, ◌+◌, ◌<◌, ◌≤◌, true, false, ne_eqb, eq-eqb, List, [], ◌∷◌, length, length-drop, length-append, length-take-le, take, drop, take-append-drop, get_or, Some, None, refl, sym, ap, ◌∙◌, inl, inr, arith, true≢false}
+use Rattle.std.proofs.Common.{◌≡◌, ◌≢◌, ℕ, zero, suc, ◌+◌, ◌<◌, ◌≤◌, true, false, ne_eqb, eq-eqb, ◌==◌, subst, List, [], ◌∷◌, length, length-drop, length-append, length-take-le, take, drop, take-append-drop, get_or, Some, None, refl, sym, ap, ◌∙◌, inl, inr, arith, true≢false}
 use Rattle.std.proofs.lemmas.List.{drop_more, drop_all}
 use Rattle.std.proofs.lemmas.List.Prefix.{at_from_reads, at_reads}
-use Rattle.std.proofs.lemmas.Bool.{cases_Bool}
+use Rattle.std.proofs.lemmas.Bool.{cases_Bool, and_right, or_cases, or_parts, eqb-true, eqb-false, not-true, not-false}
 use Rattle.memchr.specs.Find.{OccursAt, FindsNeedle, IsFirstByte, Passes, is_byte}
 use Rattle.memchr.proofs.lemmas.FindLemmas.{IsFirst-wider, IsFirst-agree, OccursAt-byte, byte-OccursAt}
 use Rattle.mysql_named_params.specs.Bytes.{asterisk, slash, IsUpTo}
+use Rattle.mysql_named_params.specs.Lanes.{is_neither, EachPasses}
 use Rattle.mysql_named_params.specs.TokensOf.{begins_with, len_up_to}
 use Rattle.mysql_named_params.proofs.TokenEnds.{begins_with_front, word_begins, up_to_is}
 use Rattle.mysql_named_params.proofs.TokenEndLemmas.{up_to_at}
@@ -46,6 +47,31 @@ pub step_over : (word text : List ℕ) (at : ℕ) → at < length text →
 step_over word text at lt begins inv =
     let e : len_up_to word (drop at text) ≡ suc (len_up_to word (drop (at + 1) text)) = rw (drop_more text at 0 lt, begins) refl in
     omega arith
+
+-- a byte with which the word doesn't begin
+other_byte : (w : ℕ) (ws : List ℕ) (b : ℕ) (bs : List ℕ) → is_neither w w b ≡ true → begins_with (w ∷ ws) (b ∷ bs) ≡ false
+other_byte w ws b bs n = rw (ne_eqb w b (λ e. eqb-false b w (or_parts (b == w) (b == w) (not-true _ n)).0 (sym e))) refl
+
+-- a run of such bytes
+pub run_over : (w : ℕ) (ws text : List ℕ) (at n : ℕ) → at + n ≤ length text → EachPasses (is_neither w w) text at (at + n) →
+    IsNotReached (w ∷ ws) text at → IsNotReached (w ∷ ws) text (at + n)
+run_over w ws text at zero le none inv =
+    let same : at ≡ at + 0 = omega arith in
+    subst (IsNotReached (w ∷ ws) text) same inv
+run_over w ws text at (suc n) le none inv =
+    let step = step_over (w ∷ ws) text at (omega arith) (other_byte w ws (get_or text at 0) (drop (at + 1) text) (none at (omega arith) (omega arith))) inv in
+    let same : at + 1 + n ≡ at + suc n = omega arith in
+    subst (IsNotReached (w ∷ ws) text) same (run_over w ws text (at + 1) n (omega arith) (λ k low high. none k (omega arith) (omega arith)) step)
+
+-- a star after which another byte stands
+pub no_slash_after : (text : List ℕ) (at : ℕ) → at + 1 < length text → get_or text (at + 1) 0 ≢ slash →
+    IsNotReached (asterisk ∷ slash ∷ []) text at → IsNotReached (asterisk ∷ slash ∷ []) text (at + 1)
+no_slash_after text at lt n =
+    let none : begins_with (slash ∷ []) (drop (at + 1) text) ≡ false = ap (begins_with (slash ∷ [])) (drop_more text (at + 1) 0 lt) ∙ rw (ne_eqb slash (get_or text (at + 1) 0) (λ e. n (sym e))) refl in
+    step_over (asterisk ∷ slash ∷ []) text at (omega arith) (and_right (asterisk == get_or text at 0) (begins_with (slash ∷ []) (drop (at + 1) text)) none)
+
+pub either_is : (w b : ℕ) → is_neither w w b ≡ false → b ≡ w
+either_is w b h = elim (or_cases (b == w) (b == w) (not-false _ h)) [ inl e ↦ eqb-true b w e | inr e ↦ eqb-true b w e ]
 
 -- a rest that is passed on as a slice
 pub near_then_far : (word text rest : List ℕ) (near at n : ℕ) → 0 < length word → near ≡ at →

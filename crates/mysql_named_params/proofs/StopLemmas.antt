@@ -1,13 +1,13 @@
 -- A string that is walked from stop to stop: quotes and escapes.
 use Rattle.std.specs.Prelude.{Bool}
 use Rattle.std.proofs.Common.{◌≡◌, ◌≢◌, ◌⊎◌, inl, inr, ℕ, zero, suc, ◌+◌, ◌-◌, ◌<◌, ◌≤◌, ◌==◌, true, false, List, length, length-drop, take, drop, get_or, min, refl, sym, ap, ◌∙◌, subst, arith}
-use Rattle.std.specs.Str.{byte}
 use Rattle.std.proofs.lemmas.List.{drop_all, get_or-drop}
-use Rattle.std.proofs.lemmas.Bool.{or_cases, or_parts, eqb-true, eqb-false, cases_lt}
+use Rattle.std.proofs.lemmas.Bool.{or_cases, or_parts, eqb-true, eqb-false, cases_lt, not-true, not-false}
 use Rattle.memchr.specs.Find.{is_byte2, Nowhere, NoneBefore, Passes}
 use Rattle.mysql_sql_text.specs.StringUnits.{is_escape}
 use Rattle.mysql_named_params.specs.Tokens.{IsStringTail}
-use Rattle.mysql_named_params.specs.NextByte.{HoldNoStop, IsNextStop}
+use Rattle.mysql_named_params.specs.Lanes.{is_neither, EachPasses}
+use Rattle.mysql_named_params.specs.NextByte.{HoldNoStop, IsNextStop, IsEscapeOf, no_escape, backslash}
 use Rattle.mysql_named_params.specs.TokensOf.{string_len}
 use Rattle.mysql_named_params.proofs.TokenEndLemmas.{string_at, string_stops, string_goes_on, string_skips, string_ends}
 
@@ -15,6 +15,9 @@ use Rattle.mysql_named_params.proofs.TokenEndLemmas.{string_at, string_stops, st
 abbrev pub IsWithin : Bool → ℕ → List ℕ → ℕ → Type 0
 IsWithin mode q text at =
     (at ≤ length text) × (at + string_len mode q false (drop at text) ≡ string_len mode q false text)
+
+pub within_none : (mode : Bool) (q : ℕ) (text : List ℕ) → IsWithin mode q text 0
+within_none mode q text = (omega arith, omega arith)
 
 usual_run : (mode : Bool) (q : ℕ) (text : List ℕ) (n at total : ℕ) → at + n ≤ length text →
     HoldNoStop mode q text at (at + n) → at + string_len mode q false (drop at text) ≡ total →
@@ -65,11 +68,6 @@ past_escape mode q text at next h lt ne escapes next_is =
     ]
 
 -- ---- the jump
-
--- the byte that escapes, or the quote again if none does
-pub data IsEscapeOf (mode : Bool) (q escape : ℕ) : Type 0 where
-  no_escape : mode ≡ true → escape ≡ q → IsEscapeOf mode q escape
-  backslash : mode ≡ false → escape ≡ byte "\\" → IsEscapeOf mode q escape
 
 usual : (mode : Bool) (q escape b : ℕ) → IsEscapeOf mode q escape → is_byte2 q escape b ≡ false →
     (b ≢ q) × (is_escape mode b ≡ false)
@@ -125,3 +123,32 @@ none_found mode q escape text from is le nowhere =
       none_before = subst (HoldNoStop mode q text from) same (none_far mode q escape text from _ is nowhere);
       stops = λ lt. absurd (omega arith);
     }
+
+-- ---- near bytes
+
+module _ (mode : Bool) (q escape : ℕ) (text : List ℕ) (from at to : ℕ) (is : IsEscapeOf mode q escape) where
+  -- bytes that are neither are passed
+  pub near_run : HoldNoStop mode q text from at → EachPasses (is_neither q escape) text at to → HoldNoStop mode q text from to
+  near_run none neither k low high =
+      elim (cases_lt k at) [
+        | inl before ↦ none k low before
+        | inr after ↦ usual mode q escape (get_or text k 0) is (not-true _ (neither k after high))
+      ]
+
+  -- one of the two stops
+  pub near_stop : from ≤ at → at ≤ to → to ≤ length text → HoldNoStop mode q text from at → EachPasses (is_neither q escape) text at to →
+      is_neither q escape (get_or text to 0) ≡ false → IsNextStop mode q text from to
+  near_stop le up within none neither stop = record {
+    in_range = (omega arith, within);
+    none_before = near_run none neither;
+    stops = λ lt. stop_is mode q escape (get_or text to 0) is (not-false _ stop);
+  }
+
+-- none stands before the index from which the next is looked for
+pub after_near : (mode : Bool) (q : ℕ) (text : List ℕ) (from at end : ℕ) → from ≤ at → HoldNoStop mode q text from at →
+    IsNextStop mode q text at end → IsNextStop mode q text from end
+after_near mode q text from at end le none next = record {
+  in_range = (omega (arith, next.in_range.0), next.in_range.1);
+  none_before = λ k low high. elim (cases_lt k at) [ inl before ↦ none k low before | inr after ↦ next.none_before k after high ];
+  stops = next.stops;
+}
