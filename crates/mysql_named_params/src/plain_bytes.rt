@@ -1,15 +1,11 @@
-//! Runs of bytes with which no token but a plain one begins: the first bytes are passed by a table,
-//! since most runs are short, and longer ones 16 bytes at once.
-ghost use Rattle.std.specs.Prelude.{◌≡◌, ◌+◌, ◌≤◌, length, IsTrue};
+//! Runs of bytes with which no token but a plain one begins. They are passed 16 at once, and the
+//! last ones by a table.
+ghost use Rattle.std.specs.Prelude.{◌≡◌, ◌+◌, ◌≤◌, length};
+ghost use Rattle.mysql_named_params.specs.Lanes.{IsFirstOther};
 ghost use Rattle.mysql_named_params.specs.PlainBytes.{is_always_plain, AreAlwaysPlain};
 
+use crate::lanes::{LANES, first_set};
 use std::simd::prelude::*;
-
-// The number of bytes that are passed by the table.
-const NEAR: usize = 8;
-
-// The number of bytes that are passed at once.
-const LANES: usize = 16;
 
 /// An index up to which no byte, from the given one on, begins a token other than a plain one. It
 /// is in fact the furthest such index. The contract needn't say so, because `first_place` examines
@@ -19,24 +15,13 @@ pub(crate) fn plain_end(text: &[u8], from: usize) -> usize
     ensures in_range { (from ≤ result) × (result ≤ length text.now) }
     ensures plain { AreAlwaysPlain text.now from result }
 {
-    let near = text.len().min(from.saturating_add(NEAR));
-    for at in from..near {
-        if !is_always_plain(text[at]) {
-            return at;
-        }
-    }
-    far_plain_end(text, near)
-}
-
-// `plain_end`: 16 bytes at once as long as they are always plain, and then one by one.
-fn far_plain_end(text: &[u8], from: usize) -> usize
-    requires { from ≤ length text.now }
-    ensures in_range { (from ≤ result) × (result ≤ length text.now) }
-    ensures plain { AreAlwaysPlain text.now from result }
-{
+    let reach = text.len().saturating_sub(LANES - 1);
     let mut at = from;
-    'by_lanes: while text.len() - at >= LANES && are_always_plain(text, at) {
-        at += LANES;
+    'by_lanes: while at < reach {
+        match first_not_plain(text, at) {
+            Some(run) => return at + run,
+            None => at += LANES,
+        }
     }
     while at < text.len() && is_always_plain(text[at]) {
         at += 1;
@@ -44,11 +29,12 @@ fn far_plain_end(text: &[u8], from: usize) -> usize
     at
 }
 
-// Whether the 16 bytes from this one on are always plain. `false` promises nothing: the caller then
-// checks byte by byte.
-fn are_always_plain(text: &[u8], at: usize) -> bool
+// How many of the 16 bytes from this one on stand before the first that isn't always plain, if one
+// isn't.
+#[inline(always)]
+fn first_not_plain(text: &[u8], at: usize) -> Option<usize>
     requires { at + LANES ≤ length text.now }
-    ensures { IsTrue result → AreAlwaysPlain text.now at (at + LANES) }
+    ensures { IsFirstOther is_always_plain text.now at LANES result }
 {
     let bytes = u8x16::from_slice(&text[at..]);
     let quotes = bytes.simd_eq(u8x16::splat(b'\'')) | bytes.simd_eq(u8x16::splat(b'"'));
@@ -56,7 +42,7 @@ fn are_always_plain(text: &[u8], at: usize) -> bool
     let dash_or_slash = bytes.simd_eq(u8x16::splat(b'-')) | bytes.simd_eq(u8x16::splat(b'/'));
     let places = bytes.simd_eq(u8x16::splat(b':')) | bytes.simd_eq(u8x16::splat(b'?'));
     let others = (quotes | identifier_or_hash) | (dash_or_slash | places);
-    others.to_bitmask() == 0
+    first_set(others.to_bitmask())
 }
 
 // Whether no token but a plain one begins with the byte.
