@@ -11,6 +11,7 @@ ghost use Rattle.mysql_named_params.specs.TameBytes.{IsTameText};
 ghost use Rattle.mysql_named_params.specs.FrontInClient.{are_comment, statement_after, line_after, found_in_bytes, found_or_zero, found_in_front};
 
 use crate::calm_bytes::calm_len;
+use crate::lanes::{NEAR, end_without};
 use crate::portable::{Construct, Unportable, begins_place, begins_special, front_construct};
 use crate::tame_bytes::are_tame;
 use crate::tokens::{first_token, is_white_space};
@@ -70,13 +71,19 @@ fn begins_end(text: &[u8]) -> bool
 fn holds_opener(text: &[u8]) -> bool
     ensures { result ≡ holds_opener text.now }
 {
-    for i in 0..text.len() {
-        let rest = &text[i..];
-        if begins_opener(rest) {
-            return true;
-        }
-        if begins_end(rest) {
-            return false;
+    let mut i = 0;
+    'stops: while i < text.len() {
+        i = end_without(text, i, b'/', b'*');
+        let near = i + NEAR.min(text.len() - i);
+        'near_bytes: while i < near {
+            let rest = &text[i..];
+            if begins_opener(rest) {
+                return true;
+            }
+            if begins_end(rest) {
+                return false;
+            }
+            i += 1;
         }
     }
     false
@@ -218,9 +225,15 @@ fn ends_line(text: &[u8]) -> bool
 fn escapes_newline(text: &[u8]) -> bool
     ensures { result ≡ escapes_newline text.now }
 {
-    for i in 0..text.len() {
-        if text[i] == b'\\' && ends_line(&text[i + 1..]) {
-            return true;
+    let mut i = 0;
+    'stops: while i < text.len() {
+        i = end_without(text, i, b'\\', b'\\');
+        let near = i + NEAR.min(text.len() - i);
+        'near_bytes: while i < near {
+            if text[i] == b'\\' && ends_line(&text[i + 1..]) {
+                return true;
+            }
+            i += 1;
         }
     }
     false
@@ -293,9 +306,15 @@ fn is_client_word(letter: u8, rest: &[u8]) -> bool
 fn begins_delimiter_line(text: &[u8]) -> bool
     ensures { result ≡ begins_delimiter_line text.now }
 {
-    for i in 0..text.len() {
-        if text[i] == b'\n' && begins_word(b"delimiter", &text[i + 1..]) {
-            return true;
+    let mut i = 0;
+    'stops: while i < text.len() {
+        i = end_without(text, i, b'\n', b'\n');
+        let near = i + NEAR.min(text.len() - i);
+        'near_bytes: while i < near {
+            if text[i] == b'\n' && begins_word(b"delimiter", &text[i + 1..]) {
+                return true;
+            }
+            i += 1;
         }
     }
     false
