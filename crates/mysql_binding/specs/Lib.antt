@@ -11,6 +11,7 @@ pub mod ParsedQuery
 pub mod SameQuery
 pub mod ValueLiterals
 pub mod LiteralForm
+pub mod PushedLiteral
 pub mod WrittenText
 pub mod TextInRoom
 pub mod BindErrors

@@ -31,6 +31,7 @@ mod text;
 use crate::bind_error::BindError;
 pub use crate::binding::form::{LiteralForm, PlainForm};
 use crate::binding::literals::first_float;
+pub use crate::binding::literals::push_literal;
 pub use crate::binding::measured::MeasuredText;
 use crate::binding::measured::with_lengths;
 use crate::binding::names::query_names;

@@ -1,5 +1,5 @@
 -- Queries with fragments, as the code writes them.
-use Rattle.std.specs.Prelude.{Bool, Ok, option_map, alloc_error}
+use Rattle.std.specs.Prelude.{Bool, Ok, option_map}
 use Rattle.std.specs.Option.{option_or}
 use Rattle.std.proofs.Common.{◌≡◌, ◌+◌, ◌++◌, ◌<◌, ◌≤◌, ℕ, true, false, List, [], ◌∷◌, length, map, take, drop, get_or, Some, None, Option, arith, inl, inr, refl, sym, ap, ◌∙◌, subst, append_assoc, add-one, drop-cons, eq-eqb}
 use Rattle.std.proofs.lemmas.List.{drop_all, length-map, get_or-map}
@@ -14,22 +14,19 @@ use Rattle.mysql_named_params.proofs.TokenListLemmas.{one_token_list}
 use Rattle.mysql_named_params.proofs.TokenRowLemmas.{place_count-append}
 use Rattle.mysql_params_core.specs.Given.{positional}
 use Rattle.mysql_params_core.specs.Lookup.{lookup}
-use Rattle.mysql_binding.specs.BindErrors as bind
 use Rattle.mysql_binding.specs.FirstCause as bound_cause
 use Rattle.mysql_binding.specs.FirstCause.{mark_count_differs}
-use Rattle.mysql_binding.specs.Isolation.{IsBoundText}
 use Rattle.mysql_binding.specs.Pieces.{pieces, joined_text}
 use Rattle.mysql_binding.specs.Replaced.{with_literal_tokens}
 use Rattle.mysql_binding.specs.StandsAlone.{first_not_alone}
 use Rattle.mysql_binding.specs.Survey.{IsSurvey}
-use Rattle.mysql_binding.specs.declared.bind_error.BindError.{BindError}
-use Rattle.mysql_binding.specs.declared.bind_error.BindError.TheVariants as bind_error
 use Rattle.mysql_binding.specs.declared.binding.survey.Survey.{Survey}
 use Rattle.mysql_binding.proofs.BoundText.{bound}
 use Rattle.mysql_binding.proofs.CauseLemmas as bound_lemmas
-use Rattle.mysql_binding.proofs.PieceLemmas.{bound_none, joined_text-pieces_from}
-use Rattle.mysql_fragments.specs.Expanded.{IsBoundFragments, IsExpanded, IsExpandedQuery}
-use Rattle.mysql_fragments.specs.FragmentErrors.{Cause, mixed_cause, later_cause, first_cause, cause_of, cause_of_places, IsCauseOrMemory, IsPlaceRefusal, refused_fragments, mixed_query}
+use Rattle.mysql_binding.proofs.PieceLemmas.{bound_none, joined_text-pieces_from, joined_text_count}
+use Rattle.mysql_fragments.specs.Expanded.{IsExpanded, IsExpandedQuery}
+use Rattle.mysql_fragments.specs.FilledText.{ArePlaced}
+use Rattle.mysql_fragments.specs.FragmentErrors.{Cause, mixed_cause, later_cause, first_cause, literal_float, first_fault_from, cause_of, cause_of_places, IsCauseOrMemory, IsPlaceRefusal, refused_fragments, mixed_query}
 use Rattle.mysql_fragments.specs.FragmentText.{all_values, fragment_text, mark_number}
 use Rattle.mysql_fragments.specs.GivenFragments.{GivenFragments, fragments_for}
 use Rattle.mysql_fragments.specs.declared.fragment.Fragment.{Fragment}
@@ -91,57 +88,82 @@ module _ (as_literals mode : Bool) (query : List ℕ) (given : GivenFragments) (
         none_later : later_cause as_literals o.0 fragments ≡ None
         none_later = no_error _ (none o.0 o.2)
 
-        pub places_on : OnTokens mode query (λ ts. length fragments ≡ place_count ts)
-        places_on = (o.0, o.1, fragment_each o.0 given fragments not_both_on looked (no_later_parts as_literals o.0 fragments none_later).0)
+        pub placed_on : OnTokens mode query (λ ts. ArePlaced as_literals ts given fragments)
+        placed_on = (o.0, o.1, record { unmixed = mixed_none o.0 not_both_on; given_to_places = looked; no_later = none_later })
 
-        pub expanded_on : (text : List ℕ) (values : List Value) →
-            OnTokens mode query (λ ts. joined_text (pieces ts) (map fragment_text fragments) ≡ Some text) →
-            values ≡ all_values fragments → OnTokens mode query (λ ts. IsExpandedQuery as_literals mode ts given text values)
-        expanded_on text values j v =
-            let texts : List (List ℕ) = map fragment_text fragments in
-            let exact : joined_text (pieces o.0) texts ≡ Some text = subst (λ ts. joined_text (pieces ts) texts ≡ Some text) (one_token_list mode query j.0 o.0 j.1 o.1) j.2 in
-            let parts = no_later_parts as_literals o.0 fragments none_later in
-            let shapes = fragment_shapes mode 0 fragments parts.3 in
-            let lists = fragment_lists mode (map mark_number fragments) texts shapes in (
-              o.0,
-              o.1,
-              record {
-                expanded = record {
-                  fragments = fragments;
-                  given_to_places = looked;
-                  no_cause = first_by as_literals o.0 given fragments None (mixed_none o.0 not_both_on) looked none_later;
-                  shapes = shapes;
-                  text_is = exact;
-                  lists = lists.0;
-                  tokens_of_fragments = lists.1;
-                  isolated = fragments_isolated mode text o.0 (map mark_number fragments) texts lists.0 parts.1 shapes lists.1 exact query o.1;
-                };
-                values_are = v;
-              },
-            )
+-- ---- fragments that nothing refuses
+
+not_both_of : (ts : List Token) → mixed_cause ts ≡ None → HasName ts × HasMark ts → ⊥
+not_both_of ts e both = let bad : Some mixed_query ≡ None = sym (mixed_some ts both) ∙ e in cc
+
+module _ (as_literals mode : Bool) (query : List ℕ) (ts : List Token) (given : GivenFragments) (fragments : List Fragment) (is : IsTokens mode query ts) (p : ArePlaced as_literals ts given fragments) where
+  placed_each : length fragments ≡ place_count ts
+  placed_each = fragment_each ts given fragments (not_both_of ts p.unmixed) p.given_to_places (no_later_parts as_literals ts fragments p.no_later).0
+
+  -- the expanded query, if this is its text
+  with_text : (text : List ℕ) → joined_text (pieces ts) (map fragment_text fragments) ≡ Some text →
+      (x : IsExpanded as_literals mode ts given text) × (x.fragments ≡ fragments)
+  with_text text exact =
+      let texts : List (List ℕ) = map fragment_text fragments in
+      let parts = no_later_parts as_literals ts fragments p.no_later in
+      let shapes = fragment_shapes mode 0 fragments parts.3 in
+      let lists = fragment_lists mode (map mark_number fragments) texts shapes in (
+        record {
+          fragments = fragments;
+          given_to_places = p.given_to_places;
+          no_cause = first_by as_literals ts given fragments None p.unmixed p.given_to_places p.no_later;
+          shapes = shapes;
+          text_is = exact;
+          lists = lists.0;
+          tokens_of_fragments = lists.1;
+          isolated = fragments_isolated mode text ts (map mark_number fragments) texts lists.0 parts.1 shapes lists.1 exact query is;
+        },
+        refl,
+      )
+
+  -- there is one
+  pub is_expanded : (text : List ℕ) × (x : IsExpanded as_literals mode ts given text) × (x.fragments ≡ fragments)
+  is_expanded =
+      let texts : List (List ℕ) = map fragment_text fragments in
+      let x = with_text (bound ts texts) (joined_text-pieces_from [] ts texts (length-map fragments fragment_text ∙ placed_each)) in
+      (bound ts texts, x.0, x.1)
+
+module _ (as_literals mode : Bool) (query : List ℕ) (given : GivenFragments) (fragments : List Fragment) (p : OnTokens mode query (λ ts. ArePlaced as_literals ts given fragments)) where
+  pub each_on : OnTokens mode query (λ ts. length fragments ≡ place_count ts)
+  each_on = (p.0, p.1, placed_each as_literals mode query p.0 given fragments p.1 p.2)
+
+  pub expanded_on : (text : List ℕ) (values : List Value) →
+      OnTokens mode query (λ ts. joined_text (pieces ts) (map fragment_text fragments) ≡ Some text) →
+      values ≡ all_values fragments → OnTokens mode query (λ ts. IsExpandedQuery as_literals mode ts given text values)
+  expanded_on text values j v =
+      let exact : joined_text (pieces p.0) (map fragment_text fragments) ≡ Some text =
+      subst (λ ts. joined_text (pieces ts) (map fragment_text fragments) ≡ Some text) (one_token_list mode query j.0 p.0 j.1 p.1) j.2 in
+      let x = with_text as_literals mode query p.0 given fragments p.1 p.2 text exact in
+      (p.0, p.1, record { expanded = x.0; values_are = v ∙ ap all_values (sym x.1) })
 
 -- ---- the query with fragments, written as far as a rest of it
 
-pub record SplicedSoFar (mode : Bool) (query rest : List ℕ) (fragments : List Fragment) (i : ℕ) (text : List ℕ) : Type 0 where
+-- (with this text of each fragment)
+pub record SplicedSoFar (mode : Bool) (write : Fragment → List ℕ) (query rest : List ℕ) (fragments : List Fragment) (i : ℕ) (text : List ℕ) : Type 0 where
   pub all : List Token
   pub tokens : IsTokens mode query all
   pub left : List Token
   pub rest_tokens : IsTokens mode rest left
   pub places_left : i + place_count left ≡ length fragments
   pub room : length fragments ≡ place_count all
-  pub text_is : text ++ bound left (drop i (map fragment_text fragments)) ≡ bound all (map fragment_text fragments)
+  pub text_is : text ++ bound left (drop i (map write fragments)) ≡ bound all (map write fragments)
 
-pub spliced_none : (mode : Bool) (query : List ℕ) (fragments : List Fragment) (text : List ℕ) →
+pub spliced_none : (mode : Bool) (write : Fragment → List ℕ) (query : List ℕ) (fragments : List Fragment) (text : List ℕ) →
     OnTokens mode query (λ ts. length fragments ≡ place_count ts) → text ≡ [] →
-    SplicedSoFar mode query query fragments 0 text
-spliced_none mode query fragments text o nil = record {
+    SplicedSoFar mode write query query fragments 0 text
+spliced_none mode write query fragments text o nil = record {
   all = o.0;
   tokens = o.1;
   left = o.0;
   rest_tokens = o.1;
   places_left = omega (arith, o.2);
   room = o.2;
-  text_is = ap (λ x. x ++ bound o.0 (map fragment_text fragments)) nil;
+  text_is = ap (λ x. x ++ bound o.0 (map write fragments)) nil;
 }
 
 -- (these two stand in mysql_binding's WrittenTextLemmas too, which doesn't lend them)
@@ -161,7 +183,7 @@ place_count-place (Name name) k back e = refl
 place_count-place Mark k back e = refl
 place_count-place t k back e = cc
 
-module _ (mode : Bool) (query rest : List ℕ) (fragments : List Fragment) (i : ℕ) (text : List ℕ) (s : SplicedSoFar mode query rest fragments i text) where
+module _ (mode : Bool) (write : Fragment → List ℕ) (query rest : List ℕ) (fragments : List Fragment) (i : ℕ) (text : List ℕ) (s : SplicedSoFar mode write query rest fragments i text) where
   -- as long as fragments are left, a place is found
   pub place_left : i < length fragments → OnTokens mode rest (λ us. place_count us ≡ 0) → ⊥
   place_left below o =
@@ -172,14 +194,14 @@ module _ (mode : Bool) (query rest : List ℕ) (fragments : List Fragment) (i : 
       i < length fragments → fragment ≡ get_or fragments i fragment →
       OnTokens mode rest (λ us. IsFirstPlace us found) → run ≡ take found.before rest →
       after ≡ drop (found.before + found.len) rest → text1 ≡ text ++ run →
-      text2 ≡ text1 ++ fragment_text fragment → SplicedSoFar mode query after fragments (i + 1) text2
+      text2 ≡ text1 ++ write fragment → SplicedSoFar mode write query after fragments (i + 1) text2
   spliced_more run after text1 text2 fragment found below fragment_is o run_is after_is more more' =
       let p = parted mode rest s.left found s.rest_tokens o in
       let after_rest : drop (found.before + found.len) rest ≡ after = sym after_is in
-      let texts : List (List ℕ) = map fragment_text fragments in
-      let below_texts : i < length texts = omega (arith, below, length-map fragments fragment_text) in
-      let cut : drop i texts ≡ fragment_text fragment ∷ drop (i + 1) texts =
-      rw add-one (drop-cons texts i (fragment_text fragment) below_texts) ∙ ap (λ x. x ∷ drop (i + 1) texts) (get_or-map fragment_text fragments i fragment (fragment_text fragment) below ∙ ap fragment_text (sym fragment_is)) in
+      let texts : List (List ℕ) = map write fragments in
+      let below_texts : i < length texts = omega (arith, below, length-map fragments write) in
+      let cut : drop i texts ≡ write fragment ∷ drop (i + 1) texts =
+      rw add-one (drop-cons texts i (write fragment) below_texts) ∙ ap (λ x. x ∷ drop (i + 1) texts) (get_or-map write fragments i fragment (write fragment) below ∙ ap write (sym fragment_is)) in
       let run_text : text_of p.front ≡ run = p.front_text ∙ sym run_is in
       let places : place_count s.left ≡ place_count p.back + 1 = ap place_count p.tokens_are ∙ (place_count-append p.front (p.place ∷ p.back) ∙ omega (arith, p.no_place, place_count-place p.place found.kind p.back p.kind_is)) in
       record {
@@ -190,49 +212,68 @@ module _ (mode : Bool) (query rest : List ℕ) (fragments : List Fragment) (i : 
         places_left = omega (arith, s.places_left, places);
         room = s.room;
         text_is =
-            ap (λ x. x ++ bound p.back (drop (i + 1) texts)) (more' ∙ ap (λ x. x ++ fragment_text fragment) more)
-            ∙ (append_assoc (text ++ run) (fragment_text fragment) (bound p.back (drop (i + 1) texts))
-            ∙ (append_assoc text run (fragment_text fragment ++ bound p.back (drop (i + 1) texts))
-            ∙ (ap (λ x. text ++ (x ++ (fragment_text fragment ++ bound p.back (drop (i + 1) texts)))) (sym run_text)
-            ∙ (ap (λ x. text ++ x) (sym (ap (λ x. bound s.left x) cut ∙ (ap (λ x. bound x (fragment_text fragment ∷ drop (i + 1) texts)) p.tokens_are ∙ bound-place p.front p.place found.kind p.back (fragment_text fragment) (drop (i + 1) texts) p.no_place p.kind_is)))
+            ap (λ x. x ++ bound p.back (drop (i + 1) texts)) (more' ∙ ap (λ x. x ++ write fragment) more)
+            ∙ (append_assoc (text ++ run) (write fragment) (bound p.back (drop (i + 1) texts))
+            ∙ (append_assoc text run (write fragment ++ bound p.back (drop (i + 1) texts))
+            ∙ (ap (λ x. text ++ (x ++ (write fragment ++ bound p.back (drop (i + 1) texts)))) (sym run_text)
+            ∙ (ap (λ x. text ++ x) (sym (ap (λ x. bound s.left x) cut ∙ (ap (λ x. bound x (write fragment ∷ drop (i + 1) texts)) p.tokens_are ∙ bound-place p.front p.place found.kind p.back (write fragment) (drop (i + 1) texts) p.no_place p.kind_is)))
             ∙ s.text_is))));
       }
 
   pub spliced_all : length fragments ≤ i → (text' : List ℕ) → text' ≡ text ++ rest →
-      OnTokens mode query (λ ts. joined_text (pieces ts) (map fragment_text fragments) ≡ Some text')
+      OnTokens mode query (λ ts. joined_text (pieces ts) (map write fragments) ≡ Some text')
   spliced_all done text' more =
       let none : place_count s.left ≡ 0 = omega (arith, s.places_left, done) in
-      let no_texts : drop i (map fragment_text fragments) ≡ [] = drop_all i (map fragment_text fragments) (omega (arith, done, length-map fragments fragment_text)) in
-      let rest_is : rest ≡ bound s.left (drop i (map fragment_text fragments)) = sym s.rest_tokens.text ∙ (sym (bound_none s.left none) ∙ ap (bound s.left) (sym no_texts)) in
-      let text_is : text' ≡ bound s.all (map fragment_text fragments) = more ∙ (ap (λ x. text ++ x) rest_is ∙ s.text_is) in
-      (s.all, s.tokens, joined_text-pieces_from [] s.all (map fragment_text fragments) (length-map fragments fragment_text ∙ s.room) ∙ ap Some (sym text_is))
+      let no_texts : drop i (map write fragments) ≡ [] = drop_all i (map write fragments) (omega (arith, done, length-map fragments write)) in
+      let rest_is : rest ≡ bound s.left (drop i (map write fragments)) = sym s.rest_tokens.text ∙ (sym (bound_none s.left none) ∙ ap (bound s.left) (sym no_texts)) in
+      let text_is : text' ≡ bound s.all (map write fragments) = more ∙ (ap (λ x. text ++ x) rest_is ∙ s.text_is) in
+      (s.all, s.tokens, joined_text-pieces_from [] s.all (map write fragments) (length-map fragments write ∙ s.room) ∙ ap Some (sym text_is))
 
 -- ---- the text that is bound to it
 
+-- what is known of the fragments of an expanded query
+module _ (as_literals mode : Bool) (ts : List Token) (given : GivenFragments) (text : List ℕ) (x : IsExpanded as_literals mode ts given text) where
+  no_later_of : later_cause as_literals ts x.fragments ≡ None
+  no_later_of =
+      let p = bound_lemmas.or_none (mixed_cause ts) (cause_of_places as_literals ts (fragments_for given (names ts))) x.no_cause in
+      ap (cause_of_places as_literals ts) (sym x.given_to_places) ∙ p.1
+
+  -- its places stand alone
+  pub expanded_alone : first_not_alone ts ≡ None
+  expanded_alone = (no_later_parts as_literals ts x.fragments no_later_of).1
+
+  pub expanded_parts : (length x.fragments ≡ place_count ts) × (literal_float as_literals x.fragments ≡ None)
+      × (first_fault_from 0 x.fragments ≡ None)
+  expanded_parts =
+      let parts = no_later_parts as_literals ts x.fragments no_later_of in
+      (sym (length-map x.fragments fragment_text) ∙ joined_text_count [] ts (map fragment_text x.fragments) text x.text_is, parts.2, parts.3)
+
+  many_of : length x.lists ≡ place_count ts
+  many_of = as_many mode text ts (map mark_number x.fragments) (map fragment_text x.fragments) x.lists expanded_alone x.shapes x.tokens_of_fragments x.text_is
+
+  pub expanded_nameless : names (with_literal_tokens ts x.lists) ≡ []
+  expanded_nameless = fragments_nameless mode ts (map mark_number x.fragments) (map fragment_text x.fragments) x.lists x.shapes x.tokens_of_fragments many_of
+
+  pub expanded_marks : marks (with_literal_tokens ts x.lists) ≡ length (all_values x.fragments)
+  expanded_marks =
+      fragments_marks mode ts (map mark_number x.fragments) (map fragment_text x.fragments) x.lists x.shapes x.tokens_of_fragments many_of ∙ mark_sum x.fragments
+
+  marks_alone : (query : List ℕ) → IsTokens mode query ts → first_not_alone (with_literal_tokens ts x.lists) ≡ None
+  marks_alone query is =
+      fragments_stand_alone mode query ts (map mark_number x.fragments) (map fragment_text x.fragments) x.lists is x.shapes x.tokens_of_fragments many_of expanded_alone
+
 -- there is no cause to refuse the values of an expanded query
-no_cause_expanded : (mode : Bool) (ts : List Token) (given : GivenFragments) (query text : List ℕ) → IsTokens mode query ts →
+pub no_cause_expanded : (mode : Bool) (ts : List Token) (given : GivenFragments) (query text : List ℕ) → IsTokens mode query ts →
     (x : IsExpanded true mode ts given text) →
     bound_cause.first_cause (with_literal_tokens ts x.lists) (positional (all_values x.fragments)) ≡ None
 no_cause_expanded mode ts given query text is x =
     let us : List Token = with_literal_tokens ts x.lists in
     let values : List Value = all_values x.fragments in
-    let counts : List ℕ = map mark_number x.fragments in
-    let texts : List (List ℕ) = map fragment_text x.fragments in
-    let parts = no_later_parts true ts x.fragments (later_none ts given x.fragments x.no_cause x.given_to_places) in
-    let many = as_many mode text ts counts texts x.lists parts.1 x.shapes x.tokens_of_fragments x.text_is in
-    let none : names us ≡ [] = fragments_nameless mode ts counts texts x.lists x.shapes x.tokens_of_fragments many in
-    let same : marks us ≡ length values = fragments_marks mode ts counts texts x.lists x.shapes x.tokens_of_fragments many ∙ mark_sum x.fragments in
-    let alone : first_not_alone us ≡ None = fragments_stand_alone mode query ts counts texts x.lists is x.shapes x.tokens_of_fragments many parts.1 in
+    let none : names us ≡ [] = expanded_nameless true mode ts given text x in
     bound_lemmas.first_by us (positional values) values None
     (bound_lemmas.mixed_none us (λ both. absurd (omega (arith, both.0, ap length none)))) (ap (lookup (positional values)) none)
-    (no_later us values none same alone (no_first_float x.fragments parts.2))
+    (no_later us values none (expanded_marks true mode ts given text x) (marks_alone true mode ts given text x query is) (no_first_float x.fragments (expanded_parts true mode ts given text x).1))
   where
-    later_none : (ts : List Token) (given : GivenFragments) (fragments : List Fragment) → first_cause true ts given ≡ None →
-        fragments_for given (names ts) ≡ Ok fragments → later_cause true ts fragments ≡ None
-    later_none ts given fragments none looked =
-        let p = bound_lemmas.or_none (mixed_cause ts) (cause_of_places true ts (fragments_for given (names ts))) none in
-        ap (cause_of_places true ts) (sym looked) ∙ p.1
-
     no_later : (us : List Token) (values : List Value) → names us ≡ [] → marks us ≡ length values → first_not_alone us ≡ None →
         bound_cause.first_float values ≡ None → bound_cause.later_cause us values ≡ None
     no_later us values none same alone floats =
@@ -242,44 +283,3 @@ no_cause_expanded mode ts given query text is x =
       where
         counts_same : (k v : ℕ) → k ≡ v → mark_count_differs 0 k v ≡ false
         counts_same k v e = rw (eq-eqb k v e) refl
-
--- the places of a query that is expanded stand alone
-pub expanded_alone : (as_literals mode : Bool) (ts : List Token) (given : GivenFragments) (text : List ℕ) →
-    IsExpanded as_literals mode ts given text → first_not_alone ts ≡ None
-expanded_alone as_literals mode ts given text x =
-    let p = bound_lemmas.or_none (mixed_cause ts) (cause_of_places as_literals ts (fragments_for given (names ts))) x.no_cause in
-    (no_later_parts as_literals ts x.fragments (ap (cause_of_places as_literals ts) (sym x.given_to_places) ∙ p.1)).1
-
-module _ (mode : Bool) (query : List ℕ) (given : GivenFragments) (expanded : List ℕ) (values : List Value)
-    (x : OnTokens mode query (λ ts. IsExpandedQuery true mode ts given expanded values)) where
-  pub bound_fragments_on : (expanded' : List ℕ) (text : List ℕ) → expanded' ≡ expanded →
-      OnTokens mode expanded' (λ us. IsBoundText mode us (positional values) text) →
-      OnTokens mode query (λ ts. IsBoundFragments mode ts given text)
-  bound_fragments_on expanded' text e b =
-      let y = x.2.expanded in
-      let is : IsTokens mode expanded b.0 = subst (λ z. IsTokens mode z b.0) e b.1 in
-      let same : b.0 ≡ with_literal_tokens x.0 y.lists = one_token_list mode expanded b.0 (with_literal_tokens x.0 y.lists) is y.isolated in (
-        x.0,
-        x.1,
-        record {
-          query = expanded;
-          expanded = y;
-          bound = subst (λ z. IsBoundText mode (with_literal_tokens x.0 y.lists) (positional z) text) x.2.values_are (subst (λ us. IsBoundText mode us (positional values) text) same b.2);
-        },
-      )
-
-  -- only memory is refused
-  pub memory_alone : (expanded' : List ℕ) (error : BindError) → expanded' ≡ expanded →
-      OnTokens mode expanded' (λ us. bind.IsCauseOrMemory (bound_cause.first_cause us (positional values)) error) →
-      error ≡ bind_error.Memory alloc_error
-  memory_alone expanded' error e b =
-      let y = x.2.expanded in
-      let is : IsTokens mode expanded b.0 = subst (λ z. IsTokens mode z b.0) e b.1 in
-      let same : b.0 ≡ with_literal_tokens x.0 y.lists = one_token_list mode expanded b.0 (with_literal_tokens x.0 y.lists) is y.isolated in
-      let none : bound_cause.first_cause b.0 (positional values) ≡ None =
-      ap (λ us. bound_cause.first_cause us (positional values)) same
-      ∙ (ap (λ vs. bound_cause.first_cause (with_literal_tokens x.0 y.lists) (positional vs)) x.2.values_are ∙ no_cause_expanded mode x.0 given query expanded x.1 y) in
-      elim b.2 [
-        | inl m ↦ m
-        | inr w ↦ let bad : None ≡ Some w.0 = sym none ∙ w.1 in cc
-      ]

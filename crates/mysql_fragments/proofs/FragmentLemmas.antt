@@ -77,7 +77,7 @@ no_marks list none = omega (arith, none, place_count-sum list)
 
 -- ---- a mark
 
-mark_list : (mode : Bool) → IsFragmentList mode 1 (question_mark ∷ []) (Mark ∷ [])
+pub mark_list : (mode : Bool) → IsFragmentList mode 1 (question_mark ∷ []) (Mark ∷ [])
 mark_list mode = record {
   list_text = refl;
   list_tokens = λ rest. (tt, tt);
@@ -467,10 +467,10 @@ keyword_list mode (b ∷ bytes) h =
 
 -- ---- one after another, and in brackets
 
-abbrev comma_then : List Token → List Token
+abbrev pub comma_then : List Token → List Token
 comma_then list = Plain (byte ",") ∷ Plain (byte " ") ∷ list
 
-list_list : (mode : Bool) (n k : ℕ) (a b : List ℕ) (us vs : List Token) → IsFragmentList mode n a us →
+pub list_list : (mode : Bool) (n k : ℕ) (a b : List ℕ) (us vs : List Token) → IsFragmentList mode n a us →
     IsFragmentList mode k b vs → IsFragmentList mode (n + k) (a ++ (byte "," ∷ byte " " ∷ b)) (us ++ comma_then vs)
 list_list mode n k a b us vs x y = record {
   list_text = text_of-append us (comma_then vs) ∙ (ap (λ z. z ++ text_of (comma_then vs)) x.list_text ∙ ap (λ z. a ++ (byte "," ∷ byte " " ∷ z)) y.list_text);
@@ -486,10 +486,10 @@ list_list mode n k a b us vs x y = record {
   list_marks = omega (arith, marks-append us (comma_then vs), x.list_marks, y.list_marks);
 }
 
-abbrev in_brackets : List Token → List Token
+abbrev pub in_brackets : List Token → List Token
 in_brackets list = Plain (byte "(") ∷ (list ++ Plain (byte ")") ∷ [])
 
-row_list : (mode : Bool) (n : ℕ) (a : List ℕ) (us : List Token) → IsFragmentList mode n a us →
+pub row_list : (mode : Bool) (n : ℕ) (a : List ℕ) (us : List Token) → IsFragmentList mode n a us →
     IsFragmentList mode n (byte "(" ∷ (a ++ byte ")" ∷ [])) (in_brackets us)
 row_list mode n a us x = record {
   list_text = ap (λ u. byte "(" ∷ u) (text_of-append us (Plain (byte ")") ∷ []) ∙ ap (λ u. u ++ byte ")" ∷ []) x.list_text);

@@ -6,5 +6,6 @@ pub mod ReadFragmentLemmas
 pub mod PlaceLemmas
 pub mod CauseLemmas
 pub mod ExpandedLemmas
+pub mod FilledLemmas
 pub mod ValueFragmentLemmas
 pub mod InPlaceLemmas

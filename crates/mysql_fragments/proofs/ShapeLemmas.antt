@@ -102,7 +102,7 @@ pub if_fault : (b : Bool) (x : FragmentFault) → (if b then None else Some x) �
 if_fault true x e = refl
 if_fault false x e = cc
 
-number_shape : (mode : Bool) (row index : ℕ) (text : List ℕ) → number_fault row index text ≡ None → IsFragment mode 0 text
+pub number_shape : (mode : Bool) (row index : ℕ) (text : List ℕ) → number_fault row index text ≡ None → IsFragment mode 0 text
 number_shape mode row index text h =
     decimal_is mode text (and_parts (is_decimal text) (nat_le (digit_count text) 65) (if_fault (is_decimal text && nat_le (digit_count text) 65) _ h)).0
 
@@ -137,7 +137,7 @@ items_shape : (mode : Bool) (row : ℕ) (x : Item) (items : List Item) → items
     IsFragment mode (length (flat_map item_values (x ∷ items))) (items_text (x ∷ items))
 items_shape mode row x items h = joined_shape mode item_text item_values x items (item_shapes mode row 0 (x ∷ items) h)
 
-if_row : (b : Bool) (x : Option FragmentFault) (y : FragmentFault) → (if b then x else Some y) ≡ None → x ≡ None
+pub if_row : (b : Bool) (x : Option FragmentFault) (y : FragmentFault) → (if b then x else Some y) ≡ None → x ≡ None
 if_row true x y e = e
 if_row false x y e = cc
 

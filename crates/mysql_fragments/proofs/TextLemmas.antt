@@ -1,5 +1,7 @@
 -- Texts of fragments that are written as far as an index.
 use Rattle.std.proofs.Common.{◌≡◌, ◌+◌, ◌++◌, ◌<◌, ◌==◌, ℕ, Bool, true, false, List, [], ◌∷◌, length, map, take, get_or, if◌then◌else◌, arith, refl, sym, ap, ◌∙◌, append_assoc, append-nil, eq-eqb, ne_eqb, ◌≢◌}
+use Rattle.std.specs.Prelude.{codes}
+use Rattle.std.specs.Str.{byte}
 use Rattle.std.specs.List.{flat_map}
 use Rattle.std.proofs.lemmas.List.{take_more, length-take-le, length-map, map-append}
 use Rattle.mysql_named_params.specs.Bytes.{backquote}
@@ -55,6 +57,13 @@ pub flat_step_referents : {X Y : Type 0} (f : X → List Y) (rs : List (Bor X)) 
     text1 ≡ old ++ flat_map f (take (i + 1) (referents rs))
 flat_step_referents f rs i r old text text1 below is e e1 =
     flat_step f (referents rs) i r.now old text text1 (omega (arith, length-map rs (λ x. x.now), below)) (referent_is rs i r below is) e e1
+
+-- a row, in brackets
+pub row_written : (before marks text1 text2 text3 : List ℕ) → text1 ≡ before ++ byte "(" ∷ [] → text2 ≡ text1 ++ marks →
+    text3 ≡ text2 ++ byte ")" ∷ [] → text3 ≡ before ++ (codes "(" ++ (marks ++ codes ")"))
+row_written before marks text1 text2 text3 e1 e2 e3 =
+    e3 ∙ (ap (λ u. u ++ byte ")" ∷ []) (e2 ∙ ap (λ u. u ++ marks) e1)
+    ∙ (append_assoc (before ++ byte "(" ∷ []) marks (byte ")" ∷ []) ∙ append_assoc before (byte "(" ∷ []) (marks ++ byte ")" ∷ [])))
 
 -- ---- backquotes
 

@@ -7,3 +7,4 @@ pub mod Expanded
 pub mod ReadFragment
 pub mod ValueFragments
 pub mod FragmentsInPlace
+pub mod FilledText

@@ -1,5 +1,5 @@
 //! Queries with fragments in their places.
-ghost use Rattle.std.specs.Prelude.{◌≡◌, false, true, List, None, Some, IfErr, IfOk, IsErrOf, alloc_error, length, map, option_map};
+ghost use Rattle.std.specs.Prelude.{◌≡◌, false, true, List, None, Some, IfErr, IfOk, IsErrOf, length, map, option_map};
 ghost use Rattle.mysql_sql_text.specs.StringUnits.{with_backslashes};
 ghost use Rattle.mysql_named_params.specs.Tokens.{OnTokens, Token};
 ghost use Rattle.mysql_named_params.specs.Places.{HasName, HasMark, place_count};
@@ -8,17 +8,18 @@ ghost use Rattle.mysql_binding.specs.FirstCause.{mark_count_differs};
 ghost use Rattle.mysql_binding.specs.Pieces.{pieces, joined_text};
 ghost use Rattle.mysql_binding.specs.Survey.{IsSurvey};
 ghost use Rattle.mysql_fragments.specs.Expanded.{IsBoundFragments, IsExpandedQuery};
+ghost use Rattle.mysql_fragments.specs.FilledText.{ArePlaced};
 ghost use Rattle.mysql_fragments.specs.FragmentErrors.{IsCauseOrMemory, cause_of, first_cause, first_fault_from, first_float_from, later_cause, literal_float};
 ghost use Rattle.mysql_fragments.specs.FragmentText.{all_values, fragment_text};
 ghost use Rattle.mysql_fragments.specs.GivenFragments.{given_fragments};
 
+use crate::filled::filled_query;
 use crate::fragment::{Fragment, Fragments};
 use crate::fragments_error::{FragmentFault, FragmentsError};
 use crate::places::fragments_of_places;
 use crate::written::{has_float, push_fragment, push_values};
-use mysql_binding::{BindError, Survey, bind_text_in, place_survey};
+use mysql_binding::{PlainForm, Survey, place_survey};
 use mysql_named_params::places::first_place;
-use mysql_params_core::params::Params;
 use mysql_values::value::Value;
 use std::alloc::{AllocError, Global};
 
@@ -38,10 +39,10 @@ pub struct ExpandedQuery {
 ///
 /// The first of these causes refuses it: names and marks in one query; a name without a fragment,
 /// or fragments of the other kind; without names, marks that are not as many as the fragments; a
-/// place that doesn't stand alone, as [`bind_text_in`] tests it; a fragment that can't be written
-/// ([`Fragment::fault`]). Floats are given as values.
+/// place that doesn't stand alone, as [`bind_text_in`](mysql_binding::bind_text_in) tests it; a
+/// fragment that can't be written ([`Fragment::fault`]). Floats are given as values.
 ///
-/// The flag is the server's mode, as that of [`bind_text_in`].
+/// The flag is the server's mode, as that of [`bind_text_in`](mysql_binding::bind_text_in).
 ///
 /// `Memory` may come in place of any other result, except for a query with names and marks.
 // A query has one token list in each mode (`mysql_named_params::laws::one_token_list`), so the
@@ -86,8 +87,9 @@ pub fn expanded_query(
 }
 
 /// The query with a fragment in the place of each name and mark, its values as literals:
-/// `a IN (?)` with a list of three values is `a IN (1, 'b', NULL)`. It is what [`bind_text_in`]
-/// gives for the query of [`expanded_query_in`] and its values. Nothing else of the query changes.
+/// `a IN (?)` with a list of three values is `a IN (1, 'b', NULL)`. It is what
+/// [`bind_text_in`](mysql_binding::bind_text_in) gives for the query of [`expanded_query_in`] and
+/// its values. Nothing else of the query changes.
 ///
 /// The causes of [`expanded_query_in`] refuse it, and directly after a place that doesn't stand
 /// alone a float, which has no literal.
@@ -111,19 +113,16 @@ pub fn bind_fragments_in(
     ensures mixed { OnTokens no_backslash_escape query.now (λ ts.
         HasName ts × HasMark ts → IsErrOf result FragmentsError.Mixed) }
 {
-    let expanded = match expanded(alloc, query, fragments, no_backslash_escape, true) {
-        Ok(expanded) => expanded,
+    let list = match placed_fragments(alloc, query, fragments, no_backslash_escape, true) {
+        Ok(list) => list,
         Err(error) => return Err(error),
     };
-    let params = Params::Positional(expanded.values);
-    match bind_text_in(
-        alloc,
-        expanded.query.as_slice(),
-        params,
+    let form = PlainForm {
         no_backslash_escape,
-    ) {
+    };
+    match filled_query(alloc, query, list.as_slice(), no_backslash_escape, &form) {
         Ok(text) => Ok(text),
-        Err(error) => Err(memory_error(error)),
+        Err(error) => Err(FragmentsError::Memory(error)),
     }
 }
 
@@ -165,19 +164,8 @@ pub fn expanded_for_literals(
     expanded(alloc, query, fragments, no_backslash_escape, true)
 }
 
-// The error for out of memory in binding.
-fn memory_error(error: BindError) -> FragmentsError
-    requires { error ≡ BindError.Memory alloc_error }
-    ensures { result ≡ FragmentsError.Memory alloc_error }
-{
-    match error {
-        BindError::Memory(error) => FragmentsError::Memory(error),
-        _ => unreachable!(),
-    }
-}
-
-// The body of `expanded_query_in`, and of `bind_fragments_in` if the values are to be written as
-// literals, which floats don't have.
+// The body of `expanded_query_in`, and of `expanded_for_literals` if the values are to be written
+// as literals, which floats don't have.
 fn expanded(
     alloc: Global,
     query: &[u8],
@@ -193,8 +181,35 @@ fn expanded(
     ensures mixed { OnTokens no_backslash_escape query.now (λ ts.
         HasName ts × HasMark ts → IsErrOf result FragmentsError.Mixed) }
 {
+    let list = match placed_fragments(alloc, query, fragments, no_backslash_escape, as_literals) {
+        Ok(list) => list,
+        Err(error) => return Err(error),
+    };
+    match written(alloc, query, list.as_slice(), no_backslash_escape) {
+        Ok(expanded) => Ok(expanded),
+        Err(error) => Err(FragmentsError::Memory(error)),
+    }
+}
+
+/// References to the fragments for the places of a query, if none of the causes refuses them for
+/// which [`expanded_query_in`] does, and [`bind_fragments_in`] if the values are to be written as
+/// literals. Lent to the crate above.
+pub fn placed_fragments<'f>(
+    alloc: Global,
+    query: &[u8],
+    fragments: &'f Fragments,
+    no_backslash_escape: bool,
+    as_literals: bool,
+) -> Result<Vec<&'f Fragment>, FragmentsError>
+    ensures placed { OnTokens no_backslash_escape query.now (λ ts. IfOk result (λ list.
+        ArePlaced as_literals ts (given_fragments fragments.now) (referents list.items))) }
+    ensures refused { OnTokens no_backslash_escape query.now (λ ts. IfErr result
+        (IsCauseOrMemory (first_cause as_literals ts (given_fragments fragments.now)))) }
+    ensures mixed { OnTokens no_backslash_escape query.now (λ ts.
+        HasName ts × HasMark ts → IsErrOf result FragmentsError.Mixed) }
+{
     let (survey, _) = place_survey(query, &mut [], no_backslash_escape);
-    expanded_surveyed(
+    placed_surveyed(
         alloc,
         query,
         survey,
@@ -205,18 +220,17 @@ fn expanded(
 }
 
 // The same for a query with this survey.
-fn expanded_surveyed(
+fn placed_surveyed<'f>(
     alloc: Global,
     query: &[u8],
     survey: Survey,
-    fragments: &Fragments,
+    fragments: &'f Fragments,
     no_backslash_escape: bool,
     as_literals: bool,
-) -> Result<ExpandedQuery, FragmentsError>
+) -> Result<Vec<&'f Fragment>, FragmentsError>
     requires { OnTokens no_backslash_escape query.now (IsSurvey survey) }
-    ensures expanded { OnTokens no_backslash_escape query.now (λ ts. IfOk result (λ expanded.
-        IsExpandedQuery as_literals no_backslash_escape ts (given_fragments fragments.now)
-        expanded.query.items expanded.values.items)) }
+    ensures placed { OnTokens no_backslash_escape query.now (λ ts. IfOk result (λ list.
+        ArePlaced as_literals ts (given_fragments fragments.now) (referents list.items))) }
     ensures refused { OnTokens no_backslash_escape query.now (λ ts. IfErr result
         (IsCauseOrMemory (first_cause as_literals ts (given_fragments fragments.now)))) }
     ensures mixed { OnTokens no_backslash_escape query.now (λ ts.
@@ -230,12 +244,9 @@ fn expanded_surveyed(
         Ok(list) => list,
         Err(error) => return Err(error),
     };
-    if let Some(error) = later_error(survey, list.as_slice(), as_literals) {
-        return Err(error);
-    }
-    match written(alloc, query, list.as_slice(), no_backslash_escape) {
-        Ok(expanded) => Ok(expanded),
-        Err(error) => Err(FragmentsError::Memory(error)),
+    match later_error(survey, list.as_slice(), as_literals) {
+        Some(error) => Err(error),
+        None => Ok(list),
     }
 }
 

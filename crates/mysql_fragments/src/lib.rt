@@ -7,6 +7,7 @@
 
 mod expanded;
 mod faults;
+mod filled;
 mod fragment;
 mod fragments_error;
 pub mod laws;
@@ -15,8 +16,9 @@ mod written;
 
 pub use expanded::{
     ExpandedQuery, bind_fragments, bind_fragments_in, expanded_for_literals, expanded_query,
-    expanded_query_in,
+    expanded_query_in, placed_fragments,
 };
+pub use filled::filled_query;
 pub use fragment::{Fragment, Fragments, Item, Keyword};
 pub use fragments_error::{FragmentFault, FragmentsError};
 pub use places::fragments_of_places;

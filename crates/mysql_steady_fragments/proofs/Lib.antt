@@ -1,1 +1,2 @@
+pub mod SteadyPartLemmas
 pub mod SteadyFragmentLemmas

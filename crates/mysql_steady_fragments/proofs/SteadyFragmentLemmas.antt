@@ -1,12 +1,11 @@
 -- A query with fragments in its places is steady if and only if its pieces and the texts of its fragments
 -- are; and what is promised of the text that is bound to it.
-use Rattle.std.specs.Prelude.{Bool, Result, Ok, Err, IfOk, IfErr, alloc_error, ⊤}
+use Rattle.std.specs.Prelude.{Bool, Result, Ok, Err, IfOk, IfErr, ⊤}
 use Rattle.std.specs.List.{list_all}
 use Rattle.std.specs.Option.{is_some}
 use Rattle.std.proofs.Common.{◌≡◌, ◌+◌, ◌++◌, ℕ, true, false, List, [], ◌∷◌, map, length, Option, Some, None, arith, inl, inr, refl, sym, ap, ◌∙◌, subst, true≢false}
 use Rattle.std.proofs.lemmas.Bool.{and_from, cases_Bool}
 use Rattle.std.proofs.lemmas.List.Folds.{list_all-append}
-use Rattle.mysql_values.specs.declared.value.Value.{Value}
 use Rattle.mysql_named_params.specs.Tokens.{Token, IsTokens, OnTokens, bytes_of, text_of, Name, Mark}
 use Rattle.mysql_named_params.specs.Places.{names, place_count}
 use Rattle.mysql_named_params.specs.Portable.{IsPortable, AreReadAlikeBefore}
@@ -18,28 +17,24 @@ use Rattle.mysql_named_params.proofs.PlaceTextLemmas.{placeless_join_no_number}
 use Rattle.mysql_named_params.proofs.SteadyLemmas.{steady_other, steady_other_on, steady_seen}
 use Rattle.mysql_named_params.proofs.TokenListLemmas.{one_token_list}
 use Rattle.mysql_params_core.specs.Given.{Given, positional}
-use Rattle.mysql_binding.specs.FirstCause as bound_cause
 use Rattle.mysql_binding.specs.Replaced.{with_literal_tokens}
 use Rattle.mysql_binding.specs.StandsAlone.{first_not_alone}
-use Rattle.mysql_binding.specs.Survey.{IsSurvey}
-use Rattle.mysql_binding.specs.declared.binding.survey.Survey.{Survey}
-use Rattle.mysql_binding.specs.declared.bind_error.BindError.TheVariants as bind_error
 use Rattle.mysql_binding.proofs.BoundText.{bound}
-use Rattle.mysql_binding.proofs.CauseLemmas.{no_cause_parts, no_place_out, on_both, on_map, or_none}
+use Rattle.mysql_binding.proofs.CauseLemmas.{no_cause_parts, no_place_out, on_both, on_map}
 use Rattle.mysql_binding.proofs.PieceLemmas.{joined_text_count, joined_text_is}
 use Rattle.mysql_steady_text.specs.SteadyText.{IsSteadyText}
-use Rattle.mysql_steady_text.specs.SteadyTextErrors.{IsBindRefusal}
-use Rattle.mysql_steady_text.specs.declared.steady_text_error.SteadyTextError.{SteadyTextError}
-use Rattle.mysql_steady_text.specs.declared.steady_text_error.SteadyTextError.TheVariants as steady_error
+use Rattle.mysql_steady_literal.specs.SteadyLiteral.{steady_literal_of}
+use Rattle.mysql_steady_text.specs.SteadyLiterals.{IsSteadyFor}
+use Rattle.mysql_steady_text.proofs.SteadyTextLemmas.{is_steady_text}
 use Rattle.mysql_steady_text.proofs.SteadySpliceLemmas.{steady_places, steady_portable, steady_on, steady_read}
 use Rattle.mysql_steady_text.proofs.BothModesTextLemmas.{nothing_said}
-use Rattle.mysql_fragments.specs.Expanded.{IsExpanded, IsExpandedQuery}
-use Rattle.mysql_fragments.specs.FragmentErrors.{first_cause, mixed_cause, cause_of_places, refused_fragments, IsCauseOrMemory, IsPlaceRefusal}
+use Rattle.mysql_fragments.specs.Expanded.{IsExpanded}
+use Rattle.mysql_fragments.specs.FilledText.{ArePlaced, IsFilledQuery}
 use Rattle.mysql_fragments.specs.FragmentText.{all_values, fragment_text, mark_number}
 use Rattle.mysql_fragments.specs.GivenFragments.{GivenFragments, fragments_for}
 use Rattle.mysql_fragments.specs.declared.fragment.Fragment.{Fragment}
-use Rattle.mysql_fragments.specs.declared.fragments_error.FragmentsError.{FragmentsError}
-use Rattle.mysql_fragments.proofs.ExpandedLemmas.{expanded_alone, memory_alone}
+use Rattle.mysql_fragments.proofs.CauseLemmas.{first_by}
+use Rattle.mysql_fragments.proofs.ExpandedLemmas.{expanded_alone}
 use Rattle.mysql_fragments.proofs.SplicedFragmentLemmas.{fragments_on, fragments_portable}
 use Rattle.mysql_steady_fragments.specs.SteadyFragments.{first_unsteady_from, unsteady_place, IsSteadyFragments, IsAnywhereFragments}
 use Rattle.mysql_steady_fragments.specs.SteadyFragmentsErrors.{IsFragmentsRefusal, IsSteadyRefusal}
@@ -164,79 +159,34 @@ is_anywhere_fragments query ts given text is steady p f =
 
 -- ---- as the calls promise it
 
-module _ (query : List ℕ) (given : GivenFragments) (expanded : List ℕ) (values : List Value)
-    (x : OnTokens false query (λ ts. IsExpandedQuery true false ts given expanded values)) (s : IsSteady query) where
-  pub steady_fragments_on : (expanded' text : List ℕ) → expanded' ≡ expanded → IsSteady expanded' →
-      OnTokens false expanded' (λ us. IsSteadyText us (positional values) text) →
+module _ (query : List ℕ) (given : GivenFragments) (fragments : List Fragment) (s : IsSteady query)
+    (p : OnTokens false query (λ ts. ArePlaced true ts given fragments)) where
+  pub steady_fragments_on : (text : List ℕ) → None ≡ first_unsteady_from 0 fragments →
+      OnTokens false query (λ ts. IsFilledQuery steady_literal_of IsSteadyFor false ts given text) →
       (mode : Bool) → OnTokens mode query (λ ts. IsSteadyFragments ts given text)
-  steady_fragments_on expanded' text e steady b mode =
-      let y = x.2.expanded in
-      let is : IsTokens false expanded b.0 = subst (λ z. IsTokens false z b.0) e b.1 in
-      let same : b.0 ≡ with_literal_tokens x.0 y.lists = one_token_list false expanded b.0 (with_literal_tokens x.0 y.lists) is y.isolated in
-      let steady' : IsSteady expanded = subst (λ z. IsSteady z) e steady in
-      let b' : IsSteadyText (with_literal_tokens x.0 y.lists) (positional (all_values y.fragments)) text =
-      subst (λ z. IsSteadyText (with_literal_tokens x.0 y.lists) (positional z) text) x.2.values_are (subst (λ us. IsSteadyText us (positional values) text) same b.2) in
-      (x.0, steady_other false mode query x.0 s x.1, is_steady_fragments x.0 given expanded text y steady' b')
-
-  -- only memory is refused
-  pub steady_memory_alone : (expanded' : List ℕ) (refused : SteadyTextError) → expanded' ≡ expanded →
-      OnTokens false expanded' (λ us. IsBindRefusal (bound_cause.first_cause us (positional values)) refused) →
-      refused ≡ steady_error.Bind (bind_error.Memory alloc_error)
-  steady_memory_alone expanded' (steady_error.Bind e) same o = ap (λ z. steady_error.Bind z) (memory_alone false query given expanded values x expanded' e same o)
-  steady_memory_alone expanded' (steady_error.Unsteady at) same o = absurd o.2
-  steady_memory_alone expanded' (steady_error.Unportable found) same o = absurd o.2
-
-  -- if the expanded query isn't steady, a fragment isn't
-  pub a_fragment_is_unsteady : (expanded' : List ℕ) → expanded' ≡ expanded → (IsSteady expanded' → ⊥) →
-      OnTokens false query (λ ts. (first_cause true ts given ≡ None) × (unsteady_place (fragments_for given (names ts)) ≡ None → ⊥))
-  a_fragment_is_unsteady expanded' e unsteady =
-      let y = x.2.expanded in
-      let texts : List (List ℕ) = map fragment_text y.fragments in (
-        x.0,
-        x.1,
-        (
-          y.no_cause,
-          λ none.
-              let all = texts_steady 0 y.fragments (sym (ap unsteady_place y.given_to_places) ∙ none) in
-              let steady : list_all is_steady (bound x.0 texts) ≡ true = bound_steady x.0 texts (subst (λ z. list_all is_steady z ≡ true) (sym x.1.text) s) all in
-              unsteady (subst (λ z. list_all is_steady z ≡ true) (sym (e ∙ joined_text_is x.0 texts expanded y.text_is)) steady),
-        ),
+  steady_fragments_on text none o mode =
+      let ts : List Token = o.0 in
+      let f = o.2 in
+      let x = f.expanded in
+      let us : List Token = with_literal_tokens ts x.lists in
+      let texts : List (List ℕ) = map fragment_text x.fragments in
+      let looked : fragments_for given (names ts) ≡ Ok fragments = subst (λ us. fragments_for given (names us) ≡ Ok fragments) (one_token_list false query p.0 ts p.1 o.1) p.2.given_to_places in
+      let both : Ok x.fragments ≡ Ok fragments = sym x.given_to_places ∙ looked in
+      let same : x.fragments ≡ fragments = cc in
+      let all = texts_steady 0 x.fragments (ap (first_unsteady_from 0) same ∙ sym none) in
+      let steady : list_all is_steady (bound ts texts) ≡ true = bound_steady ts texts (subst (λ z. list_all is_steady z ≡ true) (sym o.1.text) s) all in
+      let expanded_steady : IsSteady f.query = subst (λ z. list_all is_steady z ≡ true) (sym (joined_text_is ts texts f.query x.text_is)) steady in (
+        ts,
+        steady_other false mode query ts s o.1,
+        is_steady_fragments ts given f.query text x expanded_steady
+            (is_steady_text f.query us (positional (all_values x.fragments)) text (steady_other false true f.query us expanded_steady x.isolated) expanded_steady f.filled),
       )
 
--- the first fragment that isn't steady, of a query that nothing else refuses
-module _ (query : List ℕ) (given : GivenFragments)
-    (r : OnTokens false query (λ ts. (first_cause true ts given ≡ None) × (unsteady_place (fragments_for given (names ts)) ≡ None → ⊥))) where
-  parts : (mixed_cause r.0 ≡ None) × (cause_of_places true r.0 (fragments_for given (names r.0)) ≡ None)
-  parts = or_none (mixed_cause r.0) (cause_of_places true r.0 (fragments_for given (names r.0))) r.2.0
-
-  pub surveyed : (survey : Survey) → OnTokens false query (IsSurvey survey) →
-      OnTokens false query (λ ts. (survey.names ≡ length (names ts)) × (mixed_cause ts ≡ None))
-  surveyed survey s =
-      let is : IsSurvey survey r.0 = subst (IsSurvey survey) (one_token_list false query s.0 r.0 s.1 r.1) s.2 in
-      (r.0, r.1, (is.0, parts.0))
-
-  pub places_refused : (error : FragmentsError) → OnTokens false query (λ ts. IsPlaceRefusal (fragments_for given (names ts)) error) →
-      OnTokens false query (λ ts. IsCauseOrMemory (first_cause true ts given) error)
-  places_refused error p =
-      let q : IsPlaceRefusal (fragments_for given (names r.0)) error = subst (λ ts. IsPlaceRefusal (fragments_for given (names ts)) error) (one_token_list false query p.0 r.0 p.1 r.1) p.2 in (
-        r.0,
-        r.1,
-        elim q [
-          | inl e ↦ inl e
-          | inr e ↦ let none : Some (refused_fragments e.0) ≡ None = ap (cause_of_places true r.0) (sym e.1) ∙ parts.1 in absurd (some_none none)
-        ],
-      )
-
-  module _ (fragments : List Fragment) (f : OnTokens false query (λ ts. fragments_for given (names ts) ≡ Ok fragments)) where
-    looked : fragments_for given (names r.0) ≡ Ok fragments
-    looked = subst (λ ts. fragments_for given (names ts) ≡ Ok fragments) (one_token_list false query f.0 r.0 f.1 r.1) f.2
-
-    pub place_told : (place : ℕ) → Some place ≡ first_unsteady_from 0 fragments →
-        OnTokens false query (λ ts. (first_cause true ts given ≡ None) × (unsteady_place (fragments_for given (names ts)) ≡ Some place))
-    place_told place e = (r.0, r.1, (r.2.0, ap unsteady_place looked ∙ sym e))
-
-    pub some_place : None ≡ first_unsteady_from 0 fragments → ⊥
-    some_place e = r.2.1 (ap unsteady_place looked ∙ sym e)
+  -- the first fragment that isn't steady
+  pub place_told : (place : ℕ) → Some place ≡ first_unsteady_from 0 fragments →
+      OnTokens false query (λ ts. IsFragmentsRefusal ts given (UnsteadyFragment place))
+  place_told place e =
+      (p.0, p.1, (first_by true p.0 given fragments None p.2.unmixed p.2.given_to_places p.2.no_later, ap unsteady_place p.2.given_to_places ∙ sym e))
 
 pub anywhere_fragments : {A E : Type 0} (items : A → List ℕ) (r : Result A E) (query : List ℕ) (given : GivenFragments) → IsSteady query →
     OnTokens false query IsPortable →

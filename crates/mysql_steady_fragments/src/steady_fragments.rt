@@ -1,5 +1,5 @@
 //! Queries with fragments in their places and values in steady literals.
-ghost use Rattle.std.specs.Prelude.{◌≡◌, ℕ, Bool, None, Some, IfErr, IfOk, IsErrOf, alloc_error};
+ghost use Rattle.std.specs.Prelude.{◌≡◌, ℕ, Bool, None, Some, IfErr, IfOk, IsErrOf};
 ghost use Rattle.mysql_named_params.specs.Tokens.{OnTokens};
 ghost use Rattle.mysql_named_params.specs.Places.{HasName, HasMark};
 ghost use Rattle.mysql_named_params.specs.FirstUnportable.{first_unportable};
@@ -10,13 +10,11 @@ ghost use Rattle.mysql_steady_fragments.specs.SteadyFragments.{IsAnywhereFragmen
 ghost use Rattle.mysql_steady_fragments.specs.SteadyFragmentsErrors.{IsFragmentsRefusal, IsSteadyRefusal};
 
 use crate::steady_fragments_error::SteadyFragmentsError;
-use crate::unsteady::unsteady_error;
-use mysql_binding::BindError;
-use mysql_fragments::{Fragments, FragmentsError, expanded_for_literals};
+use crate::unsteady::first_unsteady_place;
+use mysql_fragments::{Fragments, FragmentsError, filled_query, placed_fragments};
 use mysql_named_params::portable::first_unportable;
 use mysql_named_params::steady::first_unsteady;
-use mysql_params_core::params::Params;
-use mysql_steady_text::{SteadyTextError, bind_steady};
+use mysql_steady_text::SteadyForm;
 use std::alloc::Global;
 
 /// The query with a fragment in the place of each name and mark, its values as steady literals: SQL
@@ -108,29 +106,15 @@ fn bind_steady_fragments(
     ensures mixed { (mode : Bool) → OnTokens mode query.now (λ ts. HasName ts × HasMark ts →
         IsErrOf result (SteadyFragmentsError.Fragments FragmentsError.Mixed)) }
 {
-    let expanded = match expanded_for_literals(alloc, query, fragments, false) {
-        Ok(expanded) => expanded,
+    let list = match placed_fragments(alloc, query, fragments, false, true) {
+        Ok(list) => list,
         Err(error) => return Err(SteadyFragmentsError::Fragments(error)),
     };
-    if first_unsteady(expanded.query.as_slice()).is_some() {
-        return Err(unsteady_error(alloc, query, fragments));
+    if let Some(place) = first_unsteady_place(list.as_slice()) {
+        return Err(SteadyFragmentsError::UnsteadyFragment { place });
     }
-    let params = Params::Positional(expanded.values);
-    match bind_steady(alloc, expanded.query.as_slice(), params.borrowed()) {
+    match filled_query(alloc, query, list.as_slice(), false, &SteadyForm) {
         Ok(text) => Ok(text),
-        Err(error) => Err(memory_error(error)),
-    }
-}
-
-// The error for out of memory in binding.
-fn memory_error(error: SteadyTextError) -> SteadyFragmentsError
-    requires { error ≡ SteadyTextError.Bind (BindError.Memory alloc_error) }
-    ensures { result ≡ SteadyFragmentsError.Fragments (FragmentsError.Memory alloc_error) }
-{
-    match error {
-        SteadyTextError::Bind(BindError::Memory(error)) => {
-            SteadyFragmentsError::Fragments(FragmentsError::Memory(error))
-        }
-        _ => unreachable!(),
+        Err(error) => Err(SteadyFragmentsError::Fragments(FragmentsError::Memory(error))),
     }
 }

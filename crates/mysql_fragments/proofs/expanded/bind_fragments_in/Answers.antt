@@ -1,13 +1,11 @@
 use Rattle.mysql_fragments.specs.GivenFragments.{given_fragments}
-use Rattle.mysql_fragments.proofs.ExpandedLemmas.{bound_fragments_on, memory_alone}
+use Rattle.mysql_fragments.proofs.FilledLemmas.{bound_on}
 use Rattle.mysql_fragments.proofs.expanded.bind_fragments_in.Goals as goal
 
-pub returns-in-Ok-bind_text_in-clause-bound : goal.returns-in-Ok-bind_text_in-clause-bound
-returns-in-Ok-bind_text_in-clause-bound c =
-    bound_fragments_on _ _ (given_fragments c.args.fragments.now) c.in-Ok.expanded.query.items c.in-Ok.expanded.values.items c.in-Ok.ensures.expanded
-    _ _ c.as_slice.ensures.value c.in-Ok-bind_text_in.ensures.bound
+pub filled_query-requires : goal.filled_query-requires
+filled_query-requires c = (given_fragments c.args.fragments.now, rw c.as_slice.ensures.value c.in-Ok.ensures.placed)
 
-pub memory_error-requires : goal.memory_error-requires
-memory_error-requires c =
-    memory_alone _ _ (given_fragments c.args.fragments.now) c.in-Ok.expanded.query.items c.in-Ok.expanded.values.items c.in-Ok.ensures.expanded
-    _ _ c.as_slice.ensures.value c.in-Err-bind_text_in.ensures.refused
+pub returns-in-Ok-filled_query-clause-bound : goal.returns-in-Ok-filled_query-clause-bound
+returns-in-Ok-filled_query-clause-bound c =
+    bound_on _ _ (given_fragments c.args.fragments.now) _
+    (c.in-Ok-filled_query.ensures (given_fragments c.args.fragments.now) (rw c.as_slice.ensures.value c.in-Ok.ensures.placed))

@@ -1,16 +1,9 @@
-use Rattle.std.proofs.Common.{◌≡◌, ◌++◌, ◌∷◌, ℕ, List, [], arith, ap, ◌∙◌, append_assoc}
+use Rattle.std.proofs.Common.{◌≡◌, ◌++◌, arith, ap, ◌∙◌}
 use Rattle.std.specs.Prelude.{codes}
-use Rattle.std.specs.Str.{byte}
 use Rattle.mysql_fragments.specs.FragmentText.{items_text, row_text}
-use Rattle.mysql_fragments.proofs.TextLemmas.{joined_step}
+use Rattle.mysql_fragments.proofs.TextLemmas.{joined_step, row_written}
 use Rattle.mysql_fragments.proofs.written.push_rows.Goals as goal
 use Rattle.mysql_fragments.proofs.written.push_rows.Goals.{then-i-gt0+in_ok-extend_from_slice, else-i-gt0}
-
-row_written : (before marks text1 text2 text3 : List ℕ) → text1 ≡ before ++ byte "(" ∷ [] → text2 ≡ text1 ++ marks →
-    text3 ≡ text2 ++ byte ")" ∷ [] → text3 ≡ before ++ (codes "(" ++ (marks ++ codes ")"))
-row_written before marks text1 text2 text3 e1 e2 e3 =
-    e3 ∙ (ap (λ u. u ++ byte ")" ∷ []) (e2 ∙ ap (λ u. u ++ marks) e1)
-    ∙ (append_assoc (before ++ byte "(" ∷ []) marks (byte ")" ∷ []) ∙ append_assoc before (byte "(" ∷ []) (marks ++ byte ")" ∷ [])))
 
 pub loop-i-preserved : goal.loop-i-preserved
 loop-i-preserved c =

@@ -1,9 +1,9 @@
 use Rattle.std.proofs.Common.{arith}
 use Rattle.mysql_params_core.specs.Referents.{referents}
 use Rattle.mysql_fragments.specs.GivenFragments.{given_fragments}
-use Rattle.mysql_fragments.proofs.ExpandedLemmas.{refused_places, refused_later, places_on, expanded_on}
-use Rattle.mysql_fragments.proofs.expanded.expanded_surveyed.Goals.{else-survey-gt0-via-then-survey-gt0+else-survey-gt0-2, else-survey-gt0-via-else-survey-gt0}
-use Rattle.mysql_fragments.proofs.expanded.expanded_surveyed.Goals as goal
+use Rattle.mysql_fragments.proofs.ExpandedLemmas.{refused_places, refused_later, placed_on}
+use Rattle.mysql_fragments.proofs.expanded.placed_surveyed.Goals.{else-survey-gt0-via-then-survey-gt0+else-survey-gt0-2, else-survey-gt0-via-else-survey-gt0}
+use Rattle.mysql_fragments.proofs.expanded.placed_surveyed.Goals as goal
 
 pub returns-in-Some-clause-refused : goal.returns-in-Some-clause-refused
 returns-in-Some-clause-refused c =
@@ -16,23 +16,11 @@ returns-in-Some-clause-mixed c =
     let o = c.requires in
     (o.0, o.1, λ both. elim c.else-survey-gt0.branch [ else-survey-gt0-via-then-survey-gt0+else-survey-gt0-2 w ↦ absurd (omega (arith, both.1, o.2.1, w.if-survey-gt0-2.false)) | else-survey-gt0-via-else-survey-gt0 w ↦ absurd (omega (arith, both.0, o.2.0, w.if-survey-gt0.false)) ])
 
-pub written-requires : goal.written-requires
-written-requires c =
-    rw c.as_slice-2.ensures.value (places_on c.args.as_literals _ _ (given_fragments c.args.fragments.now) c.args.survey c.requires
+pub returns-clause-placed : goal.returns-clause-placed
+returns-clause-placed c =
+    placed_on c.args.as_literals _ _ (given_fragments c.args.fragments.now) c.args.survey c.requires
     (λ both. elim c.else-survey-gt0.branch [ else-survey-gt0-via-then-survey-gt0+else-survey-gt0-2 w ↦ omega (arith, both.1, w.if-survey-gt0-2.false) | else-survey-gt0-via-else-survey-gt0 w ↦ omega (arith, both.0, w.if-survey-gt0.false) ])
-    (referents c.in-Ok.list.items) c.in-Ok.ensures.fragments (rw c.as_slice.ensures.value at c.in_default.ensures))
-
-pub returns-in-Ok-written-clause-expanded : goal.returns-in-Ok-written-clause-expanded
-returns-in-Ok-written-clause-expanded c =
-    expanded_on c.args.as_literals _ _ (given_fragments c.args.fragments.now) c.args.survey c.requires
-    (λ both. elim c.else-survey-gt0.branch [ else-survey-gt0-via-then-survey-gt0+else-survey-gt0-2 w ↦ omega (arith, both.1, w.if-survey-gt0-2.false) | else-survey-gt0-via-else-survey-gt0 w ↦ omega (arith, both.0, w.if-survey-gt0.false) ])
-    (referents c.in-Ok.list.items) c.in-Ok.ensures.fragments (rw c.as_slice.ensures.value at c.in_default.ensures)
-    _ _ (rw c.as_slice-2.ensures.value at c.in-Ok-written.ensures.text) (rw c.as_slice-2.ensures.value at c.in-Ok-written.ensures.values)
-
-pub returns-in-Ok-written-clause-mixed : goal.returns-in-Ok-written-clause-mixed
-returns-in-Ok-written-clause-mixed c =
-    let o = c.requires in
-    (o.0, o.1, λ both. elim c.else-survey-gt0.branch [ else-survey-gt0-via-then-survey-gt0+else-survey-gt0-2 w ↦ absurd (omega (arith, both.1, o.2.1, w.if-survey-gt0-2.false)) | else-survey-gt0-via-else-survey-gt0 w ↦ absurd (omega (arith, both.0, o.2.0, w.if-survey-gt0.false)) ])
+    (referents c.in-Ok.list.items) c.in-Ok.ensures.fragments (rw c.as_slice.ensures.value at c.in-None.ensures)
 
 pub returns-clause-mixed : goal.returns-clause-mixed
 returns-clause-mixed c =
