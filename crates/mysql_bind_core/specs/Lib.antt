@@ -7,3 +7,4 @@ pub mod Entries
 pub mod QueryEnd
 pub mod Bound
 pub mod Refusals
+pub mod FoundPairs

@@ -5,6 +5,7 @@
 //! `specs/Refusals.antt` which refusal comes.
 #![tactic(auto)]
 
+mod appended;
 mod assignment;
 mod binding;
 mod entries;
@@ -16,6 +17,7 @@ mod query_end;
 mod request;
 mod value_type;
 
+pub use appended::append_taken;
 pub use assignment::Assignment;
 pub use binding::{bound_text, check_query, taken_text, write_bound};
 pub use failure::Failure;

@@ -1,10 +1,14 @@
 -- The statements of one row after another.
-use Rattle.std.proofs.Common.{◌≡◌, ◌∙◌, ℕ, ◌+◌, ◌<◌, List, [], ◌∷◌, ◌++◌, length, take, get_or, refl, ap, sym, subst, append_assoc, rules}
+use Rattle.std.specs.declared.alloc.AllocError.{AllocError}
+use Rattle.std.proofs.Common.{◌≡◌, ◌∙◌, ℕ, ◌+◌, ◌<◌, List, [], ◌∷◌, ◌++◌, length, take, get_or, refl, ap, sym, subst, append_assoc, arith, rules}
 use Rattle.std.proofs.lemmas.List.{take_more}
 use Rattle.mysql_bind_core.specs.Bound.{IsWritten}
+use Rattle.mysql_bind_core.specs.Refusals.{of_query}
+use Rattle.mysql_bind_core.specs.declared.failure.Failure.{Failure}
+use Rattle.mysql_bind_core.specs.declared.failure.Failure.TheVariants.{Memory}
 use Rattle.mysql_bind_core.specs.declared.request.Request.{Request}
 use Rattle.mysql_bind_rows.specs.declared.row.Row.{Row}
-use Rattle.mysql_bind_rows.specs.Scripts.{AreStatements, AreWritten, script, statement}
+use Rattle.mysql_bind_rows.specs.Scripts.{AreStatements, AreWritten, IsRefusedRow, script, statement}
 
 pub no_statements : (request : Request) (query : List ℕ) (before : List ℕ) → AreStatements request query [] before before
 no_statements request query before = record { texts = []; written = tt; bytes = sym (right_nil before) }
@@ -55,3 +59,12 @@ all_statements request query rows before after are = record {
   written = subst (λ rs. AreWritten request query rs are.texts) (sym (take-all rows)) are.written;
   bytes = are.bytes;
 }
+
+-- if memory lacks before the first row, no row is written
+pub none_written : (request : Request) (query : List ℕ) (rows : List Row) (number : ℕ) (why : Failure) (error : AllocError)
+    → 0 < length rows → number ≡ 0 → why ≡ Memory error → IsRefusedRow request query rows number why
+none_written request query [] number why error some first is = absurd (omega arith)
+none_written request query (row ∷ rows) number why error some first is =
+    subst (λ n. IsRefusedRow request query (row ∷ rows) n why) (sym first)
+    (subst (λ w. IsRefusedRow request query (row ∷ rows) 0 w) (sym is)
+    (record { row = row; within = some; row_is = refl; refused = of_query tt; texts = []; before = tt }))

@@ -22,6 +22,7 @@ pub mod FilledTextLemmas
 pub mod BoundAgainLemmas
 pub mod BoundTextLemmas
 pub mod MeasuredTextLemmas
+pub mod AppendedTextLemmas
 pub mod SpanLemmas
 pub mod SpanTextLemmas
 pub mod SpanBindLemmas

@@ -13,6 +13,7 @@ pub mod ValueLiterals
 pub mod LiteralForm
 pub mod PushedLiteral
 pub mod WrittenText
+pub mod AppendedText
 pub mod TextInRoom
 pub mod BindErrors
 pub mod MeasuredText

@@ -1,12 +1,13 @@
 //! Queries with the literals of values in the places of names and marks.
-ghost use Rattle.std.specs.Prelude.{◌≡◌, false, List, None, Ok, Some, IfErr, IfOk, IsErrOf, alloc_error, length, option_map};
+ghost use Rattle.std.specs.Prelude.{◌≡◌, false, ℕ, Bool, List, None, Ok, Some, IfErr, IfOk, IsErrOf, alloc_error, length, option_map};
 ghost use Rattle.mysql_sql_text.specs.StringUnits.{with_backslashes};
 ghost use Rattle.mysql_named_params.specs.Tokens.{OnTokens, Token};
 ghost use Rattle.mysql_named_params.specs.Places.{names, HasName, HasMark};
 ghost use Rattle.mysql_params_core.specs.Errors.{lookup_refusal};
-ghost use Rattle.mysql_params_core.specs.Given.{given, given_by_borrowed};
+ghost use Rattle.mysql_params_core.specs.Given.{Given, given, given_by_borrowed};
 ghost use Rattle.mysql_params_core.specs.Lookup.{lookup};
 ghost use Rattle.mysql_params_core.specs.Referents.{referents};
+ghost use Rattle.mysql_binding.specs.AppendedText.{AreFound};
 ghost use Rattle.mysql_binding.specs.BindErrors.{IsCauseOrMemory, cause_of};
 ghost use Rattle.mysql_binding.specs.BoundAgain.{IsSameBoundAgain, IsSameByPosition};
 ghost use Rattle.mysql_binding.specs.FirstCause.{mark_count_differs, first_cause, first_float, later_cause, mixed_cause, refused_params};
@@ -35,7 +36,7 @@ pub use crate::binding::literals::push_literal;
 pub use crate::binding::measured::MeasuredText;
 use crate::binding::measured::with_lengths;
 use crate::binding::names::query_names;
-pub use crate::binding::parsed_query::ParsedQuery;
+pub use crate::binding::parsed_query::{ParsedQuery, append_parsed};
 pub use crate::binding::room::{TextInRoom, bind_borrowed_into};
 pub use crate::binding::spans::{PlaceSpan, bind_spans_into, can_be_spans, place_spans};
 pub use crate::binding::survey::{Survey, place_survey};
@@ -275,6 +276,27 @@ pub fn measured_text<'p, F: LiteralForm>(
         params,
         no_backslash_escape,
     )?;
+    if let Some(error) = later_error(survey, values.as_slice()) {
+        return Err(error);
+    }
+    match with_lengths(alloc, survey.piece_bytes, values, form) {
+        Ok(measured) => Ok(measured),
+        Err(error) => Err(BindError::Memory(error)),
+    }
+}
+
+// The same of values that are looked up, which are given to the places of a query with this survey.
+fn measured_values<'p, F: LiteralForm>(
+    alloc: Global,
+    survey: Survey,
+    values: Vec<&'p Value>,
+    form: &F,
+) -> Result<MeasuredText<'p>, BindError>
+    ensures { IfOk result (λ measured. (mode : Bool) (query : List ℕ) (given : Given) →
+        OnTokens mode query (IsSurvey survey) →
+        OnTokens mode query (AreFound given (referents values.entry.items)) →
+        OnTokens mode query (λ ts. IsMeasured (F.literal form.now) ts given measured)) }
+{
     if let Some(error) = later_error(survey, values.as_slice()) {
         return Err(error);
     }

@@ -1,5 +1,5 @@
 //! Queries that are parsed once and bound many times.
-ghost use Rattle.std.specs.Prelude.{◌≡◌, ◌≢◌, ◌↔◌, None, IfErr, IfOk, IsErrOf, IsTrue, OnErr, alloc_error};
+ghost use Rattle.std.specs.Prelude.{◌≡◌, ◌≢◌, ◌↔◌, None, IfErr, IfOk, IsErrOf, IsTrue, OnErr, OnOk, alloc_error};
 ghost use Rattle.std.specs.Cmp.{partial_equiv_from_equiv};
 ghost use Rattle.mysql_sql_text.specs.StringUnits.{with_backslashes};
 ghost use Rattle.mysql_named_params.specs.NamedParamsErrors.{mixed};
@@ -7,7 +7,8 @@ ghost use Rattle.mysql_named_params.specs.Tokens.{OnTokens};
 ghost use Rattle.mysql_named_params.specs.Places.{HasName, HasMark, marks, names, place_count};
 ghost use Rattle.mysql_named_params.specs.Portable.{IsPortable};
 ghost use Rattle.mysql_named_params.specs.FirstUnportable.{first_unportable};
-ghost use Rattle.mysql_params_core.specs.Given.{given};
+ghost use Rattle.mysql_params_core.specs.Given.{Given, given};
+ghost use Rattle.mysql_binding.specs.AppendedText.{AreFound, IsAppended};
 ghost use Rattle.mysql_binding.specs.BindErrors.{IsCauseOrMemory};
 ghost use Rattle.mysql_binding.specs.BoundAgain.{IsSameBoundAgain, IsSameByPosition};
 ghost use Rattle.mysql_binding.specs.FirstCause.{first_cause};
@@ -17,14 +18,17 @@ ghost use Rattle.mysql_binding.specs.SameQuery.{same_query_is_equivalence};
 ghost use Rattle.mysql_params_core.specs.Referents.{referents};
 
 use crate::bind_error::BindError;
+use crate::binding::form::LiteralForm;
 use crate::binding::found::all_places;
 use crate::binding::names::query_names;
 use crate::binding::survey::{Survey, place_survey};
-use crate::binding::{KEPT_PLACES, NO_PLACE, bind_surveyed};
+use crate::binding::text::append_measured;
+use crate::binding::{KEPT_PLACES, NO_PLACE, bind_surveyed, measured_values};
 use mysql_named_params::named_params::{MixedParamsError, NamedParamsError};
 use mysql_named_params::places::FoundPlace;
 use mysql_named_params::portable::{Unportable, first_unportable};
 use mysql_params_core::params::Params;
+use mysql_values::value::Value;
 use std::alloc::{AllocError, Global};
 use std::borrow::CowSlice;
 use std::marker::Model;
@@ -227,6 +231,37 @@ impl<'q> PartialEq for ParsedQuery<'q> {
 
 impl<'q> Eq for ParsedQuery<'q> {
     ghost laws = { same_query_is_equivalence };
+}
+
+/// Writes the text of a parsed query with these values, which are looked up, to the end of another
+/// text, in any form of literals; if it refuses, the text stays as it is. It is lent to the crates
+/// above: of many texts of one query each needs neither a map of values nor a vector.
+pub fn append_parsed<F: LiteralForm>(
+    alloc: Global,
+    query: &ParsedQuery<'_>,
+    values: Vec<&Value>,
+    form: &F,
+    text: &mut Vec<u8>,
+) -> Result<(), BindError>
+    requires { (given : Given) × OnTokens query.now.mode query.now.query
+        (AreFound given (referents values.items)) }
+    ensures appended { OnOk result (IsAppended (F.literal form.now) (F.IsKnown form.now)
+        query.now.mode query.now.query (referents values.entry.items)
+        text.old.items text.new.items) }
+    ensures kept { OnErr result (text.new.items ≡ text.old.items) }
+{
+    let measured = measured_values(alloc, query.survey, values, form)?;
+    match append_measured(
+        query.query.as_slice(),
+        query.places.as_slice(),
+        &measured,
+        query.no_backslash_escape,
+        form,
+        text,
+    ) {
+        Ok(()) => Ok(()),
+        Err(error) => Err(BindError::Memory(error)),
+    }
 }
 
 // The survey and the places of a query.

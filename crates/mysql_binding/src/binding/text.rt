@@ -1,5 +1,5 @@
 //! The text of a query with the literals of values in its places: a slice of exactly its length.
-ghost use Rattle.std.specs.Prelude.{◌≡◌, ◌+◌, ◌++◌, ◌≤◌, None, IfOk, length, map, take};
+ghost use Rattle.std.specs.Prelude.{◌≡◌, ◌+◌, ◌++◌, ◌≤◌, ℕ, List, None, IfOk, OnOk, OnErr, length, map, take};
 ghost use Rattle.std.specs.List.{sum};
 ghost use Rattle.mysql_named_params.specs.Tokens.{OnTokens};
 ghost use Rattle.mysql_named_params.specs.Places.{place_count};
@@ -80,6 +80,64 @@ pub fn fill_measured<F: LiteralForm>(
         no_backslash_escape,
         form,
     );
+}
+
+/// Writes the text of a query that is measured to the end of another text, which needs no vector of
+/// its own then. The first places of the query may be known.
+pub(super) fn append_measured<F: LiteralForm>(
+    query: &[u8],
+    known: &[FoundPlace],
+    measured: &MeasuredText<'_>,
+    no_backslash_escape: bool,
+    form: &F,
+    text: &mut Vec<u8>,
+) -> Result<(), AllocError>
+    requires known { OnTokens no_backslash_escape query.now (BeginWithPlaces known.now) }
+    requires measured { (given : Given) × OnTokens no_backslash_escape query.now (λ ts.
+        IsMeasured (F.literal form.now) ts given measured.now) }
+    ensures appended { OnOk result ((more : List ℕ) × (text.new.items ≡ text.old.items ++ more)
+        × ((given : Given) → OnTokens no_backslash_escape query.now (λ ts.
+        IsMeasured (F.literal form.now) ts given measured.now) →
+        OnTokens no_backslash_escape query.now (λ ts.
+        IsGivenText (F.literal form.now) (F.IsKnown form.now) ts given more))) }
+    ensures kept { OnErr result (text.new.items ≡ text.old.items) }
+{
+    let at = text.len();
+    let Some(end) = at.checked_add(measured.len) else {
+        return Err(AllocError);
+    };
+    text.resize(end, 0)?;
+    let text = text.as_mut_slice();
+    fill_after(query, known, measured, no_backslash_escape, form, text, at);
+    Ok(())
+}
+
+// Writes the text of a query that is measured into another from this index on, and returns the
+// index after it. What stands before it is kept.
+fn fill_after<F: LiteralForm>(
+    query: &[u8],
+    known: &[FoundPlace],
+    measured: &MeasuredText<'_>,
+    no_backslash_escape: bool,
+    form: &F,
+    text: &mut [u8],
+    at: usize,
+) -> usize
+    requires known { OnTokens no_backslash_escape query.now (BeginWithPlaces known.now) }
+    requires measured { (given : Given) × OnTokens no_backslash_escape query.now (λ ts.
+        IsMeasured (F.literal form.now) ts given measured.now) }
+    requires room { at + measured.now.len ≤ length text.old }
+    ensures next { result ≡ at + measured.now.len }
+    ensures front { (more : List ℕ) × (take result text.new ≡ take at text.old ++ more)
+        × ((given : Given) → OnTokens no_backslash_escape query.now (λ ts.
+        IsMeasured (F.literal form.now) ts given measured.now) →
+        OnTokens no_backslash_escape query.now (λ ts.
+        IsGivenText (F.literal form.now) (F.IsKnown form.now) ts given more)) }
+{
+    let end = at + measured.len;
+    let room = &mut text[at..end];
+    fill_measured(query, known, measured, no_backslash_escape, form, room);
+    end
 }
 
 // Fills the text with the pieces of the query and, between them, the literals of the values, which

@@ -1,33 +1,13 @@
-use Rattle.std.proofs.Common.{rules, ◌≡◌, ◌++◌}
-use Rattle.mysql_bind_core.specs.Refusals.{of_query}
-use Rattle.mysql_bind_rows.proofs.ScriptLemmas.{statement_more}
+use Rattle.std.proofs.Common.{◌<◌, length, rules}
+use Rattle.mysql_bind_rows.proofs.ScriptLemmas.{none_written}
 use Rattle.mysql_bind_rows.proofs.rows.append_rows.Goals as goal
 
-pub returns-in-Err-extend_from_slice-clause-refused :
-    goal.returns-in-Err-extend_from_slice-clause-refused
-returns-in-Err-extend_from_slice-clause-refused c = record {
-  row = c.index-rows-number.result;
-  within = c.loop-number-test.true;
-  row_is = c.index-rows-number.is;
-  refused = of_query tt;
-  texts = c.loop-number.invariant.texts;
-  before = c.loop-number.invariant.written;
-}
-
 pub returns-in-Err-clause-refused : goal.returns-in-Err-clause-refused
-returns-in-Err-clause-refused c = record {
-  row = c.index-rows-number.result;
-  within = c.loop-number-test.true;
-  row_is = c.index-rows-number.is;
-  refused = rw (c.as_slice-assignments.ensures.value, ← c.index-rows-number.is) at c.in-Err.ensures.refused;
-  texts = c.loop-number.invariant.texts;
-  before = c.loop-number.invariant.written;
-}
+returns-in-Err-clause-refused c =
+    let some : 0 < length c.args.rows.now = search rules in
+    none_written c.args.request c.args.query.now c.args.rows.now _ _ _ some c.first_refused.ensures.number c.first_refused.ensures.failure
 
-pub loop-number-preserved : goal.loop-number-preserved
-loop-number-preserved c =
-    let bound = rw (c.as_slice-assignments.ensures.value, ← c.index-rows-number.is) at c.in-Ok.ensures.bound in
-    let after_is : c.extend_from_slice.new.self.items ≡ c.loop-number.script.items ++ c.in-Ok.statement.items = search rules in
-    statement_more c.args.request c.args.query.now c.args.rows.now c.loop-number.number c.index-rows-number.result c.args.script.now.items
-    c.loop-number.script.items c.extend_from_slice.new.self.items c.in-Ok.statement.items bound.0
-    c.loop-number-test.true c.index-rows-number.is c.loop-number.invariant bound.1 bound.2 after_is
+pub returns-in-Err-names-clause-refused : goal.returns-in-Err-names-clause-refused
+returns-in-Err-names-clause-refused c =
+    let some : 0 < length c.args.rows.now = search rules in
+    none_written c.args.request c.args.query.now c.args.rows.now _ _ _ some c.first_refused-in-Err-names.ensures.number c.first_refused-in-Err-names.ensures.failure

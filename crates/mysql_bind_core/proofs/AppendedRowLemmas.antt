@@ -1,0 +1,127 @@
+-- The text of a row at the end of a script, as it is asked for.
+use Rattle.std.specs.Prelude.{Bool, true, false, Result, Ok, Err, IfOk, OnOk, OnErr, IsTrue, IsFalse, None}
+use Rattle.std.proofs.Common.{◌≡◌, ◌++◌, ℕ, List, refl, sym, ap, ◌∙◌, subst, arith}
+use Rattle.mysql_values.specs.declared.value.Value.{Value}
+use Rattle.mysql_values.specs.Literal.{literal_of}
+use Rattle.mysql_named_params.specs.Tokens.{OnTokens}
+use Rattle.mysql_named_params.specs.Steady.{IsSteady}
+use Rattle.mysql_named_params.specs.FirstUnportableInClient.{IsPortableInClient}
+use Rattle.mysql_named_params.proofs.SteadyLemmas.{steady_other}
+use Rattle.mysql_named_params.proofs.TokenListLemmas.{one_token_list}
+use Rattle.mysql_params_core.specs.Given.{Given}
+use Rattle.mysql_binding.specs.AppendedText.{AreFound, IsAppended}
+use Rattle.mysql_binding.specs.FirstCause.{mixed_cause}
+use Rattle.mysql_binding.specs.LiteralForm.{IsPlainLiteral}
+use Rattle.mysql_binding.specs.WrittenText.{IsGivenText}
+use Rattle.mysql_binding.proofs.BoundTextLemmas.{is_bound_text}
+use Rattle.mysql_binding.proofs.CauseLemmas.{mixed_none}
+use Rattle.mysql_steady_literal.specs.SteadyLiteral.{steady_literal_of}
+use Rattle.mysql_steady_text.specs.SteadyLiterals.{IsSteadyFor}
+use Rattle.mysql_steady_text.specs.SteadyText.{IsSteadyText}
+use Rattle.mysql_steady_text.proofs.SteadyTextLemmas.{is_anywhere_text, is_steady_text}
+use Rattle.mysql_bind_core.specs.Assignments.{given_of}
+use Rattle.mysql_bind_core.specs.Bound.{IsTaken, IsTextFor}
+use Rattle.mysql_bind_core.specs.FoundPairs.{IsTextAppended}
+use Rattle.mysql_bind_core.specs.Requests.{mode_of}
+use Rattle.mysql_bind_core.specs.declared.request.Literals.TheVariants.{Steady, Plain}
+use Rattle.mysql_bind_core.specs.declared.request.Portability.{Portability}
+use Rattle.mysql_bind_core.specs.declared.request.Portability.TheVariants.{Portable, Any}
+use Rattle.mysql_bind_core.specs.declared.request.Request.{Request}
+
+-- ---- what is told of a text that was written or not
+
+if_done : {A E : Type 0} (r : Result A E) (P : Type 0) → OnOk r P → OnErr r ⊥ → P
+if_done (Ok a) P p n = p
+if_done (Err e) P p n = absurd n
+
+if_undone : {A E : Type 0} (r : Result A E) (P : Type 0) → OnErr r P → OnOk r ⊥ → P
+if_undone (Ok a) P p n = absurd n
+if_undone (Err e) P p n = p
+
+pub done_bound : {A E F : Type 0} (d : Result Bool F) (r : Result A E) (P Q : Type 0) → IfOk d (λ done. IsTrue done → OnErr r ⊥) → OnOk r P → (P → Q) →
+    IfOk d (λ done. IsTrue done → Q)
+done_bound (Ok done) r P Q h p f = λ t. f (if_done r P p (h t))
+done_bound (Err e) r P Q h p f = tt
+
+pub undone_kept : {A E F : Type 0} (d : Result Bool F) (r : Result A E) (P : Type 0) → IfOk d (λ done. IsFalse done → OnOk r ⊥) → OnErr r P →
+    IfOk d (λ done. IsFalse done → P)
+undone_kept (Ok done) r P h p = λ t. if_undone r P p (h t)
+undone_kept (Err e) r P h p = tt
+
+pub refused_kept : {A E F : Type 0} (d : Result Bool F) (r : Result A E) (P : Type 0) → OnErr d (OnOk r ⊥) → OnErr r P → OnErr d P
+refused_kept (Ok done) r P h p = tt
+refused_kept (Err e) r P h p = if_undone r P p h
+
+pub done_so : {F : Type 0} (d : Result Bool F) (P Q : Type 0) → (P → Q) → IfOk d (λ done. IsTrue done → P) → IfOk d (λ done. IsTrue done → Q)
+done_so (Ok done) P Q f h = λ t. f (h t)
+done_so (Err e) P Q f h = tt
+
+-- ---- the text
+
+module _ (request : Request) (query : List ℕ) (given : Given) (text : List ℕ) where
+  -- with literals of a mode
+  pub plain_for : (mode : Bool) → request.literals ≡ Plain mode →
+      OnTokens mode query (λ ts. IsGivenText (literal_of mode) (IsPlainLiteral mode) ts given text) →
+      OnTokens (mode_of request.literals) query (λ ts. IsTextFor request.literals request.portability query ts given text)
+  plain_for mode e o =
+      subst (λ l. OnTokens (mode_of l) query (λ ts. IsTextFor l request.portability query ts given text)) (sym e)
+      (o.0, o.1, is_bound_text mode query o.0 given text o.1 o.2)
+
+  -- with steady literals
+  pub steady_for : IsTaken request query → request.literals ≡ Steady →
+      OnTokens false query (λ ts. IsGivenText steady_literal_of IsSteadyFor ts given text) →
+      OnTokens (mode_of request.literals) query (λ ts. IsTextFor request.literals request.portability query ts given text)
+  steady_for taken e o =
+      subst (λ l. OnTokens (mode_of l) query (λ ts. IsTextFor l request.portability query ts given text)) (sym e) (go request.portability refl)
+    where
+      steady : IsSteady query
+      steady = taken.steady e
+
+      one : IsSteadyText o.0 given text
+      one = is_steady_text query o.0 given text (steady_other false true query o.0 steady o.1) steady o.2
+
+      go : (p : Portability) → request.portability ≡ p → OnTokens false query (λ ts. IsTextFor Steady p query ts given text)
+      go Any is = (o.0, o.1, one)
+      go Portable is =
+          let p = subst (λ l. OnTokens (mode_of l) query IsPortableInClient) e (taken.portable is) in
+          let portable : IsPortableInClient o.0 = subst IsPortableInClient (one_token_list false query p.0 o.0 p.1 o.1) p.2 in
+          (o.0, o.1, is_anywhere_text query o.0 given text (steady_other false true query o.0 steady o.1) steady portable.portable one)
+
+module _ (request : Request) (query : List ℕ) (values : List Value) (before after : List ℕ) where
+  -- after these bytes stands the text that is asked for, whatever gives these values
+  abbrev pub AppendedFor : Bool → Type 0
+  AppendedFor mode = (text : List ℕ) × (after ≡ before ++ text) × ((given : Given) → OnTokens mode query (AreFound given values) →
+      OnTokens (mode_of request.literals) query (λ ts. IsTextFor request.literals request.portability query ts given text))
+
+  pub plain_appended : (mode plain : Bool) → request.literals ≡ Plain plain → mode ≡ mode_of request.literals →
+      IsAppended (literal_of plain) (IsPlainLiteral plain) mode query values before after → AppendedFor mode
+  plain_appended mode plain e m a =
+      let same : mode ≡ plain = m ∙ ap mode_of e in (
+        a.text,
+        a.bytes,
+        λ given o. plain_for request query given a.text plain e
+            (subst (λ b. OnTokens b query (λ ts. IsGivenText (literal_of plain) (IsPlainLiteral plain) ts given a.text)) same (a.of_given given o)),
+      )
+
+  pub steady_appended : (mode : Bool) → request.literals ≡ Steady → mode ≡ mode_of request.literals → IsTaken request query →
+      IsAppended steady_literal_of IsSteadyFor mode query values before after → AppendedFor mode
+  steady_appended mode e m taken a =
+      let same : mode ≡ false = m ∙ ap mode_of e in (
+        a.text,
+        a.bytes,
+        λ given o. steady_for request query given a.text taken e
+            (subst (λ b. OnTokens b query (λ ts. IsGivenText steady_literal_of IsSteadyFor ts given a.text)) same (a.of_given given o)),
+      )
+
+  -- it is the text of pairs that give them
+  pub pairs_appended : (pairs : List (List ℕ × Value)) (mode : Bool) →
+      ((given : Given) × (given_of pairs ≡ Ok given) × OnTokens mode query (AreFound given values)) → AppendedFor mode →
+      IsTextAppended request query pairs before after
+  pairs_appended pairs mode f a = record { given = f.0; given_is = f.1; text = a.0; bound = a.2 f.0 f.2; bytes = a.1 }
+
+-- a query that is taken has no mark
+pub unmixed : (request : Request) (query : List ℕ) → IsTaken request query → (mode : Bool) → mode ≡ mode_of request.literals →
+    OnTokens mode query (λ ts. mixed_cause ts ≡ None)
+unmixed request query taken mode e =
+    let o = taken.is_named in
+    subst (λ m. OnTokens m query (λ ts. mixed_cause ts ≡ None)) (sym e) (o.0, o.1, mixed_none o.0 (λ both. absurd (omega (arith, both.1, o.2))))

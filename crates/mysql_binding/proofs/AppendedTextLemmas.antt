@@ -1,0 +1,37 @@
+-- A text that is written to the end of another one.
+use Rattle.std.specs.Prelude.{Bool, option_map}
+use Rattle.std.proofs.Common.{◌≡◌, ◌≤◌, ℕ, List, ◌++◌, length, take, drop, take_all, Option, Some, None, refl, sym, ap, ◌∙◌, arith}
+use Rattle.std.proofs.lemmas.List.{take-append-le}
+use Rattle.mysql_values.specs.declared.value.Value.{Value}
+use Rattle.mysql_named_params.specs.Tokens.{Token, OnTokens}
+use Rattle.mysql_params_core.specs.Given.{Given}
+use Rattle.mysql_binding.specs.AppendedText.{AreFound}
+use Rattle.mysql_binding.specs.FirstCause.{Cause, later_cause}
+use Rattle.mysql_binding.specs.MeasuredText.{IsLookedUp}
+use Rattle.mysql_binding.specs.Survey.{IsSurvey}
+use Rattle.mysql_binding.specs.declared.binding.survey.Survey.{Survey}
+use Rattle.mysql_binding.proofs.CauseLemmas.{on_both, on_map}
+use Rattle.mysql_binding.proofs.MeasuredTextLemmas.{whole_vector}
+
+-- values that are found, if there is no later cause
+pub found_looked_up : (mode : Bool) (query : List ℕ) (given : Given) (survey : Survey) (values : List Value) →
+    OnTokens mode query (IsSurvey survey) → OnTokens mode query (AreFound given values) →
+    ((ts : List Token) → IsSurvey survey ts → None ≡ option_map Some (later_cause ts values)) →
+    OnTokens mode query (λ ts. IsLookedUp ts given values)
+found_looked_up mode query given survey values surveyed found later =
+    on_map mode query (λ ts. IsSurvey survey ts × AreFound given values ts) (λ ts. IsLookedUp ts given values)
+    (λ ts is h. (h.1.0, h.1.1, no_cause_is (later_cause ts values) (later ts h.0)))
+    (on_both mode query (IsSurvey survey) (AreFound given values) surveyed found)
+  where
+    no_cause_is : (r : Option Cause) → None ≡ option_map Some r → r ≡ None
+    no_cause_is None e = refl
+    no_cause_is (Some why) e = cc
+
+-- the bytes of a vector that is longer and filled from an index on
+pub appended_bytes : (old resized text more zeros slice : List ℕ) (at end n k : ℕ) → length text ≡ n → end ≡ n → at ≡ length old → slice ≡ resized → at ≤ k →
+    resized ≡ take k old ++ zeros → take end text ≡ take at slice ++ more → take n (text ++ drop (length text) resized) ≡ old ++ more
+appended_bytes old resized text more zeros slice at end n k long is start same below longer filled =
+    let all : take k old ≡ old = take_all k old (omega (arith, start, below)) in
+    let front : take at slice ≡ old =
+    ap (take at) (same ∙ (longer ∙ ap (λ u. u ++ zeros) all)) ∙ (take-append-le at old zeros (omega (arith, start)) ∙ take_all at old (omega (arith, start))) in
+    whole_vector text resized n long ∙ (sym (take_all end text (omega (arith, long, is))) ∙ (filled ∙ ap (λ u. u ++ more) front))

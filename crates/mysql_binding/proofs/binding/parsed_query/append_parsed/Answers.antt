@@ -1,0 +1,20 @@
+use Rattle.std.proofs.Common.{subst}
+use Rattle.mysql_named_params.specs.Tokens.{OnTokens}
+use Rattle.mysql_params_core.specs.Referents.{referents}
+use Rattle.mysql_binding.specs.AppendedText.{AreFound}
+use Rattle.mysql_binding.specs.ParsedQuery.{QueryInMode}
+use Rattle.mysql_binding.specs.WrittenText.{IsGivenText}
+use Rattle.mysql_binding.proofs.binding.parsed_query.append_parsed.Goals as goal
+
+pub returns-in-Ok-clause-appended : goal.returns-in-Ok-clause-appended
+returns-in-Ok-clause-appended g c =
+    let a = c.in-Ok.ensures.appended in
+    let i = c.query.invariant in
+    let text_of = rw c.as_slice.ensures.value at a.2 in
+    record {
+      text = a.0;
+      bytes = a.1;
+      of_given = λ given.
+          subst (λ (v : QueryInMode). OnTokens v.mode v.query (AreFound given (referents c.args.values.items)) → OnTokens v.mode v.query (λ ts. IsGivenText (g.F.LiteralForm.literal c.args.form.now) (g.F.LiteralForm.IsKnown c.args.form.now) ts given a.0))
+          c.query.view_is (λ o. text_of given (c.in_ok-measured.ensures _ _ given (i.0, i.1, i.2.0) o));
+    }

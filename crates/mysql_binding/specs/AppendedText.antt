@@ -1,0 +1,23 @@
+-- The text of values that are looked up, written to the end of another text: for
+-- `append_parsed`, which is lent to the crates above.
+use Rattle.std.specs.Prelude.{◌≡◌, ◌++◌, ℕ, Bool, List, None, Ok}
+use Rattle.mysql_values.specs.declared.value.Value.{Value}
+use Rattle.mysql_named_params.specs.Tokens.{Token, OnTokens}
+use Rattle.mysql_named_params.specs.Places.{names}
+use Rattle.mysql_params_core.specs.Given.{Given}
+use Rattle.mysql_params_core.specs.Lookup.{lookup}
+use Rattle.mysql_binding.specs.FirstCause.{mixed_cause}
+use Rattle.mysql_binding.specs.LiteralForm.{Literals, LiteralFacts}
+use Rattle.mysql_binding.specs.WrittenText.{IsGivenText}
+
+-- the values are those that are given to the places of a query with these tokens
+abbrev pub AreFound : Given → List Value → List Token → Type 0
+AreFound given values ts = (mixed_cause ts ≡ None) × (lookup given (names ts) ≡ Ok values)
+
+-- after these bytes stands the text of the query with these values, and nothing else
+pub record IsAppended (literal : Literals) (IsKnown : LiteralFacts) (mode : Bool)
+    (query : List ℕ) (values : List Value) (before after : List ℕ) : Type 0 where
+  pub text : List ℕ
+  pub bytes : after ≡ before ++ text
+  pub of_given : (given : Given) → OnTokens mode query (AreFound given values) →
+      OnTokens mode query (λ ts. IsGivenText literal IsKnown ts given text)
