@@ -1,6 +1,6 @@
 -- The refusal of a query, whatever is given to it.
 use Rattle.std.specs.Prelude.{Bool}
-use Rattle.std.proofs.Common.{◌≡◌, ℕ, true, List, Option, Some, None, refl, sym, ap, ◌∙◌}
+use Rattle.std.proofs.Common.{◌≡◌, ℕ, true, List, Option, Some, None, refl, ap, ◌∙◌}
 use Rattle.mysql_named_params.specs.FirstUnportable.{first_unportable}
 use Rattle.mysql_named_params.specs.Portable.{IsPortable}
 use Rattle.mysql_named_params.specs.Steady.{first_unsteady, IsSteady}

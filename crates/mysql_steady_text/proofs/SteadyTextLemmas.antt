@@ -71,7 +71,7 @@ steady_of ts given text t steady = record {
 
 -- ---- the text of a steady query
 
-is_steady_text : (query : List ℕ) (ts : List Token) (given : Given) (text : List ℕ) → IsTokens true query ts →
+pub is_steady_text : (query : List ℕ) (ts : List Token) (given : Given) (text : List ℕ) → IsTokens true query ts →
     IsSteady query → IsGivenText steady_literal_of IsSteadyFor ts given text → IsSteadyText ts given text
 is_steady_text query ts given text is steady g =
     let t = in_both_modes query ts given text is (no_escapes_of true query ts steady is) g in

@@ -1,10 +1,11 @@
 //! A quick test for queries that are steady and portable: it looks at 16 bytes at once, and closer
 //! only at those that may begin or end a construct.
-ghost use Rattle.std.specs.Prelude.{◌≡◌, ◌==◌, ◌+◌, ◌≤◌, false, length, IsTrue, IsFalse};
+ghost use Rattle.std.specs.Prelude.{◌≡◌, ◌==◌, ◌+◌, ◌<◌, ◌≤◌, false, length, drop, slice_index, None, IfSome, IsTrue, IsFalse};
+ghost use Rattle.mysql_named_params.specs.Lanes.{first_set, IsFirstOther};
 ghost use Rattle.mysql_named_params.specs.Bytes.{begins, dash, is_start_byte, newline};
 ghost use Rattle.mysql_named_params.specs.Portable.{may_open_line};
 ghost use Rattle.mysql_named_params.specs.Server.{keeps_dashes};
-ghost use Rattle.mysql_steady_text.specs.Clear.{AreSure, begins_special_block, byte_before, is_clear, is_clear_from, is_in_doubt, is_sign, is_sure, may_begin_tag, may_take_dashes, may_take_place};
+ghost use Rattle.mysql_steady_text.specs.Clear.{begins_special_block, byte_before, is_clear, is_clear_from, is_in_doubt, is_sign, is_sure, may_begin_tag, may_take_dashes, may_take_place};
 
 use std::simd::prelude::*;
 
@@ -15,21 +16,43 @@ const LANES: usize = 16;
 pub(crate) fn is_clear(text: &[u8]) -> bool
     ensures { result ≡ is_clear text.now }
 {
+    let reach = text.len().saturating_sub(LANES - 1);
     let mut at = 0;
-    'by_lanes: while text.len() - at >= LANES {
-        if !are_sure(text, at) && is_doubt_within(text, at, at + LANES) {
-            return false;
+    'by_lanes: while at < reach {
+        match clear_end(text, at) {
+            Some(next) => at = next,
+            None => return false,
         }
-        at += LANES;
     }
     !is_doubt_within(text, at, text.len())
 }
 
-// Whether the 16 bytes from this one on are sure. `false` promises nothing: the caller then looks
-// at each byte.
-fn are_sure(text: &[u8], at: usize) -> bool
+// An index up to which no byte from this one on is in doubt: after 16 sure bytes, or after the
+// first of them that isn't sure. None if that one is in doubt. Inline, as the body of a loop.
+#[inline(always)]
+fn clear_end(text: &[u8], at: usize) -> Option<usize>
     requires { at + LANES ≤ length text.now }
-    ensures { IsTrue result → AreSure text.now at (at + LANES) }
+    ensures in_range { IfSome result (λ end. (at < end) × (end ≤ length text.now)) }
+    ensures clear { IfSome result (λ end.
+        is_clear_from text.now end ≡ is_clear_from text.now at) }
+    ensures doubt { result ≡ None → is_clear_from text.now at ≡ false }
+{
+    let Some(sure) = find_unsure(text, at) else {
+        return Some(at + LANES);
+    };
+    let found = at + sure;
+    if is_doubt_at(text, found) {
+        None
+    } else {
+        Some(found + 1)
+    }
+}
+
+// How many of the 16 bytes from this one on stand before the first that isn't sure, if one isn't.
+#[inline(always)]
+fn find_unsure(text: &[u8], at: usize) -> Option<usize>
+    requires { at + LANES ≤ length text.now }
+    ensures { IsFirstOther is_sure text.now at LANES result }
 {
     let bytes = u8x16::from_slice(&text[at..]);
     let unsteady = bytes.simd_ge(u8x16::splat(128)) | bytes.simd_eq(u8x16::splat(b'\\'));
@@ -38,7 +61,28 @@ fn are_sure(text: &[u8], at: usize) -> bool
     let places = bytes.simd_eq(u8x16::splat(b':')) | bytes.simd_eq(u8x16::splat(b'?'));
     let returns = bytes.simd_eq(u8x16::splat(b'\r'));
     let others = ((unsteady | bracket_or_dollar) | (slash_or_dash | places)) | returns;
-    others.to_bitmask() == 0
+    first_set(others.to_bitmask())
+}
+
+// The index of the lowest bit that is set, if one is.
+#[inline(always)]
+fn first_set(mask: u64) -> Option<usize>
+    ensures { result ≡ first_set mask }
+{
+    if mask == 0 {
+        None
+    } else {
+        Some(mask.trailing_zeros() as usize)
+    }
+}
+
+// Whether the byte at this index is in doubt.
+fn is_doubt_at(text: &[u8], at: usize) -> bool
+    requires { at < length text.now }
+    ensures { result ≡ is_in_doubt (byte_before text.now at) (slice_index text.now at)
+        (drop (at + 1) text.now) }
+{
+    is_in_doubt(byte_before(text, at), text[at], &text[at + 1..])
 }
 
 // Whether a byte from the first index up to the second is in doubt.
@@ -50,7 +94,7 @@ fn is_doubt_within(text: &[u8], from: usize, to: usize) -> bool
         is_clear_from text.now to ≡ is_clear_from text.now from }
 {
     for at in from..to {
-        if !is_sure(text[at]) && is_in_doubt(byte_before(text, at), text[at], &text[at + 1..]) {
+        if !is_sure(text[at]) && is_doubt_at(text, at) {
             return true;
         }
     }

@@ -1,5 +1,5 @@
 use Rattle.std.specs.Prelude.{false}
-use Rattle.std.proofs.Common.{refl, sym, ◌∙◌}
+use Rattle.std.proofs.Common.{sym, ◌∙◌}
 use Rattle.mysql_named_params.proofs.SteadyLemmas.{steady_other}
 use Rattle.mysql_named_params.proofs.TokensExistLemmas.{tokens_exist}
 use Rattle.mysql_steady_text.proofs.QueryRefusalLemmas.{clear_passes, unsteady_is_refused, steady_is_refused}

@@ -1,13 +1,12 @@
 use Rattle.std.proofs.Common.{ℕ, leb, cond, ◌≤◌, refl, arith}
-use Rattle.std.proofs.lemmas.Bool.{eqb-true}
 use Rattle.std.proofs.lemmas.Simd.{zip2_splat, zip2_splat_left, length-chunk}
 use lib.Lanes.{chunk}
-use Rattle.mysql_named_params.proofs.LaneLemmas.{joined, all_pass}
+use Rattle.mysql_named_params.proofs.LaneLemmas.{joined, first_other}
 use Rattle.mysql_steady_text.specs.Clear.{is_sure}
-use Rattle.mysql_steady_text.proofs.clear.are_sure.Goals as goal
+use Rattle.mysql_steady_text.proofs.clear.find_unsure.Goals as goal
 
 pub returns : goal.returns
-returns c whole =
+returns c =
     let v = chunk c.args.at 16 c.args.text.now in
     let long = length-chunk c.args.at 16 c.args.text.now c.requires in
     let few : 16 ≤ 64 = omega arith in
@@ -15,5 +14,5 @@ returns c whole =
     let bracket_or_dollar = joined _ _ _ v (zip2_splat _ v 16 _ long) (zip2_splat _ v 16 _ long) in
     let slash_or_dash = joined _ _ _ v (zip2_splat _ v 16 _ long) (zip2_splat _ v 16 _ long) in
     let places = joined _ _ _ v (zip2_splat _ v 16 _ long) (zip2_splat _ v 16 _ long) in
-    all_pass is_sure c.args.text.now c.args.at 16 _ c.requires few c.type_inv.text (eqb-true _ _ whole) _
+    first_other is_sure c.args.text.now c.args.at 16 _ _ c.requires few c.type_inv.text c.first_set.ensures _
     (joined _ _ _ v (joined _ _ _ v (joined _ _ _ v unsteady bracket_or_dollar) (joined _ _ _ v slash_or_dash places)) (zip2_splat _ v 16 _ long)) refl
