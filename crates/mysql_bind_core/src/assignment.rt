@@ -36,7 +36,7 @@ pub(crate) fn pairs_of(
     ensures { IsAnswer (λ pairs. map seen_pair pairs.items) pairs_refusal
         (ok_or (pairs_of assignments.now) no_value) ⊤ result }
 {
-    let mut pairs = Vec::new(alloc);
+    let mut pairs = Vec::with_capacity(alloc, assignments.len()).map_err(PairsError::Memory)?;
     for assignment in assignments {
         match pair_of(alloc, assignment) {
             Ok(pair) => match pairs.push(pair) {
