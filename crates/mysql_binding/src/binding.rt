@@ -31,6 +31,7 @@ mod text;
 
 use crate::bind_error::BindError;
 pub use crate::binding::form::{LiteralForm, PlainForm};
+use crate::binding::found::all_places;
 use crate::binding::literals::first_float;
 pub use crate::binding::literals::push_literal;
 pub use crate::binding::measured::MeasuredText;
@@ -159,11 +160,60 @@ pub fn bind_borrowed_as<F: LiteralForm>(
 {
     let mut first = [NO_PLACE; KEPT_PLACES];
     let (survey, kept) = place_survey(query, &mut first, no_backslash_escape);
+    let known = &first[..kept];
+    if survey.names > kept && survey.marks == 0 {
+        return bind_many_names(
+            alloc,
+            query,
+            survey,
+            known,
+            params,
+            no_backslash_escape,
+            form,
+        );
+    }
     bind_surveyed_as(
         alloc,
         query,
         survey,
-        &first[..kept],
+        known,
+        params,
+        no_backslash_escape,
+        form,
+    )
+}
+
+// The text of a query with more names than are kept, and no marks. Its places are found once more
+// and kept, 24 bytes each, so that the walks for its names and for its text look for none.
+fn bind_many_names<F: LiteralForm>(
+    alloc: Global,
+    query: &[u8],
+    survey: Survey,
+    known: &[FoundPlace],
+    params: BorrowedParams<'_>,
+    no_backslash_escape: bool,
+    form: &F,
+) -> Result<Vec<u8>, BindError>
+    requires survey { OnTokens no_backslash_escape query.now (IsSurvey survey) }
+    requires known { OnTokens no_backslash_escape query.now (BeginWithPlaces known.now) }
+    requires no_marks { survey.marks ≡ 0 }
+    ensures text { OnTokens no_backslash_escape query.now (λ ts. IfOk result (λ text.
+        IsGivenText (F.literal form.now) (F.IsKnown form.now) ts (given_by_borrowed params.entry)
+        text.items)) }
+    ensures refused { OnTokens no_backslash_escape query.now (λ ts. IfErr result
+        (IsCauseOrMemory (first_cause ts (given_by_borrowed params.entry)))) }
+    ensures mixed { OnTokens no_backslash_escape query.now (λ ts.
+        HasName ts × HasMark ts → IsErrOf result BindError.Mixed) }
+{
+    let places = match all_places(alloc, query, known, survey.names, no_backslash_escape) {
+        Ok(places) => places,
+        Err(error) => return Err(BindError::Memory(error)),
+    };
+    bind_surveyed_as(
+        alloc,
+        query,
+        survey,
+        places.as_slice(),
         params,
         no_backslash_escape,
         form,
