@@ -1,5 +1,5 @@
 -- What `TokensOf` computes is what the grammar says.
-use Rattle.std.proofs.Common.{◌≡◌, ◌≢◌, ℕ, suc, ◌+◌, ◌-◌, ◌<◌, ◌≤◌, get_or, eq-eqb, Bool, true, false, ◌==◌, ◌&&◌, nat_eq, List, [], ◌∷◌, ◌++◌, length, take, drop, refl, sym, ap, ◌∙◌, subst, inl, inr, arith, append_assoc, length-append, ne_eqb, true≢false, take_at, take-append-drop}
+use Rattle.std.proofs.Common.{◌≡◌, ◌≢◌, ℕ, zero, suc, ◌+◌, ◌-◌, ◌<◌, ◌≤◌, get_or, eq-eqb, Bool, true, false, ◌==◌, ◌&&◌, nat_eq, List, [], ◌∷◌, ◌++◌, length, take, drop, refl, sym, ap, ◌∙◌, subst, inl, inr, arith, append_assoc, length-append, ne_eqb, true≢false, take_at, take-append-drop}
 use Rattle.std.specs.List.{starts_with}
 use Rattle.std.proofs.lemmas.List.{drop_more, drop_all, take_rest}
 use Rattle.std.proofs.lemmas.Bool.{cases_Bool, and_from, eqb-true, eqb-false}
@@ -8,6 +8,7 @@ use Rattle.mysql_sql_text.specs.StringUnits.{is_escape}
 use Rattle.mysql_named_params.specs.Tokens.{IsStringTail, closed_string, open_string, open_in_escape}
 use Rattle.mysql_sql_text.specs.StringUnits.{no_units, byte_unit, escape_unit}
 use Rattle.mysql_named_params.specs.FirstToken.{IsNameFront}
+use Rattle.mysql_named_params.specs.Lanes.{EachPasses}
 use Rattle.mysql_named_params.specs.TokensOf.{begins_with, len_up_to, string_len, name_len}
 use Rattle.mysql_named_params.proofs.TokenEnds.{begins_with_front, word_begins}
 
@@ -119,11 +120,26 @@ pub name_stops : (text : List ℕ) (i : ℕ) → i < length text →
     i ≡ name_len text
 name_stops text i lt other inv = counted i _ _ inv (rw (drop_more text i 0 lt, other) refl)
 
-pub name_ends : (text : List ℕ) (i : ℕ) → length text ≤ i → i ≤ length text →
-    i + name_len (drop i text) ≡ name_len text → length text ≡ name_len text
-name_ends text i le ge inv =
-    let e : i ≡ name_len text = counted i _ _ inv (rw (drop_all i text le) refl) in
+pub name_ends : (text : List ℕ) (i : ℕ) → length text ≤ i →
+    i + name_len (drop i text) ≡ name_len text → i ≡ name_len text
+name_ends text i le inv = counted i _ _ inv (rw (drop_all i text le) refl)
+
+pub name_goes_on : (text : List ℕ) (i : ℕ) → i < length text →
+    is_name_byte (get_or text i 0) ≡ true → i + name_len (drop i text) ≡ name_len text →
+    i + 1 + name_len (drop (i + 1) text) ≡ name_len text
+name_goes_on text i lt name inv =
+    let e : name_len (drop i text) ≡ suc (name_len (drop (i + 1) text)) = rw (drop_more text i 0 lt, name) refl in
     omega arith
+
+pub name_run : (text : List ℕ) (i n : ℕ) → i + n ≤ length text → EachPasses is_name_byte text i (i + n) →
+    i + name_len (drop i text) ≡ name_len text → i + n + name_len (drop (i + n) text) ≡ name_len text
+name_run text i zero le each inv =
+    let same : i ≡ i + 0 = omega arith in
+    subst (λ k. k + name_len (drop k text) ≡ name_len text) same inv
+name_run text i (suc n) le each inv =
+    let step = name_goes_on text i (omega arith) (each i (omega arith) (omega arith)) inv in
+    let same : i + 1 + n ≡ i + suc n = omega arith in
+    subst (λ k. k + name_len (drop k text) ≡ name_len text) same (name_run text (i + 1) n (omega arith) (λ k low high. each k (omega arith) (omega arith)) step)
 
 pub string_stops : (mode : Bool) (q : ℕ) (text : List ℕ) (i n : ℕ) → i < length text →
     get_or text i 0 ≡ q → i + string_len mode q false (drop i text) ≡ n → i + 1 ≡ n

@@ -1,9 +1,12 @@
 //! The token at the front of a text. `places` finds names and marks by it; no user needs it.
-ghost use Rattle.std.specs.Prelude.{◌≡◌, ◌<◌, ◌≤◌, length, take, drop};
+ghost use Rattle.std.specs.Prelude.{◌≡◌, ◌+◌, ◌<◌, ◌≤◌, length, take, drop};
 ghost use Rattle.mysql_named_params.specs.Bytes.{is_white_space, is_start_byte, is_name_byte, begins};
+ghost use Rattle.mysql_named_params.specs.Lanes.{IsFirstOther};
 ghost use Rattle.mysql_named_params.specs.FirstToken.{IsNameFront, IsFirstToken, opens_dash_comment, opens_block_comment};
 
 use crate::ends::{len_up_to_byte, len_up_to_close, string_len};
+use crate::lanes::{LANES, first_set};
+use std::simd::prelude::*;
 
 /// The kinds of tokens that a search for names and marks tells apart.
 #[derive(Clone, Copy, Debug, PartialEq, Eq)]
@@ -37,17 +40,37 @@ fn is_name_byte(byte: u8) -> bool
     is_start_byte(byte) || byte.is_ascii_digit()
 }
 
-// The number of name bytes at the front of the text.
+// The number of name bytes at the front of the text: 16 at once, and the last ones one by one.
 fn name_len(text: &[u8]) -> usize
     ensures in_range { result ≤ length text.now }
     ensures front { IsNameFront (take result text.now) (drop result text.now) }
 {
-    for (i, byte) in text.iter().enumerate() {
-        if !is_name_byte(*byte) {
-            return i;
+    let reach = text.len().saturating_sub(LANES - 1);
+    let mut at = 0;
+    'by_lanes: while at < reach {
+        match first_not_of_name(text, at) {
+            Some(run) => return at + run,
+            None => at += LANES,
         }
     }
-    text.len()
+    while at < text.len() && is_name_byte(text[at]) {
+        at += 1;
+    }
+    at
+}
+
+// How many of the 16 bytes from this one on stand before the first that is no name byte, if one is
+// none.
+#[inline(always)]
+fn first_not_of_name(text: &[u8], at: usize) -> Option<usize>
+    requires { at + LANES ≤ length text.now }
+    ensures { IsFirstOther is_name_byte text.now at LANES result }
+{
+    let bytes = u8x16::from_slice(&text[at..]);
+    let not_lower = bytes.simd_lt(u8x16::splat(b'a')) | bytes.simd_gt(u8x16::splat(b'z'));
+    let not_digit = bytes.simd_lt(u8x16::splat(b'0')) | bytes.simd_gt(u8x16::splat(b'9'));
+    let others = (not_lower & not_digit) & bytes.simd_ne(u8x16::splat(b'_'));
+    first_set(others.to_bitmask())
 }
 
 // Whether a `-` and then this text open a comment.
