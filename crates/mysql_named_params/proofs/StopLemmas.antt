@@ -67,6 +67,15 @@ past_escape mode q text at next h lt ne escapes next_is =
           subst (IsWithin mode q text) same (omega arith, rw (drop_all (length text) text (omega arith)) (omega (arith, all)))
     ]
 
+-- a stop that is no quote is such an escape
+pub past_stop : (mode : Bool) (q : ℕ) (text : List ℕ) (at next : ℕ) → IsWithin mode q text at →
+    at < length text → (get_or text at 0 ≡ q) ⊎ (is_escape mode (get_or text at 0) ≡ true) →
+    get_or text at 0 ≢ q → next ≡ min (length text) (at + 2) → IsWithin mode q text next
+past_stop mode q text at next h lt (inl same) ne next_is = absurd (ne same)
+past_stop mode q text at next h lt (inr escapes) ne next_is =
+    let after : next ≡ min (length text) (at + 1 + 1) = omega (arith, next_is) in
+    past_escape mode q text at next h lt ne escapes after
+
 -- ---- the jump
 
 usual : (mode : Bool) (q escape b : ℕ) → IsEscapeOf mode q escape → is_byte2 q escape b ≡ false →

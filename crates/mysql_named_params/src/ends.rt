@@ -13,11 +13,8 @@ use memchr::{memchr, memchr2, memmem};
 // The number of bytes that are looked at before a jump, which costs more than a near end.
 const NEAR: usize = 512;
 
-// The number of bytes that are looked at one by one after an escape, since the next one is often
-// near.
-const NEXT_TO_ESCAPES: usize = 16;
-
-/// The length of a string after its opening quote.
+/// The length of a string after its opening quote, from stop to stop. Escapes often stand in a row,
+/// which needs no search.
 pub(crate) fn string_len(text: &[u8], quote: u8, no_backslash_escape: bool) -> usize
     requires { IsTrue (is_string_quote quote) }
     ensures in_range { result ≤ length text.now }
@@ -25,21 +22,13 @@ pub(crate) fn string_len(text: &[u8], quote: u8, no_backslash_escape: bool) -> u
         (drop result text.now) }
 {
     let mut at = next_stop(text, 0, quote, no_backslash_escape);
-    if at < text.len() && text[at] == quote {
-        return at + 1;
-    }
-    'jumps: while at < text.len() {
-        let near = at + NEXT_TO_ESCAPES.min(text.len() - at);
-        'near_bytes: while at < near {
-            let byte = text[at];
-            if byte == quote {
-                return at + 1;
-            }
-            at += 1;
-            if is_escape(byte, no_backslash_escape) {
-                at = text.len().min(at + 1);
-                continue 'jumps;
-            }
+    'escapes: while at < text.len() {
+        if text[at] == quote {
+            return at + 1;
+        }
+        at = text.len().min(at + 2);
+        if at < text.len() && is_escape(text[at], no_backslash_escape) {
+            continue 'escapes;
         }
         at = next_stop(text, at, quote, no_backslash_escape);
     }
