@@ -1,28 +1,14 @@
 -- Blocks of 16 bytes: which of their bytes are escaped, how many, and that a block without escapes stands for itself.
-use Rattle.std.proofs.Common.{◌≡◌, ℕ, ◌+◌, ◌%◌, ◌*◌, ◌^◌, ◌≤◌, eqb, Bool, true, false, cond, List, [], ◌∷◌, ◌++◌, map, length, drop, Fits, w8, refl, sym, ap, ap₂, ◌∙◌, arith, length-append}
+use Rattle.std.proofs.Common.{◌≡◌, ℕ, ◌+◌, ◌*◌, ◌≤◌, eqb, Bool, true, false, cond, List, [], ◌∷◌, ◌++◌, map, length, drop, refl, sym, ap, ap₂, ◌∙◌, arith, length-append}
 use Rattle.std.specs.List.{count_by}
-use Rattle.std.proofs.lemmas.Bool.{agree_below, agree_below_at, cond_both, false≢true}
-use Rattle.std.proofs.lemmas.List.{length-map}
+use Rattle.std.proofs.lemmas.Bool.{cond_both, false≢true}
 use Rattle.std.proofs.lemmas.List.Sums.{sum_by-cons}
 use Rattle.std.proofs.lemmas.Grind.{flat_map-append}
-use Rattle.std.proofs.lemmas.Simd.{mask_l-mod, ones-mask_l, chunk-drop, length-chunk}
+use Rattle.std.proofs.lemmas.Simd.{ones-mask_l, chunk-drop, length-chunk}
 use Rattle.std.proofs.lemmas.Nat.{zero_from_ones}
-use lib.Lanes.{chunk, mask_l, top, Each1}
+use lib.Lanes.{chunk, mask_l}
 use Rattle.mysql_sql_text.specs.LiteralText.{control_z, escaped, escaped_byte, is_escaped}
 use Rattle.mysql_sql_text.proofs.ByteNames.{newline, carriage_return, backslash, single_quote, double_quote}
-
--- the mask of a vector that was computed lane by lane, held against a test at each of the 256 bytes
-each_lane : (f : ℕ → ℕ) (p : ℕ → Bool) → agree_below (λ x. top 7 (f x)) p 256 ≡ true
-    → (v : List ℕ) → Each1 (Fits w8) v → map (top 7) (map f v) ≡ map p v
-each_lane f p all [] fits = refl
-each_lane f p all (x ∷ xs) fits =
-    ap₂ (λ a b. a ∷ b) (agree_below_at (λ y. top 7 (f y)) p 256 x all fits.0.fits) (each_lane f p all xs fits.1)
-
-pub mask_is : (f : ℕ → ℕ) (p : ℕ → Bool) (v z : List ℕ) → length v ≤ 64 → Each1 (Fits w8) v → z ≡ map f v
-    → agree_below (λ x. top 7 (f x)) p 256 ≡ true → mask_l (map (top 7) z) % 2 ^ 64 ≡ mask_l (map p v)
-mask_is f p v z short fits is all =
-    ap (λ l. mask_l l % 2 ^ 64) (ap (map (top 7)) is ∙ each_lane f p all v fits)
-    ∙ mask_l-mod (map p v) 64 (omega (arith, length-map v p))
 
 -- one byte: two for an escaped one, else itself
 on_escaped_byte : (P : List ℕ → Type 0) (mode : Bool) (b : ℕ) → ((x y : ℕ) → P (x ∷ y ∷ [])) → P (b ∷ []) → P (escaped_byte mode b)

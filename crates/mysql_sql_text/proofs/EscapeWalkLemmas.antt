@@ -1,35 +1,21 @@
 -- Blocks that are looked at in part: up to their first escape, or from a byte on.
-use Rattle.std.proofs.Common.{◌≡◌, ℕ, zero, suc, ◌+◌, ◌-◌, ◌*◌, ◌/◌, ◌^◌, ◌<◌, ◌≤◌, Bool, true, false, not, cond, List, [], ◌∷◌, ◌++◌, map, length, take, drop, get_or, refl, sym, subst, ap, ap₂, ◌∙◌, arith, inl, inr, append_assoc, length-append}
+use Rattle.std.proofs.Common.{◌≡◌, ℕ, zero, suc, ◌+◌, ◌-◌, ◌/◌, ◌^◌, ◌<◌, ◌≤◌, Bool, false, not, List, [], ◌∷◌, ◌++◌, map, length, take, drop, get_or, refl, sym, subst, ap, ap₂, ◌∙◌, arith, inl, inr, append_assoc, length-append}
 use Rattle.std.specs.List.{count_by, prefix_len}
-use Rattle.std.specs.Str.{IsAscii}
+use Rattle.std.specs.Str.{IsAscii, IsUtf8}
 use Rattle.std.specs.Int.RustNames.{count_ones}
 use Rattle.std.proofs.lemmas.Bool.{cases_Bool, cases_lt, leb-false}
-use Rattle.std.proofs.lemmas.List.{take_all, take-take, take-append-drop, length-take-le, drop-drop, drop-map, length-drop}
+use Rattle.std.proofs.lemmas.List.{take_all, drop_all, take-take, take-append-drop, length-take-le, drop-drop, drop-map, length-drop}
 use Rattle.std.proofs.lemmas.List.Sums.{count_by-le-length}
-use Rattle.std.proofs.lemmas.Str.{IsAscii-append, IsAscii-take}
+use Rattle.std.proofs.lemmas.Str.{IsAscii-append, IsAscii-take, IsUtf8-append, IsUtf8-drop, IsUtf8-from_ascii, IsCharBoundary-from_take}
 use Rattle.std.proofs.lemmas.Str.Ascii.{IsAscii-cons, IsAscii-nil}
 use Rattle.std.proofs.lemmas.Simd.{ones-mask_l, length-chunk, trailing_mask_l, run_in_chunk_le, run_in_chunk_fails}
-use Rattle.std.proofs.Math.Nat.{div-one, zero-div, div-div-eq-div-mul, pow-succ'}
 use Rattle.std.proofs.Math.Seq.{drop-cons, take-add, take-append-add}
 use lib.Dec.{leb}
 use lib.Count.{count_trailing_zeros}
 use lib.Lanes.{chunk, mask_l}
 use Rattle.mysql_sql_text.specs.LiteralText.{escaped, escaped_byte, is_escaped}
+use Rattle.mysql_sql_text.proofs.MaskLemmas.{mask_l-drop}
 use Rattle.mysql_sql_text.proofs.BlockLemmas.{escaped_byte-plain, escaped-block, length-escaped, length-escaped-cut, no_bits}
-
--- a mask without its lowest bits is that of the other lanes
-mask_l-drop : (count : ℕ) (bits : List Bool) → mask_l bits / 2 ^ count ≡ mask_l (drop count bits)
-mask_l-drop zero bits = div-one (mask_l bits)
-mask_l-drop (suc count) [] = zero-div (2 ^ suc count)
-mask_l-drop (suc count) (bit ∷ bits) =
-    let half : mask_l (bit ∷ bits) / 2 ≡ mask_l bits = halved bit in
-    ap (λ power. mask_l (bit ∷ bits) / power) (pow-succ' 2 count)
-    ∙ sym (div-div-eq-div-mul (mask_l (bit ∷ bits)) 2 (2 ^ count))
-    ∙ ap (λ mask. mask / 2 ^ count) half ∙ mask_l-drop count bits
-  where
-    halved : (first : Bool) → (cond first 1 0 + 2 * mask_l bits) / 2 ≡ mask_l bits
-    halved true = omega arith
-    halved false = omega arith
 
 -- the last block is the end of the bytes, also without what an earlier one has of it
 block_to_end : (bytes : List ℕ) (last : ℕ) → last + 16 ≡ length bytes → chunk last 16 bytes ≡ drop last bytes
@@ -55,6 +41,10 @@ ones-last_block mode bytes last at long within =
 pub length-escaped-end : (mode : Bool) (bytes : List ℕ) (at : ℕ) → at ≤ length bytes
     → length (escaped mode (drop at bytes)) + at ≡ length bytes + count_by (is_escaped mode) (drop at bytes)
 length-escaped-end mode bytes at within = omega (arith, length-escaped mode (drop at bytes), length-drop at bytes)
+
+-- nothing is left after the last byte
+pub length-escaped-after : (mode : Bool) (bytes : List ℕ) → length (escaped mode (drop (length bytes) bytes)) ≡ 0
+length-escaped-after mode bytes = ap (λ left. length (escaped mode left)) (drop_all (length bytes) bytes (omega arith))
 
 pub count-end-le : (mode : Bool) (bytes : List ℕ) (at : ℕ) → at ≤ length bytes
     → count_by (is_escaped mode) (drop at bytes) + at ≤ length bytes
@@ -193,3 +183,12 @@ module _ (mode : Bool) (bytes : List ℕ) (from mask : ℕ) (block : from + 16 �
       ∙ ap (λ t. t ++ after) (append_assoc front plain escape)
       ∙ append_assoc front (plain ++ escape) after
       ∙ ap (λ t. front ++ t) (append_assoc plain escape after ∙ sym first_escape_cuts)
+
+-- after ASCII the rest is UTF-8 if all is, and the other way round
+pub IsUtf8-after_ascii : (bytes : List ℕ) (at : ℕ) → at ≤ length bytes → IsAscii (take at bytes) → IsUtf8 bytes → IsUtf8 (drop at bytes)
+IsUtf8-after_ascii bytes at within front utf8 =
+    IsUtf8-drop bytes at utf8 (IsCharBoundary-from_take bytes at utf8 within (IsUtf8-from_ascii (take at bytes) front))
+
+pub IsUtf8-with_ascii : (bytes : List ℕ) (at : ℕ) → IsAscii (take at bytes) → IsUtf8 (drop at bytes) → IsUtf8 bytes
+IsUtf8-with_ascii bytes at front rest =
+    subst IsUtf8 (take-append-drop at bytes) (IsUtf8-append (take at bytes) (drop at bytes) (IsUtf8-from_ascii (take at bytes) front) rest)

@@ -2,6 +2,7 @@ pub mod ByteNames
 mod TwoBytesLemmas
 pub mod PaddedLemmas
 mod EscapeTableLemmas
+pub mod MaskLemmas
 mod BlockLemmas
 mod EscapeWalkLemmas
 pub mod StringLemmas

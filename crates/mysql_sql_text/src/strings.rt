@@ -1,34 +1,25 @@
 //! Literals of bytes: strings with their escapes, and hexadecimal.
-ghost use Rattle.std.specs.Prelude.{◌≡◌, [], ◌∷◌, ◌++◌, ◌+◌, ◌*◌, ◌<◌, ◌≤◌, length, take, codes, IsTrue};
-ghost use Rattle.std.specs.Str.{IsAscii, is_utf8};
+ghost use Rattle.std.specs.Prelude.{◌≡◌, [], ◌∷◌, ◌++◌, ◌+◌, ◌*◌, ◌<◌, ◌≤◌, length, take, codes};
 ghost use Rattle.mysql_sql_text.specs.LiteralText.{bytes_literal, escaped, hexadecimal_digit, hexadecimal, quoted};
 
 use crate::escapes::{append_escaped, escaped_len};
 use crate::numbers::append_byte;
 
-/// How long the literal of bytes is.
+/// How long the literal of bytes is. ASCII at the front is counted without a test for UTF-8, and
+/// bytes that aren't UTF-8 are left where that shows.
 pub fn bytes_literal_len(bytes: &[u8], no_backslash_escape: bool) -> u128
     ensures { result ≡ length (bytes_literal no_backslash_escape bytes.now) }
 {
-    let (len, ascii) = escaped_len(bytes, no_backslash_escape);
-    if is_utf8(bytes, ascii) {
-        2 + len as u128
-    } else {
-        2 + 2 * bytes.len() as u128
+    let (len, ascii) = escaped_len(bytes, no_backslash_escape, true);
+    if ascii == bytes.len() {
+        return 2 + len as u128;
     }
-}
-
-// Whether bytes are UTF-8: if they are ASCII, that is known without a look.
-fn is_utf8(bytes: &[u8], ascii: bool) -> bool
-    requires { IsTrue ascii → IsAscii bytes.now }
-    ensures { result ≡ is_utf8 bytes.now }
-{
-    if ascii {
-        return true;
-    }
-    match str::from_utf8(bytes) {
-        Ok(_) => true,
-        Err(_) => false,
+    match str::from_utf8(&bytes[ascii..]) {
+        Ok(rest) => {
+            let (rest_len, _) = escaped_len(rest.as_bytes(), no_backslash_escape, false);
+            2 + len as u128 + rest_len as u128
+        }
+        Err(_) => 2 + 2 * bytes.len() as u128,
     }
 }
 
@@ -54,7 +45,7 @@ pub fn string_len(bytes: &[u8], no_backslash_escape: bool) -> u128
     ensures exact { result ≡ length (quoted (escaped no_backslash_escape bytes.now)) }
     ensures few { result ≤ 2 + 2 * length bytes.now }
 {
-    let (escaped, _) = escaped_len(bytes, no_backslash_escape);
+    let (escaped, _) = escaped_len(bytes, no_backslash_escape, false);
     2 + escaped as u128
 }
 

@@ -2,7 +2,7 @@ use Rattle.std.proofs.Common.{ℕ, ◌≤◌, length, cond, refl, sym, ◌∙◌
 use Rattle.std.proofs.lemmas.Bool.{eqb-true}
 use Rattle.std.proofs.lemmas.Simd.{zip2_splat_left}
 use lib.Dec.{leb}
-use Rattle.mysql_sql_text.proofs.BlockLemmas.{mask_is}
+use Rattle.mysql_sql_text.proofs.MaskLemmas.{mask_is}
 use Rattle.mysql_sql_text.proofs.EscapeWalkLemmas.{IsAscii-from_mask}
 use Rattle.mysql_sql_text.proofs.escapes.are_ascii_lanes.Goals as goal
 

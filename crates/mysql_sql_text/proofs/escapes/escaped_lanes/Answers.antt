@@ -2,7 +2,7 @@ use Rattle.std.proofs.Common.{map, true, false, refl, sym, ap, ◌∙◌, arith}
 use Rattle.std.proofs.lemmas.Simd.{zip2_splat, zip2_of_maps}
 use lib.Lanes.{mask_l}
 use Rattle.mysql_sql_text.specs.LiteralText.{is_escaped}
-use Rattle.mysql_sql_text.proofs.BlockLemmas.{mask_is}
+use Rattle.mysql_sql_text.proofs.MaskLemmas.{mask_is}
 use Rattle.mysql_sql_text.proofs.escapes.escaped_lanes.Goals as goal
 
 pub returns-then-no_backslash_escape : goal.returns-then-no_backslash_escape

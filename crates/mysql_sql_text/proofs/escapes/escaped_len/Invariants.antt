@@ -10,7 +10,7 @@ invariant-loop-at l = record {
   few : l.escapes ≤ l.at;
   exact : l.at + l.escapes + length (escaped l.no_backslash_escape (drop l.at l.bytes))
       ≡ length (escaped l.no_backslash_escape l.bytes);
-  ascii : IsTrue l.ascii → IsAscii (take l.at l.bytes);
+  ascii : IsTrue l.ascii_only → IsAscii (take l.at l.bytes);
 }
 
 abbrev pub decreases-loop-at : goal.decreases-loop-at
