@@ -1,7 +1,7 @@
 -- From the mask of 16 bytes that are compared at once to each of the bytes.
-use Rattle.std.proofs.Common.{◌≡◌, ℕ, zero, suc, cond, bit_or, ◌==◌, ◌&&◌, Option, Some, None, inl, inr, ◌+◌, ◌-◌, ◌%◌, ◌^◌, ◌<◌, ◌≤◌, Bool, true, false, not, ◌||◌, List, [], ◌∷◌, map, length, get_or, Fits, w8, refl, sym, ap, ap₂, ◌∙◌, subst, arith}
+use Rattle.std.proofs.Common.{◌≡◌, ◌≢◌, ℕ, zero, suc, cond, bit_or, ◌==◌, ◌&&◌, Option, Some, None, inl, inr, ◌+◌, ◌-◌, ◌%◌, ◌^◌, ◌<◌, ◌≤◌, Bool, true, false, not, ◌||◌, List, [], ◌∷◌, map, length, get_or, Fits, w8, refl, sym, ap, ap₂, ◌∙◌, subst, arith}
 use Rattle.std.proofs.lemmas.Bool.{agree_below, agree_below_at, not-true, cases_Bool, cases_eq, eq-eqb, ne_eqb, cond-true, cond-false}
-use Rattle.std.proofs.lemmas.Simd.{map-map, mask_l-mod, length-chunk, get_or-chunk, leading_from_mask_l, trailing_mask_l}
+use Rattle.std.proofs.lemmas.Simd.{map-map, mask_l-mod, length-chunk, get_or-chunk, leading_from_mask_l, trailing_mask_l, run_in_chunk_le, run_in_chunk_fails, run_in_chunk_stops}
 use Rattle.std.proofs.lemmas.List.{length-map}
 use Rattle.std.proofs.lemmas.List.Sums.{prefix_len_passes, prefix_len-le-length, prefix_len_stops}
 use Rattle.std.proofs.Math.Bool.{beq}
@@ -107,6 +107,25 @@ module _ (q : ℕ → Bool) (d : List ℕ) (i n : ℕ) (o : Option ℕ) (z : Lis
             let short : before < n = elim (cases_eq before n) [ inl e ↦ absurd (some (empty_mask ends v (e ∙ sym whole))) | inr ne ↦ omega (arith, within, ne) ] in
             subst (IsFirstOther q d i n) (sym same) (short, passed before (omega arith), stopped short)
       ]
+
+-- the lowest bit of a mask that isn't empty is that of the first byte that passes
+pub lowest_bit : (p : ℕ → Bool) (d : List ℕ) (i n mask : ℕ) → i + n ≤ length d → n ≤ 64 →
+    mask ≡ mask_l (map p (chunk i n d)) → mask ≢ 0 →
+    (count_trailing_zeros 64 mask < n)
+    × ((k : ℕ) → i ≤ k → k < i + count_trailing_zeros 64 mask → p (get_or d k 0) ≡ false)
+    × (p (get_or d (i + count_trailing_zeros 64 mask) 0) ≡ true)
+lowest_bit p d i n mask room few is some =
+    let v = chunk i n d in
+    let long = length-chunk i n d room in
+    let counted : count_trailing_zeros 64 mask ≡ prefix_len (λ x. not (p x)) v =
+    ap (count_trailing_zeros 64) is ∙ trailing_mask_l p 64 v (omega (arith, long)) (omega (arith, is, some)) in
+    let within = run_in_chunk_le p d i n _ 0 room counted in
+    let short : count_trailing_zeros 64 mask < n =
+    elim (cases_eq (count_trailing_zeros 64 mask) n) [
+      | inl e ↦ absurd (some (is ∙ empty_mask p v (sym counted ∙ (e ∙ sym long))))
+      | inr ne ↦ omega (arith, within, ne)
+    ] in
+    (short, run_in_chunk_fails p d i n _ 0 room counted, run_in_chunk_stops p d i n _ 0 room counted short)
 
 -- two tests that give one answer
 pub agrees : (f g : ℕ → Bool) → ((x : ℕ) → f x ≡ g x) → (n : ℕ) → agree_below f g n ≡ true

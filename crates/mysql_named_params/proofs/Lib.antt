@@ -14,7 +14,7 @@ pub mod PositionLemmas
 pub mod ParsedLemmas
 pub mod PlainLemmas
 pub mod LaneLemmas
-pub mod StopLemmas
+pub mod ClosingQuoteLemmas
 pub mod JumpLemmas
 pub mod RestLemmas
 pub mod LocalityLemmas

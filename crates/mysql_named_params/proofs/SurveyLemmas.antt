@@ -14,7 +14,7 @@ use Rattle.mysql_named_params.specs.FirstPlace.{IsFirstPlace, BeginPlacesFrom}
 use Rattle.mysql_named_params.specs.declared.places.FoundPlace.{FoundPlace}
 use Rattle.mysql_named_params.proofs.TokenListLemmas.{one_token_list}
 use Rattle.mysql_named_params.proofs.TokenRowLemmas.{place_count-sum}
-use Rattle.mysql_named_params.proofs.StopLemmas.{fails}
+use Rattle.mysql_named_params.proofs.ClosingQuoteLemmas.{fails}
 use Rattle.mysql_named_params.proofs.FoundPlaceLemmas.{parted, names_after, marks_after, names_at_name}
 use Rattle.mysql_named_params.proofs.RenameLemmas.{name_found}
 

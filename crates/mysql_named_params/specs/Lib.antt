@@ -5,7 +5,7 @@ pub mod Positions
 pub mod Locality
 pub mod FirstToken
 pub mod TokensOf
-pub mod NextByte
+pub mod ClosingQuote
 pub mod FirstPlace
 pub mod PlainBytes
 pub mod Lanes

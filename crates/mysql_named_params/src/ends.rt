@@ -1,38 +1,97 @@
 //! Where strings, quoted identifiers and comments end. The first bytes are looked at 16 at once,
 //! since most ends are near; a far end is found by a jump. The jumps stand in functions of their
 //! own that are never inlined, so that the loops over near bytes stay short.
-ghost use Rattle.std.specs.Prelude.{◌≡◌, ◌<◌, ◌≤◌, [], ◌∷◌, length, take, drop, IsTrue};
+ghost use Rattle.std.specs.Prelude.{◌≡◌, ◌+◌, ◌<◌, ◌≤◌, [], ◌∷◌, length, take, drop, map, IsTrue};
+ghost use Rattle.std.specs.Simd.Lanes.{mask_l};
+ghost use Rattle.memchr.specs.Find.{is_byte};
 ghost use Rattle.mysql_sql_text.specs.StringUnits.{is_escape};
 ghost use Rattle.mysql_named_params.specs.Bytes.{asterisk, slash, is_string_quote, IsUpTo};
 ghost use Rattle.mysql_named_params.specs.Tokens.{IsStringTail};
-ghost use Rattle.mysql_named_params.specs.NextByte.{IsEscapeOf, IsNextStop};
+ghost use Rattle.mysql_named_params.specs.ClosingQuote.{is_escaped, IsFirstClosing, IsNextQuote};
 
 use crate::lanes::{LANES, first_of_two};
-use memchr::{memchr, memchr2, memmem};
+use memchr::{memchr, memmem};
+use std::simd::prelude::*;
 
 // The number of bytes that are looked at before a jump, which costs more than a near end.
 const NEAR: usize = 512;
 
-/// The length of a string after its opening quote, from stop to stop. Escapes often stand in a row,
-/// which needs no search.
+/// The length of a string after its opening quote. Only quotes are looked for: the bytes before
+/// one tell whether it closes the string, so that other escapes cost nothing.
 pub(crate) fn string_len(text: &[u8], quote: u8, no_backslash_escape: bool) -> usize
     requires { IsTrue (is_string_quote quote) }
     ensures in_range { result ≤ length text.now }
     ensures string { IsStringTail no_backslash_escape quote (take result text.now)
         (drop result text.now) }
 {
-    let mut at = next_stop(text, 0, quote, no_backslash_escape);
-    'escapes: while at < text.len() {
-        if text[at] == quote {
-            return at + 1;
+    let mut at = 0;
+    'jumps: while at < text.len() {
+        let near = text.len().min(at.saturating_add(NEAR));
+        let reach = near.saturating_sub(LANES - 1);
+        'by_lanes: while at < reach {
+            match closing_quote(text, at, quote, no_backslash_escape) {
+                Some(close) => return close + 1,
+                None => at += LANES,
+            }
         }
-        at = text.len().min(at + 2);
-        if at < text.len() && is_escape(text[at], no_backslash_escape) {
-            continue 'escapes;
+        let far = far_quote(text, at, quote);
+        if far == text.len() {
+            return far;
         }
-        at = next_stop(text, at, quote, no_backslash_escape);
+        if !is_escaped(text, far, no_backslash_escape) {
+            return far + 1;
+        }
+        at = far + 1;
     }
     at
+}
+
+// The index of the first closing quote among the 16 bytes from this one on. Each bit of a mask is
+// looked at once, so that quotes that stand close together cost no further comparison.
+#[inline(always)]
+fn closing_quote(text: &[u8], from: usize, quote: u8, no_backslash_escape: bool) -> Option<usize>
+    requires { from + LANES ≤ length text.now }
+    ensures { IsFirstClosing no_backslash_escape quote text.now from LANES result }
+{
+    let mut at = from;
+    let mut quotes = quotes_of_block(text, from, quote);
+    'quotes: while quotes != 0 {
+        let run = quotes.trailing_zeros() as usize;
+        at += run;
+        if !is_escaped(text, at, no_backslash_escape) {
+            return Some(at);
+        }
+        at += 1;
+        quotes >>= run + 1;
+    }
+    None
+}
+
+// One bit for each of the 16 bytes from this one on, the first byte's lowest: whether it is the
+// quote.
+#[inline(always)]
+fn quotes_of_block(text: &[u8], at: usize, quote: u8) -> u64
+    requires { at + LANES ≤ length text.now }
+    ensures { result ≡ mask_l (map (is_byte quote) (take LANES (drop at text.now))) }
+{
+    u8x16::from_slice(&text[at..])
+        .simd_eq(u8x16::splat(quote))
+        .to_bitmask()
+}
+
+// Whether the byte at this index of a string is escaped: the escapes directly before it pair up,
+// except one.
+fn is_escaped(text: &[u8], at: usize, no_backslash_escape: bool) -> bool
+    requires { at ≤ length text.now }
+    ensures { result ≡ is_escaped no_backslash_escape text.now at }
+{
+    let mut escaped = false;
+    let mut first = at;
+    'escapes: while first > 0 && is_escape(text[first - 1], no_backslash_escape) {
+        escaped = !escaped;
+        first -= 1;
+    }
+    escaped
 }
 
 // Whether the byte escapes the one after it in a string.
@@ -42,41 +101,13 @@ fn is_escape(byte: u8, no_backslash_escape: bool) -> bool
     !no_backslash_escape && byte == b'\\'
 }
 
-// The byte that escapes in a string of this quote, or the quote again if none does.
-fn escape_of(quote: u8, no_backslash_escape: bool) -> u8
-    ensures { IsEscapeOf no_backslash_escape quote result }
-{
-    if no_backslash_escape { quote } else { b'\\' }
-}
-
-// The index of the next quote or escape from this one on, or the end.
-fn next_stop(text: &[u8], from: usize, quote: u8, no_backslash_escape: bool) -> usize
-    requires { from ≤ length text.now }
-    ensures { IsNextStop no_backslash_escape quote text.now from result }
-{
-    let escape = escape_of(quote, no_backslash_escape);
-    let reach = text
-        .len()
-        .min(from.saturating_add(NEAR))
-        .saturating_sub(LANES - 1);
-    let mut at = from;
-    'by_lanes: while at < reach {
-        match first_of_two(text, at, quote, escape) {
-            Some(run) => return at + run,
-            None => at += LANES,
-        }
-    }
-    far_stop(text, at, quote, no_backslash_escape)
-}
-
-// `next_stop`, by a jump.
+// The index of the next quote from this one on, or the end, by a jump.
 #[inline(never)]
-fn far_stop(text: &[u8], from: usize, quote: u8, no_backslash_escape: bool) -> usize
+fn far_quote(text: &[u8], from: usize, quote: u8) -> usize
     requires { from ≤ length text.now }
-    ensures { IsNextStop no_backslash_escape quote text.now from result }
+    ensures { IsNextQuote quote text.now from result }
 {
-    let escape = escape_of(quote, no_backslash_escape);
-    match memchr2(quote, escape, &text[from..]) {
+    match memchr(quote, &text[from..]) {
         Some(far) => from + far,
         None => text.len(),
     }

@@ -18,7 +18,7 @@ use Rattle.mysql_named_params.specs.Tokens.{Token, bytes_of, text_of, IsToken, A
 use Rattle.mysql_named_params.specs.declared.tokens.TokenKind.{TokenKind}
 use Rattle.mysql_named_params.proofs.CutLemmas.{BeginsWithTokens, cut_none, cut_more, all_tokens, tokens_then}
 use Rattle.mysql_named_params.proofs.OtherModeLemmas.{all_parts, token_other}
-use Rattle.mysql_named_params.proofs.StopLemmas.{fails}
+use Rattle.mysql_named_params.proofs.ClosingQuoteLemmas.{fails}
 use Rattle.mysql_named_params.proofs.TokenEndLemmas.{slice_from}
 use Rattle.mysql_named_params.proofs.TokenListLemmas.{one_token, some_byte}
 use Rattle.mysql_named_params.proofs.TokenRowLemmas.{text_then-text_of}
