@@ -22,6 +22,10 @@ is_sure b =
     && not (b == carriage_return || (b == bracket || (b == dollar
     || (b == slash || (b == dash || (b == colon || b == question_mark))))))
 
+-- a byte that isn't sure
+abbrev pub is_unsure : ℕ → Bool
+is_unsure b = not (is_sure b)
+
 -- after a `$` such a byte may begin a tag, or a place
 abbrev pub may_begin_tag : ℕ → Bool
 may_begin_tag b = b == dollar || (b == question_mark || (b == colon || is_tag_byte b))

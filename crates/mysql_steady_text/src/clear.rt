@@ -1,11 +1,11 @@
 //! A quick test for queries that are steady and portable: it looks at 16 bytes at once, and closer
 //! only at those that may begin or end a construct.
-ghost use Rattle.std.specs.Prelude.{◌≡◌, ◌==◌, ◌+◌, ◌<◌, ◌≤◌, false, length, drop, slice_index, None, IfSome, IsTrue, IsFalse};
-ghost use Rattle.mysql_named_params.specs.Lanes.{first_set, IsFirstOther};
+ghost use Rattle.std.specs.Prelude.{◌≡◌, ◌==◌, ◌+◌, ◌<◌, ◌≤◌, false, length, take, drop, map, slice_index, IsTrue, IsFalse};
+ghost use Rattle.std.specs.Simd.Lanes.{mask_l};
 ghost use Rattle.mysql_named_params.specs.Bytes.{begins, dash, is_start_byte, newline};
 ghost use Rattle.mysql_named_params.specs.Portable.{may_open_line};
 ghost use Rattle.mysql_named_params.specs.Server.{keeps_dashes};
-ghost use Rattle.mysql_steady_text.specs.Clear.{begins_special_block, byte_before, is_clear, is_clear_from, is_in_doubt, is_sign, is_sure, may_begin_tag, may_take_dashes, may_take_place};
+ghost use Rattle.mysql_steady_text.specs.Clear.{begins_special_block, byte_before, is_clear, is_clear_from, is_in_doubt, is_sign, is_sure, is_unsure, may_begin_tag, may_take_dashes, may_take_place};
 
 use std::simd::prelude::*;
 
@@ -19,40 +19,44 @@ pub(crate) fn is_clear(text: &[u8]) -> bool
     let reach = text.len().saturating_sub(LANES - 1);
     let mut at = 0;
     'by_lanes: while at < reach {
-        match clear_end(text, at) {
-            Some(next) => at = next,
-            None => return false,
+        if is_doubt_in_block(text, at) {
+            return false;
         }
+        at += LANES;
     }
     !is_doubt_within(text, at, text.len())
 }
 
-// An index up to which no byte from this one on is in doubt: after 16 sure bytes, or after the
-// first of them that isn't sure. None if that one is in doubt. Inline, as the body of a loop.
+// Whether one of the 16 bytes from this one on is in doubt. Each bit of a mask is looked at once,
+// so that unsure bytes that stand close together cost no further comparison. Inline, as the body of
+// a loop.
 #[inline(always)]
-fn clear_end(text: &[u8], at: usize) -> Option<usize>
-    requires { at + LANES ≤ length text.now }
-    ensures in_range { IfSome result (λ end. (at < end) × (end ≤ length text.now)) }
-    ensures clear { IfSome result (λ end.
-        is_clear_from text.now end ≡ is_clear_from text.now at) }
-    ensures doubt { result ≡ None → is_clear_from text.now at ≡ false }
+fn is_doubt_in_block(text: &[u8], from: usize) -> bool
+    requires { from + LANES ≤ length text.now }
+    ensures some { IsTrue result → is_clear_from text.now from ≡ false }
+    ensures none { IsFalse result →
+        is_clear_from text.now (from + LANES) ≡ is_clear_from text.now from }
 {
-    let Some(sure) = find_unsure(text, at) else {
-        return Some(at + LANES);
-    };
-    let found = at + sure;
-    if is_doubt_at(text, found) {
-        None
-    } else {
-        Some(found + 1)
+    let mut at = from;
+    let mut unsure = unsure_of_block(text, from);
+    'unsure: while unsure != 0 {
+        let run = unsure.trailing_zeros() as usize;
+        at += run;
+        if is_doubt_at(text, at) {
+            return true;
+        }
+        at += 1;
+        unsure >>= run + 1;
     }
+    false
 }
 
-// How many of the 16 bytes from this one on stand before the first that isn't sure, if one isn't.
+// One bit for each of the 16 bytes from this one on, the first byte's lowest: whether it isn't
+// sure.
 #[inline(always)]
-fn find_unsure(text: &[u8], at: usize) -> Option<usize>
+fn unsure_of_block(text: &[u8], at: usize) -> u64
     requires { at + LANES ≤ length text.now }
-    ensures { IsFirstOther is_sure text.now at LANES result }
+    ensures { result ≡ mask_l (map is_unsure (take LANES (drop at text.now))) }
 {
     let bytes = u8x16::from_slice(&text[at..]);
     let unsteady = bytes.simd_ge(u8x16::splat(128)) | bytes.simd_eq(u8x16::splat(b'\\'));
@@ -61,19 +65,7 @@ fn find_unsure(text: &[u8], at: usize) -> Option<usize>
     let places = bytes.simd_eq(u8x16::splat(b':')) | bytes.simd_eq(u8x16::splat(b'?'));
     let returns = bytes.simd_eq(u8x16::splat(b'\r'));
     let others = ((unsteady | bracket_or_dollar) | (slash_or_dash | places)) | returns;
-    first_set(others.to_bitmask())
-}
-
-// The index of the lowest bit that is set, if one is.
-#[inline(always)]
-fn first_set(mask: u64) -> Option<usize>
-    ensures { result ≡ first_set mask }
-{
-    if mask == 0 {
-        None
-    } else {
-        Some(mask.trailing_zeros() as usize)
-    }
+    others.to_bitmask()
 }
 
 // Whether the byte at this index is in doubt.
