@@ -1,15 +1,18 @@
 -- A text that is written to the end of another one.
-use Rattle.std.specs.Prelude.{Bool, option_map}
-use Rattle.std.proofs.Common.{◌≡◌, ◌≤◌, ℕ, List, ◌++◌, length, take, drop, take_all, Option, Some, None, refl, sym, ap, ◌∙◌, arith}
+use Rattle.std.specs.Prelude.{Bool, Result, Ok, Err, IfErr, IsErrAnd, option_map}
+use Rattle.std.proofs.Common.{◌≡◌, ◌≤◌, ℕ, List, ◌++◌, length, take, drop, take_all, Option, Some, None, refl, sym, ap, ◌∙◌, subst, arith}
 use Rattle.std.proofs.lemmas.List.{take-append-le}
 use Rattle.mysql_values.specs.declared.value.Value.{Value}
 use Rattle.mysql_named_params.specs.Tokens.{Token, OnTokens}
 use Rattle.mysql_params_core.specs.Given.{Given}
 use Rattle.mysql_binding.specs.AppendedText.{AreFound}
-use Rattle.mysql_binding.specs.FirstCause.{Cause, later_cause}
+use Rattle.mysql_binding.specs.BindErrors.{IsCauseOrMemory, cause_of}
+use Rattle.mysql_binding.specs.FirstCause.{Cause, later_cause, first_cause}
 use Rattle.mysql_binding.specs.MeasuredText.{IsLookedUp}
 use Rattle.mysql_binding.specs.Survey.{IsSurvey}
+use Rattle.mysql_binding.specs.declared.bind_error.BindError.{BindError}
 use Rattle.mysql_binding.specs.declared.binding.survey.Survey.{Survey}
+use Rattle.mysql_binding.proofs.BoundTextLemmas.{cause_after_values}
 use Rattle.mysql_binding.proofs.CauseLemmas.{on_both, on_map}
 use Rattle.mysql_binding.proofs.MeasuredTextLemmas.{whole_vector}
 
@@ -26,6 +29,21 @@ found_looked_up mode query given survey values surveyed found later =
     no_cause_is : (r : Option Cause) → None ≡ option_map Some r → r ≡ None
     no_cause_is None e = refl
     no_cause_is (Some why) e = cc
+
+-- values that are refused for a later cause
+pub found_refused : (mode : Bool) (query : List ℕ) (given : Given) (survey : Survey) (values : List Value) (error : BindError) →
+    OnTokens mode query (IsSurvey survey) → OnTokens mode query (AreFound given values) →
+    ((ts : List Token) → IsSurvey survey ts → Some (cause_of error) ≡ option_map Some (later_cause ts values)) →
+    OnTokens mode query (λ ts. IsCauseOrMemory (first_cause ts given) error)
+found_refused mode query given survey values error surveyed found later =
+    on_map mode query (λ ts. IsSurvey survey ts × AreFound given values ts) (λ ts. IsCauseOrMemory (first_cause ts given) error)
+    (λ ts is h. cause_after_values ts given values error h.1.0 h.1.1 (later_cause ts values) refl (later ts h.0))
+    (on_both mode query (IsSurvey survey) (AreFound given values) surveyed found)
+
+-- an error that is handed on
+pub handed_on : {A E : Type 0} (P : E → Type 0) (r : Result A E) (e : E) → IsErrAnd r (λ t. t ≡ e) → P e → IfErr r P
+handed_on P (Ok a) e same h = absurd same
+handed_on P (Err t) e same h = subst P (sym same) h
 
 -- the bytes of a vector that is longer and filled from an index on
 pub appended_bytes : (old resized text more zeros slice : List ℕ) (at end n k : ℕ) → length text ≡ n → end ≡ n → at ≡ length old → slice ≡ resized → at ≤ k →

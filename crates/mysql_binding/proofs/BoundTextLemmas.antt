@@ -137,6 +137,16 @@ pub looked_up_names : (mode : Bool) (query : List ℕ) (given : Given) (ns : Lis
 looked_up_names mode query given ns values listed looked =
     on_map mode query (λ ts. ns ≡ names ts) _ (λ ts is h. ap (lookup given) (sym h) ∙ looked) listed
 
+-- a cause that is found after the values is the first one
+pub cause_after_values : (ts : List Token) (given : Given) (values : List Value) (error : BindError) →
+    mixed_cause ts ≡ None → lookup given (names ts) ≡ Ok values →
+    (r : Option Cause) → later_cause ts values ≡ r →
+    Some (cause_of error) ≡ option_map Some r → IsCauseOrMemory (first_cause ts given) error
+cause_after_values ts given values error mixed found None r e = cc
+cause_after_values ts given values error mixed found (Some why) r e =
+    let same : cause_of error ≡ Some why = cc in
+    inr (why, first_by ts given values (Some why) mixed found r, same)
+
 module _ (mode : Bool) (query : List ℕ) (given : Given) (survey : Survey) (values : List Value) (surveyed : OnTokens mode query (IsSurvey survey)) (never : 0 < survey.names × 0 < survey.marks → ⊥) (looked : OnTokens mode query (λ ts. lookup given (names ts) ≡ Ok values)) where
   known : OnTokens mode query (λ ts. IsSurvey survey ts × (lookup given (names ts) ≡ Ok values))
   known = on_both mode query (IsSurvey survey) (λ ts. lookup given (names ts) ≡ Ok values) surveyed looked
@@ -146,15 +156,7 @@ module _ (mode : Bool) (query : List ℕ) (given : Given) (survey : Survey) (val
       OnTokens mode query (λ ts. IsCauseOrMemory (first_cause ts given) error)
   refused_later error later =
       on_map mode query _ (λ ts. IsCauseOrMemory (first_cause ts given) error)
-      (λ ts is h. of_cause ts (mixed_none_of ts survey.names survey.marks h.0.0 h.0.1 never) h.1 (later_cause ts values) refl (later ts h.0)) known
-    where
-      of_cause : (ts : List Token) → mixed_cause ts ≡ None → lookup given (names ts) ≡ Ok values →
-          (r : Option Cause) → later_cause ts values ≡ r →
-          Some (cause_of error) ≡ option_map Some r → IsCauseOrMemory (first_cause ts given) error
-      of_cause ts mixed found None r e = cc
-      of_cause ts mixed found (Some why) r e =
-          let same : cause_of error ≡ Some why = cc in
-          inr (why, first_by ts given values (Some why) mixed found r, same)
+      (λ ts is h. cause_after_values ts given values error (mixed_none_of ts survey.names survey.marks h.0.0 h.0.1 never) h.1 (later_cause ts values) refl (later ts h.0)) known
 
   -- if there is no later cause
   pub looked_up : ((ts : List Token) → IsSurvey survey ts → None ≡ option_map Some (later_cause ts values)) →

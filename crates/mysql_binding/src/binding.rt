@@ -342,10 +342,14 @@ fn measured_values<'p, F: LiteralForm>(
     values: Vec<&'p Value>,
     form: &F,
 ) -> Result<MeasuredText<'p>, BindError>
-    ensures { IfOk result (λ measured. (mode : Bool) (query : List ℕ) (given : Given) →
+    ensures measured { IfOk result (λ measured. (mode : Bool) (query : List ℕ) (given : Given) →
         OnTokens mode query (IsSurvey survey) →
         OnTokens mode query (AreFound given (referents values.entry.items)) →
         OnTokens mode query (λ ts. IsMeasured (F.literal form.now) ts given measured)) }
+    ensures refused { IfErr result (λ error. (mode : Bool) (query : List ℕ) (given : Given) →
+        OnTokens mode query (IsSurvey survey) →
+        OnTokens mode query (AreFound given (referents values.entry.items)) →
+        OnTokens mode query (λ ts. IsCauseOrMemory (first_cause ts given) error)) }
 {
     if let Some(error) = later_error(survey, values.as_slice()) {
         return Err(error);

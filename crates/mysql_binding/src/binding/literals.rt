@@ -1,5 +1,5 @@
 //! The literals of values, in any form.
-ghost use Rattle.std.specs.Prelude.{◌≡◌, ◌+◌, ◌++◌, ◌≤◌, false, Some, IfOk, IfSome, length, map, take};
+ghost use Rattle.std.specs.Prelude.{◌≡◌, ◌+◌, ◌++◌, ◌≤◌, false, Some, IfOk, IfSome, OnErr, length, map, take};
 ghost use Rattle.std.specs.List.{All};
 ghost use Rattle.mysql_values.specs.Literal.{is_float};
 ghost use Rattle.mysql_values.specs.Value.{FieldsInRange};
@@ -88,6 +88,9 @@ pub fn push_literal<F: LiteralForm>(
         ≡ text.old.items ++ written_literal (F.literal form.now) value.now) }
     ensures known { IfOk result (λ done.
         IsKnownUnlessFloat (F.literal form.now) (F.IsKnown form.now) value.now) }
+
+    // Nothing is allocated for a float.
+    ensures memory { OnErr result (is_float value.now ≡ false) }
 {
     let Some(len) = form.len(value) else {
         return Ok(());

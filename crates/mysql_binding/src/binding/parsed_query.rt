@@ -234,8 +234,9 @@ impl<'q> Eq for ParsedQuery<'q> {
 }
 
 /// Writes the text of a parsed query with these values, which are looked up, to the end of another
-/// text, in any form of literals; if it refuses, the text stays as it is. It is lent to the crates
-/// above: of many texts of one query each needs neither a map of values nor a vector.
+/// text, in any form of literals. It refuses what [`bind_borrowed_as`](crate::bind_borrowed_as)
+/// refuses, and then the text stays as it is. It is lent to the crates above: of many texts of one
+/// query each needs neither a map of values nor a vector.
 pub fn append_parsed<F: LiteralForm>(
     alloc: Global,
     query: &ParsedQuery<'_>,
@@ -248,6 +249,11 @@ pub fn append_parsed<F: LiteralForm>(
     ensures appended { OnOk result (IsAppended (F.literal form.now) (F.IsKnown form.now)
         query.now.mode query.now.query (referents values.entry.items)
         text.old.items text.new.items) }
+    ensures refused { IfErr result (λ error. (given : Given) →
+        OnTokens query.now.mode query.now.query
+        (AreFound given (referents values.entry.items)) →
+        OnTokens query.now.mode query.now.query (λ ts.
+        IsCauseOrMemory (first_cause ts given) error)) }
     ensures kept { OnErr result (text.new.items ≡ text.old.items) }
 {
     let measured = measured_values(alloc, query.survey, values, form)?;
