@@ -146,7 +146,8 @@ pub fn bind_fragments(
 }
 
 /// The query of [`expanded_query_in`] and its values, which are to be written as literals: it also
-/// refuses a float, as [`bind_fragments_in`] does. Lent to the crate above.
+/// refuses a float, as [`bind_fragments_in`] does. It is for a caller that writes the literals
+/// itself; `bind_fragments_in` writes the text with them at once.
 pub fn expanded_for_literals(
     alloc: Global,
     query: &[u8],

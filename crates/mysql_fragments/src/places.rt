@@ -14,7 +14,7 @@ use std::alloc::{AllocError, Global};
 use std::collections::HashMap;
 
 /// References to the fragments for the places of a query with this many names, and no marks beside
-/// them. Lent to the crate above.
+/// them. It is public, though this crate alone calls it.
 pub fn fragments_of_places<'f>(
     alloc: Global,
     query: &[u8],

@@ -9,7 +9,8 @@ use crate::fragment::{Fragment, Item};
 use mysql_values::value::Value;
 use std::alloc::AllocError;
 
-/// Writes the text of a fragment with a mark for each value to the end. Lent to the crate above.
+/// Writes the text of a fragment with a mark for each value to the end. It is public, though this
+/// crate alone calls it.
 pub fn push_fragment(text: &mut Vec<u8>, fragment: &Fragment) -> Result<(), AllocError>
     ensures { IfOk result (λ done.
         text.new.items ≡ text.old.items ++ fragment_text fragment.now) }

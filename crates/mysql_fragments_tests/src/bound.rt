@@ -4,7 +4,8 @@
 use crate::shared::Plain::{Decimal, Identifier, Keyword, List, Qualified, Rows};
 use crate::shared::PlainItem::{Decimal as Number, Int, Null};
 use crate::shared::{Plain, bound, fragment};
-use mysql_fragments::{Fragments, bind_fragments, expanded_query};
+use mysql_fragments::{Fragment, Fragments, bind_fragments, expanded_for_literals, expanded_query};
+use mysql_values::value::Value;
 use std::alloc::Global;
 use std::collections::HashMap;
 
@@ -100,6 +101,32 @@ fn expanded_by_name(alloc: Global) -> bool {
     }
 }
 
+fn positional(alloc: Global) -> Option<Fragments> {
+    let mut list = Vec::new(alloc);
+    let ids = fragment(alloc, List(&[Int(7), Number(b"-1.50"), Null])).ok()?;
+    list.push(ids).ok()?;
+    list.push(Fragment::Value(Value::Int(5))).ok()?;
+    Some(Fragments::Positional(list))
+}
+
+const LIST_AND_VALUE: &[u8] = b"SELECT * FROM t WHERE id IN (?) AND n = ?";
+
+const MARKS_OF_BOTH: &[u8] = b"SELECT * FROM t WHERE id IN (?, -1.50, ?) AND n = ?";
+
+fn expanded_by_position(alloc: Global) -> bool {
+    match positional(alloc) {
+        Some(fragments) => match expanded_for_literals(alloc, LIST_AND_VALUE, &fragments, false) {
+            Ok(expanded) => {
+                let values = expanded.values.as_slice();
+                let are_given = matches!(values, [Value::Int(7), Value::NULL, Value::Int(5)]);
+                are_given && expanded.query.as_slice() == MARKS_OF_BOTH
+            }
+            Err(_) => false,
+        },
+        None => false,
+    }
+}
+
 #[test]
 fn a_name_gives_its_fragment_each_time(rt: HostRuntime) {
     let same = bound_by_name(rt.alloc());
@@ -109,5 +136,11 @@ fn a_name_gives_its_fragment_each_time(rt: HostRuntime) {
 #[test]
 fn a_prepared_statement_has_marks_and_values(rt: HostRuntime) {
     let same = expanded_by_name(rt.alloc());
+    assert!(rt; same);
+}
+
+#[test]
+fn a_query_for_literals_has_marks_and_values(rt: HostRuntime) {
+    let same = expanded_by_position(rt.alloc());
     assert!(rt; same);
 }

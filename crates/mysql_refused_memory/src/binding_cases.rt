@@ -1,7 +1,7 @@
 //! Queries bound to text: `bind_text`.
 use crate::inputs::Given::{Empty, Named, Positional};
 use crate::inputs::Plain::{Bytes, Float, Int, Null, UInt};
-use crate::inputs::{Given, Plain};
+use crate::inputs::{A_TO_Q, Given, Plain};
 use crate::outcome::Memory::{Asked, Never};
 use crate::outcome::{Case, Memory, cases, judged, row};
 use mysql_params::{bind_text, bind_text_in};
@@ -34,6 +34,9 @@ const BOUND: &[(&str, Row)] = cases! {
     "bind_text of a name" =>
         b"SELECT (:a-10)", Named(&[(b"a", Int(-3))]), None, Ok(b"SELECT (-3-10)"), Asked;
     "bind_text of a repeated name" => b":a%:a!=1", FIVE_OF_A, None, Ok(b"5%5!=1"), Asked;
+    "bind_text of more names than are kept" =>
+        b":a,:b,:c,:d,:e,:f,:g,:h,:i,:j,:k,:l,:m,:n,:o,:p,:q", A_TO_Q, None,
+        Ok(b"1,2,3,4,5,6,7,8,9,10,11,12,13,14,15,16,17"), Asked;
     "bind_text of a text by name" =>
         b":a = :a", Named(&[(b"a", Bytes(b"it's"))]), None, Ok(b"'it\\'s' = 'it\\'s'"), Asked;
     "bind_text of a text and NULL by position" =>

@@ -84,6 +84,28 @@ impl Given<'_> {
     }
 }
 
+/// The numbers from 1 to 17 for the names from `a` to `q`: one more than the places that binding
+/// keeps without memory.
+pub(crate) const A_TO_Q: Given = Given::Named(&[
+    (b"a", Plain::UInt(1)),
+    (b"b", Plain::UInt(2)),
+    (b"c", Plain::UInt(3)),
+    (b"d", Plain::UInt(4)),
+    (b"e", Plain::UInt(5)),
+    (b"f", Plain::UInt(6)),
+    (b"g", Plain::UInt(7)),
+    (b"h", Plain::UInt(8)),
+    (b"i", Plain::UInt(9)),
+    (b"j", Plain::UInt(10)),
+    (b"k", Plain::UInt(11)),
+    (b"l", Plain::UInt(12)),
+    (b"m", Plain::UInt(13)),
+    (b"n", Plain::UInt(14)),
+    (b"o", Plain::UInt(15)),
+    (b"p", Plain::UInt(16)),
+    (b"q", Plain::UInt(17)),
+]);
+
 fn positional(alloc: Global, plain: &[Plain<'_>]) -> Result<Params, AllocError> {
     let mut values = Vec::new(alloc);
     for value in plain {

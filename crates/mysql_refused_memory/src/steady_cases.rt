@@ -1,7 +1,7 @@
 //! Queries bound to steady text.
-use crate::inputs::Given;
 use crate::inputs::Given::{Empty, Named, Positional};
 use crate::inputs::Plain::{Bytes, Float, Int, Null};
+use crate::inputs::{A_TO_Q, Given};
 use crate::outcome::Memory::{Asked, Never};
 use crate::outcome::{Case, Memory, Outcome, cases, judged, row};
 use mysql_params::{
@@ -38,6 +38,9 @@ const ANYWHERE: &[(&str, Row)] = cases! {
         Ok(b"SELECT _utf8mb4'it''s', _utf8mb4 0xC3A9, NULL"), Asked;
     "bind_text_anywhere of a name" =>
         b"SELECT (:a-10)", Named(&[(b"a", Int(-3))]), Ok(b"SELECT (-3-10)"), Asked;
+    "bind_text_anywhere of more names than are kept" =>
+        b":a,:b,:c,:d,:e,:f,:g,:h,:i,:j,:k,:l,:m,:n,:o,:p,:q", A_TO_Q,
+        Ok(b"1,2,3,4,5,6,7,8,9,10,11,12,13,14,15,16,17"), Asked;
     "bind_text_anywhere of an unsteady query" =>
         b"x\\:a", NAMED_TEXT, Err("Unsteady { at: 1 }"), Never;
     "bind_text_anywhere of a query that is not portable" =>
