@@ -1,8 +1,8 @@
 -- Each query has tokens, of the grammar and on each server; the grammar is one of the servers.
 use Rattle.std.specs.Prelude.{Bool}
-use Rattle.std.proofs.Common.{◌≡◌, ◌≢◌, ◌⊎◌, ℕ, zero, suc, ◌≤◌, true, false, cond, not, ◌==◌, ◌&&◌, ◌||◌, List, [], ◌∷◌, ◌++◌, length, take, drop, Option, Some, None, refl, sym, ap, ◌∙◌, subst, inl, inr, arith, true≢false, take-append-drop, length-append, ne_eqb}
+use Rattle.std.proofs.Common.{◌≡◌, ◌≢◌, ◌⊎◌, ℕ, zero, suc, ◌≤◌, true, false, cond, not, ◌==◌, ◌&&◌, List, [], ◌∷◌, ◌++◌, length, drop, Option, Some, None, refl, sym, ap, ◌∙◌, subst, inl, inr, arith, true≢false, take-append-drop, length-append, ne_eqb}
 use Rattle.std.proofs.lemmas.Bool.{cases_Bool, and_parts, and_right, or_from, or_right, eqb-true, eqb-false}
-use Rattle.mysql_named_params.specs.Bytes.{asterisk, backquote, colon, dash, hash, newline, question_mark, slash, space, is_white_space, is_start_byte, is_string_quote, is_extension, begins, IsUpTo}
+use Rattle.mysql_named_params.specs.Bytes.{asterisk, backquote, colon, dash, hash, newline, question_mark, slash, space, is_white_space, is_start_byte, is_string_quote, is_extension, begins}
 use Rattle.mysql_named_params.specs.Tokens.{Token, bytes_of, text_of, IsToken, IsTokens, AreTokensBefore, IsStringTail, QuotedString, QuotedIdentifier, HashComment, DashComment, BlockComment, Name, Mark, Plain}
 use Rattle.mysql_named_params.specs.TokensOf.{len_up_to, string_len, name_len, name_at, not_plain_at, dash_comment, block_comment}
 use Rattle.mysql_named_params.proofs.RestLemmas.{cond_none, some_none, dash_none, block_none}

@@ -1,7 +1,7 @@
 -- The tokens that every server reads alike.
 use Rattle.std.specs.Prelude.{Bool}
 use Rattle.std.proofs.Common.{◌≡◌, ◌≢◌, ◌⊎◌, ℕ, true, false, cond, not, ◌==◌, ◌&&◌, ◌||◌, List, [], ◌∷◌, ◌++◌, length, Option, None, refl, sym, ap, ◌∙◌, subst, inl, inr, arith, true≢false, length-append, append-nil}
-use Rattle.std.proofs.lemmas.Bool.{cases_Bool, and_parts, or_parts, not-true, not-false, eqb-true, eqb-false}
+use Rattle.std.proofs.lemmas.Bool.{cases_Bool, and_parts, or_parts, not-true, eqb-true, eqb-false}
 use Rattle.std.proofs.lemmas.Bool.Decides.{nat_tests}
 use Rattle.mysql_named_params.specs.Bytes.{asterisk, backquote, colon, dash, double_quote, exclamation_mark, hash, newline, question_mark, slash, space, is_white_space, is_string_quote, begins, IsUpTo, up_to_word, up_to_end}
 use Rattle.mysql_sql_text.specs.StringUnits.{AreUnits, no_units, byte_unit}

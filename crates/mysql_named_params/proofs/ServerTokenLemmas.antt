@@ -1,9 +1,9 @@
 -- The token with which a text begins on a server, computed; no query has two token lists there.
 use Rattle.std.specs.Prelude.{Bool}
-use Rattle.std.proofs.Common.{◌≡◌, ◌⊎◌, ℕ, suc, true, false, cond, ◌==◌, ◌&&◌, ◌||◌, List, [], ◌∷◌, ◌++◌, length, take, Option, Some, None, refl, sym, ap, ◌∙◌, subst, inl, inr, arith, eq-eqb, ne_eqb}
+use Rattle.std.proofs.Common.{◌≡◌, ◌⊎◌, ℕ, true, false, cond, ◌==◌, ◌&&◌, ◌||◌, List, [], ◌∷◌, ◌++◌, take, Option, Some, None, refl, sym, ap, ◌∙◌, subst, inl, inr, arith, eq-eqb, ne_eqb}
 use Rattle.std.proofs.lemmas.List.{append_cancel_left}
-use Rattle.std.proofs.lemmas.Bool.{cases_Bool, and_parts, eqb-true, eqb-false}
-use Rattle.mysql_named_params.specs.Bytes.{asterisk, backquote, colon, dash, hash, newline, question_mark, slash, is_string_quote, IsUpTo, bracket, dollar, point}
+use Rattle.std.proofs.lemmas.Bool.{and_parts, eqb-true}
+use Rattle.mysql_named_params.specs.Bytes.{asterisk, backquote, colon, dash, hash, newline, question_mark, slash, is_string_quote, bracket, dollar, point}
 use Rattle.mysql_named_params.specs.Tokens.{Token, bytes_of, text_of, QuotedString, QuotedIdentifier, HashComment, DashComment, BlockComment, Name, Mark, Plain}
 use Rattle.mysql_named_params.specs.TokensOf.{len_up_to, string_len, name_at}
 use Rattle.mysql_named_params.proofs.TokenEnds.{take_front, up_to_is, string_len_is, name_len_is}

@@ -11,7 +11,7 @@ ghost use Rattle.mysql_named_params.specs.TameBytes.{IsTameText};
 ghost use Rattle.mysql_named_params.specs.FrontInClient.{are_comment, statement_after, line_after, found_in_bytes, found_or_zero, found_in_front};
 
 use crate::calm_bytes::calm_len;
-use crate::lanes::{NEAR, end_without};
+use crate::lanes::{BEFORE_JUMP, end_without};
 use crate::portable::{Construct, Unportable, begins_place, begins_special, front_construct};
 use crate::tame_bytes::are_tame;
 use crate::tokens::{first_token, is_white_space};
@@ -74,7 +74,7 @@ fn holds_opener(text: &[u8]) -> bool
     let mut i = 0;
     'stops: while i < text.len() {
         i = end_without(text, i, b'/', b'*');
-        let near = i + NEAR.min(text.len() - i);
+        let near = i + BEFORE_JUMP.min(text.len() - i);
         'near_bytes: while i < near {
             let rest = &text[i..];
             if begins_opener(rest) {
@@ -228,7 +228,7 @@ fn escapes_newline(text: &[u8]) -> bool
     let mut i = 0;
     'stops: while i < text.len() {
         i = end_without(text, i, b'\\', b'\\');
-        let near = i + NEAR.min(text.len() - i);
+        let near = i + BEFORE_JUMP.min(text.len() - i);
         'near_bytes: while i < near {
             if text[i] == b'\\' && ends_line(&text[i + 1..]) {
                 return true;
@@ -309,7 +309,7 @@ fn begins_delimiter_line(text: &[u8]) -> bool
     let mut i = 0;
     'stops: while i < text.len() {
         i = end_without(text, i, b'\n', b'\n');
-        let near = i + NEAR.min(text.len() - i);
+        let near = i + BEFORE_JUMP.min(text.len() - i);
         'near_bytes: while i < near {
             if text[i] == b'\n' && begins_word(b"delimiter", &text[i + 1..]) {
                 return true;

@@ -8,9 +8,9 @@ use std::simd::prelude::*;
 /// The number of bytes that are compared at once.
 pub(crate) const LANES: usize = 16;
 
-/// The number of bytes that a search by jumps looks at one by one after each, since the next byte
-/// that it looks for is often near.
-pub(crate) const NEAR: usize = 8;
+/// The number of bytes that a search by jumps looks at one by one before the next jump, since the
+/// byte that it looks for is often near.
+pub(crate) const BEFORE_JUMP: usize = 8;
 
 /// The index of the lowest bit that is set, if one is.
 #[inline(always)]
