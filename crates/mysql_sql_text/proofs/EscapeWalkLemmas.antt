@@ -1,24 +1,20 @@
 -- Blocks that are looked at in part: up to their first escape, or from a byte on.
-use Rattle.std.proofs.Common.{◌≡◌, ℕ, zero, suc, ◌+◌, ◌-◌, ◌/◌, ◌^◌, ◌<◌, ◌≤◌, Bool, false, not, List, [], ◌∷◌, ◌++◌, map, length, take, drop, get_or, refl, sym, subst, ap, ap₂, ◌∙◌, arith, inl, inr, append_assoc, length-append}
+use Rattle.std.proofs.Common.{◌≡◌, ℕ, zero, suc, ◌+◌, ◌-◌, ◌/◌, ◌^◌, ◌<◌, ◌≤◌, Bool, false, not, List, [], ◌∷◌, ◌++◌, map, length, take, drop, get_or, refl, sym, ap, ap₂, ◌∙◌, arith, inl, inr, append_assoc, length-append}
 use Rattle.std.specs.List.{count_by, prefix_len}
-use Rattle.std.specs.Str.{IsAscii, IsUtf8}
 use Rattle.std.specs.Int.RustNames.{count_ones}
-use Rattle.std.proofs.lemmas.Bool.{cases_Bool, cases_lt, leb-false}
-use Rattle.std.proofs.lemmas.List.{take_all, drop_all, take-take, take-append-drop, length-take-le, drop-drop, drop-map, length-drop}
+use Rattle.std.proofs.lemmas.Bool.{cases_Bool, cases_lt}
+use Rattle.std.proofs.lemmas.List.{take_all, drop_all, take-take, length-take-le, drop-drop, drop-map, length-drop}
 use Rattle.std.proofs.lemmas.List.Sums.{count_by-le-length}
-use Rattle.std.proofs.lemmas.Str.{IsAscii-append, IsAscii-take, IsUtf8-append, IsUtf8-drop, IsUtf8-from_ascii, IsCharBoundary-from_take}
-use Rattle.std.proofs.lemmas.Str.Ascii.{IsAscii-cons, IsAscii-nil}
 use Rattle.std.proofs.lemmas.Simd.{ones-mask_l, length-chunk, trailing_mask_l, run_in_chunk_le, run_in_chunk_fails}
-use Rattle.std.proofs.Math.Seq.{drop-cons, take-add, take-append-add}
-use lib.Dec.{leb}
+use Rattle.std.proofs.Math.Seq.{drop-cons, take-append-add}
 use lib.Count.{count_trailing_zeros}
 use lib.Lanes.{chunk, mask_l}
 use Rattle.mysql_sql_text.specs.LiteralText.{escaped, escaped_byte, is_escaped}
 use Rattle.mysql_sql_text.proofs.MaskLemmas.{mask_l-drop}
-use Rattle.mysql_sql_text.proofs.BlockLemmas.{escaped_byte-plain, escaped-block, length-escaped, length-escaped-cut, no_bits}
+use Rattle.mysql_sql_text.proofs.BlockLemmas.{escaped_byte-plain, escaped-block, length-escaped, length-escaped-cut}
 
 -- the last block is the end of the bytes, also without what an earlier one has of it
-block_to_end : (bytes : List ℕ) (last : ℕ) → last + 16 ≡ length bytes → chunk last 16 bytes ≡ drop last bytes
+pub block_to_end : (bytes : List ℕ) (last : ℕ) → last + 16 ≡ length bytes → chunk last 16 bytes ≡ drop last bytes
 block_to_end bytes last long = take_all 16 (drop last bytes) (omega (arith, length-drop last bytes))
 
 last_block : (bytes : List ℕ) (last at : ℕ) → last + 16 ≡ length bytes → last ≤ at
@@ -49,27 +45,6 @@ length-escaped-after mode bytes = ap (λ left. length (escaped mode left)) (drop
 pub count-end-le : (mode : Bool) (bytes : List ℕ) (at : ℕ) → at ≤ length bytes
     → count_by (is_escaped mode) (drop at bytes) + at ≤ length bytes
 count-end-le mode bytes at within = omega (arith, count_by-le-length (is_escaped mode) (drop at bytes), length-drop at bytes)
-
--- bytes of which none has the high bit are ASCII
-pub IsAscii-from_mask : (bytes : List ℕ) → mask_l (map (leb 128) bytes) ≡ 0 → IsAscii bytes
-IsAscii-from_mask [] empty = IsAscii-nil
-IsAscii-from_mask (b ∷ bytes) empty =
-    let bits = no_bits (leb 128 b) (mask_l (map (leb 128) bytes)) empty in
-    IsAscii-cons b bytes (leb-false 128 b bits.0) (IsAscii-from_mask bytes bits.1)
-
--- ASCII so far, and one block more
-pub IsAscii-next_block : (bytes : List ℕ) (at : ℕ) → IsAscii (take at bytes) → IsAscii (chunk at 16 bytes) → IsAscii (take (at + 16) bytes)
-IsAscii-next_block bytes at front block =
-    subst IsAscii (sym (take-add at 16 bytes)) (IsAscii-append (take at bytes) (chunk at 16 bytes) front block)
-
--- and the last block
-pub IsAscii-last_block : (bytes : List ℕ) (last at : ℕ) → last + 16 ≡ length bytes → last ≤ at
-    → IsAscii (take at bytes) → IsAscii (chunk last 16 bytes) → IsAscii bytes
-IsAscii-last_block bytes last at long within front block =
-    let before : IsAscii (take last bytes) = subst IsAscii (take-take last at bytes within) (IsAscii-take (take at bytes) last front) in
-    let whole : take last bytes ++ chunk last 16 bytes ≡ bytes =
-    ap (λ t. take last bytes ++ t) (block_to_end bytes last long) ∙ take-append-drop last bytes in
-    subst IsAscii whole (IsAscii-append (take last bytes) (chunk last 16 bytes) before block)
 
 -- the bytes before an escape stand for themselves
 pub escaped-run : (mode : Bool) (bytes : List ℕ) (from count : ℕ) → from + count < length bytes
@@ -183,12 +158,3 @@ module _ (mode : Bool) (bytes : List ℕ) (from mask : ℕ) (block : from + 16 �
       ∙ ap (λ t. t ++ after) (append_assoc front plain escape)
       ∙ append_assoc front (plain ++ escape) after
       ∙ ap (λ t. front ++ t) (append_assoc plain escape after ∙ sym first_escape_cuts)
-
--- after ASCII the rest is UTF-8 if all is, and the other way round
-pub IsUtf8-after_ascii : (bytes : List ℕ) (at : ℕ) → at ≤ length bytes → IsAscii (take at bytes) → IsUtf8 bytes → IsUtf8 (drop at bytes)
-IsUtf8-after_ascii bytes at within front utf8 =
-    IsUtf8-drop bytes at utf8 (IsCharBoundary-from_take bytes at utf8 within (IsUtf8-from_ascii (take at bytes) front))
-
-pub IsUtf8-with_ascii : (bytes : List ℕ) (at : ℕ) → IsAscii (take at bytes) → IsUtf8 (drop at bytes) → IsUtf8 bytes
-IsUtf8-with_ascii bytes at front rest =
-    subst IsUtf8 (take-append-drop at bytes) (IsUtf8-append (take at bytes) (drop at bytes) (IsUtf8-from_ascii (take at bytes) front) rest)

@@ -1,18 +1,16 @@
 -- Literals of bytes: which they are, and how long.
-use Rattle.std.proofs.Common.{◌≡◌, ℕ, ◌+◌, ◌*◌, ◌<◌, Bool, List, [], ◌∷◌, length, refl, arith}
+use Rattle.std.proofs.Common.{◌≡◌, ℕ, ◌+◌, ◌*◌, ◌<◌, Bool, true, false, List, [], ◌∷◌, length, refl, arith}
 use Rattle.std.proofs.Common.{length-append}
 use Rattle.std.specs.Prelude.{codes, ◌++◌}
-use Rattle.std.specs.Str.{IsUtf8, is_utf8}
-use Rattle.std.proofs.lemmas.Bool.{cond_both, cond-true, cond-false, false_from_ne_true}
-use Rattle.std.proofs.lemmas.Str.{IsUtf8-from_is_utf8, is_utf8-from_IsUtf8}
+use Rattle.std.specs.Str.{is_utf8}
+use Rattle.std.proofs.lemmas.Bool.{cond_both, cond-true, cond-false}
 use Rattle.mysql_sql_text.specs.LiteralText.{bytes_literal, escaped, hexadecimal, quoted}
 
-pub bytes_literal-utf8 : (mode : Bool) (bytes : List ℕ) → IsUtf8 bytes → bytes_literal mode bytes ≡ quoted (escaped mode bytes)
-bytes_literal-utf8 mode bytes utf8 = cond-true (is_utf8 bytes) _ _ (is_utf8-from_IsUtf8 bytes utf8)
+pub bytes_literal-is_utf8 : (mode : Bool) (bytes : List ℕ) → is_utf8 bytes ≡ true → bytes_literal mode bytes ≡ quoted (escaped mode bytes)
+bytes_literal-is_utf8 mode bytes utf8 = cond-true (is_utf8 bytes) _ _ utf8
 
-pub bytes_literal-other : (mode : Bool) (bytes : List ℕ) → (IsUtf8 bytes → ⊥) → bytes_literal mode bytes ≡ codes "0x" ++ hexadecimal bytes
-bytes_literal-other mode bytes other =
-    cond-false (is_utf8 bytes) _ _ (false_from_ne_true (is_utf8 bytes) (λ utf8. other (IsUtf8-from_is_utf8 bytes utf8)))
+pub bytes_literal-not_utf8 : (mode : Bool) (bytes : List ℕ) → is_utf8 bytes ≡ false → bytes_literal mode bytes ≡ codes "0x" ++ hexadecimal bytes
+bytes_literal-not_utf8 mode bytes other = cond-false (is_utf8 bytes) _ _ other
 
 pub length-quoted : (text : List ℕ) → length (quoted text) ≡ 2 + length text
 length-quoted text = omega (arith, length-append text (codes "'"))

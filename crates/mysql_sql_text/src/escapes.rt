@@ -3,9 +3,8 @@
 //! Most bytes stand for themselves. So the bytes go in blocks of 16: the escapes of a block are
 //! counted together, and a block is copied whole, of which the bytes before its first escape stay.
 //! A block with many escapes goes byte by byte, and so do the bytes after the last block.
-ghost use Rattle.std.specs.Prelude.{◌≡◌, [], ◌∷◌, ◌++◌, ◌+◌, ◌*◌, ◌<◌, ◌≤◌, length, take, drop, map, IsFalse, IsTrue};
+ghost use Rattle.std.specs.Prelude.{◌≡◌, [], ◌∷◌, ◌++◌, ◌+◌, ◌*◌, ◌<◌, ◌≤◌, length, take, drop, map};
 ghost use Rattle.std.specs.Int.RustNames.{count_ones};
-ghost use Rattle.std.specs.Str.{IsAscii};
 ghost use Rattle.std.specs.Simd.Lanes.{mask_l};
 ghost use Rattle.mysql_sql_text.specs.LiteralText.{escaped, escaped_byte, is_escaped};
 
@@ -32,51 +31,27 @@ static AFTER_BACKSLASH: [u8; 256] = *b"\
     ................................\
     ................................";
 
-// How long the escaped bytes are, and how many bytes were counted: all, or with `ascii_only` those
-// before the first 16 that aren't all ASCII. The last block overlaps the one before it, so that no
-// bytes are left over.
-pub(crate) fn escaped_len(
-    bytes: &[u8],
-    no_backslash_escape: bool,
-    ascii_only: bool,
-) -> (usize, usize)
-    ensures within { result.1 ≤ length bytes.now }
-    ensures exact { result.0 + length (escaped no_backslash_escape (drop result.1 bytes.now))
-        ≡ length (escaped no_backslash_escape bytes.now) }
-    ensures few { result.0 ≤ 2 * result.1 }
-    ensures ascii { IsTrue ascii_only → IsAscii (take result.1 bytes.now) }
-    ensures all { IsFalse ascii_only → result.1 ≡ length bytes.now }
+// How long the escaped bytes are. The last block overlaps the one before it, so that no bytes are
+// left over.
+pub(crate) fn escaped_len(bytes: &[u8], no_backslash_escape: bool) -> usize
+    ensures exact { result ≡ length (escaped no_backslash_escape bytes.now) }
+    ensures few { result ≤ 2 * length bytes.now }
 {
     if bytes.len() < LANES {
-        return escaped_bytes_len(bytes, no_backslash_escape, ascii_only);
+        return escaped_bytes_len(bytes, no_backslash_escape);
     }
     let mut at = 0;
     let mut escapes = 0;
     while bytes.len() - at > LANES {
         let block = u8x16::from_slice(&bytes[at..]);
-        if !is_counted(block, ascii_only) {
-            return (at + escapes, at);
-        }
         escapes += count_set_bits(escaped_lanes(block, no_backslash_escape));
         at += LANES;
     }
     let last = bytes.len() - LANES;
     let end = u8x16::from_slice(&bytes[last..]);
-    if !is_counted(end, ascii_only) {
-        return (at + escapes, at);
-    }
     let uncounted = escaped_lanes(end, no_backslash_escape) >> (at - last);
     escapes += count_set_bits(uncounted);
-    (bytes.len() + escapes, bytes.len())
-}
-
-// Whether a block is counted: any, or with `ascii_only` one of ASCII alone.
-#[inline(always)]
-fn is_counted(block: u8x16, ascii_only: bool) -> bool
-    ensures ascii { IsTrue result → IsTrue ascii_only → IsAscii block }
-    ensures any { IsFalse ascii_only → IsTrue result }
-{
-    !ascii_only || are_ascii_lanes(block)
+    bytes.len() + escapes
 }
 
 // How many bits are set. Most words have none, and those are not counted.
@@ -90,33 +65,16 @@ fn count_set_bits(bits: u64) -> usize
     bits.count_ones() as usize
 }
 
-// Whether 16 bytes are all ASCII.
-#[inline(always)]
-fn are_ascii_lanes(block: u8x16) -> bool
-    ensures { IsTrue result → IsAscii block }
-{
-    block.simd_ge(u8x16::splat(128)).to_bitmask() == 0
-}
-
-// `escaped_len` of a few bytes, one by one. With `ascii_only` none is counted unless all are ASCII.
-fn escaped_bytes_len(bytes: &[u8], no_backslash_escape: bool, ascii_only: bool) -> (usize, usize)
-    ensures within { result.1 ≤ length bytes.now }
-    ensures exact { result.0 + length (escaped no_backslash_escape (drop result.1 bytes.now))
-        ≡ length (escaped no_backslash_escape bytes.now) }
-    ensures few { result.0 ≤ 2 * result.1 }
-    ensures ascii { IsTrue ascii_only → IsAscii (take result.1 bytes.now) }
-    ensures all { IsFalse ascii_only → result.1 ≡ length bytes.now }
+// How long the escaped bytes are, byte by byte.
+fn escaped_bytes_len(bytes: &[u8], no_backslash_escape: bool) -> usize
+    ensures exact { result ≡ length (escaped no_backslash_escape bytes.now) }
+    ensures few { result ≤ 2 * length bytes.now }
 {
     let mut len = 0;
-    let mut ascii = true;
     for byte in bytes {
         len += escaped_byte_len(*byte, no_backslash_escape);
-        ascii &= *byte < 128;
     }
-    if ascii_only && !ascii {
-        return (0, 0);
-    }
-    (len, bytes.len())
+    len
 }
 
 // How long an escaped byte is.

@@ -14,3 +14,4 @@ pub mod laws;
 pub mod numbers;
 pub mod strings;
 pub mod time_text;
+pub mod utf8;

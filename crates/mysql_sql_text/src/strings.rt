@@ -4,22 +4,16 @@ ghost use Rattle.mysql_sql_text.specs.LiteralText.{bytes_literal, escaped, hexad
 
 use crate::escapes::{append_escaped, escaped_len};
 use crate::numbers::append_byte;
+use crate::utf8::is_utf8;
 
-/// How long the literal of bytes is. ASCII at the front is counted without a test for UTF-8, and
-/// bytes that aren't UTF-8 are left where that shows.
+/// How long the literal of bytes is.
 pub fn bytes_literal_len(bytes: &[u8], no_backslash_escape: bool) -> u128
     ensures { result ≡ length (bytes_literal no_backslash_escape bytes.now) }
 {
-    let (len, ascii) = escaped_len(bytes, no_backslash_escape, true);
-    if ascii == bytes.len() {
-        return 2 + len as u128;
-    }
-    match str::from_utf8(&bytes[ascii..]) {
-        Ok(rest) => {
-            let (rest_len, _) = escaped_len(rest.as_bytes(), no_backslash_escape, false);
-            2 + len as u128 + rest_len as u128
-        }
-        Err(_) => 2 + 2 * bytes.len() as u128,
+    if is_utf8(bytes) {
+        string_len(bytes, no_backslash_escape)
+    } else {
+        2 + 2 * bytes.len() as u128
     }
 }
 
@@ -34,9 +28,10 @@ pub fn fill_bytes_literal(buffer: &mut [u8], bytes: &[u8], no_backslash_escape: 
     if (buffer.len() as u128) < 2 + 2 * bytes.len() as u128 {
         return fill_string(buffer, bytes, no_backslash_escape);
     }
-    match str::from_utf8(bytes) {
-        Ok(_) => fill_string(buffer, bytes, no_backslash_escape),
-        Err(_) => fill_hexadecimal(buffer, bytes),
+    if is_utf8(bytes) {
+        fill_string(buffer, bytes, no_backslash_escape);
+    } else {
+        fill_hexadecimal(buffer, bytes);
     }
 }
 
@@ -45,8 +40,7 @@ pub fn string_len(bytes: &[u8], no_backslash_escape: bool) -> u128
     ensures exact { result ≡ length (quoted (escaped no_backslash_escape bytes.now)) }
     ensures few { result ≤ 2 + 2 * length bytes.now }
 {
-    let (escaped, _) = escaped_len(bytes, no_backslash_escape, false);
-    2 + escaped as u128
+    2 + escaped_len(bytes, no_backslash_escape) as u128
 }
 
 /// Fills the slice with bytes between quotes, escaped. The slice is exactly `string_len` long.

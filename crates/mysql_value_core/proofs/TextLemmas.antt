@@ -1,25 +1,13 @@
 -- Values whose bytes are a text, or are none.
-use Rattle.std.proofs.Common.{◌≡◌, ℕ, Bool, true, false, refl, List, Some, None}
-use Rattle.std.specs.Str.{is_utf8, IsUtf8}
-use Rattle.std.proofs.lemmas.Str.{IsUtf8-from_is_utf8, is_utf8-from_IsUtf8}
-use Rattle.std.proofs.lemmas.Bool.{false≢true}
-use Rattle.mysql_value_core.specs.declared.value.Value.{Value}
+use Rattle.std.proofs.Common.{◌≡◌, ℕ, true, false, refl, ap, List, Some, None}
+use Rattle.std.specs.Str.{is_utf8}
 use Rattle.mysql_value_core.specs.declared.value.Value.TheVariants.{Bytes}
 use Rattle.mysql_value_core.specs.FromValue.{value_text}
 
 -- bytes that are UTF-8 are a text
-pub value_text-IsUtf8 : (value : Value) (bytes : List ℕ) → value ≡ Bytes bytes → IsUtf8 bytes
-    → value_text value ≡ Some bytes
-value_text-IsUtf8 value bytes is utf8 = rw (is, is_utf8-from_IsUtf8 bytes utf8) refl
-
--- the test fails if the bytes are not UTF-8
-is_utf8-not : (bytes : List ℕ) → (IsUtf8 bytes → false ≡ true) → (t : Bool) → is_utf8 bytes ≡ t
-    → t ≡ false
-is_utf8-not bytes not_utf8 true is = absurd (false≢true (not_utf8 (IsUtf8-from_is_utf8 bytes is)))
-is_utf8-not bytes not_utf8 false is = refl
+pub value_text-is_utf8 : (bytes text : List ℕ) → bytes ≡ text → is_utf8 bytes ≡ true → value_text (Bytes bytes) ≡ Some text
+value_text-is_utf8 bytes text same utf8 = rw utf8 (ap Some same)
 
 -- other bytes are none
-pub value_text-not_IsUtf8 : (value : Value) (bytes : List ℕ) → value ≡ Bytes bytes
-    → (IsUtf8 bytes → false ≡ true) → value_text value ≡ None
-value_text-not_IsUtf8 value bytes is not_utf8 =
-    rw (is, is_utf8-not bytes not_utf8 (is_utf8 bytes) refl) refl
+pub value_text-not_utf8 : (bytes : List ℕ) → is_utf8 bytes ≡ false → value_text (Bytes bytes) ≡ None
+value_text-not_utf8 bytes other = rw other refl

@@ -24,6 +24,8 @@ mod text_cells;
 #[cfg(test)]
 mod time_texts;
 #[cfg(test)]
+mod utf8;
+#[cfg(test)]
 mod values;
 #[cfg(test)]
 mod whole_numbers;

@@ -1,14 +1,12 @@
-use Rattle.std.proofs.Common.{◌≡◌, ◌≤◌, ℕ, Bool, List, map, drop, arith, ap, ◌∙◌, sym, subst, ◌-◌, ◌/◌, ◌^◌, length}
+use Rattle.std.proofs.Common.{◌≡◌, ◌≤◌, ℕ, Bool, List, map, drop, arith, ap, ◌∙◌, ◌-◌, ◌/◌, ◌^◌, length}
 use Rattle.std.specs.List.{count_by}
-use Rattle.std.specs.Str.{IsAscii}
-use Rattle.std.proofs.lemmas.List.{take_all}
 use Rattle.std.proofs.lemmas.Simd.{ones-mask_l, length-chunk}
 use Rattle.std.proofs.lemmas.List.Sums.{count_by-le-length}
 use lib.Lanes.{chunk, mask_l}
 use Rattle.std.specs.Int.RustNames.{count_ones}
 use Rattle.mysql_sql_text.specs.LiteralText.{is_escaped}
 use Rattle.mysql_sql_text.proofs.BlockLemmas.{length-escaped-block}
-use Rattle.mysql_sql_text.proofs.EscapeWalkLemmas.{count-end-le, length-escaped-end, length-escaped-after, ones-last_block, IsAscii-next_block, IsAscii-last_block}
+use Rattle.mysql_sql_text.proofs.EscapeWalkLemmas.{count-end-le, length-escaped-end, ones-last_block}
 use Rattle.mysql_sql_text.proofs.escapes.escaped_len.Goals as goal
 
 pub loop-at-preserved : goal.loop-at-preserved
@@ -24,7 +22,6 @@ loop-at-preserved c =
       within = omega arith;
       few = omega (arith, c.count_set_bits-escapes.ensures, counted, few, long);
       exact = omega (arith, c.count_set_bits-escapes.ensures, counted, length-escaped-block mode bytes at (omega arith));
-      ascii = λ only. IsAscii-next_block bytes at (c.loop-at.invariant.ascii only) (c.is_counted.ensures.ascii c.if-not-is_counted.false only);
     }
 
 -- the escapes of the last block that no block before it has
@@ -35,8 +32,8 @@ rest mode bytes at mask counted long within is count =
     let last = length bytes - 16 in
     count ∙ ap (λ m. count_ones (m / 2 ^ (at - last))) is ∙ ones-last_block mode bytes last at (omega arith) within
 
-pub overflow_add-result-2 : goal.overflow_add-result-2
-overflow_add-result-2 c =
+pub overflow_add-result : goal.overflow_add-result
+overflow_add-result c =
     omega (
       arith,
       rest c.args.no_backslash_escape c.args.bytes.now c.loop-at.at _ _ (omega arith) (omega arith) c.escaped_lanes-2.ensures
@@ -51,7 +48,7 @@ returns-clause-exact c =
       rest c.args.no_backslash_escape c.args.bytes.now c.loop-at.at _ _ (omega arith) (omega arith) c.escaped_lanes-2.ensures
           c.count_set_bits-escapes-2.ensures,
       length-escaped-end c.args.no_backslash_escape c.args.bytes.now c.loop-at.at c.loop-at.invariant.within,
-      length-escaped-after c.args.no_backslash_escape c.args.bytes.now,
+      c.loop-at.invariant.exact,
     )
 
 pub returns-clause-few : goal.returns-clause-few
@@ -62,9 +59,3 @@ returns-clause-few c =
           c.count_set_bits-escapes-2.ensures,
       count-end-le c.args.no_backslash_escape c.args.bytes.now c.loop-at.at c.loop-at.invariant.within,
     )
-
-pub returns-clause-ascii : goal.returns-clause-ascii
-returns-clause-ascii c = λ only.
-    subst IsAscii (sym (take_all (length c.args.bytes.now) c.args.bytes.now (omega arith)))
-    (IsAscii-last_block c.args.bytes.now (length c.args.bytes.now - 16) c.loop-at.at (omega arith) (omega arith)
-    (c.loop-at.invariant.ascii only) (c.is_counted-2.ensures.ascii c.if-not-is_counted-2.false only))

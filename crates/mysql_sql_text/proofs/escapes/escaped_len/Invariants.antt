@@ -1,6 +1,4 @@
-use Rattle.std.proofs.Common.{◌≡◌, ◌+◌, ◌-◌, ◌≤◌, take, drop, length}
-use Rattle.std.specs.Prelude.{IsTrue}
-use Rattle.std.specs.Str.{IsAscii}
+use Rattle.std.proofs.Common.{◌≡◌, ◌+◌, ◌-◌, ◌≤◌, drop, length}
 use Rattle.mysql_sql_text.specs.LiteralText.{escaped}
 use Rattle.mysql_sql_text.proofs.escapes.escaped_len.Given as goal
 
@@ -10,7 +8,6 @@ invariant-loop-at l = record {
   few : l.escapes ≤ l.at;
   exact : l.at + l.escapes + length (escaped l.no_backslash_escape (drop l.at l.bytes))
       ≡ length (escaped l.no_backslash_escape l.bytes);
-  ascii : IsTrue l.ascii_only → IsAscii (take l.at l.bytes);
 }
 
 abbrev pub decreases-loop-at : goal.decreases-loop-at

@@ -6,6 +6,7 @@ ghost use Rattle.mysql_value_core.specs.FromValue.{ConvertsOrHandsBack, value_ar
 use crate::bytes::Bytes;
 use crate::value::Value;
 use crate::value::convert::FromValueError;
+use mysql_sql_text::utf8::is_utf8;
 use std::borrow::{CowSlice, CowStr};
 
 impl TryFrom<Value> for Vec<u8> {
@@ -65,23 +66,16 @@ impl TryFrom<Value> for String {
     }
 }
 
-// The text of bytes. Most texts are ASCII, and that is a quicker test than that of UTF-8.
+// The text of bytes, or the bytes if they are none.
 fn text_of(bytes: Vec<u8>) -> Result<String, FromValueError>
     ensures { ConvertsOrHandsBack string_bytes (value_text (Value.Bytes bytes.items))
         (Value.Bytes bytes.items) result }
 {
-    if bytes.as_slice().is_ascii() {
-        let text = unsafe { String::from_utf8_unchecked(bytes) };
-        return Ok(text);
+    if !is_utf8(bytes.as_slice()) {
+        return Err(FromValueError(Value::Bytes(Bytes::from(bytes))));
     }
-    match String::from_utf8(bytes) {
-        Ok(text) => {
-            // A proof reads here that the text is UTF-8.
-            let _text = text.as_str();
-            Ok(text)
-        }
-        Err(error) => Err(FromValueError(Value::Bytes(Bytes::from(error.into_bytes())))),
-    }
+    let text = unsafe { String::from_utf8_unchecked(bytes) };
+    Ok(text)
 }
 
 impl TryFrom<Value> for CowStr<'static> {

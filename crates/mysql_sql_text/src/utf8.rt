@@ -1,0 +1,66 @@
+//! Whether bytes are UTF-8. Most texts are ASCII or begin so, and that is seen 16 bytes at once.
+ghost use Rattle.std.specs.Prelude.{◌≡◌, ◌+◌, ◌≤◌, length, take, drop, IsTrue};
+ghost use Rattle.std.specs.Str.{IsAscii, is_utf8};
+
+use std::simd::prelude::*;
+
+// The number of bytes in a block.
+const LANES: usize = 16;
+
+/// Whether bytes are UTF-8. It is lent to the crate above.
+pub fn is_utf8(bytes: &[u8]) -> bool
+    ensures { result ≡ is_utf8 bytes.now }
+{
+    let ascii = ascii_front_len(bytes);
+    if ascii == bytes.len() {
+        return true;
+    }
+    str::from_utf8(&bytes[ascii..]).is_ok()
+}
+
+// A number of bytes at the front that are ASCII: those before the first block that isn't ASCII, or
+// all. The last block overlaps the one before it, so that no bytes are left over. `is_utf8` looks
+// at the bytes after them, so the contract needn't say that these are the most.
+fn ascii_front_len(bytes: &[u8]) -> usize
+    ensures within { result ≤ length bytes.now }
+    ensures ascii { IsAscii (take result bytes.now) }
+{
+    if bytes.len() < LANES {
+        return ascii_front_of_few(bytes);
+    }
+    let mut at = 0;
+    while bytes.len() - at > LANES {
+        if !is_ascii_block(bytes, at) {
+            return at;
+        }
+        at += LANES;
+    }
+    if is_ascii_block(bytes, bytes.len() - LANES) {
+        bytes.len()
+    } else {
+        at
+    }
+}
+
+// The number of bytes before the first that isn't ASCII, one by one.
+fn ascii_front_of_few(bytes: &[u8]) -> usize
+    ensures within { result ≤ length bytes.now }
+    ensures ascii { IsAscii (take result bytes.now) }
+{
+    for at in 0..bytes.len() {
+        if bytes[at] >= 128 {
+            return at;
+        }
+    }
+    bytes.len()
+}
+
+// Whether the 16 bytes from this one on are all ASCII.
+#[inline(always)]
+fn is_ascii_block(bytes: &[u8], at: usize) -> bool
+    requires { at + LANES ≤ length bytes.now }
+    ensures { IsTrue result → IsAscii (take LANES (drop at bytes.now)) }
+{
+    let block = u8x16::from_slice(&bytes[at..]);
+    block.simd_ge(u8x16::splat(128)).to_bitmask() == 0
+}
