@@ -36,6 +36,16 @@ and_false : (b : Bool) → (b && false) ≡ false
 and_false true = refl
 and_false false = refl
 
+-- the byte after one that isn't escaped
+escaped_after : (mode : Bool) (text : List ℕ) (at : ℕ) → is_escaped mode text at ≡ false →
+    is_escaped mode text (at + 1) ≡ is_escape mode (get_or text at 0)
+escaped_after mode text at e = escaped_next mode text at ∙ (ap (λ x. is_escape mode (get_or text at 0) && not x) e ∙ and_true _)
+
+-- the byte after an escaped one
+plain_after : (mode : Bool) (text : List ℕ) (at : ℕ) → is_escaped mode text at ≡ true →
+    is_escaped mode text (at + 1) ≡ false
+plain_after mode text at e = escaped_next mode text at ∙ (ap (λ x. is_escape mode (get_or text at 0) && not x) e ∙ and_false _)
+
 -- past a byte that isn't the quote, or is escaped
 pub goes_on_next : (mode : Bool) (q : ℕ) (text : List ℕ) (at : ℕ) → at < length text →
     (get_or text at 0 ≡ q → is_escaped mode text at ≡ true) → GoesOn mode q text at →
@@ -45,13 +55,11 @@ goes_on_next mode q text at lt only h =
     elim (cases_Bool (is_escaped mode text at)) [
       | inl e ↦
           let here : at + string_len mode q true (drop at text) ≡ total = subst (λ x. at + string_len mode q x (drop at text) ≡ total) e h.1 in
-          let state : is_escaped mode text (at + 1) ≡ false = escaped_next mode text at ∙ (ap (λ x. is_escape mode (get_or text at 0) && not x) e ∙ and_false _) in
-          (omega arith, subst (λ x. at + 1 + string_len mode q x (drop (at + 1) text) ≡ total) (sym state) (string_skips mode q text at total lt here))
+          (omega arith, subst (λ x. at + 1 + string_len mode q x (drop (at + 1) text) ≡ total) (sym (plain_after mode text at e)) (string_skips mode q text at total lt here))
       | inr e ↦
           let here : at + string_len mode q false (drop at text) ≡ total = subst (λ x. at + string_len mode q x (drop at text) ≡ total) e h.1 in
-          let state : is_escaped mode text (at + 1) ≡ is_escape mode (get_or text at 0) = escaped_next mode text at ∙ (ap (λ x. is_escape mode (get_or text at 0) && not x) e ∙ and_true _) in
           let other : get_or text at 0 ≢ q = λ same. true≢false (sym (only same) ∙ e) in
-          (omega arith, subst (λ x. at + 1 + string_len mode q x (drop (at + 1) text) ≡ total) (sym state) (string_goes_on mode q text at total lt other here))
+          (omega arith, subst (λ x. at + 1 + string_len mode q x (drop (at + 1) text) ≡ total) (sym (escaped_after mode text at e)) (string_goes_on mode q text at total lt other here))
     ]
 
 run : (mode : Bool) (q : ℕ) (text : List ℕ) (n at : ℕ) → at + n ≤ length text →

@@ -32,6 +32,13 @@ byte_not_here b text at lt other inv =
     let e : len_up_to (b ∷ []) (drop at text) ≡ suc (len_up_to (b ∷ []) (drop (at + 1) text)) = rw (drop_more text at 0 lt, begins) refl in
     omega arith
 
+-- the word begins nowhere
+pub all_not_reached : (word text : List ℕ) (at : ℕ) → 0 < length word → at ≡ length text → IsNotReached word text at →
+    IsUpTo word (take (length text) text) (drop (length text) text)
+all_not_reached word text at some whole inv =
+    let nothing : len_up_to word (drop at text) ≡ 0 = ap (len_up_to word) (drop_all at text (omega arith)) in
+    up_to_at word text (length text) some (omega arith)
+
 pub close_here : (text : List ℕ) (at : ℕ) → at + 1 < length text → get_or text at 0 ≡ asterisk →
     get_or text (at + 1) 0 ≡ slash → IsNotReached (asterisk ∷ slash ∷ []) text at →
     IsUpTo (asterisk ∷ slash ∷ []) (take (at + 2) text) (drop (at + 2) text)

@@ -15,6 +15,7 @@ pub mod ParsedLemmas
 pub mod PlainLemmas
 pub mod LaneLemmas
 pub mod ClosingQuoteLemmas
+mod ShortStringLemmas
 pub mod JumpLemmas
 pub mod RestLemmas
 pub mod LocalityLemmas

@@ -13,9 +13,22 @@ use std::simd::prelude::*;
 const NEAR: usize = 4;
 
 /// A number of bytes at the front of the text that are calm, and none of which stands before an
-/// exponent and a place. It needs to look at no digit: an exponent has a sign, which is not calm,
-/// so only a run that ends within one gives its last two bytes back. They may be a digit and `e`.
+/// exponent and a place. Inline, since at most tokens there is none, which one look-up tells.
+#[inline(always)]
 pub(crate) fn calm_len(text: &[u8]) -> usize
+    ensures in_range { result ≤ length text.now }
+    ensures calm { EachPasses is_calm text.now 0 result }
+    ensures no_exponent { StandBeforeNoExponent text.now result }
+{
+    match text {
+        [first, ..] if is_calm(*first) => calm_run_len(text),
+        _ => 0,
+    }
+}
+
+// `calm_len` of a run. It needs to look at no digit: an exponent has a sign, which is not calm, so
+// only a run that ends within one gives its last two bytes back. They may be a digit and `e`.
+fn calm_run_len(text: &[u8]) -> usize
     ensures in_range { result ≤ length text.now }
     ensures calm { EachPasses is_calm text.now 0 result }
     ensures no_exponent { StandBeforeNoExponent text.now result }

@@ -1,30 +1,75 @@
-//! Where strings, quoted identifiers and comments end. The first bytes are looked at 16 at once,
-//! since most ends are near; a far end is found by a jump. The jumps stand in functions of their
-//! own that are never inlined, so that the loops over near bytes stay short.
+//! Where strings, quoted identifiers and comments end. Most ends are near: the first 16 bytes are
+//! looked at together, or those of a short text one by one, and a far end is found by a jump. What
+//! follows the near bytes stands in functions of its own that are never inlined, so that the way to
+//! a near end stays short.
 ghost use Rattle.std.specs.Prelude.{◌≡◌, ◌+◌, ◌<◌, ◌≤◌, [], ◌∷◌, length, take, drop, map, IsTrue};
 ghost use Rattle.std.specs.Simd.Lanes.{mask_l};
 ghost use Rattle.memchr.specs.Find.{is_byte};
 ghost use Rattle.mysql_sql_text.specs.StringUnits.{is_escape};
 ghost use Rattle.mysql_named_params.specs.Bytes.{asterisk, slash, is_string_quote, IsUpTo};
 ghost use Rattle.mysql_named_params.specs.Tokens.{IsStringTail};
-ghost use Rattle.mysql_named_params.specs.ClosingQuote.{is_escaped, IsFirstClosing, IsNextQuote};
+ghost use Rattle.mysql_named_params.specs.ClosingQuote.{is_escaped, NoneCloses, IsFirstClosing, IsNextQuote};
 
 use crate::lanes::{LANES, first_of_two};
 use memchr::{memchr, memmem};
 use std::simd::prelude::*;
 
-// The number of bytes that are looked at before a jump, which costs more than a near end.
+// The number of bytes that are looked at 16 at once before a jump, which costs more.
 const NEAR: usize = 512;
 
-/// The length of a string after its opening quote. Only quotes are looked for: the bytes before
-/// one tell whether it closes the string, so that other escapes cost nothing.
+// The number of bytes of a block comment that are looked at one by one, since it is often short.
+const FEW: usize = 32;
+
+/// The length of a string after its opening quote. Many strings are empty, so that is asked first.
 pub(crate) fn string_len(text: &[u8], quote: u8, no_backslash_escape: bool) -> usize
     requires { IsTrue (is_string_quote quote) }
     ensures in_range { result ≤ length text.now }
     ensures string { IsStringTail no_backslash_escape quote (take result text.now)
         (drop result text.now) }
 {
+    if text.len() < LANES {
+        return short_string_len(text, quote, no_backslash_escape);
+    }
+    if text[0] == quote {
+        return 1;
+    }
+    match closing_quote(text, 0, quote, no_backslash_escape) {
+        Some(close) => close + 1,
+        None => long_string_len(text, quote, no_backslash_escape),
+    }
+}
+
+// `string_len`, byte by byte.
+fn short_string_len(text: &[u8], quote: u8, no_backslash_escape: bool) -> usize
+    ensures in_range { result ≤ length text.now }
+    ensures string { IsStringTail no_backslash_escape quote (take result text.now)
+        (drop result text.now) }
+{
     let mut at = 0;
+    'bytes: while at < text.len() {
+        let byte = text[at];
+        if byte == quote {
+            return at + 1;
+        }
+        at += 1;
+        if is_escape(byte, no_backslash_escape) {
+            at = text.len().min(at + 1);
+        }
+    }
+    at
+}
+
+// `string_len`, if none of the first 16 bytes closes the string. Only quotes are looked for: the
+// bytes before one tell whether it closes the string, so that other escapes cost nothing.
+#[inline(never)]
+fn long_string_len(text: &[u8], quote: u8, no_backslash_escape: bool) -> usize
+    requires long { LANES ≤ length text.now }
+    requires open { NoneCloses no_backslash_escape quote text.now 0 LANES }
+    ensures in_range { result ≤ length text.now }
+    ensures string { IsStringTail no_backslash_escape quote (take result text.now)
+        (drop result text.now) }
+{
+    let mut at = LANES;
     'jumps: while at < text.len() {
         let near = text.len().min(at.saturating_add(NEAR));
         let reach = near.saturating_sub(LANES - 1);
@@ -118,6 +163,34 @@ pub(crate) fn len_up_to_byte(text: &[u8], byte: u8) -> usize
     ensures in_range { result ≤ length text.now }
     ensures up_to { IsUpTo (byte ∷ []) (take result text.now) (drop result text.now) }
 {
+    if text.len() < LANES {
+        return short_len_up_to_byte(text, byte);
+    }
+    match first_of_two(text, 0, byte, byte) {
+        Some(run) => run + 1,
+        None => LANES + long_len_up_to_byte(&text[LANES..], byte),
+    }
+}
+
+// `len_up_to_byte`, byte by byte.
+fn short_len_up_to_byte(text: &[u8], byte: u8) -> usize
+    ensures in_range { result ≤ length text.now }
+    ensures up_to { IsUpTo (byte ∷ []) (take result text.now) (drop result text.now) }
+{
+    for at in 0..text.len() {
+        if text[at] == byte {
+            return at + 1;
+        }
+    }
+    text.len()
+}
+
+// `len_up_to_byte`, 16 bytes at once and then by a jump.
+#[inline(never)]
+fn long_len_up_to_byte(text: &[u8], byte: u8) -> usize
+    ensures in_range { result ≤ length text.now }
+    ensures up_to { IsUpTo (byte ∷ []) (take result text.now) (drop result text.now) }
+{
     let reach = text.len().min(NEAR).saturating_sub(LANES - 1);
     let mut at = 0;
     'by_lanes: while at < reach {
@@ -141,27 +214,42 @@ fn far_len_up_to_byte(text: &[u8], byte: u8) -> usize
     }
 }
 
-/// The length up to and with the first `*/`, or to the end.
+/// The length up to and with the first `*/`, or to the end. The first bytes go one by one.
 pub(crate) fn len_up_to_close(text: &[u8]) -> usize
     ensures in_range { result ≤ length text.now }
     ensures up_to { IsUpTo (asterisk ∷ slash ∷ []) (take result text.now) (drop result text.now) }
 {
-    let reach = text.len().min(NEAR).saturating_sub(LANES);
-    let mut at = 0;
-    'by_lanes: while at < reach {
-        if text[at] == b'*' {
-            if text[at + 1] == b'/' {
-                return at + 2;
-            }
-            at += 1;
-            continue 'by_lanes;
-        }
-        match first_of_two(text, at, b'*', b'*') {
-            Some(run) => at += run,
-            None => at += LANES,
+    let few = text.len().min(FEW);
+    for at in 0..few {
+        if text[at] == b'*' && at + 1 < text.len() && text[at + 1] == b'/' {
+            return at + 2;
         }
     }
-    at + far_len_up_to_close(&text[at..])
+    few + long_len_up_to_close(&text[few..])
+}
+
+// `len_up_to_close`, 16 bytes at once and then by a jump.
+#[inline(never)]
+fn long_len_up_to_close(text: &[u8]) -> usize
+    ensures in_range { result ≤ length text.now }
+    ensures up_to { IsUpTo (asterisk ∷ slash ∷ []) (take result text.now) (drop result text.now) }
+{
+    let reach = text.len().min(NEAR).saturating_sub(LANES);
+    let mut from = 0;
+    'by_lanes: while from < reach {
+        if text[from] == b'*' {
+            if text[from + 1] == b'/' {
+                return from + 2;
+            }
+            from += 1;
+            continue 'by_lanes;
+        }
+        match first_of_two(text, from, b'*', b'*') {
+            Some(run) => from += run,
+            None => from += LANES,
+        }
+    }
+    from + far_len_up_to_close(&text[from..])
 }
 
 // `len_up_to_close`, by a jump.

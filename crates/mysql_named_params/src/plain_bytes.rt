@@ -1,5 +1,5 @@
-//! Runs of bytes with which no token but a plain one begins. They are passed 16 at once, and the
-//! last ones by a table.
+//! Runs of bytes with which no token but a plain one begins: the first bytes are passed by a table,
+//! since most runs are short, and longer ones 16 bytes at once.
 ghost use Rattle.std.specs.Prelude.{◌≡◌, ◌+◌, ◌≤◌, length};
 ghost use Rattle.mysql_named_params.specs.Lanes.{IsFirstOther};
 ghost use Rattle.mysql_named_params.specs.PlainBytes.{is_always_plain, AreAlwaysPlain};
@@ -7,10 +7,30 @@ ghost use Rattle.mysql_named_params.specs.PlainBytes.{is_always_plain, AreAlways
 use crate::lanes::{LANES, first_set};
 use std::simd::prelude::*;
 
+// The number of bytes that are passed by the table.
+const NEAR: usize = 8;
+
 /// An index up to which no byte, from the given one on, begins a token other than a plain one. It
 /// is in fact the furthest such index. The contract needn't say so, because `first_place` examines
 /// the byte there itself.
 pub(crate) fn plain_end(text: &[u8], from: usize) -> usize
+    requires { from ≤ length text.now }
+    ensures in_range { (from ≤ result) × (result ≤ length text.now) }
+    ensures plain { AreAlwaysPlain text.now from result }
+{
+    let near = text.len().min(from.saturating_add(NEAR));
+    for at in from..near {
+        if !is_always_plain(text[at]) {
+            return at;
+        }
+    }
+    far_plain_end(text, near)
+}
+
+// `plain_end`, 16 bytes at once, and the last ones by the table. It is never inlined, so that the
+// loop over the first bytes stays short.
+#[inline(never)]
+fn far_plain_end(text: &[u8], from: usize) -> usize
     requires { from ≤ length text.now }
     ensures in_range { (from ≤ result) × (result ≤ length text.now) }
     ensures plain { AreAlwaysPlain text.now from result }

@@ -1,17 +1,21 @@
-use Rattle.std.proofs.Common.{[], arith}
+use Rattle.std.proofs.Common.{◌≡◌, ◌+◌, [], ◌∷◌, get_or, subst, arith}
 use Rattle.std.proofs.lemmas.List.{take_rest}
-use Rattle.mysql_named_params.proofs.JumpLemmas.{byte_here, run_over, either_is, near_then_far}
+use Rattle.mysql_named_params.proofs.JumpLemmas.{IsNotReached, byte_here, run_over, either_is, near_then_far}
 use Rattle.mysql_named_params.proofs.ends.len_up_to_byte.Goals as goal
 
 pub returns-in-Some-clause-up_to : goal.returns-in-Some-clause-up_to
 returns-in-Some-clause-up_to c =
+    let byte = c.args.byte in
+    let text = c.args.text.now in
     let run = c.in-Some.ensures in
-    byte_here _ _ _ (omega (arith, run.0)) (either_is _ _ run.2) (run_over c.args.byte [] _ _ _ (omega (arith, run.0)) run.1 c.by_lanes.invariant.1)
+    let at : 0 + c.in-Some.run' ≡ c.in-Some.run' = omega arith in
+    let here : get_or text c.in-Some.run' 0 ≡ byte = subst (λ i. get_or text i 0 ≡ byte) at (either_is _ _ run.2) in
+    let reached = subst (IsNotReached (byte ∷ []) text) at (run_over byte [] text 0 _ (omega (arith, run.0)) run.1 (omega arith)) in
+    byte_here _ _ _ (omega (arith, run.0)) here reached
 
-pub by_lanes-preserved : goal.by_lanes-preserved
-by_lanes-preserved c = (omega arith, run_over c.args.byte [] _ _ _ (omega arith) c.in-None.ensures c.by_lanes.invariant.1)
-
-pub returns-clause-up_to : goal.returns-clause-up_to
-returns-clause-up_to c =
-    let far = c.far_len_up_to_byte.ensures in
-    near_then_far _ _ _ _ _ _ (omega arith) (omega arith) (take_rest c.args.text.now c.by_lanes.at) far.in_range c.by_lanes.invariant.1 far.up_to
+pub returns-in-None-clause-up_to : goal.returns-in-None-clause-up_to
+returns-in-None-clause-up_to c =
+    let text = c.args.text.now in
+    let far = c.long_len_up_to_byte.ensures in
+    let reached = run_over c.args.byte [] text 0 16 (omega arith) c.in-None.ensures (omega arith) in
+    near_then_far _ _ _ 16 16 _ (omega arith) (omega arith) (take_rest text 16) far.in_range reached far.up_to

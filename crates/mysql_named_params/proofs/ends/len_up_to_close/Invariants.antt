@@ -1,10 +1,7 @@
-use Rattle.std.proofs.Common.{[], ◌∷◌, ◌-◌, ◌≤◌, length}
+use Rattle.std.proofs.Common.{[], ◌∷◌}
 use Rattle.mysql_named_params.specs.Bytes.{asterisk, slash}
 use Rattle.mysql_named_params.proofs.JumpLemmas.{IsNotReached}
 use Rattle.mysql_named_params.proofs.ends.len_up_to_close.Given as goal
 
-abbrev pub invariant-by_lanes : goal.invariant-by_lanes
-invariant-by_lanes l = (l.at ≤ length l.text) × IsNotReached (asterisk ∷ slash ∷ []) l.text l.at
-
-abbrev pub decreases-by_lanes : goal.decreases-by_lanes
-decreases-by_lanes l = length l.text - l.at
+abbrev pub invariant-loop-at : goal.invariant-loop-at
+invariant-loop-at l = IsNotReached (asterisk ∷ slash ∷ []) l.text l.at

@@ -1,6 +1,6 @@
 use Rattle.std.proofs.Common.{sym, ◌∙◌}
 use Rattle.mysql_named_params.proofs.CalmLemmas.{apart_within, apart_at_end}
-use Rattle.mysql_named_params.proofs.calm_bytes.calm_len.Goals as goal
+use Rattle.mysql_named_params.proofs.calm_bytes.calm_run_len.Goals as goal
 
 pub returns-then-goes_on_exponent-clause-no_exponent : goal.returns-then-goes_on_exponent-clause-no_exponent
 returns-then-goes_on_exponent-clause-no_exponent c = apart_within c.args.text.now c.calm_end-end.result c.calm_end-end.ensures.calm _ c.saturating_sub.ensures
