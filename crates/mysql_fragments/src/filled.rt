@@ -67,6 +67,9 @@ fn filled_places<F: LiteralForm>(
         rest = after;
     }
     text.extend_from_slice(rest)?;
+
+    // The text grew into more room than it needs. A caller may keep it, so it gets just its own.
+    let text = Vec::from_slice(alloc, text.as_slice())?;
     Ok(text)
 }
 

@@ -144,3 +144,19 @@ fn a_query_for_literals_has_marks_and_values(rt: HostRuntime) {
     let same = expanded_by_position(rt.alloc());
     assert!(rt; same);
 }
+
+fn has_just_its_own_room(alloc: Global) -> bool {
+    match positional(alloc) {
+        Some(fragments) => match bind_fragments(alloc, LIST_AND_VALUE, &fragments) {
+            Ok(text) => text.capacity() == text.len(),
+            Err(_) => false,
+        },
+        None => false,
+    }
+}
+
+#[test]
+fn a_text_has_just_its_own_room(rt: HostRuntime) {
+    let exact = has_just_its_own_room(rt.alloc());
+    assert!(rt; exact);
+}

@@ -1,4 +1,4 @@
-use Rattle.std.proofs.Common.{refl, arith}
+use Rattle.std.proofs.Common.{refl, ◌∙◌, arith}
 use Rattle.std.proofs.lemmas.List.{length-map}
 use Rattle.mysql_params_core.specs.Referents.{referents}
 use Rattle.mysql_binding.specs.LiteralForm.{written_literal}
@@ -29,7 +29,9 @@ loop-fragment-preserved g c =
     )
 
 pub returns-clause-text : goal.returns-clause-text
-returns-clause-text g c = spliced_all _ (filled_text (written_literal (g.F.LiteralForm.literal c.args.form.now))) _ _ (referents c.args.fragments.now) _ _ c.loop-fragment.invariant.0 (omega (arith, c.loop-fragment-test.false, length-map c.args.fragments.now (λ r. r.now))) _ c.in_ok-extend_from_slice-2.ensures.items
+returns-clause-text g c =
+    let items = c.in_ok-text.ensures.items ∙ (c.as_slice.ensures.value ∙ c.in_ok-extend_from_slice-2.ensures.items) in
+    spliced_all _ (filled_text (written_literal (g.F.LiteralForm.literal c.args.form.now))) _ _ (referents c.args.fragments.now) _ _ c.loop-fragment.invariant.0 (omega (arith, c.loop-fragment-test.false, length-map c.args.fragments.now (λ r. r.now))) _ items
 
 pub returns-clause-known : goal.returns-clause-known
 returns-clause-known g c =
