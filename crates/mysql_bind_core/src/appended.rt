@@ -1,7 +1,7 @@
 //! The texts of many rows for one query, each written to the end of a script. What depends on the
 //! query alone, as its places and names, is found once before, and a value is looked for among the
 //! few of its row, without a map.
-ghost use Rattle.std.specs.Prelude.{◌≡◌, ◌++◌, ◌<◌, ℕ, true, List, length, map, option_map, IfOk, IfErr, IfSome, IsTrue, IsFalse, OnErr, OnOk};
+ghost use Rattle.std.specs.Prelude.{◌≡◌, ◌++◌, ◌<◌, ℕ, false, true, List, length, map, option_map, IfOk, IfErr, IfSome, IsTrue, IsFalse, OnErr, OnOk};
 ghost use Rattle.mysql_named_params.specs.Tokens.{OnTokens};
 ghost use Rattle.mysql_named_params.specs.Places.{names};
 ghost use Rattle.mysql_params_core.specs.Given.{Given};
@@ -9,6 +9,7 @@ ghost use Rattle.mysql_params_core.specs.Referents.{referents};
 ghost use Rattle.mysql_binding.specs.AppendedText.{AreFound};
 ghost use Rattle.mysql_program.specs.WordErrors.{seen_pair};
 ghost use Rattle.mysql_bind_core.specs.Assignments.{given_of, pairs_of};
+ghost use Rattle.mysql_bind_core.specs.Contents.{has_fragment};
 ghost use Rattle.mysql_bind_core.specs.Bound.{IsTaken, IsTextFor, IsValuesText, IsWritten};
 ghost use Rattle.mysql_bind_core.specs.FoundPairs.{AreValuesIn, IsTextAppended, are_distinct, value_in};
 ghost use Rattle.mysql_bind_core.specs.Refusals.{IsRefusal};
@@ -99,7 +100,7 @@ fn append_values(
     ensures kept { IfOk result (λ done. IsFalse done → script.new.items ≡ script.old.items) }
     ensures refused { OnErr result (script.new.items ≡ script.old.items) }
 {
-    if has_fragment(assignments) {
+    if !are_few_values(query_names, assignments) {
         return Ok(false);
     }
     match pairs_of(alloc, assignments) {
@@ -107,6 +108,15 @@ fn append_values(
         Err(PairsError::NoValue) => Ok(false),
         Err(PairsError::Memory(error)) => Err(error),
     }
+}
+
+// Whether a row has few values, and nothing else, for a query with names. It is asked before pairs
+// are made, which would be of no use otherwise.
+fn are_few_values(query_names: &[&[u8]], assignments: &[Assignment]) -> bool
+    ensures asked { IsTrue result → 0 < length query_names.now }
+    ensures values { IsTrue result → has_fragment assignments.now ≡ false }
+{
+    !query_names.is_empty() && assignments.len() <= FEW && !has_fragment(assignments)
 }
 
 // The same of pairs of a name and a value.
@@ -122,15 +132,13 @@ fn append_pairs(
     requires mode { query.now.mode ≡ mode_of request.literals }
     requires names { OnTokens query.now.mode query.now.query (λ ts.
         referents query_names.now ≡ names ts) }
+    requires asked { 0 < length query_names.now }
     ensures bound { IfOk result (λ done. IsTrue done → IsTextAppended request query.now.query
         (map seen_pair pairs.now) script.old.items script.new.items) }
     ensures kept { IfOk result (λ done. IsFalse done → script.new.items ≡ script.old.items) }
     ensures refused { OnErr result (script.new.items ≡ script.old.items) }
 {
-    if query_names.is_empty() {
-        return Ok(false);
-    }
-    if !are_few_and_distinct(pairs) {
+    if !are_some_and_distinct(pairs) {
         return Ok(false);
     }
     match values_in(alloc, query_names, pairs)? {
@@ -205,12 +213,12 @@ fn values_in<'v>(
     Ok(Some(values))
 }
 
-// Whether there are pairs, but few of them, and no name stands in two.
-fn are_few_and_distinct(pairs: &[(&[u8], Value)]) -> bool
+// Whether there are pairs, and no name stands in two.
+fn are_some_and_distinct(pairs: &[(&[u8], Value)]) -> bool
     ensures some { IsTrue result → 0 < length pairs.now }
     ensures distinct { IsTrue result → are_distinct (map seen_pair pairs.now) ≡ true }
 {
-    !pairs.is_empty() && pairs.len() <= FEW && are_distinct(pairs)
+    !pairs.is_empty() && are_distinct(pairs)
 }
 
 // Whether no name stands in two pairs.

@@ -1,4 +1,4 @@
-use Rattle.std.proofs.Common.{◌<◌, length, map, arith, rules, refl}
+use Rattle.std.proofs.Common.{◌<◌, length, map, arith, refl}
 use Rattle.std.proofs.lemmas.List.{length-map}
 use Rattle.mysql_params_core.specs.Referents.{referents}
 use Rattle.mysql_program.specs.WordErrors.{seen_pair}
@@ -8,22 +8,22 @@ use Rattle.mysql_bind_core.proofs.appended.append_pairs.Goals as goal
 
 pub append_found-requires-clause-found : goal.append_found-requires-clause-found
 append_found-requires-clause-found c =
-    let asked : 0 < length c.args.query_names.now = search rules in
-    let some : 0 < length c.args.pairs.now = c.if-not-are_few_and_distinct.ensures.some refl in
+    let asked = c.requires.asked in
+    let some : 0 < length c.args.pairs.now = c.if-not-are_some_and_distinct.ensures.some refl in
     let found =
     found_on c.args.query.now.mode c.args.query.now.query (map seen_pair c.args.pairs.now) (referents c.args.query_names.now) (referents c.in-Some.values.items)
-    (omega (arith, some, length-map c.args.pairs.now seen_pair)) (c.if-not-are_few_and_distinct.ensures.distinct refl)
+    (omega (arith, some, length-map c.args.pairs.now seen_pair)) (c.if-not-are_some_and_distinct.ensures.distinct refl)
     (omega (arith, asked, length-map c.args.query_names.now (λ r. r.now))) (rw c.in-Some.is at c.in_ok-values.ensures)
     (unmixed c.args.request c.args.query.now.query c.requires.taken c.args.query.now.mode c.requires.mode) c.requires.names in
     (found.0, found.2)
 
 pub returns-in-Some-clause-bound : goal.returns-in-Some-clause-bound
 returns-in-Some-clause-bound c =
-    let asked : 0 < length c.args.query_names.now = search rules in
-    let some : 0 < length c.args.pairs.now = c.if-not-are_few_and_distinct.ensures.some refl in
+    let asked = c.requires.asked in
+    let some : 0 < length c.args.pairs.now = c.if-not-are_some_and_distinct.ensures.some refl in
     let found =
     found_on c.args.query.now.mode c.args.query.now.query (map seen_pair c.args.pairs.now) (referents c.args.query_names.now) (referents c.in-Some.values.items)
-    (omega (arith, some, length-map c.args.pairs.now seen_pair)) (c.if-not-are_few_and_distinct.ensures.distinct refl)
+    (omega (arith, some, length-map c.args.pairs.now seen_pair)) (c.if-not-are_some_and_distinct.ensures.distinct refl)
     (omega (arith, asked, length-map c.args.query_names.now (λ r. r.now))) (rw c.in-Some.is at c.in_ok-values.ensures)
     (unmixed c.args.request c.args.query.now.query c.requires.taken c.args.query.now.mode c.requires.mode) c.requires.names in
     done_so c.append_found.result _ _
