@@ -5,13 +5,14 @@ use Rattle.std.specs.Int.RustNames.{count_ones}
 use Rattle.std.proofs.lemmas.Bool.{cases_Bool, cases_lt}
 use Rattle.std.proofs.lemmas.List.{take_all, drop_all, take-take, length-take-le, drop-drop, drop-map, length-drop}
 use Rattle.std.proofs.lemmas.List.Sums.{count_by-le-length}
-use Rattle.std.proofs.lemmas.Simd.{ones-mask_l, length-chunk, trailing_mask_l, run_in_chunk_le, run_in_chunk_fails}
+use Rattle.std.proofs.lemmas.Grind.{flat_map-append}
+use Rattle.std.proofs.lemmas.Simd.{ones-mask_l, chunk-drop, length-chunk, trailing_mask_l, run_in_chunk_le, run_in_chunk_fails}
 use Rattle.std.proofs.Math.Seq.{drop-cons, take-append-add}
 use lib.Count.{count_trailing_zeros}
 use lib.Lanes.{chunk, mask_l}
 use Rattle.mysql_sql_text.specs.LiteralText.{escaped, escaped_byte, is_escaped}
 use Rattle.mysql_sql_text.proofs.MaskLemmas.{mask_l-drop}
-use Rattle.mysql_sql_text.proofs.BlockLemmas.{escaped_byte-plain, escaped-block, length-escaped, length-escaped-cut}
+use Rattle.mysql_sql_text.proofs.BlockLemmas.{escaped_byte-plain, escaped-block, escaped-none, length-escaped, length-escaped-le, length-escaped-cut}
 
 -- the last block is the end of the bytes, also without what an earlier one has of it
 pub block_to_end : (bytes : List ℕ) (last : ℕ) → last + 16 ≡ length bytes → chunk last 16 bytes ≡ drop last bytes
@@ -67,6 +68,12 @@ escaped-run mode bytes from (suc count) within plain =
     ++ (escaped_byte mode (get_or bytes i 0) ++ escaped mode (drop (i + 1) bytes))) next)
     ∙ ap (λ t. take (suc count) t ++ (escaped_byte mode (get_or bytes (from + suc count) 0) ++ escaped mode (drop (from + suc count + 1) bytes))) (sym cut)
 
+-- there is room for a block, whatever is escaped
+pub room_for_block : (mode : Bool) (bytes : List ℕ) (from at most : ℕ) → from + 16 ≤ length bytes
+    → at + length (escaped mode (drop from bytes)) ≤ most → at + 16 ≤ most
+room_for_block mode bytes from at most block fits =
+    omega (arith, length-escaped-le mode (drop from bytes), length-drop from bytes)
+
 -- the step over a whole block
 pub block_next : (mode : Bool) (bytes : List ℕ) (from at next : ℕ) → next ≡ at + length (escaped mode (chunk from 16 bytes))
     → next + length (escaped mode (drop (from + 16) bytes)) ≡ at + length (escaped mode (drop from bytes))
@@ -93,24 +100,37 @@ mask_empty p (b ∷ bytes) all =
           rw plain (omega arith)
     ]
 
--- the first escape of a block, by the lowest bit of its mask
-module _ (mode : Bool) (bytes : List ℕ) (from mask : ℕ) (block : from + 16 ≤ length bytes)
-    (is : mask ≡ mask_l (map (is_escaped mode) (chunk from 16 bytes))) (some : ¬ (mask ≡ 0)) where
+-- of 16 bytes that were copied the first ones stay
+pub front_of_copy : (bytes : List ℕ) (from at whole count : ℕ) (old copied : List ℕ) → from + 16 ≤ length bytes → count ≤ 16 → at ≤ length old
+    → whole ≡ at + length (chunk from 16 bytes) → take whole copied ≡ take at old ++ chunk from 16 bytes
+    → take (at + count) copied ≡ take at old ++ take count (drop from bytes)
+front_of_copy bytes from at whole count old copied block few room to copy =
+    let front = take at old in
+    let place : at ≡ length front = sym (length-take-le at old room) in
+    sym (take-take (at + count) whole copied (omega (arith, length-chunk from 16 bytes block)))
+    ∙ ap (take (at + count)) copy
+    ∙ ap (λ i. take (i + count) (front ++ chunk from 16 bytes)) place
+    ∙ take-append-add front (chunk from 16 bytes) count
+    ∙ ap (λ t. front ++ t) (take-take count 16 (drop from bytes) few)
+
+-- the first escape of so many bytes, by the lowest bit of their mask
+module _ (mode : Bool) (bytes : List ℕ) (from size mask : ℕ) (within : from + size ≤ length bytes) (small : size ≤ 16)
+    (is : mask ≡ mask_l (map (is_escaped mode) (chunk from size bytes))) (some : ¬ (mask ≡ 0)) where
   abbrev pub count : ℕ
   count = count_trailing_zeros 64 mask
 
-  counted : count ≡ prefix_len (λ b. not (is_escaped mode b)) (chunk from 16 bytes)
+  counted : count ≡ prefix_len (λ b. not (is_escaped mode b)) (chunk from size bytes)
   counted =
       ap (count_trailing_zeros 64) is
-      ∙ trailing_mask_l (is_escaped mode) 64 (chunk from 16 bytes) (omega (arith, length-chunk from 16 bytes block)) (omega arith)
+      ∙ trailing_mask_l (is_escaped mode) 64 (chunk from size bytes) (omega (arith, length-chunk from size bytes within)) (omega arith)
 
-  pub first_escape_within : count < 16
+  pub first_escape_within : count < size
   first_escape_within =
-      elim (cases_lt count 16) [
-        | inl within ↦ within
+      elim (cases_lt count size) [
+        | inl less ↦ less
         | inr whole ↦
-            let few = run_in_chunk_le (is_escaped mode) bytes from 16 count 0 block counted in
-            let all = mask_empty (is_escaped mode) (chunk from 16 bytes) (omega (arith, counted, length-chunk from 16 bytes block)) in
+            let few = run_in_chunk_le (is_escaped mode) bytes from size count 0 within counted in
+            let all = mask_empty (is_escaped mode) (chunk from size bytes) (omega (arith, counted, length-chunk from size bytes within)) in
             absurd (omega arith)
       ]
 
@@ -118,7 +138,7 @@ module _ (mode : Bool) (bytes : List ℕ) (from mask : ℕ) (block : from + 16 �
       ≡ take count (drop from bytes) ++ (escaped_byte mode (get_or bytes (from + count) 0) ++ escaped mode (drop (from + count + 1) bytes))
   first_escape_cuts =
       escaped-run mode bytes from count (omega (arith, first_escape_within))
-      (run_in_chunk_fails (is_escaped mode) bytes from 16 count 0 block counted)
+      (run_in_chunk_fails (is_escaped mode) bytes from size count 0 within counted)
 
   abbrev pub escape : List ℕ
   escape = escaped_byte mode (get_or bytes (from + count) 0)
@@ -139,22 +159,24 @@ module _ (mode : Bool) (bytes : List ℕ) (from mask : ℕ) (block : from + 16 �
         length-append escape after,
       )
 
-  -- a block that was copied, of which the bytes before its first escape stay
-  pub first_escape_front : (at whole next : ℕ) (old copied new : List ℕ) → at ≤ length old
+  -- 16 bytes that were copied, of which those before the first escape stay
+  pub first_escape_front : from + 16 ≤ length bytes → (at whole next : ℕ) (old copied new : List ℕ) → at ≤ length old
       → whole ≡ at + length (chunk from 16 bytes) → take whole copied ≡ take at old ++ chunk from 16 bytes
       → take next new ≡ take (at + count) copied ++ escape
       → take next new ++ after ≡ take at old ++ escaped mode (drop from bytes)
-  first_escape_front at whole next old copied new room to copy escaped_one =
+  first_escape_front block at whole next old copied new room to copy escaped_one =
       let front = take at old in
       let plain = take count (drop from bytes) in
-      let place : at ≡ length front = sym (length-take-le at old room) in
-      let kept : take (at + count) copied ≡ front ++ plain =
-      sym (take-take (at + count) whole copied (omega (arith, first_escape_within, length-chunk from 16 bytes block)))
-      ∙ ap (take (at + count)) copy
-      ∙ ap (λ i. take (i + count) (front ++ chunk from 16 bytes)) place
-      ∙ take-append-add front (chunk from 16 bytes) count
-      ∙ ap (λ t. front ++ t) (take-take count 16 (drop from bytes) (omega (arith, first_escape_within))) in
+      let kept = front_of_copy bytes from at whole count old copied block (omega (arith, first_escape_within)) room to copy in
       ap (λ t. t ++ after) (escaped_one ∙ ap (λ t. t ++ escape) kept)
       ∙ ap (λ t. t ++ after) (append_assoc front plain escape)
       ∙ append_assoc front (plain ++ escape) after
       ∙ ap (λ t. front ++ t) (append_assoc plain escape after ∙ sym first_escape_cuts)
+
+-- bytes without escapes stand for themselves, and what follows them is escaped
+pub escaped-after_none : (mode : Bool) (bytes : List ℕ) (from size : ℕ) → mask_l (map (is_escaped mode) (chunk from size bytes)) ≡ 0
+    → escaped mode (drop from bytes) ≡ chunk from size bytes ++ escaped mode (drop (from + size) bytes)
+escaped-after_none mode bytes from size none =
+    ap (escaped mode) (chunk-drop from size bytes)
+    ∙ flat_map-append (escaped_byte mode) (chunk from size bytes) (drop (from + size) bytes)
+    ∙ ap (λ t. t ++ escaped mode (drop (from + size) bytes)) (escaped-none mode (chunk from size bytes) none)

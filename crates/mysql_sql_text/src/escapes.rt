@@ -1,13 +1,14 @@
 //! Bytes between single quotes, with their escapes: their length, and how they fill a slice.
 //!
-//! Most bytes stand for themselves. So the bytes go in blocks of 16: the escapes of a block are
-//! counted together, and a block is copied whole, of which the bytes before its first escape stay.
-//! A block with many escapes goes byte by byte, and so do the bytes after the last block.
-ghost use Rattle.std.specs.Prelude.{◌≡◌, [], ◌∷◌, ◌++◌, ◌+◌, ◌*◌, ◌<◌, ◌≤◌, length, take, drop, map};
+//! Most bytes stand for themselves. So the bytes go in blocks of 16, and the escapes of a block are
+//! counted together. When the bytes are written, a block without escapes is copied whole, and one
+//! with few goes from escape to escape. One with many goes byte by byte, and so do the last bytes.
+ghost use Rattle.std.specs.Prelude.{◌≡◌, [], ◌∷◌, ◌++◌, ◌+◌, ◌*◌, ◌≤◌, length, take, drop, map, MatchOption};
 ghost use Rattle.std.specs.Int.RustNames.{count_ones};
-ghost use Rattle.std.specs.Simd.Lanes.{mask_l};
+ghost use Rattle.std.specs.Simd.Lanes.{chunk, mask_l};
 ghost use Rattle.mysql_sql_text.specs.LiteralText.{escaped, escaped_byte, is_escaped};
 
+use crate::numbers::append_byte;
 use std::simd::prelude::*;
 
 // The number of bytes in a block.
@@ -82,18 +83,21 @@ fn escaped_byte_len(byte: u8, no_backslash_escape: bool) -> usize
     ensures exact { result ≡ length (escaped_byte no_backslash_escape byte) }
     ensures few { result ≤ 2 }
 {
-    let (_, _, len) = escape(byte, no_backslash_escape);
-    len
+    if escape(byte, no_backslash_escape).is_some() {
+        2
+    } else {
+        1
+    }
 }
 
-// Appends bytes, escaped. At least one byte of the buffer is left.
+// Appends bytes, escaped.
 pub(crate) fn append_escaped(
     buffer: &mut [u8],
     start: usize,
     bytes: &[u8],
     no_backslash_escape: bool,
 ) -> usize
-    requires { start + length (escaped no_backslash_escape bytes.now) < length buffer.old }
+    requires { start + length (escaped no_backslash_escape bytes.now) ≤ length buffer.old }
     ensures next { result ≡ start + length (escaped no_backslash_escape bytes.now) }
     ensures front { take result buffer.new
         ≡ take start buffer.old ++ escaped no_backslash_escape bytes.now }
@@ -101,50 +105,80 @@ pub(crate) fn append_escaped(
     let mut at = start;
     let mut from = 0;
     while bytes.len() - from >= LANES {
-        let (next, next_from) = append_of_block(buffer, at, bytes, from, no_backslash_escape);
-        at = next;
-        from = next_from;
+        at = append_block(buffer, at, bytes, from, no_backslash_escape);
+        from += LANES;
     }
     append_escaped_bytes(buffer, at, &bytes[from..], no_backslash_escape)
 }
 
-// Appends some of the next 16 bytes, escaped, and returns where the next ones stand and go. A block
-// goes up to and with its first escape; one with many goes whole, byte by byte. Inline, since it is
-// the body of a loop over blocks.
+// Appends the next 16 bytes, escaped. Inline, since it is the body of a loop over blocks.
 #[inline(always)]
-fn append_of_block(
+fn append_block(
     buffer: &mut [u8],
     at: usize,
     bytes: &[u8],
     from: usize,
     no_backslash_escape: bool,
-) -> (usize, usize)
+) -> usize
     requires block { from + LANES ≤ length bytes.now }
     requires fits { at + length (escaped no_backslash_escape (drop from bytes.now))
-        < length buffer.old }
-    ensures more { from < result.1 }
-    ensures within { result.1 ≤ length bytes.now }
-    ensures next { result.0 + length (escaped no_backslash_escape (drop result.1 bytes.now))
+        ≤ length buffer.old }
+    ensures next { result + length (escaped no_backslash_escape (drop (from + LANES) bytes.now))
         ≡ at + length (escaped no_backslash_escape (drop from bytes.now)) }
-    ensures front { let left = drop result.1 bytes.now in
-        take result.0 buffer.new ++ escaped no_backslash_escape left
+    ensures front { let left = drop (from + LANES) bytes.now in
+        take result buffer.new ++ escaped no_backslash_escape left
         ≡ take at buffer.old ++ escaped no_backslash_escape (drop from bytes.now) }
 {
     let block = u8x16::from_slice(&bytes[from..]);
     let escapes = escaped_lanes(block, no_backslash_escape);
     if escapes == 0 {
-        return (append_lanes(buffer, at, block), from + LANES);
+        return append_lanes(buffer, at, block);
     }
-    if escapes.count_ones() > FEW_ESCAPES {
+    // After each of few escapes 16 bytes are copied, so as many have to follow the block.
+    if escapes.count_ones() > FEW_ESCAPES || bytes.len() - from < 2 * LANES {
         let end = from + LANES;
-        let next = append_escaped_bytes(buffer, at, &bytes[from..end], no_backslash_escape);
-        return (next, end);
+        return append_escaped_bytes(buffer, at, &bytes[from..end], no_backslash_escape);
     }
-    append_lanes(buffer, at, block);
-    let plain = escapes.trailing_zeros() as usize;
-    let escape = from + plain;
-    let next = append_escaped_byte(buffer, at + plain, bytes[escape], no_backslash_escape);
-    (next, escape + 1)
+    append_few_escapes(buffer, at, bytes, from, escapes, no_backslash_escape)
+}
+
+// `append_block`, from escape to escape. What follows an escape is copied whole, 16 bytes at once,
+// and the next escape goes over it. The block's mask says where that stands, so that no byte is
+// compared again.
+#[inline(always)]
+fn append_few_escapes(
+    buffer: &mut [u8],
+    start: usize,
+    bytes: &[u8],
+    first: usize,
+    block_escapes: u64,
+    no_backslash_escape: bool,
+) -> usize
+    requires two_blocks { first + 2 * LANES ≤ length bytes.now }
+    requires mask { block_escapes
+        ≡ mask_l (map (is_escaped no_backslash_escape) (chunk first LANES bytes.now)) }
+    requires fits { start + length (escaped no_backslash_escape (drop first bytes.now))
+        ≤ length buffer.old }
+    ensures next { result + length (escaped no_backslash_escape (drop (first + LANES) bytes.now))
+        ≡ start + length (escaped no_backslash_escape (drop first bytes.now)) }
+    ensures front { let left = drop (first + LANES) bytes.now in
+        take result buffer.new ++ escaped no_backslash_escape left
+        ≡ take start buffer.old ++ escaped no_backslash_escape (drop first bytes.now) }
+{
+    let end = first + LANES;
+    let mut at = start;
+    let mut from = first;
+    let mut escapes = block_escapes;
+    'escapes: while escapes != 0 {
+        append_lanes(buffer, at, u8x16::from_slice(&bytes[from..]));
+        let plain = escapes.trailing_zeros() as usize;
+        let escape = bytes[from + plain];
+        at = append_escaped_byte(buffer, at + plain, escape, no_backslash_escape);
+        from += plain + 1;
+        escapes >>= plain + 1;
+    }
+    append_lanes(buffer, at, u8x16::from_slice(&bytes[from..]));
+    at + (end - from)
 }
 
 // Appends 16 bytes as they are. Inline, as the loop over blocks that it is a part of.
@@ -185,7 +219,7 @@ fn append_escaped_bytes(
     bytes: &[u8],
     no_backslash_escape: bool,
 ) -> usize
-    requires { start + length (escaped no_backslash_escape bytes.now) < length buffer.old }
+    requires { start + length (escaped no_backslash_escape bytes.now) ≤ length buffer.old }
     ensures next { result ≡ start + length (escaped no_backslash_escape bytes.now) }
     ensures front { take result buffer.new
         ≡ take start buffer.old ++ escaped no_backslash_escape bytes.now }
@@ -197,41 +231,38 @@ fn append_escaped_bytes(
     at
 }
 
-// Appends a byte, escaped. Two bytes are written without a branch, and what follows goes over the
-// second if the byte stands for itself. Inline, since it is the body of a loop over bytes.
-#[inline(always)]
+// Appends a byte, escaped.
 fn append_escaped_byte(buffer: &mut [u8], at: usize, byte: u8, no_backslash_escape: bool) -> usize
-    requires { at + length (escaped_byte no_backslash_escape byte) < length buffer.old }
+    requires { at + length (escaped_byte no_backslash_escape byte) ≤ length buffer.old }
     ensures next { result ≡ at + length (escaped_byte no_backslash_escape byte) }
     ensures front { take result buffer.new
         ≡ take at buffer.old ++ escaped_byte no_backslash_escape byte }
 {
-    let (first, second, len) = escape(byte, no_backslash_escape);
-    buffer[at] = first;
-    buffer[at + 1] = second;
-    at + len
+    match escape(byte, no_backslash_escape) {
+        Some((first, second)) => {
+            let at = append_byte(buffer, at, first);
+            append_byte(buffer, at, second)
+        }
+        None => append_byte(buffer, at, byte),
+    }
 }
 
-// Two bytes, and how many of them stand for a byte between quotes. Inline, so that what it chooses
-// by the mode is chosen once, before a loop over bytes.
-#[inline(always)]
-fn escape(byte: u8, no_backslash_escape: bool) -> (u8, u8, usize)
-    ensures spelled { escaped_byte no_backslash_escape byte
-        ≡ take result.2 (result.0 ∷ result.1 ∷ []) }
-    ensures low { 1 ≤ result.2 }
-    ensures high { result.2 ≤ 2 }
+// The two bytes that stand for a byte between quotes, if it doesn't stand for itself.
+fn escape(byte: u8, no_backslash_escape: bool) -> Option<(u8, u8)>
+    ensures { MatchOption result (escaped_byte no_backslash_escape byte ≡ byte ∷ [])
+        (λ pair. escaped_byte no_backslash_escape byte ≡ pair.0 ∷ pair.1 ∷ []) }
 {
     if no_backslash_escape {
         return if byte == b'\'' {
-            (b'\'', b'\'', 2)
+            Some((b'\'', b'\''))
         } else {
-            (byte, byte, 1)
+            None
         };
     }
     let second = AFTER_BACKSLASH[byte as usize];
     if second == b'.' {
-        (byte, byte, 1)
+        None
     } else {
-        (b'\\', second, 2)
+        Some((b'\\', second))
     }
 }

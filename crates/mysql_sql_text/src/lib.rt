@@ -1,5 +1,5 @@
 //! SQL text without values: the two modes of backslashes and the units of strings, the texts of
-//! literals, their shape and how they are read; digits and time texts.
+//! literals, their shape and how they are read; digits and time texts; a test for UTF-8.
 //!
 //! What a literal is and how it is read stands in `specs/`. `mysql_value_core` writes literals by
 //! these calls, `mysql_values` reads digits and time texts, `mysql_named_params` reads queries in

@@ -5,7 +5,7 @@ use Rattle.mysql_sql_text.specs.declared.escapes.TheConstants.{AFTER_BACKSLASH}
 use Rattle.mysql_sql_text.proofs.EscapeTableLemmas.{escaped_byte-by_table}
 use Rattle.mysql_sql_text.proofs.escapes.escape.Goals as goal
 
-pub returns-else-second-eq46-clause-spelled : goal.returns-else-second-eq46-clause-spelled
-returns-else-second-eq46-clause-spelled c =
+pub returns-else-second-eq46 : goal.returns-else-second-eq46
+returns-else-second-eq46 c =
     ap (λ mode. escaped_byte mode c.args.byte) c.if-no_backslash_escape.false
     ∙ escaped_byte-by_table AFTER_BACKSLASH refl c.args.byte (omega arith) ∙ cond-false _ _ _ (ne_eqb _ _ c.if-second-eq46.false)
