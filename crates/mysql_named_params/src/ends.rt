@@ -1,7 +1,7 @@
 //! Where strings, quoted identifiers and comments end. Most ends are near: the first 16 bytes are
-//! looked at together, or those of a short text one by one, and a far end is found by a jump. What
-//! follows the near bytes stands in functions of its own that are never inlined, so that the way to
-//! a near end stays short.
+//! looked at together, or those of a short text and of a block comment one by one. A far end is
+//! found by a jump. What follows the near bytes stands in functions of its own that are never
+//! inlined, so that the way to a near end stays short.
 ghost use Rattle.std.specs.Prelude.{◌≡◌, ◌+◌, ◌<◌, ◌≤◌, [], ◌∷◌, length, take, drop, map, IsTrue};
 ghost use Rattle.std.specs.Simd.Lanes.{mask_l};
 ghost use Rattle.memchr.specs.Find.{is_byte};
@@ -14,10 +14,11 @@ use crate::lanes::{LANES, first_of_two};
 use memchr::{memchr, memmem};
 use std::simd::prelude::*;
 
-// The number of bytes that are looked at 16 at once before a jump, which costs more.
+// The number of bytes of a string, a name or a line that are looked at 16 at once before a jump,
+// which costs more.
 const NEAR: usize = 512;
 
-// The number of bytes of a block comment that are looked at one by one, since it is often short.
+// The number of bytes of a block comment that are looked at one by one before a jump.
 const FEW: usize = 32;
 
 /// The length of a string after its opening quote. Many strings are empty, so that is asked first.
@@ -214,7 +215,8 @@ fn far_len_up_to_byte(text: &[u8], byte: u8) -> usize
     }
 }
 
-/// The length up to and with the first `*/`, or to the end. The first bytes go one by one.
+/// The length up to and with the first `*/`, or to the end. The first bytes go one by one, since
+/// many comments are short; the rest by a jump, since many others are full of asterisks.
 pub(crate) fn len_up_to_close(text: &[u8]) -> usize
     ensures in_range { result ≤ length text.now }
     ensures up_to { IsUpTo (asterisk ∷ slash ∷ []) (take result text.now) (drop result text.now) }
@@ -225,31 +227,7 @@ pub(crate) fn len_up_to_close(text: &[u8]) -> usize
             return at + 2;
         }
     }
-    few + long_len_up_to_close(&text[few..])
-}
-
-// `len_up_to_close`, 16 bytes at once and then by a jump.
-#[inline(never)]
-fn long_len_up_to_close(text: &[u8]) -> usize
-    ensures in_range { result ≤ length text.now }
-    ensures up_to { IsUpTo (asterisk ∷ slash ∷ []) (take result text.now) (drop result text.now) }
-{
-    let reach = text.len().min(NEAR).saturating_sub(LANES);
-    let mut from = 0;
-    'by_lanes: while from < reach {
-        if text[from] == b'*' {
-            if text[from + 1] == b'/' {
-                return from + 2;
-            }
-            from += 1;
-            continue 'by_lanes;
-        }
-        match first_of_two(text, from, b'*', b'*') {
-            Some(run) => from += run,
-            None => from += LANES,
-        }
-    }
-    from + far_len_up_to_close(&text[from..])
+    few + far_len_up_to_close(&text[few..])
 }
 
 // `len_up_to_close`, by a jump.
