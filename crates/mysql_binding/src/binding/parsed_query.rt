@@ -235,8 +235,8 @@ impl<'q> Eq for ParsedQuery<'q> {
 
 /// Writes the text of a parsed query with these values, which are looked up, to the end of another
 /// text, in any form of literals. It refuses what [`bind_borrowed_as`](crate::bind_borrowed_as)
-/// refuses, and then the text stays as it is. It is lent to the crates above: of many texts of one
-/// query each needs neither a map of values nor a vector.
+/// refuses once the values are looked up, and then the text stays as it is. It is lent to the
+/// crates above: of many texts of one query none needs a map of values.
 pub fn append_parsed<F: LiteralForm>(
     alloc: Global,
     query: &ParsedQuery<'_>,
