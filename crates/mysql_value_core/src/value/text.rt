@@ -42,9 +42,9 @@ impl<'de> MyDeserialize<'de> for ValueDeserializer<TextValue> {
     }
 }
 
-/// Reads `count` cells. It allocates only once the first cell is there, and then asks for room for
-/// 64 cells at most. On each error the buffer is unchanged; it is the error of the first cell that
-/// has one, or it is out of memory.
+/// Reads `count` cells. It allocates only once the first cell is there: room for as many cells, for
+/// 64 at most, and for more as they come. On each error the buffer is unchanged; it is the error of
+/// the first cell that has one, or it is out of memory.
 pub fn read_text_cells(
     alloc: Global,
     buf: &mut ParseBuf<'_>,
