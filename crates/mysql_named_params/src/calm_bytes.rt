@@ -1,5 +1,6 @@
 //! Runs of calm bytes: with each only a plain token begins, and no construct of a server or of a
-//! client, and after none of them a line or a statement begins. The first bytes are passed by a
+//! client, except an exponent before a place and a word at the front of a client's line or
+//! statement. After none of them a line or a statement begins. The first bytes are passed by a
 //! table, since most runs are short, and longer ones 16 bytes at once.
 ghost use Rattle.std.specs.Prelude.{◌≡◌, ◌+◌, ◌≤◌, length};
 ghost use Rattle.mysql_named_params.specs.Bytes.{begins};
@@ -13,7 +14,7 @@ use std::simd::prelude::*;
 const NEAR: usize = 4;
 
 /// A number of bytes at the front of the text that are calm, and none of which stands before an
-/// exponent and a place. Inline, since at most tokens there is none, which one look-up tells.
+/// exponent and a place. Inline, so that where there is none one look-up tells it, without a call.
 #[inline(always)]
 pub(crate) fn calm_len(text: &[u8]) -> usize
     ensures in_range { result ≤ length text.now }

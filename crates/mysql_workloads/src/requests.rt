@@ -56,7 +56,7 @@ fn take_bound(
     }
 }
 
-// Begins two of three queries with the comment of a tracer, and some with one of a line.
+// Begins half of the queries with the comment of a tracer, and a sixth with one of a line.
 fn put_comment(query: &mut Vec<u8>, random: &mut Random, pools: &Pools) -> Result<(), AllocError> {
     match random.below(6) {
         0 => {
