@@ -16,6 +16,7 @@ _BATCH = 100
 def run(tests: Tests, path: str) -> None:
     """Run every test in each character set and mode."""
     random_strings = strings.random_strings(10000, 20261123)
+    mixed_strings = strings.letters_and_escapes(2000, 20261126)
     for charset, sql_mode in itertools.product(CHARSETS, SQL_MODES):
         connection = Connection(path, charset, sql_mode)
         mode = sql_mode == "NO_BACKSLASH_ESCAPES"
@@ -23,6 +24,7 @@ def run(tests: Tests, path: str) -> None:
         tests.run(f"{label}: mode of the connection", _mode, connection, mode)
         tests.run(f"{label}: every one-byte string", _read_as_bytes, connection, mode, strings.one_byte())
         tests.run(f"{label}: 10000 random strings", _read_as_bytes, connection, mode, random_strings)
+        tests.run(f"{label}: 2000 strings of letters and escapes", _read_as_bytes, connection, mode, mixed_strings)
         tests.run(f"{label}: strings stored in a table", _stored, connection, mode, random_strings[:2000])
         tests.run(f"{label}: long strings", _long, connection, mode)
         tests.run(f"{label}: whole numbers", _numbers, connection, mode)
