@@ -18,3 +18,4 @@ pub mod ReadBytesLemmas
 pub mod ClockLemmas
 pub mod EscapedLemmas
 pub mod QuotedLemmas
+pub mod InLineLemmas

@@ -6,3 +6,4 @@ pub mod LiteralEnd
 pub mod Digits
 pub mod TimeText
 pub mod ReadTimeText
+pub mod InLine
