@@ -3,3 +3,4 @@ pub mod LiteralLemmas
 mod TextCellLemmas
 mod BinaryLemmas
 mod TextLemmas
+pub mod InLineLemmas

@@ -1,5 +1,6 @@
 pub use Rattle.mysql_wire_part.specs.Answer
 pub use Rattle.mysql_sql_text.specs.Digits
+pub use Rattle.mysql_sql_text.specs.InLine
 pub use Rattle.mysql_sql_text.specs.LiteralEnd
 pub use Rattle.mysql_sql_text.specs.LiteralShape
 pub use Rattle.mysql_sql_text.specs.LiteralText

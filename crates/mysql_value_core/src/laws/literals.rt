@@ -6,7 +6,9 @@ ghost use Rattle.mysql_value_core.specs.Value.{FieldsInRange};
 ghost use Rattle.mysql_value_core.specs.Literal.{is_float, literal_of};
 ghost use Rattle.mysql_value_core.specs.Content.{content_of};
 ghost use Rattle.mysql_value_core.specs.ReadBack.{ReadsAs};
+ghost use Rattle.mysql_sql_text.specs.InLine.{IsInLine};
 ghost use Rattle.mysql_sql_text.specs.LiteralShape.{IsLiteral};
+ghost use Rattle.mysql_sql_text.specs.StringUnits.{with_backslashes};
 
 use crate::value::{AsSqlError, Value};
 
@@ -31,6 +33,12 @@ pub fn literal_reads_back(value: &Value)
 {
     value.fields_in_range();
 }
+
+/// With backslash escapes no literal has a newline or a byte 0, whatever the value holds.
+pub fn escaped_literals_stand_in_line()
+    ensures in_line { (value : value.Value) →
+        IfSome (literal_of with_backslashes value) IsInLine }
+{}
 
 /// Exactly the floats have no literal, and exactly they have no content.
 pub fn floats_have_no_literal()

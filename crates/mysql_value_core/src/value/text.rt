@@ -42,9 +42,10 @@ impl<'de> MyDeserialize<'de> for ValueDeserializer<TextValue> {
     }
 }
 
-/// Reads `count` cells. It allocates only once the first cell is there: room for as many cells, for
-/// 64 at most, and for more as they come. On each error the buffer is unchanged; it is the error of
-/// the first cell that has one, or it is out of memory.
+/// Reads `count` cells. It allocates only once the first cell is there: room for `count` cells, or
+/// for as many as bytes are left, or for 64, whichever is least, and for more as they come. On each
+/// error the buffer is unchanged; it is the error of the first cell that has one, or it is out of
+/// memory.
 pub fn read_text_cells(
     alloc: Global,
     buf: &mut ParseBuf<'_>,
@@ -59,7 +60,7 @@ pub fn read_text_cells(
     let mut cells = Vec::new(alloc);
     for _ in 0..count {
         let cell = eat_cell(alloc, &mut rest)?;
-        reserve_once(&mut cells, count)?;
+        reserve_once(&mut cells, count.min(rest.0.len().saturating_add(1)))?;
         cells.push(cell).map_err(AllocError::from)?;
     }
     *buf = rest;
@@ -67,7 +68,7 @@ pub fn read_text_cells(
 }
 
 // Makes room for so many cells, and no more than those of a usual row, if there is none yet. So a
-// row is one piece of memory, and a count that no cells follow asks for little.
+// row is one piece of memory. A cell has at least one byte, so a caller knows how many can follow.
 fn reserve_once(cells: &mut Vec<Value>, count: usize) -> Result<(), AllocError>
     ensures { cells.new.items ≡ cells.old.items }
 {

@@ -67,6 +67,7 @@ impl TryFrom<Value> for String {
 }
 
 // The text of bytes, or the bytes if they are none.
+#[tactic(auto, using(crate::proofs::TextLemmas::text_rules))]
 fn text_of(bytes: Vec<u8>) -> Result<String, FromValueError>
     ensures { ConvertsOrHandsBack string_bytes (value_text (Value.Bytes bytes.items))
         (Value.Bytes bytes.items) result }
