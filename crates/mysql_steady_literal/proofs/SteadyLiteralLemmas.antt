@@ -22,6 +22,9 @@ use Rattle.mysql_sql_text.proofs.QuotedLemmas.{IsQuoted-escaped}
 use Rattle.mysql_sql_text.proofs.ReadBytesLemmas.{begins_without_quote}
 use Rattle.mysql_sql_text.proofs.ReadNaturalLemmas.{all_digits-decimal}
 use Rattle.mysql_sql_text.proofs.ReadStringLemmas.{read_units-ordinary, read_units-quote}
+use Rattle.mysql_sql_text.specs.InLine.{is_in_line}
+use Rattle.mysql_sql_text.proofs.InLineLemmas.{StandsInLine, both_in_line, date_in_line, decimal_in_line, doubled_in_line, hexadecimal_in_line, pairs_in_line, quoted_in_line, signed_in_line, time_in_line}
+use Rattle.mysql_value_core.proofs.InLineLemmas.{null_in_line}
 use Rattle.mysql_value_core.specs.declared.value.Value.{Value}
 use Rattle.mysql_value_core.specs.declared.value.Value.TheVariants.{NULL, Bytes, Int, UInt, Float, Double, Date, Time}
 use Rattle.mysql_value_core.specs.Value.{FieldsInRange}
@@ -134,6 +137,31 @@ steady_bytes (Date y m d h i s u) r =
     clock_text_steady (date_text y m d h i s u) (IsClockText-date_text y m d h i s u (omega arith) (omega arith) (omega arith) (omega arith) (omega arith) (omega arith) (omega arith))
 steady_bytes (Time n d h m s u) r =
     clock_text_steady (time_text n d h m s u) (IsClockText-time_text n d h m s u (omega arith) (omega arith) (omega arith) (omega arith))
+
+-- ---- it stands in one line
+
+spelled_out_in_line : (b : ℕ) → is_spelled_out b ≡ true → is_in_line b ≡ true
+spelled_out_in_line b h = grind (arith, nat_tests)
+
+introducer_in_line : StandsInLine (codes "_utf8mb4")
+introducer_in_line = record { all = refl }
+
+introduced_in_line : StandsInLine (codes "_utf8mb4 0x")
+introduced_in_line = record { all = refl }
+
+pub steady_in_line : (v : Value) → IfSome (steady_literal_of v) StandsInLine
+steady_in_line NULL = null_in_line
+steady_in_line (Bytes bytes) =
+    by_form StandsInLine bytes
+    (λ e. both_in_line introducer_in_line (quoted_in_line (doubled_in_line bytes (all_wider is_spelled_out is_in_line spelled_out_in_line bytes e))))
+    (λ some. both_in_line introduced_in_line (hexadecimal_in_line bytes))
+    (λ some. pairs_in_line bytes)
+steady_in_line (Int n) = signed_in_line n
+steady_in_line (UInt n) = decimal_in_line n
+steady_in_line (Float bits) = tt
+steady_in_line (Double bits) = tt
+steady_in_line (Date y m d h i s u) = quoted_in_line (date_in_line y m d h i s u)
+steady_in_line (Time n d h m s u) = quoted_in_line (time_in_line n d h m s u)
 
 -- ---- how it reads
 

@@ -1,5 +1,6 @@
 //! The law of steady literals. It does nothing: it is called for what it ensures.
 ghost use Rattle.std.specs.Prelude.{◌≡◌, IfSome, is_none};
+ghost use Rattle.mysql_sql_text.specs.InLine.{IsInLine};
 ghost use Rattle.mysql_value_core.specs.Literal.{is_float};
 ghost use Rattle.mysql_named_params.specs.Steady.{IsSteady};
 ghost use Rattle.mysql_steady_literal.specs.SteadyLiteral.{steady_literal_of};
@@ -10,11 +11,12 @@ use mysql_value_core::laws::fields_in_range;
 use mysql_value_core::value::Value;
 
 /// The steady literal of a value has the shape of steady literals, is steady, and reads in either
-/// mode as the content of the value. Exactly floats have none.
+/// mode as the content of the value. It has no newline and no byte 0. Exactly floats have none.
 pub fn steady_literals(value: &Value)
     ensures shape { IfSome (steady_literal_of value.now) IsSteadyLiteral }
     ensures steady { IfSome (steady_literal_of value.now) IsSteady }
     ensures reads_back { IfSome (steady_literal_of value.now) (ReadsSteadyAs value.now) }
+    ensures in_line { IfSome (steady_literal_of value.now) IsInLine }
     ensures float { is_none (steady_literal_of value.now) ≡ is_float value.now }
 {
     fields_in_range(value);
