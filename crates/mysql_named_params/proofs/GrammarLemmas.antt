@@ -137,7 +137,7 @@ more_on server mode t after text h e r = record {
 }
 
 -- a token that is not plain is a token
-as_token : (server : Server) (mode : Bool) (t : Token) (rest : List ℕ) → IsNotPlainOn server mode t rest →
+pub as_token : (server : Server) (mode : Bool) (t : Token) (rest : List ℕ) → IsNotPlainOn server mode t rest →
     IsTokenOn server mode t rest
 as_token server mode (QuotedString quote tail) rest h = h
 as_token server mode (QuotedIdentifier tail) rest h = h

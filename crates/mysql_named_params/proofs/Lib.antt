@@ -23,6 +23,7 @@ pub mod ReparsedLemmas
 pub mod ServerTokenLemmas
 pub mod PortableLemmas
 pub mod GrammarLemmas
+pub mod KnownServerLemmas
 pub mod QuietLemmas
 pub mod SharpLemmas
 pub mod FrontLemmas

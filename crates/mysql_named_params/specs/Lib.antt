@@ -14,6 +14,7 @@ pub mod SameParsed
 pub mod NamedParamsErrors
 pub mod Server
 pub mod Quiet
+pub mod KnownServers
 pub mod Portable
 pub mod FirstUnportable
 pub mod FrontConstruct

@@ -430,12 +430,17 @@ fn passed_len(statement: bool, line: bool, text: &[u8]) -> usize
 ///
 /// It is for a query whose bound text goes through such a client with `--comments`, as
 /// `.. | mysql --comments --default-character-set=utf8mb4`, without `--binary-mode` and `--force`.
-/// A program that sends the text itself needs `first_unportable` alone.
+/// A program that sends the text itself needs only `first_unportable`.
 ///
 /// If there is none, the client reads the query as a server does
-/// ([`client_is_a_server`](crate::laws::client_is_a_server)), and cuts each text bound to it into
-/// as many statements as the query has (the law `bound_texts_in_clients` of `mysql_binding`). That
-/// it does nothing else with the query, as to take a line for a command, is known by tests alone.
+/// ([`client_is_a_server`](crate::laws::client_is_a_server)). As far as it only reads, it cuts each
+/// text that is bound to the query into as many statements as the query has: the laws
+/// `bound_texts_in_clients`, and those of steady texts and of fragments. Only tests show that it
+/// does nothing else with the query, as to take a line for a command.
+///
+/// It judges the bytes that it is given. A bound text with names or keywords, or with strings
+/// without backslash escapes, may hold a construct that its query doesn't have, and the client
+/// would change it: ask once more of such a text.
 pub fn first_unportable_in_client(query: &[u8], no_backslash_escape: bool) -> Option<Unportable>
     ensures first { OnTokens no_backslash_escape query.now
         (λ ts. result ≡ first_unportable_in_client ts) }

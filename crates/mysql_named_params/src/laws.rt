@@ -1,7 +1,8 @@
 //! Laws of the definitions that the contracts cite, and of equality. The functions that have no
 //! result do nothing: each is called for what it ensures.
-ghost use Rattle.std.specs.Prelude.{◌≡◌, ℕ, ◌+◌, ◌↔◌, Bool, List, [], length, IsTrue};
-ghost use Rattle.mysql_named_params.specs.Tokens.{Token, IsToken, IsTokens};
+ghost use Rattle.std.specs.Prelude.{◌≡◌, ℕ, ◌+◌, ◌<◌, ◌↔◌, Bool, List, [], ◌∷◌, codes, length, IsTrue};
+ghost use Rattle.mysql_named_params.specs.Bytes.{dollar};
+ghost use Rattle.mysql_named_params.specs.Tokens.{Token, IsToken, IsTokens, BlockComment, QuotedString};
 ghost use Rattle.mysql_named_params.specs.TokensOf.{tokens_of};
 ghost use Rattle.mysql_named_params.specs.Locality.{LooksAlike};
 ghost use Rattle.mysql_named_params.specs.Parsed.{parsed};
@@ -9,7 +10,8 @@ ghost use Rattle.mysql_named_params.specs.Places.{names, marks, with_marks, with
 ghost use Rattle.mysql_named_params.specs.Positions.{positions, HavePlacesAt, AscendFrom};
 ghost use Rattle.mysql_named_params.specs.Portable.{AreReadAlike, IsReadAs};
 ghost use Rattle.mysql_named_params.specs.Server.{Server, IsReadOn, grammar};
-ghost use Rattle.mysql_named_params.specs.Quiet.{IsHonest};
+ghost use Rattle.mysql_named_params.specs.Quiet.{IsHonest, DecidesWithin};
+ghost use Rattle.mysql_named_params.specs.KnownServers.{mysql, mariadb, Reads, all_plain};
 ghost use Rattle.mysql_named_params.specs.Steady.{HoldNoEscapes, IsSteady};
 ghost use Rattle.mysql_named_params.specs.CharacterSet.{CharacterSet, seen};
 ghost use Rattle.mysql_named_params.specs.Client.{Client, IsReadBy, HoldNoOpener};
@@ -90,6 +92,32 @@ pub fn grammar_is_a_server()
         IsTokens mode query ts → IsReadOn grammar mode query ts }
     ensures is_read { (mode : Bool) (query : List ℕ) (ts : List Token) →
         IsReadOn grammar mode query ts → IsTokens mode query ts }
+{}
+
+/// MySQL and MariaDB, as their manuals describe them, are honest in each version, and decide about
+/// a quiet comment only by the comment. Three texts tell them from the grammar and each other. Only
+/// MariaDB reads `/*M!a*/`. The grammar reads `/*!99999a*/`, which is a comment to MariaDB and to
+/// MySQL before that version. Only to MySQL is `$$a$$` one text in quotes.
+pub fn known_servers()
+    ensures mysql_is_honest { (version : ℕ) → IsHonest (mysql version) }
+    ensures mariadb_is_honest { (version : ℕ) → IsHonest (mariadb version) }
+    ensures mysql_decides_within { (version : ℕ) → DecidesWithin (mysql version) }
+    ensures mariadb_decides_within { (version : ℕ) → DecidesWithin (mariadb version) }
+    ensures grammar_skips { Reads grammar (codes "/*M!a*/") (BlockComment (codes "M!a*/") ∷ []) }
+    ensures mysql_skips { (version : ℕ) →
+        Reads (mysql version) (codes "/*M!a*/") (BlockComment (codes "M!a*/") ∷ []) }
+    ensures mariadb_reads { (version : ℕ) →
+        Reads (mariadb version) (codes "/*M!a*/") (all_plain (codes "/*M!a*/")) }
+    ensures grammar_reads { Reads grammar (codes "/*!99999a*/") (all_plain (codes "/*!99999a*/")) }
+    ensures mysql_skips_later { (version : ℕ) → version < 99999 →
+        Reads (mysql version) (codes "/*!99999a*/") (BlockComment (codes "!99999a*/") ∷ []) }
+    ensures mariadb_skips_later { (version : ℕ) →
+        Reads (mariadb version) (codes "/*!99999a*/") (BlockComment (codes "!99999a*/") ∷ []) }
+    ensures grammar_passes_dollars { Reads grammar (codes "$$a$$") (all_plain (codes "$$a$$")) }
+    ensures mysql_quotes { (version : ℕ) →
+        Reads (mysql version) (codes "$$a$$") (QuotedString dollar (codes "$a$$") ∷ []) }
+    ensures mariadb_passes_dollars { (version : ℕ) →
+        Reads (mariadb version) (codes "$$a$$") (all_plain (codes "$$a$$")) }
 {}
 
 /// If each token of a query passes its test, as those of a portable query do, then every honest
