@@ -9,7 +9,7 @@ use Rattle.mysql_sql_text.specs.LiteralShape.{AreDigits, IsClosedString, closed_
 use Rattle.mysql_named_params.specs.Bytes.{dash, single_quote}
 use Rattle.mysql_named_params.specs.Tokens.{closed_string as closed_tail}
 use Rattle.mysql_named_params.proofs.TokenRowLemmas.{text_of-append, AreTokensBefore-append}
-use Rattle.mysql_named_params.specs.Tokens.{Token, text_of, AreTokensBefore, QuotedString, QuotedIdentifier, HashComment, DashComment, BlockComment, Name, Mark, Plain}
+use Rattle.mysql_named_params.specs.Tokens.{Token, text_of, AreTokensBefore, IsTokens, QuotedString, QuotedIdentifier, HashComment, DashComment, BlockComment, Name, Mark, Plain}
 use Rattle.mysql_named_params.specs.Places.{place_count}
 use Rattle.mysql_named_params.specs.Client.{HoldNoOpener}
 use Rattle.mysql_named_params.specs.Statements.{in_first, statements}
@@ -30,24 +30,40 @@ abbrev pub StayWithin : List Token → Type 0
 StayWithin [] = ⊤
 StayWithin (t ∷ ts) = (stays_within t ≡ true) × StayWithin ts
 
-StayWithin-append : (xs ys : List Token) → StayWithin xs → StayWithin ys → StayWithin (xs ++ ys)
+pub StayWithin-append : (xs ys : List Token) → StayWithin xs → StayWithin ys → StayWithin (xs ++ ys)
 StayWithin-append [] ys h k = k
 StayWithin-append (x ∷ xs) ys h k = (h.0, StayWithin-append xs ys h.1 k)
 
-plain_within : (bytes : List ℕ) → list_all is_alphanumeric bytes ≡ true → StayWithin (plain_tokens bytes)
+pub plain_within : (bytes : List ℕ) → list_all is_alphanumeric bytes ≡ true → StayWithin (plain_tokens bytes)
 plain_within [] h = tt
 plain_within (b ∷ bytes) h =
     let p = and_parts (is_alphanumeric b) (list_all is_alphanumeric bytes) h in
     (rw (other is_alphanumeric b (byte ";") p.0 refl) refl, plain_within bytes p.1)
 
 -- a literal has tokens that stay within it
-record WithinLiteral (mode : Bool) (literal : List ℕ) : Type 0 where
-  tokens : List Token
-  text : text_of tokens ≡ literal
-  each : (rest : List ℕ) → AreTokensBefore mode rest tokens
-  stay : StayWithin tokens
+pub record WithinLiteral (mode : Bool) (literal : List ℕ) : Type 0 where
+  pub tokens : List Token
+  pub text : text_of tokens ≡ literal
+  pub each : (rest : List ℕ) → AreTokensBefore mode rest tokens
+  pub stay : StayWithin tokens
 
-plain_literal : (mode : Bool) (bytes : List ℕ) → list_all is_alphanumeric bytes ≡ true → WithinLiteral mode bytes
+-- two texts, one after the other
+pub both_within : (mode : Bool) (first more : List ℕ) → WithinLiteral mode first → WithinLiteral mode more →
+    WithinLiteral mode (first ++ more)
+both_within mode first more a b = record {
+  tokens = a.tokens ++ b.tokens;
+  text = text_of-append a.tokens b.tokens ∙ (ap (λ x. x ++ text_of b.tokens) a.text ∙ ap (λ x. first ++ x) b.text);
+  each = λ rest. AreTokensBefore-append mode a.tokens b.tokens rest (a.each _) (b.each rest);
+  stay = StayWithin-append a.tokens b.tokens a.stay b.stay;
+}
+
+-- its tokens, read alone, are these
+pub list_within : (mode : Bool) (literal : List ℕ) (list : List Token) → WithinLiteral mode literal →
+    IsTokens mode literal list → StayWithin list
+list_within mode literal list w a =
+    subst StayWithin (one_token_list mode literal w.tokens list (record { text = w.text; each = w.each [] }) a) w.stay
+
+pub plain_literal : (mode : Bool) (bytes : List ℕ) → list_all is_alphanumeric bytes ≡ true → WithinLiteral mode bytes
 plain_literal mode bytes h = record { tokens = plain_tokens bytes; text = plain_text bytes; each = plain_before mode bytes h; stay = plain_within bytes h }
 
 minus_literal : (mode : Bool) (digits : List ℕ) → AreDigits digits → WithinLiteral mode (dash ∷ digits)
@@ -69,21 +85,13 @@ string_literal mode (closed_string body u) = record {
 
 strings_literal : (mode : Bool) {literal : List ℕ} → AreClosedStrings mode literal → WithinLiteral mode literal
 strings_literal mode (one_string string h) = string_literal mode h
-strings_literal mode (more_strings string rest h hs) =
-    let a = string_literal mode h in
-    let b = strings_literal mode hs in
-    record {
-      tokens = a.tokens ++ b.tokens;
-      text = text_of-append a.tokens b.tokens ∙ (ap (λ x. x ++ text_of b.tokens) a.text ∙ ap (λ x. string ++ x) b.text);
-      each = λ rest. AreTokensBefore-append mode a.tokens b.tokens rest (a.each _) (b.each rest);
-      stay = StayWithin-append a.tokens b.tokens a.stay b.stay;
-    }
+strings_literal mode (more_strings string rest h hs) = both_within mode string rest (string_literal mode h) (strings_literal mode hs)
 
 quoted_within : (mode : Bool) (literal : List ℕ) → IsQuoted mode literal → WithinLiteral mode literal
 quoted_within false literal h = string_literal false h
 quoted_within true literal h = strings_literal true h
 
-within : (mode : Bool) {literal : List ℕ} → IsLiteral mode literal → WithinLiteral mode literal
+pub within : (mode : Bool) {literal : List ℕ} → IsLiteral mode literal → WithinLiteral mode literal
 within mode null_literal = plain_literal mode _ refl
 within mode (natural_literal digits h) = plain_literal mode digits (AreDigits-alphanumeric digits h)
 within mode (negative_literal digits h) = minus_literal mode digits h
@@ -96,9 +104,7 @@ literals_within mode [] [] s a = tt
 literals_within mode [] (list ∷ lists) s a = absurd a
 literals_within mode (literal ∷ literals) [] s a = absurd a
 literals_within mode (literal ∷ literals) (list ∷ lists) s a =
-    let w = within mode s.0 in
-    let same : w.tokens ≡ list = one_token_list mode literal w.tokens list (record { text = w.text; each = w.each [] }) a.0 in
-    (subst StayWithin same w.stay, literals_within mode literals lists s.1 a.1)
+    (list_within mode literal list (within mode s.0) a.0, literals_within mode literals lists s.1 a.1)
 
 -- ---- comments
 

@@ -29,3 +29,7 @@ pub mod SpanBindLemmas
 pub mod TextInRoomLemmas
 pub mod BoundOnServerLemmas
 pub mod BoundStatementLemmas
+pub mod SplicedInClientLemmas
+pub mod SentTextLemmas
+pub mod SentLiteralLemmas
+pub mod BoundSentLemmas

@@ -1,15 +1,15 @@
 -- What is bound by the spans of a query's places is what is bound to the query.
-use Rattle.std.specs.Prelude.{Bool, Ok}
+use Rattle.std.specs.Prelude.{Bool, Option, None, Ok, Err}
 use Rattle.std.proofs.Common.{◌≡◌, ◌⊎◌, inl, inr, ℕ, zero, suc, ◌<◌, false, List, [], ◌∷◌, length, take, take_all, Some, refl, sym, ap, ◌∙◌, arith}
 use Rattle.std.proofs.lemmas.List.{nil_from_length}
 use Rattle.mysql_values.specs.declared.value.Value.{Value}
 use Rattle.mysql_named_params.specs.Tokens.{OnTokens}
 use Rattle.mysql_named_params.specs.Places.{names, marks, place_count}
 use Rattle.mysql_params_core.specs.Given.{Given}
-use Rattle.mysql_params_core.specs.Lookup.{lookup}
+use Rattle.mysql_params_core.specs.Lookup.{LookupRefusal, lookup}
 use Rattle.mysql_params_core.specs.Referents.{referents}
-use Rattle.mysql_binding.specs.BindErrors.{IsCauseOrMemory}
-use Rattle.mysql_binding.specs.FirstCause.{first_cause, mark_count_differs}
+use Rattle.mysql_binding.specs.BindErrors.{IsCauseOrMemory, cause_of}
+use Rattle.mysql_binding.specs.FirstCause.{Cause, first_cause, mark_count_differs, refused_params}
 use Rattle.mysql_binding.specs.LiteralForm.{Literals, LiteralFacts}
 use Rattle.mysql_binding.specs.MeasuredText.{IsMeasured}
 use Rattle.mysql_binding.specs.PlaceSpans.{AreSpansOf, FitIn, FitSurvey, IsLookupError, IsTextAt, after_span, names_at}
@@ -67,6 +67,17 @@ value_for_each_span survey spans query given values fit never looked counted = b
         none : (k : ℕ) → survey.marks ≡ k → survey.marks ≡ 0
         none zero m = m
         none (suc k) m = absurd (never (omega (arith, e), omega (arith, m)))
+
+-- an error of the lookup refuses what is given for these names
+pub refused_names : (given : Given) (ns : List (List ℕ)) (error : BindError) (refusal : LookupRefusal) → IsLookupError given ns error →
+    cause_of error ≡ Some (refused_params refusal) → lookup given ns ≡ Err refusal
+refused_names given ns error refusal (inl memory) is =
+    let never : Some (refused_params refusal) ≡ None = sym is ∙ ap cause_of memory in
+    cc
+refused_names given ns error refusal (inr r) is =
+    let same : ◌≡◌ {A = Option Cause} (Some (refused_params r.0)) (Some (refused_params refusal)) = sym r.2 ∙ is in
+    let same_why : r.0 ≡ refusal = cc in
+    r.1 ∙ ap (λ why. Err why) same_why
 
 -- ---- the spans of a query
 

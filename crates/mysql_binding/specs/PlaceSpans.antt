@@ -70,6 +70,13 @@ IsLookupError given names error = (error ≡ Memory alloc_error)
     ⊎ ((refusal : LookupRefusal) × (lookup given names ≡ Err refusal)
     × (cause_of error ≡ Some (refused_params refusal)))
 
+-- if the error refuses what is given, it does so for what stands in the first places, as many as
+-- the survey has names
+abbrev pub RefusesNamesAt : Survey → List PlaceSpan → (query : List ℕ) → Given → BindError → Type 0
+RefusesNamesAt survey spans query given error = (refusal : LookupRefusal) →
+    cause_of error ≡ Some (refused_params refusal) →
+    lookup given (names_at (take survey.names spans) query) ≡ Err refusal
+
 -- there is a value for each place and none is a float, and the lengths are those of their literals
 -- and of the text
 pub record IsReady (literal : Literals) (spans : List PlaceSpan) (query : List ℕ)

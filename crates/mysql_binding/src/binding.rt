@@ -1,11 +1,11 @@
 //! Queries with the literals of values in the places of names and marks.
-ghost use Rattle.std.specs.Prelude.{◌≡◌, false, ℕ, Bool, List, None, Ok, Some, IfErr, IfOk, IsErrOf, alloc_error, length, option_map};
+ghost use Rattle.std.specs.Prelude.{◌≡◌, false, ℕ, Bool, List, None, Ok, Some, IfErr, IfOk, IfSome, IsErrOf, alloc_error, length, option_map};
 ghost use Rattle.mysql_sql_text.specs.StringUnits.{with_backslashes};
 ghost use Rattle.mysql_named_params.specs.Tokens.{OnTokens, Token};
 ghost use Rattle.mysql_named_params.specs.Places.{names, HasName, HasMark};
 ghost use Rattle.mysql_params_core.specs.Errors.{lookup_refusal};
 ghost use Rattle.mysql_params_core.specs.Given.{Given, given, given_by_borrowed};
-ghost use Rattle.mysql_params_core.specs.Lookup.{lookup};
+ghost use Rattle.mysql_params_core.specs.Lookup.{LookupRefusal, lookup};
 ghost use Rattle.mysql_params_core.specs.Referents.{referents};
 ghost use Rattle.mysql_binding.specs.AppendedText.{AreFound};
 ghost use Rattle.mysql_binding.specs.BindErrors.{IsCauseOrMemory, cause_of};
@@ -403,6 +403,8 @@ fn bind_error_of(error: ParamsError) -> BindError
 fn later_error(survey: Survey, values: &[&Value]) -> Option<BindError>
     ensures cause { (ts : List Token) → IsSurvey survey ts →
         option_map cause_of result ≡ option_map Some (later_cause ts (referents values.now)) }
+    ensures no_lookup { IfSome result (λ error. (refusal : LookupRefusal) →
+        cause_of error ≡ Some (refused_params refusal) → ⊥) }
     ensures none { result ≡ None →
         (mark_count_differs survey.names survey.marks (length (referents values.now)) ≡ false)
         × (first_float (referents values.now) ≡ None) }

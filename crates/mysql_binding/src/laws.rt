@@ -1,6 +1,8 @@
 //! Laws of the definitions that the contracts cite, and of equality. No program needs to call them.
 ghost use Rattle.std.specs.Prelude.{◌≡◌, ◌↔◌, ℕ, Bool, List, [], None, Some, IsTrue, length, map, slice_get};
 ghost use Rattle.mysql_values.specs.Content.{content_of};
+ghost use Rattle.mysql_sql_text.specs.InLine.{AreInLine};
+ghost use Rattle.mysql_sql_text.specs.StringUnits.{with_backslashes};
 ghost use Rattle.mysql_named_params.specs.Tokens.{Token, IsTokens, text_of};
 ghost use Rattle.mysql_named_params.specs.Places.{place_count, with_marks};
 ghost use Rattle.mysql_named_params.specs.Positions.{positions};
@@ -8,6 +10,7 @@ ghost use Rattle.mysql_named_params.specs.Portable.{AreReadAlike, IsPortable, Is
 ghost use Rattle.mysql_named_params.specs.Server.{Server, IsReadOn};
 ghost use Rattle.mysql_named_params.specs.Quiet.{IsHonest, DecidesWithin};
 ghost use Rattle.mysql_named_params.specs.Client.{Client, IsReadBy, HoldNoOpener};
+ghost use Rattle.mysql_named_params.specs.FirstUnportableInClient.{AreSentAsTheyAre, IsPortableInClient};
 ghost use Rattle.mysql_named_params.specs.Statements.{statements};
 ghost use Rattle.mysql_params_core.specs.Given.{Given, empty, positional};
 ghost use Rattle.mysql_binding.specs.BindErrors.{AreEqualBindErrors};
@@ -88,6 +91,22 @@ pub fn bound_texts_in_clients()
         statements (with_literal_tokens us b.literal_tokens) ≡
         statements_with_literals (statements us) b.literal_tokens }
 {}
+
+/// A text that is bound to a query which is portable in a client is portable in it too, if no
+/// literal has a newline or a byte 0 (`portable`). With backslash escapes none has (`escaped`).
+/// Without them a string has those of its value, and a client may drop one: then the text has to be
+/// asked.
+pub fn bound_texts_are_sent()
+    ensures portable { (mode : Bool) (query text : List ℕ) (ts : List Token) (given : Given) →
+        IsTokens mode query ts → (b : IsBoundText mode ts given text) → AreInLine b.literals →
+        AreReadAlike ts → HoldNoOpener ts → AreSentAsTheyAre ts →
+        IsPortableInClient (with_literal_tokens ts b.literal_tokens) }
+    ensures escaped { (ts : List Token) (given : Given) (text : List ℕ) →
+        (b : IsBoundText with_backslashes ts given text) → AreInLine b.literals }
+{
+    bound_texts_on_servers();
+    bound_texts_in_clients();
+}
 
 /// No name and no mark is left in a bound text.
 pub fn no_place_is_left()

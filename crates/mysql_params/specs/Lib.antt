@@ -9,6 +9,7 @@ pub use Rattle.mysql_named_params.specs.SameParsed
 pub use Rattle.mysql_named_params.specs.NamedParamsErrors
 pub use Rattle.mysql_named_params.specs.Server
 pub use Rattle.mysql_named_params.specs.Quiet
+pub use Rattle.mysql_named_params.specs.KnownServers
 pub use Rattle.mysql_named_params.specs.Portable
 pub use Rattle.mysql_named_params.specs.FirstUnportable
 pub use Rattle.mysql_named_params.specs.Steady

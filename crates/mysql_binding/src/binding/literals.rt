@@ -77,8 +77,9 @@ pub(super) fn append_literal<F: LiteralForm>(
     end
 }
 
-/// Writes the literal of a value to the end of the text, and nothing for a float. It is lent to the
-/// crates above: a text whose length isn't known before is written in one pass.
+/// Writes the literal of a value to the end of the text, and nothing for a float. If memory is
+/// refused, the text stays as it is. It is lent to the crates above: a text whose length isn't
+/// known before is written in one pass.
 pub fn push_literal<F: LiteralForm>(
     text: &mut Vec<u8>,
     value: &Value,
@@ -88,6 +89,7 @@ pub fn push_literal<F: LiteralForm>(
         ≡ text.old.items ++ written_literal (F.literal form.now) value.now) }
     ensures known { IfOk result (λ done.
         IsKnownUnlessFloat (F.literal form.now) (F.IsKnown form.now) value.now) }
+    ensures kept { OnErr result (text.new.items ≡ text.old.items) }
 
     // Nothing is allocated for a float.
     ensures memory { OnErr result (is_float value.now ≡ false) }

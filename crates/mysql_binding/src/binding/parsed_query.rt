@@ -99,7 +99,8 @@ impl<'q> ParsedQuery<'q> {
     }
 
     /// The same, with a copy of the query if it is borrowed. Only that copy asks for memory; if it
-    /// is refused, the parsed query is gone.
+    /// is refused, the parsed query is gone. A query that is owned is never refused: tests show it,
+    /// and no clause says it, since clauses don't see whether a query is owned.
     pub fn into_owned(self, alloc: Global) -> Result<ParsedQuery<'static>, AllocError>
         ensures { IfOk result (λ p. p ≡ self.entry) }
     {

@@ -10,7 +10,7 @@ ghost use Rattle.mysql_binding.specs.BindErrors.{IsCauseOrMemory};
 ghost use Rattle.mysql_binding.specs.FirstCause.{first_cause};
 ghost use Rattle.mysql_binding.specs.FoundPlaces.{found_places};
 ghost use Rattle.mysql_binding.specs.MeasuredText.{HasGivenLength, IsMeasured};
-ghost use Rattle.mysql_binding.specs.PlaceSpans.{AreSpansOf, FitIn, FitSurvey, IsLookupError, IsReady, IsTextAt, StaysInRoom, after_span, names_at, outside_len, span_of};
+ghost use Rattle.mysql_binding.specs.PlaceSpans.{AreSpansOf, FitIn, FitSurvey, IsLookupError, IsReady, IsTextAt, RefusesNamesAt, StaysInRoom, after_span, names_at, outside_len, span_of};
 ghost use Rattle.mysql_binding.specs.TextInRoom.{IsTextInRoom};
 ghost use Rattle.mysql_binding.specs.WrittenText.{IsGivenText};
 
@@ -131,6 +131,7 @@ fn outside_len(text: &[u8], spans: &[PlaceSpan]) -> Option<usize>
 ///
 /// With another survey, or other spans, that a query of this length can have, any text or refusal
 /// may come, but nothing is written behind the text, and after a refusal the room is as before.
+/// A missing name, or values of the other kind, are told only for the names at these spans.
 pub fn bind_spans_into<F: LiteralForm>(
     alloc: Global,
     query: &[u8],
@@ -151,6 +152,8 @@ pub fn bind_spans_into<F: LiteralForm>(
         (IsCauseOrMemory (first_cause ts (given_by_borrowed params.entry)))) }
     ensures mixed { (mode : Bool) → AreSpansOf survey spans.now mode query.now →
         OnTokens mode query.now (λ ts. HasName ts × HasMark ts → IsErrOf result BindError.Mixed) }
+    ensures lookup { IfErr result
+        (RefusesNamesAt survey spans.now query.now (given_by_borrowed params.entry)) }
     ensures in_room { IfOk result (StaysInRoom room.old room.new) }
     ensures unchanged { OnErr result (room.new ≡ room.old) }
 {
@@ -185,6 +188,8 @@ fn measured_spans<'p, F: LiteralForm>(
         (IsCauseOrMemory (first_cause ts (given_by_borrowed params.entry)))) }
     ensures mixed { (mode : Bool) → AreSpansOf survey spans.now mode query.now →
         OnTokens mode query.now (λ ts. HasName ts × HasMark ts → IsErrOf result BindError.Mixed) }
+    ensures lookup { IfErr result
+        (RefusesNamesAt survey spans.now query.now (given_by_borrowed params.entry)) }
 {
     if survey.names > 0 && survey.marks > 0 {
         return Err(BindError::Mixed);

@@ -5,7 +5,7 @@ use Rattle.mysql_params_core.specs.Given.{given_by_borrowed}
 use Rattle.mysql_params_core.specs.Referents.{referents}
 use Rattle.mysql_binding.proofs.BoundTextLemmas.{refused_later, looked_up}
 use Rattle.mysql_binding.proofs.MeasuredTextLemmas.{is_measured}
-use Rattle.mysql_binding.proofs.SpanBindLemmas.{fit_front, own_surveyed, own_lookup_refused, own_looked_up, value_for_each_span}
+use Rattle.mysql_binding.proofs.SpanBindLemmas.{fit_front, own_surveyed, own_lookup_refused, own_looked_up, refused_names, value_for_each_span}
 use Rattle.mysql_binding.proofs.binding.spans.measured_spans.Goals.{else-survey-gt0-via-then-survey-gt0+else-survey-gt0-2, else-survey-gt0-via-else-survey-gt0}
 use Rattle.mysql_binding.proofs.binding.spans.measured_spans.Goals as goal
 
@@ -17,6 +17,9 @@ returns-in-Err-clause-refused g c = λ mode own.
     own_lookup_refused c.args.survey c.args.spans.now mode c.args.query.now own
     (λ both. elim c.else-survey-gt0.branch [ else-survey-gt0-via-then-survey-gt0+else-survey-gt0-2 w ↦ omega (arith, both.1, w.if-survey-gt0-2.false) | else-survey-gt0-via-else-survey-gt0 w ↦ omega (arith, both.0, w.if-survey-gt0.false) ])
     (given_by_borrowed c.args.params) c.in-Err.error c.in-Err.ensures.refused
+
+pub returns-in-Err-clause-lookup : goal.returns-in-Err-clause-lookup
+returns-in-Err-clause-lookup g c = λ refusal is. refused_names _ _ c.in-Err.error refusal c.in-Err.ensures.refused is
 
 pub returns-in-Some-clause-refused : goal.returns-in-Some-clause-refused
 returns-in-Some-clause-refused g c = λ mode own.
