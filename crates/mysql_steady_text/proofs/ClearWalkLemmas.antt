@@ -1,11 +1,10 @@
 -- The walk over a text that looks whether it is clear.
 use Rattle.std.specs.Prelude.{cond, not}
-use Rattle.std.proofs.Common.{◌≡◌, ◌≢◌, ◌==◌, ◌&&◌, ◌+◌, ◌-◌, ◌/◌, ◌^◌, ◌<◌, ◌≤◌, ℕ, zero, suc, true, false, List, map, length, take, drop, get_or, sym, ap, ◌∙◌, arith, ne_eqb}
+use Rattle.std.proofs.Common.{◌≡◌, ◌≢◌, ◌==◌, ◌&&◌, ◌+◌, ◌-◌, ◌<◌, ◌≤◌, ℕ, zero, suc, true, false, List, length, drop, get_or, sym, ap, ◌∙◌, arith, ne_eqb}
 use Rattle.std.proofs.lemmas.Bool.{and_parts, or_parts, not-true, not-false}
-use Rattle.std.proofs.lemmas.List.{drop_more, drop-take, drop-drop, drop-map}
+use Rattle.std.proofs.lemmas.List.{drop_more}
 use Rattle.std.proofs.lemmas.Simd.{none_from_empty_mask}
 use lib.Count.{count_trailing_zeros}
-use lib.Lanes.{chunk, mask_l}
 use Rattle.mysql_sql_text.proofs.MaskLemmas.{IsMask}
 use Rattle.mysql_named_params.proofs.LaneLemmas.{lowest_bit}
 use Rattle.mysql_named_params.specs.Bytes.{bracket, carriage_return, colon, dash, dollar, question_mark, slash, space}

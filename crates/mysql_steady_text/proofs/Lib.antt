@@ -1,4 +1,6 @@
 pub mod SteadySpliceLemmas
+pub mod SteadyClientLemmas
+pub mod SteadySentLemmas
 pub mod BothModesTextLemmas
 pub mod BothModesAgainLemmas
 pub mod SteadyTextLemmas

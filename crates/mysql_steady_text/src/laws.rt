@@ -1,14 +1,19 @@
 //! Laws of the definitions. They do nothing: each is called for what it ensures.
-ghost use Rattle.std.specs.Prelude.{◌≡◌, ◌↔◌, ℕ, Bool, List, None, Some, IsTrue, map};
+ghost use Rattle.std.specs.Prelude.{◌≡◌, ◌↔◌, ℕ, Bool, List, None, Some, IsTrue, length, map};
 ghost use Rattle.mysql_values.specs.Content.{content_of};
+ghost use Rattle.mysql_sql_text.specs.InLine.{AreInLine};
 ghost use Rattle.mysql_named_params.specs.Tokens.{Token, IsTokens};
 ghost use Rattle.mysql_named_params.specs.Places.{place_count, with_marks};
 ghost use Rattle.mysql_named_params.specs.Portable.{AreReadAlike, IsReadAs};
 ghost use Rattle.mysql_named_params.specs.Server.{Server, IsReadOn};
 ghost use Rattle.mysql_named_params.specs.Quiet.{IsHonest, DecidesWithin};
+ghost use Rattle.mysql_named_params.specs.Client.{Client, IsReadBy, HoldNoOpener};
+ghost use Rattle.mysql_named_params.specs.FirstUnportableInClient.{AreSentAsTheyAre, IsPortableInClient};
+ghost use Rattle.mysql_named_params.specs.Statements.{statements};
 ghost use Rattle.mysql_named_params.specs.Steady.{IsSteady};
 ghost use Rattle.mysql_named_params.specs.CharacterSet.{CharacterSet, seen};
 ghost use Rattle.mysql_params_core.specs.Given.{Given, empty, positional};
+ghost use Rattle.mysql_binding.specs.BoundStatements.{statements_with_literals};
 ghost use Rattle.mysql_binding.specs.Pieces.{pieces, joined_text};
 ghost use Rattle.mysql_binding.specs.Replaced.{AreTokensOf, with_literal_tokens};
 ghost use Rattle.mysql_binding.specs.StandsAlone.{first_not_alone};
@@ -69,6 +74,97 @@ pub fn steady_texts_on_servers()
         AreSteadyLiterals literals → joined_text (pieces ts) literals ≡ Some text →
         seen set text ≡ text }
 {}
+
+/// A client that keeps comments cuts the text into as many statements as the query has, if each
+/// token of the query passes its test and no block comment of it holds `/*!`, `/*+` or `/*/`
+/// (`count`). The text has none of the three in a block comment either (`no_opener`), and the
+/// client reads it as the grammar does, except for `--` before a newline and for what stands in
+/// quiet comments (`read`). If it decides about a quiet comment by the comment alone, it reads the
+/// tokens that it reads in the query, with those of one literal in place of each name and mark
+/// (`tokens`); its statements are then those of the query, with literals in their places
+/// (`statements`).
+pub fn steady_texts_in_clients()
+    ensures no_opener { (mode : Bool) (ts : List Token) (literals : List (List ℕ))
+        (lists : List (List Token)) → AreSteadyLiterals literals →
+        AreTokensOf mode literals lists → HoldNoOpener ts →
+        HoldNoOpener (with_literal_tokens ts lists) }
+    ensures read { (client : Client) (mode : Bool) (query text : List ℕ) (ts vs : List Token)
+        (literals : List (List ℕ)) (lists : List (List Token)) → IsHonest client.reader →
+        IsTokens mode query ts → AreReadAlike ts → HoldNoOpener ts → first_not_alone ts ≡ None →
+        AreSteadyLiterals literals → AreTokensOf mode literals lists →
+        joined_text (pieces ts) literals ≡ Some text → IsReadBy client mode text vs →
+        IsReadAs (with_literal_tokens ts lists) vs }
+    ensures count { (client : Client) (mode : Bool) (query text : List ℕ) (ts vs : List Token)
+        (literals : List (List ℕ)) (lists : List (List Token)) → IsHonest client.reader →
+        IsTokens mode query ts → AreReadAlike ts → HoldNoOpener ts → first_not_alone ts ≡ None →
+        AreSteadyLiterals literals → AreTokensOf mode literals lists →
+        joined_text (pieces ts) literals ≡ Some text → IsReadBy client mode text vs →
+        length (statements vs) ≡ length (statements ts) }
+    ensures tokens { (client : Client) (mode : Bool) (query text : List ℕ) (ts us : List Token)
+        (literals : List (List ℕ)) (lists : List (List Token)) → IsHonest client.reader →
+        DecidesWithin client.reader → IsTokens mode query ts → AreReadAlike ts →
+        HoldNoOpener ts → first_not_alone ts ≡ None → AreSteadyLiterals literals →
+        AreTokensOf mode literals lists → joined_text (pieces ts) literals ≡ Some text →
+        IsReadBy client mode query us → IsReadBy client mode text (with_literal_tokens us lists) }
+    ensures statements { (mode : Bool) (us : List Token) (literals : List (List ℕ))
+        (lists : List (List Token)) → AreSteadyLiterals literals →
+        AreTokensOf mode literals lists → statements (with_literal_tokens us lists)
+        ≡ statements_with_literals (statements us) lists }
+{}
+
+/// What [`steady_texts_in_clients`] says, of the steady text of a query and what is given to it.
+pub fn bound_steady_texts_in_clients()
+    ensures no_opener { (text : List ℕ) (ts : List Token) (given : Given) →
+        (b : IsSteadyText ts given text) → HoldNoOpener ts →
+        HoldNoOpener (with_literal_tokens ts b.literal_tokens) }
+    ensures read { (client : Client) (mode : Bool) (query text : List ℕ) (ts vs : List Token)
+        (given : Given) → IsHonest client.reader → IsTokens mode query ts →
+        (b : IsSteadyText ts given text) → AreReadAlike ts → HoldNoOpener ts →
+        IsReadBy client mode text vs → IsReadAs (with_literal_tokens ts b.literal_tokens) vs }
+    ensures count { (client : Client) (mode : Bool) (query text : List ℕ) (ts vs : List Token)
+        (given : Given) → IsHonest client.reader → IsTokens mode query ts →
+        IsSteadyText ts given text → AreReadAlike ts → HoldNoOpener ts →
+        IsReadBy client mode text vs → length (statements vs) ≡ length (statements ts) }
+    ensures tokens { (client : Client) (mode : Bool) (query text : List ℕ) (ts us : List Token)
+        (given : Given) → IsHonest client.reader → DecidesWithin client.reader →
+        IsTokens mode query ts → (b : IsSteadyText ts given text) → AreReadAlike ts →
+        HoldNoOpener ts → IsReadBy client mode query us →
+        IsReadBy client mode text (with_literal_tokens us b.literal_tokens) }
+    ensures statements { (text : List ℕ) (ts us : List Token) (given : Given) →
+        (b : IsSteadyText ts given text) →
+        statements (with_literal_tokens us b.literal_tokens) ≡
+        statements_with_literals (statements us) b.literal_tokens }
+{
+    steady_texts_in_clients();
+}
+
+/// If a client sends the query as it is, it sends the text as it is (`sent`). If the query is
+/// portable in a client, so is the text (`portable`). No literal may have a newline or a byte 0.
+pub fn steady_texts_are_sent()
+    ensures sent { (mode : Bool) (query text : List ℕ) (ts : List Token)
+        (literals : List (List ℕ)) (lists : List (List Token)) → IsTokens mode query ts →
+        AreSentAsTheyAre ts → first_not_alone ts ≡ None → AreSteadyLiterals literals →
+        AreInLine literals → AreTokensOf mode literals lists →
+        joined_text (pieces ts) literals ≡ Some text →
+        AreSentAsTheyAre (with_literal_tokens ts lists) }
+    ensures portable { (mode : Bool) (query text : List ℕ) (ts : List Token)
+        (literals : List (List ℕ)) (lists : List (List Token)) → IsTokens mode query ts →
+        AreReadAlike ts → HoldNoOpener ts → AreSentAsTheyAre ts → first_not_alone ts ≡ None →
+        AreSteadyLiterals literals → AreInLine literals → AreTokensOf mode literals lists →
+        joined_text (pieces ts) literals ≡ Some text →
+        IsPortableInClient (with_literal_tokens ts lists) }
+{}
+
+/// What [`steady_texts_are_sent`] says, of the steady text of a query and what is given to it: no
+/// steady literal of a value has a newline or a byte 0.
+pub fn bound_steady_texts_are_sent()
+    ensures { (mode : Bool) (query text : List ℕ) (ts : List Token) (given : Given) →
+        IsTokens mode query ts → (b : IsSteadyText ts given text) → AreReadAlike ts →
+        HoldNoOpener ts → AreSentAsTheyAre ts →
+        IsPortableInClient (with_literal_tokens ts b.literal_tokens) }
+{
+    steady_texts_are_sent();
+}
 
 /// No name and no mark is left in a steady text (`none`), so bound again with no parameters it
 /// stays as it is (`same`). The query with a mark in place of each name, bound to the same values

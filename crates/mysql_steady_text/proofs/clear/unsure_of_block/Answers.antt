@@ -1,8 +1,6 @@
-use Rattle.std.proofs.Common.{◌≡◌, ◌%◌, ◌^◌, ◌≤◌, ℕ, Bool, true, List, [], ◌∷◌, leb, cond, map, length, Fits, w8, refl, ap, ap₂, ◌∙◌, arith}
-use Rattle.std.proofs.lemmas.Bool.{agree_below, agree_below_at}
-use Rattle.std.proofs.lemmas.List.{length-map}
-use Rattle.std.proofs.lemmas.Simd.{zip2_splat, zip2_splat_left, length-chunk, chunk-fits, mask_l-mod}
-use lib.Lanes.{chunk, mask_l, top, Each1}
+use Rattle.std.proofs.Common.{ℕ, leb, cond, w8, refl, arith}
+use Rattle.std.proofs.lemmas.Simd.{zip2_splat, zip2_splat_left, length-chunk, chunk-fits}
+use lib.Lanes.{chunk}
 use Rattle.mysql_sql_text.proofs.MaskLemmas.{mask_is}
 use Rattle.mysql_named_params.proofs.LaneLemmas.{joined}
 use Rattle.mysql_steady_text.specs.Clear.{is_unsure}
