@@ -18,8 +18,15 @@ use Rattle.mysql_named_params.proofs.PortableLemmas.{false_if, is_alike_on_all}
 use Rattle.mysql_named_params.proofs.TokenEnds.{plain_at}
 use Rattle.mysql_named_params.proofs.TokenRowLemmas.{text_then-append, text_then-text_of, text_of-append, AreTokensBefore-append, names-append, marks-append, place_count-append, place_count-sum}
 use Rattle.mysql_binding.specs.StandsAlone.{may_stand_before, may_stand_after, none_or_first, none_or_last, first_not_alone_from}
+use Rattle.mysql_binding.proofs.BoundStatementLemmas.{StayWithin, StayWithin-append, list_within as literal_within, plain_within, within}
 use Rattle.mysql_binding.proofs.ByteTestLemmas.{behind_ends}
 use Rattle.mysql_binding.proofs.LiteralTokenLemmas.{AreSettledBefore, AreSettledBefore-append, no_double, plain_tokens, other, plain_text, plain_places, plain_before, plain_settled, is_alphanumeric-plain, alphanumeric_portable, alphanumeric_single, is_alphanumeric, AreDigits-alphanumeric, minus_plain, minus_portable, minus_single, digits_open_nothing, minus_opens_nothing, IsLiteral-cut, IsLiteral-opens_nothing}
+use Rattle.mysql_sql_text.specs.InLine.{is_in_line}
+use Rattle.mysql_binding.proofs.SentLiteralLemmas.{no_zero, quotes_found}
+use Rattle.mysql_binding.proofs.SentTextLemmas.{AreSentBefore, statement_after, line_after}
+use Rattle.mysql_named_params.proofs.OtherModeLemmas.{all_parts}
+use Rattle.mysql_named_params.specs.FoundInClient.{found_in_client}
+use Rattle.std.proofs.lemmas.List.Folds.{list_all-append}
 use Rattle.mysql_binding.proofs.UpToSpliceLemmas.{joins_nothing, opens_nothing_after}
 use Rattle.mysql_fragments.specs.FragmentFaults.{escapes_end, is_keyword, is_keyword_from}
 use Rattle.mysql_fragments.specs.FragmentShape.{IsIdentifier, one_name, more_names, IsFragment, mark_fragment, literal_fragment, decimal_fragment, negative_decimal_fragment, identifier_fragment, keyword_fragment, list_fragment, row_fragment}
@@ -54,6 +61,8 @@ pub record IsFragmentList (mode : Bool) (n : ℕ) (text : List ℕ) (list : List
       opens_nothing_after before (text_then rest list) ≡ true
   pub list_settled : (rest : List ℕ) → none_or_first may_stand_after rest ≡ true → AreSettledBefore rest list
   pub list_alone : StandAlone list
+  -- it holds no comment and no `;`
+  pub list_within : StayWithin list
   pub list_names : names list ≡ []
   pub list_marks : marks list ≡ n
 
@@ -84,6 +93,7 @@ mark_list mode = record {
   list_opens = λ before rest b. refl;
   list_settled = λ rest h. (refl, refl, tt);
   list_alone = λ more first each place before last. if_alone _ _ _ (and_from _ _ last first) (each _ _);
+  list_within = (refl, tt);
   list_names = refl;
   list_marks = refl;
 }
@@ -101,6 +111,7 @@ literal_list mode literal h =
         list_opens = λ before rest b. rw (text_then-text_of c.0 rest, c.1.cut_text) (IsLiteral-opens_nothing mode h before rest);
         list_settled = λ rest h. c.1.cut_settled rest;
         list_alone = placeless_alone c.0 c.1.cut_places;
+        list_within = literal_within mode literal c.0 (within mode h) (record { text = c.1.cut_text; each = c.1.cut_tokens [] });
         list_names = no_names c.0 c.1.cut_places;
         list_marks = no_marks c.0 c.1.cut_places;
       },
@@ -155,6 +166,11 @@ module _ (whole fraction : List ℕ) (w : AreDigits whole) (f : AreDigits fracti
       AreSettledBefore-append (plain_tokens whole) (Plain dot ∷ plain_tokens fraction) rest (plain_settled whole (AreDigits-alphanumeric whole w) _)
       (ap not (fraction_ends fraction (fraction_digits fraction f) rest h), refl, plain_settled fraction (AreDigits-alphanumeric fraction f) rest)
 
+  decimal_within : StayWithin (decimal_tokens whole fraction)
+  decimal_within =
+      StayWithin-append (plain_tokens whole) (Plain dot ∷ plain_tokens fraction) (plain_within whole (AreDigits-alphanumeric whole w))
+      (refl, plain_within fraction (AreDigits-alphanumeric fraction f))
+
   decimal_places : place_count (decimal_tokens whole fraction) ≡ 0
   decimal_places = rw (place_count-append (plain_tokens whole) (Plain dot ∷ plain_tokens fraction), plain_places whole, plain_places fraction) refl
 
@@ -168,6 +184,7 @@ module _ (whole fraction : List ℕ) (w : AreDigits whole) (f : AreDigits fracti
     list_opens = λ before rest b. decimal_opens before rest;
     list_settled = decimal_settled;
     list_alone = placeless_alone (decimal_tokens whole fraction) decimal_places;
+    list_within = decimal_within;
     list_names = no_names (decimal_tokens whole fraction) decimal_places;
     list_marks = no_marks (decimal_tokens whole fraction) decimal_places;
   }
@@ -191,13 +208,14 @@ negative_list mode (d ∷ digits) fraction w f =
       list_opens = λ before rest b. negative_opens (d ∷ digits) fraction w f before rest;
       list_settled = λ rest h. (minus_portable d (text_then rest (plain_tokens digits ++ (Plain dot ∷ plain_tokens fraction))) w.0, minus_single d (text_then rest (plain_tokens digits ++ (Plain dot ∷ plain_tokens fraction))) w.0, c.list_settled rest h);
       list_alone = placeless_alone (Plain dash ∷ decimal_tokens whole fraction) places;
+      list_within = (refl, c.list_within);
       list_names = no_names (Plain dash ∷ decimal_tokens whole fraction) places;
       list_marks = no_marks (Plain dash ∷ decimal_tokens whole fraction) places;
     }
 
 -- ---- an identifier
 
-not_quote : ℕ → Bool
+pub not_quote : ℕ → Bool
 not_quote b = not (b == backquote)
 
 -- a run without a backquote, and one after it
@@ -215,7 +233,7 @@ run_ends (b ∷ run) all (c ∷ front) back e =
     run_ends run p.1 front back cc
 
 -- the tokens of the text in backquotes, if this run stands before the name
-identifier_tokens : List ℕ → List ℕ → List Token
+pub identifier_tokens : List ℕ → List ℕ → List Token
 identifier_tokens run [] = QuotedIdentifier (run ++ backquote ∷ []) ∷ []
 identifier_tokens run (b ∷ bs) =
     if b == backquote
@@ -233,11 +251,16 @@ run_more [] b all e = rw e refl
 run_more (c ∷ run) b all e = let p = and_parts (not_quote c) (list_all not_quote run) all in and_from _ _ p.0 (run_more run b p.1 e)
 
 -- all that is known of them, by induction
-record IsQuotedRun (mode : Bool) (run name : List ℕ) (list : List Token) : Type 0 where
-  run_text : text_of list ≡ backquote ∷ (run ++ (doubled name ++ backquote ∷ []))
-  run_tokens : (rest : List ℕ) → AreTokensBefore mode rest list
-  run_settled : (rest : List ℕ) → AreSettledBefore rest list
-  run_places : place_count list ≡ 0
+pub record IsQuotedRun (mode : Bool) (run name : List ℕ) (list : List Token) : Type 0 where
+  pub run_text : text_of list ≡ backquote ∷ (run ++ (doubled name ++ backquote ∷ []))
+  pub run_tokens : (rest : List ℕ) → AreTokensBefore mode rest list
+  pub run_settled : (rest : List ℕ) → AreSettledBefore rest list
+  pub run_within : StayWithin list
+  pub run_sent : list_all is_in_line (run ++ name) ≡ true → (rest : List ℕ) (statement line : Bool) →
+      AreSentBefore rest statement line list
+  pub run_statement : (statement : Bool) → statement_after statement list ≡ false
+  pub run_line : (line : Bool) → line_after line list ≡ false
+  pub run_places : place_count list ≡ 0
 
 -- the run up to its backquote, if what follows it in the name is nothing or a backquote
 run_plain : (run ys : List ℕ) → none_or_first (λ c. c == backquote) ys ≡ true → escapes_end (run ++ ys) ≡ false →
@@ -256,19 +279,30 @@ later_plain [] b bs h = (or_parts (b == byte "\\" && none_or_first (λ c. c == b
 later_plain (x ∷ run) b bs h =
     later_plain run b bs ((or_parts (x == byte "\\" && none_or_first (λ c. c == backquote) (run ++ b ∷ bs)) (escapes_end (run ++ b ∷ bs)) h).1)
 
-doubled_quote : (b : ℕ) (bs : List ℕ) → (b == backquote) ≡ true → doubled (b ∷ bs) ≡ b ∷ b ∷ doubled bs
+pub doubled_quote : (b : ℕ) (bs : List ℕ) → (b == backquote) ≡ true → doubled (b ∷ bs) ≡ b ∷ b ∷ doubled bs
 doubled_quote b bs e = rw e refl
 
-doubled_other : (b : ℕ) (bs : List ℕ) → (b == backquote) ≡ false → doubled (b ∷ bs) ≡ b ∷ doubled bs
+pub doubled_other : (b : ℕ) (bs : List ℕ) → (b == backquote) ≡ false → doubled (b ∷ bs) ≡ b ∷ doubled bs
 doubled_other b bs e = rw e refl
 
-quoted_run : (mode : Bool) (run name : List ℕ) → list_all not_quote run ≡ true → escapes_end (run ++ name) ≡ false →
+-- a name in a line is sent as it is
+identifier_found : (run rest : List ℕ) (statement line : Bool) → list_all is_in_line run ≡ true →
+    found_in_client statement line (QuotedIdentifier (run ++ backquote ∷ [])) rest ≡ None
+identifier_found run rest statement line k =
+    let t : list_all is_in_line (run ++ backquote ∷ []) ≡ true = list_all-append is_in_line run (backquote ∷ []) ∙ and_from _ _ k refl in
+    rw (no_zero (run ++ backquote ∷ []) t) (quotes_found (run ++ backquote ∷ []) t)
+
+pub quoted_run : (mode : Bool) (run name : List ℕ) → list_all not_quote run ≡ true → escapes_end (run ++ name) ≡ false →
     IsQuotedRun mode run name (identifier_tokens run name)
 unfolding identifier_tokens
 quoted_run mode run [] all plain = record {
   run_text = append-nil (backquote ∷ (run ++ backquote ∷ []));
   run_tokens = λ rest. (quoted_before mode run rest all, tt);
   run_settled = λ rest. (ap not (run_plain run [] refl plain), refl, tt);
+  run_within = (refl, tt);
+  run_sent = λ k rest statement line. (identifier_found run rest statement line (all_parts is_in_line run [] k).0, tt);
+  run_statement = λ statement. refl;
+  run_line = λ line. refl;
   run_places = refl;
 }
 quoted_run mode run (b ∷ bs) all plain =
@@ -279,6 +313,13 @@ quoted_run mode run (b ∷ bs) all plain =
             run_text = ap (λ x. backquote ∷ ((run ++ backquote ∷ []) ++ x)) h.run_text ∙ (ap (λ x. backquote ∷ x) (append_assoc run (backquote ∷ []) _) ∙ (ap (λ x. backquote ∷ (run ++ (x ∷ x ∷ (doubled bs ++ backquote ∷ [])))) (sym (eqb-true b backquote e)) ∙ ap (λ x. backquote ∷ (run ++ (x ++ backquote ∷ []))) (sym (doubled_quote b bs e))));
             run_tokens = λ rest. (quoted_before mode run _ all, h.run_tokens rest);
             run_settled = λ rest. (ap not (run_plain run (b ∷ bs) e plain), refl, h.run_settled rest);
+            run_within = (refl, h.run_within);
+            run_sent = λ k rest statement line. (
+              identifier_found run (text_then rest (identifier_tokens [] bs)) statement line (all_parts is_in_line run (b ∷ bs) k).0,
+              h.run_sent (and_parts (is_in_line b) (list_all is_in_line bs) (all_parts is_in_line run (b ∷ bs) k).1).1 rest false false,
+            );
+            run_statement = λ statement. h.run_statement false;
+            run_line = λ line. h.run_line false;
             run_places = h.run_places;
           })
       | inr e ↦
@@ -287,6 +328,10 @@ quoted_run mode run (b ∷ bs) all plain =
             run_text = h.run_text ∙ (ap (λ x. backquote ∷ x) (append_assoc run (b ∷ []) _) ∙ ap (λ x. backquote ∷ (run ++ (x ++ backquote ∷ []))) (sym (doubled_other b bs e)));
             run_tokens = h.run_tokens;
             run_settled = h.run_settled;
+            run_within = h.run_within;
+            run_sent = λ k. h.run_sent (subst (λ x. list_all is_in_line x ≡ true) (sym (append_assoc run (b ∷ []) bs)) k);
+            run_statement = h.run_statement;
+            run_line = h.run_line;
             run_places = h.run_places;
           })
     ]
@@ -296,6 +341,7 @@ record IsIdentifierList (mode : Bool) (text : List ℕ) (list : List Token) : Ty
   path_text : text_of list ≡ text
   path_tokens : (rest : List ℕ) → AreTokensBefore mode rest list
   path_settled : (rest : List ℕ) → AreSettledBefore rest list
+  path_within : StayWithin list
   path_places : place_count list ≡ 0
   path_more : List ℕ
   path_begins : text ≡ backquote ∷ path_more
@@ -307,6 +353,7 @@ name_list mode name plain =
       path_text = h.run_text;
       path_tokens = h.run_tokens;
       path_settled = h.run_settled;
+      path_within = h.run_within;
       path_places = h.run_places;
       path_more = doubled name ++ backquote ∷ [];
       path_begins = refl;
@@ -328,6 +375,7 @@ path_list mode (more_names name more plain h) =
         path_text = text_of-append us vs ∙ (ap (λ z. z ++ text_of vs) a.path_text ∙ ap (λ z. identifier_text name ++ (point ∷ z)) b.1.path_text);
         path_tokens = λ rest. AreTokensBefore-append mode us vs rest (a.path_tokens _) (plain_at mode point _ refl, b.1.path_tokens rest);
         path_settled = λ rest. AreSettledBefore-append us vs rest (a.path_settled _) (point_settled (text_then rest b.0) (b.1.path_more ++ rest) (text_then-text_of b.0 rest ∙ ap (λ z. z ++ rest) (b.1.path_text ∙ b.1.path_begins)), refl, b.1.path_settled rest);
+        path_within = StayWithin-append us vs a.path_within (refl, b.1.path_within);
         path_places = rw (place_count-append us vs, a.path_places, b.1.path_places) refl;
         path_more = (doubled name ++ backquote ∷ []) ++ (point ∷ more);
         path_begins = refl;
@@ -344,6 +392,7 @@ identifier_list mode h =
         list_opens = λ before rest b. rw (text_then-text_of p.0 rest, p.1.path_text, p.1.path_begins) refl;
         list_settled = λ rest f. p.1.path_settled rest;
         list_alone = placeless_alone p.0 p.1.path_places;
+        list_within = p.1.path_within;
         list_names = no_names p.0 p.1.path_places;
         list_marks = no_marks p.0 p.1.path_places;
       },
@@ -352,10 +401,10 @@ identifier_list mode h =
 -- ---- a keyword
 
 -- a byte of a keyword
-is_word_byte : ℕ → Bool
+unfoldable pub is_word_byte : ℕ → Bool
 is_word_byte b = is_alphanumeric b || (b == underscore || b == space)
 
-word_plain : (mode : Bool) (b : ℕ) → is_word_byte b ≡ true → (rest : List ℕ) → IsToken mode (Plain b) rest
+pub word_plain : (mode : Bool) (b : ℕ) → is_word_byte b ≡ true → (rest : List ℕ) → IsToken mode (Plain b) rest
 unfolding is_word_byte
 word_plain mode b h rest =
     elim (cases_Bool (is_alphanumeric b)) [
@@ -393,6 +442,13 @@ words_settled (b ∷ bytes) h rest =
     let s = word_settled b p.0 (text_then rest (plain_tokens bytes)) in
     (s.0, s.1, words_settled bytes p.1 rest)
 
+words_within : (bytes : List ℕ) → list_all is_word_byte bytes ≡ true → StayWithin (plain_tokens bytes)
+unfolding is_word_byte
+words_within [] h = tt
+words_within (b ∷ bytes) h =
+    let p = and_parts (is_word_byte b) (list_all is_word_byte bytes) h in
+    (rw (other is_word_byte b (byte ";") p.0 refl) refl, words_within bytes p.1)
+
 -- a letter, by both tests
 letter_alphanumeric : (b : ℕ) → is_ascii_alphabetic b ≡ true → is_alphanumeric b ≡ true
 letter_alphanumeric b h = grind (arith, nat_tests)
@@ -408,7 +464,7 @@ letter_word : (b : ℕ) → is_ascii_alphabetic b ≡ true → is_word_byte b �
 unfolding is_word_byte
 letter_word b h = or_left _ _ (letter_alphanumeric b h)
 
-keyword_bytes : (begun : Bool) (bytes : List ℕ) → is_keyword_from begun bytes ≡ true → list_all is_word_byte bytes ≡ true
+pub keyword_bytes : (begun : Bool) (bytes : List ℕ) → is_keyword_from begun bytes ≡ true → list_all is_word_byte bytes ≡ true
 unfolding is_word_byte
 keyword_bytes begun [] h = refl
 keyword_bytes begun (b ∷ bytes) h =
@@ -426,7 +482,7 @@ keyword_bytes begun (b ∷ bytes) h =
     ]
 
 -- it begins with a letter
-keyword_first : (b : ℕ) (bytes : List ℕ) → is_keyword (b ∷ bytes) ≡ true → is_ascii_alphabetic b ≡ true
+pub keyword_first : (b : ℕ) (bytes : List ℕ) → is_keyword (b ∷ bytes) ≡ true → is_ascii_alphabetic b ≡ true
 keyword_first b bytes h =
     elim (cases_Bool (is_ascii_alphabetic b)) [
       | inl e ↦ e
@@ -459,6 +515,7 @@ keyword_list mode (b ∷ bytes) h =
         list_tokens = λ rest. words_before mode (b ∷ bytes) all rest;
         list_opens = λ before rest s. letter_opens before b (text_then rest (plain_tokens bytes)) l s;
         list_settled = λ rest f. words_settled (b ∷ bytes) all rest;
+        list_within = words_within (b ∷ bytes) all;
         list_alone = placeless_alone (plain_tokens (b ∷ bytes)) (plain_places bytes);
         list_names = no_names (plain_tokens (b ∷ bytes)) (plain_places bytes);
         list_marks = no_marks (plain_tokens (b ∷ bytes)) (plain_places bytes);
@@ -482,6 +539,7 @@ list_list mode n k a b us vs x y = record {
       (x.list_alone (comma_then (vs ++ more)) refl
       (λ place before. y.list_alone more first each place ((before ++ byte "," ∷ []) ++ byte " " ∷ []) (last-append may_stand_before (before ++ byte "," ∷ []) (byte " ") []))
       place before last);
+  list_within = StayWithin-append us (comma_then vs) x.list_within (refl, (refl, y.list_within));
   list_names = names-append us (comma_then vs) ∙ (ap (λ z. z ++ names vs) x.list_names ∙ y.list_names);
   list_marks = omega (arith, marks-append us (comma_then vs), x.list_marks, y.list_marks);
 }
@@ -501,6 +559,7 @@ row_list mode n a us x = record {
       (x.list_alone (Plain (byte ")") ∷ more) refl
       (λ place before. each place (before ++ byte ")" ∷ []))
       place (before ++ byte "(" ∷ []) (last-append may_stand_before before (byte "(") []));
+  list_within = (refl, StayWithin-append us (Plain (byte ")") ∷ []) x.list_within (refl, tt));
   list_names = names-append us (Plain (byte ")") ∷ []) ∙ (ap (λ z. z ++ []) x.list_names);
   list_marks = omega (arith, marks-append us (Plain (byte ")") ∷ []), x.list_marks);
 }

@@ -1,5 +1,6 @@
 pub mod TextLemmas
 pub mod FragmentLemmas
+pub mod SentFragmentLemmas
 pub mod SplicedFragmentLemmas
 pub mod ShapeLemmas
 pub mod ReadFragmentLemmas

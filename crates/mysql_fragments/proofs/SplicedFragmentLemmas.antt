@@ -14,6 +14,7 @@ use Rattle.mysql_named_params.proofs.TokenRowLemmas.{names-append, marks-append}
 use Rattle.mysql_binding.specs.Pieces.{pieces, joined_text}
 use Rattle.mysql_binding.specs.Replaced.{AreTokensOf, with_literal_tokens}
 use Rattle.mysql_binding.specs.StandsAlone.{may_stand_before, none_or_last, first_not_alone, first_not_alone_from}
+use Rattle.mysql_binding.proofs.BoundStatementLemmas.{StayWithin}
 use Rattle.mysql_binding.proofs.ByteTestLemmas.{name_byte_not_before}
 use Rattle.mysql_binding.proofs.ContentsLemmas.{alone_parts}
 use Rattle.mysql_binding.proofs.PieceLemmas.{joined_text_count}
@@ -21,6 +22,12 @@ use Rattle.mysql_binding.proofs.SpliceLemmas.{AtPlaces, Each, HoldsAlone, IsSpli
 use Rattle.mysql_binding.proofs.SplicedOnServerLemmas.{spliced_on, spliced_read}
 use Rattle.mysql_fragments.specs.FragmentShape.{IsFragment, AreFragments}
 use Rattle.mysql_fragments.proofs.FragmentLemmas.{IsFragmentList, StandAlone, fragment_list_of, last-append}
+use Rattle.mysql_fragments.proofs.SentFragmentLemmas.{fragment_sent}
+use Rattle.mysql_fragments.specs.SentFragments.{BeginNoWords}
+use Rattle.mysql_sql_text.specs.InLine.{AreInLine}
+use Rattle.mysql_binding.proofs.SentLiteralLemmas.{sent_alone}
+use Rattle.mysql_binding.proofs.SentTextLemmas.{IsSentAt, spliced_sent}
+use Rattle.mysql_named_params.specs.FirstUnportableInClient.{AreSentAsTheyAre}
 
 -- the tokens of a fragment, read alone
 pub fragment_list : (mode : Bool) (n : ℕ) (text : List ℕ) (list : List Token) → IsFragment mode n text →
@@ -54,6 +61,22 @@ each_list mode Fact f (n ∷ counts) (text ∷ texts) [] s a = absurd a
 each_list mode Fact f (n ∷ counts) (text ∷ texts) (list ∷ lists) s a =
     (f n text list (fragment_list mode n text list s.0 a.0), each_list mode Fact f counts texts lists s.1 a.1)
 
+-- no fragment holds a comment or a `;`
+pub fragments_within : (mode : Bool) (counts : List ℕ) (texts : List (List ℕ)) (lists : List (List Token)) →
+    AreFragments mode counts texts → AreTokensOf mode texts lists → Each StayWithin lists
+fragments_within mode counts texts lists s a = each_list mode StayWithin (λ n text list f. f.list_within) counts texts lists s a
+
+-- fragments that a client sends as they are
+fragments_sent_each : (mode : Bool) (counts : List ℕ) (texts : List (List ℕ)) (lists : List (List Token)) → AreFragments mode counts texts →
+    AreInLine texts → BeginNoWords texts → AreTokensOf mode texts lists → Each (HoldsAlone IsSentAt) lists
+fragments_sent_each mode [] [] [] s k w a = tt
+fragments_sent_each mode [] [] (list ∷ lists) s k w a = absurd a
+fragments_sent_each mode [] (text ∷ texts) lists s k w a = absurd s
+fragments_sent_each mode (n ∷ counts) [] lists s k w a = absurd s
+fragments_sent_each mode (n ∷ counts) (text ∷ texts) [] s k w a = absurd a
+fragments_sent_each mode (n ∷ counts) (text ∷ texts) (list ∷ lists) s k w a =
+    (sent_alone mode text list (fragment_sent mode s.0 k.0 w.0) a.0, fragments_sent_each mode counts texts lists s.1 k.1 w.1 a.1)
+
 -- ---- in the places
 
 module _ (mode : Bool) (text : List ℕ) (ts : List Token) (counts : List ℕ) (texts : List (List ℕ)) (lists : List (List Token)) (n : first_not_alone ts ≡ None) (s : AreFragments mode counts texts) (a : AreTokensOf mode texts lists) (e : joined_text (pieces ts) texts ≡ Some text) where
@@ -68,6 +91,10 @@ module _ (mode : Bool) (text : List ℕ) (ts : List Token) (counts : List ℕ) (
   settled = alone IsSettled ts lists (each_list mode (HoldsAlone IsSettled) (λ n text list f. λ before rest b r. f.list_settled rest r) counts texts lists s a) as_many n
 
   module _ (query : List ℕ) (h : IsTokens mode query ts) where
+    pub fragments_are_sent : AreInLine texts → BeginNoWords texts → AreSentAsTheyAre ts → AreSentAsTheyAre (with_literal_tokens ts lists)
+    fragments_are_sent k w o =
+        spliced_sent mode space ts lists true true h.each (alone IsSentAt ts lists (fragments_sent_each mode counts texts lists s k w a) as_many n) o
+
     -- the tokens of the text
     pub fragments_isolated : IsTokens mode text (with_literal_tokens ts lists)
     fragments_isolated = isolated_splice mode query text ts texts lists h spliced a e

@@ -1,8 +1,10 @@
 -- Texts of fragments that are written as far as an index.
 use Rattle.std.proofs.Common.{◌≡◌, ◌+◌, ◌++◌, ◌<◌, ◌==◌, ℕ, Bool, true, false, List, [], ◌∷◌, length, map, take, get_or, if◌then◌else◌, arith, refl, sym, ap, ◌∙◌, append_assoc, append-nil, eq-eqb, ne_eqb, ◌≢◌}
-use Rattle.std.specs.Prelude.{codes}
+use Rattle.std.specs.Prelude.{codes, Result, Ok, Err, OnErr}
+use Rattle.std.specs.Io.{StartsWith}
 use Rattle.std.specs.Str.{byte}
 use Rattle.std.specs.List.{flat_map}
+use Rattle.std.proofs.Transfers.{starts_with_of_append, starts_with_trans}
 use Rattle.std.proofs.lemmas.List.{take_more, length-take-le, length-map, map-append}
 use Rattle.mysql_named_params.specs.Bytes.{backquote}
 use Rattle.mysql_fragments.specs.FragmentText.{doubled, each_after, joined}
@@ -91,3 +93,10 @@ twice b text text1 text2 e e1 e2 = rw (eq-eqb b backquote e) (e2 ∙ (ap (λ u. 
 pub once : (b : ℕ) (text text1 : List ℕ) → b ≢ backquote → text1 ≡ text ++ b ∷ [] →
     text1 ≡ text ++ doubled (b ∷ [])
 once b text text1 n e1 = rw (ne_eqb b backquote n) e1
+
+-- a text still begins with what stood before, also after an error
+pub still_begins : {T E : Type 0} (r : Result T E) (old written before next new : List ℕ) → before ≡ old ++ written →
+    StartsWith next before → StartsWith new next → OnErr r (StartsWith new old)
+still_begins (Ok x) old written before next new is begun more = tt
+still_begins (Err e) old written before next new is begun more =
+    starts_with_trans new next old more (starts_with_trans next before old begun (starts_with_of_append before old written is))

@@ -8,3 +8,4 @@ pub mod ReadFragment
 pub mod ValueFragments
 pub mod FragmentsInPlace
 pub mod FilledText
+pub mod SentFragments

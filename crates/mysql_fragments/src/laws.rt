@@ -9,9 +9,14 @@ ghost use Rattle.mysql_named_params.specs.Places.{names};
 ghost use Rattle.mysql_named_params.specs.Portable.{AreReadAlike, IsPortable, IsReadAs};
 ghost use Rattle.mysql_named_params.specs.Quiet.{IsHonest, DecidesWithin};
 ghost use Rattle.mysql_named_params.specs.Server.{Server, IsReadOn};
+ghost use Rattle.mysql_named_params.specs.Client.{Client, IsReadBy, HoldNoOpener};
+ghost use Rattle.mysql_named_params.specs.FirstUnportableInClient.{AreSentAsTheyAre, IsPortableInClient};
+ghost use Rattle.mysql_named_params.specs.Statements.{statements};
 ghost use Rattle.mysql_params_core.specs.Given.{Given};
 ghost use Rattle.mysql_params_core.specs.Lookup.{lookup};
+ghost use Rattle.mysql_binding.specs.BoundStatements.{statements_with_literals};
 ghost use Rattle.mysql_binding.specs.FirstCause as bound;
+ghost use Rattle.mysql_sql_text.specs.InLine.{AreInLine};
 ghost use Rattle.mysql_binding.specs.Isolation.{IsBoundText};
 ghost use Rattle.mysql_binding.specs.Pieces.{pieces, joined_text};
 ghost use Rattle.mysql_binding.specs.Replaced.{AreTokensOf, with_literal_tokens};
@@ -21,13 +26,14 @@ ghost use Rattle.mysql_fragments.specs.FragmentErrors as fragments;
 ghost use Rattle.mysql_fragments.specs.FragmentFaults.{is_decimal};
 ghost use Rattle.mysql_fragments.specs.FragmentShape.{AreFragments};
 ghost use Rattle.mysql_fragments.specs.FragmentsInPlace.{ReadAsThemselves};
-ghost use Rattle.mysql_fragments.specs.FragmentText.{identifier_text, joined};
+ghost use Rattle.mysql_fragments.specs.FragmentText.{fragment_text, identifier_text, joined};
 ghost use Rattle.mysql_fragments.specs.GivenFragments.{GivenFragments, fragments_for};
 ghost use Rattle.mysql_fragments.specs.ReadFragment.{AreReadAsNames, ReadsAsOne, is_backquote, read_exact, read_identifier};
+ghost use Rattle.mysql_fragments.specs.SentFragments.{BeginNoWords};
 ghost use Rattle.mysql_fragments.specs.ValueFragments.{same_cause};
 ghost use Rattle.mysql_fragments.specs.declared.fragment.Fragment.TheVariants as fragment;
 
-use mysql_binding::laws::bound_texts_on_servers;
+use mysql_binding::laws::{bound_texts_are_sent, bound_texts_in_clients, bound_texts_on_servers};
 
 /// Whatever texts of the shape of fragments stand in the places of a query, if these stand alone,
 /// then the tokens are the query's, with those of each text in place of its name or mark
@@ -69,6 +75,44 @@ pub fn fragments_on_servers()
         IsReadOn server mode query us → IsReadOn server mode text (with_literal_tokens us lists) }
 {}
 
+/// A client that keeps comments cuts the text into as many statements as the query has, if each
+/// token of the query passes its test and no block comment of it holds `/*!`, `/*+` or `/*/`
+/// (`count`). The text has none of the three in a block comment either (`no_opener`), and the
+/// client reads it as the grammar does, except for `--` before a newline and for what stands in
+/// quiet comments (`read`). If it decides about a quiet comment by the comment alone, it reads the
+/// tokens that it reads in the query, with those of one fragment in place of each name and mark
+/// (`tokens`); its statements are then those of the query, with fragments in their places
+/// (`statements`).
+pub fn fragments_in_clients()
+    ensures no_opener { (mode : Bool) (ts : List Token) (counts : List ℕ) (texts : List (List ℕ))
+        (lists : List (List Token)) → AreFragments mode counts texts →
+        AreTokensOf mode texts lists → HoldNoOpener ts →
+        HoldNoOpener (with_literal_tokens ts lists) }
+    ensures read { (client : Client) (mode : Bool) (query text : List ℕ) (ts vs : List Token)
+        (counts : List ℕ) (texts : List (List ℕ)) (lists : List (List Token)) →
+        IsHonest client.reader → IsTokens mode query ts → AreReadAlike ts → HoldNoOpener ts →
+        first_not_alone ts ≡ None → AreFragments mode counts texts →
+        AreTokensOf mode texts lists → joined_text (pieces ts) texts ≡ Some text →
+        IsReadBy client mode text vs → IsReadAs (with_literal_tokens ts lists) vs }
+    ensures count { (client : Client) (mode : Bool) (query text : List ℕ) (ts vs : List Token)
+        (counts : List ℕ) (texts : List (List ℕ)) (lists : List (List Token)) →
+        IsHonest client.reader → IsTokens mode query ts → AreReadAlike ts → HoldNoOpener ts →
+        first_not_alone ts ≡ None → AreFragments mode counts texts →
+        AreTokensOf mode texts lists → joined_text (pieces ts) texts ≡ Some text →
+        IsReadBy client mode text vs → length (statements vs) ≡ length (statements ts) }
+    ensures tokens { (client : Client) (mode : Bool) (query text : List ℕ) (ts us : List Token)
+        (counts : List ℕ) (texts : List (List ℕ)) (lists : List (List Token)) →
+        IsHonest client.reader → DecidesWithin client.reader → IsTokens mode query ts →
+        AreReadAlike ts → HoldNoOpener ts → first_not_alone ts ≡ None →
+        AreFragments mode counts texts → AreTokensOf mode texts lists →
+        joined_text (pieces ts) texts ≡ Some text → IsReadBy client mode query us →
+        IsReadBy client mode text (with_literal_tokens us lists) }
+    ensures statements { (mode : Bool) (us : List Token) (counts : List ℕ)
+        (texts : List (List ℕ)) (lists : List (List Token)) → AreFragments mode counts texts →
+        AreTokensOf mode texts lists → statements (with_literal_tokens us lists)
+        ≡ statements_with_literals (statements us) lists }
+{}
+
 /// A text that is bound to a portable query with fragments is portable. Its tokens are the query's,
 /// with those of one fragment in place of each name and mark, and in these those of one literal in
 /// place of each of their marks: on every honest server those, except for `--` before a newline and
@@ -94,6 +138,72 @@ pub fn bound_fragments_on_servers()
 {
     fragments_on_servers();
     bound_texts_on_servers();
+}
+
+/// If a client sends the query as it is, it sends the text as it is, if no fragment has a byte 0 or
+/// a newline, and none begins with a letter, as keywords do.
+pub fn fragments_are_sent()
+    ensures { (mode : Bool) (query text : List ℕ) (ts : List Token) (counts : List ℕ)
+        (texts : List (List ℕ)) (lists : List (List Token)) → IsTokens mode query ts →
+        AreSentAsTheyAre ts → first_not_alone ts ≡ None → AreFragments mode counts texts →
+        AreInLine texts → BeginNoWords texts → AreTokensOf mode texts lists →
+        joined_text (pieces ts) texts ≡ Some text →
+        AreSentAsTheyAre (with_literal_tokens ts lists) }
+{}
+
+/// A client that keeps comments cuts a text that is bound to a portable query with fragments,
+/// without `/*!`, `/*+` and `/*/` in a block comment, into as many statements as the query has,
+/// whatever stands in the fragments and values (`count`). It reads the text as the grammar does,
+/// except for `--` before a newline and for what stands in quiet comments (`read`). If it decides
+/// about a quiet comment by the comment alone, it reads the tokens that it reads in the query,
+/// replaced (`tokens`); its statements are then those of the query, replaced (`statements`).
+pub fn bound_fragments_in_clients()
+    ensures no_opener { (mode : Bool) (text : List ℕ) (ts : List Token)
+        (given : GivenFragments) → (b : IsBoundFragments mode ts given text) → HoldNoOpener ts →
+        HoldNoOpener (with_literal_tokens (with_literal_tokens ts b.expanded.lists)
+        b.bound.literal_tokens) }
+    ensures read { (client : Client) (mode : Bool) (query text : List ℕ) (ts vs : List Token)
+        (given : GivenFragments) → IsHonest client.reader → IsTokens mode query ts →
+        (b : IsBoundFragments mode ts given text) → AreReadAlike ts → HoldNoOpener ts →
+        IsReadBy client mode text vs →
+        IsReadAs (with_literal_tokens (with_literal_tokens ts b.expanded.lists)
+        b.bound.literal_tokens) vs }
+    ensures count { (client : Client) (mode : Bool) (query text : List ℕ) (ts vs : List Token)
+        (given : GivenFragments) → IsHonest client.reader → IsTokens mode query ts →
+        IsBoundFragments mode ts given text → AreReadAlike ts → HoldNoOpener ts →
+        IsReadBy client mode text vs → length (statements vs) ≡ length (statements ts) }
+    ensures tokens { (client : Client) (mode : Bool) (query text : List ℕ) (ts us : List Token)
+        (given : GivenFragments) → IsHonest client.reader → DecidesWithin client.reader →
+        IsTokens mode query ts → (b : IsBoundFragments mode ts given text) → AreReadAlike ts →
+        HoldNoOpener ts → IsReadBy client mode query us → IsReadBy client mode text
+        (with_literal_tokens (with_literal_tokens us b.expanded.lists) b.bound.literal_tokens) }
+    ensures statements { (mode : Bool) (text : List ℕ) (ts us : List Token)
+        (given : GivenFragments) → (b : IsBoundFragments mode ts given text) → statements
+        (with_literal_tokens (with_literal_tokens us b.expanded.lists) b.bound.literal_tokens)
+        ≡ statements_with_literals (statements_with_literals (statements us) b.expanded.lists)
+        b.bound.literal_tokens }
+{
+    fragments_on_servers();
+    fragments_in_clients();
+    bound_texts_in_clients();
+}
+
+/// A text that is bound to a query which is portable in a client is portable in it too, if no
+/// fragment and no literal has a newline or a byte 0, and no fragment begins with a letter, as
+/// keywords do.
+pub fn bound_fragments_are_sent()
+    ensures { (mode : Bool) (query text : List ℕ) (ts : List Token) (given : GivenFragments) →
+        IsTokens mode query ts → IsPortableInClient ts →
+        (b : IsBoundFragments mode ts given text) →
+        AreInLine (map fragment_text b.expanded.fragments) →
+        BeginNoWords (map fragment_text b.expanded.fragments) → AreInLine b.bound.literals →
+        IsPortableInClient (with_literal_tokens (with_literal_tokens ts b.expanded.lists)
+        b.bound.literal_tokens) }
+{
+    fragments_on_servers();
+    fragments_in_clients();
+    fragments_are_sent();
+    bound_texts_are_sent();
 }
 
 /// What is written in a place reads as itself, by readers of identifiers and of exact numbers. An

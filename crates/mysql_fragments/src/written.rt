@@ -1,5 +1,6 @@
 //! The text of fragments with marks for their values, and these values.
-ghost use Rattle.std.specs.Prelude.{◌≡◌, ◌++◌, IfOk, codes, map};
+ghost use Rattle.std.specs.Prelude.{◌≡◌, ◌++◌, IfOk, OnErr, codes, map};
+ghost use Rattle.std.specs.Io.{StartsWith};
 ghost use Rattle.std.specs.List.{flat_map, list_any};
 ghost use Rattle.mysql_values.specs.Literal.{is_float};
 ghost use Rattle.mysql_fragments.specs.FragmentErrors.{has_float, is_float_item};
@@ -9,11 +10,12 @@ use crate::fragment::{Fragment, Item};
 use mysql_values::value::Value;
 use std::alloc::AllocError;
 
-/// Writes the text of a fragment with a mark for each value to the end. It is public, though this
-/// crate alone calls it.
+/// Writes the text of a fragment with a mark for each value to the end. If memory is refused, a
+/// part of it may stand behind what stood before. It is public, though this crate alone calls it.
 pub fn push_fragment(text: &mut Vec<u8>, fragment: &Fragment) -> Result<(), AllocError>
-    ensures { IfOk result (λ done.
+    ensures text { IfOk result (λ done.
         text.new.items ≡ text.old.items ++ fragment_text fragment.now) }
+    ensures kept { OnErr result (StartsWith text.new.items text.old.items) }
 {
     match fragment {
         Fragment::Value(_) => {
@@ -31,7 +33,8 @@ pub fn push_fragment(text: &mut Vec<u8>, fragment: &Fragment) -> Result<(), Allo
 
 // Writes an item to the end: a mark for a value.
 fn push_item(text: &mut Vec<u8>, item: &Item) -> Result<(), AllocError>
-    ensures { IfOk result (λ done. text.new.items ≡ text.old.items ++ item_text item.now) }
+    ensures text { IfOk result (λ done. text.new.items ≡ text.old.items ++ item_text item.now) }
+    ensures kept { OnErr result (StartsWith text.new.items text.old.items) }
 {
     match item {
         Item::Value(_) => {
@@ -44,7 +47,8 @@ fn push_item(text: &mut Vec<u8>, item: &Item) -> Result<(), AllocError>
 
 // Writes items with commas between them to the end.
 fn push_items(text: &mut Vec<u8>, items: &[Item]) -> Result<(), AllocError>
-    ensures { IfOk result (λ done. text.new.items ≡ text.old.items ++ items_text items.now) }
+    ensures text { IfOk result (λ done. text.new.items ≡ text.old.items ++ items_text items.now) }
+    ensures kept { OnErr result (StartsWith text.new.items text.old.items) }
 {
     for (i, item) in items.iter().enumerate() {
         if i > 0 {
@@ -57,8 +61,9 @@ fn push_items(text: &mut Vec<u8>, items: &[Item]) -> Result<(), AllocError>
 
 // Writes rows in brackets with commas between them to the end.
 fn push_rows(text: &mut Vec<u8>, rows: &[Vec<Item>]) -> Result<(), AllocError>
-    ensures { IfOk result (λ done.
+    ensures text { IfOk result (λ done.
         text.new.items ≡ text.old.items ++ joined (codes ", ") (map row_text rows.now)) }
+    ensures kept { OnErr result (StartsWith text.new.items text.old.items) }
 {
     for (i, row) in rows.iter().enumerate() {
         if i > 0 {
@@ -73,8 +78,9 @@ fn push_rows(text: &mut Vec<u8>, rows: &[Vec<Item>]) -> Result<(), AllocError>
 
 /// Writes names as identifiers with points between them to the end.
 pub(crate) fn push_names(text: &mut Vec<u8>, names: &[Vec<u8>]) -> Result<(), AllocError>
-    ensures { IfOk result (λ done. text.new.items ≡ text.old.items
+    ensures text { IfOk result (λ done. text.new.items ≡ text.old.items
         ++ joined (codes ".") (map (λ name. identifier_text name.items) names.now)) }
+    ensures kept { OnErr result (StartsWith text.new.items text.old.items) }
 {
     for (i, name) in names.iter().enumerate() {
         if i > 0 {
@@ -87,7 +93,9 @@ pub(crate) fn push_names(text: &mut Vec<u8>, names: &[Vec<u8>]) -> Result<(), Al
 
 /// Writes a name as an identifier in backquotes to the end.
 pub(crate) fn push_identifier(text: &mut Vec<u8>, name: &[u8]) -> Result<(), AllocError>
-    ensures { IfOk result (λ done. text.new.items ≡ text.old.items ++ identifier_text name.now) }
+    ensures text { IfOk result (λ done.
+        text.new.items ≡ text.old.items ++ identifier_text name.now) }
+    ensures kept { OnErr result (StartsWith text.new.items text.old.items) }
 {
     text.push(b'`')?;
     for b in name {

@@ -5,6 +5,7 @@
 //! one. `specs/SteadyFragments.antt` says what they promise of the text.
 #![tactic(auto)]
 
+pub mod laws;
 mod steady_fragments;
 mod steady_fragments_error;
 mod unsteady;

@@ -19,7 +19,7 @@ loop-fragment-preserved c =
     spliced_more _ fragment_text _ _ (referents c.args.fragments.now) _ _ c.loop-fragment.invariant _ _ _ _ _ _ (omega (arith, c.loop-fragment-test.true, length-map c.args.fragments.now (λ r. r.now)))
     (referent_is c.args.fragments.now c.loop-fragment.fragment-index c.fragment-item.result c.loop-fragment-test.true c.fragment-item.is)
     c.in-Some.ensures.place c.cut.ensures.before c.cut.ensures.after
-    c.in_ok-extend_from_slice.ensures.items c.in_ok-push_fragment.ensures
+    c.in_ok-extend_from_slice.ensures.items c.in_ok-push_fragment.ensures.text
 
 pub returns : goal.returns
 returns c = spliced_all _ fragment_text _ _ (referents c.args.fragments.now) _ _ c.loop-fragment.invariant (omega (arith, c.loop-fragment-test.false, length-map c.args.fragments.now (λ r. r.now))) _ c.in_ok-extend_from_slice-2.ensures.items

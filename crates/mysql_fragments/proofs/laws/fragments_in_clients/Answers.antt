@@ -1,0 +1,32 @@
+use Rattle.mysql_named_params.proofs.ClientLemmas.{read_as_server}
+use Rattle.mysql_binding.specs.Replaced.{with_literal_tokens}
+use Rattle.mysql_binding.proofs.BoundStatementLemmas.{replaced_no_opener, replaced_statements}
+use Rattle.mysql_binding.proofs.SplicedInClientLemmas.{spliced_count, spliced_on_reader, spliced_by_client}
+use Rattle.mysql_fragments.proofs.SplicedFragmentLemmas as lemmas
+use Rattle.mysql_fragments.proofs.laws.fragments_in_clients.Goals as goal
+
+pub returns : goal.returns
+returns c = record {
+  no_opener = λ mode ts counts texts lists s a o. replaced_no_opener ts lists (lemmas.fragments_within mode counts texts lists s a) o;
+  read = λ client mode query text ts vs counts texts lists honest h p o n s a e v.
+      let inside = lemmas.fragments_within mode counts texts lists s a in
+      let isolated = lemmas.fragments_isolated mode text ts counts texts lists n s a e query h in
+      let alike = lemmas.fragments_portable mode text ts counts texts lists n s a e query h p in
+      lemmas.fragments_read mode text ts counts texts lists n s a e query h p client.reader vs honest
+      (spliced_on_reader ts lists inside mode text isolated alike o client honest vs v);
+  count = λ client mode query text ts vs counts texts lists honest h p o n s a e v.
+      let inside = lemmas.fragments_within mode counts texts lists s a in
+      let isolated = lemmas.fragments_isolated mode text ts counts texts lists n s a e query h in
+      let alike = lemmas.fragments_portable mode text ts counts texts lists n s a e query h p in
+      spliced_count ts lists inside vs
+      (lemmas.fragments_read mode text ts counts texts lists n s a e query h p client.reader vs honest
+      (spliced_on_reader ts lists inside mode text isolated alike o client honest vs v));
+  tokens = λ client mode query text ts us counts texts lists honest decides h p o n s a e u.
+      let inside = lemmas.fragments_within mode counts texts lists s a in
+      let isolated = lemmas.fragments_isolated mode text ts counts texts lists n s a e query h in
+      let alike = lemmas.fragments_portable mode text ts counts texts lists n s a e query h p in
+      spliced_by_client ts lists inside mode text isolated alike o client honest (with_literal_tokens us lists)
+      (lemmas.fragments_on mode text ts counts texts lists n s a e query h p client.reader us honest decides
+      (read_as_server client mode query ts us honest h p o u));
+  statements = λ mode us counts texts lists s a. replaced_statements us lists (lemmas.fragments_within mode counts texts lists s a);
+}

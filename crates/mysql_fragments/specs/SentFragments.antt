@@ -1,0 +1,18 @@
+-- Texts of fragments that a client sends as they are, also at the front of a statement: they begin
+-- with no letter. Keywords do, and `USE` at the front of a statement is a client's command.
+use Rattle.std.specs.Prelude.{◌==◌, ◌&&◌, ◌||◌, nat_le, not, ℕ, Bool, true, IsTrue, List, [], ◌∷◌, ⊤}
+use Rattle.std.specs.Str.{byte}
+use Rattle.mysql_named_params.specs.Bytes.{underscore}
+use Rattle.mysql_named_params.specs.FoundInClient.{letter_of}
+
+-- the text begins with no letter, as a client takes letters, and with no `_`: with no word
+abbrev pub begins_no_word_of_client : List ℕ → Bool
+begins_no_word_of_client [] = true
+begins_no_word_of_client (b ∷ bs) =
+    not ((nat_le (byte "a") (letter_of b) && nat_le (letter_of b) (byte "z"))
+    || letter_of b == underscore)
+
+-- each of the texts begins so
+abbrev pub BeginNoWords : List (List ℕ) → Type 0
+BeginNoWords [] = ⊤
+BeginNoWords (text ∷ texts) = IsTrue (begins_no_word_of_client text) × BeginNoWords texts
