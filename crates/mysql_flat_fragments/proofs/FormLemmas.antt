@@ -54,6 +54,11 @@ pub whole_read : (form : List ℕ) (place : ℕ) (given : GivenFragments) (rest 
 whole_read form place given [] leads none = leads _ (read_to_end (length form) place given)
 whole_read form place given (b ∷ rest) leads none = absurd (omega (arith, ap length none))
 
+-- of the empty form nothing is left
+pub never_left : {X : Type 0} (form rest : List ℕ) (place : ℕ) → form ≡ [] → place + length rest ≤ length form → rest ≢ [] → X
+never_left form [] place none within some = absurd (some refl)
+never_left form (b ∷ rest) place none within some = absurd (omega (arith, ap length none))
+
 -- bytes that begin with a type and flags
 pub fragment_typed : (place position : ℕ) (bytes : List ℕ) → 2 ≤ length bytes →
     read_fragment place position bytes

@@ -1,5 +1,5 @@
 //! The flat form of fragments.
-ghost use Rattle.std.specs.Prelude.{◌≡◌, ◌≤◌, Ok, IfErr, IfOk, IfSome, ⊤, alloc_error, is_some, length, true, option_and_then};
+ghost use Rattle.std.specs.Prelude.{◌≡◌, ◌≤◌, [], Ok, IfErr, IfOk, IfSome, IsOk, ⊤, alloc_error, is_some, length, true, option_and_then};
 ghost use Rattle.std.specs.FinMap.{contains_key, insert};
 ghost use Rattle.mysql_wire_part.specs.Answer.{IsAnswer};
 ghost use Rattle.mysql_wire_part.specs.ParseBuf.{left};
@@ -40,6 +40,9 @@ pub fn form_fragments(alloc: Global, form: &[u8]) -> Result<Fragments, FormError
     ensures fragments { IfOk result (λ fragments.
         IsFormReading form.now (Ok (given_fragments fragments))) }
     ensures refused { IfErr result (IsFormRefusal form.now) }
+
+    // The empty form is read without allocating.
+    ensures empty { form.now ≡ [] → IsOk result }
 {
     let mut fragments = Fragments::Positional(Vec::new(alloc));
     let mut rest = ParseBuf(form);

@@ -1,11 +1,11 @@
 //! The text that is bound to fragments, in a room that the caller lends.
-ghost use Rattle.std.specs.Prelude.{◌≡◌, ◌≤◌, ◌<◌, Bool, List, ℕ, Ok, length, take, drop, true};
+ghost use Rattle.std.specs.Prelude.{◌≡◌, ◌≤◌, ◌<◌, Bool, List, ℕ, [], Ok, length, take, drop, true};
 ghost use Rattle.std.specs.List.{Contains};
 ghost use Rattle.mysql_named_params.specs.Tokens.{OnTokens};
 ghost use Rattle.mysql_named_params.specs.Places.{names};
 ghost use Rattle.mysql_fragments.specs.FragmentErrors.{IsCauseOrMemory, first_cause};
 ghost use Rattle.mysql_fragments.specs.GivenFragments.{GivenFragments};
-ghost use Rattle.mysql_flat_params.specs.IntoRoom.{IsInRoom, IsMissingName};
+ghost use Rattle.mysql_flat_params.specs.IntoRoom.{IfMixed, IsInRoom, IsMissingName};
 ghost use Rattle.mysql_flat_params.specs.Outcomes as values;
 ghost use Rattle.mysql_flat_fragments.specs.FlatFragments.{IsFormReading};
 ghost use Rattle.mysql_flat_fragments.specs.FragmentsAnywhereIntoRoom.{IsAnywhereAsValues};
@@ -25,8 +25,10 @@ use std::alloc::Global;
 ///
 /// `Done` has the length of the text; the rest of the room is unchanged. `Room` has the length that
 /// the room would need. A form is refused before the query; then the first of the causes of
-/// `bind_fragments_in` refuses it. `Missing` tells the first place that has the missing name. Any
-/// outcome may be `OutOfMemory` instead, which also comes if the text would be longer than
+/// `bind_fragments_in` refuses it. `Missing` tells the first place that has the missing name. The
+/// empty form over a query with names and marks is `Mixed` without allocating. Any other outcome
+/// may be `OutOfMemory` instead, also if a form is refused for its first parameter: of a list the
+/// items before the refused one are copied. It also comes if the text would be longer than
 /// `isize::MAX` bytes. After every outcome except `Done` the room is as before.
 pub fn bind_fragments_into(
     alloc: Global,
@@ -38,6 +40,10 @@ pub fn bind_fragments_into(
     ensures outcome { IsFragmentsOutcome no_backslash_escape query.now form.now result }
     ensures written { IfDone result (λ len.
         IsBoundForm no_backslash_escape query.now form.now (take len room.new)) }
+
+    // The empty form over a query with a name and a mark is refused without allocating.
+    ensures mixed { form.now ≡ [] → IfMixed no_backslash_escape query.now
+        (result ≡ FragmentsOutcome.AsValues Outcome.Mixed) }
     ensures rest { IfDone result (λ len.
         (len ≤ length room.old) × (drop len room.new ≡ drop len room.old)) }
     ensures too_long { IfTooLong result (λ len. length room.old < len) }
@@ -118,6 +124,8 @@ pub(crate) fn fragments_outcome(
         OnTokens no_backslash_escape query.now (λ ts.
         IsCauseOrMemory (first_cause true ts given) error) →
         IsFragmentsOutcome no_backslash_escape query.now form result }
+    ensures mixed { error ≡ FragmentsError.Mixed →
+        result ≡ FragmentsOutcome.AsValues Outcome.Mixed }
     ensures no_answer { HasNoAnswer result }
 {
     FragmentsOutcome::AsValues(match error {

@@ -7,11 +7,13 @@ use Rattle.mysql_named_params.specs.Tokens.{OnTokens}
 use Rattle.mysql_named_params.specs.Places.{place_count}
 use Rattle.mysql_named_params.proofs.TokenRowLemmas.{place_count-sum}
 use Rattle.mysql_params_core.specs.Given.{Given}
+use Rattle.mysql_params_core.specs.Lookup.{lookup, missing}
 use Rattle.mysql_binding.specs.FoundPlaces.{found_places}
 use Rattle.mysql_binding.specs.Isolation.{IsBoundText}
-use Rattle.mysql_binding.specs.PlaceSpans.{AreSpansOf, span_of}
+use Rattle.mysql_binding.specs.PlaceSpans.{AreSpansOf, FitSurvey, RefusesNamesAt, names_at, span_of}
 use Rattle.mysql_binding.specs.Survey.{IsSurvey}
 use Rattle.mysql_binding.specs.TextInRoom.{HasTextOf, IsTextInRoom}
+use Rattle.mysql_binding.specs.declared.bind_error.BindError.{BindError}
 use Rattle.mysql_binding.specs.declared.binding.room.TextInRoom.{TextInRoom}
 use Rattle.mysql_binding.specs.declared.binding.room.TextInRoom.TheVariants.{Written, TooShort}
 use Rattle.mysql_binding.specs.declared.binding.spans.PlaceSpan.{PlaceSpan}
@@ -19,9 +21,9 @@ use Rattle.mysql_binding.specs.declared.binding.survey.Survey.{Survey}
 use Rattle.mysql_binding.proofs.CauseLemmas.{on_both}
 use Rattle.mysql_binding.proofs.FoundPlacesLemmas.{found_count}
 use Rattle.mysql_flat_params.specs.FlatForm.{IsFormReading}
-use Rattle.mysql_flat_params.specs.IntoRoom.{IsBindOutcome, IsBoundForm}
+use Rattle.mysql_flat_params.specs.IntoRoom.{IsBindOutcome, IsBoundForm, MissesOtherName}
 use Rattle.mysql_flat_params.specs.Outcomes.{IfDone, text_outcome}
-use Rattle.mysql_flat_params.specs.PlaceTable.{IsTableOf, survey_of}
+use Rattle.mysql_flat_params.specs.PlaceTable.{IsTableOf, MissesOtherPlace, survey_of}
 use Rattle.mysql_flat_params.specs.declared.place_table.TableHead.{TableHead}
 
 -- ---- the table that is made
@@ -59,6 +61,23 @@ module _ (mode : Bool) (query : List ℕ) (survey : Survey) (o : OnTokens mode q
 pub own_table : (head : TableHead) (survey : Survey) (places : List PlaceSpan) (mode : Bool) (query : List ℕ) → survey ≡ survey_of head →
     IsTableOf head places mode query → AreSpansOf survey places mode query
 own_table head survey places mode query is own = subst (λ s. AreSpansOf s places mode query) (sym is) own
+
+-- a table that the query can have isn't one that it can't have
+pub never_unfit : {X : Type 0} (head : TableHead) (survey : Survey) (places : List PlaceSpan) (query : List ℕ) → survey ≡ survey_of head →
+    FitSurvey survey places query → (FitSurvey (survey_of head) places query → ⊥) → X
+never_unfit head survey places query is fit unfit = absurd (unfit (subst (λ s. FitSurvey s places query) is fit))
+
+-- what a refused lookup misses
+pub misses_other : (head : TableHead) (survey : Survey) (places : List PlaceSpan) (mode : Bool) (query form : List ℕ) (given : Given) (error : BindError) →
+    survey ≡ survey_of head → IsFormReading form (Ok given) → RefusesNamesAt survey places query given error →
+    MissesOtherName mode query error → MissesOtherPlace head places mode query form
+misses_other head survey places mode query form given error is reads refused (name, cause, other) = (
+  given,
+  name,
+  reads,
+  subst (λ (s : Survey). lookup given (names_at (take s.names places) query) ≡ Err (missing name)) is (refused (missing name) cause),
+  other,
+)
 
 -- no test is true and false
 pub never_true : {X : Type 0} → IsTrue false → X

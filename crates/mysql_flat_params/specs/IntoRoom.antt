@@ -1,13 +1,16 @@
 -- What an answer in a caller's room says of the query, in a mode, and the form.
 use Rattle.std.specs.Prelude.{◌≡◌, ◌≤◌, ◌<◌, ℕ, Bool, List, length, take, drop, Some, Ok, Err, ⊤}
+use Rattle.std.specs.List.{Contains}
 use Rattle.mysql_named_params.specs.Tokens.{OnTokens}
-use Rattle.mysql_named_params.specs.Places.{HasName, HasMark}
+use Rattle.mysql_named_params.specs.Places.{HasName, HasMark, names}
 use Rattle.mysql_named_params.specs.Parsed.{parsed}
 use Rattle.mysql_params_core.specs.Given.{Given}
 use Rattle.mysql_params_core.specs.Lookup.{missing, confused}
 use Rattle.mysql_params_core.specs.declared.params.errors.ParamsConfusionError.TheVariants.{NamedParamsForPositionalQuery, PositionalParamsForNamedQuery}
+use Rattle.mysql_binding.specs.BindErrors.{cause_of}
 use Rattle.mysql_binding.specs.FirstCause.{Cause, first_cause, mixed_query, refused_params, mark_count, not_alone, float_value}
 use Rattle.mysql_binding.specs.Isolation.{IsBoundText}
+use Rattle.mysql_binding.specs.declared.bind_error.BindError.{BindError}
 use Rattle.mysql_flat_params.specs.FlatForm.{IsFormReading, form_end, length_lead, unread_type, mixed_form, repeated_name}
 use Rattle.mysql_flat_params.specs.NamePlace.{IsFirstOfName}
 use Rattle.mysql_flat_params.specs.NamesAnswer.{names_answer}
@@ -34,6 +37,12 @@ abbrev pub IsMissingName : (mode : Bool) (query name : List ℕ) → Outcome →
 IsMissingName mode query name (Missing place position len) = (length name ≡ len)
     × OnTokens mode query (λ ts. IsFirstOfName ts name place position)
 IsMissingName mode query name outcome = ⊥
+
+-- the error is that a name has no value, and the query doesn't have this name
+abbrev pub MissesOtherName : (mode : Bool) (query : List ℕ) → BindError → Type 0
+MissesOtherName mode query error = (name : List ℕ)
+    × (cause_of error ≡ Some (refused_params (missing name)))
+    × OnTokens mode query (λ ts. Contains (names ts) name → ⊥)
 
 -- the form says parameters, and this is the query bound to them
 abbrev pub IsBoundForm : (mode : Bool) (query form text : List ℕ) → Type 0

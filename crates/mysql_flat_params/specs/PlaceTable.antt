@@ -1,10 +1,14 @@
 -- A table of the places of a query, as plain numbers that the caller keeps.
-use Rattle.std.specs.Prelude.{◌≡◌, ◌≤◌, ℕ, ℤ, pos, Bool, List, nat_eq, if◌then◌else◌, Some, None, length, take, drop, ⊤}
+use Rattle.std.specs.Prelude.{◌≡◌, ◌≤◌, ℕ, ℤ, pos, Bool, List, nat_eq, if◌then◌else◌, Some, None, Ok, Err, length, take, drop, ⊤}
+use Rattle.std.specs.List.{Contains}
 use Rattle.mysql_named_params.specs.Tokens.{OnTokens}
-use Rattle.mysql_named_params.specs.Places.{place_count}
-use Rattle.mysql_binding.specs.PlaceSpans.{AreSpansOf}
+use Rattle.mysql_named_params.specs.Places.{names, place_count}
+use Rattle.mysql_params_core.specs.Given.{Given}
+use Rattle.mysql_params_core.specs.Lookup.{lookup, missing}
+use Rattle.mysql_binding.specs.PlaceSpans.{AreSpansOf, names_at}
 use Rattle.mysql_binding.specs.declared.binding.spans.PlaceSpan.{PlaceSpan}
 use Rattle.mysql_binding.specs.declared.binding.survey.Survey.{Survey}
+use Rattle.mysql_flat_params.specs.FlatForm.{IsFormReading}
 use Rattle.mysql_flat_params.specs.IntoRoom.{IsBindOutcome}
 use Rattle.mysql_flat_params.specs.Outcomes as outcomes
 use Rattle.mysql_flat_params.specs.Outcomes.{no_fields}
@@ -49,6 +53,15 @@ IsTableOutcome mode query outcome = ⊥
 abbrev pub IsTableBindOutcome : (mode : Bool) (query form : List ℕ) → TableOutcome → Type 0
 IsTableBindOutcome mode query form (AsQuery outcome) = IsBindOutcome mode query form outcome
 IsTableBindOutcome mode query form OtherTable = ⊥
+
+-- The form says parameters, of which one is missing for what stands in the first places, as many as
+-- there are names by the head. It is missing for a name that the query doesn't have in the mode.
+abbrev pub MissesOtherPlace : TableHead → List PlaceSpan → (mode : Bool) (query form : List ℕ)
+    → Type 0
+MissesOtherPlace head places mode query form = (given : Given) × (name : List ℕ)
+    × IsFormReading form (Ok given)
+    × (lookup given (names_at (take head.names places) query) ≡ Err (missing name))
+    × OnTokens mode query (λ ts. Contains (names ts) name → ⊥)
 
 -- the number of an outcome: those of binding to a query, and one more
 abbrev pub number_of : TableOutcome → ℕ

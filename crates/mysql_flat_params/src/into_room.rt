@@ -11,7 +11,7 @@ ghost use Rattle.mysql_binding.specs.TextInRoom.{HasTextOf, IsTextInRoom};
 ghost use Rattle.mysql_flat_params.specs.FlatForm.{HasFirstParameter, IsFormReading};
 ghost use Rattle.mysql_flat_params.specs.FormErrors.{IsFormRefusal};
 ghost use Rattle.mysql_flat_params.specs.FormParams.{given_by_sorted};
-ghost use Rattle.mysql_flat_params.specs.IntoRoom.{IfMixed, IsBindOutcome, IsBoundForm, IsMissingName};
+ghost use Rattle.mysql_flat_params.specs.IntoRoom.{IfMixed, IsBindOutcome, IsBoundForm, IsMissingName, MissesOtherName};
 ghost use Rattle.mysql_flat_params.specs.Outcomes.{HasNoAnswer, IfDone, IfTooLong, UnlessDone, text_outcome};
 ghost use Rattle.mysql_flat_params.specs.Steadiness.{IsBoundAs, refusal_as};
 ghost use Rattle.mysql_flat_params.specs.SteadyIntoRoom.{IsSteadyOutcome};
@@ -190,6 +190,7 @@ pub(crate) fn told_outcome(
         IfSome result (IsBindOutcome no_backslash_escape query.now form) }
     ensures none { ((given : Given) × OnTokens no_backslash_escape query.now (λ ts.
         IsCauseOrMemory (first_cause ts given) error)) → result ≡ None → ⊥ }
+    ensures other { result ≡ None → MissesOtherName no_backslash_escape query.now error }
     ensures mixed { error ≡ BindError.Mixed → result ≡ Some Outcome.Mixed }
     ensures no_answer { IfSome result HasNoAnswer }
 {
@@ -220,6 +221,8 @@ fn missing_outcome(query: &[u8], name: &[u8], no_backslash_escape: bool) -> Opti
     ensures some { IfSome result (IsMissingName no_backslash_escape query.now name.now) }
     ensures none { result ≡ None →
         OnTokens no_backslash_escape query.now (λ ts. Contains (names ts) name.now) → ⊥ }
+    ensures absent { result ≡ None →
+        OnTokens no_backslash_escape query.now (λ ts. Contains (names ts) name.now → ⊥) }
 {
     match name_place(query, name, no_backslash_escape) {
         Some((place, position)) => Some(Outcome::Missing {

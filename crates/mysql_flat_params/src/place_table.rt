@@ -6,13 +6,13 @@ ghost use Rattle.mysql_params_core.specs.Given.{Given};
 ghost use Rattle.mysql_binding.specs.BindErrors.{IsCauseOrMemory};
 ghost use Rattle.mysql_binding.specs.FirstCause.{first_cause};
 ghost use Rattle.mysql_binding.specs.Isolation.{IsBoundText};
-ghost use Rattle.mysql_binding.specs.PlaceSpans.{AreSpansOf, FitSurvey, StaysInRoom};
+ghost use Rattle.mysql_binding.specs.PlaceSpans.{AreSpansOf, FitSurvey, RefusesNamesAt, StaysInRoom};
 ghost use Rattle.mysql_binding.specs.TextInRoom.{HasTextOf, IsTextInRoom};
 ghost use Rattle.mysql_flat_params.specs.FlatForm.{HasFirstParameter, IsFormReading};
 ghost use Rattle.mysql_flat_params.specs.FormParams.{given_by_sorted};
-ghost use Rattle.mysql_flat_params.specs.IntoRoom.{IfMixed, IsBoundForm};
+ghost use Rattle.mysql_flat_params.specs.IntoRoom.{IfMixed, IsBoundForm, MissesOtherName};
 ghost use Rattle.mysql_flat_params.specs.Outcomes as outcomes;
-ghost use Rattle.mysql_flat_params.specs.PlaceTable.{IfDone, IfTooLong, IsMadeTable, IsTableBindOutcome, IsTableOf, IsTableOutcome, UnlessDone, number_of, report_of, survey_of};
+ghost use Rattle.mysql_flat_params.specs.PlaceTable.{IfDone, IfTooLong, IsMadeTable, IsTableBindOutcome, IsTableOf, IsTableOutcome, MissesOtherPlace, UnlessDone, number_of, report_of, survey_of};
 
 use crate::form::{FormParams, form_params};
 use crate::into_room::{borrowed_params, form_outcome, text_outcome, told_outcome};
@@ -156,8 +156,8 @@ fn survey_of(head: TableHead) -> Survey
 /// A table of another query, or of another mode, is told as `OtherTable` before the form is read if
 /// the query can't have it: if the places aren't as many as the head says, if one is empty or
 /// beyond the query, or if not so many bytes stand outside of them as the head says. Else any text
-/// or outcome may come. Nothing is written behind the text, and after every outcome except `Done`
-/// the room is as before.
+/// or outcome may come; `OtherTable` then says that what is missing is no name of the query.
+/// Nothing is written behind the text, and after every outcome except `Done` the room is as before.
 pub fn bind_by_table_into(
     alloc: Global,
     query: &[u8],
@@ -172,6 +172,15 @@ pub fn bind_by_table_into(
     ensures written { IsTableOf head places.now no_backslash_escape query.now →
         IfDone result (λ len.
         IsBoundForm no_backslash_escape query.now form.now (take len room.new)) }
+
+    // A table that the query can't have by its numbers is told before the form is read.
+    ensures unfit { (FitSurvey (survey_of head) places.now query.now → ⊥) →
+        result ≡ TableOutcome.OtherTable }
+
+    // One that it can have is told only if what is missing is no name of the query.
+    ensures other { result ≡ TableOutcome.OtherTable →
+        FitSurvey (survey_of head) places.now query.now →
+        MissesOtherPlace head places.now no_backslash_escape query.now form.now }
 
     // The empty form over a query with a name and a mark is refused without allocating.
     ensures mixed { IsTableOf head places.now no_backslash_escape query.now → form.now ≡ [] →
@@ -229,6 +238,8 @@ fn bind_places(
     ensures mixed { AreSpansOf survey places.now no_backslash_escape query.now →
         OnTokens no_backslash_escape query.now (λ ts.
         HasName ts × HasMark ts → IsErrOf result BindError.Mixed) }
+    ensures lookup { IfErr result
+        (RefusesNamesAt survey places.now query.now (given_by_sorted params)) }
     ensures in_room { IfOk result (StaysInRoom room.old room.new) }
     ensures unchanged { OnErr result (room.new ≡ room.old) }
 {
@@ -246,6 +257,8 @@ fn table_outcome(query: &[u8], error: BindError, no_backslash_escape: bool) -> T
         OnTokens no_backslash_escape query.now (λ ts.
         IsCauseOrMemory (first_cause ts given) error) →
         IsTableBindOutcome no_backslash_escape query.now form result }
+    ensures other { result ≡ TableOutcome.OtherTable →
+        MissesOtherName no_backslash_escape query.now error }
     ensures mixed { error ≡ BindError.Mixed → result ≡ TableOutcome.AsQuery Outcome.Mixed }
     ensures not_done { IfDone result (λ len. ⊥) }
     ensures not_too_long { IfTooLong result (λ len. ⊥) }

@@ -266,9 +266,10 @@ pub extern "C" fn mysql_params_table(
 /// of the room: [`bind_by_table_into`](mysql_flat_params::bind_by_table_into).
 ///
 /// With the table that [`mysql_params_table`] made of this query with this flag, it returns what
-/// [`mysql_params_bind`] returns, and the report has the same fields. Of any other table it returns
-/// 20 (`OtherTable`) if the query can't have it, else any of those numbers; it writes nothing
-/// behind the text, and at each number but 0 the room is as before.
+/// [`mysql_params_bind`] returns, and the report has the same fields. With any other table it
+/// returns 20 (`OtherTable`) if the query can't have it. Else it returns any of those numbers, or
+/// 20 for a missing name that the query doesn't have. It writes nothing behind the text, and at
+/// each number except 0 the room is as before.
 #[unsafe(no_mangle)]
 pub extern "C" fn mysql_params_bind_template(
     alloc: Global,
@@ -312,8 +313,8 @@ pub extern "C" fn mysql_params_bind_template(
 /// [`mysql_params_bind`], and after those for a query 17 (`Fault`) for a fragment that can't be
 /// written: then the report has its place, in `byte` the number of the fault, in `position` the row
 /// and in `values` the item or the part of the name. Any other number may be 1 (`OutOfMemory`)
-/// instead. At each number but 0 the room is as before. The flag is true if the connection's
-/// `sql_mode` has `NO_BACKSLASH_ESCAPES`.
+/// instead, except 8 (`Mixed`) with the empty form. At each number but 0 the room is as before. The
+/// flag is true if the connection's `sql_mode` has `NO_BACKSLASH_ESCAPES`.
 #[unsafe(no_mangle)]
 pub extern "C" fn mysql_params_bind_fragments(
     alloc: Global,
@@ -327,6 +328,10 @@ pub extern "C" fn mysql_params_bind_fragments(
         (fragments.IsFragmentsOutcome no_backslash_escape query.now form.now) }
     ensures written { result ≡ pos 0 → fragments.IsBoundForm no_backslash_escape query.now
         form.now (take report.new.len room.new) }
+
+    // The empty form over a query with a name and a mark is refused without allocating.
+    ensures mixed { form.now ≡ [] →
+        IfMixed no_backslash_escape query.now (result ≡ pos 8) }
     ensures rest { result ≡ pos 0 → (report.new.len ≤ length room.old)
         × (drop report.new.len room.new ≡ drop report.new.len room.old) }
     ensures too_long { result ≡ pos 2 → length room.old < report.new.len }

@@ -19,6 +19,10 @@ returns-in-Params-Missing-clause-none c = λ why none.
     (name_is_there c.args.no_backslash_escape c.args.query.now c.as_slice.result.now c.args.error
     (is_missing _ _ _ _ c.in-Params-Missing.is c.in-Params-Missing.field-0-is c.as_slice.ensures.value) why)
 
+pub returns-in-Params-Missing-clause-other : goal.returns-in-Params-Missing-clause-other
+returns-in-Params-Missing-clause-other c = λ none.
+    (c.as_slice.result.now, is_missing _ _ _ _ c.in-Params-Missing.is c.in-Params-Missing.field-0-is c.as_slice.ensures.value, c.missing_outcome.ensures.absent none)
+
 pub returns-in-MarkCount-clause-outcome : goal.returns-in-MarkCount-clause-outcome
 returns-in-MarkCount-clause-outcome c = λ form given reads o.
     refused_for c.args.error _ (ap cause_of c.in-MarkCount.is) c.args.no_backslash_escape c.args.query.now form given reads o

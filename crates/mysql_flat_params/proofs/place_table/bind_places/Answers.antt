@@ -5,6 +5,7 @@ use Rattle.mysql_params_core.specs.Given.{Given, given_by_borrowed}
 use Rattle.mysql_binding.specs.BindErrors.{IsCauseOrMemory}
 use Rattle.mysql_binding.specs.FirstCause.{first_cause}
 use Rattle.mysql_binding.specs.Isolation.{IsBoundText}
+use Rattle.mysql_binding.specs.PlaceSpans.{RefusesNamesAt}
 use Rattle.mysql_binding.specs.TextInRoom.{HasTextOf, IsTextInRoom}
 use Rattle.mysql_binding.proofs.TextInRoomLemmas.{bound_in_room}
 use Rattle.mysql_flat_params.proofs.place_table.bind_places.Goals as goal
@@ -19,3 +20,8 @@ pub returns-clause-refused : goal.returns-clause-refused
 returns-clause-refused c = λ own.
     subst (λ (g : Given). OnTokens c.args.no_backslash_escape c.args.query.now (λ ts. IfErr c.bind_spans_into.result (IsCauseOrMemory (first_cause ts g))))
     c.borrowed_params-borrowed.ensures (c.bind_spans_into.ensures.refused c.args.no_backslash_escape own)
+
+pub returns-clause-lookup : goal.returns-clause-lookup
+returns-clause-lookup c =
+    subst (λ (g : Given). IfErr c.bind_spans_into.result (RefusesNamesAt c.args.survey c.args.places.now c.args.query.now g))
+    c.borrowed_params-borrowed.ensures c.bind_spans_into.ensures.lookup
