@@ -2,6 +2,9 @@ pub mod AssignmentLemmas
 pub mod BindingLemmas
 pub mod ContentLemmas
 pub mod EntryLemmas
+pub mod NewlineLemmas
+pub mod OpenStringLemmas
 pub mod QueryEndLemmas
+pub mod MarkLemmas
 pub mod FoundPairLemmas
 pub mod AppendedRowLemmas

@@ -96,3 +96,5 @@ pub record IsWritten (request : Request) (query : List ℕ) (assignments : List 
   -- the query is one that the request takes, and the text that of the assignments
   pub taken : IsTaken request query
   pub assigned : IsAssignedText request query assignments text
+  -- and unless all queries are taken, the text itself is portable on servers and in a client
+  pub portable_text : IsPortableIfWanted request text

@@ -8,3 +8,4 @@ pub mod QueryEnd
 pub mod Bound
 pub mod Refusals
 pub mod FoundPairs
+pub mod Statements

@@ -16,7 +16,7 @@ use Rattle.mysql_fragments.specs.GivenFragments.{FragmentMap, GivenFragments, na
 use Rattle.mysql_fragments.specs.declared.fragment.Fragment.{Fragment}
 use Rattle.mysql_steady_fragments.specs.SteadyFragmentsErrors as steady
 use Rattle.mysql_bind_core.specs.Assignments.{given_of, pairs_of}
-use Rattle.mysql_bind_core.specs.Bound.{IsClosed, IsSteadyIfWanted, IsPortableIfWanted, IsTaken}
+use Rattle.mysql_bind_core.specs.Bound.{IsAssignedText, IsClosed, IsSteadyIfWanted, IsPortableIfWanted, IsTaken}
 use Rattle.mysql_bind_core.specs.Contents.{contents_of, has_fragment}
 use Rattle.mysql_bind_core.specs.Entries.{Entries, entries_of, pair_said}
 use Rattle.mysql_bind_core.specs.QueryEnd.{end, long_end}
@@ -124,8 +124,14 @@ pub data IsFragmentsTextRefusal (request : Request) (query : List ℕ)
       IsFragmentsRefusal request.literals request.portability query ts (named entries) why) →
       IsFragmentsTextRefusal request query assignments why
 
+-- the first construct of a text that has to be portable in a client, and isn't
+abbrev pub IsFoundInText : Request → List ℕ → Unportable → Type 0
+IsFoundInText request text found =
+    (request.portability ≡ portability.Portable)
+    × OnTokens (mode_of request.literals) text (λ ts. Some found ≡ first_unportable_in_client ts)
+
 -- why a request writes nothing for this query and these assignments: the query isn't taken, or the
--- assignments give nothing, or what they give can't be bound
+-- assignments give nothing, or what they give can't be bound, or the text isn't portable
 pub data IsRefusal (request : Request) (query : List ℕ) (assignments : List Assignment)
     (why : Failure) : Type 0 where
   of_query : IsQueryRefusal request query why → IsRefusal request query assignments why
@@ -133,4 +139,8 @@ pub data IsRefusal (request : Request) (query : List ℕ) (assignments : List As
       IsValuesRefusal request query assignments why → IsRefusal request query assignments why
   of_fragments : IsTaken request query → has_fragment assignments ≡ true →
       IsFragmentsTextRefusal request query assignments why →
+      IsRefusal request query assignments why
+  of_bound_text : IsTaken request query → (text : List ℕ) →
+      IsAssignedText request query assignments text → (found : Unportable) →
+      why ≡ failure.UnportableText found → IsFoundInText request text found →
       IsRefusal request query assignments why

@@ -86,3 +86,12 @@ typed_value Base64 bytes = base64_value bytes
 typed_value Decimal bytes = None
 typed_value Identifier bytes = None
 typed_value ListType bytes = None
+
+-- whether a value of this type is made by a copy of bytes, which takes memory
+abbrev pub takes_memory : ValueType → Bool
+takes_memory Null = false
+takes_memory Truth = false
+takes_memory Decimal = false
+takes_memory Identifier = false
+takes_memory ListType = false
+takes_memory value_type = true

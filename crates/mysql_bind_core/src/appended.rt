@@ -10,15 +10,16 @@ ghost use Rattle.mysql_binding.specs.AppendedText.{AreFound};
 ghost use Rattle.mysql_program.specs.WordErrors.{seen_pair};
 ghost use Rattle.mysql_bind_core.specs.Assignments.{given_of, pairs_of};
 ghost use Rattle.mysql_bind_core.specs.Contents.{has_fragment};
-ghost use Rattle.mysql_bind_core.specs.Bound.{IsTaken, IsTextFor, IsValuesText, IsWritten};
+ghost use Rattle.mysql_bind_core.specs.Bound.{IsAssignedText, IsTaken, IsTextFor, IsValuesText, IsWritten};
 ghost use Rattle.mysql_bind_core.specs.FoundPairs.{AreValuesIn, IsTextAppended, are_distinct, value_in};
 ghost use Rattle.mysql_bind_core.specs.Refusals.{IsRefusal};
 ghost use Rattle.mysql_bind_core.specs.Requests.{mode_of};
 
 use crate::assignment::{Assignment, PairsError, pairs_of};
-use crate::binding::taken_text;
+use crate::binding::{found_in_text, taken_text};
 use crate::entries::has_fragment;
 use crate::failure::Failure;
+use crate::laws::values_are_sent;
 use crate::request::{Literals, Request};
 use mysql_binding::{BindError, ParsedQuery, PlainForm, append_parsed};
 use mysql_steady_text::SteadyForm;
@@ -80,8 +81,9 @@ fn append_text(
     }
 }
 
-// Writes the text of a few values with names, each of which comes once. Of others it writes
-// nothing, nor if it can't be written, and says so by `false`.
+// Writes the text of a few values with names, each of which comes once. Else it writes nothing and
+// says so by `false`: of others, of a text that can't be written, and of one that a client would
+// change.
 fn append_values(
     alloc: Global,
     query: &ParsedQuery<'_>,
@@ -97,6 +99,41 @@ fn append_values(
     ensures bound { IfOk result (λ done. IsTrue done → (text : List ℕ)
         × IsWritten request query.now.query assignments.now text
         × (script.new.items ≡ script.old.items ++ text)) }
+    ensures kept { IfOk result (λ done. IsFalse done → script.new.items ≡ script.old.items) }
+    ensures refused { OnErr result (script.new.items ≡ script.old.items) }
+{
+    let start = script.len();
+    if !append_assigned(alloc, query, query_names, assignments, request, script)? {
+        return Ok(false);
+    }
+    if !request.literals.no_backslash_escape() {
+        values_are_sent();
+        return Ok(true);
+    }
+    if found_in_text(&script.as_slice()[start..], request).is_none() {
+        return Ok(true);
+    }
+    script.truncate(start);
+    Ok(false)
+}
+
+// The same, whether or not the text is portable. What is written has no fragment.
+fn append_assigned(
+    alloc: Global,
+    query: &ParsedQuery<'_>,
+    query_names: &[&[u8]],
+    assignments: &[Assignment],
+    request: Request,
+    script: &mut Vec<u8>,
+) -> Result<bool, AllocError>
+    requires taken { IsTaken request query.now.query }
+    requires mode { query.now.mode ≡ mode_of request.literals }
+    requires names { OnTokens query.now.mode query.now.query (λ ts.
+        referents query_names.now ≡ names ts) }
+    ensures bound { IfOk result (λ done. IsTrue done → (text : List ℕ)
+        × IsAssignedText request query.now.query assignments.now text
+        × (script.new.items ≡ script.old.items ++ text)) }
+    ensures values { IfOk result (λ done. IsTrue done → has_fragment assignments.now ≡ false) }
     ensures kept { IfOk result (λ done. IsFalse done → script.new.items ≡ script.old.items) }
     ensures refused { OnErr result (script.new.items ≡ script.old.items) }
 {

@@ -1,5 +1,5 @@
 //! Binding and writing: the bound text of a query that is taken, or a refusal.
-ghost use Rattle.std.specs.Prelude.{◌≡◌, ◌≢◌, ◌++◌, ℕ, List, Some, None, Ok, map, IfOk, IfErr, OnOk, IsErrOf, false};
+ghost use Rattle.std.specs.Prelude.{◌≡◌, ◌≢◌, ◌++◌, ℕ, List, Some, None, Ok, map, IfOk, IfErr, IfSome, OnOk, IsErrOf, alloc_error, false};
 ghost use Rattle.std.specs.Io.KnownBytes.{Appends};
 ghost use Rattle.mysql_named_params.specs.Tokens.{OnTokens};
 ghost use Rattle.mysql_values.specs.declared.value.Value as value_type;
@@ -8,18 +8,21 @@ ghost use Rattle.mysql_program.specs.ReadersAndWriters.{AppendsPrefix};
 ghost use Rattle.mysql_program.specs.WordErrors.{seen_pair};
 ghost use Rattle.mysql_program.specs.Words.{given_by_name};
 ghost use Rattle.mysql_bind_core.specs.Assignments.{given_of, pairs_of};
-ghost use Rattle.mysql_bind_core.specs.Bound.{IsClosed, IsNamed, IsSteadyIfWanted, IsPortableIfWanted, IsTaken, IsTextFor, IsValuesText, IsWritten};
-ghost use Rattle.mysql_bind_core.specs.Refusals.{IsQueryRefusal, IsAssignmentsRefusal, IsMadeRefusal, IsTextRefusal, IsValuesRefusal, IsRefusal};
+ghost use Rattle.mysql_bind_core.specs.Bound.{IsAssignedText, IsClosed, IsNamed, IsSteadyIfWanted, IsPortableIfWanted, IsTaken, IsTextFor, IsValuesText, IsWritten};
+ghost use Rattle.mysql_bind_core.specs.Refusals.{IsQueryRefusal, IsAssignmentsRefusal, IsMadeRefusal, IsTextRefusal, IsValuesRefusal, IsRefusal, IsFoundInText};
 ghost use Rattle.mysql_bind_core.specs.Requests.{mode_of};
 
 use crate::assignment::{Assignment, PairsError, pairs_of};
 use crate::entries::has_fragment;
 use crate::failure::Failure;
 use crate::fragments_text::fragments_text;
+use crate::laws::values_are_sent;
+use crate::marks::has_mark;
 use crate::query_end::open_end;
 use crate::request::{Literals, Portability, Request};
-use mysql_binding::{ParsedQuery, bind_text_in};
+use mysql_binding::bind_text_in;
 use mysql_named_params::client::first_unportable_in_client;
+use mysql_named_params::portable::Unportable;
 use mysql_named_params::steady::first_unsteady;
 use mysql_params_core::params::{Params, ToParamsError};
 use mysql_program::readers_and_writers::write_whole;
@@ -28,30 +31,28 @@ use mysql_values::value::Value;
 use std::alloc::{AllocError, Global};
 use std::io::Write;
 
-/// Whether the request takes the query, without any values: `Open`, `Unsteady`, `Unportable`,
-/// `Marks` or `Memory` if it doesn't.
+/// Whether the request takes the query, without any values: `Open`, `Unsteady`, `Unportable` or
+/// `Marks` if it doesn't. It is never out of memory, and doesn't use `alloc`.
 pub fn check_query(alloc: Global, query: &[u8], request: Request) -> Result<(), Failure>
     ensures taken { OnOk result (IsTaken request query.now) }
     ensures refused { IfErr result (IsQueryRefusal request query.now) }
     ensures only { IfErr result (λ e. e ≢ Failure.Write) }
+    ensures without_memory { IfErr result (λ e. e ≢ Failure.Memory alloc_error) }
 {
-    check_end(alloc, query, request)?;
+    check_end(query, request)?;
     check_steady(query, request)?;
     check_portable(query, request)?;
-    check_named(alloc, query, request)?;
+    check_named(query, request)?;
     Ok(())
 }
 
 // Whether the query doesn't end within a token.
-fn check_end(alloc: Global, query: &[u8], request: Request) -> Result<(), Failure>
+fn check_end(query: &[u8], request: Request) -> Result<(), Failure>
     ensures closed { OnOk result (IsClosed request query.now) }
     ensures refused { IfErr result (IsQueryRefusal request query.now) }
+    ensures without_memory { IfErr result (λ e. e ≢ Failure.Memory alloc_error) }
 {
-    let end = match open_end(alloc, query, request.literals.no_backslash_escape()) {
-        Ok(end) => end,
-        Err(error) => return Err(Failure::Memory(error)),
-    };
-    match end {
+    match open_end(query, request.literals.no_backslash_escape()) {
         None => Ok(()),
         Some(at) => Err(Failure::Open { at }),
     }
@@ -62,6 +63,7 @@ fn check_steady(query: &[u8], request: Request) -> Result<(), Failure>
     requires { IsClosed request query.now }
     ensures steady { OnOk result (IsSteadyIfWanted request query.now) }
     ensures refused { IfErr result (IsQueryRefusal request query.now) }
+    ensures without_memory { IfErr result (λ e. e ≢ Failure.Memory alloc_error) }
 {
     match request.literals {
         Literals::Plain { .. } => Ok(()),
@@ -78,6 +80,7 @@ fn check_portable(query: &[u8], request: Request) -> Result<(), Failure>
     requires steady { IsSteadyIfWanted request query.now }
     ensures portable { OnOk result (IsPortableIfWanted request query.now) }
     ensures refused { IfErr result (IsQueryRefusal request query.now) }
+    ensures without_memory { IfErr result (λ e. e ≢ Failure.Memory alloc_error) }
 {
     match request.portability {
         Portability::Any => Ok(()),
@@ -91,21 +94,18 @@ fn check_portable(query: &[u8], request: Request) -> Result<(), Failure>
 }
 
 // Whether each place of the query has a name.
-fn check_named(alloc: Global, query: &[u8], request: Request) -> Result<(), Failure>
+fn check_named(query: &[u8], request: Request) -> Result<(), Failure>
     requires closed { IsClosed request query.now }
     requires steady { IsSteadyIfWanted request query.now }
     requires portable { IsPortableIfWanted request query.now }
     ensures is_named { OnOk result (IsNamed request query.now) }
     ensures refused { IfErr result (IsQueryRefusal request query.now) }
+    ensures without_memory { IfErr result (λ e. e ≢ Failure.Memory alloc_error) }
 {
-    let parsed = match ParsedQuery::parse_in(alloc, query, request.literals.no_backslash_escape()) {
-        Ok(parsed) => parsed,
-        Err(error) => return Err(Failure::Memory(error)),
-    };
-    if parsed.marks() == 0 {
-        Ok(())
-    } else {
+    if has_mark(query, request.literals.no_backslash_escape()) {
         Err(Failure::Marks)
+    } else {
+        Ok(())
     }
 }
 
@@ -141,10 +141,69 @@ pub fn taken_text(
     ensures refused { IfErr result (IsRefusal request query.now assignments.now) }
     ensures only { IfErr result (λ e. e ≢ Failure.Write) }
 {
+    match assigned_text(alloc, query, assignments, request) {
+        Ok(text) => {
+            if has_fragment(assignments) || request.literals.no_backslash_escape() {
+                return asked_text(query, assignments, request, text);
+            }
+            values_are_sent();
+            Ok(text)
+        }
+        Err(failure) => Err(failure),
+    }
+}
+
+// The text of the assignments.
+fn assigned_text(
+    alloc: Global,
+    query: &[u8],
+    assignments: &[Assignment],
+    request: Request,
+) -> Result<Vec<u8>, Failure>
+    requires { IsTaken request query.now }
+    ensures bound { IfOk result (λ text.
+        IsAssignedText request query.now assignments.now text.items) }
+    ensures refused { IfErr result (IsRefusal request query.now assignments.now) }
+    ensures only { IfErr result (λ e. e ≢ Failure.Write) }
+{
     if has_fragment(assignments) {
         fragments_text(alloc, query, assignments, request)
     } else {
         values_text(alloc, query, assignments, request)
+    }
+}
+
+// The text, unless it has to be portable in a client and isn't: a name may have a newline, and a
+// string without backslash escapes a newline or a byte 0. All texts with fragments are asked.
+fn asked_text(
+    query: &[u8],
+    assignments: &[Assignment],
+    request: Request,
+    text: Vec<u8>,
+) -> Result<Vec<u8>, Failure>
+    requires taken { IsTaken request query.now }
+    requires bound { IsAssignedText request query.now assignments.now text.items }
+    ensures bound { IfOk result (λ text.
+        IsWritten request query.now assignments.now text.items) }
+    ensures refused { IfErr result (IsRefusal request query.now assignments.now) }
+    ensures only { IfErr result (λ e. e ≢ Failure.Write) }
+{
+    match found_in_text(text.as_slice(), request) {
+        None => Ok(text),
+        Some(found) => Err(Failure::UnportableText(found)),
+    }
+}
+
+// The first construct of a bound text, if it has to be portable in a client.
+pub(crate) fn found_in_text(text: &[u8], request: Request) -> Option<Unportable>
+    ensures none { result ≡ None → IsPortableIfWanted request text.now }
+    ensures found { IfSome result (IsFoundInText request text.now) }
+{
+    match request.portability {
+        Portability::Any => None,
+        Portability::Portable => {
+            first_unportable_in_client(text, request.literals.no_backslash_escape())
+        }
     }
 }
 
@@ -285,9 +344,10 @@ fn any_mode_text(alloc: Global, query: &[u8], params: Params) -> Result<Vec<u8>,
 /// Binds the assigned values into the query, and writes the whole text, or refuses.
 ///
 /// Whatever it writes is the bound text of the whole query, in the literals that are asked for, and
-/// for exactly the values that the bytes of the assignments mean. A query is refused unless every
-/// server and the clients read it alike, except if all queries are asked for. With any refusal but
-/// `Write` nothing was written. Out of memory may come in place of any other result.
+/// for exactly the values that the bytes of the assignments mean. A query and its text are refused
+/// unless every server and the clients read them alike, except if all queries are asked for.
+/// Nothing was written with any refusal except `Write`. Out of memory may come in place of any
+/// other result.
 pub fn write_bound<W: Write>(
     alloc: Global,
     query: &[u8],

@@ -37,6 +37,9 @@ pub enum Failure {
     Fragments(FragmentsError),
     /// The same with steady literals.
     SteadyFragments(SteadyFragmentsError),
+    /// The bound text isn't portable in a client, as a line of a name or of a string that begins
+    /// with `delimiter` makes it; the first construct is reported, at its index in the text.
+    UnportableText(Unportable),
     /// A write failed, or took no byte.
     Write,
     /// Out of memory. It may come in place of any other.

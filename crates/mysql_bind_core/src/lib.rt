@@ -12,6 +12,8 @@ mod entries;
 mod failure;
 mod fragment_type;
 mod fragments_text;
+pub mod laws;
+mod marks;
 mod positions;
 mod query_end;
 mod request;

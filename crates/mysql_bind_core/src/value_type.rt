@@ -1,8 +1,8 @@
 //! The values that the bytes of a source stand for.
-ghost use Rattle.std.specs.Prelude.{◌≡◌, IfOk, IsErr, OnErr};
+ghost use Rattle.std.specs.Prelude.{◌≡◌, true, IfOk, IsErr, OnErr};
 ghost use Rattle.std.specs.Str.{is_utf8};
 ghost use Rattle.mysql_values.specs.declared.value.Value.TheVariants.{Bytes as BytesOf};
-ghost use Rattle.mysql_bind_core.specs.ValueTypes.{line_of, has_newline, typed_value, number_value, hex_value, base64_value, text_value, line_value, truth_value, int_value, uint_value};
+ghost use Rattle.mysql_bind_core.specs.ValueTypes.{line_of, has_newline, takes_memory, typed_value, number_value, hex_value, base64_value, text_value, line_value, truth_value, int_value, uint_value};
 
 use base64::DecodeAllocError;
 use base64::engine::general_purpose::STANDARD;
@@ -54,7 +54,8 @@ pub fn typed_value(
     value_type: ValueType,
     bytes: &[u8],
 ) -> Result<Option<Value>, AllocError>
-    ensures { IfOk result (λ value. value ≡ typed_value value_type bytes.now) }
+    ensures value { IfOk result (λ value. value ≡ typed_value value_type bytes.now) }
+    ensures memory { OnErr result (takes_memory value_type ≡ true) }
 {
     match value_type {
         ValueType::Null => Ok(Some(Value::NULL)),

@@ -9,7 +9,8 @@ use Rattle.mysql_named_params.specs.Bytes.{asterisk, backquote, dash, hash, newl
 use Rattle.mysql_named_params.specs.Tokens.{Token, IsToken, IsTokens, OnTokens, AreTokensBefore, IsStringTail, closed_string, open_string, open_in_escape, bytes_of, text_of, QuotedString, QuotedIdentifier, HashComment, DashComment, BlockComment, Name, Mark, Plain}
 use Rattle.mysql_bind_rows.specs.ScriptTokens.{semicolon}
 use Rattle.mysql_bind_core.specs.QueryEnd.{end, last_at, long_end, long_end_from}
-use Rattle.mysql_bind_rows.proofs.LineLemmas.{line_end, EndClosed, token_without_newline, ends_before}
+use Rattle.mysql_bind_core.proofs.NewlineLemmas.{token_without_newline}
+use Rattle.mysql_bind_rows.proofs.LineLemmas.{line_end, EndClosed, ends_before}
 use Rattle.mysql_named_params.proofs.OtherModeLemmas.{all_parts}
 use Rattle.mysql_named_params.proofs.TokenListLemmas.{one_token_list, some_byte}
 

@@ -5,3 +5,4 @@ pub mod BoundLineLemmas
 pub mod ScriptTokenLemmas
 pub mod ScriptCountLemmas
 pub mod AlikeLineLemmas
+pub mod ScriptSentLemmas

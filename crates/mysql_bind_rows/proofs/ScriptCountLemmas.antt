@@ -1,6 +1,6 @@
 -- How many statements a script has, as clients cut it.
 use Rattle.std.specs.Prelude.{Bool, codes}
-use Rattle.std.proofs.Common.{◌≡◌, ◌+◌, ◌++◌, ◌==◌, ℕ, true, false, cond, List, [], ◌∷◌, arith, length, map, inl, inr, refl, ap, ◌∙◌, append-nil, append_assoc}
+use Rattle.std.proofs.Common.{◌≡◌, ◌+◌, ◌++◌, ◌==◌, ℕ, true, false, cond, List, [], ◌∷◌, arith, length, map, inl, inr, refl, ap, ◌∙◌, append_assoc}
 use Rattle.std.specs.Str.{byte}
 use Rattle.std.proofs.lemmas.Bool.{cases_Bool}
 use Rattle.mysql_named_params.specs.Bytes.{newline}

@@ -3,6 +3,8 @@
 use Rattle.std.specs.Prelude.{◌≡◌, ◌==◌, ◌+◌, ◌++◌, ℕ, Bool, List, [], ◌∷◌, length, map, codes, if◌then◌else◌, ⊤}
 use Rattle.std.specs.List.{list_any}
 use Rattle.mysql_named_params.specs.Bytes.{newline}
+use Rattle.mysql_named_params.specs.Client.{HoldNoOpener}
+use Rattle.mysql_named_params.specs.FirstUnportableInClient.{AreSentAsTheyAre}
 use Rattle.mysql_named_params.specs.Portable.{AreReadAlike}
 use Rattle.mysql_named_params.specs.Statements.{statements}
 use Rattle.mysql_named_params.specs.Tokens.{Token, HashComment, DashComment, Plain}
@@ -52,6 +54,11 @@ tokens_of_statements (ts ∷ lists) = statement_tokens ts ++ tokens_of_statement
 abbrev pub AreLinesReadAlike : List (List Token) → Type 0
 AreLinesReadAlike [] = ⊤
 AreLinesReadAlike (ts ∷ lists) = AreReadAlike (with_newline ts) × AreLinesReadAlike lists
+
+-- none of the constructs of a client that keeps comments is among these tokens: no block comment
+-- holds `/*!`, `/*+` or `/*/`, and nothing is found for which the client would send something else
+abbrev pub IsSentByClient : List Token → Type 0
+IsSentByClient ts = HoldNoOpener ts × AreSentAsTheyAre ts
 
 -- how many statements these texts have together, as clients cut them (Statements.antt of
 -- mysql_named_params)

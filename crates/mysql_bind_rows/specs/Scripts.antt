@@ -76,3 +76,8 @@ IfQuery why P = ⊤
 abbrev pub IfRow : RowsFailure → (ℕ → Type 0) → Type 0
 IfRow (failure.Row refused) P = P refused.number
 IfRow why P = ⊤
+
+-- if it is out of memory by itself, and not for the query or a row, this holds
+abbrev pub IfMemory : RowsFailure → Type 0 → Type 0
+IfMemory (failure.Memory error) P = P
+IfMemory why P = ⊤

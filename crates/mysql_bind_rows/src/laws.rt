@@ -1,12 +1,14 @@
-//! The law of scripts. It does nothing: it is called for what it ensures.
+//! Laws of scripts. They do nothing: each is called for what it ensures.
 ghost use Rattle.std.specs.Prelude.{◌≡◌, ◌+◌, ℕ, Bool, List, [], if◌then◌else◌, length};
 ghost use Rattle.mysql_named_params.specs.Portable.{AreReadAlike};
 ghost use Rattle.mysql_named_params.specs.Statements.{statements};
-ghost use Rattle.mysql_named_params.specs.Tokens.{Token, IsTokens};
+ghost use Rattle.mysql_named_params.specs.Tokens.{Token, IsTokens, OnTokens};
 ghost use Rattle.mysql_binding.specs.Replaced.{AreTokensOf};
+ghost use Rattle.mysql_bind_core.specs.Requests.{mode_of};
+ghost use Rattle.mysql_bind_core.specs.declared.request.Portability.TheVariants as portability;
 ghost use Rattle.mysql_bind_core.specs.declared.request.Request as declared;
 ghost use Rattle.mysql_bind_rows.specs.Scripts.{AreStatements, IsScript};
-ghost use Rattle.mysql_bind_rows.specs.ScriptTokens.{AreLinesReadAlike, IsReadIn, count_of_statements, script_tokens, tokens_of_statements};
+ghost use Rattle.mysql_bind_rows.specs.ScriptTokens.{AreLinesReadAlike, IsReadIn, IsSentByClient, count_of_statements, script_tokens, tokens_of_statements};
 ghost use Rattle.mysql_bind_rows.specs.declared.row.Row as row;
 
 /// The tokens of a script are those of its texts, in their order, each with a newline after it, and
@@ -31,4 +33,18 @@ pub fn tokens_of_scripts()
         (if transaction then 2 else 0) + (count_of_statements lists + 1) }
     ensures alike { (transaction : Bool) (lists : List (List Token)) → AreLinesReadAlike lists →
         AreReadAlike (script_tokens transaction lists) }
+{}
+
+/// Unless all queries are taken, a client that keeps comments sends a script as it is: none of its
+/// own constructs stands in the script. If every server reads each text alike with the newline
+/// after it, the client reads the script as its server does (`alike` of [`tokens_of_scripts`]).
+pub fn scripts_in_clients()
+    ensures script { (request : declared.Request) (query : List ℕ) (rows : List row.Row)
+        (transaction : Bool) (bytes : List ℕ) → request.portability ≡ portability.Portable →
+        IsScript request query rows transaction bytes →
+        OnTokens (mode_of request.literals) bytes IsSentByClient }
+    ensures statements { (request : declared.Request) (query : List ℕ) (rows : List row.Row)
+        (bytes : List ℕ) → request.portability ≡ portability.Portable →
+        AreStatements request query rows [] bytes →
+        OnTokens (mode_of request.literals) bytes IsSentByClient }
 {}

@@ -3,7 +3,7 @@ ghost use Rattle.std.specs.Prelude.{◌≡◌, ◌≢◌, ◌++◌, ℕ, List, [
 ghost use Rattle.std.specs.Io.KnownBytes.{Appends};
 ghost use Rattle.mysql_program.specs.ReadersAndWriters.{AppendsPrefix};
 ghost use Rattle.mysql_bind_core.specs.Bound.{IsTaken};
-ghost use Rattle.mysql_bind_rows.specs.Scripts.{AreStatements, IfQuery, IfRow, IsRowsRefusal, IsScript};
+ghost use Rattle.mysql_bind_rows.specs.Scripts.{AreStatements, IfMemory, IfQuery, IfRow, IsRowsRefusal, IsScript};
 
 use crate::row::{Row, RowsFailure};
 use crate::rows::append_rows;
@@ -123,7 +123,7 @@ fn written<W: Write>(output: &mut W, script: &[u8]) -> Result<(), RowsFailure>
 
 /// Writes the statement of each row, without a transaction's. A row that is refused leaves exactly
 /// the statements of those before it: of rows that are read piece by piece, each piece can be
-/// written before the next one is read.
+/// written before the next one is read. Out of memory is told as the refusal of a row.
 pub fn stream_rows<W: Write>(
     alloc: Global,
     query: &[u8],
@@ -142,6 +142,9 @@ pub fn stream_rows<W: Write>(
     ensures before { IfErr result (λ e. IfRow e (λ number. (statements : List ℕ)
         × AreStatements request query.now (take number rows.now) [] statements
         × Appends (W.contents output.old) (W.contents output.new) statements)) }
+
+    // Out of memory is told of the query or of a row, so the clauses above say what is written.
+    ensures memory { IfErr result (λ e. IfMemory e ⊥) }
 
     // A failed write has written a prefix of the statements of all rows, or of those before one.
     ensures begun { IsErrOf result RowsFailure.Write → (number : ℕ) × (statements : List ℕ)
@@ -169,6 +172,7 @@ fn stream_taken<W: Write>(
     ensures refused { IfErr result (λ e. e ≢ RowsFailure.Write →
         IsRowsRefusal request query.now rows.now e) }
     ensures only { IfErr result (λ e. IfQuery e ⊥) }
+    ensures memory { IfErr result (λ e. IfMemory e ⊥) }
     ensures before { IfErr result (λ e. IfRow e (λ number. (statements : List ℕ)
         × AreStatements request query.now (take number rows.now) [] statements
         × Appends (W.contents output.old) (W.contents output.new) statements)) }

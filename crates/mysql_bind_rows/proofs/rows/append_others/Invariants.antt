@@ -1,4 +1,4 @@
-use Rattle.std.proofs.Common.{ℕ, ◌≤◌, List, take}
+use Rattle.std.proofs.Common.{ℕ, List, take}
 use Rattle.mysql_bind_rows.specs.Scripts.{AreStatements}
 use Rattle.mysql_bind_rows.proofs.rows.append_others.Given as goal
 

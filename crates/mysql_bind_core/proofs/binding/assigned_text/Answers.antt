@@ -1,7 +1,7 @@
 use Rattle.std.proofs.Common.{sym, ◌∙◌}
 use Rattle.mysql_bind_core.specs.Refusals.{IsFragmentsTextRefusal, IsRefusal, IsValuesRefusal, of_fragments, of_values}
 use Rattle.mysql_bind_core.proofs.BindingLemmas.{if_err}
-use Rattle.mysql_bind_core.proofs.binding.taken_text.Goals as goal
+use Rattle.mysql_bind_core.proofs.binding.assigned_text.Goals as goal
 
 pub returns-then-has_fragment-clause-refused : goal.returns-then-has_fragment-clause-refused
 returns-then-has_fragment-clause-refused c =

@@ -1,0 +1,56 @@
+//! Laws of what is written. They do nothing: each is called for what it ensures.
+ghost use Rattle.std.specs.Prelude.{◌≡◌, ℕ, Bool, false, List, length};
+ghost use Rattle.mysql_named_params.specs.Tokens.{Token, OnTokens};
+ghost use Rattle.mysql_named_params.specs.Quiet.{DecidesWithin, IsHonest};
+ghost use Rattle.mysql_named_params.specs.Client.{Client, IsReadBy};
+ghost use Rattle.mysql_named_params.specs.Statements.{statements};
+ghost use Rattle.mysql_bind_core.specs.Bound.{IsAssignedText, IsPortableIfWanted, IsTaken, IsWritten};
+ghost use Rattle.mysql_bind_core.specs.Contents.{has_fragment};
+ghost use Rattle.mysql_bind_core.specs.Requests.{mode_of};
+ghost use Rattle.mysql_bind_core.specs.Statements.{AreReplaced};
+ghost use Rattle.mysql_bind_core.specs.declared.assignment.Assignment.{Assignment};
+ghost use Rattle.mysql_bind_core.specs.declared.request.Portability.TheVariants as portability;
+ghost use Rattle.mysql_bind_core.specs.declared.request.Request.{Request};
+
+use mysql_binding::laws::{bound_texts_are_sent, bound_texts_in_clients};
+use mysql_fragments::laws::bound_fragments_in_clients;
+use mysql_steady_fragments::laws::steady_fragments_in_clients;
+use mysql_steady_text::laws::{bound_steady_texts_are_sent, bound_steady_texts_in_clients};
+
+/// Unless all queries are taken, a client that keeps comments cuts what is written into as many
+/// statements as the query has, whatever the assignments say (`count`). If it decides about a quiet
+/// comment only by the comment, it reads in the text the tokens that it reads in the query, with
+/// those of what stands in each place, statement by statement (`tokens`).
+pub fn written_in_clients()
+    ensures count { (client : Client) (request : Request) (query text : List ℕ)
+        (assignments : List Assignment) (vs : List Token) → IsHonest client.reader →
+        request.portability ≡ portability.Portable → IsWritten request query assignments text →
+        IsReadBy client (mode_of request.literals) text vs →
+        OnTokens (mode_of request.literals) query (λ ts.
+        length (statements vs) ≡ length (statements ts)) }
+    ensures tokens { (client : Client) (request : Request) (query text : List ℕ)
+        (assignments : List Assignment) (us : List Token) → IsHonest client.reader →
+        DecidesWithin client.reader → request.portability ≡ portability.Portable →
+        IsWritten request query assignments text →
+        IsReadBy client (mode_of request.literals) query us →
+        OnTokens (mode_of request.literals) query (λ ts. (vs : List Token)
+        × IsReadBy client (mode_of request.literals) text vs
+        × AreReplaced (mode_of request.literals) ts text us vs) }
+{
+    bound_texts_in_clients();
+    bound_fragments_in_clients();
+    bound_steady_texts_in_clients();
+    steady_fragments_in_clients();
+}
+
+// Values in steady literals or with backslash escapes have no newline and no byte 0 in the text, so
+// that a client sends it as it is.
+pub(crate) fn values_are_sent()
+    ensures { (request : Request) (query text : List ℕ) (assignments : List Assignment) →
+        has_fragment assignments ≡ false → mode_of request.literals ≡ false →
+        IsTaken request query → IsAssignedText request query assignments text →
+        IsPortableIfWanted request text }
+{
+    bound_texts_are_sent();
+    bound_steady_texts_are_sent();
+}
