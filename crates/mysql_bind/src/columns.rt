@@ -114,6 +114,7 @@ fn header_place(alloc: Global, wanted: &Wanted<'_>, line: u64) -> Result<Place, 
 }
 
 // Adds a fault for each column that stands twice, has a value by an option, or isn't in the query.
+// A column is told by its number: the first line of a table without names is a row of values.
 fn add_wrong_columns(
     faults: &mut Vec<Fault>,
     alloc: Global,
@@ -123,16 +124,16 @@ fn add_wrong_columns(
 ) -> Result<(), AllocError> {
     for i in 0..columns.len() {
         let name = columns[i].name.as_slice();
-        let shown = Shown(name);
+        let number = i.saturating_add(1);
         if is_column(&columns[..i], name) {
-            let what = format!(in alloc; "two columns are named `{shown}`")?;
+            let what = format!(in alloc; "column {number} has the name of one before it")?;
             add_fault(faults, header_place(alloc, wanted, line)?, what)?;
         } else if is_assigned(wanted.fixed.assignments.as_slice(), name) {
-            let what = format!(in alloc; "the column `{shown}` has a value by an option too")?;
+            let what = format!(in alloc; "column {number} has a value by an option too")?;
             add_fault(faults, header_place(alloc, wanted, line)?, what)?;
         } else if !columns[i].used && !wanted.allow_unused {
             let what = format!(in alloc;
-                "the column `{shown}`: {} has no such name (--allow-unused takes it)",
+                "column {number}: {} has no such name (--allow-unused takes it)",
                 wanted.query.path
             )?;
             add_fault(faults, header_place(alloc, wanted, line)?, what)?;

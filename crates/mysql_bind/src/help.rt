@@ -53,7 +53,8 @@ Literals:
       --sql-mode=TEXT        what SELECT @@sql_mode answered
 
 What is refused, unless you say otherwise:
-      --allow-unportable     a query that servers or clients read in different ways
+      --allow-unportable     a query that servers or clients read in different ways,
+                             and a bound text that a client would change
       --allow-unused         a value for a name that the query has not
       --decimals=exact|text  a JSON number that is no whole one of 64 bits: bind it
                              as an exact number, or as its own text

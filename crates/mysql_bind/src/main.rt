@@ -4,6 +4,7 @@
 #![tactic(auto)]
 
 mod all_faults;
+mod changed_text;
 mod columns;
 mod commands;
 mod complaint;
@@ -20,6 +21,7 @@ mod rewritten;
 mod rows;
 mod script;
 mod sources;
+mod strict_records;
 mod told;
 mod values;
 mod words;

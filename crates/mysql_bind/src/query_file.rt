@@ -1,4 +1,5 @@
 //! A query, the file that it was read from, and what is said of a refusal.
+use crate::changed_text::changed_text;
 use crate::complaint::{Complaint, Place, one_fault};
 use crate::sources::{Sources, shown_path};
 use crate::values::{Values, wrong_values};
@@ -229,6 +230,11 @@ pub fn complaint_of(
         Failure::Steady(error) => steady_refused(alloc, query, error),
         Failure::Fragments(error) => fragments_refused(alloc, query, error),
         Failure::SteadyFragments(error) => steady_fragments_refused(alloc, query, error),
+        Failure::UnportableText(found) => {
+            let text = query.bytes.as_slice();
+            let changed = changed_text(alloc, text, values.assignments.as_slice(), request, found)?;
+            refused_at(alloc, query, changed.at, changed.what.as_str())
+        }
         Failure::Write => Ok(Complaint::Write),
         Failure::Memory(_) => Ok(Complaint::Memory),
     }

@@ -1,9 +1,10 @@
 //! The rows of CSV and TSV.
 use crate::columns::{Column, Wanted, add_fixed, columns_of};
-use crate::complaint::{Complaint, bad_file, bad_row};
+use crate::complaint::{Complaint, Place, bad_file, bad_row, one_fault};
 use crate::script::Script;
+use crate::strict_records::{StrayByte, first_stray};
 use csv::{ByteRecord, Error as CsvError, ErrorKind, Position, Reader, ReaderBuilder};
-use mysql_bind_core::{Assignment, ValueType};
+use mysql_bind_core::{Assignment, ValueType, line_and_column};
 use std::alloc::{AllocError, Global};
 
 // Reads records from bytes that are all there. TSV has tabs and no quotes.
@@ -53,17 +54,22 @@ fn record_refused(alloc: Global, path: &str, error: CsvError, bytes: &[u8]) -> C
     }
 }
 
-// Whether the quotes in these bytes are odd in number, as they are if one is left open.
-fn has_odd_quote(bytes: &[u8], from: u64, to: u64) -> bool {
-    let to = (to as usize).min(bytes.len());
-    let from = (from as usize).min(to);
-    let mut odd = false;
-    for byte in &bytes[from..to] {
-        if *byte == b'"' {
-            odd = !odd;
+// What is said of a byte that no record may have where it stands.
+fn stray_refused(alloc: Global, path: &str, stray: &StrayByte, bytes: &[u8]) -> Complaint {
+    let (line, column) = line_and_column(bytes, stray.at.min(bytes.len()));
+    match (
+        String::from_str(alloc, path),
+        String::from_str(alloc, stray.what),
+    ) {
+        (Ok(path), Ok(what)) => {
+            let place = Place::Line { path, line, column };
+            match one_fault(alloc, place, what) {
+                Ok(faults) => Complaint::Refused(faults),
+                Err(_) => Complaint::Memory,
+            }
         }
+        _ => Complaint::Memory,
     }
-    odd
 }
 
 // What a record assigns.
@@ -115,42 +121,28 @@ fn next_line(
     reader: &mut Reader<&[u8]>,
     record: &mut ByteRecord,
     bytes: &[u8],
-    tabs: bool,
 ) -> Result<Option<u64>, Complaint> {
-    let before = reader.position().byte;
     match reader.read_byte_record(record) {
-        Ok(true) => {}
-        Ok(false) => return Ok(None),
-        Err(error) => return Err(record_refused(alloc, path, error, bytes)),
+        Ok(true) => Ok(Some(line_of(record.position(), bytes))),
+        Ok(false) => Ok(None),
+        Err(error) => Err(record_refused(alloc, path, error, bytes)),
     }
-    let line = line_of(record.position(), bytes);
-    if !tabs && has_odd_quote(bytes, before, reader.position().byte) {
-        return Err(bad_row(
-            alloc,
-            path,
-            line,
-            "a quote is left open, or stands within a field: write it twice in a field that is \
-             quoted",
-        ));
-    }
-    Ok(Some(line))
 }
 
-/// Adds the rows of CSV, or of TSV, to the script.
-pub fn add_records(
+// Adds the rows that a reader has to the script. Whether there is a first line, which names the
+// columns.
+fn add_rows(
     script: &mut Script<'_>,
     rt: &HostRuntime,
-    tabs: bool,
+    reader: &mut Reader<&[u8]>,
     bytes: &[u8],
-) -> Result<(), Complaint> {
-    let bytes = unmarked(bytes);
-    let mut reader = reader_of(rt.alloc(), tabs, bytes);
+) -> Result<bool, Complaint> {
     let mut record = ByteRecord::new(rt.alloc());
     let mut columns: Option<Vec<Column>> = None;
     // Each record has a byte, and the last turn finds none.
     for _ in 0..=bytes.len() {
         let path = script.wanted.path.as_str();
-        let Some(line) = next_line(rt.alloc(), path, &mut reader, &mut record, bytes, tabs)? else {
+        let Some(line) = next_line(rt.alloc(), path, reader, &mut record, bytes)? else {
             break;
         };
         columns = match columns {
@@ -167,11 +159,32 @@ pub fn add_records(
             }
         };
     }
-    match columns {
-        Some(_) => Ok(()),
+    Ok(columns.is_some())
+}
+
+/// Adds the rows of CSV, or of TSV, to the script.
+pub fn add_records(
+    script: &mut Script<'_>,
+    rt: &HostRuntime,
+    tabs: bool,
+    bytes: &[u8],
+) -> Result<(), Complaint> {
+    let whole = unmarked(bytes);
+    let stray = first_stray(whole, tabs);
+    // The records before one that is refused are rows.
+    let bytes = match &stray {
+        Some(stray) => &whole[..stray.record.min(whole.len())],
+        None => whole,
+    };
+    let mut reader = reader_of(rt.alloc(), tabs, bytes);
+    let has_columns = add_rows(script, rt, &mut reader, bytes)?;
+    let path = script.wanted.path.as_str();
+    match stray {
+        Some(stray) => Err(stray_refused(rt.alloc(), path, &stray, whole)),
+        None if has_columns => Ok(()),
         None => Err(bad_file(
             rt.alloc(),
-            script.wanted.path.as_str(),
+            path,
             "is empty: its first line has the names of the columns",
         )),
     }

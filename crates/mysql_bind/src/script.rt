@@ -1,4 +1,5 @@
 //! The rows that are bound, and what is said of a refused one.
+use crate::changed_text::changed_text;
 use crate::columns::Wanted;
 use crate::complaint::{Complaint, Fault, Place, add_fault, bad_row};
 use crate::output::write_text;
@@ -153,14 +154,21 @@ impl Script<'_> {
             Some(line) => *line,
             None => 0,
         };
+        let assignments = match self.rows.get(refused.number) {
+            Some(row) => row.assignments.as_slice(),
+            None => return Ok(Complaint::Memory),
+        };
+        let path = self.wanted.path.as_str();
         match refused.failure {
-            Failure::NoValue => match self.rows.get(refused.number) {
-                Some(row) => self.wrong_fields(alloc, row.assignments.as_slice(), line),
-                None => Ok(Complaint::Memory),
-            },
+            Failure::NoValue => self.wrong_fields(alloc, assignments, line),
+            Failure::UnportableText(found) => {
+                let query = self.wanted.query.bytes.as_slice();
+                let changed = changed_text(alloc, query, assignments, self.request, found)?;
+                Ok(bad_row(alloc, path, line, changed.what.as_str()))
+            }
             Failure::Redefined(name) => {
                 let what = format!(in alloc; "`{}` is given two values", Shown(name.as_slice()))?;
-                Ok(bad_row(alloc, self.wanted.path.as_str(), line, what.as_str()))
+                Ok(bad_row(alloc, path, line, what.as_str()))
             }
             failure => complaint_of(
                 alloc,
