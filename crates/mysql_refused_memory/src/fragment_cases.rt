@@ -10,7 +10,8 @@ use crate::inputs::Plain::{Bytes, Double, Float, Int, Null};
 use crate::outcome::Memory::{Asked, Never};
 use crate::outcome::{Case, Is, Memory, cases, judged, row};
 use mysql_fragments::{
-    ExpandedQuery, Keyword, bind_fragments, bind_fragments_in, expanded_query, expanded_query_in,
+    ExpandedQuery, Keyword, bind_fragments, bind_fragments_in, expanded_for_literals,
+    expanded_query, expanded_query_in,
 };
 use std::alloc::Global;
 
@@ -22,6 +23,9 @@ pub(crate) fn case(alloc: Global, name: &str) -> Option<Case> {
     if let Some(row) = row(EXPANDED, name) {
         return Some(expanded(alloc, row));
     }
+    if let Some(row) = row(FOR_LITERALS, name) {
+        return Some(for_literals(alloc, row));
+    }
     let word = row(KEYWORDS, name)?;
     Some(Ok(judged(Keyword::new(alloc, word), Ok(word))))
 }
@@ -29,12 +33,6 @@ pub(crate) fn case(alloc: Global, name: &str) -> Option<Case> {
 const KEYWORDS: &[(&str, &[u8])] = cases! {
     "Keyword::new of a word" => b"DESC";
 };
-
-impl Is<&[u8]> for Keyword {
-    fn is(&self, word: &[u8]) -> bool {
-        self.as_bytes() == word
-    }
-}
 
 /// A query, what is given, the mode (without one it is `bind_fragments`), the text or the refusal,
 /// and whether it asks for memory.
@@ -198,4 +196,23 @@ fn expanded(
         None => expanded_query(alloc, query, &fragments),
     };
     Ok(judged(answer, wanted).with(memory))
+}
+
+/// A query, what is given, and the expanded query or the refusal.
+type LiteralsRow = (&'static [u8], InPlaces, Result<Expanded, &'static str>);
+
+const FOR_LITERALS: &[(&str, LiteralsRow)] = cases! {
+    "expanded_for_literals of a list" =>
+        b"a IN (?)", Positional(&[List(&[Item(Int(7)), Number(b"2.5"), Item(Bytes(b"x"))])]),
+        Ok((b"a IN (?, 2.5, ?)", &[Int(7), Bytes(b"x")]));
+    "expanded_for_literals of a float" =>
+        b"1+?", Positional(&[Value(Float(0))]), Err("Float { place: 0 }");
+};
+
+fn for_literals(alloc: Global, (query, given, wanted): LiteralsRow) -> Case {
+    let fragments = given.fragments(alloc)?;
+    Ok(judged(
+        expanded_for_literals(alloc, query, &fragments, false),
+        wanted,
+    ))
 }

@@ -1,5 +1,6 @@
 //! Fragments as plain data for tables, and how they are made.
 use crate::inputs::Plain;
+use crate::outcome::Is;
 use mysql_fragments::{Fragment, Fragments, Item, Keyword};
 use std::alloc::{AllocError, Global};
 use std::collections::HashMap;
@@ -110,4 +111,98 @@ fn named(alloc: Global, plain: &[(&[u8], PlainFragment)]) -> Result<Fragments, A
         }
     }
     Ok(Fragments::Named(entries))
+}
+
+impl Is<PlainItem> for Item {
+    fn is(&self, wanted: PlainItem) -> bool {
+        match (self, wanted) {
+            (Item::Value(found), PlainItem::Value(wanted)) => found.is(wanted),
+            (Item::Decimal(found), PlainItem::Decimal(wanted)) => found.is(wanted),
+            _ => false,
+        }
+    }
+}
+
+impl Is<PlainFragment> for Fragment {
+    fn is(&self, wanted: PlainFragment) -> bool {
+        match (self, wanted) {
+            (Fragment::Value(found), PlainFragment::Value(wanted)) => found.is(wanted),
+            (Fragment::Decimal(found), PlainFragment::Decimal(wanted)) => found.is(wanted),
+            (Fragment::List(found), PlainFragment::List(wanted)) => are_items(found, wanted),
+            (Fragment::Rows(found), PlainFragment::Rows(wanted)) => are_rows(found, wanted),
+            (Fragment::Identifier(found), PlainFragment::Identifier(wanted)) => found.is(wanted),
+            (Fragment::Qualified(found), PlainFragment::Qualified(wanted)) => {
+                are_parts(found, wanted)
+            }
+            (Fragment::Keyword(found), PlainFragment::Keyword(wanted)) => found.is(wanted),
+            _ => false,
+        }
+    }
+}
+
+impl Is<&[u8]> for Keyword {
+    fn is(&self, word: &[u8]) -> bool {
+        self.as_bytes() == word
+    }
+}
+
+fn are_items(found: &[Item], wanted: &[PlainItem]) -> bool {
+    for (found, wanted) in found.iter().zip(wanted) {
+        if !found.is(*wanted) {
+            return false;
+        }
+    }
+    found.len() == wanted.len()
+}
+
+fn are_rows(found: &[Vec<Item>], wanted: &[&[PlainItem]]) -> bool {
+    for (found, wanted) in found.iter().zip(wanted) {
+        if !are_items(found, *wanted) {
+            return false;
+        }
+    }
+    found.len() == wanted.len()
+}
+
+fn are_parts(found: &[Vec<u8>], wanted: &[&[u8]]) -> bool {
+    for (found, wanted) in found.iter().zip(wanted) {
+        if found.as_slice() != *wanted {
+            return false;
+        }
+    }
+    found.len() == wanted.len()
+}
+
+impl Is<InPlaces> for Fragments {
+    fn is(&self, wanted: InPlaces) -> bool {
+        match (self, wanted) {
+            (Fragments::Positional(found), InPlaces::Positional(wanted)) => {
+                are_fragments(found, wanted)
+            }
+            (Fragments::Named(found), InPlaces::Named(wanted)) => are_entries(found, wanted),
+            _ => false,
+        }
+    }
+}
+
+fn are_fragments(found: &[Fragment], wanted: &[PlainFragment]) -> bool {
+    for (found, wanted) in found.iter().zip(wanted) {
+        if !found.is(*wanted) {
+            return false;
+        }
+    }
+    found.len() == wanted.len()
+}
+
+fn are_entries(
+    found: &HashMap<Vec<u8>, Fragment>,
+    wanted: &[(&'static [u8], PlainFragment)],
+) -> bool {
+    for (name, fragment) in wanted {
+        match found.get(*name) {
+            Some(found) if found.is(*fragment) => {}
+            _ => return false,
+        }
+    }
+    found.len() == wanted.len()
 }

@@ -3,10 +3,15 @@
 
 mod archive_cases;
 mod argument_cases;
+mod bind_cases;
+mod bind_inputs;
+mod bind_rows_cases;
 mod binding_cases;
 mod conversion_cases;
 mod copy_cases;
 mod fixed_query_cases;
+mod flat_fragment_cases;
+mod fragment_argument_cases;
 mod fragment_cases;
 mod fragment_inputs;
 mod inputs;
@@ -36,6 +41,12 @@ fn case(alloc: Global, name: &str) -> Option<Case> {
         return Some(case);
     }
     if let Some(case) = query_case(alloc, name) {
+        return Some(case);
+    }
+    if let Some(case) = fragments_case(alloc, name) {
+        return Some(case);
+    }
+    if let Some(case) = bind_case(alloc, name) {
         return Some(case);
     }
     bound_case(alloc, name)
@@ -75,18 +86,34 @@ fn query_case(alloc: Global, name: &str) -> Option<Case> {
     parsed_query_cases::case(alloc, name)
 }
 
+/// Of fragments.
+fn fragments_case(alloc: Global, name: &str) -> Option<Case> {
+    if let Some(case) = fragment_cases::case(alloc, name) {
+        return Some(case);
+    }
+    if let Some(case) = steady_fragment_cases::case(alloc, name) {
+        return Some(case);
+    }
+    if let Some(case) = fragment_argument_cases::case(alloc, name) {
+        return Some(case);
+    }
+    flat_fragment_cases::case(alloc, name)
+}
+
+/// Of the core of the shell tool.
+fn bind_case(alloc: Global, name: &str) -> Option<Case> {
+    if let Some(case) = bind_cases::case(alloc, name) {
+        return Some(case);
+    }
+    bind_rows_cases::case(alloc, name)
+}
+
 /// Of binding, the program and the archive.
 fn bound_case(alloc: Global, name: &str) -> Option<Case> {
     if let Some(case) = binding_cases::case(alloc, name) {
         return Some(case);
     }
     if let Some(case) = steady_cases::case(alloc, name) {
-        return Some(case);
-    }
-    if let Some(case) = fragment_cases::case(alloc, name) {
-        return Some(case);
-    }
-    if let Some(case) = steady_fragment_cases::case(alloc, name) {
         return Some(case);
     }
     if let Some(case) = fixed_query_cases::case(alloc, name) {
