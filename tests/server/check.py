@@ -1,4 +1,4 @@
-"""Runs all tests: check.py SOCKET MYSQL_QUERY FOLDER, for `run`, which starts the server and builds what is needed.
+"""Runs all tests: check.py SOCKET MYSQL_QUERY MYSQL_BIND FOLDER, for `run`, which starts the server and builds the rest.
 
 FOLDER is a temporary one of the caller's, with the folder `rows` where the reader of rows can be built, and the folder
 `second` of a second server, which has a binary log and ignores the client's character set.
@@ -26,6 +26,7 @@ import rewritten
 import rows
 import search
 import sent
+import shell_tool
 import signs
 import steady
 import steady_fragments
@@ -33,7 +34,7 @@ from harness import Tests
 from protocol import Connection
 
 
-def main(path: str, mysql_query: str, folder: str) -> int:
+def main(path: str, mysql_query: str, mysql_bind: str, folder: str) -> int:
     """Run them, and print how many passed."""
     tests = Tests()
     connection = Connection(path)
@@ -51,6 +52,7 @@ def main(path: str, mysql_query: str, folder: str) -> int:
     client.run(tests, path, folder)
     sent.run(tests, folder, is_mysql)
     pipes.run(tests, folder, is_mysql)
+    shell_tool.run(tests, path, os.path.abspath(mysql_bind), folder, is_mysql)
     leaks.run(tests, path)
     limits.run(tests, path, folder)
     search.run(tests, path)
@@ -70,4 +72,4 @@ def main(path: str, mysql_query: str, folder: str) -> int:
 
 
 if __name__ == "__main__":
-    sys.exit(main(*sys.argv[1:4]))
+    sys.exit(main(*sys.argv[1:5]))
