@@ -11,6 +11,23 @@ from rattle_source import INDENT
 
 # The names in a body: what is called, what stands after `::` or a dot, what is handed on as it is, types and constants.
 NAME = re.compile(r"(?<=::)\w+|(?<=\.)\w+|\b\w+(?=\(|::)|(?<=\()\w+(?=[,)])|(?<=, )\w+(?=[,)])|\b[A-Z]\w*")
+# A name after `::`, or after a dot if it is called; with its `()` if it is called without arguments.
+MEMBER = re.compile(r"::(\w+(?:\(\))?)|\.(\w+(?:\(\)|(?=\()))")
+SELF = re.compile(r"\(\s*(?:&\s*(?:'\w+\s+)?)?(?:mut\s+)?self\b\s*(,?\s*\))?")
+
+
+def names_in(item):
+    """The names in the body of a function, and those after a dot or `::` again, with a dot before them."""
+    body = item.text.removeprefix(item.head)
+    return {*NAME.findall(body), *(f".{path or method}" for path, method in MEMBER.findall(body))}
+
+
+def may_call(words, item):
+    """Whether one of these names of a body may call this function: `text.len()` is no call of a `len` that takes a value."""
+    method = SELF.search(item.head)
+    if not method:
+        return item.name in words
+    return f".{item.name}" in words or (method[1] is not None and f".{item.name}()" in words)
 
 
 @dataclass(frozen=True)
@@ -167,15 +184,14 @@ class Edits:
         """The functions whose bodies name this one: of its crate, and of the files that import it."""
         source, _, item = one
         files = [*sources_of(source.crate), *self.importers.get((source.path, item.name), [])]
-        users = [user for file in files for user, words in self.named_in(file) if item.name in words]
+        users = [user for file in files for user, words in self.named_in(file) if may_call(words, item)]
         return [user for user in users if key_of(*user) != key_of(*one)]
 
     def named_in(self, source):
         """Each function of a file, with the words of its body."""
         if source.path not in self.bodies:
             self.bodies[source.path] = [
-                ((source, holder, item), set(NAME.findall(item.text.removeprefix(item.head))))
-                for holder, item in functions(source.items)
+                ((source, holder, item), names_in(item)) for holder, item in functions(source.items)
             ]
         return self.bodies[source.path]
 
@@ -201,7 +217,7 @@ def tests_of(crate):
     for source in sources_of(crate):
         path = "::".join(source.path.relative_to(ROOT / "crates" / crate / "src").with_suffix("").parts)
         for holder, item in functions(source.items):
-            bodies.setdefault(item.name, set()).update(NAME.findall(item.text.removeprefix(item.head)))
+            bodies.setdefault(item.name, set()).update(name for name in names_in(item) if name[0] != ".")
             if holder is None:
                 own.add(item.name)
             if "#[test]" in item.attributes and source.path != PATHS:

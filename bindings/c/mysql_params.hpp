@@ -536,7 +536,8 @@ inline std::optional<Unportable> first_unportable(std::string_view query, Mode m
     return detail::found(mysql_params_first_unportable, query, mode);
 }
 
-/* The same, also of what the clients `mysql` and `mariadb` with `--comments` read or send otherwise. */
+/* The same, also of what the clients `mysql` and `mariadb` with `--comments` read or send otherwise. It judges the bytes
+ * that it is given: ask it of a bound text too that has identifiers or keywords, or strings without backslash escapes. */
 inline std::optional<Unportable> first_unportable_in_client(std::string_view query, Mode mode = Mode::backslash_escapes)
 {
     return detail::found(mysql_params_first_unportable_in_client, query, mode);

@@ -150,6 +150,9 @@ pub fn first_unportable_in(
 /// As [`first_unportable`], for a query whose bound text goes through the client `mysql` or `mariadb` with
 /// `--comments`: finds also what that client reads or sends otherwise than a server.
 ///
+/// It judges the bytes that it is given. A bound text with identifiers or keywords, or with strings without backslash
+/// escapes, may hold a construct that its query doesn't have: ask it of that text too.
+///
 /// ```
 /// use mysql_params::{Construct, first_unportable_in_client};
 ///
