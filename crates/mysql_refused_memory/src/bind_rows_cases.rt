@@ -139,7 +139,13 @@ fn streamed(alloc: Global, (query, assigned, request, texts, refusal): RowsRow) 
     Ok(match answer {
         Ok(()) => {
             let holds = refusal.is_none() && is_written(&room, left, texts);
-            Outcome::Answer.if_holds(holds)
+            // Without rows nothing is bound, and nothing is allocated.
+            let right = if assigned.is_empty() {
+                Outcome::AnswerWithoutMemory
+            } else {
+                Outcome::Answer
+            };
+            right.if_holds(holds)
         }
         Err(failure) => {
             let before = texts.get(..rows_before(&failure)).unwrap_or(texts);
