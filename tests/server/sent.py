@@ -50,6 +50,11 @@ _CASES = [
     Case("a byte 0 in a later statement of the line", b"SELECT :a; SELECT HEX('a\0b')", {"a": 1}, [], []),
     Case("a UTF-8 mark", b"\xef\xbb\xbfSELECT :a", {"a": 1}, [b"SELECT 1"], [b"SELECT 1"], found=False),
     Case("a comment after 1.e;", b"SELECT 1.e;-- 2\n", None, [b"SELECT 1.e-- 2"], [b"SELECT 1.e"], found=False),
+    *[
+        Case(f"-- at the end, and a comment {comment!r} behind it", b"SELECT 5 --;" + comment + b"\n", None,
+             [b"SELECT 5 --" + comment], [b"SELECT 5 --"], found=False)
+        for comment in (b"-- ", b"-- x", b"#x")
+    ],
     Case("a dash and a negative number", b"SELECT 1;\n-:a\n; SELECT 2", {"a": -5},
          [b"SELECT 1", b"--5", b"SELECT 2"], [b"SELECT 1", b"SELECT 2"], ([b"SELECT 1", b"--5", b"SELECT 2"],) * 2),
     Case("a hint after a comment", "SELECT 1 AS/**/é/*+ x */, :a".encode(), {"a": 2},

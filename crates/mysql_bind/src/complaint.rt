@@ -1,5 +1,6 @@
-//! What is said of a refusal. No message holds a value.
-use crate::told::{github_property, github_text, json_text};
+//! What is said of a refusal. No message holds a value, and each stays on its line, whatever stands
+//! in a name or a path.
+use crate::told::{OnOneLine, github_property, github_text, json_text};
 use std::alloc::{AllocError, Global};
 use std::io;
 
@@ -162,14 +163,18 @@ fn tell_faults(rt: &HostRuntime, form: ErrorForm, faults: &[Fault]) -> io::Resul
 
 // Tells a fault as a line of text.
 fn tell_text(rt: &HostRuntime, fault: &Fault) -> io::Result<()> {
-    let what = &fault.what;
+    let what = OnOneLine(fault.what.as_str());
     match &fault.place {
         Place::Words => eprintln!(rt; "mysql_bind: {what}"),
-        Place::File(path) => eprintln!(rt; "mysql_bind: {path}: {what}"),
+        Place::File(path) => eprintln!(rt; "mysql_bind: {}: {what}", OnOneLine(path.as_str())),
         Place::Line { path, line, column } => eprintln!(rt;
-            "mysql_bind: {path}:{line}:{column}: {what}"
+            "mysql_bind: {}:{line}:{column}: {what}",
+            OnOneLine(path.as_str())
         ),
-        Place::Row { path, line } => eprintln!(rt; "mysql_bind: {path}:{line}: {what}"),
+        Place::Row { path, line } => eprintln!(rt;
+            "mysql_bind: {}:{line}: {what}",
+            OnOneLine(path.as_str())
+        ),
     }
 }
 

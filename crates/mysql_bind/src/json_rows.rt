@@ -4,6 +4,7 @@ use crate::complaint::{Complaint, Fault, Place, add_fault, bad_row};
 use crate::json_members::{Decimals, add_members};
 use crate::matching::{add_unused, is_assigned, is_name_of};
 use crate::script::Script;
+use crate::sources::unmarked;
 use crate::values::Values;
 use mysql_bind_core::Assignment;
 use mysql_values::show::Shown;
@@ -104,7 +105,13 @@ fn check_fixed(alloc: Global, wanted: &Wanted<'_>) -> Result<(), Complaint> {
     }
 }
 
-/// Adds the rows of NDJSON to the script. A line of white space is no row.
+// Whether a byte is white space of JSON (RFC 8259, section 2).
+fn is_white_space(byte: u8) -> bool {
+    matches!(byte, b' ' | b'\t' | b'\n' | b'\r')
+}
+
+/// Adds the rows of NDJSON to the script: a line is a row, except one of white space. A line ends
+/// only at LF, and at the end of the bytes.
 pub fn add_objects(
     script: &mut Script<'_>,
     rt: &HostRuntime,
@@ -112,7 +119,7 @@ pub fn add_objects(
     bytes: &[u8],
 ) -> Result<(), Complaint> {
     check_fixed(rt.alloc(), &script.wanted)?;
-    let mut rest = bytes;
+    let mut rest = unmarked(bytes);
     let mut line = 1u64;
     // Each line has a byte.
     for _ in 0..bytes.len() {
@@ -123,7 +130,7 @@ pub fn add_objects(
             Some(at) => (&rest[..at], &rest[at + 1..]),
             None => (rest, &rest[rest.len()..]),
         };
-        if !text.iter().all(|byte| byte.is_ascii_whitespace()) {
+        if !text.iter().all(|byte| is_white_space(*byte)) {
             let assignments = object_assignments(rt.alloc(), &script.wanted, line, text, decimals)?;
             script.add(rt, assignments, line)?;
         }

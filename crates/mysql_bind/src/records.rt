@@ -2,6 +2,7 @@
 use crate::columns::{Column, Wanted, add_fixed, columns_of};
 use crate::complaint::{Complaint, Place, bad_file, bad_row, one_fault};
 use crate::script::Script;
+use crate::sources::unmarked;
 use crate::strict_records::{StrayByte, first_stray};
 use csv::{ByteRecord, Error as CsvError, ErrorKind, Position, Reader, ReaderBuilder};
 use mysql_bind_core::{Assignment, ValueType, line_and_column};
@@ -104,14 +105,6 @@ fn assignments_of(
     }
     add_fixed(&mut assignments, alloc, wanted)?;
     Ok(assignments)
-}
-
-// The bytes without the mark of UTF-8 before them.
-fn unmarked(bytes: &[u8]) -> &[u8] {
-    match bytes {
-        [0xEF, 0xBB, 0xBF, rest @ ..] => rest,
-        bytes => bytes,
-    }
 }
 
 // Reads the next record of a table. The line at which it begins, or none after the last one.

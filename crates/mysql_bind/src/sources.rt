@@ -26,6 +26,14 @@ fn descriptor_of(path: &str) -> Option<i32> {
     digits.parse::<i32>().ok()
 }
 
+/// The bytes without the mark of UTF-8 before them.
+pub fn unmarked(bytes: &[u8]) -> &[u8] {
+    match bytes {
+        [0xEF, 0xBB, 0xBF, rest @ ..] => rest,
+        bytes => bytes,
+    }
+}
+
 /// A path as messages have it.
 pub fn shown_path(path: &str) -> &str {
     if path == "-" {

@@ -1,5 +1,39 @@
-//! Texts as JSON and GitHub's annotations write them.
+//! Texts as messages show them: on one line, as JSON and as GitHub's annotations write them.
 use std::alloc::{AllocError, Global};
+use std::fmt;
+
+// Whether a terminal shows no sign for the character, or those beside it in another order: Unicode's
+// control characters, separators of lines and paragraphs, and signs of direction (Cc, Zl, Zp and
+// Bidi_Control).
+fn is_hidden(letter: char) -> bool {
+    matches!(
+        letter,
+        '\u{0}'..='\u{1f}'
+            | '\u{7f}'..='\u{9f}'
+            | '\u{61c}'
+            | '\u{200e}'..='\u{200f}'
+            | '\u{2028}'..='\u{202e}'
+            | '\u{2066}'..='\u{2069}'
+    )
+}
+
+/// A text that stays on its line: a control character, a separator and a sign of direction is shown
+/// as `\u{a}`, by its hexadecimal number.
+#[derive(Clone, Copy)]
+pub struct OnOneLine<'a>(pub &'a str);
+
+impl fmt::Display for OnOneLine<'_> {
+    fn fmt<W: fmt::Write>(&self, f: &mut fmt::Formatter<W>) -> fmt::Result {
+        for letter in self.0.chars() {
+            if is_hidden(letter) {
+                write!(f, "\\u{{{:x}}}", letter as u32)?;
+            } else {
+                write!(f, "{letter}")?;
+            }
+        }
+        Ok(())
+    }
+}
 
 /// A text as a JSON string (RFC 8259, section 7).
 pub fn json_text(alloc: Global, text: &str) -> Result<String, AllocError> {
@@ -9,7 +43,10 @@ pub fn json_text(alloc: Global, text: &str) -> Result<String, AllocError> {
             '"' => told.push_str("\\\"")?,
             '\\' => told.push_str("\\\\")?,
             '\n' => told.push_str("\\n")?,
-            '\u{0}'..='\u{1f}' => told.push_str("\\ufffd")?,
+            _ if is_hidden(letter) => {
+                let escape = format!(in alloc; "\\u{:04x}", letter as u32)?;
+                told.push_str(escape.as_str())?
+            }
             _ => told.push(letter)?,
         }
     }
@@ -17,21 +54,21 @@ pub fn json_text(alloc: Global, text: &str) -> Result<String, AllocError> {
     Ok(told)
 }
 
-/// A text as the message of an annotation.
+/// A text as the message of an annotation, which is on one line.
 pub fn github_text(alloc: Global, text: &str) -> Result<String, AllocError> {
+    let line = format!(in alloc; "{}", OnOneLine(text))?;
     let mut told = String::new(alloc);
-    for letter in text.chars() {
+    for letter in line.chars() {
         match letter {
             '%' => told.push_str("%25")?,
-            '\n' => told.push_str("%0A")?,
-            '\r' => told.push_str("%0D")?,
             _ => told.push(letter)?,
         }
     }
     Ok(told)
 }
 
-/// A text as a property of an annotation, which a comma and a colon would end.
+/// A text as a property of an annotation, which a comma and a colon would end. A newline and a
+/// carriage return are written as GitHub reads them, since a path is one of a file.
 pub fn github_property(alloc: Global, text: &str) -> Result<String, AllocError> {
     let mut told = String::new(alloc);
     for letter in text.chars() {
@@ -41,6 +78,10 @@ pub fn github_property(alloc: Global, text: &str) -> Result<String, AllocError> 
             '\r' => told.push_str("%0D")?,
             ':' => told.push_str("%3A")?,
             ',' => told.push_str("%2C")?,
+            _ if is_hidden(letter) => {
+                let escape = format!(in alloc; "\\u{{{:x}}}", letter as u32)?;
+                told.push_str(escape.as_str())?
+            }
             _ => told.push(letter)?,
         }
     }

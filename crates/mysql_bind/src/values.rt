@@ -1,7 +1,7 @@
 //! The assignments that the options make, and what is said of a wrong one.
 use crate::complaint::{Complaint, Fault, Place, add_fault, bad_file, bad_word, unusable};
 use crate::json_members::{Decimals, add_members};
-use crate::sources::{Sources, read_variable, shown_path};
+use crate::sources::{Sources, read_variable, shown_path, unmarked};
 use clap::ArgMatches;
 use mysql_bind_core::{Assignment, ValueType, typed_fragment};
 use std::alloc::{AllocError, Global};
@@ -172,15 +172,14 @@ fn origin_of(alloc: Global, option: &str, name: &str) -> Result<String, AllocErr
     format!(in alloc; "--{option} {name}")
 }
 
-// Adds an assignment of an option.
+// Adds an assignment that comes from there.
 fn add_parts(
     values: &mut Values,
     alloc: Global,
-    option: &str,
+    origin: String,
     parts: Parts<'_>,
     bytes: Vec<u8>,
 ) -> Result<(), Complaint> {
-    let origin = origin_of(alloc, option, parts.name)?;
     let name = Vec::from_slice(alloc, parts.name.as_bytes())?;
     values.add(origin, name, parts.value_type, bytes)?;
     Ok(())
@@ -192,7 +191,8 @@ fn add_set(values: &mut Values, rt: &HostRuntime, word: &str) -> Result<(), Comp
     match parts.rest {
         Some(text) => {
             let bytes = Vec::from_slice(rt.alloc(), text.as_bytes())?;
-            add_parts(values, rt.alloc(), "set", parts, bytes)
+            let origin = origin_of(rt.alloc(), "set", parts.name)?;
+            add_parts(values, rt.alloc(), origin, parts, bytes)
         }
         None => Err(bad_word(rt.alloc(), "--set: write NAME=VALUE or NAME:TYPE=VALUE")),
     }
@@ -209,7 +209,8 @@ fn add_file(
     match parts.rest {
         Some(path) => {
             let bytes = sources.read(rt, path)?;
-            add_parts(values, rt.alloc(), "file", parts, bytes)
+            let origin = origin_of(rt.alloc(), "file", parts.name)?;
+            add_parts(values, rt.alloc(), origin, parts, bytes)
         }
         None => Err(bad_word(rt.alloc(), "--file: write NAME=PATH or NAME:TYPE=PATH")),
     }
@@ -223,7 +224,10 @@ fn add_env(values: &mut Values, rt: &HostRuntime, word: &str) -> Result<(), Comp
         None => parts.name,
     };
     match read_variable(rt, variable)? {
-        Some(bytes) => add_parts(values, rt.alloc(), "env", parts, bytes),
+        Some(bytes) => {
+            let origin = origin_of(rt.alloc(), "env", parts.name)?;
+            add_parts(values, rt.alloc(), origin, parts, bytes)
+        }
         None => {
             let what = format!(in rt.alloc();
                 "--env {}: the environment has no such variable",
@@ -245,7 +249,8 @@ fn add_null(values: &mut Values, alloc: Global, name: &str) -> Result<(), Compla
     Ok(())
 }
 
-// A pair `NAME[:TYPE]=VALUE`, whose value is any bytes.
+// A pair `NAME[:TYPE]=VALUE`, whose value is any bytes except 0. Messages have its number: behind a
+// byte 0 in a value a part of the value would be a name.
 fn add_pair(
     values: &mut Values,
     alloc: Global,
@@ -265,7 +270,8 @@ fn add_pair(
     };
     let parts = parts_of(alloc, "pairs", front)?;
     let bytes = Vec::from_slice(alloc, &pair[at + 1..])?;
-    add_parts(values, alloc, "pairs", parts, bytes)
+    let origin = format!(in alloc; "{path}: pair {number}")?;
+    add_parts(values, alloc, origin, parts, bytes)
 }
 
 // Adds what `--pairs` gives.
@@ -335,7 +341,7 @@ pub fn values_of(
             &mut values,
             rt.alloc(),
             shown_path(path),
-            bytes.as_slice(),
+            unmarked(bytes.as_slice()),
             decimals,
         )?;
     }

@@ -66,6 +66,17 @@ static OPTIONS: [&str; 24] = [
     "--version",
 ];
 
+// The options that are given no value.
+static FLAGS: [&str; 7] = [
+    "--allow-unportable",
+    "--transaction",
+    "--stream",
+    "--allow-unused",
+    "--zero",
+    "--help",
+    "--version",
+];
+
 // What stands before the first `=`: a value never does.
 fn before_value(word: &str) -> &str {
     match word.split_once('=') {
@@ -74,18 +85,55 @@ fn before_value(word: &str) -> &str {
     }
 }
 
-// The first word that is an option of no command, without what is given to it.
-fn unknown_option(words: &[String]) -> Option<&str> {
+// The option that is given the word after this one.
+fn option_of_next(word: &str) -> Option<&str> {
+    if word == "-o" {
+        return Some("--output");
+    }
+    let has_value = OPTIONS.iter().any(|option| *option == word)
+        && !FLAGS.iter().any(|flag| *flag == word);
+    has_value.then_some(word)
+}
+
+// A word that begins with `--` and is an option of no command.
+#[derive(Clone, Copy)]
+enum UnknownOption<'a> {
+    // The word, without what is given to it.
+    Word(&'a str),
+    // It follows this option, so that it may be a value.
+    After(&'a str),
+}
+
+// The first such word.
+fn unknown_option(words: &[String]) -> Option<UnknownOption<'_>> {
+    let mut before = "";
     for word in words {
         let front = before_value(word.as_str());
         if front == "--" {
             return None;
         }
         if front.starts_with("--") && !OPTIONS.iter().any(|option| *option == front) {
-            return Some(front);
+            return match option_of_next(before) {
+                Some(option) => Some(UnknownOption::After(option)),
+                None => Some(UnknownOption::Word(front)),
+            };
         }
+        before = word.as_str();
     }
     None
+}
+
+// What is said of it.
+fn unknown_option_text(alloc: Global, unknown: UnknownOption<'_>) -> Result<String, AllocError> {
+    match unknown {
+        UnknownOption::Word(option) => format!(in alloc;
+            "there is no option {option} (mysql_bind --help)"
+        ),
+        UnknownOption::After(option) => format!(in alloc;
+            "{option}: the word after it is no option, and a value that begins with `--` stands \
+             after `=`: {option}=--x (mysql_bind --help)"
+        ),
+    }
 }
 
 // What is wrong with words of this kind of fault. A word is not repeated: it may hold a value.
@@ -112,8 +160,8 @@ pub fn usage_complaint(
     kind: ErrorKind,
     words: &[String],
 ) -> Result<Complaint, AllocError> {
-    if let Some(option) = unknown_option(words) {
-        let what = format!(in alloc; "there is no option {option} (mysql_bind --help)")?;
+    if let Some(unknown) = unknown_option(words) {
+        let what = unknown_option_text(alloc, unknown)?;
         return Ok(unusable(alloc, Place::Words, what));
     }
     Ok(bad_word(alloc, usage_text(kind)))
