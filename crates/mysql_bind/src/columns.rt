@@ -2,6 +2,7 @@
 use crate::complaint::{Complaint, Fault, Place, add_fault, bad_word};
 use crate::matching::{NamePlace, add_unused, is_assigned, is_name_of};
 use crate::query_file::{QueryFile, place_of};
+use crate::told::SourceName;
 use crate::values::{TYPES, Values, type_of};
 use csv::ByteRecord;
 use mysql_bind_core::{Assignment, ValueType};
@@ -178,7 +179,7 @@ fn add_untyped(
         if !is_column(columns, name) {
             let what = format!(in alloc;
                 "--column {}: {} has no such column",
-                Shown(name),
+                SourceName(name),
                 wanted.path.as_str()
             )?;
             add_fault(faults, Place::Words, what)?;

@@ -5,6 +5,7 @@ use crate::json_members::{Decimals, add_members};
 use crate::matching::{add_unused, is_assigned, is_name_of};
 use crate::script::Script;
 use crate::sources::unmarked;
+use crate::told::SourceName;
 use crate::values::Values;
 use mysql_bind_core::Assignment;
 use mysql_values::show::Shown;
@@ -49,7 +50,7 @@ fn row_faults(
         {
             let what = format!(in alloc;
                 "`{}`: {} has no such name (--allow-unused takes it)",
-                Shown(assignment.name.as_slice()),
+                SourceName(assignment.name.as_slice()),
                 wanted.query.path
             )?;
             add_fault(&mut faults, row_place(alloc, wanted, line)?, what)?;

@@ -1,8 +1,9 @@
 //! Texts as messages show them: on one line, as JSON and as GitHub's annotations write them.
+use mysql_values::show::Shown;
 use std::alloc::{AllocError, Global};
 use std::fmt;
 
-// Whether a terminal shows no sign for the character, or those beside it in another order: Unicode's
+// Whether a terminal shows no sign for the character, or its neighbours in another order: Unicode's
 // control characters, separators of lines and paragraphs, and signs of direction (Cc, Zl, Zp and
 // Bidi_Control).
 fn is_hidden(letter: char) -> bool {
@@ -32,6 +33,19 @@ impl fmt::Display for OnOneLine<'_> {
             }
         }
         Ok(())
+    }
+}
+
+/// A name from a source: as it is, or by its bytes if it isn't UTF-8.
+#[derive(Clone, Copy)]
+pub struct SourceName<'a>(pub &'a [u8]);
+
+impl fmt::Display for SourceName<'_> {
+    fn fmt<W: fmt::Write>(&self, f: &mut fmt::Formatter<W>) -> fmt::Result {
+        match std::str::from_utf8(self.0) {
+            Ok(text) => write!(f, "{text}"),
+            Err(_) => write!(f, "{}", Shown(self.0)),
+        }
     }
 }
 

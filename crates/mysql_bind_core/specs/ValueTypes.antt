@@ -87,7 +87,7 @@ typed_value Decimal bytes = None
 typed_value Identifier bytes = None
 typed_value ListType bytes = None
 
--- whether a value of this type is made by a copy of bytes, which takes memory
+-- whether bytes are copied or decoded for a value of this type, for which memory may be refused
 abbrev pub takes_memory : ValueType → Bool
 takes_memory Null = false
 takes_memory Truth = false

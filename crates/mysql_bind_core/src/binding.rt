@@ -110,7 +110,7 @@ fn check_named(query: &[u8], request: Request) -> Result<(), Failure>
 }
 
 /// The query with the literals of the assigned values in the places of its names, or the refusal.
-/// It is never `Write`.
+/// It is never `Write`, and `Memory` only if the request takes the query.
 pub fn bound_text(
     alloc: Global,
     query: &[u8],
@@ -121,6 +121,7 @@ pub fn bound_text(
         IsWritten request query.now assignments.now text.items) }
     ensures refused { IfErr result (IsRefusal request query.now assignments.now) }
     ensures only { IfErr result (λ e. e ≢ Failure.Write) }
+    ensures memory { IsErrOf result (Failure.Memory alloc_error) → IsTaken request query.now }
 {
     match check_query(alloc, query, request) {
         Ok(()) => taken_text(alloc, query, assignments, request),
@@ -347,7 +348,7 @@ fn any_mode_text(alloc: Global, query: &[u8], params: Params) -> Result<Vec<u8>,
 /// for exactly the values that the bytes of the assignments mean. A query and its text are refused
 /// unless every server and the clients read them alike, except if all queries are asked for.
 /// Nothing was written with any refusal except `Write`. Out of memory may come in place of any
-/// other result.
+/// other result, if the request takes the query.
 pub fn write_bound<W: Write>(
     alloc: Global,
     query: &[u8],
@@ -360,6 +361,9 @@ pub fn write_bound<W: Write>(
         × Appends (W.contents output.old) (W.contents output.new) text) }
     ensures refused { IfErr result (λ e. e ≢ Failure.Write →
         IsRefusal request query.now assignments.now e) }
+
+    // The refusal of a query is never out of memory.
+    ensures memory { IsErrOf result (Failure.Memory alloc_error) → IsTaken request query.now }
 
     // A refusal has written nothing.
     ensures unwritten { IfErr result (λ e. e ≢ Failure.Write → output.new ≡ output.old) }
