@@ -63,8 +63,8 @@ def values():
     tried.append(("identifier", f"\ndelimiter {SECRET}".encode()))
     for kind, value in tried:
         for given in sources(kind, value):
-            # A list of one whole number, a name, digits in pairs: the number is taken as these.
-            if (kind, value) not in itertools.product(["identifier"], several[3:]):
+            # The number is a name too.
+            if (kind, value) != ("identifier", several[3]):
                 yield with_query(["bind"], given)
     for given in sources("text", f"\ndelimiter {SECRET}".encode()):
         yield with_query(["bind", "--literals=plain", "--mode=no-backslash"], given)
@@ -80,7 +80,8 @@ def queries():
     several = [*sources("text", HOSTILE.encode()), Refusal(["--json", "given"], {"given": member})]
     for text, given in itertools.product(texts, several):
         yield with_query(["bind"], given, text)
-    for text, option, table in itertools.product(texts, ["--csv", "--tsv", "--ndjson"], [quoted, f"a\n{SECRET}\n".encode(), member]):
+    tables = [quoted, f"a\n{SECRET}\n".encode(), member]
+    for text, option, table in itertools.product(texts, ["--csv", "--tsv", "--ndjson"], tables):
         yield Refusal(["rows", option, "given", "q.sql"], {"q.sql": text, "given": table})
     for given, other in itertools.product(several, [["--null", "a"], ["--set", f"a={SECRET}"]]):
         yield with_query(["bind", *other], given)
@@ -90,9 +91,9 @@ def shapes():
     """A secret in JSON, in a table and in pairs that can't be read, or that have another form."""
     texts = [
         SECRET, f'"{SECRET}', f'"{SECRET}\x01"', f'"\\ud800{SECRET}"', f"1e{NUMBER}", f"0{NUMBER}", f"{NUMBER}{NUMBER}",
-        f"tru{SECRET}", f'{{"b": "{SECRET}"}}', f'[["{SECRET}"]]', f'"{SECRET}", "{SECRET}"', f'"{SECRET}", "a": "{SECRET}"',
+        f"tru{SECRET}", f'{{"b": "{SECRET}"}}', f'[["{SECRET}"]]', f'"{SECRET}", "a": "{SECRET}"',
     ]  # fmt: skip
-    whole = [f'["{SECRET}"]', f'"{SECRET}"', f'{{"a": 1}} {SECRET}']
+    whole = [f'["{SECRET}"]', f'"{SECRET}"', f'{{"a": 1}} {SECRET}', f'{{"a": "{SECRET}", "{SECRET}"}}']
     for text in [*(f'{{"a": {text}}}' for text in texts), *(f'{{"a": [1, {text}]}}' for text in texts), *whole]:
         yield with_query(["bind"], Refusal(["--json", "given"], {"given": text.encode()}))
         yield with_query(["bind"], Refusal(["--json", "-"], stdin=text.encode()))
@@ -142,7 +143,8 @@ def shown():
         (["bind", f"--{ODD}"], {}), (["bind", f"--{ODD}=x"], {}), (["bind", "--set", f"{ODD}=x", "q.sql"], {}),
         (["bind", "--file", f"{ODD}=q.sql", "q.sql"], {}), (["bind", "--env", f"{ODD}=NONE", "q.sql"], {}),
         (["bind", "--null", ODD, "q.sql"], {}), (["bind", "--file", f"a={ODD}", "q.sql"], {}), (["bind", ODD], {}),
-        (["bind", ODD], {ODD: b"SELECT :a"}), (["check", ODD, "none"], {ODD: b"SELECT ?, [x]"}), (["check", ODD], {ODD: b"\xff[\xff"}),
+        (["bind", ODD], {ODD: b"SELECT :a"}), (["check", ODD, "none"], {ODD: b"SELECT ?, [x]"}),
+        (["check", ODD], {ODD: b"\xff[\xff"}),
         (["bind", "--set=b=x", ODD], {ODD: b"SELECT 1"}), (["bind", "--json", ODD, "q.sql"], {ODD: b"["}),
         (["bind", "--json", "given", "q.sql"], {"given": member}), (["bind", "--json", ODD, "q.sql"], {ODD: beside}),
         (["bind", "--json", ODD, "q.sql"], {ODD: number}), (["bind", "--json", "given", "q.sql"], {"given": inner}),
