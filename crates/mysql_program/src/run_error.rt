@@ -10,7 +10,7 @@ use thiserror::Error;
 #[derive(Debug, PartialEq, Drop, Error)]
 pub enum RunError {
     /// The words ask for nothing that the program does. Nothing was read or written.
-    #[error("usage: names, or bind NAME=VALUE..")]
+    #[error("usage: names, or bind NAME=VALUE.. (writes the text, sends nothing)")]
     Usage,
     /// A name stands twice among the parameters. Nothing was read or written.
     #[error("Redefinition of named parameter `{}'", Shown(.0.as_slice()))]
