@@ -1,16 +1,15 @@
 //! All that is wrong with a query, of the kind for which it is refused.
 use crate::complaint::{Complaint, Fault, add_fault};
-use crate::matching::name_places;
-use crate::query_file::{JOINED, MARK, QueryFile, UNSTEADY, complaint_of, marks_of, place_of};
+use crate::query_file::{JOINED, MARK, PlacesInOrder, QueryFile, UNSTEADY, complaint_of, marks_of};
 use crate::rewritten::in_single_quotes;
 use crate::values::Values;
-use mysql_bind_core::{Assignment, Failure, Request, ValueType, bound_text};
-use mysql_binding::BindError;
+use mysql_bind_core::{Failure, Request};
+use mysql_binding::place_survey;
 use mysql_named_params::client::first_unportable_in_client;
+use mysql_named_params::places::first_place;
 use mysql_named_params::portable::{Construct, Unportable};
 use mysql_named_params::steady::first_unsteady;
 use mysql_named_params::tokens::first_token;
-use mysql_steady_text::SteadyTextError;
 use std::alloc::{AllocError, Global};
 
 /// Adds what is wrong with a query that is refused for this: all unsteady bytes, all constructs, or
@@ -25,7 +24,7 @@ pub fn add_all_faults(
     let mode = request.literals.no_backslash_escape();
     match failure {
         Failure::Unsteady { .. } => Ok(add_unsteady(faults, alloc, query)?),
-        Failure::Unportable(found) => Ok(add_constructs(faults, alloc, query, mode, found)?),
+        Failure::Unportable(_) => Ok(add_constructs(faults, alloc, query, mode)?),
         Failure::Marks => Ok(add_marks(faults, alloc, query, mode)?),
         failure => match complaint_of(alloc, query, &Values::new(alloc), request, failure)? {
             Complaint::Refused(found) => {
@@ -39,67 +38,51 @@ pub fn add_all_faults(
     }
 }
 
-/// Adds a fault for each name that doesn't stand alone in a query that is taken. Each further one
-/// is looked for as if spaces stood in the places of those before it.
+/// Adds a fault for each name that doesn't stand alone in a query that is taken. A name directly
+/// before one doesn't count for it, since that has a fault.
 pub fn add_joined(
     faults: &mut Vec<Fault>,
     alloc: Global,
     query: &QueryFile<'_>,
-    request: Request,
-) -> Result<(), Complaint> {
-    let mut text = Vec::from_slice(alloc, query.bytes.as_slice())?;
-    // Each turn makes a space of a byte.
-    for _ in 0..query.bytes.len() {
-        let Some(at) = first_joined(alloc, text.as_slice(), request)? else {
+    mode: bool,
+) -> Result<(), AllocError> {
+    let text = query.bytes.as_slice();
+    let mut places = PlacesInOrder::new(query);
+    let mut rest = text;
+    // Each name has a byte.
+    for _ in 0..text.len() {
+        let Some(found) = first_place(rest, mode) else {
             break;
         };
-        add_at(faults, alloc, query, at, JOINED)?;
-        if !blanked(
-            text.as_mut_slice(),
-            at,
-            request.literals.no_backslash_escape(),
-        ) {
-            break;
+        let (before, _, after) = found.cut(rest);
+        let end = rest.len().saturating_sub(after.len());
+        if is_joined(&rest[..end.saturating_add(1).min(rest.len())], mode) {
+            let at = text
+                .len()
+                .saturating_sub(rest.len())
+                .saturating_add(before.len());
+            add_at(faults, alloc, &mut places, at, JOINED)?;
         }
+        rest = after;
     }
     Ok(())
 }
 
-// The index of the first name that doesn't stand alone: with NULL for each name binding refuses a
-// query that is taken for nothing else.
-fn first_joined(alloc: Global, text: &[u8], request: Request) -> Result<Option<usize>, Complaint> {
-    let mut nulls = Vec::new(alloc);
-    for place in name_places(alloc, text, request.literals.no_backslash_escape())? {
-        let null = Assignment {
-            name: place.name,
-            value_type: ValueType::Null,
-            bytes: Vec::new(alloc),
-        };
-        if nulls.push(null).is_err() {
-            return Err(Complaint::Memory);
-        }
-    }
-    match bound_text(alloc, text, nulls.as_slice(), request) {
-        Err(Failure::Plain(BindError::NotAlone { at, .. }))
-        | Err(Failure::Steady(SteadyTextError::Bind(BindError::NotAlone { at, .. }))) => Ok(Some(
-            at,
-        )),
-        Err(Failure::Plain(BindError::Memory(_)))
-        | Err(Failure::Steady(SteadyTextError::Bind(BindError::Memory(_))))
-        | Err(Failure::Memory(_)) => Err(Complaint::Memory),
-        _ => Ok(None),
-    }
+// Whether the first name of a text, behind which at most one byte stands, doesn't stand alone.
+fn is_joined(text: &[u8], mode: bool) -> bool {
+    let (survey, _) = place_survey(text, &mut [], mode);
+    matches!(survey.not_alone, Some((0, _)))
 }
 
 // Adds a fault at a byte of the query.
 fn add_at(
     faults: &mut Vec<Fault>,
     alloc: Global,
-    query: &QueryFile<'_>,
+    places: &mut PlacesInOrder<'_>,
     at: usize,
     what: &str,
 ) -> Result<(), AllocError> {
-    let place = place_of(alloc, query, at)?;
+    let place = places.place_of(alloc, at)?;
     add_fault(faults, place, String::from_str(alloc, what)?)
 }
 
@@ -121,6 +104,7 @@ fn add_unsteady(
     query: &QueryFile<'_>,
 ) -> Result<(), AllocError> {
     let text = query.bytes.as_slice();
+    let mut places = PlacesInOrder::new(query);
     let mut rest = text;
     // Each run has a byte.
     for _ in 0..text.len() {
@@ -129,7 +113,7 @@ fn add_unsteady(
         };
         let before = before.min(rest.len());
         let at = text.len().saturating_sub(rest.len()).saturating_add(before);
-        add_at(faults, alloc, query, at, UNSTEADY)?;
+        add_at(faults, alloc, &mut places, at, UNSTEADY)?;
         let run = &rest[before..];
         rest = &run[unsteady_len(run).min(run.len())..];
     }
@@ -143,24 +127,11 @@ fn add_marks(
     query: &QueryFile<'_>,
     mode: bool,
 ) -> Result<(), AllocError> {
+    let mut places = PlacesInOrder::new(query);
     for at in marks_of(alloc, query.bytes.as_slice(), mode)? {
-        add_at(faults, alloc, query, at, MARK)?;
+        add_at(faults, alloc, &mut places, at, MARK)?;
     }
     Ok(())
-}
-
-// Makes spaces of the token at this index. Whether it was there.
-fn blanked(text: &mut [u8], at: usize, mode: bool) -> bool {
-    if at >= text.len() {
-        return false;
-    }
-    let (_, len) = first_token(&text[at..], mode);
-    let mut changed = false;
-    for byte in text.iter_mut().skip(at).take(len) {
-        changed = changed || *byte != b' ';
-        *byte = b' ';
-    }
-    changed
 }
 
 // What is said of a construct. Of a text in `"` also what to write instead of it, if that is short,
@@ -184,28 +155,79 @@ fn construct_told(
     format!(in alloc; "{}", found.construct)
 }
 
-// Adds a fault for each construct. Each further one is looked for as if spaces stood in the places
-// of those before it.
+// Whether a client takes this word for its own after a text without a construct.
+fn is_taken_after(alloc: Global, text: &[u8], word: &[u8], mode: bool) -> Result<bool, AllocError> {
+    let mut whole = Vec::from_slice(alloc, text)?;
+    whole.extend_from_slice(word)?;
+    let found = first_unportable_in_client(whole.as_slice(), mode);
+    Ok(matches!(found, Some(found) if found.at == text.len()))
+}
+
+// Two bytes behind which a client finds the constructs that it finds behind a text without one. They
+// depend only on whether a statement or a line may begin there, and each word tells one of these.
+fn same_front(alloc: Global, text: &[u8], mode: bool) -> Result<[u8; 2], AllocError> {
+    if is_taken_after(alloc, text, b"use ", mode)? {
+        Ok(*b"  ")
+    } else if is_taken_after(alloc, text, b"delimiter", mode)? {
+        Ok(*b")\n")
+    } else {
+        Ok(*b"))")
+    }
+}
+
+// Writes two bytes over the end of the token at this index of a text. They stand for it and for what
+// stands before it from `from` on: spaces in the place of the token, and no construct. Their index.
+fn passed(
+    alloc: Global,
+    text: &mut [u8],
+    from: usize,
+    at: usize,
+    mode: bool,
+) -> Result<usize, AllocError> {
+    let (before, token_on) = text.split_at(at.min(text.len()));
+    if token_on.is_empty() {
+        return Ok(text.len());
+    }
+    let (_, len) = first_token(token_on, mode);
+    let front = same_front(alloc, &before[from.min(before.len())..], mode)?;
+    let from = at.saturating_add(len).saturating_sub(2);
+    for i in 0..front.len() {
+        if let Some(byte) = text.get_mut(from.saturating_add(i)) {
+            *byte = front[i];
+        }
+    }
+    Ok(from)
+}
+
+// Adds a fault for each construct. Each further one is looked for behind the token at which the one
+// before it begins, as if spaces stood in the place of that token.
 fn add_constructs(
     faults: &mut Vec<Fault>,
     alloc: Global,
     query: &QueryFile<'_>,
     mode: bool,
-    first: Unportable,
 ) -> Result<(), AllocError> {
-    let mut text = Vec::from_slice(alloc, query.bytes.as_slice())?;
-    let mut found = first;
-    // Each turn makes a space of a byte.
+    let mut places = PlacesInOrder::new(query);
+    // Two bytes stand before the query, so that there is room for those that `passed` writes.
+    let mut text = Vec::from_slice(alloc, b"  ")?;
+    text.extend_from_slice(query.bytes.as_slice())?;
+    let mut from = 0usize;
+    // Each construct has a byte.
     for _ in 0..query.bytes.len() {
-        let what = construct_told(alloc, text.as_slice(), found, mode)?;
-        add_at(faults, alloc, query, found.at, what.as_str())?;
-        if !blanked(text.as_mut_slice(), found.at, mode) {
+        let rest = &text.as_slice()[from.min(text.len())..];
+        let Some(found) = first_unportable_in_client(rest, mode) else {
             break;
-        }
-        match first_unportable_in_client(text.as_slice(), mode) {
-            Some(next) => found = next,
-            None => break,
-        }
+        };
+        let at = from.saturating_add(found.at);
+        let what = construct_told(alloc, rest, found, mode)?;
+        add_at(
+            faults,
+            alloc,
+            &mut places,
+            at.saturating_sub(2),
+            what.as_str(),
+        )?;
+        from = passed(alloc, text.as_mut_slice(), from, at, mode)?;
     }
     Ok(())
 }

@@ -1,7 +1,7 @@
 //! What each command does.
 use crate::all_faults::{add_all_faults, add_joined};
 use crate::complaint::{Complaint, Fault, add_fault};
-use crate::matching::matched_values;
+use crate::matching::{is_new, matched_values};
 use crate::output::write_text;
 use crate::query_file::{QueryFile, complaint_of, read_query};
 use crate::requests::request_of;
@@ -13,6 +13,7 @@ use mysql_bind_core::{Failure, Request, bound_text, check_query, write_bound};
 use mysql_binding::ParsedQuery;
 use mysql_named_params::named_params::NamedParamsError;
 use std::alloc::{AllocError, Global};
+use std::collections::BTreeSet;
 
 /// Does what the words ask for.
 pub fn answer(rt: &HostRuntime, matches: &ArgMatches<'_>) -> Result<(), Complaint> {
@@ -83,10 +84,10 @@ fn write_answer(
 // Each name once, in the order of the first places, and the byte after it.
 fn names_text(alloc: Global, names: &[&[u8]], end: u8) -> Result<Vec<u8>, AllocError> {
     let mut text = Vec::new(alloc);
-    for i in 0..names.len() {
-        let name = names[i];
-        if !names[..i].iter().any(|other| *other == name) {
-            text.extend_from_slice(name)?;
+    let mut told = BTreeSet::new(alloc);
+    for name in names {
+        if is_new(&mut told, *name)? {
+            text.extend_from_slice(*name)?;
             text.push(end)?;
         }
     }
@@ -145,7 +146,12 @@ fn check_one(
         Err(complaint) => return Err(complaint),
     };
     match check_query(rt.alloc(), query.bytes.as_slice(), request) {
-        Ok(()) => add_joined(faults, rt.alloc(), &query, request)?,
+        Ok(()) => add_joined(
+            faults,
+            rt.alloc(),
+            &query,
+            request.literals.no_backslash_escape(),
+        )?,
         Err(failure) => add_all_faults(faults, rt.alloc(), &query, request, failure)?,
     }
     Ok(true)

@@ -2,7 +2,7 @@
 use crate::columns::{Wanted, add_fixed};
 use crate::complaint::{Complaint, Fault, Place, add_fault, bad_row};
 use crate::json_members::{Decimals, add_members};
-use crate::matching::{add_unused, is_assigned, is_name_of};
+use crate::matching::{add_unused, mark_assigned, place_numbers};
 use crate::script::Script;
 use crate::sources::unmarked;
 use crate::told::SourceName;
@@ -10,6 +10,7 @@ use crate::values::Values;
 use mysql_bind_core::Assignment;
 use mysql_values::show::Shown;
 use std::alloc::{AllocError, Global};
+use std::collections::BTreeMap;
 
 // What is said of an object, at its row.
 fn at_row(alloc: Global, wanted: &Wanted<'_>, line: u64, complaint: Complaint) -> Complaint {
@@ -28,26 +29,52 @@ fn row_place(alloc: Global, wanted: &Wanted<'_>, line: u64) -> Result<Place, All
     Ok(Place::Row { path, line })
 }
 
+// What the members of objects are held against.
+#[derive(Drop)]
+struct Members {
+    // The number of each place of the query by its name.
+    numbers: BTreeMap<Vec<u8>, usize>,
+    // Whether the name at each place has a value that is the same in each row.
+    fixed: Vec<bool>,
+    // How numbers are taken.
+    decimals: Decimals,
+}
+
+impl Members {
+    // Those that are wanted.
+    fn new(alloc: Global, wanted: &Wanted<'_>, decimals: Decimals) -> Result<Members, AllocError> {
+        let numbers = place_numbers(alloc, wanted.places.as_slice())?;
+        let mut fixed = vec![in alloc; false; wanted.places.len()]?;
+        let assignments = wanted.fixed.assignments.as_slice();
+        mark_assigned(fixed.as_mut_slice(), &numbers, assignments);
+        Ok(Members {
+            numbers,
+            fixed,
+            decimals,
+        })
+    }
+}
+
 // A fault for each name without a value in this row, and for each member without a name.
 fn row_faults(
     alloc: Global,
     wanted: &Wanted<'_>,
+    members: &Members,
     values: &Values,
     line: u64,
 ) -> Result<Vec<Fault>, AllocError> {
     let mut faults = Vec::new(alloc);
-    for place in wanted.places.as_slice() {
-        if !is_assigned(values.assignments.as_slice(), place.name.as_slice())
-            && !is_assigned(wanted.fixed.assignments.as_slice(), place.name.as_slice())
-        {
+    let mut marks = Vec::from_slice(alloc, members.fixed.as_slice())?;
+    let assignments = values.assignments.as_slice();
+    mark_assigned(marks.as_mut_slice(), &members.numbers, assignments);
+    for (place, is_assigned) in wanted.places.iter().zip(marks) {
+        if !is_assigned {
             let what = format!(in alloc; "no value for `:{}`", Shown(place.name.as_slice()))?;
             add_fault(&mut faults, row_place(alloc, wanted, line)?, what)?;
         }
     }
-    for assignment in values.assignments.as_slice() {
-        if !wanted.allow_unused
-            && !is_name_of(wanted.places.as_slice(), assignment.name.as_slice())
-        {
+    for assignment in assignments {
+        if !wanted.allow_unused && !members.numbers.contains_key(assignment.name.as_slice()) {
             let what = format!(in alloc;
                 "`{}`: {} has no such name (--allow-unused takes it)",
                 SourceName(assignment.name.as_slice()),
@@ -63,21 +90,28 @@ fn row_faults(
 fn object_assignments(
     alloc: Global,
     wanted: &Wanted<'_>,
+    members: &Members,
     line: u64,
     text: &[u8],
-    decimals: Decimals,
 ) -> Result<Vec<Assignment>, Complaint> {
     let mut values = Values::new(alloc);
-    if let Err(complaint) = add_members(&mut values, alloc, wanted.path.as_str(), text, decimals) {
+    let added = add_members(
+        &mut values,
+        alloc,
+        wanted.path.as_str(),
+        text,
+        members.decimals,
+    );
+    if let Err(complaint) = added {
         return Err(at_row(alloc, wanted, line, complaint));
     }
-    let faults = row_faults(alloc, wanted, &values, line)?;
+    let faults = row_faults(alloc, wanted, members, &values, line)?;
     if !faults.is_empty() {
         return Err(Complaint::Refused(faults));
     }
     let mut assignments = Vec::new(alloc);
     for assignment in values.assignments {
-        if is_name_of(wanted.places.as_slice(), assignment.name.as_slice())
+        if members.numbers.contains_key(assignment.name.as_slice())
             && assignments.push(assignment).is_err()
         {
             return Err(Complaint::Memory);
@@ -120,6 +154,7 @@ pub fn add_objects(
     bytes: &[u8],
 ) -> Result<(), Complaint> {
     check_fixed(rt.alloc(), &script.wanted)?;
+    let members = Members::new(rt.alloc(), &script.wanted, decimals)?;
     let mut rest = unmarked(bytes);
     let mut line = 1u64;
     // Each line has a byte.
@@ -132,7 +167,7 @@ pub fn add_objects(
             None => (rest, &rest[rest.len()..]),
         };
         if !text.iter().all(|byte| is_white_space(*byte)) {
-            let assignments = object_assignments(rt.alloc(), &script.wanted, line, text, decimals)?;
+            let assignments = object_assignments(rt.alloc(), &script.wanted, &members, line, text)?;
             script.add(rt, assignments, line)?;
         }
         line = line.saturating_add(1);

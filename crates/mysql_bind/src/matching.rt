@@ -1,11 +1,12 @@
 //! The names of a query without a value, and the values without a name in it.
 use crate::complaint::{Complaint, Fault, Place, add_fault};
-use crate::query_file::{QueryFile, place_of};
+use crate::query_file::{PlacesInOrder, QueryFile};
 use crate::values::{Values, origin_at};
 use mysql_bind_core::{Assignment, Request};
 use mysql_named_params::places::first_place;
 use mysql_values::show::Shown;
 use std::alloc::{AllocError, Global};
+use std::collections::{BTreeMap, BTreeSet};
 
 /// Whether a name has a value.
 pub fn is_assigned(assignments: &[Assignment], name: &[u8]) -> bool {
@@ -23,9 +24,49 @@ pub struct NamePlace {
     pub name: Vec<u8>,
 }
 
+/// Adds a name to a set. Whether it wasn't there.
+pub fn is_new<'n>(names: &mut BTreeSet<&'n [u8]>, name: &'n [u8]) -> Result<bool, AllocError> {
+    match names.insert(name) {
+        Ok(added) => Ok(added),
+        Err(_) => Err(AllocError),
+    }
+}
+
+/// The number of each place by its name.
+pub fn place_numbers(
+    alloc: Global,
+    places: &[NamePlace],
+) -> Result<BTreeMap<Vec<u8>, usize>, AllocError> {
+    let mut numbers = BTreeMap::new(alloc);
+    for (number, place) in places.iter().enumerate() {
+        let name = Vec::from_slice(alloc, place.name.as_slice())?;
+        if numbers.insert(name, number).is_err() {
+            return Err(AllocError);
+        }
+    }
+    Ok(numbers)
+}
+
+/// Sets the marks of the places whose names have a value among these.
+pub fn mark_assigned(
+    marks: &mut [bool],
+    numbers: &BTreeMap<Vec<u8>, usize>,
+    assignments: &[Assignment],
+) {
+    for assignment in assignments {
+        let number = numbers.get(assignment.name.as_slice());
+        if let Some(number) = number
+            && let Some(mark) = marks.get_mut(*number)
+        {
+            *mark = true;
+        }
+    }
+}
+
 /// The first place of each name of the query.
 pub fn name_places(alloc: Global, text: &[u8], mode: bool) -> Result<Vec<NamePlace>, AllocError> {
     let mut places: Vec<NamePlace> = Vec::new(alloc);
+    let mut names = BTreeSet::new(alloc);
     let mut rest = text;
     // Each place has a byte.
     for _ in 0..text.len() {
@@ -34,7 +75,7 @@ pub fn name_places(alloc: Global, text: &[u8], mode: bool) -> Result<Vec<NamePla
         };
         let (before, place, after) = found.cut(rest);
         let name = if place.is_empty() { place } else { &place[1..] };
-        if !is_name_of(places.as_slice(), name) {
+        if is_new(&mut names, name)? {
             let at = text
                 .len()
                 .saturating_sub(rest.len())
@@ -71,15 +112,20 @@ fn add_missing(
     places: &[NamePlace],
     values: &Values,
 ) -> Result<(), AllocError> {
-    for place in places {
-        if !is_assigned(values.assignments.as_slice(), place.name.as_slice()) {
+    let numbers = place_numbers(alloc, places)?;
+    let mut marks = vec![in alloc; false; places.len()]?;
+    let assignments = values.assignments.as_slice();
+    mark_assigned(marks.as_mut_slice(), &numbers, assignments);
+    let mut in_order = PlacesInOrder::new(query);
+    for (place, is_assigned) in places.iter().zip(marks) {
+        if !is_assigned {
             let hint = alphabet_hint(query.bytes.as_slice(), place);
             let what = format!(in alloc;
                 "no value for `:{}`{hint}: give it by --set, --file, --env, --null, --json or \
                  --pairs",
                 Shown(place.name.as_slice())
             )?;
-            add_fault(faults, place_of(alloc, query, place.at)?, what)?;
+            add_fault(faults, in_order.place_of(alloc, place.at)?, what)?;
         }
     }
     Ok(())
@@ -98,8 +144,9 @@ pub fn add_unused(
     places: &[NamePlace],
     values: &Values,
 ) -> Result<(), AllocError> {
+    let numbers = place_numbers(alloc, places)?;
     for i in 0..values.assignments.len() {
-        if !is_name_of(places, values.assignments[i].name.as_slice()) {
+        if !numbers.contains_key(values.assignments[i].name.as_slice()) {
             let origin = origin_at(values, i);
             let name = values.assignments[i].name.as_slice();
             let hint = if name.iter().all(|byte| is_of_names(*byte)) {
@@ -123,13 +170,14 @@ pub fn used_values(
     places: &[NamePlace],
     values: Values,
 ) -> Result<Values, AllocError> {
+    let numbers = place_numbers(alloc, places)?;
     let mut used = Values::new(alloc);
     let Values {
         assignments,
         origins,
     } = values;
     for (assignment, origin) in assignments.into_iter().zip(origins) {
-        if is_name_of(places, assignment.name.as_slice()) {
+        if numbers.contains_key(assignment.name.as_slice()) {
             used.add(
                 origin,
                 assignment.name,

@@ -42,6 +42,52 @@ pub fn place_of(alloc: Global, query: &QueryFile<'_>, at: usize) -> Result<Place
     Ok(Place::Line { path, line, column })
 }
 
+/// The places of bytes of a query that are asked for in their order. All together take one walk over
+/// the query.
+#[derive(Drop)]
+pub struct PlacesInOrder<'q> {
+    path: &'q str,
+    // The query from the last byte that was asked for on.
+    rest: &'q [u8],
+    // Where that byte is.
+    at: usize,
+    line: usize,
+    column: usize,
+}
+
+impl<'q> PlacesInOrder<'q> {
+    /// Before the first one.
+    pub fn new(query: &'q QueryFile<'_>) -> PlacesInOrder<'q> {
+        PlacesInOrder {
+            path: query.path,
+            rest: query.bytes.as_slice(),
+            at: 0,
+            line: 1,
+            column: 1,
+        }
+    }
+
+    /// The byte at this index, or the end. It doesn't stand before the last one.
+    pub fn place_of(&mut self, alloc: Global, at: usize) -> Result<Place, AllocError> {
+        let further = at.saturating_sub(self.at).min(self.rest.len());
+        let (line, column) = line_and_column(self.rest, further);
+        self.column = if line == 1 {
+            self.column.saturating_add(column.saturating_sub(1))
+        } else {
+            column
+        };
+        self.line = self.line.saturating_add(line.saturating_sub(1));
+        self.at = self.at.saturating_add(further);
+        self.rest = &self.rest[further..];
+        let path = String::from_str(alloc, self.path)?;
+        Ok(Place::Line {
+            path,
+            line: self.line,
+            column: self.column,
+        })
+    }
+}
+
 // A refusal at a byte of the query.
 fn refused_at(
     alloc: Global,
