@@ -1,8 +1,9 @@
-"""Inputs of any length for the program mysql_bind, of each kind that its time could depend on in another way than by the length.
-
-An input is the words of a call and what standard input is: the query of `check`, `bind` and `names`, and the table of `rows`.
-What else the words name is a file of the folder, among `FILES` of the input.
-"""
+"""Inputs of any length for the program mysql_bind: of each kind that may take it more time than another of that length."""
+import os
+import pathlib
+import subprocess
+import tempfile
+import time
 from dataclasses import dataclass, field
 
 PLAIN = ["--literals=plain", "--mode=backslash"]
@@ -10,7 +11,7 @@ PLAIN = ["--literals=plain", "--mode=backslash"]
 
 @dataclass
 class Input:
-    """A call: its words, standard input, and the texts of its files by name."""
+    """A call: its words, standard input, which is the query or the table of `rows`, and the texts of its files by name."""
 
     words: list
     stdin: bytes
@@ -51,6 +52,13 @@ def json_object(each, size):
     return b"{" + b",".join(b'"a%d":%s' % (n, each) for n in numbers(size)) + b"}\n"
 
 
+def changed_name(size):
+    """Different names, the value of one of which a client would change."""
+    pairs = [b"a%d:identifier=x\0" % n for n in numbers(size)]
+    return Input(["bind", *PLAIN, "--pairs", "pairs"], listed(size),
+                 {"pairs": b"".join(pairs)[:-1] + b"\ndelimiter\0"})
+
+
 def of_json(*words, query=listed, value=b"1"):
     return lambda size: Input(["bind", *words, "--json", "json"], query(size), {"json": json_object(value, size)})
 
@@ -65,12 +73,13 @@ def wide(form, rows, *words, query=listed, files=lambda size: {}):
     return lambda size: Input(["rows", *words, f"--{form}", "-", "query"], rows(size), {"query": query(size), **files(size)})
 
 
-def wide_csv(size, rows=1):
-    line = lambda each: b",".join(each(n) for n in numbers(size)) + b"\n"
-    return line(lambda n: b"a%d" % n) + line(lambda n: b"%d" % n) * rows
+def wide_csv(size, unit=b":a%d, "):
+    """The names of `listed`, and a row."""
+    names, fields = (b",".join(text % n for n in numbers(size, unit)) for text in (b"a%d", b"%d"))
+    return names + b"\n" + fields + b"\n"
 
 
-# The first of each command is one whose time is known to be in proportion to the length.
+# By command and kind. Each makes an input of about the length that it is given.
 INPUTS = {
     "check": {
         "statements without names": checked(b"; INSERT INTO t VALUES (%d, 'some text')"),
@@ -105,7 +114,7 @@ INPUTS = {
         "constructs, all servers' queries": checked(b"x:a%d [", "--allow-unportable"),
     },
     "bind": {
-        "one name again and again": bound(unit=b":a, "),
+        "one name again and again": lambda size: Input(["bind", "--set", "a=x"], listed(size, b":a, ")),
         "names": bound(),
         "names, plain literals": bound(*PLAIN),
         "names without a mode's check": bound("--allow-unportable"),
@@ -120,9 +129,7 @@ INPUTS = {
         "wrong values": bound(value=lambda n: b"a%d:int=x\0" % n),
         "values that stand twice": bound(value=lambda n: b"a%d=x\0a%d=y\0" % (n, n)),
         "joined names": bound(unit=b"x:a%d, "),
-        "names of which a client changes the last": lambda size: Input(
-            ["bind", *PLAIN, "--pairs", "pairs"], listed(size),
-            {"pairs": b"".join(b"a%d:identifier=x%s\0" % (n, b"\ndelimiter" * (n == numbers(size)[-1])) for n in numbers(size))}),
+        "a name that a client would change": changed_name,
         "one long text": lambda size: Input(["bind", "--file", "a=text"], b"SELECT :a\n", {"text": repeated(b"it's ", size)}),
     },
     "names": {
@@ -151,6 +158,28 @@ INPUTS = {
         "members and values by an option": wide("ndjson", lambda size: b"{}\n", "--json", "json",
                                                 files=lambda size: {"json": json_object(b"1", size)}),
         "wrong fields": written("--column", "a:int", "--csv", unit=b"x%d,y\n"),
-        "joined names": wide("csv", wide_csv, query=lambda size: listed(size, b"x:a%d, ")),
+        "joined names": wide("csv", lambda size: wide_csv(size, b"x:a%d, "), query=lambda size: listed(size, b"x:a%d, ")),
     },
 }
+
+
+def processor_time(program, made, bound):
+    """The seconds of the processor that a call takes: those of `bound`, if it doesn't end within them."""
+    with tempfile.TemporaryDirectory() as folder:
+        for name, text in made.files.items():
+            pathlib.Path(folder, name).write_bytes(text)
+        with tempfile.TemporaryFile() as stdin, tempfile.TemporaryFile() as written, tempfile.TemporaryFile() as told:
+            stdin.write(made.stdin)
+            stdin.seek(0)
+            ran = subprocess.Popen([program, *made.words], stdin=stdin, stdout=written, stderr=told, cwd=folder)
+            end = time.monotonic() + bound
+            while True:
+                pid, status, usage = os.wait4(ran.pid, os.WNOHANG)
+                if pid:
+                    ran.returncode = os.waitstatus_to_exitcode(status)
+                    return usage.ru_utime + usage.ru_stime
+                if time.monotonic() > end:
+                    ran.kill()
+                    ran.wait()
+                    return bound
+                time.sleep(0.001)

@@ -1,13 +1,14 @@
 //! The columns of a table, and what is said of wrong ones.
 use crate::complaint::{Complaint, Fault, Place, add_fault, bad_word};
-use crate::matching::{NamePlace, add_unused, is_assigned, is_name_of};
-use crate::query_file::{QueryFile, place_of};
+use crate::matching::{NamePlace, add_unused, assigned_names, is_new, note_value, note_values};
+use crate::query_file::{PlacesInOrder, QueryFile};
 use crate::told::SourceName;
 use crate::values::{TYPES, Values, type_of};
 use csv::ByteRecord;
 use mysql_bind_core::{Assignment, ValueType};
 use mysql_values::show::Shown;
 use std::alloc::{AllocError, Global};
+use std::collections::{BTreeMap, BTreeSet};
 
 /// A column of a table.
 #[derive(Drop)]
@@ -34,6 +35,8 @@ pub struct Wanted<'a> {
     pub query: QueryFile<'a>,
     /// Its names.
     pub places: Vec<NamePlace>,
+    /// The number of each place by its name.
+    pub numbers: BTreeMap<Vec<u8>, usize>,
     /// The values that are the same in each row.
     pub fixed: Values,
     /// What the words of `--column` give.
@@ -49,6 +52,7 @@ pub struct Wanted<'a> {
 /// The types that the words of `--column` give. A name that is given twice is refused.
 pub fn column_types(alloc: Global, words: &[&str]) -> Result<Vec<ColumnType>, Complaint> {
     let mut types: Vec<ColumnType> = Vec::new(alloc);
+    let mut names = BTreeSet::new(alloc);
     for word in words {
         let (name, type_word) = match word.split_once(':') {
             Some((name, type_word)) => (name, type_word),
@@ -58,10 +62,7 @@ pub fn column_types(alloc: Global, words: &[&str]) -> Result<Vec<ColumnType>, Co
             let what = format!(in alloc; "--column: write NAME:TYPE, with one of {TYPES}")?;
             return Err(bad_word(alloc, what.as_str()));
         };
-        if types
-            .iter()
-            .any(|other| other.name.as_slice() == name.as_bytes())
-        {
+        if !is_new(&mut names, name.as_bytes())? {
             let what = format!(in alloc; "--column {name} is given twice")?;
             return Err(bad_word(alloc, what.as_str()));
         }
@@ -73,14 +74,21 @@ pub fn column_types(alloc: Global, words: &[&str]) -> Result<Vec<ColumnType>, Co
     Ok(types)
 }
 
-// The type of the column with this name: text, unless a word says another.
-fn column_type(types: &[ColumnType], name: &[u8]) -> ValueType {
+// The types of columns by name.
+fn types_by_name<'t>(
+    alloc: Global,
+    types: &'t [ColumnType],
+) -> Result<BTreeMap<&'t [u8], ValueType>, AllocError> {
+    let mut by_name = BTreeMap::new(alloc);
     for found in types {
-        if found.name.as_slice() == name {
-            return found.value_type;
+        if by_name
+            .insert(found.name.as_slice(), found.value_type)
+            .is_err()
+        {
+            return Err(AllocError);
         }
     }
-    ValueType::Text
+    Ok(by_name)
 }
 
 // The columns that a header names.
@@ -89,23 +97,20 @@ fn named_columns(
     wanted: &Wanted<'_>,
     header: &ByteRecord,
 ) -> Result<Vec<Column>, AllocError> {
+    let types = types_by_name(alloc, wanted.types.as_slice())?;
     let mut columns = Vec::new(alloc);
     for field in header.iter() {
         let column = Column {
             name: Vec::from_slice(alloc, field)?,
-            value_type: column_type(wanted.types.as_slice(), field),
-            used: is_name_of(wanted.places.as_slice(), field),
+            // Text, unless a word says another type.
+            value_type: types.get(field).copied().unwrap_or(ValueType::Text),
+            used: wanted.numbers.contains_key(field),
         };
         if columns.push(column).is_err() {
             return Err(AllocError);
         }
     }
     Ok(columns)
-}
-
-// Whether one of the columns has this name.
-fn is_column(columns: &[Column], name: &[u8]) -> bool {
-    columns.iter().any(|column| column.name.as_slice() == name)
 }
 
 // The place of the header.
@@ -123,13 +128,15 @@ fn add_wrong_columns(
     columns: &[Column],
     line: u64,
 ) -> Result<(), AllocError> {
+    let fixed = assigned_names(alloc, wanted.fixed.assignments.as_slice())?;
+    let mut before = BTreeSet::new(alloc);
     for i in 0..columns.len() {
         let name = columns[i].name.as_slice();
         let number = i.saturating_add(1);
-        if is_column(&columns[..i], name) {
+        if !is_new(&mut before, name)? {
             let what = format!(in alloc; "column {number} has the name of one before it")?;
             add_fault(faults, header_place(alloc, wanted, line)?, what)?;
-        } else if is_assigned(wanted.fixed.assignments.as_slice(), name) {
+        } else if fixed.contains(name) {
             let what = format!(in alloc; "column {number} has a value by an option too")?;
             add_fault(faults, header_place(alloc, wanted, line)?, what)?;
         } else if !columns[i].used && !wanted.allow_unused {
@@ -150,10 +157,16 @@ fn add_missing_columns(
     wanted: &Wanted<'_>,
     columns: &[Column],
 ) -> Result<(), AllocError> {
-    for place in wanted.places.as_slice() {
-        if is_column(columns, place.name.as_slice())
-            || is_assigned(wanted.fixed.assignments.as_slice(), place.name.as_slice())
-        {
+    let mut assigned = vec![in alloc; false; wanted.places.len()]?;
+    let fixed = wanted.fixed.assignments.as_slice();
+    note_values(assigned.as_mut_slice(), &wanted.numbers, fixed);
+    for column in columns {
+        let name = column.name.as_slice();
+        note_value(assigned.as_mut_slice(), &wanted.numbers, name);
+    }
+    let mut in_order = PlacesInOrder::new(&wanted.query);
+    for (place, has_value) in wanted.places.iter().zip(assigned) {
+        if has_value {
             continue;
         }
         let what = format!(in alloc;
@@ -162,7 +175,7 @@ fn add_missing_columns(
             Shown(place.name.as_slice()),
             wanted.path.as_str()
         )?;
-        add_fault(faults, place_of(alloc, &wanted.query, place.at)?, what)?;
+        add_fault(faults, in_order.place_of(alloc, place.at)?, what)?;
     }
     Ok(())
 }
@@ -174,9 +187,13 @@ fn add_untyped(
     wanted: &Wanted<'_>,
     columns: &[Column],
 ) -> Result<(), AllocError> {
+    let mut names = BTreeSet::new(alloc);
+    for column in columns {
+        is_new(&mut names, column.name.as_slice())?;
+    }
     for found in wanted.types.as_slice() {
         let name = found.name.as_slice();
-        if !is_column(columns, name) {
+        if !names.contains(name) {
             let what = format!(in alloc;
                 "--column {}: {} has no such column",
                 SourceName(name),
@@ -205,7 +222,7 @@ pub fn columns_of(
             &mut faults,
             alloc,
             &wanted.query,
-            wanted.places.as_slice(),
+            &wanted.numbers,
             &wanted.fixed,
         )?;
     }
@@ -223,7 +240,7 @@ pub fn add_fixed(
     wanted: &Wanted<'_>,
 ) -> Result<(), AllocError> {
     for fixed in wanted.fixed.assignments.as_slice() {
-        if !is_name_of(wanted.places.as_slice(), fixed.name.as_slice()) {
+        if !wanted.numbers.contains_key(fixed.name.as_slice()) {
             continue;
         }
         let assignment = Assignment {

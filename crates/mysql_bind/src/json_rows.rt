@@ -2,7 +2,7 @@
 use crate::columns::{Wanted, add_fixed};
 use crate::complaint::{Complaint, Fault, Place, add_fault, bad_row};
 use crate::json_members::{Decimals, add_members};
-use crate::matching::{add_unused, mark_assigned, place_numbers};
+use crate::matching::{add_unused, note_values};
 use crate::script::Script;
 use crate::sources::unmarked;
 use crate::told::SourceName;
@@ -10,7 +10,6 @@ use crate::values::Values;
 use mysql_bind_core::Assignment;
 use mysql_values::show::Shown;
 use std::alloc::{AllocError, Global};
-use std::collections::BTreeMap;
 
 // What is said of an object, at its row.
 fn at_row(alloc: Global, wanted: &Wanted<'_>, line: u64, complaint: Complaint) -> Complaint {
@@ -32,8 +31,6 @@ fn row_place(alloc: Global, wanted: &Wanted<'_>, line: u64) -> Result<Place, All
 // What the members of objects are held against.
 #[derive(Drop)]
 struct Members {
-    // The number of each place of the query by its name.
-    numbers: BTreeMap<Vec<u8>, usize>,
     // Whether the name at each place has a value that is the same in each row.
     fixed: Vec<bool>,
     // How numbers are taken.
@@ -43,15 +40,10 @@ struct Members {
 impl Members {
     // Those that are wanted.
     fn new(alloc: Global, wanted: &Wanted<'_>, decimals: Decimals) -> Result<Members, AllocError> {
-        let numbers = place_numbers(alloc, wanted.places.as_slice())?;
         let mut fixed = vec![in alloc; false; wanted.places.len()]?;
         let assignments = wanted.fixed.assignments.as_slice();
-        mark_assigned(fixed.as_mut_slice(), &numbers, assignments);
-        Ok(Members {
-            numbers,
-            fixed,
-            decimals,
-        })
+        note_values(fixed.as_mut_slice(), &wanted.numbers, assignments);
+        Ok(Members { fixed, decimals })
     }
 }
 
@@ -64,17 +56,17 @@ fn row_faults(
     line: u64,
 ) -> Result<Vec<Fault>, AllocError> {
     let mut faults = Vec::new(alloc);
-    let mut marks = Vec::from_slice(alloc, members.fixed.as_slice())?;
+    let mut assigned = Vec::from_slice(alloc, members.fixed.as_slice())?;
     let assignments = values.assignments.as_slice();
-    mark_assigned(marks.as_mut_slice(), &members.numbers, assignments);
-    for (place, is_assigned) in wanted.places.iter().zip(marks) {
-        if !is_assigned {
+    note_values(assigned.as_mut_slice(), &wanted.numbers, assignments);
+    for (place, has_value) in wanted.places.iter().zip(assigned) {
+        if !has_value {
             let what = format!(in alloc; "no value for `:{}`", Shown(place.name.as_slice()))?;
             add_fault(&mut faults, row_place(alloc, wanted, line)?, what)?;
         }
     }
     for assignment in assignments {
-        if !wanted.allow_unused && !members.numbers.contains_key(assignment.name.as_slice()) {
+        if !wanted.allow_unused && !wanted.numbers.contains_key(assignment.name.as_slice()) {
             let what = format!(in alloc;
                 "`{}`: {} has no such name (--allow-unused takes it)",
                 SourceName(assignment.name.as_slice()),
@@ -111,7 +103,7 @@ fn object_assignments(
     }
     let mut assignments = Vec::new(alloc);
     for assignment in values.assignments {
-        if members.numbers.contains_key(assignment.name.as_slice())
+        if wanted.numbers.contains_key(assignment.name.as_slice())
             && assignments.push(assignment).is_err()
         {
             return Err(Complaint::Memory);
@@ -129,7 +121,7 @@ fn check_fixed(alloc: Global, wanted: &Wanted<'_>) -> Result<(), Complaint> {
             &mut faults,
             alloc,
             &wanted.query,
-            wanted.places.as_slice(),
+            &wanted.numbers,
             &wanted.fixed,
         )?;
     }

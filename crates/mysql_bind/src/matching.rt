@@ -8,13 +8,6 @@ use mysql_values::show::Shown;
 use std::alloc::{AllocError, Global};
 use std::collections::{BTreeMap, BTreeSet};
 
-/// Whether a name has a value.
-pub fn is_assigned(assignments: &[Assignment], name: &[u8]) -> bool {
-    assignments
-        .iter()
-        .any(|assignment| assignment.name.as_slice() == name)
-}
-
 /// A name of the query, and where it stands.
 #[derive(Drop)]
 pub struct NamePlace {
@@ -47,20 +40,36 @@ pub fn place_numbers(
     Ok(numbers)
 }
 
-/// Sets the marks of the places whose names have a value among these.
-pub fn mark_assigned(
-    marks: &mut [bool],
+/// Notes that this name has a value, by the number of its place, if it has one.
+pub fn note_value(assigned: &mut [bool], numbers: &BTreeMap<Vec<u8>, usize>, name: &[u8]) {
+    if let Some(number) = numbers.get(name)
+        && let Some(has_value) = assigned.get_mut(*number)
+    {
+        *has_value = true;
+    }
+}
+
+/// Notes that these names have values.
+pub fn note_values(
+    assigned: &mut [bool],
     numbers: &BTreeMap<Vec<u8>, usize>,
     assignments: &[Assignment],
 ) {
     for assignment in assignments {
-        let number = numbers.get(assignment.name.as_slice());
-        if let Some(number) = number
-            && let Some(mark) = marks.get_mut(*number)
-        {
-            *mark = true;
-        }
+        note_value(assigned, numbers, assignment.name.as_slice());
     }
+}
+
+/// The names that have a value.
+pub fn assigned_names<'n>(
+    alloc: Global,
+    assignments: &'n [Assignment],
+) -> Result<BTreeSet<&'n [u8]>, AllocError> {
+    let mut names = BTreeSet::new(alloc);
+    for assignment in assignments {
+        is_new(&mut names, assignment.name.as_slice())?;
+    }
+    Ok(names)
 }
 
 /// The first place of each name of the query.
@@ -104,21 +113,17 @@ fn alphabet_hint(text: &[u8], place: &NamePlace) -> &'static str {
     }
 }
 
-// A fault for each name without a value, at its first place.
+// A fault for each name without a value, at its first place. `assigned` tells which have one.
 fn add_missing(
     faults: &mut Vec<Fault>,
     alloc: Global,
     query: &QueryFile<'_>,
     places: &[NamePlace],
-    values: &Values,
+    assigned: Vec<bool>,
 ) -> Result<(), AllocError> {
-    let numbers = place_numbers(alloc, places)?;
-    let mut marks = vec![in alloc; false; places.len()]?;
-    let assignments = values.assignments.as_slice();
-    mark_assigned(marks.as_mut_slice(), &numbers, assignments);
     let mut in_order = PlacesInOrder::new(query);
-    for (place, is_assigned) in places.iter().zip(marks) {
-        if !is_assigned {
+    for (place, has_value) in places.iter().zip(assigned) {
+        if !has_value {
             let hint = alphabet_hint(query.bytes.as_slice(), place);
             let what = format!(in alloc;
                 "no value for `:{}`{hint}: give it by --set, --file, --env, --null, --json or \
@@ -131,20 +136,14 @@ fn add_missing(
     Ok(())
 }
 
-/// Whether the query has a name.
-pub fn is_name_of(places: &[NamePlace], name: &[u8]) -> bool {
-    places.iter().any(|place| place.name.as_slice() == name)
-}
-
 /// Adds a fault for each value without a name in the query.
 pub fn add_unused(
     faults: &mut Vec<Fault>,
     alloc: Global,
     query: &QueryFile<'_>,
-    places: &[NamePlace],
+    numbers: &BTreeMap<Vec<u8>, usize>,
     values: &Values,
 ) -> Result<(), AllocError> {
-    let numbers = place_numbers(alloc, places)?;
     for i in 0..values.assignments.len() {
         if !numbers.contains_key(values.assignments[i].name.as_slice()) {
             let origin = origin_at(values, i);
@@ -167,10 +166,9 @@ pub fn add_unused(
 /// The values whose names the query has.
 pub fn used_values(
     alloc: Global,
-    places: &[NamePlace],
+    numbers: &BTreeMap<Vec<u8>, usize>,
     values: Values,
 ) -> Result<Values, AllocError> {
-    let numbers = place_numbers(alloc, places)?;
     let mut used = Values::new(alloc);
     let Values {
         assignments,
@@ -200,16 +198,23 @@ pub fn matched_values(
 ) -> Result<Values, Complaint> {
     let mode = request.literals.no_backslash_escape();
     let places = name_places(alloc, query.bytes.as_slice(), mode)?;
+    let numbers = place_numbers(alloc, places.as_slice())?;
+    let mut assigned = vec![in alloc; false; places.len()]?;
+    note_values(
+        assigned.as_mut_slice(),
+        &numbers,
+        values.assignments.as_slice(),
+    );
     let mut faults = Vec::new(alloc);
-    add_missing(&mut faults, alloc, query, places.as_slice(), &values)?;
+    add_missing(&mut faults, alloc, query, places.as_slice(), assigned)?;
     if !allow_unused {
-        add_unused(&mut faults, alloc, query, places.as_slice(), &values)?;
+        add_unused(&mut faults, alloc, query, &numbers, &values)?;
     }
     if !faults.is_empty() {
         return Err(Complaint::Refused(faults));
     }
     if allow_unused {
-        return Ok(used_values(alloc, places.as_slice(), values)?);
+        return Ok(used_values(alloc, &numbers, values)?);
     }
     Ok(values)
 }

@@ -34,8 +34,8 @@ pub fn read_query<'a>(
     })
 }
 
-/// A byte of the query, or its end.
-pub fn place_of(alloc: Global, query: &QueryFile<'_>, at: usize) -> Result<Place, AllocError> {
+// A byte of the query, or its end.
+fn place_of(alloc: Global, query: &QueryFile<'_>, at: usize) -> Result<Place, AllocError> {
     let path = String::from_str(alloc, query.path)?;
     let text = query.bytes.as_slice();
     let (line, column) = line_and_column(text, at.min(text.len()));

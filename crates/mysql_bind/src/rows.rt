@@ -3,7 +3,7 @@ use crate::columns::{Wanted, column_types};
 use crate::complaint::{Complaint, bad_word};
 use crate::json_members::Decimals;
 use crate::json_rows::add_objects;
-use crate::matching::name_places;
+use crate::matching::{name_places, place_numbers};
 use crate::query_file::{QueryFile, complaint_of, read_query};
 use crate::records::add_records;
 use crate::requests::request_of;
@@ -73,9 +73,11 @@ fn empty_script<'a>(
 ) -> Result<Script<'a>, Complaint> {
     let mode = request.literals.no_backslash_escape();
     let places = name_places(alloc, query.bytes.as_slice(), mode)?;
+    let numbers = place_numbers(alloc, places.as_slice())?;
     let wanted = Wanted {
         query,
         places,
+        numbers,
         fixed,
         types: column_types(alloc, matches.get_strs("column").unwrap_or(&[]))?,
         null_text: null_text_of(alloc, matches)?,
