@@ -163,8 +163,8 @@ fn is_taken_after(alloc: Global, text: &[u8], word: &[u8], mode: bool) -> Result
     Ok(matches!(found, Some(found) if found.at == text.len()))
 }
 
-// Two bytes behind which a client finds the constructs that it finds behind a text without one. They
-// depend only on whether a statement or a line may begin there, and each word tells one of these.
+// Two bytes behind which a client finds what it finds behind a text without a construct: that
+// depends only on whether a statement or a line may begin there, and each word tells one of these.
 fn same_front(alloc: Global, text: &[u8], mode: bool) -> Result<[u8; 2], AllocError> {
     if is_taken_after(alloc, text, b"use ", mode)? {
         Ok(*b"  ")
@@ -175,8 +175,8 @@ fn same_front(alloc: Global, text: &[u8], mode: bool) -> Result<[u8; 2], AllocEr
     }
 }
 
-// Writes two bytes over the end of the token at this index of a text. They stand for it and for what
-// stands before it from `from` on: spaces in the place of the token, and no construct. Their index.
+// Writes two bytes over the end of the token at this index of a text, and gives their index. They
+// stand for spaces in the place of the token, behind what stands before it from `from` on.
 fn passed(
     alloc: Global,
     text: &mut [u8],

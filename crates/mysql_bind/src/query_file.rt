@@ -42,8 +42,7 @@ fn place_of(alloc: Global, query: &QueryFile<'_>, at: usize) -> Result<Place, Al
     Ok(Place::Line { path, line, column })
 }
 
-/// The places of bytes of a query that are asked for in their order. All together take one walk over
-/// the query.
+/// The places of bytes of a query that are asked for in their order. All take one walk over it.
 #[derive(Drop)]
 pub struct PlacesInOrder<'q> {
     path: &'q str,
