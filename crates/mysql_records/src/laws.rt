@@ -1,0 +1,22 @@
+//! Laws of the definitions that the contracts cite. They do nothing: each is called for what it
+//! ensures.
+ghost use Rattle.std.specs.Prelude.{◌≡◌, ℕ, List, ◌++◌, Option};
+ghost use Rattle.mysql_records.specs.Records.{BeginsWithRecord, IsTable};
+ghost use Rattle.mysql_records.specs.WrittenRecords.{IsWritableTable, written_table};
+ghost use Rattle.mysql_records.specs.declared.format.RecordFormat.{RecordFormat};
+
+/// A text is one table at most.
+pub fn tables_are_unambiguous()
+    ensures records { (format : RecordFormat) (text : List ℕ) (fields others : List (Option (List ℕ)))
+        (rest more : List ℕ) → BeginsWithRecord format text fields rest →
+        BeginsWithRecord format text others more → (fields ≡ others) × (rest ≡ more) }
+    ensures tables { (format : RecordFormat) (rows others : List (List (Option (List ℕ))))
+        (text : List ℕ) → IsTable format rows text → IsTable format others text →
+        rows ≡ others }
+{}
+
+/// A table whose records each have a field reads as it was written.
+pub fn written_tables_are_read()
+    ensures table { (format : RecordFormat) (rows : List (List (Option (List ℕ)))) →
+        IsWritableTable format rows → IsTable format rows (written_table format rows) }
+{}
