@@ -1,3 +1,4 @@
 pub mod Formats
 pub mod Records
+pub mod Fields
 pub mod WrittenRecords

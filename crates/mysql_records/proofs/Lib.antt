@@ -1,0 +1,3 @@
+pub mod PieceLemmas
+pub mod FieldLemmas
+pub mod RecordLemmas
