@@ -1,3 +1,4 @@
 pub mod PieceLemmas
 pub mod FieldLemmas
 pub mod RecordLemmas
+pub mod WrittenLemmas

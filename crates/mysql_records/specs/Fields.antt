@@ -1,8 +1,14 @@
--- What is read at the front of a text in one step: pieces, and a field. Private contracts cite this;
--- the public ones cite Records alone.
-use Rattle.std.specs.Prelude.{◌≡◌, ◌≢◌, ℕ, Bool, List, [], ◌∷◌, ◌++◌, Option}
-use Rattle.mysql_records.specs.Formats.{separator}
+-- What is read at the front of a text in one step: pieces, a field, what follows a field. Private
+-- contracts cite this; the public ones cite Records and Faults only.
+use Rattle.std.specs.Prelude.{◌≡◌, ◌≢◌, ℕ, Bool, IsTrue, List, [], ◌∷◌, ◌++◌, Option, ⊤}
+use Rattle.mysql_records.specs.Formats.{is_special, separator}
 use Rattle.mysql_records.specs.Records.{IsPiece, IsPieces, IsField, EndsRecord}
+use Rattle.mysql_records.specs.Faults.{IsFaultAt}
+use Rattle.mysql_records.specs.declared.fault.FaultKind.{FaultKind}
+use Rattle.mysql_records.specs.declared.fields.FieldEnd.{FieldEnd}
+use Rattle.mysql_records.specs.declared.fields.FieldEnd.TheVariants.{Separator, Record}
+use Rattle.mysql_records.specs.declared.fields.FieldError.{FieldError}
+use Rattle.mysql_records.specs.declared.fields.FieldError.TheVariants.{Fault, Memory}
 use Rattle.mysql_records.specs.declared.format.RecordFormat.{RecordFormat}
 
 -- the text begins with no piece
@@ -30,3 +36,26 @@ pub record BeginsWithField (format : RecordFormat) (text : List ℕ) (field : Op
   pub whole : text ≡ front ++ rest
   pub is_field : IsField format field front
   pub ends : EndsField format rest
+
+-- the first byte of the text, if it has one, is special
+abbrev pub BeginsSpecial : RecordFormat → Bool → List ℕ → Type 0
+BeginsSpecial format quoted [] = ⊤
+BeginsSpecial format quoted (b ∷ text) = IsTrue (is_special format quoted b)
+
+-- what follows a field: a separator and this rest, or what ends a record and this rest
+abbrev pub IsFieldEnd : RecordFormat → List ℕ → FieldEnd → Type 0
+IsFieldEnd format text (Separator rest) = text ≡ separator format ∷ rest.now
+IsFieldEnd format text (Record rest) = EndsRecord format text rest.now
+
+-- a part of the text from a byte on is no field's, and the text begins with no field
+pub record IsFaultyField (format : RecordFormat) (text : List ℕ) (kind : FaultKind)
+    (back : List ℕ) : Type 0 where
+  pub none : (field : Option (List ℕ)) (rest : List ℕ) → BeginsWithField format text field rest → ⊥
+  pub front : List ℕ
+  pub whole : text ≡ front ++ back
+  pub stands : IsFaultAt format kind back
+
+-- a fault for what the text has; nothing is said of out of memory
+abbrev pub IsFieldRefusal : RecordFormat → List ℕ → FieldError → Type 0
+IsFieldRefusal format text (Fault kind back) = IsFaultyField format text kind back.now
+IsFieldRefusal format text (Memory error) = ⊤

@@ -1,4 +1,6 @@
 pub mod Formats
 pub mod Records
-pub mod Fields
 pub mod WrittenRecords
+pub mod Faults
+pub mod Seen
+pub mod Fields

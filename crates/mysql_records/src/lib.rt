@@ -1,7 +1,13 @@
 //! Records of text: CSV, TSV, and what MySQL servers and clients write.
 #![tactic(auto)]
 
+mod fault;
+mod fields;
 mod format;
 pub mod laws;
+mod pieces;
+mod record;
 
+pub use fault::{Fault, FaultKind, RecordError};
 pub use format::RecordFormat;
+pub use record::{Field, Record, first_record};

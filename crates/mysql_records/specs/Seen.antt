@@ -1,0 +1,13 @@
+-- The code's values without where they lie in memory.
+use Rattle.std.specs.Prelude.{ℕ, List, map, Option, Some, None}
+use Rattle.mysql_records.specs.declared.record.Field.{Field}
+use Rattle.mysql_records.specs.declared.record.Field.TheVariants.{Null, Bytes}
+
+-- a field: its bytes, or none where it is NULL
+abbrev pub field_seen : Field → Option (List ℕ)
+field_seen Null = None
+field_seen (Bytes bytes) = Some bytes.items
+
+-- the fields of a record
+abbrev pub fields_seen : List Field → List (Option (List ℕ))
+fields_seen = map field_seen

@@ -1,0 +1,35 @@
+//! Why no record is read.
+use std::alloc::AllocError;
+
+/// What stands in a text where no record has it.
+#[derive(Debug, Clone, Copy, PartialEq, Eq)]
+pub enum FaultKind {
+    /// A carriage return outside of quotes before no newline, in CSV and TSV.
+    StrayReturn,
+    /// A quote within a field without quotes.
+    StrayQuote,
+    /// The quote before a field, and none ends the field.
+    OpenQuote,
+    /// What follows the quote that ends a field: neither a separator nor a line end.
+    BehindQuote,
+    /// A backslash before no byte that makes an escape with it.
+    UnknownEscape,
+}
+
+/// The first place of a text at which no record can go on.
+#[derive(Debug, Clone, Copy, PartialEq, Eq)]
+pub struct Fault {
+    /// The index of the byte.
+    pub at: usize,
+    /// What stands there.
+    pub kind: FaultKind,
+}
+
+/// Why no record is read.
+#[derive(Debug, PartialEq, Drop)]
+pub enum RecordError {
+    /// The text doesn't begin with a record.
+    Fault(Fault),
+    /// Out of memory. It may come in place of a fault.
+    Memory(AllocError),
+}

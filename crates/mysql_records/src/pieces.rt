@@ -1,0 +1,125 @@
+//! The bytes of a field as they stand in a text.
+ghost use Rattle.std.specs.Prelude.{◌≡◌, ℕ, ◌<◌, ◌≤◌, IfOk, IfSome, IfNone, IsFalse, IsTrue, ◌++◌, List, length, slice_index, take};
+ghost use Rattle.std.specs.List.{list_any};
+ghost use Rattle.mysql_records.specs.Formats.{doubles_quotes, escape_value, has_escapes, is_special};
+ghost use Rattle.mysql_records.specs.Records.{IsPiece};
+ghost use Rattle.mysql_records.specs.Fields.{BeginsSpecial, BeginsWithPieces, StartsNoPiece};
+
+use crate::format::RecordFormat;
+use std::alloc::{AllocError, Global};
+
+// The bytes of the longest row of pieces at the front of a text, and the text behind it.
+pub(crate) fn pieces<'a>(
+    alloc: Global,
+    format: RecordFormat,
+    quoted: bool,
+    text: &'a [u8],
+) -> Result<(Vec<u8>, &'a [u8]), AllocError>
+    ensures { IfOk result (λ read.
+        BeginsWithPieces format quoted text.now read.0.items read.1.now) }
+{
+    let mut bytes = Vec::new(alloc);
+    let mut rest = text;
+    'pieces: loop {
+        let len = raw_len(format, quoted, rest);
+        bytes.extend_from_slice(&rest[..len])?;
+        rest = &rest[len..];
+        match pair(format, quoted, rest) {
+            Some((byte, behind)) => {
+                if bytes.push(byte).is_err() {
+                    return Err(AllocError);
+                }
+                rest = behind;
+            }
+            None => return Ok((bytes, rest)),
+        }
+    }
+}
+
+// How many bytes at the front of a text stand for themselves.
+fn raw_len(format: RecordFormat, quoted: bool, text: &[u8]) -> usize
+    ensures within { result ≤ length text.now }
+    ensures raw { IsFalse (list_any (is_special format quoted) (take result text.now)) }
+    ensures special { result < length text.now →
+        IsTrue (is_special format quoted (slice_index text.now result)) }
+{
+    for (i, byte) in text.iter().enumerate() {
+        if is_special(format, quoted, *byte) {
+            return i;
+        }
+    }
+    text.len()
+}
+
+// The byte that two bytes at the front of a text stand for, and the text behind them.
+fn pair<'a>(format: RecordFormat, quoted: bool, text: &'a [u8]) -> Option<(u8, &'a [u8])>
+    requires { BeginsSpecial format quoted text.now }
+    ensures some { IfSome result (λ read. (piece : List ℕ) × IsPiece format quoted read.0 piece
+        × (text.now ≡ piece ++ read.1.now)) }
+    ensures shorter { IfSome result (λ read. length read.1.now < length text.now) }
+    ensures none { IfNone result (StartsNoPiece format quoted text.now) }
+{
+    let [first, second, rest @ ..] = text else {
+        return None;
+    };
+    if *first == b'"' && *second == b'"' && doubles_quotes(format, quoted) {
+        return Some((b'"', rest));
+    }
+    if *first == b'\\' && has_escapes(format) {
+        return match escape_value(*second) {
+            Some(byte) => Some((byte, rest)),
+            None => None,
+        };
+    }
+    None
+}
+
+// Whether a byte doesn't stand for itself in a field.
+fn is_special(format: RecordFormat, quoted: bool, byte: u8) -> bool
+    ensures { result ≡ is_special format quoted byte }
+{
+    match format {
+        RecordFormat::Csv if quoted => byte == b'"',
+        RecordFormat::Csv => byte == b'"' || byte == b',' || byte == b'\r' || byte == b'\n',
+        RecordFormat::Tsv => byte == b'\t' || byte == b'\r' || byte == b'\n',
+        RecordFormat::MysqlCsv if quoted => byte == b'"' || byte == b'\\',
+        RecordFormat::MysqlCsv => byte == b'"' || byte == b'\\' || byte == b',' || byte == b'\n',
+        RecordFormat::MysqlTsv => byte == b'\\' || byte == b'\t' || byte == b'\n',
+    }
+}
+
+// Whether two quotes stand for one in a field.
+fn doubles_quotes(format: RecordFormat, quoted: bool) -> bool
+    ensures { result ≡ doubles_quotes format quoted }
+{
+    match format {
+        RecordFormat::Csv => quoted,
+        RecordFormat::Tsv | RecordFormat::MysqlCsv | RecordFormat::MysqlTsv => false,
+    }
+}
+
+// Whether a backslash escapes the byte behind it.
+pub(crate) fn has_escapes(format: RecordFormat) -> bool
+    ensures { result ≡ has_escapes format }
+{
+    match format {
+        RecordFormat::Csv | RecordFormat::Tsv => false,
+        RecordFormat::MysqlCsv | RecordFormat::MysqlTsv => true,
+    }
+}
+
+// The byte that a backslash and this byte stand for.
+fn escape_value(byte: u8) -> Option<u8>
+    ensures { result ≡ escape_value byte }
+{
+    match byte {
+        b'0' => Some(0),
+        b'b' => Some(8),
+        b'n' => Some(b'\n'),
+        b'r' => Some(b'\r'),
+        b't' => Some(b'\t'),
+        b'Z' => Some(26),
+        b'\\' | b'"' | b'\'' | b',' | b'\t' | b'\r' | b'\n' => Some(byte),
+        _ => None,
+    }
+}

@@ -1,0 +1,65 @@
+//! A record at the front of a text.
+ghost use Rattle.std.specs.Prelude.{◌≡◌, IfErr, IfOk, IfSome, IsNone, ◌↔◌, [], MatchOption};
+ghost use Rattle.mysql_records.specs.Faults.{IsRefusal};
+ghost use Rattle.mysql_records.specs.Records.{BeginsWithRecord};
+ghost use Rattle.mysql_records.specs.Seen.{fields_seen};
+
+use crate::fault::{Fault, RecordError};
+use crate::fields::{FieldEnd, FieldError, field_end, first_field};
+use crate::format::RecordFormat;
+use std::alloc::{AllocError, Global};
+
+/// A field of a record.
+#[derive(Debug, PartialEq, Drop)]
+pub enum Field {
+    /// `\N` without quotes, in the MySQL formats.
+    Null,
+    /// Its bytes, without quotes and escapes.
+    Bytes(Vec<u8>),
+}
+
+/// A record, and the text behind it.
+#[derive(Debug, Drop)]
+pub struct Record<'a> {
+    /// Its fields, one at least.
+    pub fields: Vec<Field>,
+    /// The text behind its line end, in which the next record stands.
+    pub rest: &'a [u8],
+}
+
+/// The record at the front of a text; none exactly if the text is empty. All records are those of
+/// the text, of its `rest`, and so on. Takes time linear in the length of the record.
+pub fn first_record<'a>(
+    alloc: Global,
+    format: RecordFormat,
+    text: &'a [u8],
+) -> Result<Option<Record<'a>>, RecordError>
+    ensures none { IfOk result (λ found. IsNone found ↔ (text.now ≡ [])) }
+    ensures record { IfOk result (λ found. IfSome found (λ record.
+        BeginsWithRecord format text.now (fields_seen record.fields.items) record.rest.now)) }
+    ensures refused { IfErr result (IsRefusal format text.now) }
+{
+    if text.is_empty() {
+        return Ok(None);
+    }
+    let mut fields = Vec::new(alloc);
+    let mut rest = text;
+    'fields: loop {
+        let (field, back) = match first_field(alloc, format, rest) {
+            Ok(read) => read,
+            Err(FieldError::Memory(error)) => return Err(RecordError::Memory(error)),
+            Err(FieldError::Fault(kind, from)) => {
+                let at = text.len() - from.len();
+                return Err(RecordError::Fault(Fault { at, kind }));
+            }
+        };
+        if fields.push(field).is_err() {
+            return Err(RecordError::Memory(AllocError));
+        }
+        match field_end(format, back) {
+            Some(FieldEnd::Separator(more)) => rest = more,
+            Some(FieldEnd::Record(rest)) => return Ok(Some(Record { fields, rest })),
+            None => unreachable!(),
+        }
+    }
+}
