@@ -1,11 +1,14 @@
 -- A text begins with one field at most.
-use Rattle.std.proofs.Common.{◌≡◌, ◌≢◌, ◌⊎◌, ℕ, Bool, true, false, List, [], ◌∷◌, ◌++◌, Option, Some, None, inl, inr, refl, sym, ap, ◌∙◌, subst, append_assoc, append-nil, arith, true≢false}
+use Rattle.std.proofs.Common.{◌≡◌, ◌≢◌, ◌⊎◌, ℕ, Bool, true, false, ◌||◌, eqb, List, [], ◌∷◌, ◌++◌, Option, Some, None, inl, inr, refl, sym, ap, ◌∙◌, subst, append_assoc, append-nil, arith, true≢false}
+use Rattle.std.proofs.lemmas.Bool.{eqb-true}
+use Rattle.mysql_records.specs.Faults.{HasNoEscape, BeginsWithNo, IsFaultAt}
+use Rattle.mysql_records.specs.declared.fault.FaultKind.TheVariants.{StrayReturn, StrayQuote, OpenQuote, BehindQuote, UnknownEscape}
 use Rattle.mysql_records.specs.Formats.{backslash, carriage_return, doubles_quotes, escape_value, has_escapes, has_quotes, is_special, newline, quote, separator}
 use Rattle.mysql_records.specs.Records.{IsPiece, raw, doubled, escape, IsPieces, no_pieces, more_pieces, IsField, bare, enclosed, null, IsLineEnd, line_feed, return_line_feed, EndsRecord, at_line_end, at_text_end}
 use Rattle.mysql_records.specs.Fields.{StartsNoPiece, BeginsWithPieces, EndsField, at_separator, at_record_end, BeginsWithField}
 use Rattle.mysql_records.specs.declared.format.RecordFormat.{RecordFormat}
 use Rattle.mysql_records.specs.declared.format.RecordFormat.TheVariants.{Csv, Tsv, MysqlCsv, MysqlTsv}
-use Rattle.mysql_records.proofs.PieceLemmas.{special_backslash, special_quote, special_separator, special_newline, special_return, none_doubled_bare, none_at, none_at_end, pieces_same}
+use Rattle.mysql_records.proofs.PieceLemmas.{special_backslash, special_quote, special_separator, special_newline, special_return, none_doubled_bare, none_at, none_at_end, none_starts, starts_special, pieces_same}
 
 -- b'N'
 pub letter_n : ℕ
@@ -156,3 +159,168 @@ pub bare_only : (format : RecordFormat) (text bytes rest0 : List ℕ) (x : Optio
     ((tail : List ℕ) → has_escapes format ≡ true → text ≡ backslash ∷ 78 ∷ tail → EndsField format tail → ⊥) →
     BeginsWithField format text x rest → BeginsWithPieces format false text bytes rest0 → rest0 ≡ rest
 bare_only format text bytes rest0 x rest no_quote no_null f k = bare_is format text bytes rest0 x f.front rest no_quote no_null f.is_field f.ends f.whole k
+
+-- ---- what may not follow a field
+
+pub no_end : (format : RecordFormat) (text : List ℕ) → text ≢ [] → ((rest : List ℕ) → text ≢ separator format ∷ rest) →
+    ((rest : List ℕ) → text ≢ newline ∷ rest) → ((rest : List ℕ) → has_escapes format ≡ false → text ≢ carriage_return ∷ newline ∷ rest) →
+    EndsField format text → ⊥
+no_end format text empty separated ended returned (at_separator more) = separated more refl
+no_end format text empty separated ended returned (at_record_end t more (at_line_end line more2 line_feed)) = ended more2 refl
+no_end format text empty separated ended returned (at_record_end t more (at_line_end line more2 (return_line_feed h))) = returned more2 h refl
+no_end format text empty separated ended returned (at_record_end t more at_text_end) = empty refl
+
+pub ends_separator : (format : RecordFormat) (text rest : List ℕ) → text ≡ separator format ∷ rest → EndsField format text
+ends_separator format text rest e = subst (EndsField format) (sym e) (at_separator rest)
+
+pub ends_empty : (format : RecordFormat) (text : List ℕ) → text ≡ [] → EndsField format text
+ends_empty format text e = subst (EndsField format) (sym e) (at_record_end [] [] at_text_end)
+
+pub record_ends_line : (format : RecordFormat) (text rest : List ℕ) → text ≡ newline ∷ rest → EndsRecord format text rest
+record_ends_line format text rest e = subst (λ x. EndsRecord format x rest) (sym e) (at_line_end (newline ∷ []) rest line_feed)
+
+pub record_ends_return : (format : RecordFormat) (text rest : List ℕ) → has_escapes format ≡ false → text ≡ carriage_return ∷ newline ∷ rest → EndsRecord format text rest
+record_ends_return format text rest h e =
+    subst (λ x. EndsRecord format x rest) (sym e) (at_line_end (carriage_return ∷ newline ∷ []) rest (return_line_feed h))
+
+pub record_ends_empty : (format : RecordFormat) (text : List ℕ) → text ≡ [] → EndsRecord format text text
+record_ends_empty format text e = subst (λ x. EndsRecord format x x) (sym e) at_text_end
+
+either_true : (a b : Bool) → (a || b) ≡ true → (a ≡ true) ⊎ (b ≡ true)
+either_true true b h = inl refl
+either_true false b h = inr h
+
+value_cases : (o : Option ℕ) → (o ≡ None) ⊎ ((b : ℕ) × (o ≡ Some b))
+value_cases None = inl refl
+value_cases (Some b) = inr (b, refl)
+
+-- a backslash that begins no piece is before no byte that makes an escape
+no_escape_at : (format : RecordFormat) (quoted : Bool) (a : ℕ) (text : List ℕ) → has_escapes format ≡ true → a ≡ backslash →
+    StartsNoPiece format quoted (a ∷ text) → HasNoEscape text
+no_escape_at format quoted a [] h e longest = tt
+no_escape_at format quoted a (c ∷ text) h e longest =
+    elim (value_cases (escape_value c)) [
+      | inl none ↦ none
+      | inr some ↦ absurd (none_starts format quoted (a ∷ c ∷ text) longest some.0 (backslash ∷ c ∷ []) text
+        (escape c some.0 h some.1) (ap (λ x. x ∷ c ∷ text) e))
+    ]
+
+-- a quote after the pieces of a field in quotes is the only other byte than an escape
+pub fault_in_quotes : (format : RecordFormat) (text : List ℕ) → has_quotes format ≡ true → text ≢ [] → ((rest : List ℕ) → text ≢ quote ∷ rest) →
+    StartsNoPiece format true text → IsFaultAt format UnknownEscape text
+fault_in_quotes format [] h some other longest = absurd (some refl)
+fault_in_quotes Csv (a ∷ text) h some other longest =
+    let special : (eqb a quote || false) ≡ true = starts_special Csv true a text longest in
+    absurd (elim (either_true (eqb a quote) false special) [
+      | inl e ↦ other text (ap (λ x. x ∷ text) (eqb-true a quote e))
+      | inr e ↦ true≢false (sym e)
+    ])
+fault_in_quotes Tsv (a ∷ text) h some other longest = cc
+fault_in_quotes MysqlCsv (a ∷ text) h some other longest =
+    let special : (eqb a quote || (eqb a backslash || false)) ≡ true = starts_special MysqlCsv true a text longest in
+    elim (either_true (eqb a quote) _ special) [
+      | inl e ↦ absurd (other text (ap (λ x. x ∷ text) (eqb-true a quote e)))
+      | inr e ↦ elim (either_true (eqb a backslash) false e) [
+          | inl f ↦ (eqb-true a backslash f, no_escape_at MysqlCsv true a text refl (eqb-true a backslash f) longest)
+          | inr f ↦ absurd (true≢false (sym f))
+      ]
+    ]
+fault_in_quotes MysqlTsv (a ∷ text) h some other longest = cc
+
+-- a text that follows no field, behind a carriage return
+no_newline : (format : RecordFormat) (a : ℕ) (text : List ℕ) → has_escapes format ≡ false → a ≡ carriage_return → (EndsField format (a ∷ text) → ⊥) →
+    BeginsWithNo newline text
+no_newline format a [] h e ends = tt
+no_newline format a (b ∷ text) h e ends =
+    λ f. let whole : a ∷ b ∷ text ≡ carriage_return ∷ newline ∷ text = cc in
+    ends (at_record_end (a ∷ b ∷ text) text (record_ends_return format (a ∷ b ∷ text) text h whole))
+
+-- one of four bytes, which may follow a field unless it is the first or the second
+one_of_four : (a b c d e : ℕ) (P : Type 0) → (a ≡ b → P) → (a ≡ c → P) → (a ≡ d → P) → (a ≡ e → P) →
+    (eqb a b || (eqb a c || (eqb a d || (eqb a e || false)))) ≡ true → P
+one_of_four a b c d e P p q r s h =
+    elim (either_true (eqb a b) _ h) [
+      | inl f ↦ p (eqb-true a b f)
+      | inr f ↦ elim (either_true (eqb a c) _ f) [
+          | inl g ↦ q (eqb-true a c g)
+          | inr g ↦ elim (either_true (eqb a d) _ g) [
+              | inl k ↦ r (eqb-true a d k)
+              | inr k ↦ elim (either_true (eqb a e) _ k) [
+                  | inl l ↦ s (eqb-true a e l)
+                  | inr l ↦ absurd (true≢false (sym l))
+              ]
+          ]
+      ]
+    ]
+
+one_of_three : (a b c d : ℕ) (P : Type 0) → (a ≡ b → P) → (a ≡ c → P) → (a ≡ d → P) →
+    (eqb a b || (eqb a c || (eqb a d || false))) ≡ true → P
+one_of_three a b c d P p q r h =
+    elim (either_true (eqb a b) _ h) [
+      | inl f ↦ p (eqb-true a b f)
+      | inr f ↦ elim (either_true (eqb a c) _ f) [
+          | inl g ↦ q (eqb-true a c g)
+          | inr g ↦ elim (either_true (eqb a d) _ g) [
+              | inl k ↦ r (eqb-true a d k)
+              | inr k ↦ absurd (true≢false (sym k))
+          ]
+      ]
+    ]
+
+-- the first byte of what follows the pieces of a field without quotes
+pub fault_bare : (format : RecordFormat) (text : List ℕ) → (EndsField format text → ⊥) → ((rest : List ℕ) → text ≢ quote ∷ rest) →
+    ((rest : List ℕ) → text ≢ backslash ∷ rest) → StartsNoPiece format false text → IsFaultAt format StrayReturn text
+fault_bare format [] ends quoted escaped longest = absurd (ends (ends_empty format [] refl))
+fault_bare Csv (a ∷ text) ends quoted escaped longest =
+    one_of_four a quote 44 carriage_return newline (IsFaultAt Csv StrayReturn (a ∷ text))
+    (λ e. absurd (quoted text (ap (λ x. x ∷ text) e)))
+    (λ e. absurd (ends (ends_separator Csv (a ∷ text) text (ap (λ x. x ∷ text) e))))
+    (λ e. (e, no_newline Csv a text refl e ends))
+    (λ e. absurd (ends (at_record_end (a ∷ text) text (record_ends_line Csv (a ∷ text) text (ap (λ x. x ∷ text) e)))))
+    (starts_special Csv false a text longest)
+fault_bare Tsv (a ∷ text) ends quoted escaped longest =
+    one_of_three a 9 carriage_return newline (IsFaultAt Tsv StrayReturn (a ∷ text))
+    (λ e. absurd (ends (ends_separator Tsv (a ∷ text) text (ap (λ x. x ∷ text) e))))
+    (λ e. (e, no_newline Tsv a text refl e ends))
+    (λ e. absurd (ends (at_record_end (a ∷ text) text (record_ends_line Tsv (a ∷ text) text (ap (λ x. x ∷ text) e)))))
+    (starts_special Tsv false a text longest)
+fault_bare MysqlCsv (a ∷ text) ends quoted escaped longest =
+    one_of_four a quote backslash 44 newline (IsFaultAt MysqlCsv StrayReturn (a ∷ text))
+    (λ e. absurd (quoted text (ap (λ x. x ∷ text) e)))
+    (λ e. absurd (escaped text (ap (λ x. x ∷ text) e)))
+    (λ e. absurd (ends (ends_separator MysqlCsv (a ∷ text) text (ap (λ x. x ∷ text) e))))
+    (λ e. absurd (ends (at_record_end (a ∷ text) text (record_ends_line MysqlCsv (a ∷ text) text (ap (λ x. x ∷ text) e)))))
+    (starts_special MysqlCsv false a text longest)
+fault_bare MysqlTsv (a ∷ text) ends quoted escaped longest =
+    one_of_three a backslash 9 newline (IsFaultAt MysqlTsv StrayReturn (a ∷ text))
+    (λ e. absurd (escaped text (ap (λ x. x ∷ text) e)))
+    (λ e. absurd (ends (ends_separator MysqlTsv (a ∷ text) text (ap (λ x. x ∷ text) e))))
+    (λ e. absurd (ends (at_record_end (a ∷ text) text (record_ends_line MysqlTsv (a ∷ text) text (ap (λ x. x ∷ text) e)))))
+    (starts_special MysqlTsv false a text longest)
+
+-- a backslash is special only where it escapes
+backslash_escapes : (format : RecordFormat) → is_special format false backslash ≡ true → has_escapes format ≡ true
+backslash_escapes Csv h = cc
+backslash_escapes Tsv h = cc
+backslash_escapes MysqlCsv h = refl
+backslash_escapes MysqlTsv h = refl
+
+pub fault_escape : (format : RecordFormat) (text rest : List ℕ) → text ≡ backslash ∷ rest → StartsNoPiece format false text → IsFaultAt format UnknownEscape text
+fault_escape format text rest e longest =
+    let at : StartsNoPiece format false (backslash ∷ rest) = subst (StartsNoPiece format false) e longest in
+    let h : has_escapes format ≡ true = backslash_escapes format (starts_special format false backslash rest at) in
+    subst (IsFaultAt format UnknownEscape) (sym e) (refl, no_escape_at format false backslash rest h refl at)
+
+-- what stands behind a closing quote
+pub fault_behind : (format : RecordFormat) (text : List ℕ) → (EndsField format text → ⊥) → IsFaultAt format BehindQuote text
+fault_behind format [] ends = absurd (ends (ends_empty format [] refl))
+fault_behind format (a ∷ text) ends = (
+  λ e. ends (ends_separator format (a ∷ text) text (ap (λ x. x ∷ text) e)),
+  λ e. ends (at_record_end (a ∷ text) text (record_ends_line format (a ∷ text) text (ap (λ x. x ∷ text) e))),
+)
+
+pub fault_return : (format : RecordFormat) (text rest : List ℕ) → has_escapes format ≡ false → text ≡ carriage_return ∷ rest → (EndsField format text → ⊥) →
+    IsFaultAt format StrayReturn text
+fault_return format text rest h e ends =
+    subst (IsFaultAt format StrayReturn) (sym e)
+    (refl, no_newline format carriage_return rest h refl (subst (λ x. EndsField format x → ⊥) e ends))

@@ -1,4 +1,5 @@
 pub mod PieceLemmas
+pub mod RowLemmas
 pub mod FieldLemmas
 pub mod RecordLemmas
 pub mod WrittenLemmas

@@ -2,7 +2,8 @@
 use Rattle.std.proofs.Common.{◌≡◌, ◌≢◌, ◌⊎◌, ℕ, Bool, true, false, List, [], ◌∷◌, ◌++◌, Option, Some, None, inl, inr, refl, sym, ap, ◌∙◌, subst, append_assoc, append-nil, arith, true≢false}
 use Rattle.mysql_records.specs.Formats.{backslash, carriage_return, doubles_quotes, escape_value, has_escapes, has_quotes, is_special, newline, quote, separator}
 use Rattle.mysql_records.specs.Records.{IsPiece, raw, doubled, escape, IsPieces, no_pieces, more_pieces}
-use Rattle.mysql_records.specs.Fields.{StartsNoPiece}
+use Rattle.std.proofs.lemmas.Bool.{cases_Bool}
+use Rattle.mysql_records.specs.Fields.{BeginsSpecial, StartsNoPiece}
 use Rattle.mysql_records.specs.declared.format.RecordFormat.{RecordFormat}
 use Rattle.mysql_records.specs.declared.format.RecordFormat.TheVariants.{Csv, Tsv, MysqlCsv, MysqlTsv}
 
@@ -135,3 +136,33 @@ pieces_same format quoted bytes more t u r s (more_pieces b text bytes2 rest p h
     let first = piece_same format quoted b c text text2 (rest ++ r) (rest2 ++ s) p q (sym (append_assoc text rest r) ∙ e ∙ append_assoc text2 rest2 s) in
     let others = pieces_same format quoted bytes2 bytes3 rest rest2 r s h k hr hs first.1 in
     (cc (first.0, others.0), others.1)
+
+-- ---- a doubled quote and an escape, by the front of a text
+
+none_special : (format : RecordFormat) (quoted : Bool) (text : List ℕ) → BeginsSpecial format quoted text →
+    ((rest : List ℕ) → doubles_quotes format quoted ≡ true → text ≢ quote ∷ quote ∷ rest) →
+    ((c b : ℕ) (rest : List ℕ) → has_escapes format ≡ true → escape_value c ≡ Some b → text ≢ backslash ∷ c ∷ rest) → StartsNoPiece format quoted text
+none_special format quoted [] special no_doubled no_escape = none_at_end format quoted
+none_special format quoted (a ∷ text) special no_doubled no_escape =
+    none_at format quoted a text special (λ rest h e f. let g : a ∷ text ≡ quote ∷ quote ∷ rest = cc in no_doubled rest h g)
+    (λ c b rest h e m f. let g : a ∷ text ≡ backslash ∷ c ∷ rest = cc in no_escape c b rest h m g)
+
+-- not two quotes
+pub none_doubled : (format : RecordFormat) (quoted : Bool) (text : List ℕ) → BeginsSpecial format quoted text → doubles_quotes format quoted ≡ true →
+    ((rest : List ℕ) → text ≢ quote ∷ quote ∷ rest) → StartsNoPiece format quoted text
+none_doubled format quoted text special h other =
+    none_special format quoted text special (λ rest k e. other rest e) (λ c b rest k m e. no_doubled_escapes format quoted h k)
+
+-- no escape
+pub none_escape : (format : RecordFormat) (quoted : Bool) (text : List ℕ) → BeginsSpecial format quoted text → doubles_quotes format quoted ≡ false →
+    ((c b : ℕ) (rest : List ℕ) → has_escapes format ≡ true → escape_value c ≡ Some b → text ≢ backslash ∷ c ∷ rest) → StartsNoPiece format quoted text
+none_escape format quoted text special h other =
+    none_special format quoted text special (λ rest k e. true≢false (sym k ∙ h)) other
+
+-- a byte that isn't special is a piece
+pub starts_special : (format : RecordFormat) (quoted : Bool) (a : ℕ) (text : List ℕ) → StartsNoPiece format quoted (a ∷ text) → is_special format quoted a ≡ true
+starts_special format quoted a text h =
+    elim (cases_Bool (is_special format quoted a)) [
+      | inl e ↦ e
+      | inr e ↦ absurd (none_starts format quoted (a ∷ text) h a (a ∷ []) text (raw a e) refl)
+    ]

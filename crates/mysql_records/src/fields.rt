@@ -1,13 +1,14 @@
 //! A field at the front of a text, and what follows it.
-ghost use Rattle.std.specs.Prelude.{◌≡◌, ◌≢◌, ℕ, IfErr, IfOk, IfNone, IfSome, IsTrue, IsFalse, List, ◌∷◌, MatchOption, true};
+ghost use Rattle.std.specs.Prelude.{◌≡◌, ◌≢◌, ℕ, IfErr, IfOk, IfNone, IfSome, IsTrue, List, ◌∷◌, false};
 ghost use Rattle.std.specs.Str.{byte};
 ghost use Rattle.mysql_records.specs.Formats.{backslash, has_escapes, has_quotes, quote, separator};
 ghost use Rattle.mysql_records.specs.Seen.{field_seen};
-ghost use Rattle.mysql_records.specs.Fields.{BeginsWithField, EndsField, IsFieldEnd, IsFieldRefusal};
+ghost use Rattle.mysql_records.specs.Fields.{BeginsWithField, EndsField, IsFieldEnd, IsFieldRefusal, StartsNoPiece};
+ghost use Rattle.mysql_records.specs.Faults.{IsFaultAt};
 
 use crate::fault::FaultKind;
 use crate::format::RecordFormat;
-use crate::pieces::{has_escapes, pieces};
+use crate::pieces::{behind, has_escapes, pieces};
 use crate::record::Field;
 use std::alloc::{AllocError, Global};
 
@@ -65,19 +66,28 @@ fn enclosed_field<'a>(
         Ok(read) => read,
         Err(error) => return Err(FieldError::Memory(error)),
     };
-    let [first, rest @ ..] = back else {
+    if back.is_empty() {
         return Err(FieldError::Fault(FaultKind::OpenQuote, text));
-    };
-    if *first != b'"' {
-        return Err(FieldError::Fault(FaultKind::UnknownEscape, back));
     }
+    let Some(rest) = behind(back, b'"') else {
+        return Err(FieldError::Fault(FaultKind::UnknownEscape, back));
+    };
     if field_end(format, rest).is_some() {
         return Ok((Field::Bytes(bytes), rest));
     }
-    if rest[0] == b'\r' && !has_escapes(format) {
-        return Err(FieldError::Fault(FaultKind::StrayReturn, rest));
+    Err(FieldError::Fault(fault_behind_quote(format, rest), rest))
+}
+
+// What a text is that follows the quote at the end of a field, and may not follow a field.
+fn fault_behind_quote(format: RecordFormat, rest: &[u8]) -> FaultKind
+    requires { EndsField format rest.now → ⊥ }
+    ensures { IsFaultAt format result rest.now }
+{
+    if !has_escapes(format) && behind(rest, b'\r').is_some() {
+        FaultKind::StrayReturn
+    } else {
+        FaultKind::BehindQuote
     }
-    Err(FieldError::Fault(FaultKind::BehindQuote, rest))
 }
 
 // The field without quotes at the front of a text, and the text behind it.
@@ -100,12 +110,22 @@ fn bare_field<'a>(
     if field_end(format, back).is_some() {
         return Ok((Field::Bytes(bytes), back));
     }
-    let kind = match back[0] {
-        b'"' => FaultKind::StrayQuote,
-        b'\\' => FaultKind::UnknownEscape,
-        _ => FaultKind::StrayReturn,
-    };
-    Err(FieldError::Fault(kind, back))
+    Err(FieldError::Fault(fault_without_quotes(format, back), back))
+}
+
+// What a text is that follows the pieces of a field without quotes, and may not follow a field.
+fn fault_without_quotes(format: RecordFormat, back: &[u8]) -> FaultKind
+    requires longest { StartsNoPiece format false back.now }
+    requires no_end { EndsField format back.now → ⊥ }
+    ensures { IsFaultAt format result back.now }
+{
+    if behind(back, b'"').is_some() {
+        FaultKind::StrayQuote
+    } else if behind(back, b'\\').is_some() {
+        FaultKind::UnknownEscape
+    } else {
+        FaultKind::StrayReturn
+    }
 }
 
 // The text behind `\N`, if that is the field at the front.
@@ -115,10 +135,11 @@ fn behind_null<'a>(format: RecordFormat, text: &'a [u8]) -> Option<&'a [u8]>
     ensures none { IfNone result ((rest : List ℕ) → IsTrue (has_escapes format) →
         text.now ≡ backslash ∷ byte "N" ∷ rest → EndsField format rest → ⊥) }
 {
-    let [b'\\', b'N', rest @ ..] = text else {
+    if !has_escapes(format) {
         return None;
-    };
-    if has_escapes(format) && field_end(format, rest).is_some() {
+    }
+    let rest = behind(behind(text, b'\\')?, b'N')?;
+    if field_end(format, rest).is_some() {
         Some(rest)
     } else {
         None
@@ -132,11 +153,8 @@ fn behind_quote<'a>(format: RecordFormat, text: &'a [u8]) -> Option<&'a [u8]>
     ensures none { IfNone result ((tail : List ℕ) → IsTrue (has_quotes format) →
         text.now ≢ quote ∷ tail) }
 {
-    let [b'"', tail @ ..] = text else {
-        return None;
-    };
     match format {
-        RecordFormat::Csv | RecordFormat::MysqlCsv => Some(tail),
+        RecordFormat::Csv | RecordFormat::MysqlCsv => behind(text, b'"'),
         RecordFormat::Tsv | RecordFormat::MysqlTsv => None,
     }
 }
@@ -146,24 +164,20 @@ pub(crate) fn field_end<'a>(format: RecordFormat, text: &'a [u8]) -> Option<Fiel
     ensures some { IfSome result (IsFieldEnd format text.now) }
     ensures none { IfNone result (EndsField format text.now → ⊥) }
 {
-    match text {
-        [] => Some(FieldEnd::Record(text)),
-        [b'\n', rest @ ..] => Some(FieldEnd::Record(rest)),
-        [b'\r', b'\n', rest @ ..] => {
-            if has_escapes(format) {
-                None
-            } else {
-                Some(FieldEnd::Record(rest))
-            }
-        }
-        [first, rest @ ..] => {
-            if *first == separator(format) {
-                Some(FieldEnd::Separator(rest))
-            } else {
-                None
-            }
-        }
+    if text.is_empty() {
+        return Some(FieldEnd::Record(text));
     }
+    if let Some(rest) = behind(text, separator(format)) {
+        return Some(FieldEnd::Separator(rest));
+    }
+    if let Some(rest) = behind(text, b'\n') {
+        return Some(FieldEnd::Record(rest));
+    }
+    if has_escapes(format) {
+        return None;
+    }
+    let rest = behind(behind(text, b'\r')?, b'\n')?;
+    Some(FieldEnd::Record(rest))
 }
 
 // The byte between the fields of a record.

@@ -1,5 +1,5 @@
 //! The bytes of a field as they stand in a text.
-ghost use Rattle.std.specs.Prelude.{◌≡◌, ℕ, ◌<◌, ◌≤◌, IfOk, IfSome, IfNone, IsFalse, IsTrue, ◌++◌, List, length, slice_index, take};
+ghost use Rattle.std.specs.Prelude.{◌≡◌, ◌≢◌, ℕ, ◌<◌, ◌≤◌, IfOk, IfSome, IfNone, IsFalse, IsTrue, ◌∷◌, ◌++◌, List, length, slice_index, take};
 ghost use Rattle.std.specs.List.{list_any};
 ghost use Rattle.mysql_records.specs.Formats.{doubles_quotes, escape_value, has_escapes, is_special};
 ghost use Rattle.mysql_records.specs.Records.{IsPiece};
@@ -59,19 +59,24 @@ fn pair<'a>(format: RecordFormat, quoted: bool, text: &'a [u8]) -> Option<(u8, &
     ensures shorter { IfSome result (λ read. length read.1.now < length text.now) }
     ensures none { IfNone result (StartsNoPiece format quoted text.now) }
 {
-    let [first, second, rest @ ..] = text else {
-        return None;
-    };
-    if *first == b'"' && *second == b'"' && doubles_quotes(format, quoted) {
+    if doubles_quotes(format, quoted) {
+        let rest = behind(behind(text, b'"')?, b'"')?;
         return Some((b'"', rest));
     }
-    if *first == b'\\' && has_escapes(format) {
-        return match escape_value(*second) {
-            Some(byte) => Some((byte, rest)),
-            None => None,
-        };
+    if has_escapes(format) {
+        let (second, rest) = behind(text, b'\\')?.split_first()?;
+        return Some((escape_value(*second)?, rest));
     }
     None
+}
+
+// The text behind a byte, if a text begins with it.
+pub(crate) fn behind(text: &[u8], byte: u8) -> Option<&[u8]>
+    ensures some { IfSome result (λ rest. text.now ≡ byte ∷ rest.now) }
+    ensures none { IfNone result ((rest : List ℕ) → text.now ≢ byte ∷ rest) }
+{
+    let (first, rest) = text.split_first()?;
+    if *first == byte { Some(rest) } else { None }
 }
 
 // Whether a byte doesn't stand for itself in a field.

@@ -35,8 +35,8 @@ pub fn first_record<'a>(
     text: &'a [u8],
 ) -> Result<Option<Record<'a>>, RecordError>
     ensures none { IfOk result (λ found. IsNone found ↔ (text.now ≡ [])) }
-    ensures record { IfOk result (λ found. IfSome found (λ record.
-        BeginsWithRecord format text.now (fields_seen record.fields.items) record.rest.now)) }
+    ensures read { IfOk result (λ found. IfSome found (λ read.
+        BeginsWithRecord format text.now (fields_seen read.fields.items) read.rest.now)) }
     ensures refused { IfErr result (IsRefusal format text.now) }
 {
     if text.is_empty() {
