@@ -101,7 +101,7 @@ bare_not_null format bytes t rest tail (more_pieces b text bytes2 rest2 (escape 
 
 -- ---- one field
 
-inner : (text r : List ℕ) → (quote ∷ text ++ quote ∷ []) ++ r ≡ quote ∷ (text ++ quote ∷ r)
+pub inner : (text r : List ℕ) → (quote ∷ text ++ quote ∷ []) ++ r ≡ quote ∷ (text ++ quote ∷ r)
 inner text r = ap (λ x. quote ∷ x) (append_assoc text (quote ∷ []) r)
 
 pub fields_same : (format : RecordFormat) (x y : Option (List ℕ)) (t u r s : List ℕ) → IsField format x t → IsField format y u →

@@ -47,19 +47,23 @@ pub fn first_record<'a>(
     'fields: loop {
         let (field, back) = match first_field(alloc, format, rest) {
             Ok(read) => read,
-            Err(FieldError::Memory(error)) => return Err(RecordError::Memory(error)),
-            Err(FieldError::Fault(kind, from)) => {
-                let at = text.len() - from.len();
-                return Err(RecordError::Fault(Fault { at, kind }));
-            }
+            Err(error) => match error {
+                FieldError::Memory(error) => return Err(RecordError::Memory(error)),
+                FieldError::Fault(kind, from) => {
+                    let at = text.len() - from.len();
+                    return Err(RecordError::Fault(Fault { at, kind }));
+                }
+            },
         };
         if fields.push(field).is_err() {
             return Err(RecordError::Memory(AllocError));
         }
-        match field_end(format, back) {
-            Some(FieldEnd::Separator(more)) => rest = more,
-            Some(FieldEnd::Record(rest)) => return Ok(Some(Record { fields, rest })),
-            None => unreachable!(),
+        let Some(end) = field_end(format, back) else {
+            unreachable!()
+        };
+        match end {
+            FieldEnd::Separator(more) => rest = more,
+            FieldEnd::Record(rest) => return Ok(Some(Record { fields, rest })),
         }
     }
 }

@@ -1,0 +1,77 @@
+-- What is known of a record as its fields are read one by one.
+use Rattle.std.proofs.Common.{◌≡◌, ◌≢◌, ◌⊎◌, ℕ, ◌+◌, ◌-◌, ◌<◌, List, [], ◌∷◌, ◌++◌, Option, length, drop, inl, inr, refl, sym, ap, ◌∙◌, subst, append_assoc, append-nil, arith, length-append}
+use Rattle.std.proofs.lemmas.List.{drop_at}
+use Rattle.mysql_records.specs.Faults.{IsFaultAt, IsFaulty}
+use Rattle.mysql_records.specs.Fields.{BeginsWithField, IsFaultyField}
+use Rattle.mysql_records.specs.Formats.{separator}
+use Rattle.mysql_records.specs.Records.{EndsRecord, IsRecordThen, BeginsWithRecord}
+use Rattle.mysql_records.specs.declared.fault.Fault.{Fault}
+use Rattle.mysql_records.specs.declared.fault.FaultKind.{FaultKind}
+use Rattle.mysql_records.specs.declared.format.RecordFormat.{RecordFormat}
+use Rattle.mysql_records.proofs.RecordLemmas.{first_of, field_then, field_last, then_others}
+
+-- the records of the text are the fields so far and the records of the rest
+pub record ReadFields (format : RecordFormat) (text : List ℕ) (done : List (Option (List ℕ))) (rest : List ℕ) : Type 0 where
+  pub front : List ℕ
+  pub whole : text ≡ front ++ rest
+  pub sound : (fields : List (Option (List ℕ))) (end : List ℕ) → IsRecordThen format rest fields end → IsRecordThen format text (done ++ fields) end
+  pub complete : (fields : List (Option (List ℕ))) (end : List ℕ) → IsRecordThen format text fields end →
+      (more : List (Option (List ℕ))) × (fields ≡ done ++ more) × IsRecordThen format rest more end
+
+pub fields_none : (format : RecordFormat) (text : List ℕ) → ReadFields format text [] text
+fields_none format text = record { front = []; whole = refl; sound = λ fields end h. h; complete = λ fields end h. (fields, refl, h) }
+
+pub fields_more : (format : RecordFormat) (text : List ℕ) (done : List (Option (List ℕ))) (rest : List ℕ) (x : Option (List ℕ)) (more : List ℕ) →
+    ReadFields format text done rest → BeginsWithField format rest x (separator format ∷ more) → ReadFields format text (done ++ x ∷ []) more
+fields_more format text done rest x more h f = record {
+  front = h.front ++ (f.front ++ separator format ∷ []);
+  whole = h.whole ∙ ap (λ y. h.front ++ y) (f.whole ∙ sym (append_assoc f.front (separator format ∷ []) more)) ∙ sym (append_assoc h.front (f.front ++ separator format ∷ []) more);
+  sound = λ fields end k.
+    subst (λ y. IsRecordThen format text y end) (sym (append_assoc done (x ∷ []) fields))
+    (h.sound (x ∷ fields) end (field_then format rest x more fields end f k));
+  complete = λ fields end k.
+    let first = h.complete fields end k in
+    let next = then_others format rest x more first.0 end f first.2 in
+    (next.others, first.1 ∙ ap (λ y. done ++ y) next.fields_are ∙ sym (append_assoc done (x ∷ []) next.others), next.then);
+}
+
+pub fields_last : (format : RecordFormat) (text : List ℕ) (done : List (Option (List ℕ))) (rest : List ℕ) (x : Option (List ℕ)) (back end : List ℕ) →
+    text ≢ [] → ReadFields format text done rest → BeginsWithField format rest x back → EndsRecord format back end →
+    BeginsWithRecord format text (done ++ x ∷ []) end
+fields_last format text done rest x back end some h f ends = record { some = some; then = h.sound (x ∷ []) end (field_last format rest x back end f ends) }
+
+not_empty_at : (format : RecordFormat) (kind : FaultKind) (back : List ℕ) → IsFaultAt format kind back → 0 < length back
+not_empty_at format kind [] h = absurd h
+not_empty_at format kind (a ∷ back) h = omega arith
+
+pub fields_fault : (format : RecordFormat) (text : List ℕ) (done : List (Option (List ℕ))) (rest back : List ℕ) (kind : FaultKind) (fault : Fault) →
+    ReadFields format text done rest → IsFaultyField format rest kind back → fault.at ≡ length text - length back → fault.kind ≡ kind →
+    IsFaulty format text fault
+fields_fault format text done rest back kind fault h f at is = record {
+  none = λ fields end k.
+    let first = h.complete fields end k.then in
+    let field = first_of format rest first.0 end first.2 in
+    f.none field.field field.back field.first;
+  within = within;
+  stands = subst (IsFaultAt format fault.kind) (sym left) (subst (λ x. IsFaultAt format x back) (sym is) f.stands);
+}
+  where
+    whole : text ≡ (h.front ++ f.front) ++ back
+    whole = h.whole ∙ ap (λ x. h.front ++ x) f.whole ∙ sym (append_assoc h.front f.front back)
+
+    lengths : length text ≡ length (h.front ++ f.front) + length back
+    lengths = ap length whole ∙ length-append (h.front ++ f.front) back
+
+    within : fault.at < length text
+    within = omega (arith, lengths, at, not_empty_at format kind back f.stands)
+
+    place : length (h.front ++ f.front) ≡ fault.at
+    place = omega (arith, lengths, at)
+
+    left : drop fault.at text ≡ back
+    left = ap (drop fault.at) whole ∙ drop_at (h.front ++ f.front) back fault.at place
+
+-- a field and a separator are at least a byte
+pub shorter : (format : RecordFormat) (rest : List ℕ) (x : Option (List ℕ)) (more : List ℕ) → BeginsWithField format rest x (separator format ∷ more) →
+    length more < length rest
+shorter format rest x more f = omega (arith, ap length f.whole, length-append f.front (separator format ∷ more))
