@@ -1,10 +1,10 @@
 -- A text begins with one field at most.
-use Rattle.std.proofs.Common.{◌≡◌, ◌≢◌, ◌⊎◌, ℕ, Bool, true, false, ◌||◌, eqb, List, [], ◌∷◌, ◌++◌, Option, Some, None, inl, inr, refl, sym, ap, ◌∙◌, subst, append_assoc, append-nil, arith, true≢false}
+use Rattle.std.proofs.Common.{◌≡◌, ◌≢◌, ◌⊎◌, ℕ, Bool, true, false, ◌||◌, eqb, List, [], ◌∷◌, ◌++◌, Option, Some, None, inl, inr, refl, sym, ap, ◌∙◌, subst, append_assoc, arith, true≢false}
 use Rattle.std.proofs.lemmas.Bool.{eqb-true}
 use Rattle.mysql_records.specs.Faults.{HasNoEscape, BeginsWithNo, IsFaultAt}
-use Rattle.mysql_records.specs.declared.fault.FaultKind.TheVariants.{StrayReturn, StrayQuote, OpenQuote, BehindQuote, UnknownEscape}
-use Rattle.mysql_records.specs.Formats.{backslash, carriage_return, doubles_quotes, escape_value, has_escapes, has_quotes, is_special, newline, quote, separator}
-use Rattle.mysql_records.specs.Records.{IsPiece, raw, doubled, escape, IsPieces, no_pieces, more_pieces, IsField, bare, enclosed, null, IsLineEnd, line_feed, return_line_feed, EndsRecord, at_line_end, at_text_end}
+use Rattle.mysql_records.specs.declared.fault.FaultKind.TheVariants.{StrayReturn, BehindQuote, UnknownEscape}
+use Rattle.mysql_records.specs.Formats.{backslash, carriage_return, escape_value, has_escapes, has_quotes, is_special, newline, quote, separator}
+use Rattle.mysql_records.specs.Records.{raw, doubled, escape, IsPieces, no_pieces, more_pieces, IsField, bare, enclosed, null, line_feed, return_line_feed, EndsRecord, at_line_end, at_text_end}
 use Rattle.mysql_records.specs.Fields.{StartsNoPiece, BeginsWithPieces, EndsField, at_separator, at_record_end, BeginsWithField}
 use Rattle.mysql_records.specs.declared.format.RecordFormat.{RecordFormat}
 use Rattle.mysql_records.specs.declared.format.RecordFormat.TheVariants.{Csv, Tsv, MysqlCsv, MysqlTsv}
@@ -202,7 +202,7 @@ no_escape_at format quoted a (c ∷ text) h e longest =
     elim (value_cases (escape_value c)) [
       | inl none ↦ none
       | inr some ↦ absurd (none_starts format quoted (a ∷ c ∷ text) longest some.0 (backslash ∷ c ∷ []) text
-        (escape c some.0 h some.1) (ap (λ x. x ∷ c ∷ text) e))
+          (escape c some.0 h some.1) (ap (λ x. x ∷ c ∷ text) e))
     ]
 
 -- a quote after the pieces of a field in quotes is the only other byte than an escape
@@ -221,8 +221,8 @@ fault_in_quotes MysqlCsv (a ∷ text) h some other longest =
     elim (either_true (eqb a quote) _ special) [
       | inl e ↦ absurd (other text (ap (λ x. x ∷ text) (eqb-true a quote e)))
       | inr e ↦ elim (either_true (eqb a backslash) false e) [
-          | inl f ↦ (eqb-true a backslash f, no_escape_at MysqlCsv true a text refl (eqb-true a backslash f) longest)
-          | inr f ↦ absurd (true≢false (sym f))
+        | inl f ↦ (eqb-true a backslash f, no_escape_at MysqlCsv true a text refl (eqb-true a backslash f) longest)
+        | inr f ↦ absurd (true≢false (sym f))
       ]
     ]
 fault_in_quotes MysqlTsv (a ∷ text) h some other longest = cc
@@ -242,14 +242,14 @@ one_of_four a b c d e P p q r s h =
     elim (either_true (eqb a b) _ h) [
       | inl f ↦ p (eqb-true a b f)
       | inr f ↦ elim (either_true (eqb a c) _ f) [
-          | inl g ↦ q (eqb-true a c g)
-          | inr g ↦ elim (either_true (eqb a d) _ g) [
-              | inl k ↦ r (eqb-true a d k)
-              | inr k ↦ elim (either_true (eqb a e) _ k) [
-                  | inl l ↦ s (eqb-true a e l)
-                  | inr l ↦ absurd (true≢false (sym l))
-              ]
+        | inl g ↦ q (eqb-true a c g)
+        | inr g ↦ elim (either_true (eqb a d) _ g) [
+          | inl k ↦ r (eqb-true a d k)
+          | inr k ↦ elim (either_true (eqb a e) _ k) [
+            | inl l ↦ s (eqb-true a e l)
+            | inr l ↦ absurd (true≢false (sym l))
           ]
+        ]
       ]
     ]
 
@@ -259,11 +259,11 @@ one_of_three a b c d P p q r h =
     elim (either_true (eqb a b) _ h) [
       | inl f ↦ p (eqb-true a b f)
       | inr f ↦ elim (either_true (eqb a c) _ f) [
-          | inl g ↦ q (eqb-true a c g)
-          | inr g ↦ elim (either_true (eqb a d) _ g) [
-              | inl k ↦ r (eqb-true a d k)
-              | inr k ↦ absurd (true≢false (sym k))
-          ]
+        | inl g ↦ q (eqb-true a c g)
+        | inr g ↦ elim (either_true (eqb a d) _ g) [
+          | inl k ↦ r (eqb-true a d k)
+          | inr k ↦ absurd (true≢false (sym k))
+        ]
       ]
     ]
 

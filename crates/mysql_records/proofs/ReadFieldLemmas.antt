@@ -1,10 +1,10 @@
 -- What is known of a field where it is read, and where it is refused.
-use Rattle.std.proofs.Common.{◌≡◌, ◌≢◌, ◌⊎◌, ℕ, Bool, true, false, eqb, List, [], ◌∷◌, ◌++◌, Option, Some, None, length, inl, inr, refl, sym, ap, ◌∙◌, subst, append_assoc, append-nil, arith, true≢false}
+use Rattle.std.proofs.Common.{◌≡◌, ◌≢◌, ℕ, true, false, eqb, List, [], ◌∷◌, ◌++◌, Option, Some, None, length, refl, sym, ap, ◌∙◌, subst, true≢false}
 use Rattle.std.specs.Option.{IfSome, IfNone, is_some}
 use Rattle.std.proofs.lemmas.Bool.{eqb-true}
 use Rattle.std.proofs.lemmas.List.{nil_from_length}
 use Rattle.mysql_records.specs.Faults.{IsFaultAt}
-use Rattle.mysql_records.specs.Fields.{StartsNoPiece, BeginsWithPieces, EndsField, at_separator, at_record_end, BeginsWithField, IsFieldEnd, IsFaultyField}
+use Rattle.mysql_records.specs.Fields.{BeginsWithPieces, EndsField, at_record_end, BeginsWithField, IsFieldEnd, IsFaultyField}
 use Rattle.mysql_records.specs.Formats.{backslash, has_escapes, has_quotes, quote}
 use Rattle.mysql_records.specs.Records.{bare, enclosed, null}
 use Rattle.mysql_records.specs.declared.fault.FaultKind.{FaultKind}
@@ -77,7 +77,7 @@ pub enclosed_behind : (format : RecordFormat) (text tail bytes back rest : List 
     IsFaultyField format text kind rest
 enclosed_behind format text tail bytes back rest kind h e k f no_end stands = record {
   none = enclosed_none format text tail bytes back h e k
-    (λ rest2 g ends. let same : rest2 ≡ rest = cc in no_end (subst (EndsField format) same ends));
+      (λ rest2 g ends. let same : rest2 ≡ rest = cc in no_end (subst (EndsField format) same ends));
   front = quote ∷ k.front ++ quote ∷ [];
   whole = e ∙ ap (λ x. quote ∷ x) (k.whole ∙ ap (λ x. k.front ++ x) f) ∙ sym (inner k.front rest);
   stands = stands;
@@ -95,7 +95,7 @@ pub bare_fault : (format : RecordFormat) (text bytes back : List ℕ) (kind : Fa
     BeginsWithPieces format false text bytes back → (EndsField format back → ⊥) → IsFaultAt format kind back → IsFaultyField format text kind back
 bare_fault format text bytes back kind no_quote no_null k no_end stands = record {
   none = λ x rest f. let same : back ≡ rest = bare_only format text bytes back x rest no_quote no_null f k in
-    no_end (subst (EndsField format) (sym same) f.ends);
+      no_end (subst (EndsField format) (sym same) f.ends);
   front = k.front;
   whole = k.whole;
   stands = stands;

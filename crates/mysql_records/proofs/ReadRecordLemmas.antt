@@ -1,5 +1,5 @@
 -- What is known of a record as its fields are read one by one.
-use Rattle.std.proofs.Common.{◌≡◌, ◌≢◌, ◌⊎◌, ℕ, ◌+◌, ◌-◌, ◌<◌, List, [], ◌∷◌, ◌++◌, Option, length, drop, inl, inr, refl, sym, ap, ◌∙◌, subst, append_assoc, append-nil, arith, length-append}
+use Rattle.std.proofs.Common.{◌≡◌, ◌≢◌, ℕ, ◌+◌, ◌-◌, ◌<◌, List, [], ◌∷◌, ◌++◌, Option, length, drop, refl, sym, ap, ◌∙◌, subst, append_assoc, arith, length-append}
 use Rattle.std.proofs.lemmas.List.{drop_at}
 use Rattle.mysql_records.specs.Faults.{IsFaultAt, IsFaulty}
 use Rattle.mysql_records.specs.Fields.{BeginsWithField, IsFaultyField}
@@ -27,12 +27,12 @@ fields_more format text done rest x more h f = record {
   front = h.front ++ (f.front ++ separator format ∷ []);
   whole = h.whole ∙ ap (λ y. h.front ++ y) (f.whole ∙ sym (append_assoc f.front (separator format ∷ []) more)) ∙ sym (append_assoc h.front (f.front ++ separator format ∷ []) more);
   sound = λ fields end k.
-    subst (λ y. IsRecordThen format text y end) (sym (append_assoc done (x ∷ []) fields))
-    (h.sound (x ∷ fields) end (field_then format rest x more fields end f k));
+      subst (λ y. IsRecordThen format text y end) (sym (append_assoc done (x ∷ []) fields))
+      (h.sound (x ∷ fields) end (field_then format rest x more fields end f k));
   complete = λ fields end k.
-    let first = h.complete fields end k in
-    let next = then_others format rest x more first.0 end f first.2 in
-    (next.others, first.1 ∙ ap (λ y. done ++ y) next.fields_are ∙ sym (append_assoc done (x ∷ []) next.others), next.then);
+      let first = h.complete fields end k in
+      let next = then_others format rest x more first.0 end f first.2 in
+      (next.others, first.1 ∙ ap (λ y. done ++ y) next.fields_are ∙ sym (append_assoc done (x ∷ []) next.others), next.then);
 }
 
 pub fields_last : (format : RecordFormat) (text : List ℕ) (done : List (Option (List ℕ))) (rest : List ℕ) (x : Option (List ℕ)) (back end : List ℕ) →
@@ -49,9 +49,9 @@ pub fields_fault : (format : RecordFormat) (text : List ℕ) (done : List (Optio
     IsFaulty format text fault
 fields_fault format text done rest back kind fault h f at is = record {
   none = λ fields end k.
-    let first = h.complete fields end k.then in
-    let field = first_of format rest first.0 end first.2 in
-    f.none field.field field.back field.first;
+      let first = h.complete fields end k.then in
+      let field = first_of format rest first.0 end first.2 in
+      f.none field.field field.back field.first;
   within = within;
   stands = subst (IsFaultAt format fault.kind) (sym left) (subst (λ x. IsFaultAt format x back) (sym is) f.stands);
 }

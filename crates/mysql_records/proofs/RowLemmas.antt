@@ -1,9 +1,9 @@
 -- A row of pieces, as it is read.
-use Rattle.std.proofs.Common.{◌≡◌, ◌≢◌, ◌⊎◌, ℕ, ◌<◌, Bool, true, false, ◌||◌, List, [], ◌∷◌, ◌++◌, refl, sym, ap, ◌∙◌, subst, append_assoc, append-nil, take, drop, take-append-drop, length, get_or, arith, true≢false}
+use Rattle.std.proofs.Common.{◌≡◌, ℕ, Bool, true, false, ◌||◌, List, [], ◌∷◌, ◌++◌, refl, sym, ap, ◌∙◌, subst, append_assoc, take, drop, take-append-drop}
 use Rattle.std.specs.List.{list_any}
 use Rattle.mysql_records.specs.Formats.{is_special}
 use Rattle.mysql_records.specs.Records.{IsPiece, raw, IsPieces, no_pieces, more_pieces}
-use Rattle.mysql_records.specs.Fields.{BeginsSpecial, StartsNoPiece, BeginsWithPieces}
+use Rattle.mysql_records.specs.Fields.{StartsNoPiece, BeginsWithPieces}
 use Rattle.mysql_records.specs.declared.format.RecordFormat.{RecordFormat}
 use Rattle.mysql_records.proofs.PieceLemmas.{pieces-append, one_piece}
 

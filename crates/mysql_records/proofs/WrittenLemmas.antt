@@ -1,10 +1,10 @@
 -- What is written for a table is that table.
-use Rattle.std.proofs.Common.{◌≡◌, ◌≢◌, ◌⊎◌, ℕ, Bool, true, false, ◌||◌, eqb, List, [], ◌∷◌, ◌++◌, Option, Some, None, inl, inr, refl, sym, ap, ◌∙◌, subst, append_assoc, append-nil, arith, true≢false}
+use Rattle.std.proofs.Common.{◌≡◌, ◌≢◌, ◌⊎◌, ℕ, Bool, true, false, ◌||◌, eqb, List, [], ◌∷◌, ◌++◌, Option, Some, None, inl, inr, refl, sym, ◌∙◌, subst, append_assoc, true≢false}
 use Rattle.std.specs.Prelude.{codes}
 use Rattle.std.specs.List.{flat_map, list_any}
 use Rattle.std.proofs.lemmas.Bool.{cond_both, eqb-true}
-use Rattle.mysql_records.specs.Formats.{backslash, escape_value, is_special, newline, quote, separator}
-use Rattle.mysql_records.specs.Records.{IsPiece, raw, doubled, escape, IsPieces, no_pieces, more_pieces, IsField, bare, enclosed, null, IsRecord, one_field, more_fields, IsLineEnd, line_feed, EndsRecord, at_line_end, IsRecordThen, BeginsWithRecord, IsTable, no_records, more_records}
+use Rattle.mysql_records.specs.Formats.{backslash, escape_value, is_special, newline, quote}
+use Rattle.mysql_records.specs.Records.{IsPiece, raw, doubled, escape, IsPieces, no_pieces, more_pieces, IsField, bare, enclosed, null, IsRecord, one_field, more_fields, line_feed, at_line_end, IsTable, no_records, more_records}
 use Rattle.mysql_records.specs.WrittenRecords.{doubled_quote, escaped_among, written_field, written_record, written_table, IsWritable, AreWritable, IsWritableTable}
 use Rattle.mysql_records.specs.declared.format.RecordFormat.{RecordFormat}
 use Rattle.mysql_records.specs.declared.format.RecordFormat.TheVariants.{Csv, Tsv, MysqlCsv, MysqlTsv}
@@ -32,11 +32,11 @@ one_of_three b k P p q r h =
     elim (either_true (eqb b backslash) _ h) [
       | inl e ↦ subst P (sym (eqb-true b backslash e)) p
       | inr e ↦ elim (either_true (eqb b k) _ e) [
-          | inl f ↦ subst P (sym (eqb-true b k f)) q
-          | inr f ↦ elim (either_true (eqb b newline) _ f) [
-              | inl g ↦ subst P (sym (eqb-true b newline g)) r
-              | inr g ↦ absurd (true≢false (sym g))
-          ]
+        | inl f ↦ subst P (sym (eqb-true b k f)) q
+        | inr f ↦ elim (either_true (eqb b newline) _ f) [
+          | inl g ↦ subst P (sym (eqb-true b newline g)) r
+          | inr g ↦ absurd (true≢false (sym g))
+        ]
       ]
     ]
 

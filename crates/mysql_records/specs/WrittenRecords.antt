@@ -1,8 +1,7 @@
 -- How records are written: as RFC 4180, section 2, allows, and as `SELECT .. INTO OUTFILE` writes
 -- (MySQL Reference Manual, "SELECT ... INTO Statement"). Each record ends at a newline.
-use Rattle.std.specs.Prelude.{ℕ, ◌==◌, ◌≢◌, ⊤, List, [], ◌∷◌, ◌++◌, codes, Option, Some, None, if◌then◌else◌, IsTrue, IsFalse, true, false}
+use Rattle.std.specs.Prelude.{ℕ, ◌==◌, ◌≢◌, ⊤, List, [], ◌∷◌, ◌++◌, codes, Option, Some, None, if◌then◌else◌, IsFalse, false}
 use Rattle.std.specs.List.{flat_map, list_any}
-use Rattle.std.specs.Str.{byte}
 use Rattle.mysql_records.specs.Formats.{backslash, is_special, newline, quote, separator}
 use Rattle.mysql_records.specs.declared.format.RecordFormat.{RecordFormat}
 use Rattle.mysql_records.specs.declared.format.RecordFormat.TheVariants.{Csv, Tsv, MysqlCsv, MysqlTsv}

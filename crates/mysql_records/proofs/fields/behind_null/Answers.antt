@@ -1,4 +1,4 @@
-use Rattle.std.proofs.Common.{◌≡◌, ◌∙◌, sym, ap, ℕ, List, ◌∷◌}
+use Rattle.std.proofs.Common.{◌≡◌, ◌∙◌, sym, ap, ◌∷◌}
 use Rattle.mysql_records.specs.Formats.{backslash}
 use Rattle.mysql_records.proofs.ReadFieldLemmas.{ends_if_some}
 use Rattle.mysql_records.proofs.fields.behind_null.Goals as goal

@@ -1,4 +1,4 @@
-use Rattle.std.proofs.Common.{◌≡◌, sym, ℕ, List, ◌∷◌}
+use Rattle.std.proofs.Common.{◌≡◌, sym, ◌∷◌}
 use Rattle.mysql_records.specs.Formats.{carriage_return}
 use Rattle.mysql_records.proofs.FieldLemmas.{fault_behind, fault_return}
 use Rattle.mysql_records.proofs.ReadFieldLemmas.{some_of}

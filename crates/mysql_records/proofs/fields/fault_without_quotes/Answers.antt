@@ -1,5 +1,5 @@
-use Rattle.std.proofs.Common.{◌≡◌, ℕ, List, ◌∷◌}
-use Rattle.mysql_records.specs.Formats.{backslash, quote}
+use Rattle.std.proofs.Common.{◌≡◌, ◌∷◌}
+use Rattle.mysql_records.specs.Formats.{backslash}
 use Rattle.mysql_records.proofs.FieldLemmas.{fault_bare, fault_escape}
 use Rattle.mysql_records.proofs.ReadFieldLemmas.{some_of, none_of}
 use Rattle.mysql_records.proofs.fields.fault_without_quotes.Goals as goal

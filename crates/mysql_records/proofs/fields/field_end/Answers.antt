@@ -1,7 +1,7 @@
-use Rattle.std.proofs.Common.{◌≡◌, ◌≢◌, ◌∙◌, sym, ap, refl, ℕ, List, [], ◌∷◌, true, false, eqb, arith, length, true≢false}
+use Rattle.std.proofs.Common.{◌≡◌, ◌∙◌, sym, ap, ◌∷◌, eqb, length, true≢false}
 use Rattle.std.proofs.lemmas.Bool.{eqb-true}
 use Rattle.std.proofs.lemmas.List.{nil_from_length}
-use Rattle.mysql_records.specs.Formats.{carriage_return, has_escapes, newline, separator}
+use Rattle.mysql_records.specs.Formats.{carriage_return, newline}
 use Rattle.mysql_records.proofs.FieldLemmas.{no_end, record_ends_empty, record_ends_line, record_ends_return}
 use Rattle.mysql_records.proofs.fields.field_end.Goals as goal
 

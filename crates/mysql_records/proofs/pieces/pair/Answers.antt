@@ -1,6 +1,6 @@
-use Rattle.std.proofs.Common.{◌≡◌, ◌≢◌, ◌∙◌, sym, ap, refl, ℕ, List, [], ◌∷◌, Some, None, true, false, arith, length, true≢false}
-use Rattle.mysql_records.specs.Formats.{backslash, doubles_quotes, escape_value, has_escapes, quote}
-use Rattle.mysql_records.specs.Records.{IsPiece, doubled, escape}
+use Rattle.std.proofs.Common.{◌≡◌, ◌∙◌, sym, ap, [], ◌∷◌, Some, None, arith, length, true≢false}
+use Rattle.mysql_records.specs.Formats.{backslash, escape_value, quote}
+use Rattle.mysql_records.specs.Records.{doubled, escape}
 use Rattle.mysql_records.proofs.PieceLemmas.{none_doubled, none_escape}
 use Rattle.mysql_records.proofs.pieces.pair.Goals as goal
 

@@ -1,4 +1,4 @@
-use Rattle.std.proofs.Common.{◌≡◌, ◌∙◌, sym, ap, subst, refl, rules, ℕ, List, [], ◌∷◌, ◌++◌, take, drop, length}
+use Rattle.std.proofs.Common.{◌≡◌, ◌∙◌, sym, subst, refl, rules, [], ◌∷◌, ◌++◌, take, drop}
 use Rattle.std.proofs.lemmas.List.{take_rest}
 use Rattle.mysql_records.proofs.RowLemmas.{ReadPieces, read_none, raw_and, read_one, read_longest}
 use Rattle.mysql_records.proofs.pieces.pieces.Goals as goal
