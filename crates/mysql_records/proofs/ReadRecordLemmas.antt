@@ -4,7 +4,7 @@ use Rattle.std.proofs.lemmas.List.{drop_at}
 use Rattle.mysql_records.specs.Faults.{IsFaultAt, IsFaulty}
 use Rattle.mysql_records.specs.Fields.{BeginsWithField, IsFaultyField}
 use Rattle.mysql_records.specs.Formats.{separator}
-use Rattle.mysql_records.specs.Records.{EndsRecord, IsRecordThen, BeginsWithRecord}
+use Rattle.mysql_records.specs.Records.{line_feed, return_line_feed, EndsRecord, at_line_end, at_text_end, IsRecordThen, BeginsWithRecord}
 use Rattle.mysql_records.specs.declared.fault.Fault.{Fault}
 use Rattle.mysql_records.specs.declared.fault.FaultKind.{FaultKind}
 use Rattle.mysql_records.specs.declared.format.RecordFormat.{RecordFormat}
@@ -75,3 +75,20 @@ fields_fault format text done rest back kind fault h f at is = record {
 pub shorter : (format : RecordFormat) (rest : List ℕ) (x : Option (List ℕ)) (more : List ℕ) → BeginsWithField format rest x (separator format ∷ more) →
     length more < length rest
 shorter format rest x more f = omega (arith, ap length f.whole, length-append f.front (separator format ∷ more))
+
+some_length : (text : List ℕ) → text ≢ [] → 0 < length text
+some_length [] some = absurd (some refl)
+some_length (a ∷ text) some = omega arith
+
+shorter_is : (format : RecordFormat) (text front back rest : List ℕ) → text ≢ [] → text ≡ front ++ back → EndsRecord format back rest →
+    length rest < length text
+shorter_is format text front back rest some e (at_line_end line rest2 line_feed) =
+    omega (arith, ap length e, length-append front back)
+shorter_is format text front back rest some e (at_line_end line rest2 (return_line_feed h)) =
+    omega (arith, ap length e, length-append front back)
+shorter_is format text front back rest some e at_text_end = some_length text some
+
+-- a record and its end are at least a byte
+pub record_shorter : (format : RecordFormat) (text : List ℕ) (fields : List (Option (List ℕ))) (rest : List ℕ) → BeginsWithRecord format text fields rest →
+    length rest < length text
+record_shorter format text fields rest h = shorter_is format text h.then.front h.then.back rest h.some h.then.whole h.then.ends

@@ -1,5 +1,5 @@
 //! A record at the front of a text.
-ghost use Rattle.std.specs.Prelude.{◌≡◌, IfErr, IfOk, IfSome, IsNone, ◌↔◌, [], MatchOption};
+ghost use Rattle.std.specs.Prelude.{◌≡◌, ◌<◌, length, IfErr, IfOk, IfSome, IsNone, ◌↔◌, []};
 ghost use Rattle.mysql_records.specs.Faults.{IsRefusal};
 ghost use Rattle.mysql_records.specs.Records.{BeginsWithRecord};
 ghost use Rattle.mysql_records.specs.Seen.{fields_seen};
@@ -37,6 +37,8 @@ pub fn first_record<'a>(
     ensures none { IfOk result (λ found. IsNone found ↔ (text.now ≡ [])) }
     ensures read { IfOk result (λ found. IfSome found (λ read.
         BeginsWithRecord format text.now (fields_seen read.fields.items) read.rest.now)) }
+    ensures shorter { IfOk result (λ found. IfSome found (λ read.
+        length read.rest.now < length text.now)) }
     ensures refused { IfErr result (IsRefusal format text.now) }
 {
     if text.is_empty() {

@@ -5,7 +5,7 @@ use Rattle.mysql_records.specs.Formats.{separator}
 use Rattle.mysql_records.specs.Records.{BeginsWithRecord, EndsRecord}
 use Rattle.mysql_records.specs.Seen.{field_seen, fields_seen}
 use Rattle.mysql_records.proofs.ReadFieldLemmas.{some_from}
-use Rattle.mysql_records.proofs.ReadRecordLemmas.{ReadFields, fields_more, fields_last, fields_fault}
+use Rattle.mysql_records.proofs.ReadRecordLemmas.{ReadFields, fields_more, fields_last, fields_fault, record_shorter}
 use Rattle.mysql_records.proofs.record.first_record.Goals as goal
 
 pub returns-in-Fault-clause-refused : goal.returns-in-Fault-clause-refused
@@ -26,8 +26,8 @@ fields-preserved c =
     (fields_more c.args.format c.args.text.now (fields_seen c.fields.fields.items) c.fields.rest.now (field_seen c.in-Ok.read.0) c.in-Separator.more.now
     c.fields.invariant (subst (λ x. BeginsWithField c.args.format c.fields.rest.now (field_seen c.in-Ok.read.0) x) back c.in-Ok.ensures.read))
 
-pub returns-in-Record-clause-read : goal.returns-in-Record-clause-read
-returns-in-Record-clause-read c =
+read_is : (c : goal.In-Record) → BeginsWithRecord c.args.format c.args.text.now (fields_seen c.push.new.self.items) c.in-Record.rest.now
+read_is c =
     let pushed : c.push.new.self.items ≡ c.fields.fields.items ++ c.in-Ok.read.0 ∷ [] = search rules in
     let seen : fields_seen c.push.new.self.items ≡ fields_seen c.fields.fields.items ++ field_seen c.in-Ok.read.0 ∷ [] =
     ap (map field_seen) pushed ∙ map-append field_seen c.fields.fields.items (c.in-Ok.read.0 ∷ []) in
@@ -36,3 +36,9 @@ returns-in-Record-clause-read c =
     subst (λ x. BeginsWithRecord c.args.format c.args.text.now x c.in-Record.rest.now) (sym seen)
     (fields_last c.args.format c.args.text.now (fields_seen c.fields.fields.items) c.fields.rest.now (field_seen c.in-Ok.read.0) c.in-Ok.read.1.now c.in-Record.rest.now
     (some_from c.args.text.now c.if-is_empty.ensures) c.fields.invariant c.in-Ok.ensures.read end)
+
+pub returns-in-Record-clause-read : goal.returns-in-Record-clause-read
+returns-in-Record-clause-read c = read_is c
+
+pub returns-in-Record-clause-shorter : goal.returns-in-Record-clause-shorter
+returns-in-Record-clause-shorter c = record_shorter c.args.format c.args.text.now (fields_seen c.push.new.self.items) c.in-Record.rest.now (read_is c)
