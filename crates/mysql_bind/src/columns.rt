@@ -4,8 +4,8 @@ use crate::matching::{NamePlace, add_unused, assigned_names, is_new, note_value,
 use crate::query_file::{PlacesInOrder, QueryFile};
 use crate::told::SourceName;
 use crate::values::{TYPES, Values, type_of};
-use csv::ByteRecord;
 use mysql_bind_core::{Assignment, ValueType};
+use mysql_records::Field;
 use mysql_values::show::Shown;
 use std::alloc::{AllocError, Global};
 use std::collections::{BTreeMap, BTreeSet};
@@ -91,20 +91,24 @@ fn types_by_name<'t>(
     Ok(by_name)
 }
 
-// The columns that a header names.
+// The columns that a header names. NULL is the empty name, which no query has.
 fn named_columns(
     alloc: Global,
     wanted: &Wanted<'_>,
-    header: &ByteRecord,
+    header: &[Field],
 ) -> Result<Vec<Column>, AllocError> {
     let types = types_by_name(alloc, wanted.types.as_slice())?;
     let mut columns = Vec::new(alloc);
-    for field in header.iter() {
+    for field in header {
+        let name = match field {
+            Field::Bytes(name) => name.as_slice(),
+            Field::Null => b"".as_slice(),
+        };
         let column = Column {
-            name: Vec::from_slice(alloc, field)?,
+            name: Vec::from_slice(alloc, name)?,
             // Text, unless a word says another type.
-            value_type: types.get(field).copied().unwrap_or(ValueType::Text),
-            used: wanted.numbers.contains_key(field),
+            value_type: types.get(name).copied().unwrap_or(ValueType::Text),
+            used: wanted.numbers.contains_key(name),
         };
         if columns.push(column).is_err() {
             return Err(AllocError);
@@ -209,7 +213,7 @@ fn add_untyped(
 pub fn columns_of(
     alloc: Global,
     wanted: &Wanted<'_>,
-    header: &ByteRecord,
+    header: &[Field],
     line: u64,
 ) -> Result<Vec<Column>, Complaint> {
     let columns = named_columns(alloc, wanted, header)?;

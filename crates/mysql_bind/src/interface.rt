@@ -61,6 +61,8 @@ fn rows<'a>(alloc: Global) -> Result<Command<'a>, AllocError> {
     binding(alloc, "rows")?
         .arg(one(alloc, "csv"))?
         .arg(one(alloc, "tsv"))?
+        .arg(one(alloc, "mysql-csv"))?
+        .arg(one(alloc, "mysql-tsv"))?
         .arg(one(alloc, "ndjson"))?
         .arg(many(alloc, "column"))?
         .arg(one(alloc, "null-text"))?

@@ -21,7 +21,6 @@ mod rewritten;
 mod rows;
 mod script;
 mod sources;
-mod strict_records;
 mod told;
 mod values;
 mod words;

@@ -1,66 +1,49 @@
-//! The rows of CSV and TSV.
+//! The rows of CSV and TSV, and of what MySQL servers and clients write.
 use crate::columns::{Column, Wanted, add_fixed, columns_of};
 use crate::complaint::{Complaint, Place, bad_file, bad_row, one_fault};
 use crate::script::Script;
 use crate::sources::unmarked;
-use crate::strict_records::{StrayByte, first_stray};
-use csv::{ByteRecord, Error as CsvError, ErrorKind, Position, Reader, ReaderBuilder};
 use mysql_bind_core::{Assignment, ValueType, line_and_column};
+use mysql_records::{Fault, FaultKind, Field, Record, RecordError, RecordFormat, first_record};
 use std::alloc::{AllocError, Global};
 
-// Reads records from bytes that are all there. TSV has tabs and no quotes.
-fn reader_of<'a>(alloc: Global, tabs: bool, bytes: &'a [u8]) -> Reader<&'a [u8]> {
-    let mut builder = ReaderBuilder::new();
-    builder.has_headers(false);
-    if tabs {
-        builder.delimiter(b'\t').quoting(false);
-    }
-    builder.from_reader(alloc, bytes)
-}
-
-// The line at which a record begins: the reader's position is before a newline that is left of the
-// record before, as of CR LF, and before empty lines.
-fn line_of(position: Option<Position>, bytes: &[u8]) -> u64 {
-    let Some(position) = position else {
-        return 0;
-    };
-    let from = (position.byte as usize).min(bytes.len());
-    let mut line = position.line;
-    for byte in &bytes[from..] {
-        match *byte {
-            b'\n' => line = line.saturating_add(1),
-            b'\r' => {}
-            _ => break,
-        }
-    }
-    line
-}
-
-// What is said of a record that can't be read.
-fn record_refused(alloc: Global, path: &str, error: CsvError, bytes: &[u8]) -> Complaint {
-    match error.into_kind() {
-        ErrorKind::UnequalLengths {
-            pos,
-            expected_len,
-            len,
-        } => {
-            let line = line_of(pos, bytes);
-            match format!(in alloc; "{len} fields, and the first line has {expected_len}") {
-                Ok(what) => bad_row(alloc, path, line, what.as_str()),
-                Err(_) => Complaint::Memory,
-            }
-        }
-        ErrorKind::OutOfMemory => Complaint::Memory,
-        _ => bad_file(alloc, path, "cannot read"),
+// What is said of a fault, and what to write instead.
+fn fault_text(format: RecordFormat, kind: FaultKind) -> &'static str {
+    match kind {
+        FaultKind::StrayReturn =>
+            "a carriage return stands before no newline: write the field in quotes, in CSV",
+        FaultKind::StrayQuote => match format {
+            RecordFormat::MysqlCsv =>
+                "a quote stands within a field: write it as `\\\"`, and the field in quotes",
+            _ => "a quote stands within a field: write it twice, and the field in quotes",
+        },
+        FaultKind::OpenQuote => "this quote is left open",
+        FaultKind::BehindQuote => match format {
+            RecordFormat::MysqlCsv =>
+                "this follows the quote that ends a field: write a quote in a field as `\\\"`",
+            _ =>
+                "this follows the quote that ends a field: write a quote in a field twice, and the \
+                 field in quotes",
+        },
+        FaultKind::UnknownEscape =>
+            "this backslash makes no escape with the byte behind it: write a backslash twice",
     }
 }
 
-// What is said of a byte that no record may have where it stands.
-fn stray_refused(alloc: Global, path: &str, stray: &StrayByte, bytes: &[u8]) -> Complaint {
-    let (line, column) = line_and_column(bytes, stray.at.min(bytes.len()));
+// What is said of a table whose bytes aren't records from a byte on.
+fn record_refused(
+    alloc: Global,
+    path: &str,
+    format: RecordFormat,
+    fault: Fault,
+    bytes: &[u8],
+    start: usize,
+) -> Complaint {
+    let at = start.saturating_add(fault.at).min(bytes.len());
+    let (line, column) = line_and_column(bytes, at);
     match (
         String::from_str(alloc, path),
-        String::from_str(alloc, stray.what),
+        String::from_str(alloc, fault_text(format, fault.kind)),
     ) {
         (Ok(path), Ok(what)) => {
             let place = Place::Line { path, line, column };
@@ -73,32 +56,54 @@ fn stray_refused(alloc: Global, path: &str, stray: &StrayByte, bytes: &[u8]) -> 
     }
 }
 
+// What is said of a record with another number of fields than there are columns.
+fn length_refused(alloc: Global, path: &str, line: u64, len: usize, columns: usize) -> Complaint {
+    match format!(in alloc; "{len} fields, and the first line has {columns}") {
+        Ok(what) => bad_row(alloc, path, line, what.as_str()),
+        Err(_) => Complaint::Memory,
+    }
+}
+
+// What a field assigns to the name of its column.
+fn assignment_of(
+    alloc: Global,
+    wanted: &Wanted<'_>,
+    column: &Column,
+    field: Field,
+) -> Result<Assignment, AllocError> {
+    let (value_type, bytes) = match field {
+        Field::Null => (ValueType::Null, Vec::new(alloc)),
+        Field::Bytes(bytes) => {
+            let is_null =
+                matches!(&wanted.null_text, Some(text) if text.as_slice() == bytes.as_slice());
+            let value_type = if is_null {
+                ValueType::Null
+            } else {
+                column.value_type
+            };
+            (value_type, bytes)
+        }
+    };
+    Ok(Assignment {
+        name: Vec::from_slice(alloc, column.name.as_slice())?,
+        value_type,
+        bytes,
+    })
+}
+
 // What a record assigns.
 fn assignments_of(
     alloc: Global,
     wanted: &Wanted<'_>,
     columns: &[Column],
-    record: &ByteRecord,
+    fields: Vec<Field>,
 ) -> Result<Vec<Assignment>, AllocError> {
     let mut assignments = Vec::new(alloc);
-    for i in 0..columns.len() {
-        let column = &columns[i];
-        let Some(field) = record.get(i) else {
-            continue;
-        };
+    for (column, field) in columns.iter().zip(fields) {
         if !column.used {
             continue;
         }
-        let is_null = matches!(&wanted.null_text, Some(text) if text.as_slice() == field);
-        let assignment = Assignment {
-            name: Vec::from_slice(alloc, column.name.as_slice())?,
-            value_type: if is_null {
-                ValueType::Null
-            } else {
-                column.value_type
-            },
-            bytes: Vec::from_slice(alloc, field)?,
-        };
+        let assignment = assignment_of(alloc, wanted, column, field)?;
         if assignments.push(assignment).is_err() {
             return Err(AllocError);
         }
@@ -107,74 +112,71 @@ fn assignments_of(
     Ok(assignments)
 }
 
-// Reads the next record of a table. The line at which it begins, or none after the last one.
-fn next_line(
-    alloc: Global,
-    path: &str,
-    reader: &mut Reader<&[u8]>,
-    record: &mut ByteRecord,
-    bytes: &[u8],
-) -> Result<Option<u64>, Complaint> {
-    match reader.read_byte_record(record) {
-        Ok(true) => Ok(Some(line_of(record.position(), bytes))),
-        Ok(false) => Ok(None),
-        Err(error) => Err(record_refused(alloc, path, error, bytes)),
+// How many lines end in the bytes.
+fn line_ends(bytes: &[u8]) -> u64 {
+    let mut count = 0u64;
+    for byte in bytes {
+        if *byte == b'\n' {
+            count = count.saturating_add(1);
+        }
     }
+    count
 }
 
-// Adds the rows that a reader has to the script. Whether there is a first line, which names the
-// columns.
-fn add_rows(
+// Adds the row of a record that begins at a line.
+fn add_row(
     script: &mut Script<'_>,
     rt: &HostRuntime,
-    reader: &mut Reader<&[u8]>,
-    bytes: &[u8],
-) -> Result<bool, Complaint> {
-    let mut record = ByteRecord::new(rt.alloc());
-    let mut columns: Option<Vec<Column>> = None;
-    // Each record has a byte, and the last turn finds none.
-    for _ in 0..=bytes.len() {
+    columns: &[Column],
+    fields: Vec<Field>,
+    line: u64,
+) -> Result<(), Complaint> {
+    if fields.len() != columns.len() {
         let path = script.wanted.path.as_str();
-        let Some(line) = next_line(rt.alloc(), path, reader, &mut record, bytes)? else {
-            break;
-        };
-        columns = match columns {
-            None => Some(columns_of(rt.alloc(), &script.wanted, &record, line)?),
-            Some(columns) => {
-                let assignments = assignments_of(
-                    rt.alloc(),
-                    &script.wanted,
-                    columns.as_slice(),
-                    &record,
-                )?;
-                script.add(rt, assignments, line)?;
-                Some(columns)
-            }
-        };
+        return Err(length_refused(rt.alloc(), path, line, fields.len(), columns.len()));
     }
-    Ok(columns.is_some())
+    let assignments = assignments_of(rt.alloc(), &script.wanted, columns, fields)?;
+    script.add(rt, assignments, line)
 }
 
-/// Adds the rows of CSV, or of TSV, to the script.
+/// Adds the rows of a table to the script. Its first record names the columns.
 pub fn add_records(
     script: &mut Script<'_>,
     rt: &HostRuntime,
-    tabs: bool,
+    format: RecordFormat,
     bytes: &[u8],
 ) -> Result<(), Complaint> {
-    let whole = unmarked(bytes);
-    let stray = first_stray(whole, tabs);
-    // The records before one that is refused are rows.
-    let bytes = match &stray {
-        Some(stray) => &whole[..stray.record.min(whole.len())],
-        None => whole,
-    };
-    let mut reader = reader_of(rt.alloc(), tabs, bytes);
-    let has_columns = add_rows(script, rt, &mut reader, bytes)?;
+    let bytes = unmarked(bytes);
+    let mut rest = bytes;
+    let mut line = 1u64;
+    let mut columns: Option<Vec<Column>> = None;
+    // Each record has a byte, and the last turn finds none.
+    for _ in 0..=bytes.len() {
+        let record = match first_record(rt.alloc(), format, rest) {
+            Ok(Some(record)) => record,
+            Ok(None) => break,
+            Err(RecordError::Fault(fault)) => {
+                let start = bytes.len().saturating_sub(rest.len());
+                let path = script.wanted.path.as_str();
+                return Err(record_refused(rt.alloc(), path, format, fault, bytes, start));
+            }
+            Err(RecordError::Memory(_)) => return Err(Complaint::Memory),
+        };
+        let Record { fields, rest: more } = record;
+        columns = match columns {
+            None => Some(columns_of(rt.alloc(), &script.wanted, fields.as_slice(), line)?),
+            Some(columns) => {
+                add_row(script, rt, columns.as_slice(), fields, line)?;
+                Some(columns)
+            }
+        };
+        let len = rest.len().saturating_sub(more.len());
+        line = line.saturating_add(line_ends(&rest[..len]));
+        rest = more;
+    }
     let path = script.wanted.path.as_str();
-    match stray {
-        Some(stray) => Err(stray_refused(rt.alloc(), path, &stray, whole)),
-        None if has_columns => Ok(()),
+    match columns {
+        Some(_) => Ok(()),
         None => Err(bad_file(
             rt.alloc(),
             path,

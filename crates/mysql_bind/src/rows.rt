@@ -12,27 +12,41 @@ use crate::sources::{Sources, shown_path};
 use crate::values::{Values, values_of};
 use clap::ArgMatches;
 use mysql_bind_core::{Request, check_query};
+use mysql_records::RecordFormat;
 use std::alloc::{AllocError, Global};
 
 // How a table is written.
 #[derive(Clone, Copy, PartialEq, Eq)]
 enum Form {
-    Csv,
-    Tsv,
+    Records(RecordFormat),
     Ndjson,
 }
 
+// The options that give a table.
+static FORMS: [(&str, Form); 5] = [
+    ("csv", Form::Records(RecordFormat::Csv)),
+    ("tsv", Form::Records(RecordFormat::Tsv)),
+    ("mysql-csv", Form::Records(RecordFormat::MysqlCsv)),
+    ("mysql-tsv", Form::Records(RecordFormat::MysqlTsv)),
+    ("ndjson", Form::Ndjson),
+];
+
 // The table of the words, which is one.
 fn table_of<'a>(alloc: Global, matches: &ArgMatches<'a>) -> Result<(Form, &'a str), Complaint> {
-    match (
-        matches.get_str("csv"),
-        matches.get_str("tsv"),
-        matches.get_str("ndjson"),
-    ) {
-        (Some(path), None, None) => Ok((Form::Csv, path)),
-        (None, Some(path), None) => Ok((Form::Tsv, path)),
-        (None, None, Some(path)) => Ok((Form::Ndjson, path)),
-        _ => Err(bad_word(alloc, "rows: give one of --csv, --tsv and --ndjson")),
+    let mut found = None;
+    let mut count = 0u8;
+    for (option, form) in FORMS {
+        if let Some(path) = matches.get_str(option) {
+            found = Some((form, path));
+            count = count.saturating_add(1);
+        }
+    }
+    match found {
+        Some(table) if count == 1 => Ok(table),
+        _ => Err(bad_word(
+            alloc,
+            "rows: give one of --csv, --tsv, --mysql-csv, --mysql-tsv and --ndjson",
+        )),
     }
 }
 
@@ -42,7 +56,7 @@ fn check_options(alloc: Global, matches: &ArgMatches<'_>, form: Form) -> Result<
     if form == Form::Ndjson && typed {
         return Err(bad_word(
             alloc,
-            "--column and --null-text are for --csv and --tsv: JSON has types and null",
+            "--column and --null-text are not for --ndjson: JSON has types and null",
         ));
     }
     if matches.get_flag("stream") && matches.get_str("output").is_some() {
@@ -104,8 +118,7 @@ fn add_rows(
     bytes: &[u8],
 ) -> Result<(), Complaint> {
     match form {
-        Form::Csv => add_records(script, rt, false, bytes),
-        Form::Tsv => add_records(script, rt, true, bytes),
+        Form::Records(format) => add_records(script, rt, format, bytes),
         Form::Ndjson => add_objects(script, rt, decimals, bytes),
     }
 }

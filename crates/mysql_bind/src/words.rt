@@ -39,7 +39,7 @@ pub fn error_form_of(words: &[String]) -> ErrorForm {
     ErrorForm::Text
 }
 
-static OPTIONS: [&str; 24] = [
+static OPTIONS: [&str; 26] = [
     "--literals",
     "--mode",
     "--sql-mode",
@@ -54,6 +54,8 @@ static OPTIONS: [&str; 24] = [
     "--decimals",
     "--csv",
     "--tsv",
+    "--mysql-csv",
+    "--mysql-tsv",
     "--ndjson",
     "--column",
     "--null-text",

@@ -4,4 +4,5 @@ pub mod FieldLemmas
 pub mod ReadFieldLemmas
 pub mod RecordLemmas
 pub mod ReadRecordLemmas
+pub mod TableLemmas
 pub mod WrittenLemmas

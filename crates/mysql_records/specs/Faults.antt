@@ -1,7 +1,7 @@
 -- What stands in a text where no record has it.
 use Rattle.std.specs.Prelude.{◌≡◌, ◌≢◌, ℕ, ◌<◌, List, [], ◌∷◌, length, drop, Option, None, ⊤}
 use Rattle.mysql_records.specs.Formats.{backslash, carriage_return, escape_value, newline, quote, separator}
-use Rattle.mysql_records.specs.Records.{BeginsWithRecord}
+use Rattle.mysql_records.specs.Records.{BeginsWithRecord, IsTable}
 use Rattle.mysql_records.specs.declared.format.RecordFormat.{RecordFormat}
 use Rattle.mysql_records.specs.declared.fault.Fault.{Fault}
 use Rattle.mysql_records.specs.declared.fault.FaultKind.{FaultKind}
@@ -39,3 +39,14 @@ pub record IsFaulty (format : RecordFormat) (text : List ℕ) (fault : Fault) : 
 abbrev pub IsRefusal : RecordFormat → List ℕ → RecordError → Type 0
 IsRefusal format text (FaultError fault) = IsFaulty format text fault
 IsRefusal format text (Memory error) = ⊤
+
+-- the text is no table, and this fault is in it
+pub record IsFaultyTable (format : RecordFormat) (text : List ℕ) (fault : Fault) : Type 0 where
+  pub none : (rows : List (List (Option (List ℕ)))) → IsTable format rows text → ⊥
+  pub within : fault.at < length text
+  pub stands : IsFaultAt format fault.kind (drop fault.at text)
+
+-- a fault for what the table has; nothing is said of out of memory
+abbrev pub IsTableRefusal : RecordFormat → List ℕ → RecordError → Type 0
+IsTableRefusal format text (FaultError fault) = IsFaultyTable format text fault
+IsTableRefusal format text (Memory error) = ⊤

@@ -1,6 +1,7 @@
 -- The code's values without where they lie in memory.
 use Rattle.std.specs.Prelude.{ℕ, List, map, Option, Some, None}
 use Rattle.mysql_records.specs.declared.record.Field.{Field}
+use Rattle.mysql_records.specs.declared.rows.Row.{Row}
 use Rattle.mysql_records.specs.declared.record.Field.TheVariants.{Null, Bytes}
 
 -- a field: its bytes, or none where it is NULL
@@ -11,3 +12,7 @@ field_seen (Bytes bytes) = Some bytes.items
 -- the fields of a record
 abbrev pub fields_seen : List Field → List (Option (List ℕ))
 fields_seen = map field_seen
+
+-- the rows of a table
+abbrev pub rows_seen : List Row → List (List (Option (List ℕ)))
+rows_seen = map (λ row. fields_seen row.fields.items)

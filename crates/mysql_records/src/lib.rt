@@ -7,7 +7,9 @@ mod format;
 pub mod laws;
 mod pieces;
 mod record;
+mod rows;
 
 pub use fault::{Fault, FaultKind, RecordError};
 pub use format::RecordFormat;
 pub use record::{Field, Record, first_record};
+pub use rows::{Row, all_rows};
