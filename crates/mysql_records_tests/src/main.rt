@@ -40,10 +40,7 @@ static DIGITS: [u8; 16] = *b"0123456789abcdef";
 // Adds bytes in hexadecimal.
 fn add_hexadecimal(answer: &mut Vec<u8>, bytes: &[u8]) -> Result<(), AllocError> {
     for byte in bytes {
-        let pair = [
-            DIGITS[(*byte / 16) as usize],
-            DIGITS[(*byte % 16) as usize],
-        ];
+        let pair = [DIGITS[(*byte / 16) as usize], DIGITS[(*byte % 16) as usize]];
         answer.extend_from_slice(&pair)?;
     }
     Ok(())
