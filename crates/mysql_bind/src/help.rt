@@ -36,9 +36,12 @@ Types:
 Rows (rows). The first line of CSV and TSV has the names. Each statement ends
 with `;` on a line of its own. The values above are the same in each row:
       --csv PATH | --tsv PATH | --ndjson PATH
-      --column NAME:TYPE    the type of a column (CSV, TSV); text unless given
-      --null-text TEXT      a field that is TEXT is NULL, quoted or not (CSV,
-                            TSV); without it an empty field is an empty text
+      --mysql-csv PATH      what a server writes by INTO OUTFILE .. FIELDS
+                            TERMINATED BY ',' ENCLOSED BY '"'
+      --mysql-tsv PATH      what it writes without FIELDS, and mysql --batch
+      --column NAME:TYPE    the type of a column (not NDJSON); text unless given
+      --null-text TEXT      a field that is TEXT is NULL, quoted or not (not
+                            NDJSON); without it an empty field is an empty text
       --transaction         START TRANSACTION before the first row, COMMIT after
                             the last: a script that is cut off changes nothing
       --stream              write statements before all rows are bound: a row
