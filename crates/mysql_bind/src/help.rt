@@ -37,7 +37,7 @@ Rows (rows). The first line of CSV and TSV has the names. Each statement ends
 with `;` on a line of its own. The values above are the same in each row:
       --csv PATH | --tsv PATH | --ndjson PATH
       --mysql-csv PATH      what a server writes by INTO OUTFILE .. FIELDS
-                            TERMINATED BY ',' ENCLOSED BY '"'
+                            TERMINATED BY ',' ENCLOSED BY '\"'
       --mysql-tsv PATH      what it writes without FIELDS, and mysql --batch
       --column NAME:TYPE    the type of a column (not NDJSON); text unless given
       --null-text TEXT      a field that is TEXT is NULL, quoted or not (not
