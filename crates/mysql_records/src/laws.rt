@@ -7,9 +7,10 @@ ghost use Rattle.mysql_records.specs.declared.format.RecordFormat.{RecordFormat}
 
 /// A text is one table at most.
 pub fn tables_are_unambiguous()
-    ensures records { (format : RecordFormat) (text : List ℕ) (fields others : List (Option (List ℕ)))
-        (rest more : List ℕ) → BeginsWithRecord format text fields rest →
-        BeginsWithRecord format text others more → (fields ≡ others) × (rest ≡ more) }
+    ensures records { (format : RecordFormat) (text : List ℕ)
+        (fields others : List (Option (List ℕ))) (rest more : List ℕ) →
+        BeginsWithRecord format text fields rest → BeginsWithRecord format text others more →
+        (fields ≡ others) × (rest ≡ more) }
     ensures tables { (format : RecordFormat) (rows others : List (List (Option (List ℕ))))
         (text : List ℕ) → IsTable format rows text → IsTable format others text →
         rows ≡ others }

@@ -1,7 +1,7 @@
 //! Reads texts as tables, for tests. Each line of standard input is the name of a format, a space
 //! and a text in hexadecimal. Its line of standard output has the rows of the text, each ended by
-//! `;`, with `,` between the fields: hexadecimal, or `-` for NULL. If the text is no table, the line
-//! is `!`, the index of the fault and its kind.
+//! `;`, with `,` between the fields: hexadecimal, or `-` for NULL. If the text is no table, the
+//! line is `!`, the index of the fault and its kind.
 #![tactic(auto)]
 
 use mysql_records::{Field, RecordError, RecordFormat, Row, all_rows};
