@@ -38,7 +38,7 @@ with `;` on a line of its own. The values above are the same in each row:
       --csv PATH | --tsv PATH | --ndjson PATH
       --mysql-csv PATH      what a server writes by INTO OUTFILE .. FIELDS
                             TERMINATED BY ',' ENCLOSED BY '\"'
-      --mysql-tsv PATH      what it writes without FIELDS, and mysql --batch
+      --mysql-tsv PATH      what it writes without FIELDS, and mysql -B
       --column NAME:TYPE    the type of a column (not NDJSON); text unless given
       --null-text TEXT      a field that is TEXT is NULL, quoted or not (not
                             NDJSON); without it an empty field is an empty text

@@ -22,6 +22,7 @@ mod parsed_query_cases;
 mod program_cases;
 mod query_cases;
 mod read_cases;
+mod record_cases;
 mod rows_cases;
 mod steady_cases;
 mod steady_fragment_cases;
@@ -103,6 +104,9 @@ fn fragments_case(alloc: Global, name: &str) -> Option<Case> {
 /// Of the core of the shell tool.
 fn bind_case(alloc: Global, name: &str) -> Option<Case> {
     if let Some(case) = bind_cases::case(alloc, name) {
+        return Some(case);
+    }
+    if let Some(case) = record_cases::case(alloc, name) {
         return Some(case);
     }
     bind_rows_cases::case(alloc, name)
