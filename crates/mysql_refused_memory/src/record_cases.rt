@@ -16,7 +16,7 @@ pub(crate) fn case(alloc: Global, name: &str) -> Option<Case> {
 /// The fields of a record: the bytes of each, or none where it is NULL.
 type Fields = &'static [Option<&'static [u8]>];
 
-/// A text, what is read of it, or how the refusal is shown, and whether the call may ask for memory.
+/// A text, what is read of it or how the refusal is shown, and whether the call may ask for memory.
 type ReadRow<W> = (RecordFormat, &'static [u8], Result<W, &'static str>, Memory);
 
 const FIRST: &[(&str, ReadRow<Option<Fields>>)] = cases! {
