@@ -57,12 +57,21 @@ impl Is<Option<Fields>> for Option<Record<'_>> {
     }
 }
 
+/// Whether the rows have these fields.
+fn are_rows(rows: &[Row], wanted: &'static [Fields]) -> bool {
+    if rows.len() != wanted.len() {
+        return false;
+    }
+    for i in 0..rows.len() {
+        if !are_fields(rows[i].fields.as_slice(), wanted[i]) {
+            return false;
+        }
+    }
+    true
+}
+
 impl Is<&'static [Fields]> for Vec<Row> {
     fn is(&self, wanted: &'static [Fields]) -> bool {
-        self.len() == wanted.len()
-            && self
-                .iter()
-                .zip(wanted)
-                .all(|(row, wanted)| are_fields(row.fields.as_slice(), *wanted))
+        are_rows(self.as_slice(), wanted)
     }
 }
