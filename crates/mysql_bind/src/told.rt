@@ -18,6 +18,11 @@ fn is_hidden(letter: char) -> bool {
     )
 }
 
+// Whether a byte is a sign of ASCII or a space.
+fn is_shown(byte: u8) -> bool {
+    byte >= b' ' && byte <= b'~'
+}
+
 /// A text that stays on its line: a control character, a separator and a sign of direction is shown
 /// as `\u{a}`, by its hexadecimal number.
 #[derive(Clone, Copy)]
@@ -25,6 +30,10 @@ pub struct OnOneLine<'a>(pub &'a str);
 
 impl fmt::Display for OnOneLine<'_> {
     fn fmt<W: fmt::Write>(&self, f: &mut fmt::Formatter<W>) -> fmt::Result {
+        // Most texts have nothing to hide: then they are written at once.
+        if self.0.as_bytes().iter().all(|byte| is_shown(*byte)) {
+            return write!(f, "{}", self.0);
+        }
         for letter in self.0.chars() {
             if is_hidden(letter) {
                 write!(f, "\\u{{{:x}}}", letter as u32)?;
