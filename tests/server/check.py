@@ -14,6 +14,7 @@ import anew
 import beside
 import client
 import drivers
+import exported
 import fragments
 import leaks
 import limits
@@ -53,6 +54,7 @@ def main(path: str, mysql_query: str, mysql_bind: str, folder: str) -> int:
     sent.run(tests, folder, is_mysql)
     pipes.run(tests, folder, is_mysql)
     shell_tool.run(tests, path, os.path.abspath(mysql_bind), folder, is_mysql)
+    exported.run(tests, path, os.path.abspath(mysql_bind), folder, is_mysql)
     leaks.run(tests, path)
     limits.run(tests, path, folder)
     search.run(tests, path)
