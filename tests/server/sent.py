@@ -52,7 +52,7 @@ _CASES = [
     Case("a comment after 1.e;", b"SELECT 1.e;-- 2\n", None, [b"SELECT 1.e-- 2"], [b"SELECT 1.e"], found=False),
     *[
         Case(f"-- at the end, and a comment {comment!r} behind it", b"SELECT 5 --;" + comment + b"\n", None,
-             [b"SELECT 5 --" + comment], [b"SELECT 5 --"], found=False)
+             [(b"SELECT 5 --" + comment).rstrip()], [b"SELECT 5 --"], found=False)
         for comment in (b"-- ", b"-- x", b"#x")
     ],
     Case("a dash and a negative number", b"SELECT 1;\n-:a\n; SELECT 2", {"a": -5},
