@@ -1,6 +1,6 @@
 //! The rows of CSV and TSV, and of what MySQL servers and clients write.
 use crate::columns::{Column, Wanted, add_fixed, columns_of};
-use crate::complaint::{Complaint, Place, bad_file, bad_row, one_fault};
+use crate::complaint::{Complaint, Place, bad_file, one_fault};
 use crate::script::Script;
 use crate::sources::unmarked;
 use mysql_bind_core::{Assignment, ValueType, line_and_column};
@@ -10,8 +10,12 @@ use std::alloc::{AllocError, Global};
 // What is said of a fault, and what to write instead.
 fn fault_text(format: RecordFormat, kind: FaultKind) -> &'static str {
     match kind {
-        FaultKind::StrayReturn =>
-            "a carriage return stands before no newline: write the field in quotes, in CSV",
+        FaultKind::StrayReturn => match format {
+            RecordFormat::Tsv =>
+                "a carriage return stands before no newline: no field of TSV has one, but one of \
+                 --csv may, in quotes",
+            _ => "a carriage return stands before no newline: write the field in quotes",
+        },
         FaultKind::StrayQuote => match format {
             RecordFormat::MysqlCsv =>
                 "a quote stands within a field: write it as `\\\"`, and the field in quotes",
@@ -30,21 +34,9 @@ fn fault_text(format: RecordFormat, kind: FaultKind) -> &'static str {
     }
 }
 
-// What is said of a table whose bytes aren't records from a byte on.
-fn record_refused(
-    alloc: Global,
-    path: &str,
-    format: RecordFormat,
-    fault: Fault,
-    bytes: &[u8],
-    start: usize,
-) -> Complaint {
-    let at = start.saturating_add(fault.at).min(bytes.len());
-    let (line, column) = line_and_column(bytes, at);
-    match (
-        String::from_str(alloc, path),
-        String::from_str(alloc, fault_text(format, fault.kind)),
-    ) {
+// A complaint about a place of the table.
+fn place_refused(alloc: Global, path: &str, line: usize, column: usize, what: &str) -> Complaint {
+    match (String::from_str(alloc, path), String::from_str(alloc, what)) {
         (Ok(path), Ok(what)) => {
             let place = Place::Line { path, line, column };
             match one_fault(alloc, place, what) {
@@ -56,10 +48,24 @@ fn record_refused(
     }
 }
 
-// What is said of a record with another number of fields than there are columns.
+// What is said of a table whose bytes aren't records from a byte on.
+fn record_refused(
+    alloc: Global,
+    path: &str,
+    format: RecordFormat,
+    fault: Fault,
+    bytes: &[u8],
+) -> Complaint {
+    let (line, column) = line_and_column(bytes, fault.at.min(bytes.len()));
+    place_refused(alloc, path, line, column, fault_text(format, fault.kind))
+}
+
+// What is said of a record that begins at a line, and has another number of fields than there are
+// columns.
 fn length_refused(alloc: Global, path: &str, line: u64, len: usize, columns: usize) -> Complaint {
-    match format!(in alloc; "{len} fields, and the first line has {columns}") {
-        Ok(what) => bad_row(alloc, path, line, what.as_str()),
+    let fields = if len == 1 { "field" } else { "fields" };
+    match format!(in alloc; "{len} {fields}, and the first line has {columns}") {
+        Ok(what) => place_refused(alloc, path, line as usize, 1, what.as_str()),
         Err(_) => Complaint::Memory,
     }
 }
@@ -155,10 +161,11 @@ pub fn add_records(
         let record = match first_record(rt.alloc(), format, rest) {
             Ok(Some(record)) => record,
             Ok(None) => break,
-            Err(RecordError::Fault(fault)) => {
+            Err(RecordError::Fault(mut fault)) => {
                 let start = bytes.len().saturating_sub(rest.len());
+                fault.at = fault.at.saturating_add(start);
                 let path = script.wanted.path.as_str();
-                return Err(record_refused(rt.alloc(), path, format, fault, bytes, start));
+                return Err(record_refused(rt.alloc(), path, format, fault, bytes));
             }
             Err(RecordError::Memory(_)) => return Err(Complaint::Memory),
         };

@@ -1,5 +1,5 @@
--- The bytes of the formats of records: RFC 4180, section 2, and MySQL Reference Manual, "SELECT ...
--- INTO Statement" and "LOAD DATA Statement".
+-- The bytes of the formats of records: RFC 4180, section 2, with LF as a line end too; and MySQL
+-- Reference Manual, "SELECT ... INTO Statement", and for escapes "LOAD DATA Statement".
 use Rattle.std.specs.Prelude.{ℕ, Bool, true, false, ◌==◌, List, codes, Option, Some, None, if◌then◌else◌}
 use Rattle.std.specs.List.{list_any}
 use Rattle.std.specs.Str.{byte}

@@ -1,6 +1,8 @@
--- Records of text, as RFC 4180, section 2, and the MySQL Reference Manual, "LOAD DATA Statement",
--- lay them out. Each definition says which texts are one thing, as a rule of the RFC's ABNF does.
--- A field is its bytes, or none where it is NULL.
+-- Records of text: CSV as RFC 4180, section 2, has it, with LF as a line end too and any byte in a
+-- field; the same with tabs and without quotes; and what `SELECT .. INTO OUTFILE` writes (MySQL
+-- Reference Manual, "SELECT ... INTO Statement"), of which `LOAD DATA` reads more. Each definition
+-- says which texts are one thing, as a rule of the RFC's ABNF does. A field is its bytes, or none
+-- where it is NULL.
 use Rattle.std.specs.Prelude.{◌≡◌, ◌≢◌, ℕ, Bool, true, false, IsTrue, IsFalse, List, [], ◌∷◌, ◌++◌, Option, Some, None}
 use Rattle.std.specs.Str.{byte}
 use Rattle.mysql_records.specs.Formats.{backslash, carriage_return, doubles_quotes, escape_value, has_escapes, has_quotes, is_special, newline, quote, separator}

@@ -1,5 +1,6 @@
--- How records are written: as RFC 4180, section 2, allows, and as `SELECT .. INTO OUTFILE` writes
--- (MySQL Reference Manual, "SELECT ... INTO Statement"). Each record ends at a newline.
+-- One way to write records: as RFC 4180, section 2, allows, with LF in place of CR LF and each
+-- field in quotes; and as servers write by `SELECT .. INTO OUTFILE` (MySQL Reference Manual,
+-- "SELECT ... INTO Statement"), which escape no comma in quotes. Each record ends at a newline.
 use Rattle.std.specs.Prelude.{ℕ, ◌==◌, ◌≢◌, ⊤, List, [], ◌∷◌, ◌++◌, codes, Option, Some, None, if◌then◌else◌, IsFalse, false}
 use Rattle.std.specs.List.{flat_map, list_any}
 use Rattle.mysql_records.specs.Formats.{backslash, is_special, newline, quote, separator}

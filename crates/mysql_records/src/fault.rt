@@ -16,7 +16,9 @@ pub enum FaultKind {
     UnknownEscape,
 }
 
-/// The first place of a text at which no record can go on.
+/// Where a text isn't records: at the quote before a field that no quote ends, else at the first
+/// byte that no record has where it stands. Contracts say which byte it is; that it is the first,
+/// tests show.
 #[derive(Debug, Clone, Copy, PartialEq, Eq)]
 pub struct Fault {
     /// The index of the byte.

@@ -17,7 +17,7 @@ pub fn tables_are_unambiguous()
 {}
 
 /// A table whose records each have a field reads as it was written, and as no other table: so no
-/// byte of a field begins a field or a record.
+/// byte of a field that is written so begins a field or a record.
 pub fn written_tables_are_read()
     ensures table { (format : RecordFormat) (rows : List (List (Option (List ℕ)))) →
         IsWritableTable format rows → IsTable format rows (written_table format rows) }

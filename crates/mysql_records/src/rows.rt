@@ -17,8 +17,8 @@ pub struct Row {
 }
 
 /// All records of a text, in order: what [`first_record`](crate::first_record) gives of the text,
-/// of its rest, and so on to the end. The first fault, at its index in the text, if one of them
-/// has one.
+/// of its rest, and so on to the end. The fault of the first of these that has one, at its index in
+/// the text.
 pub fn all_rows(alloc: Global, format: RecordFormat, text: &[u8]) -> Result<Vec<Row>, RecordError>
     ensures table { IfOk result (λ rows. IsTable format (rows_seen rows.items) text.now) }
     ensures refused { IfErr result (IsTableRefusal format text.now) }
