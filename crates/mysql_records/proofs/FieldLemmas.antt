@@ -4,8 +4,8 @@ use Rattle.std.proofs.lemmas.Bool.{eqb-true}
 use Rattle.mysql_records.specs.Faults.{HasNoEscape, BeginsWithNo, IsFaultAt}
 use Rattle.mysql_records.specs.declared.fault.FaultKind.TheVariants.{StrayReturn, BehindQuote, UnknownEscape}
 use Rattle.mysql_records.specs.Formats.{backslash, carriage_return, escape_value, has_escapes, has_quotes, is_special, newline, quote, separator}
-use Rattle.mysql_records.specs.Records.{raw, doubled, escape, IsPieces, no_pieces, more_pieces, IsField, bare, enclosed, null, line_feed, return_line_feed, EndsRecord, at_line_end, at_text_end}
-use Rattle.mysql_records.specs.Fields.{StartsNoPiece, BeginsWithPieces, EndsField, at_separator, at_record_end, BeginsWithField}
+use Rattle.mysql_records.specs.Records.{raw, doubled, escape, IsPieces, no_pieces, more_pieces, IsField, bare, enclosed, null, line_feed, return_line_feed, EndsRecord, at_line_end, at_text_end, EndsField, at_separator, at_record_end}
+use Rattle.mysql_records.specs.Fields.{StartsNoPiece, BeginsWithPieces, BeginsWithField}
 use Rattle.mysql_records.specs.declared.format.RecordFormat.{RecordFormat}
 use Rattle.mysql_records.specs.declared.format.RecordFormat.TheVariants.{Csv, Tsv, MysqlCsv, MysqlTsv}
 use Rattle.mysql_records.proofs.PieceLemmas.{special_backslash, special_quote, special_separator, special_newline, special_return, none_doubled_bare, none_at, none_at_end, none_starts, starts_special, pieces_same}
@@ -40,7 +40,7 @@ separator_not_return Tsv e = absurd (omega (arith, e))
 separator_not_return MysqlCsv e = absurd (omega (arith, e))
 separator_not_return MysqlTsv e = absurd (omega (arith, e))
 
-heads : (b c : ℕ) (x y : List ℕ) → b ∷ x ≡ c ∷ y → b ≡ c
+pub heads : (b c : ℕ) (x y : List ℕ) → b ∷ x ≡ c ∷ y → b ≡ c
 heads b c x y e = cc
 
 -- the first byte is neither of two others
@@ -58,7 +58,7 @@ pub ends_not_backslash : (format : RecordFormat) (text rest : List ℕ) → Ends
 ends_not_backslash format text rest = ends_not format backslash text rest (separator_not_backslash format) (λ e. absurd (omega (arith, e))) (λ e. absurd (omega (arith, e)))
 
 -- a special byte other than a backslash begins no piece of a field without quotes
-none_bare : (format : RecordFormat) (a : ℕ) (text : List ℕ) → is_special format false a ≡ true → a ≢ backslash → StartsNoPiece format false (a ∷ text)
+pub none_bare : (format : RecordFormat) (a : ℕ) (text : List ℕ) → is_special format false a ≡ true → a ≢ backslash → StartsNoPiece format false (a ∷ text)
 none_bare format a text special n =
     none_at format false a text special (λ rest h e f. none_doubled_bare format h) (λ c b rest h e m f. n e)
 
@@ -78,26 +78,34 @@ quote_no_piece format text h ends =
 
 -- ---- a field without quotes begins as no other
 
+pub pieces_not_quote : (format : RecordFormat) (bytes t rest tail : List ℕ) → IsPieces format false bytes t → (t ≡ [] → rest ≢ quote ∷ tail) →
+    has_quotes format ≡ true → t ++ rest ≢ quote ∷ tail
+pieces_not_quote format bytes t rest tail no_pieces other h e = other refl e
+pieces_not_quote format bytes t rest tail (more_pieces b text bytes2 rest2 (raw x k) m) other h e =
+    true≢false (sym (special_quote format false h) ∙ ap (is_special format false) (sym (heads _ _ _ _ e)) ∙ k)
+pieces_not_quote format bytes t rest tail (more_pieces b text bytes2 rest2 (doubled k) m) other h e = none_doubled_bare format k
+pieces_not_quote format bytes t rest tail (more_pieces b text bytes2 rest2 (escape c x k n) m) other h e =
+    absurd (omega (arith, heads _ _ _ _ e))
+
 pub bare_not_quote : (format : RecordFormat) (bytes t rest tail : List ℕ) → IsPieces format false bytes t → EndsField format rest →
     has_quotes format ≡ true → t ++ rest ≢ quote ∷ tail
-bare_not_quote format bytes t rest tail no_pieces ends h e = ends_not_quote format rest tail ends e
-bare_not_quote format bytes t rest tail (more_pieces b text bytes2 rest2 (raw x k) m) ends h e =
-    true≢false (sym (special_quote format false h) ∙ ap (is_special format false) (sym (heads _ _ _ _ e)) ∙ k)
-bare_not_quote format bytes t rest tail (more_pieces b text bytes2 rest2 (doubled k) m) ends h e = none_doubled_bare format k
-bare_not_quote format bytes t rest tail (more_pieces b text bytes2 rest2 (escape c x k n) m) ends h e =
-    absurd (omega (arith, heads _ _ _ _ e))
+bare_not_quote format bytes t rest tail p ends = pieces_not_quote format bytes t rest tail p (λ e. ends_not_quote format rest tail ends)
 
 no_null_escape : (c b : ℕ) → c ≡ 78 → escape_value c ≡ Some b → ⊥
 no_null_escape c b e h = let k : None ≡ Some b = ap escape_value (sym e) ∙ h in cc
 
+pub pieces_not_null : (format : RecordFormat) (bytes t rest tail : List ℕ) → IsPieces format false bytes t → (t ≡ [] → rest ≢ backslash ∷ 78 ∷ tail) →
+    has_escapes format ≡ true → t ++ rest ≢ backslash ∷ 78 ∷ tail
+pieces_not_null format bytes t rest tail no_pieces other h e = other refl e
+pieces_not_null format bytes t rest tail (more_pieces b text bytes2 rest2 (raw x k) m) other h e =
+    true≢false (sym (special_backslash format false h) ∙ ap (is_special format false) (sym (heads _ _ _ _ e)) ∙ k)
+pieces_not_null format bytes t rest tail (more_pieces b text bytes2 rest2 (doubled k) m) other h e = none_doubled_bare format k
+pieces_not_null format bytes t rest tail (more_pieces b text bytes2 rest2 (escape c x k n) m) other h e =
+    let f : c ≡ 78 = cc in no_null_escape c x f n
+
 pub bare_not_null : (format : RecordFormat) (bytes t rest tail : List ℕ) → IsPieces format false bytes t → EndsField format rest →
     has_escapes format ≡ true → t ++ rest ≢ backslash ∷ 78 ∷ tail
-bare_not_null format bytes t rest tail no_pieces ends h e = ends_not_backslash format rest (78 ∷ tail) ends e
-bare_not_null format bytes t rest tail (more_pieces b text bytes2 rest2 (raw x k) m) ends h e =
-    true≢false (sym (special_backslash format false h) ∙ ap (is_special format false) (sym (heads _ _ _ _ e)) ∙ k)
-bare_not_null format bytes t rest tail (more_pieces b text bytes2 rest2 (doubled k) m) ends h e = none_doubled_bare format k
-bare_not_null format bytes t rest tail (more_pieces b text bytes2 rest2 (escape c x k n) m) ends h e =
-    let f : c ≡ 78 = cc in no_null_escape c x f n
+bare_not_null format bytes t rest tail p ends = pieces_not_null format bytes t rest tail p (λ e. ends_not_backslash format rest (78 ∷ tail) ends)
 
 -- ---- one field
 
@@ -207,7 +215,7 @@ no_escape_at format quoted a (c ∷ text) h e longest =
 
 -- a quote after the pieces of a field in quotes is the only other byte than an escape
 pub fault_in_quotes : (format : RecordFormat) (text : List ℕ) → has_quotes format ≡ true → text ≢ [] → ((rest : List ℕ) → text ≢ quote ∷ rest) →
-    StartsNoPiece format true text → IsFaultAt format UnknownEscape text
+    StartsNoPiece format true text → IsFaultAt format UnknownEscape text × (has_escapes format ≡ true)
 fault_in_quotes format [] h some other longest = absurd (some refl)
 fault_in_quotes Csv (a ∷ text) h some other longest =
     let special : (eqb a quote || false) ≡ true = starts_special Csv true a text longest in
@@ -221,7 +229,7 @@ fault_in_quotes MysqlCsv (a ∷ text) h some other longest =
     elim (either_true (eqb a quote) _ special) [
       | inl e ↦ absurd (other text (ap (λ x. x ∷ text) (eqb-true a quote e)))
       | inr e ↦ elim (either_true (eqb a backslash) false e) [
-        | inl f ↦ (eqb-true a backslash f, no_escape_at MysqlCsv true a text refl (eqb-true a backslash f) longest)
+        | inl f ↦ ((eqb-true a backslash f, no_escape_at MysqlCsv true a text refl (eqb-true a backslash f) longest), refl)
         | inr f ↦ absurd (true≢false (sym f))
       ]
     ]
@@ -267,36 +275,36 @@ one_of_three a b c d P p q r h =
       ]
     ]
 
--- the first byte of what follows the pieces of a field without quotes
+-- the first byte of what follows the pieces of a field without quotes, in a format without escapes
 pub fault_bare : (format : RecordFormat) (text : List ℕ) → (EndsField format text → ⊥) → ((rest : List ℕ) → text ≢ quote ∷ rest) →
-    ((rest : List ℕ) → text ≢ backslash ∷ rest) → StartsNoPiece format false text → IsFaultAt format StrayReturn text
+    ((rest : List ℕ) → text ≢ backslash ∷ rest) → StartsNoPiece format false text → IsFaultAt format StrayReturn text × (has_escapes format ≡ false)
 fault_bare format [] ends quoted escaped longest = absurd (ends (ends_empty format [] refl))
 fault_bare Csv (a ∷ text) ends quoted escaped longest =
-    one_of_four a quote 44 carriage_return newline (IsFaultAt Csv StrayReturn (a ∷ text))
+    one_of_four a quote 44 carriage_return newline (IsFaultAt Csv StrayReturn (a ∷ text) × (has_escapes Csv ≡ false))
     (λ e. absurd (quoted text (ap (λ x. x ∷ text) e)))
     (λ e. absurd (ends (ends_separator Csv (a ∷ text) text (ap (λ x. x ∷ text) e))))
-    (λ e. (e, no_newline Csv a text refl e ends))
+    (λ e. ((e, no_newline Csv a text refl e ends), refl))
     (λ e. absurd (ends (at_record_end (a ∷ text) text (record_ends_line Csv (a ∷ text) text (ap (λ x. x ∷ text) e)))))
     (starts_special Csv false a text longest)
 fault_bare Tsv (a ∷ text) ends quoted escaped longest =
-    one_of_three a 9 carriage_return newline (IsFaultAt Tsv StrayReturn (a ∷ text))
+    one_of_three a 9 carriage_return newline (IsFaultAt Tsv StrayReturn (a ∷ text) × (has_escapes Tsv ≡ false))
     (λ e. absurd (ends (ends_separator Tsv (a ∷ text) text (ap (λ x. x ∷ text) e))))
-    (λ e. (e, no_newline Tsv a text refl e ends))
+    (λ e. ((e, no_newline Tsv a text refl e ends), refl))
     (λ e. absurd (ends (at_record_end (a ∷ text) text (record_ends_line Tsv (a ∷ text) text (ap (λ x. x ∷ text) e)))))
     (starts_special Tsv false a text longest)
 fault_bare MysqlCsv (a ∷ text) ends quoted escaped longest =
-    one_of_four a quote backslash 44 newline (IsFaultAt MysqlCsv StrayReturn (a ∷ text))
-    (λ e. absurd (quoted text (ap (λ x. x ∷ text) e)))
-    (λ e. absurd (escaped text (ap (λ x. x ∷ text) e)))
-    (λ e. absurd (ends (ends_separator MysqlCsv (a ∷ text) text (ap (λ x. x ∷ text) e))))
-    (λ e. absurd (ends (at_record_end (a ∷ text) text (record_ends_line MysqlCsv (a ∷ text) text (ap (λ x. x ∷ text) e)))))
-    (starts_special MysqlCsv false a text longest)
+    absurd (one_of_four a quote backslash 44 newline ⊥
+    (λ e. quoted text (ap (λ x. x ∷ text) e))
+    (λ e. escaped text (ap (λ x. x ∷ text) e))
+    (λ e. ends (ends_separator MysqlCsv (a ∷ text) text (ap (λ x. x ∷ text) e)))
+    (λ e. ends (at_record_end (a ∷ text) text (record_ends_line MysqlCsv (a ∷ text) text (ap (λ x. x ∷ text) e))))
+    (starts_special MysqlCsv false a text longest))
 fault_bare MysqlTsv (a ∷ text) ends quoted escaped longest =
-    one_of_three a backslash 9 newline (IsFaultAt MysqlTsv StrayReturn (a ∷ text))
-    (λ e. absurd (escaped text (ap (λ x. x ∷ text) e)))
-    (λ e. absurd (ends (ends_separator MysqlTsv (a ∷ text) text (ap (λ x. x ∷ text) e))))
-    (λ e. absurd (ends (at_record_end (a ∷ text) text (record_ends_line MysqlTsv (a ∷ text) text (ap (λ x. x ∷ text) e)))))
-    (starts_special MysqlTsv false a text longest)
+    absurd (one_of_three a backslash 9 newline ⊥
+    (λ e. escaped text (ap (λ x. x ∷ text) e))
+    (λ e. ends (ends_separator MysqlTsv (a ∷ text) text (ap (λ x. x ∷ text) e)))
+    (λ e. ends (at_record_end (a ∷ text) text (record_ends_line MysqlTsv (a ∷ text) text (ap (λ x. x ∷ text) e))))
+    (starts_special MysqlTsv false a text longest))
 
 -- a backslash is special only where it escapes
 backslash_escapes : (format : RecordFormat) → is_special format false backslash ≡ true → has_escapes format ≡ true
@@ -305,18 +313,36 @@ backslash_escapes Tsv h = cc
 backslash_escapes MysqlCsv h = refl
 backslash_escapes MysqlTsv h = refl
 
+-- a quote is special only where there are quotes
+quote_encloses : (format : RecordFormat) → is_special format false quote ≡ true → has_quotes format ≡ true
+quote_encloses Csv h = refl
+quote_encloses Tsv h = cc
+quote_encloses MysqlCsv h = refl
+quote_encloses MysqlTsv h = cc
+
+pub has_quotes_at : (format : RecordFormat) (text rest : List ℕ) → text ≡ quote ∷ rest → StartsNoPiece format false text → has_quotes format ≡ true
+has_quotes_at format text rest e longest =
+    quote_encloses format (starts_special format false quote rest (subst (StartsNoPiece format false) e longest))
+
+pub has_escapes_at : (format : RecordFormat) (text rest : List ℕ) → text ≡ backslash ∷ rest → StartsNoPiece format false text → has_escapes format ≡ true
+has_escapes_at format text rest e longest =
+    backslash_escapes format (starts_special format false backslash rest (subst (StartsNoPiece format false) e longest))
+
 pub fault_escape : (format : RecordFormat) (text rest : List ℕ) → text ≡ backslash ∷ rest → StartsNoPiece format false text → IsFaultAt format UnknownEscape text
 fault_escape format text rest e longest =
-    let at : StartsNoPiece format false (backslash ∷ rest) = subst (StartsNoPiece format false) e longest in
-    let h : has_escapes format ≡ true = backslash_escapes format (starts_special format false backslash rest at) in
-    subst (IsFaultAt format UnknownEscape) (sym e) (refl, no_escape_at format false backslash rest h refl at)
+    subst (IsFaultAt format UnknownEscape) (sym e)
+    (refl, no_escape_at format false backslash rest (has_escapes_at format text rest e longest) refl (subst (StartsNoPiece format false) e longest))
 
 -- what stands behind a closing quote
-pub fault_behind : (format : RecordFormat) (text : List ℕ) → (EndsField format text → ⊥) → IsFaultAt format BehindQuote text
-fault_behind format [] ends = absurd (ends (ends_empty format [] refl))
-fault_behind format (a ∷ text) ends = (
+pub fault_behind : (format : RecordFormat) (text : List ℕ) → (EndsField format text → ⊥) →
+    ((rest : List ℕ) → has_escapes format ≡ false → text ≢ carriage_return ∷ rest) → StartsNoPiece format true (quote ∷ text) →
+    IsFaultAt format BehindQuote text
+fault_behind format [] ends other longest = absurd (ends (ends_empty format [] refl))
+fault_behind format (a ∷ text) ends other longest = (
   λ e. ends (ends_separator format (a ∷ text) text (ap (λ x. x ∷ text) e)),
   λ e. ends (at_record_end (a ∷ text) text (record_ends_line format (a ∷ text) text (ap (λ x. x ∷ text) e))),
+  λ h e. other text h (ap (λ x. x ∷ text) e),
+  λ h e. none_starts format true (quote ∷ a ∷ text) longest quote (quote ∷ quote ∷ []) text (doubled h) (ap (λ x. quote ∷ x ∷ text) e),
 )
 
 pub fault_return : (format : RecordFormat) (text rest : List ℕ) → has_escapes format ≡ false → text ≡ carriage_return ∷ rest → (EndsField format text → ⊥) →

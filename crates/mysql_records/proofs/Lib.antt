@@ -5,4 +5,5 @@ pub mod ReadFieldLemmas
 pub mod RecordLemmas
 pub mod ReadRecordLemmas
 pub mod TableLemmas
+pub mod FaultLemmas
 pub mod WrittenLemmas

@@ -1,12 +1,12 @@
 -- What is known of a field where it is read, and where it is refused.
-use Rattle.std.proofs.Common.{◌≡◌, ◌≢◌, ℕ, true, false, eqb, List, [], ◌∷◌, ◌++◌, Option, Some, None, length, refl, sym, ap, ◌∙◌, subst, true≢false}
+use Rattle.std.proofs.Common.{◌≡◌, ◌≢◌, ℕ, true, false, eqb, List, [], ◌∷◌, ◌++◌, Option, Some, None, length, refl, sym, ap, ◌∙◌, subst, append-nil, true≢false}
 use Rattle.std.specs.Option.{IfSome, IfNone, is_some}
 use Rattle.std.proofs.lemmas.Bool.{eqb-true}
 use Rattle.std.proofs.lemmas.List.{nil_from_length}
-use Rattle.mysql_records.specs.Faults.{IsFaultAt}
-use Rattle.mysql_records.specs.Fields.{BeginsWithPieces, EndsField, at_record_end, BeginsWithField, IsFieldEnd, IsFaultyField}
+use Rattle.mysql_records.specs.Faults.{BeginsWithNoNull, IsFaultAt, IsFieldBefore, open_quote, escape_enclosed}
+use Rattle.mysql_records.specs.Fields.{BeginsWithPieces, BeginsWithField, IsFieldEnd, IsFaultyField}
 use Rattle.mysql_records.specs.Formats.{backslash, has_escapes, has_quotes, quote}
-use Rattle.mysql_records.specs.Records.{bare, enclosed, null}
+use Rattle.mysql_records.specs.Records.{IsPieces, bare, enclosed, null, EndsField, at_record_end}
 use Rattle.mysql_records.specs.declared.fault.FaultKind.{FaultKind}
 use Rattle.mysql_records.specs.declared.fault.FaultKind.TheVariants.{OpenQuote, UnknownEscape}
 use Rattle.mysql_records.specs.declared.fields.FieldEnd.{FieldEnd}
@@ -60,8 +60,12 @@ enclosed_open format text tail bytes back h e k f = record {
   none = enclosed_none format text tail bytes back h e k (λ rest g ends. cc);
   front = [];
   whole = refl;
-  stands = subst (IsFaultAt format OpenQuote) (sym e) refl;
+  before = open_quote h;
+  stands = subst (IsFaultAt format OpenQuote) (sym e) (refl, bytes, subst (IsPieces format true bytes) (sym all) k.are_pieces);
 }
+  where
+    all : tail ≡ k.front
+    all = k.whole ∙ ap (λ x. k.front ++ x) f ∙ append-nil k.front
 
 pub enclosed_escape : (format : RecordFormat) (text tail bytes back : List ℕ) → has_quotes format ≡ true → text ≡ quote ∷ tail →
     BeginsWithPieces format true tail bytes back → back ≢ [] → ((rest : List ℕ) → back ≢ quote ∷ rest) → IsFaultyField format text UnknownEscape back
@@ -69,17 +73,20 @@ enclosed_escape format text tail bytes back h e k some other = record {
   none = enclosed_none format text tail bytes back h e k (λ rest g ends. other rest g);
   front = quote ∷ k.front;
   whole = e ∙ ap (λ x. quote ∷ x) k.whole;
-  stands = fault_in_quotes format back h some other k.longest;
+  before = escape_enclosed bytes k.front (fault_in_quotes format back h some other k.longest).1 h k.are_pieces;
+  stands = (fault_in_quotes format back h some other k.longest).0;
 }
 
 pub enclosed_behind : (format : RecordFormat) (text tail bytes back rest : List ℕ) (kind : FaultKind) → has_quotes format ≡ true → text ≡ quote ∷ tail →
-    BeginsWithPieces format true tail bytes back → back ≡ quote ∷ rest → (EndsField format rest → ⊥) → IsFaultAt format kind rest →
-    IsFaultyField format text kind rest
-enclosed_behind format text tail bytes back rest kind h e k f no_end stands = record {
+    BeginsWithPieces format true tail bytes back → back ≡ quote ∷ rest → (EndsField format rest → ⊥) →
+    ((bytes front : List ℕ) → has_quotes format ≡ true → IsPieces format true bytes front → IsFieldBefore format rest kind (quote ∷ front ++ quote ∷ [])) →
+    IsFaultAt format kind rest → IsFaultyField format text kind rest
+enclosed_behind format text tail bytes back rest kind h e k f no_end before stands = record {
   none = enclosed_none format text tail bytes back h e k
       (λ rest2 g ends. let same : rest2 ≡ rest = cc in no_end (subst (EndsField format) same ends));
   front = quote ∷ k.front ++ quote ∷ [];
   whole = e ∙ ap (λ x. quote ∷ x) (k.whole ∙ ap (λ x. k.front ++ x) f) ∙ sym (inner k.front rest);
+  before = before bytes k.front h k.are_pieces;
   stands = stands;
 }
 
@@ -92,12 +99,16 @@ bare_read format text bytes back k ends = record { front = k.front; whole = k.wh
 pub bare_fault : (format : RecordFormat) (text bytes back : List ℕ) (kind : FaultKind) →
     ((tail : List ℕ) → has_quotes format ≡ true → text ≢ quote ∷ tail) →
     ((tail : List ℕ) → has_escapes format ≡ true → text ≡ backslash ∷ 78 ∷ tail → EndsField format tail → ⊥) →
-    BeginsWithPieces format false text bytes back → (EndsField format back → ⊥) → IsFaultAt format kind back → IsFaultyField format text kind back
-bare_fault format text bytes back kind no_quote no_null k no_end stands = record {
+    BeginsWithPieces format false text bytes back → (EndsField format back → ⊥) →
+    ((bytes front : List ℕ) → IsPieces format false bytes front → ((tail : List ℕ) → has_quotes format ≡ true → front ++ back ≢ quote ∷ tail) →
+    (has_escapes format ≡ true → BeginsWithNoNull format (front ++ back)) → IsFieldBefore format back kind front) →
+    IsFaultAt format kind back → IsFaultyField format text kind back
+bare_fault format text bytes back kind no_quote no_null k no_end before stands = record {
   none = λ x rest f. let same : back ≡ rest = bare_only format text bytes back x rest no_quote no_null f k in
       no_end (subst (EndsField format) (sym same) f.ends);
   front = k.front;
   whole = k.whole;
+  before = before bytes k.front k.are_pieces (λ tail h e. no_quote tail h (k.whole ∙ e)) (λ h rest ends e. no_null rest h (k.whole ∙ e) ends);
   stands = stands;
 }
 

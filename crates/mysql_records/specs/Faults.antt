@@ -1,7 +1,9 @@
--- What stands in a text where no record has it.
-use Rattle.std.specs.Prelude.{◌≡◌, ◌≢◌, ℕ, ◌<◌, List, [], ◌∷◌, length, drop, Option, None, ⊤}
-use Rattle.mysql_records.specs.Formats.{backslash, carriage_return, escape_value, newline, quote, separator}
-use Rattle.mysql_records.specs.Records.{BeginsWithRecord, IsTable}
+-- What stands in a text where no record has it, and what is read before that. It is the first byte
+-- that no record has where it stands, or a quote that no quote ends: law `faults_are_unambiguous`.
+use Rattle.std.specs.Prelude.{◌≡◌, ◌≢◌, ℕ, ◌<◌, true, false, IsTrue, IsFalse, List, [], ◌∷◌, ◌++◌, length, take, drop, Option, None, ⊤}
+use Rattle.std.specs.Str.{byte}
+use Rattle.mysql_records.specs.Formats.{backslash, carriage_return, doubles_quotes, escape_value, has_escapes, has_quotes, newline, quote, separator}
+use Rattle.mysql_records.specs.Records.{IsPieces, IsField, IsRecord, IsLineEnd, EndsField, BeginsWithRecord, IsTable}
 use Rattle.mysql_records.specs.declared.format.RecordFormat.{RecordFormat}
 use Rattle.mysql_records.specs.declared.fault.Fault.{Fault}
 use Rattle.mysql_records.specs.declared.fault.FaultKind.{FaultKind}
@@ -19,20 +21,69 @@ abbrev pub BeginsWithNo : ℕ → List ℕ → Type 0
 BeginsWithNo b [] = ⊤
 BeginsWithNo b (a ∷ text) = a ≢ b
 
--- what the text from a fault on begins with
+-- What the text from a fault on begins with; a quote that none ends, and pieces to the end.
 abbrev pub IsFaultAt : RecordFormat → FaultKind → List ℕ → Type 0
 IsFaultAt format kind [] = ⊥
 IsFaultAt format StrayReturn (a ∷ text) = (a ≡ carriage_return) × BeginsWithNo newline text
 IsFaultAt format StrayQuote (a ∷ text) = a ≡ quote
-IsFaultAt format OpenQuote (a ∷ text) = a ≡ quote
-IsFaultAt format BehindQuote (a ∷ text) = (a ≢ separator format) × (a ≢ newline)
+IsFaultAt format OpenQuote (a ∷ text) =
+    (a ≡ quote) × (bytes : List ℕ) × IsPieces format true bytes text
+IsFaultAt format BehindQuote (a ∷ text) =
+    (a ≢ separator format) × (a ≢ newline) × (IsFalse (has_escapes format) → a ≢ carriage_return)
+    × (IsTrue (doubles_quotes format true) → a ≢ quote)
 IsFaultAt format UnknownEscape (a ∷ text) = (a ≡ backslash) × HasNoEscape text
 
--- the text isn't empty and begins with no record, and this fault is in it
+-- the text begins with no NULL that ends there
+abbrev pub BeginsWithNoNull : RecordFormat → List ℕ → Type 0
+BeginsWithNoNull format text =
+    (rest : List ℕ) → EndsField format rest → text ≢ backslash ∷ byte "N" ∷ rest
+
+-- What is read of a field before a fault of this kind, in a format that has the kind, and before
+-- this text from the fault on: pieces without quotes, a quote and pieces, or a field in quotes.
+pub data IsFieldBefore (format : RecordFormat) (back : List ℕ) : FaultKind → List ℕ → Type 0 where
+  return_bare : (bytes text : List ℕ) → IsFalse (has_escapes format)
+      → IsPieces format false bytes text → IsFieldBefore format back StrayReturn text
+  return_enclosed : (bytes text : List ℕ) → IsFalse (has_escapes format)
+      → IsTrue (has_quotes format) → IsPieces format true bytes text
+      → IsFieldBefore format back StrayReturn (quote ∷ text ++ quote ∷ [])
+  quote_bare : (bytes text : List ℕ) → IsTrue (has_quotes format)
+      → IsPieces format false bytes text → text ≢ [] → IsFieldBefore format back StrayQuote text
+  open_quote : IsTrue (has_quotes format) → IsFieldBefore format back OpenQuote []
+  behind_quote : (bytes text : List ℕ) → IsTrue (has_quotes format)
+      → IsPieces format true bytes text
+      → IsFieldBefore format back BehindQuote (quote ∷ text ++ quote ∷ [])
+  escape_bare : (bytes text : List ℕ) → IsTrue (has_escapes format)
+      → IsPieces format false bytes text → BeginsWithNoNull format (text ++ back)
+      → IsFieldBefore format back UnknownEscape text
+  escape_enclosed : (bytes text : List ℕ) → IsTrue (has_escapes format)
+      → IsTrue (has_quotes format) → IsPieces format true bytes text
+      → IsFieldBefore format back UnknownEscape (quote ∷ text)
+
+-- what is read of a record: whole fields, each with a separator, and the front of the next one
+pub data IsRecordBefore (format : RecordFormat) (back : List ℕ) (kind : FaultKind)
+    : List ℕ → Type 0 where
+  in_field : (text : List ℕ) → IsFieldBefore format back kind text
+      → IsRecordBefore format back kind text
+  behind_field : (field : Option (List ℕ)) (text rest : List ℕ) → IsField format field text
+      → IsRecordBefore format back kind rest
+      → IsRecordBefore format back kind (text ++ separator format ∷ rest)
+
+-- what is read of a table: whole records, each with a line end, and the front of the next one
+pub data IsTableBefore (format : RecordFormat) (back : List ℕ) (kind : FaultKind)
+    : List ℕ → Type 0 where
+  in_record : (text : List ℕ) → IsRecordBefore format back kind text
+      → IsTableBefore format back kind text
+  behind_record : (fields : List (Option (List ℕ))) (text line_end rest : List ℕ)
+      → IsRecord format fields text → IsLineEnd format line_end
+      → IsTableBefore format back kind rest
+      → IsTableBefore format back kind (text ++ line_end ++ rest)
+
+-- the text isn't empty and begins with no record, and this fault is the first in it
 pub record IsFaulty (format : RecordFormat) (text : List ℕ) (fault : Fault) : Type 0 where
   pub none : (fields : List (Option (List ℕ))) (rest : List ℕ)
       → BeginsWithRecord format text fields rest → ⊥
   pub within : fault.at < length text
+  pub before : IsRecordBefore format (drop fault.at text) fault.kind (take fault.at text)
   pub stands : IsFaultAt format fault.kind (drop fault.at text)
 
 -- a fault for what the text has; nothing is said of out of memory
@@ -40,10 +91,11 @@ abbrev pub IsRefusal : RecordFormat → List ℕ → RecordError → Type 0
 IsRefusal format text (FaultError fault) = IsFaulty format text fault
 IsRefusal format text (Memory error) = ⊤
 
--- the text is no table, and this fault is in it
+-- the text is no table, and this fault is the first in it
 pub record IsFaultyTable (format : RecordFormat) (text : List ℕ) (fault : Fault) : Type 0 where
   pub none : (rows : List (List (Option (List ℕ)))) → IsTable format rows text → ⊥
   pub within : fault.at < length text
+  pub before : IsTableBefore format (drop fault.at text) fault.kind (take fault.at text)
   pub stands : IsFaultAt format fault.kind (drop fault.at text)
 
 -- a fault for what the table has; nothing is said of out of memory

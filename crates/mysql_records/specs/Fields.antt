@@ -2,8 +2,8 @@
 -- contracts cite this; the public ones cite Records and Faults only.
 use Rattle.std.specs.Prelude.{◌≡◌, ◌≢◌, ℕ, Bool, IsTrue, List, [], ◌∷◌, ◌++◌, Option, ⊤}
 use Rattle.mysql_records.specs.Formats.{is_special, separator}
-use Rattle.mysql_records.specs.Records.{IsPiece, IsPieces, IsField, EndsRecord}
-use Rattle.mysql_records.specs.Faults.{IsFaultAt}
+use Rattle.mysql_records.specs.Records.{IsPiece, IsPieces, IsField, EndsField, EndsRecord}
+use Rattle.mysql_records.specs.Faults.{IsFaultAt, IsFieldBefore}
 use Rattle.mysql_records.specs.declared.fault.FaultKind.{FaultKind}
 use Rattle.mysql_records.specs.declared.fields.FieldEnd.{FieldEnd}
 use Rattle.mysql_records.specs.declared.fields.FieldEnd.TheVariants.{Separator, Record}
@@ -24,11 +24,6 @@ pub record BeginsWithPieces (format : RecordFormat) (quoted : Bool) (text bytes 
   pub are_pieces : IsPieces format quoted bytes front
   pub longest : StartsNoPiece format quoted rest
 
--- a text that may follow a field: a separator and more, or what ends a record
-pub data EndsField (format : RecordFormat) : List ℕ → Type 0 where
-  at_separator : (rest : List ℕ) → EndsField format (separator format ∷ rest)
-  at_record_end : (text rest : List ℕ) → EndsRecord format text rest → EndsField format text
-
 -- the text is a field and this rest, which may follow it
 pub record BeginsWithField (format : RecordFormat) (text : List ℕ) (field : Option (List ℕ))
     (rest : List ℕ) : Type 0 where
@@ -47,12 +42,13 @@ abbrev pub IsFieldEnd : RecordFormat → List ℕ → FieldEnd → Type 0
 IsFieldEnd format text (Separator rest) = text ≡ separator format ∷ rest.now
 IsFieldEnd format text (Record rest) = EndsRecord format text rest.now
 
--- a part of the text from a byte on is no field's, and the text begins with no field
+-- the text begins with no field: what is read of one before a fault, and the text from that on
 pub record IsFaultyField (format : RecordFormat) (text : List ℕ) (kind : FaultKind)
     (back : List ℕ) : Type 0 where
   pub none : (field : Option (List ℕ)) (rest : List ℕ) → BeginsWithField format text field rest → ⊥
   pub front : List ℕ
   pub whole : text ≡ front ++ back
+  pub before : IsFieldBefore format back kind front
   pub stands : IsFaultAt format kind back
 
 -- a fault for what the text has; nothing is said of out of memory

@@ -51,6 +51,11 @@ pub data EndsRecord (format : RecordFormat) : List ℕ → List ℕ → Type 0 w
       → EndsRecord format (line_end ++ rest) rest
   at_text_end : EndsRecord format [] []
 
+-- a text that may follow a field: a separator and more, or what ends a record
+pub data EndsField (format : RecordFormat) : List ℕ → Type 0 where
+  at_separator : (rest : List ℕ) → EndsField format (separator format ∷ rest)
+  at_record_end : (text rest : List ℕ) → EndsRecord format text rest → EndsField format text
+
 -- the text is a record of these fields, what ends it, and this rest
 pub record IsRecordThen (format : RecordFormat) (text : List ℕ) (fields : List (Option (List ℕ)))
     (rest : List ℕ) : Type 0 where

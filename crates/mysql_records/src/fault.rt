@@ -6,19 +6,19 @@ use std::alloc::AllocError;
 pub enum FaultKind {
     /// A carriage return outside of quotes before no newline, in CSV and TSV.
     StrayReturn,
-    /// A quote within a field without quotes.
+    /// A quote within a field without quotes, in a format that has quotes.
     StrayQuote,
     /// The quote before a field, and none ends the field.
     OpenQuote,
     /// What follows the quote that ends a field: neither a separator nor a line end.
     BehindQuote,
-    /// A backslash before no byte that makes an escape with it.
+    /// A backslash before no byte that makes an escape with it, in a format that has escapes.
     UnknownEscape,
 }
 
 /// Where a text isn't records: at the quote before a field that no quote ends, else at the first
-/// byte that no record has where it stands. Contracts say which byte it is; that it is the first,
-/// tests show.
+/// byte that no record has where it stands. A text has one fault at most
+/// ([`faults_are_unambiguous`](crate::laws::faults_are_unambiguous)).
 #[derive(Debug, Clone, Copy, PartialEq, Eq)]
 pub struct Fault {
     /// The index of the byte.

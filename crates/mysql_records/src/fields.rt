@@ -1,10 +1,11 @@
 //! A field at the front of a text, and what follows it.
-ghost use Rattle.std.specs.Prelude.{◌≡◌, ◌≢◌, ℕ, IfErr, IfOk, IfNone, IfSome, IsTrue, List, ◌∷◌, false};
+ghost use Rattle.std.specs.Prelude.{◌≡◌, ◌≢◌, ℕ, IfErr, IfOk, IfNone, IfSome, IsTrue, List, [], ◌∷◌, ◌++◌, true, false};
 ghost use Rattle.std.specs.Str.{byte};
 ghost use Rattle.mysql_records.specs.Formats.{backslash, has_escapes, has_quotes, quote, separator};
 ghost use Rattle.mysql_records.specs.Seen.{field_seen};
-ghost use Rattle.mysql_records.specs.Fields.{BeginsWithField, EndsField, IsFieldEnd, IsFieldRefusal, StartsNoPiece};
-ghost use Rattle.mysql_records.specs.Faults.{IsFaultAt};
+ghost use Rattle.mysql_records.specs.Fields.{BeginsWithField, IsFieldEnd, IsFieldRefusal, StartsNoPiece};
+ghost use Rattle.mysql_records.specs.Faults.{BeginsWithNoNull, IsFaultAt, IsFieldBefore};
+ghost use Rattle.mysql_records.specs.Records.{EndsField, IsPieces};
 
 use crate::fault::FaultKind;
 use crate::format::RecordFormat;
@@ -80,8 +81,12 @@ fn enclosed_field<'a>(
 
 // What a text is that follows the quote at the end of a field, and may not follow a field.
 fn fault_behind_quote(format: RecordFormat, rest: &[u8]) -> FaultKind
-    requires { EndsField format rest.now → ⊥ }
-    ensures { IsFaultAt format result rest.now }
+    requires longest { StartsNoPiece format true (quote ∷ rest.now) }
+    requires no_end { EndsField format rest.now → ⊥ }
+    ensures before { (bytes front : List ℕ) → IsTrue (has_quotes format) →
+        IsPieces format true bytes front →
+        IsFieldBefore format rest.now result (quote ∷ front ++ quote ∷ []) }
+    ensures stands { IsFaultAt format result rest.now }
 {
     if !has_escapes(format) && behind(rest, b'\r').is_some() {
         FaultKind::StrayReturn
@@ -117,7 +122,11 @@ fn bare_field<'a>(
 fn fault_without_quotes(format: RecordFormat, back: &[u8]) -> FaultKind
     requires longest { StartsNoPiece format false back.now }
     requires no_end { EndsField format back.now → ⊥ }
-    ensures { IsFaultAt format result back.now }
+    ensures before { (bytes front : List ℕ) → IsPieces format false bytes front →
+        ((tail : List ℕ) → IsTrue (has_quotes format) → front ++ back.now ≢ quote ∷ tail) →
+        (IsTrue (has_escapes format) → BeginsWithNoNull format (front ++ back.now)) →
+        IsFieldBefore format back.now result front }
+    ensures stands { IsFaultAt format result back.now }
 {
     if behind(back, b'"').is_some() {
         FaultKind::StrayQuote

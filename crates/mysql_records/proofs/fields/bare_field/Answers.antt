@@ -10,4 +10,5 @@ pub returns-clause-refused : goal.returns-clause-refused
 returns-clause-refused c =
     bare_fault c.args.format c.args.text.now c.in-Ok.read.0.items c.in-Ok.read.1.now c.fault_without_quotes.result
     c.requires.no_quote c.requires.no_null c.in-Ok.ensures
-    (none_of c.field_end.result _ c.if-is_some.ensures c.field_end.ensures.none) c.fault_without_quotes.ensures
+    (none_of c.field_end.result _ c.if-is_some.ensures c.field_end.ensures.none)
+    c.fault_without_quotes.ensures.before c.fault_without_quotes.ensures.stands

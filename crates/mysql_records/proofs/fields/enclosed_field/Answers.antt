@@ -20,4 +20,5 @@ pub returns-clause-refused : goal.returns-clause-refused
 returns-clause-refused c =
     enclosed_behind c.args.format c.args.text.now c.args.tail.now c.in-Ok.read.0.items c.in-Ok.read.1.now c.in-Some.rest.now c.fault_behind_quote.result
     c.requires.quotes c.requires.whole c.in-Ok.ensures c.in-Some.ensures.some
-    (none_of c.field_end.result _ c.if-is_some.ensures c.field_end.ensures.none) c.fault_behind_quote.ensures
+    (none_of c.field_end.result _ c.if-is_some.ensures c.field_end.ensures.none)
+    c.fault_behind_quote.ensures.before c.fault_behind_quote.ensures.stands
