@@ -32,6 +32,6 @@ pub struct Fault {
 pub enum RecordError {
     /// The text doesn't begin with a record.
     Fault(Fault),
-    /// Out of memory. It may come in place of a fault.
+    /// Out of memory. It may come in place of a fault, and of no empty text.
     Memory(AllocError),
 }

@@ -1,5 +1,5 @@
 //! A record at the front of a text.
-ghost use Rattle.std.specs.Prelude.{◌≡◌, ◌<◌, length, IfErr, IfOk, IfSome, IsNone, ◌↔◌, []};
+ghost use Rattle.std.specs.Prelude.{◌≡◌, ◌≢◌, ◌<◌, length, IfErr, IfOk, IfSome, IsNone, ◌↔◌, []};
 ghost use Rattle.mysql_records.specs.Faults.{IsRefusal};
 ghost use Rattle.mysql_records.specs.Records.{BeginsWithRecord};
 ghost use Rattle.mysql_records.specs.Seen.{fields_seen};
@@ -40,6 +40,7 @@ pub fn first_record<'a>(
     ensures shorter { IfOk result (λ found. IfSome found (λ read.
         length read.rest.now < length text.now)) }
     ensures refused { IfErr result (IsRefusal format text.now) }
+    ensures some { IfErr result (λ error. text.now ≢ []) }
 {
     if text.is_empty() {
         return Ok(None);

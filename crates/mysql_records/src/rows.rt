@@ -1,5 +1,5 @@
 //! All records of a text.
-ghost use Rattle.std.specs.Prelude.{IfErr, IfOk};
+ghost use Rattle.std.specs.Prelude.{◌≢◌, IfErr, IfOk, []};
 ghost use Rattle.mysql_records.specs.Faults.{IsTableRefusal};
 ghost use Rattle.mysql_records.specs.Records.{IsTable};
 ghost use Rattle.mysql_records.specs.Seen.{rows_seen};
@@ -22,6 +22,7 @@ pub struct Row {
 pub fn all_rows(alloc: Global, format: RecordFormat, text: &[u8]) -> Result<Vec<Row>, RecordError>
     ensures table { IfOk result (λ rows. IsTable format (rows_seen rows.items) text.now) }
     ensures refused { IfErr result (IsTableRefusal format text.now) }
+    ensures some { IfErr result (λ error. text.now ≢ []) }
 {
     let mut rows = Vec::new(alloc);
     let mut rest = text;
