@@ -7,3 +7,4 @@ pub mod ReadRecordLemmas
 pub mod TableLemmas
 pub mod FaultLemmas
 pub mod WrittenLemmas
+pub mod WriterLemmas

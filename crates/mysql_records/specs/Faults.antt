@@ -21,7 +21,7 @@ abbrev pub BeginsWithNo : ℕ → List ℕ → Type 0
 BeginsWithNo b [] = ⊤
 BeginsWithNo b (a ∷ text) = a ≢ b
 
--- What the text from a fault on begins with; a quote that none ends, and pieces to the end.
+-- What the text from a fault on begins with. Behind an open quote, pieces stand to the end.
 abbrev pub IsFaultAt : RecordFormat → FaultKind → List ℕ → Type 0
 IsFaultAt format kind [] = ⊥
 IsFaultAt format StrayReturn (a ∷ text) = (a ≡ carriage_return) × BeginsWithNo newline text
@@ -38,8 +38,8 @@ abbrev pub BeginsWithNoNull : RecordFormat → List ℕ → Type 0
 BeginsWithNoNull format text =
     (rest : List ℕ) → EndsField format rest → text ≢ backslash ∷ byte "N" ∷ rest
 
--- What is read of a field before a fault of this kind, in a format that has the kind, and before
--- this text from the fault on: pieces without quotes, a quote and pieces, or a field in quotes.
+-- What is read of a field before a fault of this kind, in a format that has the kind: pieces
+-- without quotes, a quote and pieces, or a field in quotes. The text from the fault on is `back`.
 pub data IsFieldBefore (format : RecordFormat) (back : List ℕ) : FaultKind → List ℕ → Type 0 where
   return_bare : (bytes text : List ℕ) → IsFalse (has_escapes format)
       → IsPieces format false bytes text → IsFieldBefore format back StrayReturn text

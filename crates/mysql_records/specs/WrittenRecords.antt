@@ -1,66 +1,90 @@
--- One way to write records: as RFC 4180, section 2, allows, with LF in place of CR LF and each
--- field in quotes; and as servers write by `SELECT .. INTO OUTFILE` (MySQL Reference Manual,
--- "SELECT ... INTO Statement"), which escape no comma in quotes. Each record ends at a newline.
-use Rattle.std.specs.Prelude.{ℕ, ◌==◌, ◌≢◌, ⊤, List, [], ◌∷◌, ◌++◌, codes, Option, Some, None, if◌then◌else◌, IsFalse, false}
-use Rattle.std.specs.List.{flat_map, list_any}
-use Rattle.mysql_records.specs.Formats.{backslash, is_special, newline, quote, separator}
+-- Records as writers write them: by RFC 4180, section 2, with LF or CR LF, and quotes round each
+-- field or only where they are needed; as servers do by `SELECT .. INTO OUTFILE` (MySQL Reference
+-- Manual, "SELECT ... INTO Statement"), and clients by `mysql --batch` ("mysql Client Options").
+-- Writers has what each of these chooses.
+use Rattle.std.specs.Prelude.{ℕ, Bool, true, false, ◌==◌, ◌≡◌, ◌≢◌, List, [], ◌∷◌, ◌++◌, map, codes, Option, Some, None, if◌then◌else◌, IsTrue, IsFalse, All}
+use Rattle.std.specs.List.{flat_map}
+use Rattle.mysql_records.specs.Formats.{backslash, doubles_quotes, escape_value, has_escapes, has_quotes, is_special, quote, separator}
+use Rattle.mysql_records.specs.Records.{IsLineEnd}
 use Rattle.mysql_records.specs.declared.format.RecordFormat.{RecordFormat}
-use Rattle.mysql_records.specs.declared.format.RecordFormat.TheVariants.{Csv, Tsv, MysqlCsv, MysqlTsv}
+
+-- What a writer chooses: its format, what ends a line, whether the last record has a line end too,
+-- and the byte that it writes behind a backslash in the place of a byte, in quotes (`true`) or not.
+pub record Writer : Type 0 where
+  pub format : RecordFormat
+  pub line_end : List ℕ
+  pub ends_last : Bool
+  pub escape : Bool → ℕ → Option ℕ
+
+-- a field to write, and whether in quotes
+pub record Cell : Type 0 where
+  pub field : Option (List ℕ)
+  pub quoted : Bool
 
 -- a byte with a quote written twice
 abbrev pub doubled_quote : ℕ → List ℕ
 doubled_quote b = if b == quote then quote ∷ quote ∷ [] else b ∷ []
 
--- a byte with a backslash before those of a list, and `\0` for a byte 0
-abbrev pub escaped_among : List ℕ → ℕ → List ℕ
-escaped_among bytes b =
-    if b == 0 then codes "\\0" else (
-    if list_any (λ special. b == special) bytes then backslash ∷ b ∷ [] else b ∷ [])
+-- a byte, or a backslash and what is written for it
+abbrev pub escaped : Option ℕ → ℕ → List ℕ
+escaped None b = b ∷ []
+escaped (Some c) b = backslash ∷ c ∷ []
 
--- the bytes of a text between quotes
-abbrev pub in_quotes : List ℕ → List ℕ
-in_quotes text = quote ∷ text ++ quote ∷ []
+-- a byte of a field, in quotes or not
+abbrev pub written_byte : Writer → Bool → ℕ → List ℕ
+written_byte writer quoted b =
+    if doubles_quotes writer.format quoted then doubled_quote b
+    else escaped (writer.escape quoted b) b
 
--- a field that isn't NULL: in quotes where the format has them
-abbrev pub written_bytes : RecordFormat → List ℕ → List ℕ
-written_bytes Csv bytes = in_quotes (flat_map doubled_quote bytes)
-written_bytes Tsv bytes = bytes
-written_bytes MysqlCsv bytes = in_quotes (flat_map (escaped_among (codes "\\\"\n")) bytes)
-written_bytes MysqlTsv bytes = flat_map (escaped_among (codes "\\\t\n")) bytes
-
--- a field: NULL is `\N`
-abbrev pub written_field : RecordFormat → Option (List ℕ) → List ℕ
-written_field format (Some bytes) = written_bytes format bytes
-written_field format None = codes "\\N"
+-- a field, in quotes or not: NULL is `\N`
+abbrev pub written_field : Writer → Bool → Option (List ℕ) → List ℕ
+written_field writer quoted None = codes "\\N"
+written_field writer true (Some bytes) =
+    quote ∷ flat_map (written_byte writer true) bytes ++ quote ∷ []
+written_field writer false (Some bytes) = flat_map (written_byte writer false) bytes
 
 -- a record without its end: its fields with a separator between them
-abbrev pub written_record : RecordFormat → List (Option (List ℕ)) → List ℕ
-written_record format [] = []
-written_record format (field ∷ []) = written_field format field
-written_record format (field ∷ next ∷ fields) =
-    written_field format field ++ separator format ∷ written_record format (next ∷ fields)
+abbrev pub written_record : Writer → List Cell → List ℕ
+written_record writer [] = []
+written_record writer (cell ∷ []) = written_field writer cell.quoted cell.field
+written_record writer (cell ∷ next ∷ cells) =
+    written_field writer cell.quoted cell.field
+    ++ separator writer.format ∷ written_record writer (next ∷ cells)
 
--- a table
-abbrev pub written_table : RecordFormat → List (List (Option (List ℕ))) → List ℕ
-written_table format rows = flat_map (λ fields. written_record format fields ++ newline ∷ []) rows
+-- a table: its records, each with a line end, the last one if the writer chooses so
+abbrev pub written_table : Writer → List (List Cell) → List ℕ
+written_table writer [] = []
+written_table writer (cells ∷ []) =
+    written_record writer cells ++ (if writer.ends_last then writer.line_end else [])
+written_table writer (cells ∷ next ∷ rows) =
+    written_record writer cells ++ writer.line_end ++ written_table writer (next ∷ rows)
 
--- A field can be written: in the MySQL formats each can, in CSV each that isn't NULL, in TSV each
--- without a tab, a newline and a carriage return.
-abbrev pub IsWritable : RecordFormat → Option (List ℕ) → Type 0
-IsWritable Csv None = ⊥
-IsWritable Csv (Some bytes) = ⊤
-IsWritable Tsv None = ⊥
-IsWritable Tsv (Some bytes) = IsFalse (list_any (is_special Tsv false) bytes)
-IsWritable MysqlCsv field = ⊤
-IsWritable MysqlTsv field = ⊤
+-- the fields of a table
+abbrev pub fields_of : List (List Cell) → List (List (Option (List ℕ)))
+fields_of rows = map (λ cells. map (λ cell. cell.field) cells) rows
 
--- each field of a record can be written
-abbrev pub AreWritable : RecordFormat → List (Option (List ℕ)) → Type 0
-AreWritable format [] = ⊤
-AreWritable format (field ∷ fields) = IsWritable format field × AreWritable format fields
+-- the choices are the format's: its line end, and escapes only if it has them, each of its byte
+pub record IsWriter (writer : Writer) : Type 0 where
+  pub line_end : IsLineEnd writer.format writer.line_end
+  pub escape : (quoted : Bool) (b c : ℕ) → writer.escape quoted b ≡ Some c
+      → IsTrue (has_escapes writer.format) × (escape_value c ≡ Some b)
 
--- a table whose records each have a field, and can be written
-abbrev pub IsWritableTable : RecordFormat → List (List (Option (List ℕ))) → Type 0
-IsWritableTable format [] = ⊤
-IsWritableTable format (fields ∷ rows) =
-    (fields ≢ []) × AreWritable format fields × IsWritableTable format rows
+-- a byte can be written: one that doesn't stand for itself isn't written as it is
+abbrev pub IsWritableByte : Writer → Bool → ℕ → Type 0
+IsWritableByte writer quoted b =
+    IsTrue (is_special writer.format quoted b) → written_byte writer quoted b ≢ b ∷ []
+
+-- a field can be written: NULL if the format has escapes, in quotes if it has quotes
+abbrev pub IsWritable : Writer → Bool → Option (List ℕ) → Type 0
+IsWritable writer quoted None = IsTrue (has_escapes writer.format)
+IsWritable writer true (Some bytes) =
+    IsTrue (has_quotes writer.format) × All (IsWritableByte writer true) bytes
+IsWritable writer false (Some bytes) = All (IsWritableByte writer false) bytes
+
+-- A table can be written: each record has a field, each field can be written, and the last record
+-- has a byte if no line end follows, since an empty text is no record.
+pub record IsWritableTable (writer : Writer) (rows : List (List Cell)) : Type 0 where
+  pub some : All (λ cells. cells ≢ []) rows
+  pub fields : All (λ cells. All (λ cell. IsWritable writer cell.quoted cell.field) cells) rows
+  pub last : IsFalse writer.ends_last → (before : List (List Cell)) (cells : List Cell)
+      → rows ≡ before ++ cells ∷ [] → written_record writer cells ≢ []

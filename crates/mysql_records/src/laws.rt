@@ -1,9 +1,12 @@
 //! Laws of the definitions that the contracts cite. They do nothing: each is called for what it
 //! ensures.
-ghost use Rattle.std.specs.Prelude.{◌≡◌, ℕ, List, ◌++◌, Option};
+ghost use Rattle.std.specs.Prelude.{◌≡◌, ◌==◌, ℕ, Bool, false, IsTrue, IsFalse, List, Option, Some};
+ghost use Rattle.std.specs.List.{list_any};
 ghost use Rattle.mysql_records.specs.Faults.{IsFaulty, IsFaultyTable};
-ghost use Rattle.mysql_records.specs.Records.{BeginsWithRecord, IsTable};
-ghost use Rattle.mysql_records.specs.WrittenRecords.{IsWritableTable, written_table};
+ghost use Rattle.mysql_records.specs.Formats.{has_quotes};
+ghost use Rattle.mysql_records.specs.Records.{BeginsWithRecord, IsLineEnd, IsTable};
+ghost use Rattle.mysql_records.specs.WrittenRecords.{Cell, IsWritable, IsWritableTable, IsWriter, Writer, fields_of, written_table};
+ghost use Rattle.mysql_records.specs.Writers.{client_writer, unwritable_bytes, usual_writer};
 ghost use Rattle.mysql_records.specs.declared.fault.Fault.{Fault};
 ghost use Rattle.mysql_records.specs.declared.format.RecordFormat.{RecordFormat};
 
@@ -26,12 +29,32 @@ pub fn faults_are_unambiguous()
         IsFaultyTable format text fault → IsFaultyTable format text other → fault ≡ other }
 {}
 
-/// A table whose records each have a field reads as it was written, and as no other table: so no
-/// byte of a field that is written so begins a field or a record.
+/// What a writer makes of a table reads as that table, and as no other: whichever fields it writes
+/// in quotes, whatever it escapes, and whether it ends the last record or not. So no byte of a
+/// field that is written so begins a field or a record.
 pub fn written_tables_are_read()
-    ensures table { (format : RecordFormat) (rows : List (List (Option (List ℕ)))) →
-        IsWritableTable format rows → IsTable format rows (written_table format rows) }
-    ensures only { (format : RecordFormat) (rows others : List (List (Option (List ℕ)))) →
-        IsWritableTable format rows → IsTable format others (written_table format rows) →
-        others ≡ rows }
+    ensures table { (writer : Writer) (rows : List (List Cell)) →
+        IsWriter writer → IsWritableTable writer rows →
+        IsTable writer.format (fields_of rows) (written_table writer rows) }
+    ensures only { (writer : Writer) (rows : List (List Cell))
+        (others : List (List (Option (List ℕ)))) →
+        IsWriter writer → IsWritableTable writer rows →
+        IsTable writer.format others (written_table writer rows) → others ≡ fields_of rows }
+{}
+
+/// Writers of CSV and TSV, servers with `[OPTIONALLY] ENCLOSED BY` or with tabs, and clients by
+/// `mysql --batch` are writers as [`written_tables_are_read`] has them. They can write each field
+/// without these bytes: in TSV a tab, CR and LF; without quotes in CSV a quote, a comma, CR and LF,
+/// and in a server's file with commas a quote. A server writes a column of the type `BIT` as it is,
+/// and so not as such a writer.
+pub fn usual_writers_are_writers()
+    ensures writers { (format : RecordFormat) (line_end : List ℕ) (ends_last : Bool) →
+        IsLineEnd format line_end → IsWriter (usual_writer format line_end ends_last) }
+    ensures fields { (format : RecordFormat) (line_end : List ℕ) (ends_last quoted : Bool)
+        (bytes : List ℕ) → (IsTrue quoted → IsTrue (has_quotes format)) →
+        IsFalse (list_any (λ b. list_any (λ other. b == other) (unwritable_bytes format quoted))
+        bytes) →
+        IsWritable (usual_writer format line_end ends_last) quoted (Some bytes) }
+    ensures clients { IsWriter client_writer }
+    ensures client_fields { (bytes : List ℕ) → IsWritable client_writer false (Some bytes) }
 {}

@@ -1,0 +1,14 @@
+use Rattle.mysql_records.proofs.WriterLemmas.{usual_writer_is, usual_field, client_writer_is, client_field}
+use Rattle.mysql_records.proofs.laws.usual_writers_are_writers.Goals as goal
+
+pub returns-clause-writers : goal.returns-clause-writers
+returns-clause-writers c = usual_writer_is
+
+pub returns-clause-fields : goal.returns-clause-fields
+returns-clause-fields c = usual_field
+
+pub returns-clause-clients : goal.returns-clause-clients
+returns-clause-clients c = client_writer_is
+
+pub returns-clause-client_fields : goal.returns-clause-client_fields
+returns-clause-client_fields c = client_field
