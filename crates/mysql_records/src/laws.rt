@@ -56,7 +56,7 @@ pub fn written_tables_are_read()
 /// Writers of CSV and TSV, servers with `[OPTIONALLY] ENCLOSED BY` or with tabs, and clients by
 /// `mysql --batch` are writers as [`written_tables_are_read`] has them. They can write each field
 /// without these bytes: in TSV a tab, CR and LF; without quotes in CSV a quote, a comma, CR and LF,
-/// and in a server's file with commas a quote. A server writes a column of the type `BIT` as it is,
+/// and in a server's file with commas a quote. MariaDB writes a column of the type `BIT` as it is,
 /// and so not as such a writer.
 pub fn usual_writers_are_writers()
     ensures writers { (format : RecordFormat) (line_end : List ℕ) (ends_last : Bool) →
