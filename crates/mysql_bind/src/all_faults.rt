@@ -157,7 +157,8 @@ fn construct_told(
 
 // Whether a client takes this word for its own after a text without a construct.
 fn is_taken_after(alloc: Global, text: &[u8], word: &[u8], mode: bool) -> Result<bool, AllocError> {
-    let mut whole = Vec::from_slice(alloc, text)?;
+    let mut whole = Vec::with_capacity(alloc, text.len().saturating_add(word.len()))?;
+    whole.extend_from_slice(text)?;
     whole.extend_from_slice(word)?;
     let found = first_unportable_in_client(whole.as_slice(), mode);
     Ok(matches!(found, Some(found) if found.at == text.len()))
@@ -165,7 +166,11 @@ fn is_taken_after(alloc: Global, text: &[u8], word: &[u8], mode: bool) -> Result
 
 // Two bytes behind which a client finds what it finds behind a text without a construct: that
 // depends only on whether a statement or a line may begin there, and each word tells one of these.
+// The text begins with two such bytes; where nothing follows them, they are the two.
 fn same_front(alloc: Global, text: &[u8], mode: bool) -> Result<[u8; 2], AllocError> {
+    if let [first, second] = text {
+        return Ok([*first, *second]);
+    }
     if is_taken_after(alloc, text, b"use ", mode)? {
         Ok(*b"  ")
     } else if is_taken_after(alloc, text, b"delimiter", mode)? {
@@ -219,14 +224,8 @@ fn add_constructs(
             break;
         };
         let at = from.saturating_add(found.at);
-        let what = construct_told(alloc, rest, found, mode)?;
-        add_at(
-            faults,
-            alloc,
-            &mut places,
-            at.saturating_sub(2),
-            what.as_str(),
-        )?;
+        let place = places.place_of(alloc, at.saturating_sub(2))?;
+        add_fault(faults, place, construct_told(alloc, rest, found, mode)?)?;
         from = passed(alloc, text.as_mut_slice(), from, at, mode)?;
     }
     Ok(())

@@ -3,6 +3,7 @@
 use crate::told::{OnOneLine, github_property, github_text, json_text};
 use std::alloc::{AllocError, Global};
 use std::io;
+use std::io::{BufWriter, Write};
 
 /// Where a fault is.
 #[derive(Debug, Drop)]
@@ -149,29 +150,35 @@ impl Complaint {
     }
 }
 
-// Tells each fault in this form.
+// Tells each fault in this form. They are written many at once, where there is memory for it.
 fn tell_faults(rt: &HostRuntime, form: ErrorForm, faults: &[Fault]) -> io::Result<()> {
+    let mut out = match BufWriter::new(rt.alloc(), rt.stderr()) {
+        Ok(out) => out,
+        Err(_) => BufWriter::with_capacity(rt.alloc(), 0, rt.stderr())?,
+    };
     for fault in faults {
         match form {
-            ErrorForm::Text => tell_text(rt, fault)?,
-            ErrorForm::Json => tell_json(rt, fault)?,
-            ErrorForm::Github => tell_github(rt, fault)?,
+            ErrorForm::Text => tell_text(&mut out, fault)?,
+            ErrorForm::Json => tell_json(rt.alloc(), &mut out, fault)?,
+            ErrorForm::Github => tell_github(rt.alloc(), &mut out, fault)?,
         }
     }
-    Ok(())
+    out.flush()
 }
 
 // Tells a fault as a line of text.
-fn tell_text(rt: &HostRuntime, fault: &Fault) -> io::Result<()> {
+fn tell_text<W: Write>(out: &mut W, fault: &Fault) -> io::Result<()> {
     let what = OnOneLine(fault.what.as_str());
     match &fault.place {
-        Place::Words => eprintln!(rt; "mysql_bind: {what}"),
-        Place::File(path) => eprintln!(rt; "mysql_bind: {}: {what}", OnOneLine(path.as_str())),
-        Place::Line { path, line, column } => eprintln!(rt;
+        Place::Words => writeln!(out, "mysql_bind: {what}"),
+        Place::File(path) => writeln!(out, "mysql_bind: {}: {what}", OnOneLine(path.as_str())),
+        Place::Line { path, line, column } => writeln!(
+            out,
             "mysql_bind: {}:{line}:{column}: {what}",
             OnOneLine(path.as_str())
         ),
-        Place::Row { path, line } => eprintln!(rt;
+        Place::Row { path, line } => writeln!(
+            out,
             "mysql_bind: {}:{line}: {what}",
             OnOneLine(path.as_str())
         ),
@@ -179,14 +186,14 @@ fn tell_text(rt: &HostRuntime, fault: &Fault) -> io::Result<()> {
 }
 
 // Tells a fault as a JSON object.
-fn tell_json(rt: &HostRuntime, fault: &Fault) -> io::Result<()> {
-    let Ok(what) = json_text(rt.alloc(), fault.what.as_str()) else {
-        return tell_text(rt, fault);
+fn tell_json<W: Write>(alloc: Global, out: &mut W, fault: &Fault) -> io::Result<()> {
+    let Ok(what) = json_text(alloc, fault.what.as_str()) else {
+        return tell_text(out, fault);
     };
-    let Ok(place) = json_place(rt.alloc(), &fault.place) else {
-        return tell_text(rt, fault);
+    let Ok(place) = json_place(alloc, &fault.place) else {
+        return tell_text(out, fault);
     };
-    eprintln!(rt; "{{{place}\"message\":{what}}}")
+    writeln!(out, "{{{place}\"message\":{what}}}")
 }
 
 // The members that say where a fault is, each with a comma after it.
@@ -209,14 +216,14 @@ fn json_place(alloc: Global, place: &Place) -> Result<String, AllocError> {
 }
 
 // Tells a fault as an annotation of GitHub's.
-fn tell_github(rt: &HostRuntime, fault: &Fault) -> io::Result<()> {
-    let Ok(what) = github_text(rt.alloc(), fault.what.as_str()) else {
-        return tell_text(rt, fault);
+fn tell_github<W: Write>(alloc: Global, out: &mut W, fault: &Fault) -> io::Result<()> {
+    let Ok(what) = github_text(alloc, fault.what.as_str()) else {
+        return tell_text(out, fault);
     };
-    let Ok(place) = github_place(rt.alloc(), &fault.place) else {
-        return tell_text(rt, fault);
+    let Ok(place) = github_place(alloc, &fault.place) else {
+        return tell_text(out, fault);
     };
-    eprintln!(rt; "::error{place}::{what}")
+    writeln!(out, "::error{place}::{what}")
 }
 
 // The properties that say where a fault is, with a space before them.
