@@ -1,5 +1,6 @@
 //! What is said of a bound text that a client would change: by what stands in which place of the
 //! query, and why.
+use crate::matching::assignment_numbers;
 use mysql_bind_core::{Assignment, Failure, Portability, Request, ValueType, bound_text};
 use mysql_named_params::places::first_place;
 use mysql_named_params::portable::{Construct, Unportable};
@@ -15,26 +16,6 @@ struct PlaceBytes {
     end: usize,
 }
 
-// The places of a query.
-fn places_of(alloc: Global, query: &[u8], mode: bool) -> Result<Vec<PlaceBytes>, AllocError> {
-    let mut places = Vec::new(alloc);
-    let mut rest = query;
-    // Each place has a byte.
-    for _ in 0..query.len() {
-        let Some(found) = first_place(rest, mode) else {
-            break;
-        };
-        let (_, place, after) = found.cut(rest);
-        let end = query.len().saturating_sub(after.len());
-        let at = end.saturating_sub(place.len());
-        if places.push(PlaceBytes { at, end }).is_err() {
-            return Err(AllocError);
-        }
-        rest = after;
-    }
-    Ok(places)
-}
-
 // A query, and what its text is made of.
 #[derive(Drop)]
 struct Binding<'a> {
@@ -44,46 +25,50 @@ struct Binding<'a> {
 }
 
 impl Binding<'_> {
-    // The length of the text of so many bytes of the query, whether or not it is portable.
-    fn text_len(&self, alloc: Global, end: usize) -> Result<usize, AllocError> {
-        let front = self.query.get(..end).unwrap_or(self.query);
+    // The length of the text of a piece of the query that ends with its one name, whether or not
+    // it is portable. `number` is that of the name's assignment.
+    fn text_len(&self, alloc: Global, piece: &[u8], number: usize) -> Result<usize, AllocError> {
+        let end = number.saturating_add(1).min(self.assignments.len());
+        let assigned = &self.assignments[number.min(end)..end];
         let request = Request {
             literals: self.request.literals,
             portability: Portability::Any,
         };
-        match bound_text(alloc, front, self.assignments, request) {
+        match bound_text(alloc, piece, assigned, request) {
             Ok(text) => Ok(text.len()),
             Err(Failure::Memory(error)) => Err(error),
-            // It doesn't come: what is bound into the whole query is bound into its front.
+            // It doesn't come: what is bound into the whole query is bound into its pieces.
             Err(_) => Ok(0),
         }
     }
 
-    // The place whose text holds this byte of the bound text: the first one up to whose end the
-    // query has a longer text.
-    fn place_at<'p>(
-        &self,
-        alloc: Global,
-        places: &'p [PlaceBytes],
-        at: usize,
-    ) -> Result<Option<&'p PlaceBytes>, AllocError> {
-        let mut low = 0usize;
-        let mut high = places.len();
-        for _ in 0..usize::BITS {
-            let middle = low.saturating_add(high.saturating_sub(low) / 2);
-            let Some(place) = places.get(middle) else {
+    // The place whose text holds this byte of the bound text. Each place is bound once, with what
+    // stands between it and the place before it.
+    fn place_at(&self, alloc: Global, at: usize) -> Result<Option<PlaceBytes>, AllocError> {
+        let mode = self.request.literals.no_backslash_escape();
+        let numbers = assignment_numbers(alloc, self.assignments)?;
+        let mut rest = self.query;
+        let mut written = 0usize;
+        // Each place has a byte.
+        for _ in 0..self.query.len() {
+            let Some(found) = first_place(rest, mode) else {
                 break;
             };
-            if low >= high {
-                break;
+            let (_, place, after) = found.cut(rest);
+            let piece = &rest[..rest.len().saturating_sub(after.len())];
+            if let Some(number) = numbers.get(place.get(1..).unwrap_or(b"")) {
+                written = written.saturating_add(self.text_len(alloc, piece, *number)?);
             }
-            if self.text_len(alloc, place.end)? > at {
-                high = middle;
-            } else {
-                low = middle.saturating_add(1);
+            if written > at {
+                let end = self.query.len().saturating_sub(after.len());
+                return Ok(Some(PlaceBytes {
+                    at: end.saturating_sub(place.len()),
+                    end,
+                }));
             }
+            rest = after;
         }
-        Ok(places.get(low))
+        Ok(None)
     }
 }
 
@@ -129,13 +114,12 @@ pub fn changed_text(
     request: Request,
     found: Unportable,
 ) -> Result<ChangedText, AllocError> {
-    let places = places_of(alloc, query, request.literals.no_backslash_escape())?;
     let binding = Binding {
         query,
         assignments,
         request,
     };
-    let (at, end) = match binding.place_at(alloc, places.as_slice(), found.at)? {
+    let (at, end) = match binding.place_at(alloc, found.at)? {
         Some(place) => (place.at, place.end),
         None => (query.len(), query.len()),
     };

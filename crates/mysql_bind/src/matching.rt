@@ -72,6 +72,20 @@ pub fn assigned_names<'n>(
     Ok(names)
 }
 
+/// The number of each assignment by its name.
+pub fn assignment_numbers<'n>(
+    alloc: Global,
+    assignments: &'n [Assignment],
+) -> Result<BTreeMap<&'n [u8], usize>, AllocError> {
+    let mut numbers = BTreeMap::new(alloc);
+    for (number, assignment) in assignments.iter().enumerate() {
+        if numbers.insert(assignment.name.as_slice(), number).is_err() {
+            return Err(AllocError);
+        }
+    }
+    Ok(numbers)
+}
+
 /// The first place of each name of the query.
 pub fn name_places(alloc: Global, text: &[u8], mode: bool) -> Result<Vec<NamePlace>, AllocError> {
     let mut places: Vec<NamePlace> = Vec::new(alloc);
