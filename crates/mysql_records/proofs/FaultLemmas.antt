@@ -1,9 +1,9 @@
--- A text has one fault at most.
+-- A text has one fault at most, and what stands before it is the front of a record.
 use Rattle.std.proofs.Common.{◌≡◌, ◌≢◌, ℕ, ◌<◌, Bool, true, false, true≢false, List, [], ◌∷◌, ◌++◌, Option, Some, None, length, take, drop, refl, sym, ap, ◌∙◌, subst, append_assoc, append-nil, arith, length-drop, take-append-drop}
 use Rattle.mysql_records.specs.Faults.{HasNoEscape, BeginsWithNo, IsFaultAt, IsFieldBefore, return_bare, return_enclosed, quote_bare, open_quote, behind_quote, escape_bare, escape_enclosed, IsRecordBefore, in_field, behind_field, IsTableBefore, in_record, behind_record, IsFaulty, IsFaultyTable}
 use Rattle.mysql_records.specs.Fields.{StartsNoPiece, BeginsWithPieces, BeginsWithField}
 use Rattle.mysql_records.specs.Formats.{backslash, carriage_return, doubles_quotes, escape_value, has_escapes, has_quotes, is_special, newline, quote, separator}
-use Rattle.mysql_records.specs.Records.{IsField, IsRecord, IsLineEnd, EndsField, at_separator, at_line_end, IsRecordThen}
+use Rattle.mysql_records.specs.Records.{no_pieces, IsField, bare, enclosed, IsRecord, one_field, more_fields, IsLineEnd, line_feed, EndsField, at_separator, at_line_end, IsRecordThen, IsTable, no_records}
 use Rattle.mysql_records.specs.declared.fault.Fault.{Fault}
 use Rattle.mysql_records.specs.declared.fault.FaultKind.{FaultKind}
 use Rattle.mysql_records.specs.declared.fault.FaultKind.TheVariants.{StrayReturn, StrayQuote, OpenQuote, BehindQuote, UnknownEscape}
@@ -11,6 +11,7 @@ use Rattle.mysql_records.specs.declared.format.RecordFormat.{RecordFormat}
 use Rattle.mysql_records.proofs.PieceLemmas.{special_backslash, special_quote, special_return, none_at, none_at_end, no_doubled_escapes, pieces_same}
 use Rattle.mysql_records.proofs.FieldLemmas.{separator_not_quote, separator_not_return, ends_not_backslash, none_bare, heads, pieces_not_quote, pieces_not_null, field_same, enclosed_only, bare_only, inner, no_end}
 use Rattle.mysql_records.proofs.RecordLemmas.{first_of, then_others, then_same}
+use Rattle.mysql_records.proofs.WrittenLemmas.{table_more}
 
 -- ---- the first field with a fault
 
@@ -212,9 +213,9 @@ no_record format back kind front whole_text fields end (behind_field x text rest
 -- ---- the first table with a fault
 
 -- a record and a line end before a fault
-record_before : (format : RecordFormat) (whole_text : List ℕ) (fields : List (Option (List ℕ))) (text line rest back : List ℕ) → IsRecord format fields text → IsLineEnd format line →
+whole_before : (format : RecordFormat) (whole_text : List ℕ) (fields : List (Option (List ℕ))) (text line rest back : List ℕ) → IsRecord format fields text → IsLineEnd format line →
     whole_text ≡ (text ++ line ++ rest) ++ back → IsRecordThen format whole_text fields (rest ++ back)
-record_before format whole_text fields text line rest back h l e = record {
+whole_before format whole_text fields text line rest back h l e = record {
   front = text;
   back = line ++ (rest ++ back);
   whole = e ∙ append_assoc (text ++ line) rest back ∙ append_assoc text line (rest ++ back);
@@ -226,13 +227,13 @@ rows_fault_same : (format : RecordFormat) (b c : List ℕ) (k l : FaultKind) (t 
     IsTableBefore format c l u → IsFaultAt format l c → t ++ b ≡ u ++ c → (k ≡ l) × (b ≡ c)
 rows_fault_same format b c k l t u (in_record text h) hb (in_record text2 m) hc e = record_fault_same format b c k l t u h hb m hc e
 rows_fault_same format b c k l t u (in_record text h) hb (behind_record fields text2 line rest2 r n m) hc e =
-    absurd (no_record format b k t (t ++ b) fields _ h hb refl (record_before format (t ++ b) fields text2 line rest2 c r n e))
+    absurd (no_record format b k t (t ++ b) fields _ h hb refl (whole_before format (t ++ b) fields text2 line rest2 c r n e))
 rows_fault_same format b c k l t u (behind_record fields text line rest r n h) hb (in_record text2 m) hc e =
-    absurd (no_record format c l u (u ++ c) fields _ m hc refl (record_before format (u ++ c) fields text line rest b r n (sym e)))
+    absurd (no_record format c l u (u ++ c) fields _ m hc refl (whole_before format (u ++ c) fields text line rest b r n (sym e)))
 rows_fault_same format b c k l t u (behind_record fields text line rest r n h) hb (behind_record fields2 text2 line2 rest2 s o m) hc e =
     rows_fault_same format b c k l rest rest2 h hb m hc
-    (then_same format (t ++ b) fields _ fields2 _ (record_before format (t ++ b) fields text line rest b r n refl)
-    (record_before format (t ++ b) fields2 text2 line2 rest2 c s o e)).1
+    (then_same format (t ++ b) fields _ fields2 _ (whole_before format (t ++ b) fields text line rest b r n refl)
+    (whole_before format (t ++ b) fields2 text2 line2 rest2 c s o e)).1
 
 -- ---- faults
 
@@ -259,3 +260,53 @@ pub table_fault_same : (format : RecordFormat) (text : List ℕ) (fault other : 
 table_fault_same format text fault other h k =
     fault_is text fault other h.within k.within
     (rows_fault_same format _ _ fault.kind other.kind _ _ h.before h.stands k.before k.stands (parts text fault.at other.at))
+
+-- ---- what stands before a fault
+
+before_field : (format : RecordFormat) (back : List ℕ) (kind : FaultKind) (front : List ℕ) → IsFieldBefore format back kind front →
+    (more : List ℕ) × (x : Option (List ℕ)) × IsField format x (front ++ more)
+before_field format back kind front (return_bare bytes text h p) = ([], Some bytes, subst (IsField format (Some bytes)) (sym (append-nil text)) (bare bytes text p))
+before_field format back kind front (return_enclosed bytes text h q p) =
+    ([], Some bytes, subst (IsField format (Some bytes)) (sym (append-nil (quote ∷ text ++ quote ∷ []))) (enclosed bytes text q p))
+before_field format back kind front (quote_bare bytes text h p some) = ([], Some bytes, subst (IsField format (Some bytes)) (sym (append-nil text)) (bare bytes text p))
+before_field format back kind front (open_quote h) = ([], Some [], bare [] [] no_pieces)
+before_field format back kind front (behind_quote bytes text h p) =
+    ([], Some bytes, subst (IsField format (Some bytes)) (sym (append-nil (quote ∷ text ++ quote ∷ []))) (enclosed bytes text h p))
+before_field format back kind front (escape_bare bytes text h p no_null) = ([], Some bytes, subst (IsField format (Some bytes)) (sym (append-nil text)) (bare bytes text p))
+before_field format back kind front (escape_enclosed bytes text h q p) = (quote ∷ [], Some bytes, enclosed bytes text q p)
+
+before_record : (format : RecordFormat) (back : List ℕ) (kind : FaultKind) (front : List ℕ) → IsRecordBefore format back kind front →
+    (more : List ℕ) × (fields : List (Option (List ℕ))) × IsRecord format fields (front ++ more)
+before_record format back kind front (in_field text h) =
+    let found = before_field format back kind text h in (found.0, found.1 ∷ [], one_field found.1 (text ++ found.0) found.2)
+before_record format back kind front (behind_field x text rest f h) =
+    let found = before_record format back kind rest h in (
+      found.0,
+      x ∷ found.1,
+      subst (IsRecord format (x ∷ found.1)) (sym (append_assoc text (separator format ∷ rest) found.0)) (more_fields x found.1 text (rest ++ found.0) f found.2),
+    )
+
+before_table : (format : RecordFormat) (back : List ℕ) (kind : FaultKind) (front : List ℕ) → IsTableBefore format back kind front →
+    (more : List ℕ) × (rows : List (List (Option (List ℕ)))) × IsTable format rows (front ++ more)
+before_table format back kind front (in_record text h) =
+    let found = before_record format back kind text h in (
+      found.0 ++ newline ∷ [],
+      found.1 ∷ [],
+      subst (IsTable format (found.1 ∷ [])) (append_assoc text found.0 (newline ∷ []))
+          (table_more format found.1 [] (text ++ found.0) (newline ∷ []) [] found.2 line_feed no_records),
+    )
+before_table format back kind front (behind_record fields text line rest r l h) =
+    let found = before_table format back kind rest h in (
+      found.0,
+      fields ∷ found.1,
+      subst (IsTable format (fields ∷ found.1)) (sym (append_assoc (text ++ line) rest found.0 ∙ append_assoc text line (rest ++ found.0)))
+          (table_more format fields found.1 text line (rest ++ found.0) r l found.2),
+    )
+
+pub fault_first : (format : RecordFormat) (text : List ℕ) (fault : Fault) → IsFaulty format text fault →
+    (more : List ℕ) × (fields : List (Option (List ℕ))) × IsRecord format fields (take fault.at text ++ more)
+fault_first format text fault h = before_record format (drop fault.at text) fault.kind (take fault.at text) h.before
+
+pub table_fault_first : (format : RecordFormat) (text : List ℕ) (fault : Fault) → IsFaultyTable format text fault →
+    (more : List ℕ) × (rows : List (List (Option (List ℕ)))) × IsTable format rows (take fault.at text ++ more)
+table_fault_first format text fault h = before_table format (drop fault.at text) fault.kind (take fault.at text) h.before

@@ -74,7 +74,7 @@ some_line_end format line [] rest (return_line_feed h) e = cc
 some_line_end format line (b ∷ front) rest h e = cc
 
 -- a record, a line end and a table
-table_more : (format : RecordFormat) (fields : List (Option (List ℕ))) (rows : List (List (Option (List ℕ)))) (front line rest : List ℕ) →
+pub table_more : (format : RecordFormat) (fields : List (Option (List ℕ))) (rows : List (List (Option (List ℕ)))) (front line rest : List ℕ) →
     IsRecord format fields front → IsLineEnd format line → IsTable format rows rest → IsTable format (fields ∷ rows) (front ++ (line ++ rest))
 table_more format fields rows front line rest h l k =
     more_records fields rows (front ++ (line ++ rest)) rest

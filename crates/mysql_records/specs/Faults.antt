@@ -1,5 +1,6 @@
 -- What stands in a text where no record has it, and what is read before that. It is the first byte
--- that no record has where it stands, or a quote that no quote ends: law `faults_are_unambiguous`.
+-- that no record has where it stands, or a quote that no quote ends: laws `faults_are_first` and
+-- `faults_are_unambiguous`.
 use Rattle.std.specs.Prelude.{◌≡◌, ◌≢◌, ℕ, ◌<◌, true, false, IsTrue, IsFalse, List, [], ◌∷◌, ◌++◌, length, take, drop, Option, None, ⊤}
 use Rattle.std.specs.Str.{byte}
 use Rattle.mysql_records.specs.Formats.{backslash, carriage_return, doubles_quotes, escape_value, has_escapes, has_quotes, newline, quote, separator}

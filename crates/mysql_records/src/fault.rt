@@ -17,7 +17,8 @@ pub enum FaultKind {
 }
 
 /// Where a text isn't records: at the quote before a field that no quote ends, else at the first
-/// byte that no record has where it stands. A text has one fault at most
+/// byte that no record has where it stands. What stands before it is the front of a record
+/// ([`faults_are_first`](crate::laws::faults_are_first)), and a text has one fault at most
 /// ([`faults_are_unambiguous`](crate::laws::faults_are_unambiguous)).
 #[derive(Debug, Clone, Copy, PartialEq, Eq)]
 pub struct Fault {

@@ -1,10 +1,10 @@
 //! Laws of the definitions that the contracts cite. They do nothing: each is called for what it
 //! ensures.
-ghost use Rattle.std.specs.Prelude.{◌≡◌, ◌==◌, ℕ, Bool, false, IsTrue, IsFalse, List, Option, Some};
+ghost use Rattle.std.specs.Prelude.{◌≡◌, ◌==◌, ℕ, Bool, false, IsTrue, IsFalse, List, ◌++◌, Option, Some, take};
 ghost use Rattle.std.specs.List.{list_any};
 ghost use Rattle.mysql_records.specs.Faults.{IsFaulty, IsFaultyTable};
 ghost use Rattle.mysql_records.specs.Formats.{has_quotes};
-ghost use Rattle.mysql_records.specs.Records.{BeginsWithRecord, IsLineEnd, IsTable};
+ghost use Rattle.mysql_records.specs.Records.{BeginsWithRecord, IsLineEnd, IsRecord, IsTable};
 ghost use Rattle.mysql_records.specs.WrittenRecords.{Cell, IsWritable, IsWritableTable, IsWriter, Writer, fields_of, written_table};
 ghost use Rattle.mysql_records.specs.Writers.{client_writer, unwritable_bytes, usual_writer};
 ghost use Rattle.mysql_records.specs.declared.fault.Fault.{Fault};
@@ -27,6 +27,17 @@ pub fn faults_are_unambiguous()
         IsFaulty format text fault → IsFaulty format text other → fault ≡ other }
     ensures tables { (format : RecordFormat) (text : List ℕ) (fault other : Fault) →
         IsFaultyTable format text fault → IsFaultyTable format text other → fault ≡ other }
+{}
+
+/// A fault is the first: what stands before it is the front of a record, and in a table the front
+/// of a table. With other bytes from the fault on, the text is one.
+pub fn faults_are_first()
+    ensures records { (format : RecordFormat) (text : List ℕ) (fault : Fault) →
+        IsFaulty format text fault → (more : List ℕ) × (fields : List (Option (List ℕ)))
+        × IsRecord format fields (take fault.at text ++ more) }
+    ensures tables { (format : RecordFormat) (text : List ℕ) (fault : Fault) →
+        IsFaultyTable format text fault → (more : List ℕ) × (rows : List (List (Option (List ℕ))))
+        × IsTable format rows (take fault.at text ++ more) }
 {}
 
 /// What a writer makes of a table reads as that table, and as no other: whichever fields it writes
