@@ -1,8 +1,9 @@
 -- What binding promises of the text that it gives: each value stands in one literal, and nothing
 -- else of the query changes. A call that binds promises this record in its mode, or else an error
 -- that is the first cause or out of memory (BindErrors.antt). The laws of src/laws.rt say more of
--- such a text: `isolation`, `bound_texts_on_servers`, `bound_texts_in_clients`, `no_place_is_left`,
--- `bound_again_is_the_same`, `by_position_is_the_same` and `equal_texts_say_the_same`.
+-- such a text: `isolation`, `bound_texts_on_servers`, `bound_texts_in_clients`,
+-- `bound_texts_are_sent`, `no_place_is_left`, `bound_again_is_the_same`, `by_position_is_the_same`
+-- and `equal_texts_say_the_same`.
 use Rattle.std.specs.Prelude.{◌≡◌, ℕ, Bool, List, map, Some, None, Ok}
 use Rattle.mysql_values.specs.declared.value.Value.{Value}
 use Rattle.mysql_values.specs.Content.{content_of}

@@ -1,7 +1,8 @@
 -- What binding promises of the text that it gives for any mode, and for any server: each value
 -- stands in one steady literal, and nothing else of the query changes. `bind_text_in_any_mode`
 -- promises the first record, and `bind_text_anywhere` the second, or else an error that says why
--- not (SteadyTextErrors.antt). The law `bound_steady_texts` says more of such a text.
+-- not (SteadyTextErrors.antt). The laws `bound_steady_texts`, `bound_steady_texts_in_clients` and
+-- `bound_steady_texts_are_sent` say more of such a text.
 use Rattle.std.specs.Prelude.{◌≡◌, ℕ, Bool, List, map, Some, None, Ok}
 use Rattle.mysql_values.specs.declared.value.Value.{Value}
 use Rattle.mysql_values.specs.Content.{content_of}
