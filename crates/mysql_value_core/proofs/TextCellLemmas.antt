@@ -38,8 +38,7 @@ reads_a_cell (suc count) bytes some read = read
 -- what is known of the reading after `counter` of `count` cells
 module _ (count counter : ℕ) (bytes rest : List ℕ) (before : List Value)
     (within : counter < count)
-    (read_on : read_cells count bytes ≡ row_after before (read_cells (count - counter) rest))
-    (first : ((counter ≡ 0) × (rest ≡ bytes)) ⊎ ReadsACell count bytes) where
+    (read_on : read_cells count bytes ≡ row_after before (read_cells (count - counter) rest)) where
   one_more : read_cells count bytes
       ≡ row_after before (and_then_read (read_cell rest) (row_from_cell (count - (counter + 1))))
   one_more =
@@ -61,31 +60,34 @@ module _ (count counter : ℕ) (bytes rest : List ℕ) (before : List Value)
       one_more
       ∙ ap (λ r. row_after before (and_then_read r (row_from_cell (count - (counter + 1))))) read
 
+  -- the refusal of this cell is that of all of them, and so it is what `?` returns
+  pub refused_cell : {X Y : Type 0} (seen : X → Value × List ℕ) (seen' : Y → List Value × List ℕ)
+      (Takes Takes' : Type 0) → (Takes → Takes') → (e : WireError) (result : Result Y WireError)
+      → IsErrAnd result (λ e'. e' ≡ e) → IsAnswer seen read_refusal (read_cell rest) Takes (Err e)
+      → IsAnswer seen' read_refusal (read_cells count bytes) Takes' result
+  refused_cell seen seen' Takes Takes' takes e (Ok cells) returned answer = absurd returned
+  refused_cell seen seen' Takes Takes' takes e (Err e') returned answer =
+      subst
+      (λ e'. IsAnswer seen' read_refusal (read_cells count bytes) Takes' (Err e'))
+      (sym returned)
+      (refusal_expected_too (read_cell rest) (read_cells count bytes) Takes Takes'
+      (read_refusal e) refused_next takes answer)
+
   -- if this cell is read, so is the first
-  pub first_cell : IsOk (read_cell rest) → ReadsACell count bytes
-  first_cell read = elim first [
+  pub first_cell : ((counter ≡ 0) × (rest ≡ bytes)) ⊎ ReadsACell count bytes
+      → IsOk (read_cell rest) → ReadsACell count bytes
+  first_cell first read = elim first [
     | inl here ↦
         reads_a_cell count bytes (omega arith) (subst (λ bs. IsOk (read_cell bs)) here.1 read)
     | inr cell ↦ cell
   ]
 
-  -- the refusal of this cell is that of all of them
-  refused_all : {X Y : Type 0} (seen : X → Value × List ℕ) (seen' : Y → List Value × List ℕ)
-      (e : WireError)
-      → IsAnswer seen read_refusal (read_cell rest) (ReadsBytes (read_cell rest)) (Err e)
-      → IsAnswer seen' read_refusal (read_cells count bytes) (ReadsACell count bytes) (Err e)
-  refused_all seen seen' e =
-      refusal_expected_too (read_cell rest) (read_cells count bytes) (ReadsBytes (read_cell rest))
-      (ReadsACell count bytes) (read_refusal e) refused_next
-      (λ bytes. first_cell (reads (read_cell rest) bytes))
-
-  -- and so it is what `?` returns
-  pub cell_refused : {X Y : Type 0} (seen : X → Value × List ℕ) (seen' : Y → List Value × List ℕ)
+  -- a cell that takes memory is one of a row that does
+  pub cell_refused : ((counter ≡ 0) × (rest ≡ bytes)) ⊎ ReadsACell count bytes
+      → {X Y : Type 0} (seen : X → Value × List ℕ) (seen' : Y → List Value × List ℕ)
       (e : WireError) (result : Result Y WireError) → IsErrAnd result (λ e'. e' ≡ e)
       → IsAnswer seen read_refusal (read_cell rest) (ReadsBytes (read_cell rest)) (Err e)
       → IsAnswer seen' read_refusal (read_cells count bytes) (ReadsACell count bytes) result
-  cell_refused seen seen' e (Ok cells) returned answer = absurd returned
-  cell_refused seen seen' e (Err e') returned answer =
-      subst
-      (λ e'. IsAnswer seen' read_refusal (read_cells count bytes) (ReadsACell count bytes) (Err e'))
-      (sym returned) (refused_all seen seen' e answer)
+  cell_refused first seen seen' =
+      refused_cell seen seen' (ReadsBytes (read_cell rest)) (ReadsACell count bytes)
+      (λ bytes. first_cell first (reads (read_cell rest) bytes))

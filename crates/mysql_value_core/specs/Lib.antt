@@ -1,6 +1,7 @@
 pub mod Bytes
 pub mod Value
 pub mod ValueOrder
+pub mod BorrowedValue
 pub mod Literal
 pub mod Content
 pub mod ReadBack

@@ -7,7 +7,7 @@ ghost use Rattle.std.specs.Ordering.{nat_cmp, as_partial_cmp};
 ghost use Rattle.std.proofs.Common.{rules};
 ghost use Rattle.mysql_value_core.specs.Bytes.{AreBytes};
 
-use crate::show::Shown;
+use crate::show::Quoted;
 use std::alloc::AllocError;
 use std::cmp::Ordering;
 use std::fmt;
@@ -113,11 +113,6 @@ impl Ord for Bytes {
 /// At most the first eight bytes, in double quotes; two dots say that there are more.
 impl fmt::Debug for Bytes {
     fn fmt<W: fmt::Write>(&self, f: &mut fmt::Formatter<W>) -> fmt::Result {
-        let bytes = self.as_slice();
-        if bytes.len() <= 8 {
-            write!(f, "\"{}\"", Shown(bytes))
-        } else {
-            write!(f, "\"{}..\"", Shown(&bytes[..8]))
-        }
+        write!(f, "{:?}", Quoted(self.as_slice()))
     }
 }

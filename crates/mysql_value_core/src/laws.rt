@@ -18,8 +18,9 @@ use crate::value::{
     BinValue, ClientSide, SerializationSide, ServerSide, TextValue, Value, ValueDeserializer,
 };
 pub use literals::{
-    as_sql_error_equality, escaped_literals_stand_in_line, fields_in_range, floats_have_no_literal,
-    literal_reads_back, literal_shape,
+    as_sql_error_equality, borrowed_fields_in_range, borrowed_literal_shape,
+    escaped_literals_stand_in_line, fields_in_range, floats_have_no_literal, literal_reads_back,
+    literal_shape,
 };
 use mysql_wire_part::MyDeserialize;
 use std::alloc::Global;

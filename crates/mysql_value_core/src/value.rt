@@ -3,16 +3,18 @@ ghost use Rattle.std.specs.Prelude.{◌≡◌, IfOk, OnErr};
 ghost use Rattle.mysql_value_core.specs.Value.{FieldsInRange, IsBytes};
 
 mod binary;
+mod borrowed;
 pub mod convert;
 mod literal;
 mod side;
 mod text;
 
 use crate::bytes::Bytes;
-pub use crate::value::binary::BinValue;
+pub use crate::value::binary::{BinValue, read_binary_value};
+pub use crate::value::borrowed::ValueRef;
 pub use crate::value::literal::AsSqlError;
 pub use crate::value::side::{ClientSide, SerializationSide, ServerSide};
-pub use crate::value::text::{TextValue, read_text_cells};
+pub use crate::value::text::{TextValue, read_text_cell, read_text_cells, read_text_cells_into};
 use std::alloc::AllocError;
 use std::marker::PhantomData;
 

@@ -4,14 +4,14 @@ ghost use Rattle.mysql_wire_part.specs.Reading.{read_number, map_read};
 ghost use Rattle.mysql_wire_part.specs.Answer.{IsAnswer};
 ghost use Rattle.mysql_wire_part.specs.ParseBuf.{left, read_refusal};
 ghost use Rattle.mysql_wire_part.specs.Column.{is_unsigned};
+ghost use Rattle.mysql_value_core.specs.BorrowedValue.{owned};
 ghost use Rattle.mysql_value_core.specs.TextCell.{ReadsBytes};
 ghost use Rattle.mysql_value_core.specs.BinaryForm.{binary_form, date_form, time_form};
 ghost use Rattle.mysql_value_core.specs.BinaryReading.{date_value, time_value, read_counted, read_bytes_value, read_integer, read_binary};
 ghost use Rattle.mysql_value_core.specs.BinaryReadBack.{ReadsBackInBinary};
 ghost use Rattle.mysql_value_core.specs.declared.value.Value as value;
 
-use crate::bytes::Bytes;
-use crate::value::{Value, ValueDeserializer};
+use crate::value::{Value, ValueDeserializer, ValueRef};
 use byteorder::{ByteOrder, LittleEndian};
 use mysql_sql_text::dates::{DateFields, TimeFields};
 use mysql_wire_part::{
@@ -183,24 +183,41 @@ impl<'de> MyDeserialize<'de> for ValueDeserializer<BinValue> {
         ensures unchanged { OnErr result (left buf.new ≡ left buf.old) }
     {
         let mut rest = *buf;
-        let unsigned = ctx.1.contains(ColumnFlags::UNSIGNED_FLAG);
-        let value = eat_binary(alloc, ctx.0, unsigned, &mut rest)?;
+        let read = read_binary_value(ctx.0, ctx.1, &mut rest)?;
+        let value = read.to_value(alloc)?;
         *buf = rest;
         Ok(ValueDeserializer(value, PhantomData))
     }
 }
 
+/// The value at the front of the buffer, read by the type of its column and its flags, whose bytes
+/// are those of the buffer: nothing is copied. After an error the buffer is unchanged.
+pub fn read_binary_value<'b>(
+    column: ColumnType,
+    flags: ColumnFlags,
+    buf: &mut ParseBuf<'b>,
+) -> Result<ValueRef<'b>, WireError>
+    // It allocates nothing, so it is never out of memory.
+    ensures read { IsAnswer (λ value. (owned value, left buf.new)) read_refusal
+        (read_binary column (is_unsigned flags) (left buf.old)) ⊥ result }
+    ensures unchanged { OnErr result (left buf.new ≡ left buf.old) }
+{
+    let mut rest = *buf;
+    let unsigned = flags.contains(ColumnFlags::UNSIGNED_FLAG);
+    let value = eat_binary(column, unsigned, &mut rest)?;
+    *buf = rest;
+    Ok(value)
+}
+
 // The value at the front of the buffer, read by the type of its column. After an error any bytes of
 // it may have been taken off.
-fn eat_binary(
-    alloc: Global,
+fn eat_binary<'b>(
     column: ColumnType,
     unsigned: bool,
-    buf: &mut ParseBuf<'_>,
-) -> Result<Value, WireError>
-    ensures read { IsAnswer (λ value. (value, left buf.new)) read_refusal
-        (read_binary column unsigned (left buf.old))
-        (ReadsBytes (read_binary column unsigned (left buf.old))) result }
+    buf: &mut ParseBuf<'b>,
+) -> Result<ValueRef<'b>, WireError>
+    ensures read { IsAnswer (λ value. (owned value, left buf.new)) read_refusal
+        (read_binary column unsigned (left buf.old)) ⊥ result }
 {
     match column {
         ColumnType::MYSQL_TYPE_BIT
@@ -217,14 +234,14 @@ fn eat_binary(
         | ColumnType::MYSQL_TYPE_TINY_BLOB
         | ColumnType::MYSQL_TYPE_VARCHAR
         | ColumnType::MYSQL_TYPE_VAR_STRING
-        | ColumnType::MYSQL_TYPE_VECTOR => eat_string(alloc, buf),
+        | ColumnType::MYSQL_TYPE_VECTOR => eat_string(buf),
         ColumnType::MYSQL_TYPE_TINY => eat_integer(1, unsigned, buf),
         ColumnType::MYSQL_TYPE_SHORT | ColumnType::MYSQL_TYPE_YEAR => eat_integer(2, unsigned, buf),
         ColumnType::MYSQL_TYPE_LONG | ColumnType::MYSQL_TYPE_INT24 => eat_integer(4, unsigned, buf),
         ColumnType::MYSQL_TYPE_LONGLONG => eat_integer(8, unsigned, buf),
         ColumnType::MYSQL_TYPE_FLOAT => eat_float(buf),
         ColumnType::MYSQL_TYPE_DOUBLE => eat_double(buf),
-        ColumnType::MYSQL_TYPE_NULL => Ok(Value::NULL),
+        ColumnType::MYSQL_TYPE_NULL => Ok(ValueRef::NULL),
         ColumnType::MYSQL_TYPE_TIME => Ok(time_of(eat_counted(buf)?)),
         ColumnType::MYSQL_TYPE_DATE
         | ColumnType::MYSQL_TYPE_DATETIME
@@ -238,21 +255,24 @@ fn eat_binary(
     }
 }
 
-// A length-encoded string, copied.
-fn eat_string(alloc: Global, buf: &mut ParseBuf<'_>) -> Result<Value, WireError>
-    ensures read { IsAnswer (λ value. (value, left buf.new)) read_refusal
-        (read_bytes_value (left buf.old)) (ReadsBytes (read_bytes_value (left buf.old))) result }
+// A length-encoded string.
+fn eat_string<'b>(buf: &mut ParseBuf<'b>) -> Result<ValueRef<'b>, WireError>
+    ensures read { IsAnswer (λ value. (owned value, left buf.new)) read_refusal
+        (read_bytes_value (left buf.old)) ⊥ result }
 {
     let text = buf.eat_lenenc_str()?;
-    let bytes = Bytes::from(Vec::from_slice(alloc, text)?);
-    Ok(Value::Bytes(bytes))
+    Ok(ValueRef::Bytes(text))
 }
 
 // A whole number of `width` bytes.
-fn eat_integer(width: usize, unsigned: bool, buf: &mut ParseBuf<'_>) -> Result<Value, WireError>
+fn eat_integer<'b>(
+    width: usize,
+    unsigned: bool,
+    buf: &mut ParseBuf<'b>,
+) -> Result<ValueRef<'b>, WireError>
     requires low { 1 ≤ width }
     requires high { width ≤ 8 }
-    ensures read { IsAnswer (λ value. (value, left buf.new)) read_refusal
+    ensures read { IsAnswer (λ value. (owned value, left buf.new)) read_refusal
         (read_integer width unsigned (left buf.old)) ⊥ result }
 {
     let bytes = buf.0;
@@ -260,31 +280,31 @@ fn eat_integer(width: usize, unsigned: bool, buf: &mut ParseBuf<'_>) -> Result<V
         return Err(WireError::UnexpectedEof);
     }
     if !unsigned {
-        return Ok(Value::Int(LittleEndian::read_int(bytes, width)));
+        return Ok(ValueRef::Int(LittleEndian::read_int(bytes, width)));
     }
     let number = LittleEndian::read_uint(bytes, width);
     match i64::try_from(number) {
-        Ok(number) => Ok(Value::Int(number)),
-        Err(_) => Ok(Value::UInt(number)),
+        Ok(number) => Ok(ValueRef::Int(number)),
+        Err(_) => Ok(ValueRef::UInt(number)),
     }
 }
 
 // The 4 bytes of a `Float`.
-fn eat_float(buf: &mut ParseBuf<'_>) -> Result<Value, WireError>
-    ensures read { IsAnswer (λ value. (value, left buf.new)) read_refusal
+fn eat_float<'b>(buf: &mut ParseBuf<'b>) -> Result<ValueRef<'b>, WireError>
+    ensures read { IsAnswer (λ value. (owned value, left buf.new)) read_refusal
         (map_read (λ bits. Value.Float bits) (read_number 4 (left buf.old))) ⊥ result }
 {
     let bits = buf.checked_eat_u32_le().ok_or(WireError::UnexpectedEof)?;
-    Ok(Value::Float(bits))
+    Ok(ValueRef::Float(bits))
 }
 
 // The 8 bytes of a `Double`.
-fn eat_double(buf: &mut ParseBuf<'_>) -> Result<Value, WireError>
-    ensures read { IsAnswer (λ value. (value, left buf.new)) read_refusal
+fn eat_double<'b>(buf: &mut ParseBuf<'b>) -> Result<ValueRef<'b>, WireError>
+    ensures read { IsAnswer (λ value. (owned value, left buf.new)) read_refusal
         (map_read (λ bits. Value.Double bits) (read_number 8 (left buf.old))) ⊥ result }
 {
     let bits = buf.checked_eat_u64_le().ok_or(WireError::UnexpectedEof)?;
-    Ok(Value::Double(bits))
+    Ok(ValueRef::Double(bits))
 }
 
 // A length byte and that many bytes, which are returned.
@@ -300,30 +320,30 @@ fn eat_counted<'a>(buf: &mut ParseBuf<'a>) -> Result<&'a [u8], WireError>
 }
 
 // The date of these bytes.
-fn date_of(fields: &[u8]) -> Value
-    ensures fields { result ≡ date_value fields.now }
+fn date_of<'b>(fields: &[u8]) -> ValueRef<'b>
+    ensures fields { owned result ≡ date_value fields.now }
 {
     match fields {
         [y0, y1, month, day, hour, minute, second, u0, u1, u2, u3] => {
             let year = u16::from_le_bytes([*y0, *y1]);
             let microseconds = u32::from_le_bytes([*u0, *u1, *u2, *u3]);
-            Value::Date(year, *month, *day, *hour, *minute, *second, microseconds)
+            ValueRef::Date(year, *month, *day, *hour, *minute, *second, microseconds)
         }
         [y0, y1, month, day, hour, minute, second, ..] => {
             let year = u16::from_le_bytes([*y0, *y1]);
-            Value::Date(year, *month, *day, *hour, *minute, *second, 0)
+            ValueRef::Date(year, *month, *day, *hour, *minute, *second, 0)
         }
         [y0, y1, month, day, ..] => {
             let year = u16::from_le_bytes([*y0, *y1]);
-            Value::Date(year, *month, *day, 0, 0, 0, 0)
+            ValueRef::Date(year, *month, *day, 0, 0, 0, 0)
         }
-        _ => Value::Date(0, 0, 0, 0, 0, 0, 0),
+        _ => ValueRef::Date(0, 0, 0, 0, 0, 0, 0),
     }
 }
 
 // The time of these bytes.
-fn time_of(fields: &[u8]) -> Value
-    ensures fields { result ≡ time_value fields.now }
+fn time_of<'b>(fields: &[u8]) -> ValueRef<'b>
+    ensures fields { owned result ≡ time_value fields.now }
 {
     match fields {
         [
@@ -342,12 +362,12 @@ fn time_of(fields: &[u8]) -> Value
         ] => {
             let days = u32::from_le_bytes([*d0, *d1, *d2, *d3]);
             let microseconds = u32::from_le_bytes([*u0, *u1, *u2, *u3]);
-            Value::Time(*sign == 1, days, *hours, *minutes, *seconds, microseconds)
+            ValueRef::Time(*sign == 1, days, *hours, *minutes, *seconds, microseconds)
         }
         [sign, d0, d1, d2, d3, hours, minutes, seconds, ..] => {
             let days = u32::from_le_bytes([*d0, *d1, *d2, *d3]);
-            Value::Time(*sign == 1, days, *hours, *minutes, *seconds, 0)
+            ValueRef::Time(*sign == 1, days, *hours, *minutes, *seconds, 0)
         }
-        _ => Value::Time(false, 0, 0, 0, 0, 0),
+        _ => ValueRef::Time(false, 0, 0, 0, 0, 0),
     }
 }

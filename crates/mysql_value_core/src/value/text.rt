@@ -1,12 +1,12 @@
 //! Values of rows in text form.
-ghost use Rattle.std.specs.Prelude.{◌≡◌, None, OnErr};
+ghost use Rattle.std.specs.Prelude.{◌≡◌, ◌≤◌, ◌<◌, None, OnErr, vec_capacity};
 ghost use Rattle.mysql_wire_part.specs.Answer.{IsAnswer};
 ghost use Rattle.mysql_wire_part.specs.ParseBuf.{left, read_refusal};
+ghost use Rattle.mysql_value_core.specs.BorrowedValue.{owned, owned_values};
 ghost use Rattle.mysql_value_core.specs.TextCell.{read_cell, read_cells, ReadsBytes, ReadsACell};
 ghost use Rattle.mysql_value_core.specs.declared.value.Value as value;
 
-use crate::bytes::Bytes;
-use crate::value::{Value, ValueDeserializer};
+use crate::value::{Value, ValueDeserializer, ValueRef};
 use mysql_wire_part::{MyDeserialize, ParseBuf, WireError};
 use std::alloc::{AllocError, Global};
 use std::marker::PhantomData;
@@ -84,13 +84,48 @@ fn eat_cell(alloc: Global, buf: &mut ParseBuf<'_>) -> Result<Value, WireError>
         (read_cell (left buf.old)) (ReadsBytes (read_cell (left buf.old))) result }
     ensures unchanged { OnErr result (left buf.new ≡ left buf.old) }
 {
+    let mut after = *buf;
+    let cell = read_text_cell(&mut after)?;
+    let value = cell.to_value(alloc)?;
+    *buf = after;
+    Ok(value)
+}
+
+/// The cell at the front of the buffer, whose bytes are those of the buffer: nothing is copied.
+/// After an error the buffer is unchanged.
+pub fn read_text_cell<'b>(buf: &mut ParseBuf<'b>) -> Result<ValueRef<'b>, WireError>
+    // It allocates nothing, so it is never out of memory.
+    ensures read { IsAnswer (λ cell. (owned cell, left buf.new)) read_refusal
+        (read_cell (left buf.old)) ⊥ result }
+    ensures unchanged { OnErr result (left buf.new ≡ left buf.old) }
+{
     if let [NULL_CELL, rest @ ..] = buf.0 {
         buf.0 = rest;
-        return Ok(Value::NULL);
+        return Ok(ValueRef::NULL);
     }
-    let mut after = *buf;
-    let text = after.eat_lenenc_str()?;
-    let bytes = Bytes::from(Vec::from_slice(alloc, text)?);
-    *buf = after;
-    Ok(Value::Bytes(bytes))
+    let text = buf.eat_lenenc_str()?;
+    Ok(ValueRef::Bytes(text))
+}
+
+/// Reads `count` cells into a vector, in place of what it holds: row after row can be read into
+/// one, and nothing is copied. It allocates only if the vector has no room for so many. On each
+/// error the buffer is unchanged, and the vector may hold any cells.
+pub fn read_text_cells_into<'b>(
+    buf: &mut ParseBuf<'b>,
+    count: usize,
+    cells: &mut Vec<ValueRef<'b>>,
+) -> Result<(), WireError>
+    ensures read { IsAnswer (λ _. (owned_values cells.new.items, left buf.new)) read_refusal
+        (read_cells count (left buf.old)) (vec_capacity cells.old < count) result }
+    ensures unchanged { OnErr result (left buf.new ≡ left buf.old) }
+    ensures room { vec_capacity cells.old ≤ vec_capacity cells.new }
+{
+    let mut rest = *buf;
+    cells.clear();
+    for _ in 0..count {
+        let cell = read_text_cell(&mut rest)?;
+        cells.push(cell).map_err(AllocError::from)?;
+    }
+    *buf = rest;
+    Ok(())
 }

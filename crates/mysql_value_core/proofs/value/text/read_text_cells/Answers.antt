@@ -22,7 +22,7 @@ loop-preserved c =
       within = omega arith;
       read_on =
           next_cell c.args.count c.loop.counter (left c.args.buf.now) (left c.loop.rest)
-          c.loop.cells.items (omega arith) c.loop.invariant.read_on c.loop.invariant.first
+          c.loop.cells.items (omega arith) c.loop.invariant.read_on
           c.in_ok-cell.cell (left c.eat_cell.new.buf) c.in_ok-cell.ensures.read
           ∙ ap (λ cells. row_after cells
           (read_cells (c.args.count - (c.loop.counter + 1)) (left c.eat_cell.new.buf)))
