@@ -14,6 +14,7 @@ mod boolean;
 mod byte_strings;
 mod decimal;
 mod duration;
+mod from_ref;
 mod intermediate;
 mod option;
 mod signed;
@@ -21,6 +22,7 @@ mod texts;
 mod unsigned;
 mod whole_number;
 
+pub use crate::value::convert::from_ref::FromValueRef;
 pub use crate::value::convert::intermediate::{ParseIr, ParseIrOpt, ValueIr};
 pub use crate::value::convert::option::OptionIr2;
 pub use crate::value::convert::whole_number::WholeNumber;

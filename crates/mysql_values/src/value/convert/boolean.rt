@@ -11,7 +11,7 @@ use crate::value::Value;
 use crate::value::convert::{FromValue, FromValueError, ParseIrOpt};
 
 // The Boolean of a text.
-fn boolean_of_text(text: &[u8]) -> Option<bool>
+pub(crate) fn boolean_of_text(text: &[u8]) -> Option<bool>
     ensures { result ≡ boolean_of_text text.now }
 {
     match text {

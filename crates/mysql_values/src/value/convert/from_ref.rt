@@ -1,0 +1,122 @@
+//! Conversions of borrowed values: by the rules of [`FromValue`](super::FromValue), without memory.
+ghost use Rattle.std.specs.Prelude.{◌≡◌, Bool, List, ℕ, Option};
+ghost use Rattle.std.specs.Option.{option_map};
+ghost use Rattle.mysql_value_core.specs.BorrowedValue.{owned};
+ghost use Rattle.mysql_value_core.specs.FromValue.{value_bytes, value_text};
+ghost use Rattle.mysql_value_core.specs.declared.value.Value as value;
+ghost use Rattle.mysql_values.specs.Boolean.{boolean_conversion};
+ghost use Rattle.mysql_values.specs.Intermediate.{committed};
+ghost use Rattle.mysql_values.specs.OptionConversion.{option_conversion};
+ghost use Rattle.mysql_values.specs.WholeNumber.{whole_conversion};
+
+use crate::value::ValueRef;
+use crate::value::convert::WholeNumber;
+use crate::value::convert::boolean::boolean_of_text;
+use crate::value::convert::decimal::decimal_parts;
+
+/// What borrowed values convert to: as the owned values do, and bytes and texts stay where they
+/// are. The value is `Copy`, so a refusal hands nothing back.
+pub trait FromValueRef<'v>: Sized {
+    // what contracts see of the type
+    ghost Seen: { Type 0 };
+
+    ghost seen: { Self → Seen };
+
+    // what a value converts to, if it does
+    ghost converted: { value.Value → Option Seen };
+
+    /// What the value converts to, if it does. Nothing is allocated.
+    fn from_value_ref(value: ValueRef<'v>) -> Option<Self>
+        ensures { option_map seen result ≡ converted (owned value.entry) };
+}
+
+impl<'v, T: WholeNumber + Drop> FromValueRef<'v> for T {
+    ghost Seen = { T };
+
+    ghost seen = { λ x. x };
+
+    ghost converted = { λ value.
+        option_map committed (whole_conversion T.is_signed T.width T.of_number value) };
+
+    fn from_value_ref(value: ValueRef<'v>) -> Option<T> {
+        match value {
+            ValueRef::Int(number) => {
+                T::from_parts(number < 0, u128::from(number.unsigned_abs()))
+            }
+            ValueRef::UInt(number) => T::from_parts(false, u128::from(number)),
+            ValueRef::Bytes(bytes) => match decimal_parts(bytes) {
+                Some((negative, magnitude)) => T::from_parts(negative, magnitude),
+                None => None,
+            },
+            _ => None,
+        }
+    }
+}
+
+impl<'v> FromValueRef<'v> for bool {
+    ghost Seen = { Bool };
+
+    ghost seen = { λ boolean. boolean };
+
+    ghost converted = { λ value. option_map committed (boolean_conversion value) };
+
+    fn from_value_ref(value: ValueRef<'v>) -> Option<bool> {
+        match value {
+            ValueRef::Int(number) => Some(number != 0),
+            ValueRef::UInt(number) => Some(number != 0),
+            ValueRef::Bytes(bytes) => boolean_of_text(bytes),
+            _ => None,
+        }
+    }
+}
+
+impl<'v> FromValueRef<'v> for &'v [u8] {
+    ghost Seen = { List ℕ };
+
+    ghost seen = { λ bytes. bytes.now };
+
+    ghost converted = { value_bytes };
+
+    fn from_value_ref(value: ValueRef<'v>) -> Option<&'v [u8]> {
+        match value {
+            ValueRef::Bytes(bytes) => Some(bytes),
+            _ => None,
+        }
+    }
+}
+
+impl<'v> FromValueRef<'v> for &'v str {
+    ghost Seen = { List ℕ };
+
+    ghost seen = { λ text. text.now };
+
+    ghost converted = { value_text };
+
+    fn from_value_ref(value: ValueRef<'v>) -> Option<&'v str> {
+        match value {
+            ValueRef::Bytes(bytes) => match str::from_utf8(bytes) {
+                Ok(text) => Some(text),
+                Err(_) => None,
+            },
+            _ => None,
+        }
+    }
+}
+
+impl<'v, T: FromValueRef<'v>> FromValueRef<'v> for Option<T> {
+    ghost Seen = { Option T.Seen };
+
+    ghost seen = { option_map T.seen };
+
+    ghost converted = { option_conversion T.converted };
+
+    fn from_value_ref(value: ValueRef<'v>) -> Option<Option<T>> {
+        match value {
+            ValueRef::NULL => Some(None),
+            other => match T::from_value_ref(other) {
+                Some(x) => Some(Some(x)),
+                None => None,
+            },
+        }
+    }
+}
