@@ -10,6 +10,7 @@ ghost use Rattle.mysql_wire_part.specs.Answer.{IsAnswer};
 ghost use Rattle.mysql_value_core.specs.ValueOf.{MeansBytes, too_long_duration};
 ghost use Rattle.mysql_value_core.specs.ValueOrder.{value_cmp};
 
+mod borrowed;
 mod literals;
 
 use crate::bytes::Bytes;
@@ -17,10 +18,13 @@ use crate::value::convert::{FromValueError, ToValue, ToValueError};
 use crate::value::{
     BinValue, ClientSide, SerializationSide, ServerSide, TextValue, Value, ValueDeserializer,
 };
+pub use borrowed::{
+    borrowed_equality, borrowed_fields_in_range, borrowed_literal_shape, borrowed_order,
+    borrowed_partial_order,
+};
 pub use literals::{
-    as_sql_error_equality, borrowed_fields_in_range, borrowed_literal_shape,
-    escaped_literals_stand_in_line, fields_in_range, floats_have_no_literal, literal_reads_back,
-    literal_shape,
+    as_sql_error_equality, escaped_literals_stand_in_line, fields_in_range, floats_have_no_literal,
+    literal_reads_back, literal_shape,
 };
 use mysql_wire_part::MyDeserialize;
 use std::alloc::Global;

@@ -22,7 +22,7 @@ impl fmt::Display for Shown<'_> {
     }
 }
 
-/// Bytes that are shown in double quotes: at most the first eight; two dots say that there are more.
+/// At most the first eight of some bytes, in double quotes; two dots say that there are more.
 #[derive(Drop)]
 pub(crate) struct Quoted<'a>(pub &'a [u8]);
 

@@ -2,7 +2,6 @@
 //! fields, on which literals rest.
 ghost use Rattle.std.specs.Prelude.{◌≡◌, ◌↔◌, Bool, IfSome, IsTrue, is_none};
 ghost use Rattle.mysql_value_core.specs.declared.value.Value as value;
-ghost use Rattle.mysql_value_core.specs.BorrowedValue.{owned};
 ghost use Rattle.mysql_value_core.specs.Value.{FieldsInRange};
 ghost use Rattle.mysql_value_core.specs.Literal.{is_float, literal_of};
 ghost use Rattle.mysql_value_core.specs.Content.{content_of};
@@ -11,7 +10,7 @@ ghost use Rattle.mysql_sql_text.specs.InLine.{IsInLine};
 ghost use Rattle.mysql_sql_text.specs.LiteralShape.{IsLiteral};
 ghost use Rattle.mysql_sql_text.specs.StringUnits.{with_backslashes};
 
-use crate::value::{AsSqlError, Value, ValueRef};
+use crate::value::{AsSqlError, Value};
 
 /// Each field of a value is in the range of its type.
 pub fn fields_in_range(value: &Value)
@@ -31,20 +30,6 @@ pub fn literal_shape(value: &Value)
 pub fn literal_reads_back(value: &Value)
     ensures reads_back { (mode : Bool) →
         IfSome (literal_of mode value.now) (ReadsAs mode value.now) }
-{
-    value.fields_in_range();
-}
-
-/// Each field of a borrowed value is in the range of its type.
-pub fn borrowed_fields_in_range(value: ValueRef<'_>)
-    ensures range { FieldsInRange (owned value.entry) }
-{
-    value.fields_in_range();
-}
-
-/// The literal of a borrowed value has the shape of literals.
-pub fn borrowed_literal_shape(value: ValueRef<'_>)
-    ensures shape { (mode : Bool) → IfSome (literal_of mode (owned value.entry)) (IsLiteral mode) }
 {
     value.fields_in_range();
 }

@@ -30,18 +30,7 @@ impl Value {
     pub fn bin_len(&self) -> u64
         ensures count { result ≡ length (binary_form self.now) }
     {
-        match self {
-            Value::NULL => 0,
-            Value::Bytes(bytes) => lenenc_str_len(bytes.as_slice()),
-            Value::Int(_) | Value::UInt(_) | Value::Double(_) => 8,
-            Value::Float(_) => 4,
-            Value::Date(0, 0, 0, 0, 0, 0, 0) | Value::Time(_, 0, 0, 0, 0, 0) => 1,
-            Value::Date(_, _, _, 0, 0, 0, 0) => 5,
-            Value::Date(_, _, _, _, _, _, 0) => 8,
-            Value::Date(..) => 12,
-            Value::Time(_, _, _, _, _, 0) => 9,
-            Value::Time(..) => 13,
-        }
+        self.borrowed().bin_len()
     }
 }
 
@@ -49,22 +38,57 @@ impl MySerialize for Value {
     ghost spelling = { binary_form };
 
     /// Appends the binary form, whole or not at all.
-    #[tactic(auto, using(crate::proofs::BinaryLemmas::reads_back_in_binary))]
     fn serialize(&self, buf: &mut Vec<u8>) -> Result<(), AllocError>
         ensures appended { OnOk result (buf.new.items ≡ buf.old.items ++ binary_form self.now) }
         ensures unchanged { OnErr result (buf.new.items ≡ buf.old.items) }
         ensures no_memory { self.now ≡ Value.NULL → IsOk result }
         ensures reads_back { ReadsBackInBinary self.now }
     {
-        self.fields_in_range();
+        self.borrowed().serialize(buf)
+    }
+}
+
+impl ValueRef<'_> {
+    /// The number of bytes of the binary form.
+    pub fn bin_len(self) -> u64
+        ensures count { result ≡ length (binary_form (owned self.entry)) }
+    {
         match self {
-            Value::NULL => Ok(()),
-            Value::Bytes(bytes) => put_lenenc_str(buf, bytes.as_slice()),
-            Value::Int(number) => buf.extend_from_slice(&number.to_le_bytes()),
-            Value::UInt(number) => buf.extend_from_slice(&number.to_le_bytes()),
-            Value::Float(bits) => buf.extend_from_slice(&bits.to_le_bytes()),
-            Value::Double(bits) => buf.extend_from_slice(&bits.to_le_bytes()),
-            &Value::Date(year, month, day, hour, minute, second, microseconds) => {
+            ValueRef::NULL => 0,
+            ValueRef::Bytes(bytes) => lenenc_str_len(bytes),
+            ValueRef::Int(_) | ValueRef::UInt(_) | ValueRef::Double(_) => 8,
+            ValueRef::Float(_) => 4,
+            ValueRef::Date(0, 0, 0, 0, 0, 0, 0) | ValueRef::Time(_, 0, 0, 0, 0, 0) => 1,
+            ValueRef::Date(_, _, _, 0, 0, 0, 0) => 5,
+            ValueRef::Date(_, _, _, _, _, _, 0) => 8,
+            ValueRef::Date(..) => 12,
+            ValueRef::Time(_, _, _, _, _, 0) => 9,
+            ValueRef::Time(..) => 13,
+        }
+    }
+}
+
+impl MySerialize for ValueRef<'_> {
+    ghost spelling = { λ value. binary_form (owned value) };
+
+    /// Appends the binary form, whole or not at all.
+    #[tactic(auto, using(crate::proofs::BinaryLemmas::reads_back_in_binary))]
+    fn serialize(&self, buf: &mut Vec<u8>) -> Result<(), AllocError>
+        ensures appended { OnOk result
+            (buf.new.items ≡ buf.old.items ++ binary_form (owned self.now)) }
+        ensures unchanged { OnErr result (buf.new.items ≡ buf.old.items) }
+        ensures no_memory { owned self.now ≡ Value.NULL → IsOk result }
+        ensures reads_back { ReadsBackInBinary (owned self.now) }
+    {
+        self.fields_in_range();
+        match *self {
+            ValueRef::NULL => Ok(()),
+            ValueRef::Bytes(bytes) => put_lenenc_str(buf, bytes),
+            ValueRef::Int(number) => buf.extend_from_slice(&number.to_le_bytes()),
+            ValueRef::UInt(number) => buf.extend_from_slice(&number.to_le_bytes()),
+            ValueRef::Float(bits) => buf.extend_from_slice(&bits.to_le_bytes()),
+            ValueRef::Double(bits) => buf.extend_from_slice(&bits.to_le_bytes()),
+            ValueRef::Date(year, month, day, hour, minute, second, microseconds) => {
                 append_date(
                     buf,
                     DateFields {
@@ -78,7 +102,7 @@ impl MySerialize for Value {
                     },
                 )
             }
-            &Value::Time(negative, days, hours, minutes, seconds, microseconds) => {
+            ValueRef::Time(negative, days, hours, minutes, seconds, microseconds) => {
                 append_time(
                     buf,
                     TimeFields {

@@ -10,7 +10,7 @@ use std::alloc::{AllocError, Global};
 
 /// A value of the MySQL client/server protocol whose bytes are borrowed: a [`Value`] of the same
 /// variant with the same fields, which is copied without memory.
-#[derive(Clone, Copy, PartialEq, Eq)]
+#[derive(Clone, Copy, PartialEq, Eq, PartialOrd, Ord)]
 pub enum ValueRef<'v> {
     NULL,
     Bytes(&'v [u8]),

@@ -117,7 +117,8 @@ impl ValueRef<'_> {
     /// `None` exactly for `Float` and `Double`, which have no literal. It allocates nothing. The
     /// length may be above `isize::MAX`, and then no slice is that long.
     pub fn sql_len(self, no_backslash_escape: bool) -> Option<u128>
-        ensures exact { result ≡ option_map length (literal_of no_backslash_escape (owned self.entry)) }
+        ensures exact { result
+            ≡ option_map length (literal_of no_backslash_escape (owned self.entry)) }
         ensures float { is_none result ≡ is_float (owned self.entry) }
     {
         match self {
