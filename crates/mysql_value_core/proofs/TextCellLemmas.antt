@@ -18,7 +18,7 @@ abbrev row_from_cell : ℕ → Value → List ℕ → Reading (List Value)
 row_from_cell count cell rest = map_read (λ cells. cell ∷ cells) (read_cells count rest)
 
 -- one cell more is read so far, and one fewer next
-row_after-cell : (before : List Value) (cell : Value) (read : Reading (List Value))
+pub row_after-cell : (before : List Value) (cell : Value) (read : Reading (List Value))
     → row_after before (map_read (λ cells. cell ∷ cells) read) ≡ row_after (before ++ cell ∷ []) read
 row_after-cell before cell (Ok read) =
     ap (λ cells. Ok (cells, read.1)) (sym (append_assoc before (cell ∷ []) read.0))

@@ -11,6 +11,7 @@ pub mod TextCell
 pub mod BinaryForm
 pub mod BinaryReading
 pub mod BinaryReadBack
+pub mod BinaryRow
 pub mod ValueOf
 pub mod DurationValue
 pub mod ValueTable

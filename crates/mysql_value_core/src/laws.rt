@@ -12,6 +12,7 @@ ghost use Rattle.mysql_value_core.specs.ValueOrder.{value_cmp};
 
 mod borrowed;
 mod literals;
+mod rows;
 
 use crate::bytes::Bytes;
 use crate::value::convert::{FromValueError, ToValue, ToValueError};
@@ -27,6 +28,7 @@ pub use literals::{
     literal_reads_back, literal_shape,
 };
 use mysql_wire_part::MyDeserialize;
+pub use rows::{binary_row_error_equality, spare_null_bits_say_nothing};
 use std::alloc::Global;
 use std::cmp::Ordering;
 

@@ -3,6 +3,7 @@ ghost use Rattle.std.specs.Prelude.{◌≡◌, IfOk, OnErr};
 ghost use Rattle.mysql_value_core.specs.Value.{FieldsInRange, IsBytes};
 
 mod binary;
+mod binary_row;
 mod borrowed;
 pub mod convert;
 mod literal;
@@ -11,6 +12,9 @@ mod text;
 
 use crate::bytes::Bytes;
 pub use crate::value::binary::{BinValue, read_binary_value};
+pub use crate::value::binary_row::{
+    BinaryRowError, NullBitmap, read_binary_cells_into, read_null_bitmap,
+};
 pub use crate::value::borrowed::ValueRef;
 pub use crate::value::literal::AsSqlError;
 pub use crate::value::side::{ClientSide, SerializationSide, ServerSide};
