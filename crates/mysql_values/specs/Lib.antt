@@ -12,6 +12,7 @@ pub use Rattle.mysql_value_core.specs.AsSql
 pub use Rattle.mysql_value_core.specs.BinaryForm
 pub use Rattle.mysql_value_core.specs.BinaryReadBack
 pub use Rattle.mysql_value_core.specs.BinaryReading
+pub use Rattle.mysql_value_core.specs.BinaryRow
 pub use Rattle.mysql_value_core.specs.BorrowedValue
 pub use Rattle.mysql_value_core.specs.Bytes
 pub use Rattle.mysql_value_core.specs.Content
@@ -32,3 +33,4 @@ pub mod WholeNumber
 pub mod Boolean
 pub mod OptionConversion
 pub mod DurationConversion
+pub mod BorrowedConversion

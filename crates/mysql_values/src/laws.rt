@@ -10,18 +10,23 @@ ghost use Rattle.mysql_values.specs.Rollback.{ConvertsBack};
 ghost use Rattle.mysql_values.specs.Boolean.{boolean_conversion};
 ghost use Rattle.mysql_values.specs.WholeNumber.{whole_conversion};
 
+mod borrowed;
+
 use crate::value::convert::{
     FromValue, OptionIr2, ParseIr, ParseIrOpt, ToValue, ValueIr, WholeNumber,
 };
+pub use borrowed::{borrowed_conversions, borrowed_option, borrowed_whole_number};
 pub use mysql_sql_text::laws::{
     escapes_read, numbers_read, single_bytes_read_back, time_texts_are_read, times_read_back,
 };
 pub use mysql_value_core::laws::{
-    as_sql_error_equality, borrowed_fields_in_range, borrowed_literal_shape, bytes_equality,
-    bytes_order, escaped_literals_stand_in_line, fields_in_range, floats_have_no_literal,
+    as_sql_error_equality, binary_row_error_equality, borrowed_equality, borrowed_fields_in_range,
+    borrowed_literal_shape, borrowed_order, borrowed_partial_order, bytes_equality, bytes_order,
+    escaped_literals_stand_in_line, fields_in_range, floats_have_no_literal,
     from_value_error_equality, literal_reads_back, literal_shape, null_bitmap_offsets,
-    object_value, server_side_equality, sizes_of_readings, to_value_error_equality, value_equality,
-    value_order, value_order_is_total, value_partial_order,
+    object_value, server_side_equality, sizes_of_readings, spare_null_bits_say_nothing,
+    to_value_error_equality, value_equality, value_order, value_order_is_total,
+    value_partial_order,
 };
 use std::cmp::Ordering;
 use std::time::Duration;

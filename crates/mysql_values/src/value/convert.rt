@@ -22,7 +22,7 @@ mod texts;
 mod unsigned;
 mod whole_number;
 
-pub use crate::value::convert::from_ref::FromValueRef;
+pub use crate::value::convert::from_ref::{FromValueRef, copied_bytes, copied_text};
 pub use crate::value::convert::intermediate::{ParseIr, ParseIrOpt, ValueIr};
 pub use crate::value::convert::option::OptionIr2;
 pub use crate::value::convert::whole_number::WholeNumber;

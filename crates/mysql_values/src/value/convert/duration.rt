@@ -20,7 +20,13 @@ const MICROSECONDS_PER_SECOND: u32 = 1_000_000;
 const NANOSECONDS_PER_MICROSECOND: u32 = 1_000;
 
 // The duration of the fields of a time. Whole seconds of its microseconds are carried.
-fn duration_of(days: u32, hours: u8, minutes: u8, seconds: u8, microseconds: u32) -> Duration
+pub(crate) fn duration_of(
+    days: u32,
+    hours: u8,
+    minutes: u8,
+    seconds: u8,
+    microseconds: u32,
+) -> Duration
     ensures { as_nanos result ≡ total_microseconds days hours minutes seconds microseconds * 1000 }
 {
     let hours = u64::from(days) * 24 + u64::from(hours);
@@ -31,7 +37,7 @@ fn duration_of(days: u32, hours: u8, minutes: u8, seconds: u8, microseconds: u32
 }
 
 // The duration of a time text without `-`.
-fn duration_of_text(text: &[u8]) -> Option<Duration>
+pub(crate) fn duration_of_text(text: &[u8]) -> Option<Duration>
     ensures { option_map as_nanos result ≡ nanoseconds_of_text text.now }
 {
     match read_time_text(text) {

@@ -1,10 +1,12 @@
 //! Conversions of borrowed values: by the rules of [`FromValue`](super::FromValue), without memory.
-ghost use Rattle.std.specs.Prelude.{◌≡◌, Bool, List, ℕ, Option};
+ghost use Rattle.std.specs.Prelude.{◌≡◌, Bool, IfOk, IsSome, List, OnErr, ℕ, Option, string_bytes};
+ghost use Rattle.std.specs.Duration.{as_nanos};
 ghost use Rattle.std.specs.Option.{option_map};
 ghost use Rattle.mysql_value_core.specs.BorrowedValue.{owned};
 ghost use Rattle.mysql_value_core.specs.FromValue.{value_bytes, value_text};
 ghost use Rattle.mysql_value_core.specs.declared.value.Value as value;
 ghost use Rattle.mysql_values.specs.Boolean.{boolean_conversion};
+ghost use Rattle.mysql_values.specs.DurationConversion.{duration_conversion};
 ghost use Rattle.mysql_values.specs.Intermediate.{committed};
 ghost use Rattle.mysql_values.specs.OptionConversion.{option_conversion};
 ghost use Rattle.mysql_values.specs.WholeNumber.{whole_conversion};
@@ -13,9 +15,14 @@ use crate::value::ValueRef;
 use crate::value::convert::WholeNumber;
 use crate::value::convert::boolean::boolean_of_text;
 use crate::value::convert::decimal::decimal_parts;
+use crate::value::convert::duration::{duration_of, duration_of_text};
+use std::alloc::{AllocError, Global};
+use std::time::Duration;
 
 /// What borrowed values convert to: as the owned values do, and bytes and texts stay where they
-/// are. The value is `Copy`, so a refusal hands nothing back.
+/// are. The value is `Copy`, so a refusal hands nothing back. A `String` and a `Vec<u8>` take memory,
+/// which is refused in another way than a value: they are made by [`copied_text`] and
+/// [`copied_bytes`].
 pub trait FromValueRef<'v>: Sized {
     // what contracts see of the type
     ghost Seen: { Type 0 };
@@ -70,6 +77,24 @@ impl<'v> FromValueRef<'v> for bool {
     }
 }
 
+impl<'v> FromValueRef<'v> for Duration {
+    ghost Seen = { ℕ };
+
+    ghost seen = { as_nanos };
+
+    ghost converted = { λ value. option_map committed (duration_conversion value) };
+
+    fn from_value_ref(value: ValueRef<'v>) -> Option<Duration> {
+        match value {
+            ValueRef::Bytes(text) => duration_of_text(text),
+            ValueRef::Time(false, days, hours, minutes, seconds, microseconds) => {
+                Some(duration_of(days, hours, minutes, seconds, microseconds))
+            }
+            _ => None,
+        }
+    }
+}
+
 impl<'v> FromValueRef<'v> for &'v [u8] {
     ghost Seen = { List ℕ };
 
@@ -118,5 +143,31 @@ impl<'v, T: FromValueRef<'v>> FromValueRef<'v> for Option<T> {
                 None => None,
             },
         }
+    }
+}
+
+/// A copy of the text of a borrowed value, if its bytes are one: what the owned value converts to
+/// as a `String`. It allocates only if the value converts.
+pub fn copied_text(alloc: Global, value: ValueRef<'_>) -> Result<Option<String>, AllocError>
+    ensures converts { IfOk result (λ text.
+        option_map string_bytes text ≡ value_text (owned value.entry)) }
+    ensures memory { OnErr result (IsSome (value_text (owned value.entry))) }
+{
+    match <&str as FromValueRef>::from_value_ref(value) {
+        Some(text) => Ok(Some(String::from_str(alloc, text)?)),
+        None => Ok(None),
+    }
+}
+
+/// A copy of the bytes of a borrowed value, if it has any: what the owned value converts to as a
+/// `Vec<u8>`. It allocates only if the value converts.
+pub fn copied_bytes(alloc: Global, value: ValueRef<'_>) -> Result<Option<Vec<u8>>, AllocError>
+    ensures converts { IfOk result (λ bytes.
+        option_map (λ vector. vector.items) bytes ≡ value_bytes (owned value.entry)) }
+    ensures memory { OnErr result (IsSome (value_bytes (owned value.entry))) }
+{
+    match value {
+        ValueRef::Bytes(bytes) => Ok(Some(Vec::from_slice(alloc, bytes)?)),
+        _ => Ok(None),
     }
 }
