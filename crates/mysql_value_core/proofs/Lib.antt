@@ -2,6 +2,7 @@ mod ValueOrderLemmas
 pub mod LiteralLemmas
 mod TextCellLemmas
 mod BinaryRowLemmas
+mod RowReadBackLemmas
 mod BinaryLemmas
 mod TextLemmas
 pub mod InLineLemmas

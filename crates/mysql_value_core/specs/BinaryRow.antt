@@ -66,7 +66,8 @@ abbrev pub read_column : Bool → Column → List ℕ → Reading Value
 read_column true column bytes = Ok (NULL, bytes)
 read_column false column bytes = read_binary column.0 (is_unsigned column.1) bytes
 
--- the values of columns, of which the first has this index, or the refusal of the first that has one
+-- The values of columns, of which the first has this index; or the refusal of the first value that
+-- has one.
 abbrev pub read_columns : List ℕ → ℕ → List Column → List ℕ → Reading (List Value)
 read_columns bitmap index [] bytes = Ok ([], bytes)
 read_columns bitmap index (column ∷ columns) bytes =

@@ -12,6 +12,7 @@ pub mod BinaryForm
 pub mod BinaryReading
 pub mod BinaryReadBack
 pub mod BinaryRow
+pub mod BinaryRowReadBack
 pub mod ValueOf
 pub mod DurationValue
 pub mod ValueTable

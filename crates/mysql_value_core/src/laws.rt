@@ -28,7 +28,7 @@ pub use literals::{
     literal_reads_back, literal_shape,
 };
 use mysql_wire_part::MyDeserialize;
-pub use rows::{binary_row_error_equality, spare_null_bits_say_nothing};
+pub use rows::{binary_row_error_equality, binary_rows_read_back, spare_null_bits_say_nothing};
 use std::alloc::Global;
 use std::cmp::Ordering;
 

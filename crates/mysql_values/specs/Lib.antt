@@ -13,6 +13,7 @@ pub use Rattle.mysql_value_core.specs.BinaryForm
 pub use Rattle.mysql_value_core.specs.BinaryReadBack
 pub use Rattle.mysql_value_core.specs.BinaryReading
 pub use Rattle.mysql_value_core.specs.BinaryRow
+pub use Rattle.mysql_value_core.specs.BinaryRowReadBack
 pub use Rattle.mysql_value_core.specs.BorrowedValue
 pub use Rattle.mysql_value_core.specs.Bytes
 pub use Rattle.mysql_value_core.specs.Content

@@ -20,13 +20,13 @@ pub use mysql_sql_text::laws::{
     escapes_read, numbers_read, single_bytes_read_back, time_texts_are_read, times_read_back,
 };
 pub use mysql_value_core::laws::{
-    as_sql_error_equality, binary_row_error_equality, borrowed_equality, borrowed_fields_in_range,
-    borrowed_literal_shape, borrowed_order, borrowed_partial_order, bytes_equality, bytes_order,
-    escaped_literals_stand_in_line, fields_in_range, floats_have_no_literal,
-    from_value_error_equality, literal_reads_back, literal_shape, null_bitmap_offsets,
-    object_value, server_side_equality, sizes_of_readings, spare_null_bits_say_nothing,
-    to_value_error_equality, value_equality, value_order, value_order_is_total,
-    value_partial_order,
+    as_sql_error_equality, binary_row_error_equality, binary_rows_read_back, borrowed_equality,
+    borrowed_fields_in_range, borrowed_literal_shape, borrowed_order, borrowed_partial_order,
+    bytes_equality, bytes_order, escaped_literals_stand_in_line, fields_in_range,
+    floats_have_no_literal, from_value_error_equality, literal_reads_back, literal_shape,
+    null_bitmap_offsets, object_value, server_side_equality, sizes_of_readings,
+    spare_null_bits_say_nothing, to_value_error_equality, value_equality, value_order,
+    value_order_is_total, value_partial_order,
 };
 use std::cmp::Ordering;
 use std::time::Duration;

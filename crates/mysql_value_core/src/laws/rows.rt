@@ -1,8 +1,17 @@
 //! Laws of rows in binary form.
 ghost use Rattle.std.specs.Prelude.{◌≡◌, ◌↔◌, ℕ, IsTrue, List, length};
 ghost use Rattle.mysql_value_core.specs.BinaryRow.{Column, SaySameNulls, read_columns};
+ghost use Rattle.mysql_value_core.specs.BinaryRowReadBack.{RowReadsBack};
+ghost use Rattle.mysql_value_core.specs.declared.value.Value as value;
 
 use crate::value::BinaryRowError;
+
+/// A row that is written in binary form reads back, before any bytes, under each bitmap that says of
+/// its values which are NULL.
+pub fn binary_rows_read_back()
+    ensures reads_back { (columns : List Column) (bitmap : List ℕ) (values : List value.Value)
+        → RowReadsBack columns bitmap values }
+{}
 
 /// Bits of the bitmap that belong to no column say nothing: two bitmaps that say the same of the
 /// columns give the same cells, whatever their other bits are.

@@ -20,9 +20,9 @@ use std::alloc::{AllocError, Global};
 use std::time::Duration;
 
 /// What borrowed values convert to: as the owned values do, and bytes and texts stay where they
-/// are. The value is `Copy`, so a refusal hands nothing back. A `String` and a `Vec<u8>` take memory,
-/// which is refused in another way than a value: they are made by [`copied_text`] and
-/// [`copied_bytes`].
+/// are. The value is `Copy`, so a refusal hands nothing back. A `String` and a `Vec<u8>` take
+/// memory, and refused memory is another answer than a value that doesn't convert: they are made by
+/// [`copied_text`] and [`copied_bytes`].
 pub trait FromValueRef<'v>: Sized {
     // what contracts see of the type
     ghost Seen: { Type 0 };
