@@ -6,6 +6,7 @@ ghost use Rattle.mysql_named_params.specs.Tokens.{OnTokens};
 ghost use Rattle.mysql_named_params.specs.Places.{names};
 ghost use Rattle.mysql_params_core.specs.Given.{Given};
 ghost use Rattle.mysql_params_core.specs.Referents.{referents};
+ghost use Rattle.mysql_values.specs.BorrowedValue.{owned_values};
 ghost use Rattle.mysql_binding.specs.AppendedText.{AreFound};
 ghost use Rattle.mysql_program.specs.WordErrors.{seen_pair};
 ghost use Rattle.mysql_bind_core.specs.Assignments.{given_of, pairs_of};
@@ -23,7 +24,7 @@ use crate::laws::values_are_sent;
 use crate::request::{Literals, Request};
 use mysql_binding::{BindError, ParsedQuery, PlainForm, append_parsed};
 use mysql_steady_text::SteadyForm;
-use mysql_values::value::Value;
+use mysql_values::value::{Value, ValueRef};
 use std::alloc::{AllocError, Global};
 
 // Among more pairs than these a value is looked for in a map.
@@ -188,18 +189,18 @@ fn append_pairs(
 fn append_found(
     alloc: Global,
     query: &ParsedQuery<'_>,
-    values: Vec<&Value>,
+    values: Vec<ValueRef<'_>>,
     request: Request,
     script: &mut Vec<u8>,
 ) -> Result<bool, AllocError>
     requires taken { IsTaken request query.now.query }
     requires mode { query.now.mode ≡ mode_of request.literals }
     requires found { (given : Given) × OnTokens query.now.mode query.now.query
-        (AreFound given (referents values.items)) }
+        (AreFound given (owned_values values.items)) }
     ensures bound { IfOk result (λ done. IsTrue done → (text : List ℕ)
         × (script.new.items ≡ script.old.items ++ text) × ((given : Given) →
         OnTokens query.now.mode query.now.query
-        (AreFound given (referents values.entry.items)) →
+        (AreFound given (owned_values values.entry.items)) →
         OnTokens (mode_of request.literals) query.now.query (λ ts.
         IsTextFor request.literals request.portability query.now.query ts given text))) }
     ensures kept { IfOk result (λ done. IsFalse done → script.new.items ≡ script.old.items) }
@@ -236,14 +237,14 @@ fn values_in<'v>(
     alloc: Global,
     names: &[&[u8]],
     pairs: &'v [(&[u8], Value)],
-) -> Result<Option<Vec<&'v Value>>, AllocError>
+) -> Result<Option<Vec<ValueRef<'v>>>, AllocError>
     ensures { IfOk result (λ found. IfSome found (λ values.
-        AreValuesIn (map seen_pair pairs.now) (referents names.now) (referents values.items))) }
+        AreValuesIn (map seen_pair pairs.now) (referents names.now) (owned_values values.items))) }
 {
     let mut values = Vec::with_capacity(alloc, names.len())?;
     for name in names {
         match value_in(pairs, *name) {
-            Some(value) => values.push(value)?,
+            Some(value) => values.push(value.borrowed())?,
             None => return Ok(None),
         }
     }

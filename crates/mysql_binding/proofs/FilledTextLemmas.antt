@@ -1,80 +1,85 @@
 -- A text of a fixed length that is filled as far as an index.
 use Rattle.std.specs.Prelude.{Bool}
-use Rattle.std.specs.Borrow.{Bor}
+use Rattle.mysql_value_core.specs.declared.value.borrowed.ValueRef.{ValueRef}
 use Rattle.std.proofs.Common.{◌≡◌, ℕ, ◌+◌, ◌<◌, ◌≤◌, false, List, ◌++◌, length, map, take, drop, get_or, Some, sym, ap, ◌∙◌, subst, arith, take_all}
-use Rattle.std.proofs.lemmas.List.{get_or-map, length-map, length-take-le}
-use Rattle.mysql_values.specs.declared.value.Value.{Value}
+use Rattle.std.proofs.lemmas.List.{get_or_default, get_or-map, length-map, length-take-le}
 use Rattle.mysql_values.specs.Literal.{is_float}
 use Rattle.mysql_named_params.specs.Tokens.{OnTokens}
 use Rattle.mysql_named_params.specs.Places.{place_count}
 use Rattle.mysql_named_params.specs.FirstPlace.{IsFirstPlace}
 use Rattle.mysql_named_params.specs.declared.places.FoundPlace.{FoundPlace}
-use Rattle.mysql_params_core.specs.Referents.{referents}
+use Rattle.mysql_values.specs.BorrowedValue.{owned, owned_values}
 use Rattle.mysql_binding.specs.LiteralForm.{Literals, LiteralFacts, literal_len, written_literal}
 use Rattle.mysql_binding.specs.WrittenText.{IsWrittenText}
 use Rattle.mysql_binding.proofs.TextLengthLemmas.{len_at}
 use Rattle.mysql_binding.proofs.WrittenTextLemmas.{WrittenSoFar, place_left, value_is_no_float, next_fits, written_more, rest_fits, written_all}
 
+-- the item that is read at an index
+pub item_is : (xs ys : List ValueRef) (i : ℕ) (d : ValueRef) → i < length xs → xs ≡ ys
+    → get_or xs i d ≡ get_or ys i (get_or xs i d)
+item_is xs ys i d below same =
+    get_or_default xs i d (get_or xs i d) below ∙ ap (λ zs. get_or zs i (get_or xs i d)) same
+
 -- the text is written as far as the index, and has room for what is left
-pub record FilledSoFar (mode : Bool) (literal : Literals) (IsKnown : LiteralFacts) (query rest : List ℕ) (values : List (Bor Value)) (i : ℕ) (text : List ℕ) (at : ℕ) : Type 0 where
-  pub so_far : WrittenSoFar mode literal IsKnown query rest (referents values) i (take at text) (length text)
+pub record FilledSoFar (mode : Bool) (literal : Literals) (IsKnown : LiteralFacts) (query rest : List ℕ) (values : List ValueRef) (i : ℕ) (text : List ℕ) (at : ℕ) : Type 0 where
+  pub so_far : WrittenSoFar mode literal IsKnown query rest (owned_values values) i (take at text) (length text)
   pub in_range : at ≤ length text
 
-module _ (mode : Bool) (literal : Literals) (IsKnown : LiteralFacts) (query rest : List ℕ) (values : List (Bor Value)) (i : ℕ) (text : List ℕ) (at : ℕ) (s : FilledSoFar mode literal IsKnown query rest values i text at) where
+module _ (mode : Bool) (literal : Literals) (IsKnown : LiteralFacts) (query rest : List ℕ) (values : List ValueRef) (i : ℕ) (text : List ℕ) (at : ℕ) (s : FilledSoFar mode literal IsKnown query rest values i text at) where
   filled : length (take at text) ≡ at
   filled = length-take-le at text s.in_range
 
   module _ (below : i < length values) where
-    below_referents : i < length (referents values)
-    below_referents = omega (arith, below, length-map values (λ r. r.now))
+    below_values : i < length (owned_values values)
+    below_values = omega (arith, below, length-map values owned)
 
     -- as long as values are left, a place is found
     pub fill_place_left : OnTokens mode rest (λ us. place_count us ≡ 0) → ⊥
-    fill_place_left o = place_left mode literal IsKnown query rest (referents values) i (take at text) (length text) s.so_far below_referents o
+    fill_place_left o = place_left mode literal IsKnown query rest (owned_values values) i (take at text) (length text) s.so_far below_values o
 
-    module _ (v : Bor Value) (v_is : v ≡ get_or values i v) where
-      value_is : v.now ≡ get_or (referents values) i v.now
-      value_is = ap (λ r. r.now) v_is ∙ sym (get_or-map (λ r. r.now) values i v v.now below)
+    module _ (v : ValueRef) (v_is : v ≡ get_or values i v) where
+      value_is : (owned v) ≡ get_or (owned_values values) i (owned v)
+      value_is = ap owned v_is ∙ sym (get_or-map owned values i v (owned v) below)
 
-      pub fill_no_float : is_float v.now ≡ false
-      fill_no_float = value_is_no_float mode literal IsKnown query rest (referents values) i (take at text) (length text) s.so_far v.now below_referents value_is
+      pub fill_no_float : is_float (owned v) ≡ false
+      fill_no_float = value_is_no_float mode literal IsKnown query rest (owned_values values) i (take at text) (length text) s.so_far (owned v) below_values value_is
 
-      pub fill_len : (lens : List ℕ) → lens ≡ map (literal_len literal) (referents values) →
-          get_or lens i 0 ≡ literal_len literal v.now
-      fill_len lens lens_are = len_at literal (referents values) lens i 0 v.now below_referents value_is lens_are
+      pub fill_len : (lens : List ℕ) → lens ≡ map (literal_len literal) (owned_values values) →
+          get_or lens i 0 ≡ literal_len literal (owned v)
+      fill_len lens lens_are = len_at literal (owned_values values) lens i 0 (owned v) below_values value_is lens_are
 
       module _ (found : FoundPlace) (o : OnTokens mode rest (λ us. IsFirstPlace us found)) (run : List ℕ) (run_is : run ≡ take found.before rest) where
-        both_fit : at + (length run + literal_len literal v.now) ≤ length text
-        both_fit = omega (arith, filled, next_fits mode literal IsKnown query rest (referents values) i (take at text) (length text) s.so_far run v.now found below_referents value_is o run_is)
+        both_fit : at + (length run + literal_len literal (owned v)) ≤ length text
+        both_fit = omega (arith, filled, next_fits mode literal IsKnown query rest (owned_values values) i (take at text) (length text) s.so_far run (owned v) found below_values value_is o run_is)
 
         pub piece_fits : at + length run ≤ length text
         piece_fits = omega (arith, both_fit)
 
         module _ (text' : List ℕ) (at' : ℕ) (at'_is : at' ≡ at + length run) (same : length text' ≡ length text) (piece : take at' text' ≡ take at text ++ run) where
-          pub literal_fits : (len : ℕ) → len ≡ literal_len literal v.now → at' + len ≤ length text'
+          pub literal_fits : (len : ℕ) → len ≡ literal_len literal (owned v) → at' + len ≤ length text'
           literal_fits len len_is = omega (arith, both_fit, at'_is, same, len_is)
 
           pub filled_more : (after text'' : List ℕ) (len at'' : ℕ) →
-              after ≡ drop (found.before + found.len) rest → len ≡ literal_len literal v.now → at'' ≡ at' + len →
-              length text'' ≡ length text' → literal v.now ≡ Some (written_literal literal v.now) →
-              IsKnown v.now (written_literal literal v.now) →
-              take at'' text'' ≡ take at' text' ++ written_literal literal v.now →
+              after ≡ drop (found.before + found.len) rest → len ≡ literal_len literal (owned v) → at'' ≡ at' + len →
+              length text'' ≡ length text' → literal (owned v) ≡ Some (written_literal literal (owned v)) →
+              IsKnown (owned v) (written_literal literal (owned v)) →
+              take at'' text'' ≡ take at' text' ++ written_literal literal (owned v) →
               FilledSoFar mode literal IsKnown query after values (i + 1) text'' at''
           filled_more after text'' len at'' after_is len_is at''_is same' literal_is known written = record {
-            so_far = subst (λ n. WrittenSoFar mode literal IsKnown query after (referents values) (i + 1) (take at'' text'') n) (sym (same' ∙ same))
-                (written_more mode literal IsKnown query rest (referents values) i (take at text) (length text) s.so_far run after (written_literal literal v.now)
-                (take at' text') (take at'' text'') v.now found below_referents value_is o run_is after_is literal_is known piece written);
+            so_far = subst (λ n. WrittenSoFar mode literal IsKnown query after (owned_values values) (i + 1) (take at'' text'') n) (sym (same' ∙ same))
+                (written_more mode literal IsKnown query rest (owned_values values) i (take at text) (length text) s.so_far run after (written_literal literal (owned v))
+                (take at' text') (take at'' text'') (owned v) found below_values value_is o run_is after_is literal_is known piece written);
             in_range = omega (arith, literal_fits len len_is, at''_is, same');
           }
 
   -- once all values are written, the rest has exactly its room
   pub last_fits : length values ≤ i → at + length rest ≡ length text
   last_fits done =
-      omega (arith, filled, rest_fits mode literal IsKnown query rest (referents values) i (take at text) (length text) s.so_far (omega (arith, done, length-map values (λ r. r.now))))
+      omega (arith, filled, rest_fits mode literal IsKnown query rest (owned_values values) i (take at text) (length text) s.so_far (omega (arith, done, length-map values owned)))
 
   pub filled_all : length values ≤ i → (text' : List ℕ) (at' : ℕ) → at' ≡ at + length rest →
       length text' ≡ length text → take at' text' ≡ take at text ++ rest →
-      OnTokens mode query (λ ts. IsWrittenText literal IsKnown ts (referents values) text')
+      OnTokens mode query (λ ts. IsWrittenText literal IsKnown ts (owned_values values) text')
   filled_all done text' at' at'_is same written =
-      written_all mode literal IsKnown query rest (referents values) i (take at text) (length text) s.so_far text' (omega (arith, done, length-map values (λ r. r.now)))
+      written_all mode literal IsKnown query rest (owned_values values) i (take at text) (length text) s.so_far text' (omega (arith, done, length-map values owned))
       (sym (take_all at' text' (omega (arith, last_fits done, at'_is, same))) ∙ written)

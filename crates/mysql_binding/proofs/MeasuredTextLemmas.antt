@@ -1,6 +1,6 @@
 -- The text that is written from what was measured, and its length.
 use Rattle.std.specs.Prelude.{Bool, option_map, ◌^◌}
-use Rattle.std.specs.Borrow.{Bor}
+use Rattle.mysql_value_core.specs.declared.value.borrowed.ValueRef.{ValueRef}
 use Rattle.std.specs.List.{All, sum, sum_by}
 use Rattle.std.proofs.Common.{◌≡◌, ℕ, ◌+◌, ◌<◌, ◌≤◌, List, [], ◌∷◌, ◌++◌, length, take, drop, take_all, length-append, map, Option, Some, None, refl, sym, ap, ◌∙◌, subst, arith}
 use Rattle.std.proofs.lemmas.List.{length-map, take-append-le}
@@ -13,7 +13,7 @@ use Rattle.mysql_values.specs.Literal.{is_float}
 use Rattle.mysql_named_params.specs.Tokens.{Token, OnTokens, bytes_of, Name, Mark}
 use Rattle.mysql_named_params.specs.Places.{place_count}
 use Rattle.mysql_params_core.specs.Given.{Given}
-use Rattle.mysql_params_core.specs.Referents.{referents}
+use Rattle.mysql_values.specs.BorrowedValue.{owned_values}
 use Rattle.mysql_binding.specs.FirstCause.{float_value, first_float_from, first_float}
 use Rattle.mysql_binding.specs.LiteralForm.{Literals, LiteralFacts, LackFloats, AreWrittenAs, literal_len, written_literal}
 use Rattle.mysql_binding.specs.MeasuredText.{HasGivenLength, IsLookedUp, IsMeasured, IsOfFields}
@@ -73,7 +73,7 @@ no_float_among ts given values known = none_mapped (first_float values) (no_floa
 
 module _ (literal : Literals) (ts : List Token) (given : Given) (measured : MeasuredText) (is : IsMeasured literal ts given measured) where
   abbrev values : List Value
-  values = referents measured.values.items
+  values = owned_values measured.values.items
 
   abbrev texts : List (List ℕ)
   texts = map (written_literal literal) values
@@ -105,44 +105,44 @@ module _ (literal : Literals) (ts : List Token) (given : Given) (measured : Meas
   )
 
 -- what is measured, as the code finds it
-pub is_measured : (mode : Bool) (literal : Literals) (query : List ℕ) (given : Given) (survey : Survey) (values : List (Bor Value)) (measured : MeasuredText) →
-    OnTokens mode query (IsSurvey survey) → OnTokens mode query (λ ts. IsLookedUp ts given (referents values)) →
-    measured.values.items ≡ values → All FieldsInRange (referents values) →
-    measured.lens.items ≡ map (literal_len literal) (referents values) →
+pub is_measured : (mode : Bool) (literal : Literals) (query : List ℕ) (given : Given) (survey : Survey) (values : List ValueRef) (measured : MeasuredText) →
+    OnTokens mode query (IsSurvey survey) → OnTokens mode query (λ ts. IsLookedUp ts given (owned_values values)) →
+    measured.values.items ≡ values → All FieldsInRange (owned_values values) →
+    measured.lens.items ≡ map (literal_len literal) (owned_values values) →
     measured.len ≡ survey.piece_bytes + sum measured.lens.items → measured.len < 2 ^ 63 →
     OnTokens mode query (λ ts. IsMeasured literal ts given measured)
 is_measured mode literal query given survey values measured surveyed known same range lens len fits =
-    let looked : OnTokens mode query (λ ts. IsLookedUp ts given (referents measured.values.items)) = subst (λ vs. OnTokens mode query (λ ts. IsLookedUp ts given (referents vs))) (sym same) known in
-    on_map mode query (λ ts. IsSurvey survey ts × IsLookedUp ts given (referents measured.values.items)) (λ ts. IsMeasured literal ts given measured)
+    let looked : OnTokens mode query (λ ts. IsLookedUp ts given (owned_values measured.values.items)) = subst (λ vs. OnTokens mode query (λ ts. IsLookedUp ts given (owned_values vs))) (sym same) known in
+    on_map mode query (λ ts. IsSurvey survey ts × IsLookedUp ts given (owned_values measured.values.items)) (λ ts. IsMeasured literal ts given measured)
     (λ ts is h. record {
       looked_up = h.1;
-      in_range = subst (λ vs. All FieldsInRange (referents vs)) (sym same) range;
-      lens_are = lens ∙ ap (λ vs. map (literal_len literal) (referents vs)) (sym same);
+      in_range = subst (λ vs. All FieldsInRange (owned_values vs)) (sym same) range;
+      lens_are = lens ∙ ap (λ vs. map (literal_len literal) (owned_values vs)) (sym same);
       len_is = len ∙ ap (λ n. n + sum measured.lens.items) h.0.3;
       fits = fits;
     })
-    (on_both mode query (IsSurvey survey) (λ ts. IsLookedUp ts given (referents measured.values.items)) surveyed looked)
+    (on_both mode query (IsSurvey survey) (λ ts. IsLookedUp ts given (owned_values measured.values.items)) surveyed looked)
 
 -- ---- what the text is filled from
 
 module _ (mode : Bool) (literal : Literals) (query : List ℕ) (given : Given) (measured : MeasuredText) (o : OnTokens mode query (λ ts. IsMeasured literal ts given measured)) where
-  pub fill_no_float : first_float (referents measured.values.items) ≡ None
-  fill_no_float = no_float_among o.0 given (referents measured.values.items) o.2.looked_up
+  pub fill_no_float : first_float (owned_values measured.values.items) ≡ None
+  fill_no_float = no_float_among o.0 given (owned_values measured.values.items) o.2.looked_up
 
-  pub fill_places : OnTokens mode query (λ ts. length (referents measured.values.items) ≡ place_count ts)
+  pub fill_places : OnTokens mode query (λ ts. length (owned_values measured.values.items) ≡ place_count ts)
   fill_places = (o.0, o.1, value_for_each literal o.0 given measured o.2)
 
-  pub fill_lens : measured.lens.items ≡ map (literal_len literal) (referents measured.values.items)
+  pub fill_lens : measured.lens.items ≡ map (literal_len literal) (owned_values measured.values.items)
   fill_lens = o.2.lens_are
 
   pub fill_room : (room : List ℕ) → length room ≡ measured.len → OnTokens mode query (λ ts. length room ≡ pieces_len ts + sum measured.lens.items)
   fill_room room exact = (o.0, o.1, exact ∙ o.2.len_is)
 
   pub filled_text : (IsKnown : LiteralFacts) (text : List ℕ) →
-      OnTokens mode query (λ ts. IsWrittenText literal IsKnown ts (referents measured.values.items) text) →
+      OnTokens mode query (λ ts. IsWrittenText literal IsKnown ts (owned_values measured.values.items) text) →
       OnTokens mode query (λ ts. IsGivenText literal IsKnown ts given text)
   filled_text IsKnown text written =
-      given_on mode literal IsKnown query given (referents measured.values.items) text (o.0, o.1, o.2.looked_up) written
+      given_on mode literal IsKnown query given (owned_values measured.values.items) text (o.0, o.1, o.2.looked_up) written
 
 -- ---- where it stands
 

@@ -7,7 +7,7 @@ use Rattle.mysql_named_params.specs.Tokens.{OnTokens}
 use Rattle.mysql_named_params.specs.Places.{names, marks, place_count}
 use Rattle.mysql_params_core.specs.Given.{Given}
 use Rattle.mysql_params_core.specs.Lookup.{LookupRefusal, lookup}
-use Rattle.mysql_params_core.specs.Referents.{referents}
+use Rattle.mysql_values.specs.BorrowedValue.{owned_values}
 use Rattle.mysql_binding.specs.BindErrors.{IsCauseOrMemory, cause_of}
 use Rattle.mysql_binding.specs.FirstCause.{Cause, first_cause, mark_count_differs, refused_params}
 use Rattle.mysql_binding.specs.LiteralForm.{Literals, LiteralFacts}
@@ -112,10 +112,10 @@ module _ (survey : Survey) (spans : List PlaceSpan) (mode : Bool) (query : List 
   -- the text in the room is that of the query
   pub own_given_text : (literal : Literals) (IsKnown : LiteralFacts) (given : Given) (measured : MeasuredText) (text : List ℕ) →
       OnTokens mode query (λ ts. IsMeasured literal ts given measured) →
-      IsTextAt literal IsKnown spans query (referents measured.values.items) text →
+      IsTextAt literal IsKnown spans query (owned_values measured.values.items) text →
       OnTokens mode query (λ ts. IsGivenText literal IsKnown ts given text)
   own_given_text literal IsKnown given measured text is at =
-      let values = referents measured.values.items in
+      let values = owned_values measured.values.items in
       let places : OnTokens mode query (λ ts. length values ≡ place_count ts) = fill_places mode literal query given measured is in
       let same : places.0 ≡ own.0 = one_token_list mode query places.0 own.0 places.1 own.1 in
       let each : length at.0 ≡ place_count own.0 = as_many_texts literal IsKnown values at.0 at.1 ∙ (places.2 ∙ ap place_count same) in

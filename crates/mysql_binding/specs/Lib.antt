@@ -20,4 +20,5 @@ pub mod MeasuredText
 pub mod PlaceSpans
 pub mod Isolation
 pub mod BoundAgain
+pub mod BoundPairs
 pub mod BoundStatements

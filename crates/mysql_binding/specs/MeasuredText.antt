@@ -8,7 +8,7 @@ use Rattle.mysql_named_params.specs.Tokens.{Token}
 use Rattle.mysql_named_params.specs.Places.{names}
 use Rattle.mysql_params_core.specs.Given.{Given}
 use Rattle.mysql_params_core.specs.Lookup.{lookup}
-use Rattle.mysql_params_core.specs.Referents.{referents}
+use Rattle.mysql_values.specs.BorrowedValue.{owned_values}
 use Rattle.mysql_binding.specs.FirstCause.{mixed_cause, later_cause}
 use Rattle.mysql_binding.specs.LiteralForm.{Literals, LiteralFacts, literal_len}
 use Rattle.mysql_binding.specs.TextLength.{pieces_len}
@@ -26,9 +26,9 @@ IsLookedUp ts given values =
 -- `isize::MAX` bytes long.
 pub record IsMeasured (literal : Literals) (ts : List Token) (given : Given)
     (measured : MeasuredText) : Type 0 where
-  pub looked_up : IsLookedUp ts given (referents measured.values.items)
-  pub in_range : All FieldsInRange (referents measured.values.items)
-  pub lens_are : measured.lens.items ≡ map (literal_len literal) (referents measured.values.items)
+  pub looked_up : IsLookedUp ts given (owned_values measured.values.items)
+  pub in_range : All FieldsInRange (owned_values measured.values.items)
+  pub lens_are : measured.lens.items ≡ map (literal_len literal) (owned_values measured.values.items)
   pub len_is : measured.len ≡ pieces_len ts + sum measured.lens.items
   pub fits : measured.len < 2 ^ 63
 

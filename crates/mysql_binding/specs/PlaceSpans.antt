@@ -7,7 +7,7 @@ use Rattle.mysql_named_params.specs.Tokens.{OnTokens}
 use Rattle.mysql_named_params.specs.declared.places.FoundPlace.{FoundPlace}
 use Rattle.mysql_params_core.specs.Given.{Given}
 use Rattle.mysql_params_core.specs.Lookup.{LookupRefusal, lookup}
-use Rattle.mysql_params_core.specs.Referents.{referents}
+use Rattle.mysql_values.specs.BorrowedValue.{owned_values}
 use Rattle.mysql_binding.specs.BindErrors.{cause_of}
 use Rattle.mysql_binding.specs.FirstCause.{first_float, refused_params}
 use Rattle.mysql_binding.specs.FoundPlaces.{found_places}
@@ -81,9 +81,9 @@ RefusesNamesAt survey spans query given error = (refusal : LookupRefusal) →
 -- and of the text
 pub record IsReady (literal : Literals) (spans : List PlaceSpan) (query : List ℕ)
     (measured : MeasuredText) : Type 0 where
-  pub each : length (referents measured.values.items) ≡ length spans
-  pub no_float : first_float (referents measured.values.items) ≡ None
-  pub lens_are : measured.lens.items ≡ map (literal_len literal) (referents measured.values.items)
+  pub each : length (owned_values measured.values.items) ≡ length spans
+  pub no_float : first_float (owned_values measured.values.items) ≡ None
+  pub lens_are : measured.lens.items ≡ map (literal_len literal) (owned_values measured.values.items)
   pub len_is : measured.len ≡ outside_len spans query + sum measured.lens.items
 
 -- these bytes with the literals of the values in the places

@@ -6,7 +6,7 @@ ghost use Rattle.mysql_named_params.specs.Places.{names, HasName, HasMark};
 ghost use Rattle.mysql_params_core.specs.Errors.{lookup_refusal};
 ghost use Rattle.mysql_params_core.specs.Given.{Given, given, given_by_borrowed};
 ghost use Rattle.mysql_params_core.specs.Lookup.{LookupRefusal, lookup};
-ghost use Rattle.mysql_params_core.specs.Referents.{referents};
+ghost use Rattle.mysql_values.specs.BorrowedValue.{owned_values};
 ghost use Rattle.mysql_binding.specs.AppendedText.{AreFound};
 ghost use Rattle.mysql_binding.specs.BindErrors.{IsCauseOrMemory, cause_of};
 ghost use Rattle.mysql_binding.specs.BoundAgain.{IsSameBoundAgain, IsSameByPosition};
@@ -22,6 +22,7 @@ mod found;
 mod literals;
 mod measured;
 mod names;
+mod pairs;
 mod parsed_query;
 mod room;
 mod spans;
@@ -37,6 +38,7 @@ pub use crate::binding::literals::push_literal;
 pub use crate::binding::measured::MeasuredText;
 use crate::binding::measured::with_lengths;
 use crate::binding::names::query_names;
+pub use crate::binding::pairs::{BindPairsError, bind_pairs, bind_values};
 pub use crate::binding::parsed_query::{ParsedQuery, append_parsed};
 pub use crate::binding::room::{TextInRoom, bind_borrowed_into};
 pub use crate::binding::spans::{PlaceSpan, bind_spans_into, can_be_spans, place_spans};
@@ -45,7 +47,7 @@ pub use crate::binding::text::fill_measured;
 use crate::binding::text::written_text;
 use mysql_named_params::places::{FoundPlace, PlaceKind};
 use mysql_params_core::params::{BorrowedParams, Params, ParamsError, place_values};
-use mysql_values::value::Value;
+use mysql_values::value::ValueRef;
 use std::alloc::Global;
 
 /// The query with the literal of a value in the place of each name and mark: the values of the
@@ -339,16 +341,16 @@ pub fn measured_text<'p, F: LiteralForm>(
 fn measured_values<'p, F: LiteralForm>(
     alloc: Global,
     survey: Survey,
-    values: Vec<&'p Value>,
+    values: Vec<ValueRef<'p>>,
     form: &F,
 ) -> Result<MeasuredText<'p>, BindError>
     ensures measured { IfOk result (λ measured. (mode : Bool) (query : List ℕ) (given : Given) →
         OnTokens mode query (IsSurvey survey) →
-        OnTokens mode query (AreFound given (referents values.entry.items)) →
+        OnTokens mode query (AreFound given (owned_values values.entry.items)) →
         OnTokens mode query (λ ts. IsMeasured (F.literal form.now) ts given measured)) }
     ensures refused { IfErr result (λ error. (mode : Bool) (query : List ℕ) (given : Given) →
         OnTokens mode query (IsSurvey survey) →
-        OnTokens mode query (AreFound given (referents values.entry.items)) →
+        OnTokens mode query (AreFound given (owned_values values.entry.items)) →
         OnTokens mode query (λ ts. IsCauseOrMemory (first_cause ts given) error)) }
 {
     if let Some(error) = later_error(survey, values.as_slice()) {
@@ -369,12 +371,12 @@ fn values_of_places<'p>(
     name_count: usize,
     params: BorrowedParams<'p>,
     no_backslash_escape: bool,
-) -> Result<Vec<&'p Value>, BindError>
+) -> Result<Vec<ValueRef<'p>>, BindError>
     requires known { OnTokens no_backslash_escape query.now (BeginWithPlaces known.now) }
     requires names { OnTokens no_backslash_escape query.now (λ ts.
         (name_count ≡ length (names ts)) × (mixed_cause ts ≡ None)) }
     ensures values { IfOk result (λ values. OnTokens no_backslash_escape query.now (λ ts.
-        lookup (given_by_borrowed params.entry) (names ts) ≡ Ok (referents values.items))) }
+        lookup (given_by_borrowed params.entry) (names ts) ≡ Ok (owned_values values.items))) }
     ensures refused { IfErr result (λ error. OnTokens no_backslash_escape query.now (λ ts.
         IsCauseOrMemory (first_cause ts (given_by_borrowed params.entry)) error)) }
 {
@@ -400,14 +402,14 @@ fn bind_error_of(error: ParamsError) -> BindError
 }
 
 // The first of the causes after the lookup: the marks, the places, the floats.
-fn later_error(survey: Survey, values: &[&Value]) -> Option<BindError>
+fn later_error(survey: Survey, values: &[ValueRef<'_>]) -> Option<BindError>
     ensures cause { (ts : List Token) → IsSurvey survey ts →
-        option_map cause_of result ≡ option_map Some (later_cause ts (referents values.now)) }
+        option_map cause_of result ≡ option_map Some (later_cause ts (owned_values values.now)) }
     ensures no_lookup { IfSome result (λ error. (refusal : LookupRefusal) →
         cause_of error ≡ Some (refused_params refusal) → ⊥) }
     ensures none { result ≡ None →
-        (mark_count_differs survey.names survey.marks (length (referents values.now)) ≡ false)
-        × (first_float (referents values.now) ≡ None) }
+        (mark_count_differs survey.names survey.marks (length (owned_values values.now)) ≡ false)
+        × (first_float (owned_values values.now) ≡ None) }
 {
     if mark_count_differs(survey, values.len()) {
         return Some(BindError::MarkCount {

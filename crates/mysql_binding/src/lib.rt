@@ -12,8 +12,8 @@ pub mod laws;
 
 pub use bind_error::BindError;
 pub use binding::{
-    LiteralForm, MeasuredText, ParsedQuery, PlaceSpan, PlainForm, Survey, TextInRoom,
-    append_parsed, bind_borrowed_as, bind_borrowed_in, bind_borrowed_into, bind_spans_into,
-    bind_surveyed, bind_surveyed_as, bind_text, bind_text_in, can_be_spans, fill_measured,
-    measured_text, place_spans, place_survey, push_literal,
+    BindPairsError, LiteralForm, MeasuredText, ParsedQuery, PlaceSpan, PlainForm, Survey,
+    TextInRoom, append_parsed, bind_borrowed_as, bind_borrowed_in, bind_borrowed_into, bind_pairs,
+    bind_spans_into, bind_surveyed, bind_surveyed_as, bind_text, bind_text_in, bind_values,
+    can_be_spans, fill_measured, measured_text, place_spans, place_survey, push_literal,
 };

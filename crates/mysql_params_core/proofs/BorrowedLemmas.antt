@@ -6,6 +6,8 @@ use Rattle.std.specs.List.{list_all}
 use Rattle.std.specs.FinMap.{contains_key, get}
 use Rattle.std.proofs.lemmas.List.{take_more, get_or-map, length-map, map-append, take_all}
 use Rattle.mysql_value_core.specs.declared.value.Value.{Value}
+use Rattle.mysql_value_core.specs.declared.value.borrowed.ValueRef.{ValueRef}
+use Rattle.mysql_value_core.specs.BorrowedValue.{owned, owned_values}
 use Rattle.mysql_params_core.specs.FirstAbsent.{IsFirstAbsent}
 use Rattle.mysql_params_core.specs.Given.{ValueMap, named}
 use Rattle.mysql_params_core.specs.Lookup.{lookup, missing}
@@ -25,8 +27,8 @@ pub referents-push : {X : Type 0} (rs : List (Bor X)) (r : Bor X) →
 referents-push rs r = map-append (λ x. x.now) rs (r ∷ [])
 
 -- the values so far are those of the names so far
-abbrev pub AreFound : ValueMap → List (List ℕ) → List (Bor Value) → Type 0
-AreFound m ns vs = map (get m) ns ≡ map (λ x. Some x) (referents vs)
+abbrev pub AreFound : ValueMap → List (List ℕ) → List ValueRef → Type 0
+AreFound m ns vs = map (get m) ns ≡ map (λ x. Some x) (owned_values vs)
 
 -- names whose values are found are in the map
 found_in : (m : ValueMap) (ns : List (List ℕ)) (vs : List Value) →
@@ -38,32 +40,32 @@ found_in m (n ∷ ns) (v ∷ vs) e =
     let later : map (get m) ns ≡ map (λ x. Some x) vs = cc in
     ap (λ o. is_some o && list_all (contains_key m) ns) here ∙ found_in m ns vs later
 
-module _ (m : ValueMap) (ns : List (Bor (List ℕ))) (i : ℕ) (d : Bor (List ℕ)) (below : i < length ns) (vs : List (Bor Value)) (found : AreFound m (take i (referents ns)) vs) where
+module _ (m : ValueMap) (ns : List (Bor (List ℕ))) (i : ℕ) (d : Bor (List ℕ)) (below : i < length ns) (vs : List ValueRef) (found : AreFound m (take i (referents ns)) vs) where
   -- one value more
-  pub found_more : (v : Bor Value) (vs' : List (Bor Value)) → get m (get_or ns i d).now ≡ Some v.now →
+  pub found_more : (v : ValueRef) (vs' : List ValueRef) → get m (get_or ns i d).now ≡ Some (owned v) →
       vs' ≡ vs ++ v ∷ [] → AreFound m (take (i + 1) (referents ns)) vs'
   found_more v vs' e pushed =
       ap (map (get m)) (take-referents ns i d below)
       ∙ map-append (get m) (take i (referents ns)) ((get_or ns i d).now ∷ [])
       ∙ ap (λ os. os ++ get m (get_or ns i d).now ∷ []) found
-      ∙ ap (λ o. map (λ x. Some x) (referents vs) ++ o ∷ []) e
-      ∙ sym (map-append (λ x. Some x) (referents vs) (v.now ∷ []))
-      ∙ ap (map (λ x. Some x)) (sym (ap referents pushed ∙ referents-push vs v))
+      ∙ ap (λ o. map (λ x. Some x) (owned_values vs) ++ o ∷ []) e
+      ∙ sym (map-append (λ x. Some x) (owned_values vs) (owned v ∷ []))
+      ∙ ap (map (λ x. Some x)) (sym (ap owned_values pushed ∙ map-append owned vs (v ∷ [])))
 
   -- a name without a value is the first
   pub first_absent : get m (get_or ns i d).now ≡ None → IsFirstAbsent m (referents ns) (Some i)
   first_absent none = (
     omega (arith, length-map ns (λ x. x.now), below),
-    found_in m (take i (referents ns)) (referents vs) found,
+    found_in m (take i (referents ns)) (owned_values vs) found,
     ap (contains_key m) (get_or-map (λ x. x.now) ns i d [] below) ∙ ap is_some none,
   )
 
 -- if all names have a value
-pub found_all : (m : ValueMap) (ns : List (Bor (List ℕ))) (vs : List (Bor Value)) (i : ℕ) → length ns ≡ i → 0 < length ns →
+pub found_all : (m : ValueMap) (ns : List (Bor (List ℕ))) (vs : List ValueRef) (i : ℕ) → length ns ≡ i → 0 < length ns →
     AreFound m (take i (referents ns)) vs →
-    lookup (named m) (referents ns) ≡ ok_or (Some (referents vs)) (missing (missing_name m (referents ns)))
+    lookup (named m) (referents ns) ≡ ok_or (Some (owned_values vs)) (missing (missing_name m (referents ns)))
 found_all m [] vs i e some found = absurd (omega (arith, some))
 found_all m (n ∷ ns) vs i e some found =
     ap (λ o. ok_or o (missing (missing_name m (referents (n ∷ ns)))))
-    (values_at-from m (referents (n ∷ ns)) (referents vs)
+    (values_at-from m (referents (n ∷ ns)) (owned_values vs)
     (ap (map (get m)) (sym (take_all i (referents (n ∷ ns)) (omega (arith, length-map (n ∷ ns) (λ x. x.now), e)))) ∙ found))

@@ -8,3 +8,4 @@ pub mod WalkLemmas
 pub mod TakenLemmas
 pub mod BorrowedLemmas
 pub mod MakingLemmas
+mod PairLemmas

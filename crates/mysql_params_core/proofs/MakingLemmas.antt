@@ -57,7 +57,7 @@ module _ {S A : Type 0} (g : Result S ToParamsRefusal → A → Result S ToParam
         ∙ fold-append g start (take i (map f xs)) (f x ∷ []) ∙ ap (λ r. g r (f x)) before
 
     -- an argument that is refused is the refusal of the whole
-    fold-refused_at : (old : Result S ToParamsRefusal) (e : ToParamsRefusal) → fold g start (take i (map f xs)) ≡ old
+    pub fold-refused_at : (old : Result S ToParamsRefusal) (e : ToParamsRefusal) → fold g start (take i (map f xs)) ≡ old
         → g old (f x) ≡ Err e → fold g start (map f xs) ≡ Err e
     fold-refused_at old e before refused =
         ap (fold g start) (sym (take-append-drop (i + 1) (map f xs)))

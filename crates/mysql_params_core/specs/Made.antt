@@ -1,8 +1,11 @@
 -- The parameters that arguments make.
-use Rattle.std.specs.Prelude.{ℕ, List, [], ◌∷◌, ◌++◌, Result, Ok, Err, fold, if◌then◌else◌}
+use Rattle.std.specs.Prelude.{◌≡◌, ℕ, map, slice_get, Some, List, [], ◌∷◌, ◌++◌, Result, Ok, Err, fold, if◌then◌else◌}
 use Rattle.std.specs.FinMap as finite
 use Rattle.std.specs.declared.time.Duration.{Duration}
 use Rattle.mysql_value_core.specs.declared.value.Value.{Value}
+use Rattle.mysql_value_core.specs.declared.value.borrowed.ValueRef.{ValueRef}
+use Rattle.mysql_value_core.specs.BorrowedValue.{owned}
+use Rattle.std.specs.Borrow.{Bor}
 use Rattle.mysql_values.specs.ValueOf.{Meaning}
 use Rattle.mysql_params_core.specs.Given.{ValueMap, Given, empty, named, positional}
 
@@ -59,3 +62,12 @@ by_name (Err refusal) = Err refusal
 -- what pairs of a name and an argument make, taken in order
 abbrev pub pairs_made : List (List ℕ × Meaning) → Made
 pairs_made pairs = by_name (fold with_pair (Ok finite.empty) pairs)
+
+-- a borrowed pair, as a maker of parameters takes it
+abbrev pub seen_pair : Bor (List ℕ) × ValueRef → List ℕ × Meaning
+seen_pair pair = (pair.0.now, Ok (owned pair.1))
+
+-- the name of the pair is that of an earlier one, and it is the first such pair
+abbrev pub IsFirstRedefined : List (Bor (List ℕ) × ValueRef) → ℕ → Type 0
+IsFirstRedefined pairs index = (pair : Bor (List ℕ) × ValueRef) × (slice_get pairs index ≡ Some pair)
+    × (pairs_made (map seen_pair pairs) ≡ Err (redefined pair.0.now))

@@ -4,7 +4,7 @@ use mysql_params::params::{
     IntoPositionalError, MissingNamedParameterError, Params, ParamsConfusionError, ParamsError,
 };
 use mysql_params_core::params::{BorrowedParams, NameMap, place_values};
-use mysql_values::value::Value;
+use mysql_values::value::{Value, ValueRef};
 use std::alloc::{AllocError, Global};
 use std::collections::BTreeMap;
 use std::process::Abort;
@@ -162,7 +162,7 @@ fn parameters_by_position(rt: HostRuntime) {
 fn values_where_they_stand(rt: HostRuntime) {
     let params = params(&rt, rt.alloc(), Given::Named(b"ab"));
     let found = answer_of(&rt, place_values(rt.alloc(), params.borrowed(), &[b"b"]));
-    let wanted = [&Value::UInt(2)];
+    let wanted = [ValueRef::UInt(2)];
     same(&rt, found.as_slice(), wanted.as_slice());
 }
 
@@ -173,7 +173,7 @@ fn values_of_a_sorted_map(rt: HostRuntime) {
     answer_of(&rt, entries.insert_value(rt.alloc(), b"a", Value::UInt(1)));
     let params = BorrowedParams::Sorted(&entries);
     let found = answer_of(&rt, place_values(rt.alloc(), params, &[b"a"]));
-    let wanted = [&Value::UInt(1)];
+    let wanted = [ValueRef::UInt(1)];
     same(&rt, found.as_slice(), wanted.as_slice());
 }
 

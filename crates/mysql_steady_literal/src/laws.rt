@@ -1,14 +1,15 @@
 //! The law of steady literals. It does nothing: it is called for what it ensures.
 ghost use Rattle.std.specs.Prelude.{◌≡◌, IfSome, is_none};
 ghost use Rattle.mysql_sql_text.specs.InLine.{IsInLine};
+ghost use Rattle.mysql_value_core.specs.BorrowedValue.{owned};
 ghost use Rattle.mysql_value_core.specs.Literal.{is_float};
 ghost use Rattle.mysql_named_params.specs.Steady.{IsSteady};
 ghost use Rattle.mysql_steady_literal.specs.SteadyLiteral.{steady_literal_of};
 ghost use Rattle.mysql_steady_literal.specs.SteadyShape.{IsSteadyLiteral};
 ghost use Rattle.mysql_steady_literal.specs.ReadSteadyLiteral.{ReadsSteadyAs};
 
-use mysql_value_core::laws::fields_in_range;
-use mysql_value_core::value::Value;
+use mysql_value_core::laws::{borrowed_fields_in_range, fields_in_range};
+use mysql_value_core::value::{Value, ValueRef};
 
 /// The steady literal of a value has the shape of steady literals, is steady, and reads in either
 /// mode as the content of the value. It has no newline and no byte 0. Exactly floats have none.
@@ -20,4 +21,15 @@ pub fn steady_literals(value: &Value)
     ensures float { is_none (steady_literal_of value.now) ≡ is_float value.now }
 {
     fields_in_range(value);
+}
+
+/// The same of a borrowed value.
+pub fn borrowed_steady_literals(value: ValueRef<'_>)
+    ensures shape { IfSome (steady_literal_of (owned value.entry)) IsSteadyLiteral }
+    ensures steady { IfSome (steady_literal_of (owned value.entry)) IsSteady }
+    ensures reads_back { IfSome (steady_literal_of (owned value.entry))
+        (ReadsSteadyAs (owned value.entry)) }
+    ensures float { is_none (steady_literal_of (owned value.entry)) ≡ is_float (owned value.entry) }
+{
+    borrowed_fields_in_range(value);
 }

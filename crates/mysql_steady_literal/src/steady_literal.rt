@@ -2,14 +2,15 @@
 ghost use Rattle.std.specs.Prelude.{◌≡◌, ◌++◌, codes, length, Some, is_none, option_map};
 ghost use Rattle.std.specs.List.{list_all};
 ghost use Rattle.mysql_sql_text.specs.LiteralText.{hexadecimal};
+ghost use Rattle.mysql_value_core.specs.BorrowedValue.{owned};
 ghost use Rattle.mysql_value_core.specs.Literal.{is_float};
 ghost use Rattle.mysql_named_params.specs.Steady.{IsSteady};
 ghost use Rattle.mysql_steady_literal.specs.SteadyLiteral.{is_spelled_out, steady_bytes_literal, steady_literal_of};
 ghost use Rattle.mysql_steady_literal.specs.ReadSteadyLiteral.{ReadsSteadyAs};
 
-use crate::laws::steady_literals;
+use crate::laws::borrowed_steady_literals;
 use mysql_sql_text::strings::{fill_hexadecimal, fill_string, string_len};
-use mysql_value_core::value::Value;
+use mysql_value_core::value::{Value, ValueRef};
 
 // What stands before a string, and before hexadecimal digits.
 const INTRODUCER: &[u8] = b"_utf8mb4";
@@ -22,10 +23,7 @@ pub fn steady_len(value: &Value) -> Option<u128>
     ensures exact { result ≡ option_map length (steady_literal_of value.now) }
     ensures float { is_none result ≡ is_float value.now }
 {
-    match value {
-        Value::Bytes(bytes) => Some(steady_bytes_len(bytes.as_slice())),
-        other => other.sql_len(true),
-    }
+    borrowed_steady_len(value.borrowed())
 }
 
 /// Writes the steady literal of a value over the whole of `room`.
@@ -38,17 +36,44 @@ pub fn put_steady(value: &Value, room: &mut [u8])
     ensures steady { IsSteady room.new }
     ensures reads_back { ReadsSteadyAs value.now room.new }
 {
-    steady_literals(value);
+    put_borrowed_steady(value.borrowed(), room);
+}
+
+/// How many bytes the steady literal of a borrowed value has.
+///
+/// `None` exactly for `Float` and `Double`, which have no literal. It allocates nothing. The length
+/// may be above `isize::MAX`, and then no slice is that long.
+pub fn borrowed_steady_len(value: ValueRef<'_>) -> Option<u128>
+    ensures exact { result ≡ option_map length (steady_literal_of (owned value.entry)) }
+    ensures float { is_none result ≡ is_float (owned value.entry) }
+{
+    match value {
+        ValueRef::Bytes(bytes) => Some(steady_bytes_len(bytes)),
+        other => other.sql_len(true),
+    }
+}
+
+/// Writes the steady literal of a borrowed value over the whole of `room`.
+///
+/// It can be called only if the value has a literal, so is no float, and `room` is exactly as long
+/// as [`borrowed_steady_len`] says. Nothing is allocated, and nothing is refused.
+pub fn put_borrowed_steady(value: ValueRef<'_>, room: &mut [u8])
+    requires { option_map length (steady_literal_of (owned value)) ≡ Some (length room.old) }
+    ensures exact { steady_literal_of (owned value.entry) ≡ Some room.new }
+    ensures steady { IsSteady room.new }
+    ensures reads_back { ReadsSteadyAs (owned value.entry) room.new }
+{
+    borrowed_steady_literals(value);
     fill_literal(value, room);
 }
 
 // Fills the slice with the steady literal.
-fn fill_literal(value: &Value, buffer: &mut [u8])
-    requires { option_map length (steady_literal_of value.now) ≡ Some (length buffer.old) }
-    ensures { steady_literal_of value.now ≡ Some buffer.new }
+fn fill_literal(value: ValueRef<'_>, buffer: &mut [u8])
+    requires { option_map length (steady_literal_of (owned value)) ≡ Some (length buffer.old) }
+    ensures { steady_literal_of (owned value.entry) ≡ Some buffer.new }
 {
     match value {
-        Value::Bytes(bytes) => fill_steady_bytes(buffer, bytes.as_slice()),
+        ValueRef::Bytes(bytes) => fill_steady_bytes(buffer, bytes),
         other => other.put_sql(true, buffer),
     }
 }

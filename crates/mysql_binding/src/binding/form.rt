@@ -1,11 +1,12 @@
 //! The forms in which the literals of values are written.
 ghost use Rattle.std.specs.Prelude.{◌≡◌, Some, length, option_map, refl};
+ghost use Rattle.mysql_values.specs.BorrowedValue.{owned};
 ghost use Rattle.mysql_values.specs.Literal.{literal_of};
 ghost use Rattle.mysql_values.specs.declared.value.Value.TheVariants.{NULL, Bytes, Int, UInt, Float, Double, Date, Time};
 ghost use Rattle.mysql_binding.specs.LiteralForm.{Literals, LiteralFacts, LackFloats, IsPlainLiteral};
 
-use mysql_values::laws::literal_shape;
-use mysql_values::value::Value;
+use mysql_values::laws::borrowed_literal_shape;
+use mysql_values::value::ValueRef;
 
 /// A form in which [`bind_borrowed_as`](crate::bind_borrowed_as) writes the literals of values,
 /// lent to the crate above. Exactly floats have no literal.
@@ -17,20 +18,20 @@ pub trait LiteralForm {
     ghost IsKnown: { Self → LiteralFacts };
 
     /// How many bytes the literal of a value has. It allocates nothing.
-    fn len(&self, value: &Value) -> Option<u128>
-        ensures { result ≡ option_map length (literal self.now value.now) };
+    fn len(&self, value: ValueRef<'_>) -> Option<u128>
+        ensures { result ≡ option_map length (literal self.now (owned value.entry)) };
 
     /// Writes the literal of a value over the whole of `room`.
-    fn put(&self, value: &Value, room: &mut [u8])
-        requires { option_map length (literal self.now value.now) ≡ Some (length room.old) }
-        ensures exact { literal self.now value.now ≡ Some room.new }
-        ensures known { IsKnown self.now value.now room.new };
+    fn put(&self, value: ValueRef<'_>, room: &mut [u8])
+        requires { option_map length (literal self.now (owned value)) ≡ Some (length room.old) }
+        ensures exact { literal self.now (owned value.entry) ≡ Some room.new }
+        ensures known { IsKnown self.now (owned value.entry) room.new };
 
     // exactly floats have no literal
     ghost floats: { (form : Self) → LackFloats (literal form) };
 }
 
-/// The literals of a mode, as [`Value::put_sql`] writes them.
+/// The literals of a mode, as [`ValueRef::put_sql`] writes them.
 #[derive(Debug, Clone, Copy)]
 pub struct PlainForm {
     /// Whether a backslash is a byte like any other.
@@ -53,12 +54,12 @@ impl LiteralForm for PlainForm {
       | Time negative days hours minutes seconds microseconds ↦ refl
     ] };
 
-    fn len(&self, value: &Value) -> Option<u128> {
+    fn len(&self, value: ValueRef<'_>) -> Option<u128> {
         value.sql_len(self.no_backslash_escape)
     }
 
-    fn put(&self, value: &Value, room: &mut [u8]) {
-        literal_shape(value);
+    fn put(&self, value: ValueRef<'_>, room: &mut [u8]) {
+        borrowed_literal_shape(value);
         value.put_sql(self.no_backslash_escape, room);
     }
 }

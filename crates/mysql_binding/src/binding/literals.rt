@@ -3,22 +3,22 @@ ghost use Rattle.std.specs.Prelude.{◌≡◌, ◌+◌, ◌++◌, ◌≤◌, fal
 ghost use Rattle.std.specs.List.{All};
 ghost use Rattle.mysql_values.specs.Literal.{is_float};
 ghost use Rattle.mysql_values.specs.Value.{FieldsInRange};
-ghost use Rattle.mysql_params_core.specs.Referents.{referents};
+ghost use Rattle.mysql_values.specs.BorrowedValue.{owned, owned_values};
 ghost use Rattle.mysql_binding.specs.FirstCause.{first_float};
 ghost use Rattle.mysql_binding.specs.LiteralForm.{literal_len, written_literal};
 ghost use Rattle.mysql_binding.specs.PushedLiteral.{IsKnownUnlessFloat};
 
 use crate::binding::form::LiteralForm;
-use mysql_values::laws::fields_in_range;
-use mysql_values::value::Value;
+use mysql_values::laws::borrowed_fields_in_range;
+use mysql_values::value::{Value, ValueRef};
 use std::alloc::{AllocError, Global};
 
 /// The place of the first float.
-pub(super) fn first_float(values: &[&Value]) -> Option<usize>
-    ensures { result ≡ first_float (referents values.now) }
+pub(super) fn first_float(values: &[ValueRef<'_>]) -> Option<usize>
+    ensures { result ≡ first_float (owned_values values.now) }
 {
     for (place, value) in values.iter().enumerate() {
-        if matches!(value, Value::Float(_) | Value::Double(_)) {
+        if matches!(value, ValueRef::Float(_) | ValueRef::Double(_)) {
             return Some(place);
         }
     }
@@ -28,27 +28,27 @@ pub(super) fn first_float(values: &[&Value]) -> Option<usize>
 /// The length of the literal of each value, 0 for floats. A length may be above `isize::MAX`.
 pub(super) fn literal_lens<F: LiteralForm>(
     alloc: Global,
-    values: &[&Value],
+    values: &[ValueRef<'_>],
     form: &F,
 ) -> Result<Vec<u128>, AllocError>
     ensures lens { IfOk result (λ lens.
-        lens.items ≡ map (literal_len (F.literal form.now)) (referents values.now)) }
-    ensures in_range { IfOk result (λ lens. All FieldsInRange (referents values.now)) }
+        lens.items ≡ map (literal_len (F.literal form.now)) (owned_values values.now)) }
+    ensures in_range { IfOk result (λ lens. All FieldsInRange (owned_values values.now)) }
 {
     let mut lens = Vec::with_capacity(alloc, values.len())?;
     for value in values {
-        lens.push(literal_len(value, form))?;
+        lens.push(literal_len(*value, form))?;
     }
     Ok(lens)
 }
 
 // The length of the literal of a value, 0 for a float.
 #[tactic(auto, using(crate::proofs::TextLengthLemmas::length_or_zero))]
-fn literal_len<F: LiteralForm>(value: &Value, form: &F) -> u128
-    ensures len { result ≡ literal_len (F.literal form.now) value.now }
-    ensures in_range { FieldsInRange value.now }
+fn literal_len<F: LiteralForm>(value: ValueRef<'_>, form: &F) -> u128
+    ensures len { result ≡ literal_len (F.literal form.now) (owned value.entry) }
+    ensures in_range { FieldsInRange (owned value.entry) }
 {
-    fields_in_range(value);
+    borrowed_fields_in_range(value);
     form.len(value).unwrap_or(0)
 }
 
@@ -57,20 +57,20 @@ fn literal_len<F: LiteralForm>(value: &Value, form: &F) -> u128
 pub(super) fn append_literal<F: LiteralForm>(
     text: &mut [u8],
     at: usize,
-    value: &Value,
+    value: ValueRef<'_>,
     len: usize,
     form: &F,
 ) -> usize
-    requires no_float { is_float value.now ≡ false }
-    requires len { len ≡ literal_len (F.literal form.now) value.now }
+    requires no_float { is_float (owned value) ≡ false }
+    requires len { len ≡ literal_len (F.literal form.now) (owned value) }
     requires room { at + len ≤ length text.old }
     ensures next { result ≡ at + len }
     ensures front { take result text.new
-        ≡ take at text.old ++ written_literal (F.literal form.now) value.now }
-    ensures literal { F.literal form.now value.now
-        ≡ Some (written_literal (F.literal form.now) value.now) }
-    ensures known { F.IsKnown form.now value.now
-        (written_literal (F.literal form.now) value.now) }
+        ≡ take at text.old ++ written_literal (F.literal form.now) (owned value.entry) }
+    ensures literal { F.literal form.now (owned value.entry)
+        ≡ Some (written_literal (F.literal form.now) (owned value.entry)) }
+    ensures known { F.IsKnown form.now (owned value.entry)
+        (written_literal (F.literal form.now) (owned value.entry)) }
 {
     let end = at + len;
     form.put(value, &mut text[at..end]);
@@ -94,6 +94,7 @@ pub fn push_literal<F: LiteralForm>(
     // Nothing is allocated for a float.
     ensures memory { OnErr result (is_float value.now ≡ false) }
 {
+    let value = value.borrowed();
     let Some(len) = form.len(value) else {
         return Ok(());
     };

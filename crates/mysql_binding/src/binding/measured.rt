@@ -2,19 +2,19 @@
 ghost use Rattle.std.specs.Prelude.{◌≡◌, ◌+◌, ◌^◌, ◌<◌, ◌≤◌, None, IfOk, IfSome, map};
 ghost use Rattle.std.specs.List.{All, sum};
 ghost use Rattle.mysql_values.specs.Value.{FieldsInRange};
-ghost use Rattle.mysql_params_core.specs.Referents.{referents};
+ghost use Rattle.mysql_values.specs.BorrowedValue.{owned_values};
 ghost use Rattle.mysql_binding.specs.LiteralForm.{literal_len};
 
 use crate::binding::form::LiteralForm;
 use crate::binding::literals::literal_lens;
-use mysql_values::value::Value;
+use mysql_values::value::ValueRef;
 use std::alloc::{AllocError, Global};
 
 /// The values of a query's places and the length of the text that is written from them.
 #[derive(Debug, Drop)]
 pub struct MeasuredText<'p> {
     /// The value for each place.
-    pub values: Vec<&'p Value>,
+    pub values: Vec<ValueRef<'p>>,
     /// The length of each value's literal.
     pub lens: Vec<u128>,
     /// The length of the text.
@@ -28,15 +28,15 @@ pub struct MeasuredText<'p> {
 pub(super) fn with_lengths<'p, F: LiteralForm>(
     alloc: Global,
     piece_bytes: usize,
-    values: Vec<&'p Value>,
+    values: Vec<ValueRef<'p>>,
     form: &F,
 ) -> Result<MeasuredText<'p>, AllocError>
     ensures values { IfOk result (λ measured.
         measured.values.items ≡ values.entry.items) }
     ensures in_range { IfOk result (λ measured.
-        All FieldsInRange (referents values.entry.items)) }
+        All FieldsInRange (owned_values values.entry.items)) }
     ensures lens { IfOk result (λ measured. measured.lens.items
-        ≡ map (literal_len (F.literal form.now)) (referents values.entry.items)) }
+        ≡ map (literal_len (F.literal form.now)) (owned_values values.entry.items)) }
     ensures len { IfOk result (λ measured. measured.len ≡ piece_bytes + sum measured.lens.items) }
     ensures fits { IfOk result (λ measured. measured.len < 2 ^ 63) }
 {

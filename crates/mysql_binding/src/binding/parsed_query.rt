@@ -16,6 +16,7 @@ ghost use Rattle.mysql_binding.specs.Isolation.{IsBoundText};
 ghost use Rattle.mysql_binding.specs.ParsedQuery.{AreParsed, same_query};
 ghost use Rattle.mysql_binding.specs.SameQuery.{same_query_is_equivalence};
 ghost use Rattle.mysql_params_core.specs.Referents.{referents};
+ghost use Rattle.mysql_values.specs.BorrowedValue.{owned_values};
 
 use crate::bind_error::BindError;
 use crate::binding::form::LiteralForm;
@@ -28,7 +29,7 @@ use mysql_named_params::named_params::{MixedParamsError, NamedParamsError};
 use mysql_named_params::places::FoundPlace;
 use mysql_named_params::portable::{Unportable, first_unportable};
 use mysql_params_core::params::Params;
-use mysql_values::value::Value;
+use mysql_values::value::ValueRef;
 use std::alloc::{AllocError, Global};
 use std::borrow::CowSlice;
 use std::marker::Model;
@@ -241,18 +242,18 @@ impl<'q> Eq for ParsedQuery<'q> {
 pub fn append_parsed<F: LiteralForm>(
     alloc: Global,
     query: &ParsedQuery<'_>,
-    values: Vec<&Value>,
+    values: Vec<ValueRef<'_>>,
     form: &F,
     text: &mut Vec<u8>,
 ) -> Result<(), BindError>
     requires { (given : Given) × OnTokens query.now.mode query.now.query
-        (AreFound given (referents values.items)) }
+        (AreFound given (owned_values values.items)) }
     ensures appended { OnOk result (IsAppended (F.literal form.now) (F.IsKnown form.now)
-        query.now.mode query.now.query (referents values.entry.items)
+        query.now.mode query.now.query (owned_values values.entry.items)
         text.old.items text.new.items) }
     ensures refused { IfErr result (λ error. (given : Given) →
         OnTokens query.now.mode query.now.query
-        (AreFound given (referents values.entry.items)) →
+        (AreFound given (owned_values values.entry.items)) →
         OnTokens query.now.mode query.now.query (λ ts.
         IsCauseOrMemory (first_cause ts given) error)) }
     ensures kept { OnErr result (text.new.items ≡ text.old.items) }

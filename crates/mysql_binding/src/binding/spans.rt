@@ -6,6 +6,7 @@ ghost use Rattle.mysql_named_params.specs.Places.{HasMark, HasName, place_count}
 ghost use Rattle.mysql_params_core.specs.Given.{given_by_borrowed};
 ghost use Rattle.mysql_params_core.specs.Lookup.{lookup};
 ghost use Rattle.mysql_params_core.specs.Referents.{referents};
+ghost use Rattle.mysql_values.specs.BorrowedValue.{owned_values};
 ghost use Rattle.mysql_binding.specs.BindErrors.{IsCauseOrMemory};
 ghost use Rattle.mysql_binding.specs.FirstCause.{first_cause};
 ghost use Rattle.mysql_binding.specs.FoundPlaces.{found_places};
@@ -25,7 +26,7 @@ use crate::binding::text::append_piece;
 use crate::binding::{bind_error_of, later_error};
 use mysql_named_params::places::FoundPlace;
 use mysql_params_core::params::{BorrowedParams, place_values};
-use mysql_values::value::Value;
+use mysql_values::value::ValueRef;
 use std::alloc::{AllocError, Global};
 
 /// Where a place of a query stands.
@@ -213,10 +214,10 @@ fn values_at<'p>(
     query: &[u8],
     spans: &[PlaceSpan],
     params: BorrowedParams<'p>,
-) -> Result<Vec<&'p Value>, BindError>
+) -> Result<Vec<ValueRef<'p>>, BindError>
     requires fit { FitIn spans.now query.now }
     ensures values { IfOk result (λ values. lookup (given_by_borrowed params.entry)
-        (names_at spans.now query.now) ≡ Ok (referents values.items)) }
+        (names_at spans.now query.now) ≡ Ok (owned_values values.items)) }
     ensures refused { IfErr result
         (IsLookupError (given_by_borrowed params.entry) (names_at spans.now query.now)) }
 {
@@ -261,7 +262,7 @@ fn fill_spans<F: LiteralForm>(
     requires ready { IsReady (F.literal form.now) spans.now query.now measured.now }
     requires room { length room.old ≡ measured.now.len }
     ensures { IsTextAt (F.literal form.now) (F.IsKnown form.now) spans.now query.now
-        (referents measured.now.values.items) room.new }
+        (owned_values measured.now.values.items) room.new }
 {
     let lens = measured.lens.as_slice();
     let mut rest = query;
@@ -269,7 +270,7 @@ fn fill_spans<F: LiteralForm>(
     for (i, value) in measured.values.iter().enumerate() {
         let (piece, _, after) = spans[i].cut(rest);
         at = append_piece(room, at, piece);
-        at = append_literal(room, at, value, lens[i] as usize, form);
+        at = append_literal(room, at, *value, lens[i] as usize, form);
         rest = after;
     }
     append_piece(room, at, rest);

@@ -4,7 +4,7 @@ ghost use Rattle.std.specs.List.{sum};
 ghost use Rattle.mysql_named_params.specs.Tokens.{OnTokens};
 ghost use Rattle.mysql_named_params.specs.Places.{place_count};
 ghost use Rattle.mysql_params_core.specs.Given.{Given};
-ghost use Rattle.mysql_params_core.specs.Referents.{referents};
+ghost use Rattle.mysql_values.specs.BorrowedValue.{owned_values};
 ghost use Rattle.mysql_binding.specs.FirstCause.{first_float};
 ghost use Rattle.mysql_binding.specs.FoundPlaces.{BeginWithPlaces};
 ghost use Rattle.mysql_binding.specs.LiteralForm.{literal_len};
@@ -17,7 +17,7 @@ use crate::binding::found::place_after;
 use crate::binding::literals::append_literal;
 use crate::binding::measured::MeasuredText;
 use mysql_named_params::places::FoundPlace;
-use mysql_values::value::Value;
+use mysql_values::value::ValueRef;
 use std::alloc::{AllocError, Global};
 
 /// The text of a query that is measured, in a vector of exactly its length. The first places of the
@@ -145,21 +145,21 @@ fn fill_after<F: LiteralForm>(
 fn fill_text<F: LiteralForm>(
     query: &[u8],
     known: &[FoundPlace],
-    values: &[&Value],
+    values: &[ValueRef<'_>],
     lens: &[u128],
     text: &mut [u8],
     no_backslash_escape: bool,
     form: &F,
 )
     requires known { OnTokens no_backslash_escape query.now (BeginWithPlaces known.now) }
-    requires no_float { first_float (referents values.now) ≡ None }
+    requires no_float { first_float (owned_values values.now) ≡ None }
     requires places { OnTokens no_backslash_escape query.now (λ ts.
-        length (referents values.now) ≡ place_count ts) }
-    requires lens { lens.now ≡ map (literal_len (F.literal form.now)) (referents values.now) }
+        length (owned_values values.now) ≡ place_count ts) }
+    requires lens { lens.now ≡ map (literal_len (F.literal form.now)) (owned_values values.now) }
     requires room { OnTokens no_backslash_escape query.now (λ ts.
         length text.old ≡ pieces_len ts + sum lens.now) }
     ensures { OnTokens no_backslash_escape query.now (λ ts.
-        IsWrittenText (F.literal form.now) (F.IsKnown form.now) ts (referents values.now)
+        IsWrittenText (F.literal form.now) (F.IsKnown form.now) ts (owned_values values.now)
         text.new) }
 {
     let mut rest = query;
@@ -170,7 +170,7 @@ fn fill_text<F: LiteralForm>(
         };
         let (piece, _, after) = found.cut(rest);
         at = append_piece(text, at, piece);
-        at = append_literal(text, at, value, lens[i] as usize, form);
+        at = append_literal(text, at, *value, lens[i] as usize, form);
         rest = after;
     }
     append_piece(text, at, rest);

@@ -5,11 +5,12 @@ ghost use Rattle.mysql_params_core.specs.Errors.{lookup_refusal};
 ghost use Rattle.mysql_params_core.specs.Given.{ValueMap, given, given_by_borrowed, named};
 ghost use Rattle.mysql_params_core.specs.Lookup.{lookup, PlaceValuesTakeMemory};
 ghost use Rattle.mysql_params_core.specs.Referents.{referents};
+ghost use Rattle.mysql_values.specs.BorrowedValue.{owned_values};
 
-use crate::params::entries::NameMap;
+use crate::params::entries::{NamedPairs, NamedValues};
 use crate::params::lookup::{missing_params_error, reported_name};
 use crate::params::{Params, ParamsConfusionError, ParamsError};
-use mysql_values::value::Value;
+use mysql_values::value::{Value, ValueRef};
 use std::alloc::{AllocError, Global};
 use std::collections::{BTreeMap, HashMap};
 
@@ -23,8 +24,12 @@ pub enum BorrowedParams<'p> {
     Named(&'p HashMap<Vec<u8>, Value>),
     /// Values by name, in the order of the names.
     Sorted(&'p BTreeMap<Vec<u8>, Value>),
+    /// Values by name, in pairs. Of pairs of one name the first counts.
+    Pairs(&'p NamedPairs<'p>),
     /// Values by position.
     Positional(&'p [Value]),
+    /// Borrowed values by position.
+    Values(&'p [ValueRef<'p>]),
 }
 
 impl Params {
@@ -51,8 +56,8 @@ pub fn place_values<'p>(
     alloc: Global,
     params: BorrowedParams<'p>,
     names: &[&[u8]],
-) -> Result<Vec<&'p Value>, ParamsError>
-    ensures values { IsAnswer (λ values. referents values.items) lookup_refusal
+) -> Result<Vec<ValueRef<'p>>, ParamsError>
+    ensures values { IsAnswer (λ values. owned_values values.items) lookup_refusal
         (lookup (given_by_borrowed params.entry) (referents names.now)) ⊤ result }
     ensures memory { IsErrOf result (ParamsError.Memory alloc_error) →
         PlaceValuesTakeMemory (given_by_borrowed params.entry) (referents names.now) }
@@ -69,30 +74,52 @@ pub fn place_values<'p>(
                 Err(ParamsError::Confusion(ParamsConfusionError::PositionalParamsForNamedQuery))
             }
         }
+        BorrowedParams::Values(values) => {
+            if names.is_empty() {
+                copied_values(alloc, values).map_err(ParamsError::Memory)
+            } else {
+                Err(ParamsError::Confusion(ParamsConfusionError::PositionalParamsForNamedQuery))
+            }
+        }
         BorrowedParams::Named(entries) => named_place_values(alloc, entries, names),
+        BorrowedParams::Pairs(pairs) => named_place_values(alloc, pairs, names),
         BorrowedParams::Sorted(entries) => named_place_values(alloc, entries, names),
     }
 }
 
-// References to the values, in order.
-fn borrowed_values<'v>(alloc: Global, values: &'v [Value]) -> Result<Vec<&'v Value>, AllocError>
-    ensures values { IfOk result (λ references. referents references.items ≡ values.now) }
+// The values, borrowed, in order.
+fn borrowed_values<'v>(alloc: Global, values: &'v [Value]) -> Result<Vec<ValueRef<'v>>, AllocError>
+    ensures values { IfOk result (λ refs. owned_values refs.items ≡ values.now) }
     ensures memory { OnErr result (0 < length values.now) }
 {
-    let mut references = Vec::with_capacity(alloc, values.len())?;
+    let mut refs = Vec::with_capacity(alloc, values.len())?;
     for value in values {
-        references.push(value)?;
+        refs.push(value.borrowed())?;
     }
-    Ok(references)
+    Ok(refs)
+}
+
+// A copy of the list, whose values stay borrowed.
+fn copied_values<'v>(
+    alloc: Global,
+    values: &[ValueRef<'v>],
+) -> Result<Vec<ValueRef<'v>>, AllocError>
+    ensures values { IfOk result (λ refs. owned_values refs.items ≡ owned_values values.now) }
+    ensures memory { OnErr result (0 < length values.now) }
+{
+    if values.is_empty() {
+        return Ok(Vec::new(alloc));
+    }
+    Vec::from_slice(alloc, values)
 }
 
 // What named parameters give to a list of names. Each name is looked up once.
-fn named_place_values<'p, M: NameMap>(
+fn named_place_values<'p, M: NamedValues>(
     alloc: Global,
     entries: &'p M,
     names: &[&[u8]],
-) -> Result<Vec<&'p Value>, ParamsError>
-    ensures values { IsAnswer (λ values. referents values.items) lookup_refusal
+) -> Result<Vec<ValueRef<'p>>, ParamsError>
+    ensures values { IsAnswer (λ values. owned_values values.items) lookup_refusal
         (lookup (named (M.values entries.now)) (referents names.now)) ⊤ result }
     ensures memory { IsErrOf result (ParamsError.Memory alloc_error) → 0 < length names.now }
 {

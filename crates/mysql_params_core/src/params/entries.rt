@@ -1,41 +1,52 @@
 //! The entries of named parameters.
-ghost use Rattle.std.specs.Prelude.{◌≡◌, OnErr, OnOk, option_copied};
+ghost use Rattle.std.specs.Prelude.{◌≡◌, Ok, MatchOption, OnErr, OnOk, map, option_map};
 ghost use Rattle.std.specs.FinMap.{contains_key, empty, get, insert};
-ghost use Rattle.mysql_params_core.specs.Given.{ValueMap, value_map};
+ghost use Rattle.mysql_params_core.specs.Given.{ValueMap, named, pair_map, value_map};
+ghost use Rattle.mysql_params_core.specs.Made.{pairs_made, seen_pair, IsFirstRedefined};
+ghost use Rattle.mysql_value_core.specs.BorrowedValue.{owned};
 
-use mysql_values::value::Value;
+use mysql_values::value::{Value, ValueRef};
 use std::alloc::{AllocError, Global};
 use std::collections::{BTreeMap, HashMap};
 
-/// A map from names to values, of either kind, lent to the crates above: the hash map of
-/// [`Params`](crate::params::Params), or a sorted one, which no choice of names makes slow.
-pub trait NameMap: Drop {
+/// Values by name, lent to the crates above: a map of either kind, or pairs.
+pub trait NamedValues: Drop {
     // the finite map that it stands for
     ghost values: { Self → ValueMap };
 
+    /// The value of a name, borrowed.
+    fn value_of(&self, name: &[u8]) -> Option<ValueRef<'_>>
+        ensures { option_map owned result ≡ get (values self.now) name.now };
+}
+
+/// A map from names to values, of either kind, lent to the crates above: the hash map of
+/// [`Params`](crate::params::Params), or a sorted one, which no choice of names makes slow.
+pub trait NameMap: NamedValues {
     /// The map without names.
     fn without_names(alloc: Global) -> Self
-        ensures { values result ≡ empty };
-
-    /// The value of a name.
-    fn value_of(&self, name: &[u8]) -> Option<&Value>
-        ensures { option_copied result ≡ get (values self.now) name.now };
+        ensures { Self.values result ≡ empty };
 
     /// Inserts a value under a copy of a name. If memory is refused, the map stays as it was.
     fn insert_value(&mut self, alloc: Global, name: &[u8], value: Value) -> Result<(), AllocError>
-        ensures inserted { OnOk result (values self.new ≡ insert (values self.old) name.now value) }
-        ensures refused { OnErr result (values self.new ≡ values self.old) };
+        ensures inserted { OnOk result (Self.values self.new
+            ≡ insert (Self.values self.old) name.now value) }
+        ensures refused { OnErr result (Self.values self.new ≡ Self.values self.old) };
+}
+
+impl NamedValues for HashMap<Vec<u8>, Value> {
+    ghost values = { λ entries. value_map entries.entries };
+
+    fn value_of(&self, name: &[u8]) -> Option<ValueRef<'_>> {
+        match self.get(name) {
+            Some(value) => Some(value.borrowed()),
+            None => None,
+        }
+    }
 }
 
 impl NameMap for HashMap<Vec<u8>, Value> {
-    ghost values = { λ entries. value_map entries.entries };
-
     fn without_names(alloc: Global) -> HashMap<Vec<u8>, Value> {
         HashMap::new(alloc)
-    }
-
-    fn value_of(&self, name: &[u8]) -> Option<&Value> {
-        self.get(name)
     }
 
     fn insert_value(&mut self, alloc: Global, name: &[u8], value: Value) -> Result<(), AllocError> {
@@ -43,19 +54,24 @@ impl NameMap for HashMap<Vec<u8>, Value> {
         match self.insert(name, value) {
             Ok(_) => Ok(()),
             Err(_) => Err(AllocError),
+        }
+    }
+}
+
+impl NamedValues for BTreeMap<Vec<u8>, Value> {
+    ghost values = { λ entries. value_map entries.entries };
+
+    fn value_of(&self, name: &[u8]) -> Option<ValueRef<'_>> {
+        match BTreeMap::get(self, name) {
+            Some(value) => Some(value.borrowed()),
+            None => None,
         }
     }
 }
 
 impl NameMap for BTreeMap<Vec<u8>, Value> {
-    ghost values = { λ entries. value_map entries.entries };
-
     fn without_names(alloc: Global) -> BTreeMap<Vec<u8>, Value> {
         BTreeMap::new(alloc)
-    }
-
-    fn value_of(&self, name: &[u8]) -> Option<&Value> {
-        BTreeMap::get(self, name)
     }
 
     fn insert_value(&mut self, alloc: Global, name: &[u8], value: Value) -> Result<(), AllocError> {
@@ -67,8 +83,45 @@ impl NameMap for BTreeMap<Vec<u8>, Value> {
     }
 }
 
-/// Whether the name is in the map.
-pub fn has_name<M: NameMap>(entries: &M, name: &[u8]) -> bool
+/// Pairs of a name and a value, both borrowed. Of pairs of one name the first counts. A value is
+/// found by a walk over the pairs.
+#[derive(Drop)]
+pub struct NamedPairs<'p>(pub &'p [(&'p [u8], ValueRef<'p>)]);
+
+impl NamedValues for NamedPairs<'_> {
+    ghost values = { λ pairs. pair_map pairs.0.now };
+
+    fn value_of(&self, name: &[u8]) -> Option<ValueRef<'_>> {
+        for pair in self.0 {
+            if name == pair.0 {
+                return Some(pair.1);
+            }
+        }
+        None
+    }
+}
+
+impl<'p> NamedPairs<'p> {
+    /// The index of the first pair whose name is that of an earlier one. If there is none, the
+    /// pairs give what [`Params::from_pairs`](crate::params::Params::from_pairs) makes of them; it
+    /// refuses them otherwise, with that name. Each pair is compared with those before it.
+    pub fn first_redefined(&self) -> Option<usize>
+        ensures { MatchOption result
+            (pairs_made (map seen_pair self.now.0.now) ≡ Ok (named (pair_map self.now.0.now)))
+            (IsFirstRedefined self.now.0.now) }
+    {
+        let pairs = self.0;
+        for (i, pair) in pairs.iter().enumerate() {
+            if has_name(&NamedPairs(&pairs[..i]), pair.0) {
+                return Some(i);
+            }
+        }
+        None
+    }
+}
+
+/// Whether the name has a value.
+pub fn has_name<M: NamedValues>(entries: &M, name: &[u8]) -> bool
     ensures { result ≡ contains_key (M.values entries.now) name.now }
 {
     entries.value_of(name).is_some()

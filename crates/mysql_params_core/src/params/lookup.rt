@@ -9,7 +9,7 @@ ghost use Rattle.mysql_params_core.specs.Given.{given, value_map, named};
 ghost use Rattle.mysql_params_core.specs.Lookup.{lookup, missing, positional_of, values_at, LookupTakesMemory, PositionTakesMemory};
 ghost use Rattle.mysql_params_core.specs.Names.{names_of, listed_names, missing_name};
 
-use crate::params::entries::{NameMap, has_name};
+use crate::params::entries::{NamedValues, has_name};
 use crate::params::{
     IntoPositionalError, MissingNamedParameterError, Params, ParamsConfusionError, ParamsError,
     ToName,
@@ -136,7 +136,7 @@ fn first_absent(entries: &HashMap<Vec<u8>, Value>, names: &[Vec<u8>]) -> Option<
 
 // The name that is reported as missing. `first` is the index of the first name that is not in the
 // map.
-pub(crate) fn reported_name<'n, M: NameMap, N: ToName>(
+pub(crate) fn reported_name<'n, M: NamedValues, N: ToName>(
     entries: &M,
     names: &'n [N],
     first: usize,
@@ -152,7 +152,7 @@ pub(crate) fn reported_name<'n, M: NameMap, N: ToName>(
 }
 
 // Whether any of the names is in the map.
-fn has_any<M: NameMap, N: ToName>(entries: &M, names: &[N]) -> bool
+fn has_any<M: NamedValues, N: ToName>(entries: &M, names: &[N]) -> bool
     ensures { result
         ≡ list_any (λ name. contains_key (M.values entries.now) (N.name name)) names.now }
 {

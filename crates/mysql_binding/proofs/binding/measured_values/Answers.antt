@@ -1,4 +1,4 @@
-use Rattle.mysql_params_core.specs.Referents.{referents}
+use Rattle.mysql_values.specs.BorrowedValue.{owned_values}
 use Rattle.mysql_binding.proofs.AppendedTextLemmas.{found_looked_up, found_refused}
 use Rattle.mysql_binding.proofs.MeasuredTextLemmas.{is_measured}
 use Rattle.mysql_binding.proofs.binding.measured_values.Goals as goal
@@ -6,10 +6,10 @@ use Rattle.mysql_binding.proofs.binding.measured_values.Goals as goal
 pub returns-in-Ok-clause-measured : goal.returns-in-Ok-clause-measured
 returns-in-Ok-clause-measured g c mode query given surveyed found =
     is_measured mode (g.F.LiteralForm.literal c.args.form.now) query given c.args.survey c.args.values.items c.in-Ok.measured surveyed
-    (found_looked_up mode query given c.args.survey (referents c.args.values.items) surveyed found (rw c.as_slice.ensures.value at c.in_default.ensures.cause))
+    (found_looked_up mode query given c.args.survey (owned_values c.args.values.items) surveyed found (rw c.as_slice.ensures.value at c.in_default.ensures.cause))
     c.in-Ok.ensures.values c.in-Ok.ensures.in_range c.in-Ok.ensures.lens c.in-Ok.ensures.len c.in-Ok.ensures.fits
 
 pub returns-in-Some-clause-refused : goal.returns-in-Some-clause-refused
 returns-in-Some-clause-refused g c mode query given surveyed found =
-    found_refused mode query given c.args.survey (referents c.args.values.items) c.in-Some.error surveyed found
+    found_refused mode query given c.args.survey (owned_values c.args.values.items) c.in-Some.error surveyed found
     (rw c.as_slice.ensures.value at c.in-Some.ensures.cause)

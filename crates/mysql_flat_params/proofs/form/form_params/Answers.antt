@@ -17,11 +17,11 @@ named_params-requires g c =
 
 pub returns-then-is_empty-2-clause-params : goal.returns-then-is_empty-2-clause-params
 returns-then-is_empty-2-clause-params g c =
-    params_after_first _ _ _ c.in_ok-name.ensures.name _ _ c.in_ok-value.ensures (not_empty _ c.if-is_empty.ensures.empty.1) (given_in_form g.M.NameMap.values) _ (first_by_position _ _ c.if-is_empty-2.ensures) _ c.positional_params.ensures.params
+    params_after_first _ _ _ c.in_ok-name.ensures.name _ _ c.in_ok-value.ensures (not_empty _ c.if-is_empty.ensures.empty.1) (given_in_form g.M.NamedValues.values) _ (first_by_position _ _ c.if-is_empty-2.ensures) _ c.positional_params.ensures.params
 
 pub returns-else-is_empty-2-clause-params : goal.returns-else-is_empty-2-clause-params
 returns-else-is_empty-2-clause-params g c =
-    params_after_first _ _ _ c.in_ok-name.ensures.name _ _ c.in_ok-value.ensures (not_empty _ c.if-is_empty.ensures.empty.1) (given_in_form g.M.NameMap.values) _ (first_by_name _ _ c.if-is_empty-2.ensures) _ c.named_params.ensures.params
+    params_after_first _ _ _ c.in_ok-name.ensures.name _ _ c.in_ok-value.ensures (not_empty _ c.if-is_empty.ensures.empty.1) (given_in_form g.M.NamedValues.values) _ (first_by_name _ _ c.if-is_empty-2.ensures) _ c.named_params.ensures.params
 
 pub returns-then-is_empty-2-clause-refused : goal.returns-then-is_empty-2-clause-refused
 returns-then-is_empty-2-clause-refused g c =

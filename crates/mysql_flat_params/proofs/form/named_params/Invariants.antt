@@ -6,7 +6,7 @@ use Rattle.mysql_flat_params.proofs.form.named_params.Given as goal
 
 abbrev pub invariant-loop-rest : goal.invariant-loop-rest
 invariant-loop-rest g l =
-    LeadsTo l.total 1 (named (finite.insert finite.empty l.fn.name l.fn.first)) l.fn.rest.0.now l.place (named (g.M.NameMap.values l.entries)) l.rest.0.now
+    LeadsTo l.total 1 (named (finite.insert finite.empty l.fn.name l.fn.first)) l.fn.rest.0.now l.place (named (g.M.NamedValues.values l.entries)) l.rest.0.now
     × (l.place + length l.rest.0.now ≤ l.total)
 
 abbrev pub decreases-loop-rest : goal.decreases-loop-rest

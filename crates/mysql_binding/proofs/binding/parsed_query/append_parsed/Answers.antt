@@ -1,6 +1,6 @@
 use Rattle.std.proofs.Common.{subst}
 use Rattle.mysql_named_params.specs.Tokens.{OnTokens}
-use Rattle.mysql_params_core.specs.Referents.{referents}
+use Rattle.mysql_values.specs.BorrowedValue.{owned_values}
 use Rattle.mysql_binding.specs.AppendedText.{AreFound}
 use Rattle.mysql_binding.specs.BindErrors.{IsCauseOrMemory}
 use Rattle.mysql_binding.specs.FirstCause.{first_cause}
@@ -18,7 +18,7 @@ returns-in-Ok-clause-appended g c =
       text = a.0;
       bytes = a.1;
       of_given = λ given.
-          subst (λ (v : QueryInMode). OnTokens v.mode v.query (AreFound given (referents c.args.values.items)) → OnTokens v.mode v.query (λ ts. IsGivenText (g.F.LiteralForm.literal c.args.form.now) (g.F.LiteralForm.IsKnown c.args.form.now) ts given a.0))
+          subst (λ (v : QueryInMode). OnTokens v.mode v.query (AreFound given (owned_values c.args.values.items)) → OnTokens v.mode v.query (λ ts. IsGivenText (g.F.LiteralForm.literal c.args.form.now) (g.F.LiteralForm.IsKnown c.args.form.now) ts given a.0))
           c.query.view_is (λ o. text_of given (c.in_ok-measured.ensures.measured _ _ given (i.0, i.1, i.2.0) o));
     }
 
@@ -26,5 +26,5 @@ pub returns-in_err-measured-clause-refused : goal.returns-in_err-measured-clause
 returns-in_err-measured-clause-refused g c =
     let i = c.query.invariant in
     handed_on _ c.from_residual.result c.in_err-measured.field-0.0 c.from_residual.ensures.1 (λ given.
-    subst (λ (v : QueryInMode). OnTokens v.mode v.query (AreFound given (referents c.args.values.items)) → OnTokens v.mode v.query (λ ts. IsCauseOrMemory (first_cause ts given) c.in_err-measured.field-0.0))
+    subst (λ (v : QueryInMode). OnTokens v.mode v.query (AreFound given (owned_values c.args.values.items)) → OnTokens v.mode v.query (λ ts. IsCauseOrMemory (first_cause ts given) c.in_err-measured.field-0.0))
     c.query.view_is (c.in_err-measured.ensures.refused _ _ given (i.0, i.1, i.2.0)))

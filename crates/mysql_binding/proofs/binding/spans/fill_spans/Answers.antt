@@ -1,27 +1,29 @@
 use Rattle.std.proofs.Common.{◌∙◌, rules}
+use Rattle.mysql_value_core.specs.declared.value.borrowed.ValueRef.TheVariants.{NULL}
+use Rattle.mysql_binding.proofs.FilledTextLemmas.{item_is}
 use Rattle.mysql_binding.proofs.SpanTextLemmas.{value_no_float, value_len, span_literal_fits, spans_filled_more, spans_filled_all}
 use Rattle.mysql_binding.proofs.binding.spans.fill_spans.Goals as goal
 
 pub append_literal-at-requires-clause-no_float : goal.append_literal-at-requires-clause-no_float
 append_literal-at-requires-clause-no_float g c =
-    value_no_float _ _ _ _ _ _ _ _ _ c.loop-i.invariant (rw c.deref-value-items.ensures.value at c.loop-i-test.true) c.value-item.result (rw c.deref-value-items.ensures.value at c.value-item.is)
+    value_no_float _ _ _ _ _ _ _ _ _ c.loop-i.invariant (rw c.deref-value-items.ensures.value at c.loop-i-test.true) _ (item_is c.deref-value-items.result.now _ c.loop-i.i NULL c.loop-i-test.true c.deref-value-items.ensures.value)
 
 pub append_literal-at-requires-clause-len : goal.append_literal-at-requires-clause-len
 append_literal-at-requires-clause-len g c =
-    value_len _ _ _ _ _ _ _ _ _ c.loop-i.invariant (rw c.deref-value-items.ensures.value at c.loop-i-test.true) c.value-item.result (rw c.deref-value-items.ensures.value at c.value-item.is) _
+    value_len _ _ _ _ _ _ _ _ _ c.loop-i.invariant (rw c.deref-value-items.ensures.value at c.loop-i-test.true) _ (item_is c.deref-value-items.result.now _ c.loop-i.i NULL c.loop-i-test.true c.deref-value-items.ensures.value) _
     (c.as_slice-lens.ensures.value ∙ c.requires.ready.lens_are)
 
 pub append_literal-at-requires-clause-room : goal.append_literal-at-requires-clause-room
 append_literal-at-requires-clause-room g c =
-    span_literal_fits _ _ _ _ _ _ _ _ _ c.loop-i.invariant (rw c.deref-value-items.ensures.value at c.loop-i-test.true) c.value-item.result (rw c.deref-value-items.ensures.value at c.value-item.is) _ _ c.cut.ensures.before
+    span_literal_fits _ _ _ _ _ _ _ _ _ c.loop-i.invariant (rw c.deref-value-items.ensures.value at c.loop-i-test.true) _ (item_is c.deref-value-items.result.now _ c.loop-i.i NULL c.loop-i-test.true c.deref-value-items.ensures.value) _ _ c.cut.ensures.before
     _ _ c.append_piece-at.ensures.next (search rules) c.append_piece-at.ensures.front _
-    (value_len _ _ _ _ _ _ _ _ _ c.loop-i.invariant (rw c.deref-value-items.ensures.value at c.loop-i-test.true) c.value-item.result (rw c.deref-value-items.ensures.value at c.value-item.is) _ (c.as_slice-lens.ensures.value ∙ c.requires.ready.lens_are))
+    (value_len _ _ _ _ _ _ _ _ _ c.loop-i.invariant (rw c.deref-value-items.ensures.value at c.loop-i-test.true) _ (item_is c.deref-value-items.result.now _ c.loop-i.i NULL c.loop-i-test.true c.deref-value-items.ensures.value) _ (c.as_slice-lens.ensures.value ∙ c.requires.ready.lens_are))
 
 pub loop-i-preserved : goal.loop-i-preserved
 loop-i-preserved g c =
-    spans_filled_more _ _ _ _ _ _ _ _ _ c.loop-i.invariant (rw c.deref-value-items.ensures.value at c.loop-i-test.true) c.value-item.result (rw c.deref-value-items.ensures.value at c.value-item.is) _ _ c.cut.ensures.before
+    spans_filled_more _ _ _ _ _ _ _ _ _ c.loop-i.invariant (rw c.deref-value-items.ensures.value at c.loop-i-test.true) _ (item_is c.deref-value-items.result.now _ c.loop-i.i NULL c.loop-i-test.true c.deref-value-items.ensures.value) _ _ c.cut.ensures.before
     _ _ c.append_piece-at.ensures.next (search rules) c.append_piece-at.ensures.front _ _ _ _ c.cut.ensures.after
-    (value_len _ _ _ _ _ _ _ _ _ c.loop-i.invariant (rw c.deref-value-items.ensures.value at c.loop-i-test.true) c.value-item.result (rw c.deref-value-items.ensures.value at c.value-item.is) _ (c.as_slice-lens.ensures.value ∙ c.requires.ready.lens_are))
+    (value_len _ _ _ _ _ _ _ _ _ c.loop-i.invariant (rw c.deref-value-items.ensures.value at c.loop-i-test.true) _ (item_is c.deref-value-items.result.now _ c.loop-i.i NULL c.loop-i-test.true c.deref-value-items.ensures.value) _ (c.as_slice-lens.ensures.value ∙ c.requires.ready.lens_are))
     c.append_literal-at.ensures.next (search rules) c.append_literal-at.ensures.literal c.append_literal-at.ensures.known c.append_literal-at.ensures.front
 
 pub returns : goal.returns

@@ -1,8 +1,9 @@
 use Rattle.std.proofs.Common.{◌+◌, drop, refl, rules, arith}
+use Rattle.mysql_value_core.specs.declared.value.borrowed.ValueRef.TheVariants.{NULL}
 use Rattle.mysql_binding.specs.FoundPlaces.{BeginWithPlaces}
 use Rattle.mysql_binding.proofs.FoundPlacesLemmas.{rest_after}
 use Rattle.mysql_binding.proofs.WrittenTextLemmas.{written_none}
-use Rattle.mysql_binding.proofs.FilledTextLemmas.{fill_place_left, fill_no_float, fill_len, piece_fits, literal_fits, filled_more, last_fits, filled_all}
+use Rattle.mysql_binding.proofs.FilledTextLemmas.{item_is, fill_place_left, fill_no_float, fill_len, piece_fits, literal_fits, filled_more, last_fits, filled_all}
 use Rattle.mysql_binding.proofs.binding.text.fill_text.Goals as goal
 
 pub loop-i-init : goal.loop-i-init
@@ -21,27 +22,27 @@ unreachable-requires g c =
 
 pub append_piece-at-requires : goal.append_piece-at-requires
 append_piece-at-requires g c =
-    piece_fits _ _ _ _ _ _ _ _ _ c.loop-i.invariant.0 c.loop-i-test.true c.index-values-i.result c.index-values-i.is _ c.in-Some.ensures.place _ c.cut.ensures.before
+    piece_fits _ _ _ _ _ _ _ _ _ c.loop-i.invariant.0 c.loop-i-test.true _ (item_is c.args.values.now c.args.values.now c.loop-i.i NULL c.loop-i-test.true refl) _ c.in-Some.ensures.place _ c.cut.ensures.before
 
 pub append_literal-at-requires-clause-no_float : goal.append_literal-at-requires-clause-no_float
 append_literal-at-requires-clause-no_float g c =
-    fill_no_float _ _ _ _ _ _ _ _ _ c.loop-i.invariant.0 c.loop-i-test.true c.index-values-i.result c.index-values-i.is
+    fill_no_float _ _ _ _ _ _ _ _ _ c.loop-i.invariant.0 c.loop-i-test.true _ (item_is c.args.values.now c.args.values.now c.loop-i.i NULL c.loop-i-test.true refl)
 
 pub append_literal-at-requires-clause-len : goal.append_literal-at-requires-clause-len
 append_literal-at-requires-clause-len g c =
-    fill_len _ _ _ _ _ _ _ _ _ c.loop-i.invariant.0 c.loop-i-test.true c.index-values-i.result c.index-values-i.is _ c.requires.lens
+    fill_len _ _ _ _ _ _ _ _ _ c.loop-i.invariant.0 c.loop-i-test.true _ (item_is c.args.values.now c.args.values.now c.loop-i.i NULL c.loop-i-test.true refl) _ c.requires.lens
 
 pub append_literal-at-requires-clause-room : goal.append_literal-at-requires-clause-room
 append_literal-at-requires-clause-room g c =
-    literal_fits _ _ _ _ _ _ _ _ _ c.loop-i.invariant.0 c.loop-i-test.true c.index-values-i.result c.index-values-i.is _ c.in-Some.ensures.place _ c.cut.ensures.before
+    literal_fits _ _ _ _ _ _ _ _ _ c.loop-i.invariant.0 c.loop-i-test.true _ (item_is c.args.values.now c.args.values.now c.loop-i.i NULL c.loop-i-test.true refl) _ c.in-Some.ensures.place _ c.cut.ensures.before
     _ _ c.append_piece-at.ensures.next (search rules) c.append_piece-at.ensures.front _
-    (fill_len _ _ _ _ _ _ _ _ _ c.loop-i.invariant.0 c.loop-i-test.true c.index-values-i.result c.index-values-i.is _ c.requires.lens)
+    (fill_len _ _ _ _ _ _ _ _ _ c.loop-i.invariant.0 c.loop-i-test.true _ (item_is c.args.values.now c.args.values.now c.loop-i.i NULL c.loop-i-test.true refl) _ c.requires.lens)
 
 pub loop-i-preserved : goal.loop-i-preserved
 loop-i-preserved g c = (
-  filled_more _ _ _ _ _ _ _ _ _ c.loop-i.invariant.0 c.loop-i-test.true c.index-values-i.result c.index-values-i.is _ c.in-Some.ensures.place _ c.cut.ensures.before
+  filled_more _ _ _ _ _ _ _ _ _ c.loop-i.invariant.0 c.loop-i-test.true _ (item_is c.args.values.now c.args.values.now c.loop-i.i NULL c.loop-i-test.true refl) _ c.in-Some.ensures.place _ c.cut.ensures.before
       _ _ c.append_piece-at.ensures.next (search rules) c.append_piece-at.ensures.front _ _ _ _ c.cut.ensures.after
-      (fill_len _ _ _ _ _ _ _ _ _ c.loop-i.invariant.0 c.loop-i-test.true c.index-values-i.result c.index-values-i.is _ c.requires.lens)
+      (fill_len _ _ _ _ _ _ _ _ _ c.loop-i.invariant.0 c.loop-i-test.true _ (item_is c.args.values.now c.args.values.now c.loop-i.i NULL c.loop-i-test.true refl) _ c.requires.lens)
       c.append_literal-at.ensures.next (search rules) c.append_literal-at.ensures.literal c.append_literal-at.ensures.known
       c.append_literal-at.ensures.front,
   rest_after c.args.no_backslash_escape c.loop-i.rest.now _ (c.in-Some.found.before + c.in-Some.found.len) (BeginWithPlaces (drop (c.loop-i.i + 1) c.args.known.now)) c.cut.ensures.after c.in-Some.ensures.next,
