@@ -12,7 +12,7 @@ use Rattle.std.proofs.lemmas.List.{at_drop_more, at_drop_all, take_more, map-app
 use Rattle.std.proofs.lemmas.Option.{slice_get-get_or}
 use Rattle.mysql_value_core.specs.declared.value.borrowed.ValueRef.{ValueRef}
 use Rattle.mysql_value_core.specs.BorrowedValue.{owned}
-use Rattle.mysql_params_core.specs.Given.{by_borrowed, pair_map}
+use Rattle.mysql_params_core.specs.Given.{by_borrowed, pair_map, named}
 use Rattle.mysql_params_core.specs.Made.{with_pair, by_name, seen_pair, redefined, IsFirstRedefined}
 use Rattle.mysql_params_core.proofs.MakingLemmas.{fold-take-next, fold-refused_at}
 
@@ -102,9 +102,13 @@ module _ (pairs : List (Bor (List ℕ) × ValueRef)) (i : ℕ) (d : Bor (List �
   unfolding pair is
   made_no_more old =
       let here : with_pair (Ok (pair_map (take i pairs))) (seen_pair pair)
-      ≡ Err (redefined pair.0.now) = rw old refl in (
-        pair,
-        slice_get-get_or pairs i d below,
-        ap by_name (fold-refused_at with_pair (λ _ _. refl) (Ok finite.empty) seen_pair pairs i pair below is
-            (Ok (pair_map (take i pairs))) (redefined pair.0.now) before here),
-      )
+      ≡ Err (redefined pair.0.now) = rw old refl in record {
+        pair = pair;
+        stands = slice_get-get_or pairs i d below;
+        earlier = named (pair_map (take i pairs));
+        made = ap by_name before;
+        with_it = ap by_name (fold-take-next with_pair (λ _ _. refl) (Ok finite.empty) seen_pair pairs i pair below is
+            (Ok (pair_map (take i pairs))) before ∙ here);
+        refused = ap by_name (fold-refused_at with_pair (λ _ _. refl) (Ok finite.empty) seen_pair pairs i pair below is
+            (Ok (pair_map (take i pairs))) (redefined pair.0.now) before here);
+      }

@@ -1,5 +1,5 @@
 -- The parameters that arguments make.
-use Rattle.std.specs.Prelude.{◌≡◌, ℕ, map, slice_get, Some, List, [], ◌∷◌, ◌++◌, Result, Ok, Err, fold, if◌then◌else◌}
+use Rattle.std.specs.Prelude.{◌≡◌, ◌+◌, ℕ, map, take, slice_get, Some, List, [], ◌∷◌, ◌++◌, Result, Ok, Err, fold, if◌then◌else◌}
 use Rattle.std.specs.FinMap as finite
 use Rattle.std.specs.declared.time.Duration.{Duration}
 use Rattle.mysql_value_core.specs.declared.value.Value.{Value}
@@ -67,7 +67,14 @@ pairs_made pairs = by_name (fold with_pair (Ok finite.empty) pairs)
 abbrev pub seen_pair : Bor (List ℕ) × ValueRef → List ℕ × Meaning
 seen_pair pair = (pair.0.now, Ok (owned pair.1))
 
--- the name of the pair is that of an earlier one, and it is the first such pair
-abbrev pub IsFirstRedefined : List (Bor (List ℕ) × ValueRef) → ℕ → Type 0
-IsFirstRedefined pairs index = (pair : Bor (List ℕ) × ValueRef) × (slice_get pairs index ≡ Some pair)
-    × (pairs_made (map seen_pair pairs) ≡ Err (redefined pair.0.now))
+-- the pair of this number, from 0, is the first whose name is that of an earlier one
+pub record IsFirstRedefined (pairs : List (Bor (List ℕ) × ValueRef)) (index : ℕ) : Type 0 where
+  pub pair : Bor (List ℕ) × ValueRef
+  pub stands : slice_get pairs index ≡ Some pair
+  -- the pairs before it make parameters,
+  pub earlier : Given
+  pub made : pairs_made (take index (map seen_pair pairs)) ≡ Ok earlier
+  -- with it they make none, since its name is among theirs,
+  pub with_it : pairs_made (take (index + 1) (map seen_pair pairs)) ≡ Err (redefined pair.0.now)
+  -- and for this name all the pairs are refused
+  pub refused : pairs_made (map seen_pair pairs) ≡ Err (redefined pair.0.now)
