@@ -38,7 +38,7 @@ pub use crate::binding::literals::push_literal;
 pub use crate::binding::measured::MeasuredText;
 use crate::binding::measured::with_lengths;
 use crate::binding::names::query_names;
-pub use crate::binding::pairs::{BindPairsError, bind_pairs, bind_values};
+pub use crate::binding::pairs::{bind_pairs, bind_pairs_into, bind_values, bind_values_into};
 pub use crate::binding::parsed_query::{ParsedQuery, append_parsed};
 pub use crate::binding::room::{TextInRoom, bind_borrowed_into};
 pub use crate::binding::spans::{PlaceSpan, bind_spans_into, can_be_spans, place_spans};

@@ -14,6 +14,7 @@ ghost use Rattle.mysql_named_params.specs.FirstUnportableInClient.{AreSentAsThey
 ghost use Rattle.mysql_named_params.specs.Statements.{statements};
 ghost use Rattle.mysql_params_core.specs.Given.{Given, empty, positional};
 ghost use Rattle.mysql_binding.specs.BindErrors.{AreEqualBindErrors};
+ghost use Rattle.mysql_binding.specs.BoundPairs.{AreEqualBindPairsErrors};
 ghost use Rattle.mysql_binding.specs.BoundStatements.{statements_with_literals};
 ghost use Rattle.mysql_binding.specs.Isolation.{IsBoundText};
 ghost use Rattle.mysql_binding.specs.Pieces.{pieces, joined_text};
@@ -22,6 +23,7 @@ ghost use Rattle.mysql_binding.specs.ReadOnServer.{AreReadOn};
 ghost use Rattle.mysql_binding.specs.StandsAlone.{AllAlone, IsFirstNotAlone, first_not_alone};
 
 use crate::bind_error::BindError;
+use crate::bind_pairs_error::BindPairsError;
 use crate::binding::ParsedQuery;
 
 /// Whatever texts of the shape of literals stand in the places of a query, the tokens are the
@@ -158,6 +160,14 @@ pub fn first_not_alone_is_first()
 pub fn bind_error_equality(a: &BindError, b: &BindError) -> bool
     ensures same { IsTrue result ↔ AreEqualBindErrors a.now b.now }
     ensures member { result ≡ ⟦<BindError as PartialEq>⟧.eq a.now b.now }
+{
+    a == b
+}
+
+/// Errors of binding by pairs are equal if and only if variant and fields are.
+pub fn bind_pairs_error_equality(a: &BindPairsError, b: &BindPairsError) -> bool
+    ensures same { IsTrue result ↔ AreEqualBindPairsErrors a.now b.now }
+    ensures member { result ≡ ⟦<BindPairsError as PartialEq>⟧.eq a.now b.now }
 {
     a == b
 }

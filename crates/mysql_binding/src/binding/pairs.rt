@@ -1,34 +1,30 @@
-//! Queries bound from values that are borrowed.
-ghost use Rattle.std.specs.Prelude.{IfErr, IfOk};
+//! Queries bound from names and values that are borrowed.
+ghost use Rattle.std.specs.Prelude.{◌≡◌, IfErr, IfOk, IsErrOf, OnErr};
 ghost use Rattle.mysql_named_params.specs.Tokens.{OnTokens};
+ghost use Rattle.mysql_named_params.specs.Places.{HasMark, HasName};
 ghost use Rattle.mysql_params_core.specs.Given.{positional};
 ghost use Rattle.mysql_values.specs.BorrowedValue.{owned_values};
 ghost use Rattle.mysql_binding.specs.BindErrors.{IsCauseOrMemory};
 ghost use Rattle.mysql_binding.specs.BoundAgain.{IsSameBoundAgain, IsSameByPosition};
-ghost use Rattle.mysql_binding.specs.BoundPairs.{IsPairsRefusal, OfPairs};
+ghost use Rattle.mysql_binding.specs.BoundPairs.{IfPairs, IsPairsRefusal, OfPairs};
 ghost use Rattle.mysql_binding.specs.FirstCause.{first_cause};
 ghost use Rattle.mysql_binding.specs.Isolation.{IsBoundText};
+ghost use Rattle.mysql_binding.specs.TextInRoom.{HasTextOf, IsTextInRoom};
 
 use crate::bind_error::BindError;
+use crate::bind_pairs_error::BindPairsError;
 use crate::binding::bind_borrowed_in;
+use crate::binding::form::PlainForm;
+use crate::binding::room::{TextInRoom, bind_borrowed_into};
 use mysql_params_core::params::{BorrowedParams, NamedPairs};
 use mysql_values::value::ValueRef;
 use std::alloc::Global;
 
-/// Why [`bind_pairs`] gave no text.
-#[derive(Debug, PartialEq, Drop)]
-pub enum BindPairsError {
-    /// The pair of this number, from 0, has the name of an earlier one; it is the first such.
-    Redefined(usize),
-    /// What [`bind_text_in`](crate::bind_text_in) refuses.
-    Bind(BindError),
-}
-
-/// [`bind_text_in`](crate::bind_text_in) of named parameters that are borrowed, in pairs: neither a
-/// name nor a value is copied, and no map is made.
+/// [`bind_text_in`](crate::bind_text_in) of named parameters that are borrowed, in pairs: no name
+/// and no value is copied, and no map is made.
 ///
-/// A name that stands twice is refused before all else. Then it refuses what
-/// [`bind_text_in`](crate::bind_text_in) refuses.
+/// A name that is given twice is refused first. Then what [`bind_text_in`](crate::bind_text_in)
+/// refuses is refused, in its order.
 pub fn bind_pairs(
     alloc: Global,
     query: &[u8],
@@ -43,10 +39,14 @@ pub fn bind_pairs(
     ensures by_position { IfOk result (λ text. OfPairs pairs.now (λ given.
         OnTokens no_backslash_escape query.now (λ ts.
         IsSameByPosition no_backslash_escape ts given text.items))) }
+
+    // A query with a name and a mark is refused without allocating, once no name stands twice.
+    ensures mixed { IfPairs pairs.now (λ given. OnTokens no_backslash_escape query.now (λ ts.
+        HasName ts × HasMark ts → IsErrOf result (BindPairsError.Bind BindError.Mixed))) }
 {
     let named = NamedPairs(pairs);
     if let Some(index) = named.first_redefined() {
-        return Err(BindPairsError::Redefined(index));
+        return Err(BindPairsError::Redefined { index });
     }
     let params = BorrowedParams::Pairs(&named);
     match bind_borrowed_in(alloc, query, params, no_backslash_escape) {
@@ -55,8 +55,8 @@ pub fn bind_pairs(
     }
 }
 
-/// [`bind_text_in`](crate::bind_text_in) of borrowed values by position. It refuses what that
-/// refuses.
+/// [`bind_text_in`](crate::bind_text_in) of borrowed values by position: no value is copied. It
+/// refuses what that refuses.
 pub fn bind_values(
     alloc: Global,
     query: &[u8],
@@ -71,6 +71,10 @@ pub fn bind_values(
     ensures by_position { OnTokens no_backslash_escape query.now (λ ts. IfOk result (λ text.
         IsSameByPosition no_backslash_escape ts (positional (owned_values values.now))
         text.items)) }
+
+    // A query with a name and a mark is refused without allocating.
+    ensures mixed { OnTokens no_backslash_escape query.now (λ ts.
+        HasName ts × HasMark ts → IsErrOf result BindError.Mixed) }
 {
     bind_borrowed_in(
         alloc,
@@ -78,4 +82,64 @@ pub fn bind_values(
         BorrowedParams::Values(values),
         no_backslash_escape,
     )
+}
+
+/// [`bind_pairs`] into a room: the text is written to its front, without a vector for it, or its
+/// length is told if the room is shorter. What [`bind_pairs`] refuses is refused first, and leaves
+/// the room as it was.
+pub fn bind_pairs_into(
+    alloc: Global,
+    query: &[u8],
+    pairs: &[(&[u8], ValueRef<'_>)],
+    no_backslash_escape: bool,
+    room: &mut [u8],
+) -> Result<TextInRoom, BindPairsError>
+    ensures bound { IfOk result (λ told. OfPairs pairs.now (λ given.
+        OnTokens no_backslash_escape query.now (λ ts. IsTextInRoom
+        (IsBoundText no_backslash_escape ts given)
+        (HasTextOf (IsBoundText no_backslash_escape ts given)) room.old room.new told))) }
+    ensures refused { IfErr result (IsPairsRefusal no_backslash_escape query.now pairs.now) }
+    ensures mixed { IfPairs pairs.now (λ given. OnTokens no_backslash_escape query.now (λ ts.
+        HasName ts × HasMark ts → IsErrOf result (BindPairsError.Bind BindError.Mixed))) }
+    ensures unchanged { OnErr result (room.new ≡ room.old) }
+{
+    let named = NamedPairs(pairs);
+    if let Some(index) = named.first_redefined() {
+        return Err(BindPairsError::Redefined { index });
+    }
+    let form = PlainForm {
+        no_backslash_escape,
+    };
+    let params = BorrowedParams::Pairs(&named);
+    match bind_borrowed_into(alloc, query, params, no_backslash_escape, &form, room) {
+        Ok(told) => Ok(told),
+        Err(error) => Err(BindPairsError::Bind(error)),
+    }
+}
+
+/// [`bind_values`] into a room: the text is written to its front, without a vector for it, or its
+/// length is told if the room is shorter. What [`bind_values`] refuses is refused first, and leaves
+/// the room as it was.
+pub fn bind_values_into(
+    alloc: Global,
+    query: &[u8],
+    values: &[ValueRef<'_>],
+    no_backslash_escape: bool,
+    room: &mut [u8],
+) -> Result<TextInRoom, BindError>
+    ensures bound { OnTokens no_backslash_escape query.now (λ ts. IfOk result (IsTextInRoom
+        (IsBoundText no_backslash_escape ts (positional (owned_values values.now)))
+        (HasTextOf (IsBoundText no_backslash_escape ts (positional (owned_values values.now))))
+        room.old room.new)) }
+    ensures refused { OnTokens no_backslash_escape query.now (λ ts. IfErr result
+        (IsCauseOrMemory (first_cause ts (positional (owned_values values.now))))) }
+    ensures mixed { OnTokens no_backslash_escape query.now (λ ts.
+        HasName ts × HasMark ts → IsErrOf result BindError.Mixed) }
+    ensures unchanged { OnErr result (room.new ≡ room.old) }
+{
+    let form = PlainForm {
+        no_backslash_escape,
+    };
+    let params = BorrowedParams::Values(values);
+    bind_borrowed_into(alloc, query, params, no_backslash_escape, &form, room)
 }

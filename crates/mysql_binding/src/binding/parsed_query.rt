@@ -18,6 +18,8 @@ ghost use Rattle.mysql_binding.specs.SameQuery.{same_query_is_equivalence};
 ghost use Rattle.mysql_params_core.specs.Referents.{referents};
 ghost use Rattle.mysql_values.specs.BorrowedValue.{owned_values};
 
+mod pairs;
+
 use crate::bind_error::BindError;
 use crate::binding::form::LiteralForm;
 use crate::binding::found::all_places;

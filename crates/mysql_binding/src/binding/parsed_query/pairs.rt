@@ -1,0 +1,174 @@
+//! Parsed queries bound from names and values that are borrowed.
+ghost use Rattle.std.specs.Prelude.{◌≡◌, IfErr, IfOk, IsErrOf, OnErr, OnOk};
+ghost use Rattle.mysql_named_params.specs.Tokens.{OnTokens};
+ghost use Rattle.mysql_named_params.specs.Places.{HasMark, HasName};
+ghost use Rattle.mysql_params_core.specs.Given.{given_by_borrowed, positional};
+ghost use Rattle.mysql_values.specs.BorrowedValue.{owned_values};
+ghost use Rattle.mysql_binding.specs.BindErrors.{IsCauseOrMemory};
+ghost use Rattle.mysql_binding.specs.BoundAgain.{IsSameBoundAgain, IsSameByPosition};
+ghost use Rattle.mysql_binding.specs.BoundPairs.{IfPairs, IsBoundAfter, IsPairsRefusal, OfPairs};
+ghost use Rattle.mysql_binding.specs.FirstCause.{first_cause};
+ghost use Rattle.mysql_binding.specs.Isolation.{IsBoundText};
+
+use crate::bind_error::BindError;
+use crate::bind_pairs_error::BindPairsError;
+use crate::binding::form::PlainForm;
+use crate::binding::parsed_query::ParsedQuery;
+use crate::binding::text::append_measured;
+use crate::binding::{bind_surveyed, measured_text};
+use mysql_params_core::params::{BorrowedParams, NamedPairs};
+use mysql_values::value::ValueRef;
+use std::alloc::Global;
+
+impl<'q> ParsedQuery<'q> {
+    /// [`bind`](ParsedQuery::bind) of named parameters that are borrowed, in pairs, exactly as
+    /// [`bind_pairs`](crate::bind_pairs) binds them to the query in this mode. The query isn't
+    /// walked again.
+    pub fn bind_pairs(
+        &self,
+        alloc: Global,
+        pairs: &[(&[u8], ValueRef<'_>)],
+    ) -> Result<Vec<u8>, BindPairsError>
+        ensures bound { IfOk result (λ text. OfPairs pairs.now (λ given.
+            OnTokens self.now.mode self.now.query (λ ts.
+            IsBoundText self.now.mode ts given text.items))) }
+        ensures refused { IfErr result
+            (IsPairsRefusal self.now.mode self.now.query pairs.now) }
+        ensures bound_again { IfOk result (λ text. IsSameBoundAgain self.now.mode text.items) }
+        ensures by_position { IfOk result (λ text. OfPairs pairs.now (λ given.
+            OnTokens self.now.mode self.now.query (λ ts.
+            IsSameByPosition self.now.mode ts given text.items))) }
+
+        // A query with a name and a mark is refused without allocating, once no name stands twice.
+        ensures mixed { IfPairs pairs.now (λ given. OnTokens self.now.mode self.now.query (λ ts.
+            HasName ts × HasMark ts → IsErrOf result (BindPairsError.Bind BindError.Mixed))) }
+    {
+        let named = NamedPairs(pairs);
+        if let Some(index) = named.first_redefined() {
+            return Err(BindPairsError::Redefined { index });
+        }
+        match self.bind_borrowed(alloc, BorrowedParams::Pairs(&named)) {
+            Ok(text) => Ok(text),
+            Err(error) => Err(BindPairsError::Bind(error)),
+        }
+    }
+
+    /// [`bind`](ParsedQuery::bind) of borrowed values by position, exactly as
+    /// [`bind_values`](crate::bind_values) binds them to the query in this mode. The query isn't
+    /// walked again.
+    pub fn bind_values(&self, alloc: Global, values: &[ValueRef<'_>]) -> Result<Vec<u8>, BindError>
+        ensures bound { OnTokens self.now.mode self.now.query (λ ts. IfOk result (λ text.
+            IsBoundText self.now.mode ts (positional (owned_values values.now)) text.items)) }
+        ensures refused { OnTokens self.now.mode self.now.query (λ ts. IfErr result
+            (IsCauseOrMemory (first_cause ts (positional (owned_values values.now))))) }
+        ensures bound_again { IfOk result (λ text. IsSameBoundAgain self.now.mode text.items) }
+        ensures by_position { OnTokens self.now.mode self.now.query (λ ts. IfOk result (λ text.
+            IsSameByPosition self.now.mode ts (positional (owned_values values.now))
+            text.items)) }
+
+        // A query with a name and a mark is refused without allocating.
+        ensures mixed { OnTokens self.now.mode self.now.query (λ ts.
+            HasName ts × HasMark ts → IsErrOf result BindError.Mixed) }
+    {
+        self.bind_borrowed(alloc, BorrowedParams::Values(values))
+    }
+
+    /// [`bind_pairs`](ParsedQuery::bind_pairs) to the end of another text, which needs no vector of
+    /// its own then. If it is refused, that text stays as it is.
+    pub fn append_pairs(
+        &self,
+        alloc: Global,
+        pairs: &[(&[u8], ValueRef<'_>)],
+        text: &mut Vec<u8>,
+    ) -> Result<(), BindPairsError>
+        ensures appended { OnOk result (OfPairs pairs.now (λ given.
+            IsBoundAfter self.now.mode self.now.query given text.old.items text.new.items)) }
+        ensures refused { IfErr result
+            (IsPairsRefusal self.now.mode self.now.query pairs.now) }
+        ensures mixed { IfPairs pairs.now (λ given. OnTokens self.now.mode self.now.query (λ ts.
+            HasName ts × HasMark ts → IsErrOf result (BindPairsError.Bind BindError.Mixed))) }
+        ensures kept { OnErr result (text.new.items ≡ text.old.items) }
+    {
+        let named = NamedPairs(pairs);
+        if let Some(index) = named.first_redefined() {
+            return Err(BindPairsError::Redefined { index });
+        }
+        match self.append_borrowed(alloc, BorrowedParams::Pairs(&named), text) {
+            Ok(()) => Ok(()),
+            Err(error) => Err(BindPairsError::Bind(error)),
+        }
+    }
+
+    /// [`bind_values`](ParsedQuery::bind_values) to the end of another text, which needs no vector
+    /// of its own then. If it is refused, that text stays as it is.
+    pub fn append_values(
+        &self,
+        alloc: Global,
+        values: &[ValueRef<'_>],
+        text: &mut Vec<u8>,
+    ) -> Result<(), BindError>
+        ensures appended { OnOk result (IsBoundAfter self.now.mode self.now.query
+            (positional (owned_values values.now)) text.old.items text.new.items) }
+        ensures refused { OnTokens self.now.mode self.now.query (λ ts. IfErr result
+            (IsCauseOrMemory (first_cause ts (positional (owned_values values.now))))) }
+        ensures mixed { OnTokens self.now.mode self.now.query (λ ts.
+            HasName ts × HasMark ts → IsErrOf result BindError.Mixed) }
+        ensures kept { OnErr result (text.new.items ≡ text.old.items) }
+    {
+        self.append_borrowed(alloc, BorrowedParams::Values(values), text)
+    }
+
+    // The text of the query with borrowed parameters.
+    pub(super) fn bind_borrowed(
+        &self,
+        alloc: Global,
+        params: BorrowedParams<'_>,
+    ) -> Result<Vec<u8>, BindError>
+        ensures bound { OnTokens self.now.mode self.now.query (λ ts. IfOk result (λ text.
+            IsBoundText self.now.mode ts (given_by_borrowed params.entry) text.items)) }
+        ensures refused { OnTokens self.now.mode self.now.query (λ ts. IfErr result
+            (IsCauseOrMemory (first_cause ts (given_by_borrowed params.entry)))) }
+        ensures bound_again { IfOk result (λ text. IsSameBoundAgain self.now.mode text.items) }
+        ensures by_position { OnTokens self.now.mode self.now.query (λ ts. IfOk result (λ text.
+            IsSameByPosition self.now.mode ts (given_by_borrowed params.entry) text.items)) }
+        ensures mixed { OnTokens self.now.mode self.now.query (λ ts.
+            HasName ts × HasMark ts → IsErrOf result BindError.Mixed) }
+    {
+        bind_surveyed(
+            alloc,
+            self.query.as_slice(),
+            self.survey,
+            self.places.as_slice(),
+            params,
+            self.no_backslash_escape,
+        )
+    }
+
+    // The same to the end of another text.
+    fn append_borrowed(
+        &self,
+        alloc: Global,
+        params: BorrowedParams<'_>,
+        text: &mut Vec<u8>,
+    ) -> Result<(), BindError>
+        ensures appended { OnOk result (IsBoundAfter self.now.mode self.now.query
+            (given_by_borrowed params.entry) text.old.items text.new.items) }
+        ensures refused { OnTokens self.now.mode self.now.query (λ ts. IfErr result
+            (IsCauseOrMemory (first_cause ts (given_by_borrowed params.entry)))) }
+        ensures mixed { OnTokens self.now.mode self.now.query (λ ts.
+            HasName ts × HasMark ts → IsErrOf result BindError.Mixed) }
+        ensures kept { OnErr result (text.new.items ≡ text.old.items) }
+    {
+        let query = self.query.as_slice();
+        let places = self.places.as_slice();
+        let mode = self.no_backslash_escape;
+        let form = PlainForm {
+            no_backslash_escape: mode,
+        };
+        let measured = measured_text(alloc, query, self.survey, places, params, mode, &form)?;
+        match append_measured(query, places, &measured, mode, &form, text) {
+            Ok(()) => Ok(()),
+            Err(error) => Err(BindError::Memory(error)),
+        }
+    }
+}
