@@ -6,3 +6,4 @@ pub mod FirstBackslash
 pub mod BothModesText
 pub mod BothModesErrors
 pub mod Clear
+pub mod SteadyPairs

@@ -63,13 +63,39 @@ pub fn bind_text_in_both_modes(
         first_unportable ts ≡ None → HasName ts × HasMark ts →
         IsErrOf result (BothModesError.Bind BindError.Mixed)) }
 {
+    bind_borrowed_in_both_modes(alloc, query, params.borrowed())
+}
+
+/// [`bind_text_in_both_modes`] with borrowed parameters.
+pub(crate) fn bind_borrowed_in_both_modes(
+    alloc: Global,
+    query: &[u8],
+    params: BorrowedParams<'_>,
+) -> Result<Vec<u8>, BothModesError>
+    ensures bound { (mode : Bool) → OnTokens mode query.now (λ ts. IfOk result (λ text.
+        IsPortableInBothModes query.now ts (given_by_borrowed params.entry) text.items)) }
+    ensures refused { (mode : Bool) → OnTokens mode query.now (λ ts. IfErr result
+        (IsBothModesRefusal (first_backslash ts) (first_unportable ts)
+        (first_cause ts (given_by_borrowed params.entry)))) }
+    ensures bound_again { IfOk result (λ text. IsBoundAgainInBothModes text.items) }
+    ensures by_position { (mode : Bool) → OnTokens mode query.now (λ ts. IfOk result (λ text.
+        IsByPositionInBothModes mode ts (given_by_borrowed params.entry) text.items)) }
+    ensures backslash { (mode : Bool) → OnTokens mode query.now (λ ts.
+        (at : ℕ) → first_backslash ts ≡ Some at → IsErrOf result (BothModesError.Backslash at)) }
+    ensures unportable { (mode : Bool) → OnTokens mode query.now (λ ts. first_backslash ts ≡ None →
+        (found : unportable.Unportable) → first_unportable ts ≡ Some found →
+        IsErrOf result (BothModesError.Unportable found)) }
+    ensures mixed { (mode : Bool) → OnTokens mode query.now (λ ts. first_backslash ts ≡ None →
+        first_unportable ts ≡ None → HasName ts × HasMark ts →
+        IsErrOf result (BothModesError.Bind BindError.Mixed)) }
+{
     if let Some(at) = first_backslash(query) {
         return Err(BothModesError::Backslash { at });
     }
     if let Some(found) = first_unportable(query, true) {
         return Err(BothModesError::Unportable(found));
     }
-    match bind_agreed(alloc, query, params.borrowed()) {
+    match bind_agreed(alloc, query, params) {
         Ok(text) => Ok(text),
         Err(error) => Err(BothModesError::Bind(error)),
     }

@@ -20,10 +20,13 @@ ghost use Rattle.mysql_binding.specs.StandsAlone.{first_not_alone};
 ghost use Rattle.mysql_steady_text.specs.BothModesErrors.{AreEqualBothModesErrors};
 ghost use Rattle.mysql_steady_text.specs.BothModesText.{IsTextInBothModes};
 ghost use Rattle.mysql_steady_text.specs.SteadyLiterals.{AreSteadyLiterals};
+ghost use Rattle.mysql_steady_text.specs.SteadyPairs.{AreEqualBothModesPairsErrors, AreEqualSteadyPairsErrors};
 ghost use Rattle.mysql_steady_text.specs.SteadyText.{IsSteadyText};
 ghost use Rattle.mysql_steady_text.specs.SteadyTextErrors.{AreEqualSteadyTextErrors};
 
 use crate::both_modes_error::BothModesError;
+use crate::both_modes_pairs_error::BothModesPairsError;
+use crate::steady_pairs_error::SteadyPairsError;
 use crate::steady_text_error::SteadyTextError;
 
 /// Whatever texts of the shape of steady literals stand in the places of a query, if these stand
@@ -215,6 +218,23 @@ pub fn steady_text_error_equality(a: &SteadyTextError, b: &SteadyTextError) -> b
 pub fn both_modes_error_equality(a: &BothModesError, b: &BothModesError) -> bool
     ensures same { IsTrue result ↔ AreEqualBothModesErrors a.now b.now }
     ensures member { result ≡ ⟦<BothModesError as PartialEq>⟧.eq a.now b.now }
+{
+    a == b
+}
+
+/// Errors of binding pairs to a steady text are equal if and only if variant and fields are.
+pub fn steady_pairs_error_equality(a: &SteadyPairsError, b: &SteadyPairsError) -> bool
+    ensures same { IsTrue result ↔ AreEqualSteadyPairsErrors a.now b.now }
+    ensures member { result ≡ ⟦<SteadyPairsError as PartialEq>⟧.eq a.now b.now }
+{
+    a == b
+}
+
+/// Errors of binding pairs to a text for both modes are equal if and only if variant and fields
+/// are.
+pub fn both_modes_pairs_error_equality(a: &BothModesPairsError, b: &BothModesPairsError) -> bool
+    ensures same { IsTrue result ↔ AreEqualBothModesPairsErrors a.now b.now }
+    ensures member { result ≡ ⟦<BothModesPairsError as PartialEq>⟧.eq a.now b.now }
 {
     a == b
 }

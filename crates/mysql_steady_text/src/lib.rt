@@ -8,18 +8,27 @@
 
 mod both_modes;
 mod both_modes_error;
+mod both_modes_pairs_error;
 mod clear;
 pub mod first_backslash;
 pub mod laws;
+mod pairs;
 mod refusal;
 mod steady_form;
+mod steady_pairs_error;
 mod steady_text;
 mod steady_text_error;
 
 pub use both_modes::bind_text_in_both_modes;
 pub use both_modes_error::BothModesError;
+pub use both_modes_pairs_error::BothModesPairsError;
+pub use pairs::{
+    bind_pairs_anywhere, bind_pairs_in_any_mode, bind_pairs_in_both_modes, bind_values_anywhere,
+    bind_values_in_any_mode, bind_values_in_both_modes,
+};
 pub use refusal::query_refusal;
 pub use steady_form::SteadyForm;
+pub use steady_pairs_error::SteadyPairsError;
 pub use steady_text::{
     bind_borrowed_anywhere, bind_steady, bind_text_anywhere, bind_text_in_any_mode,
 };

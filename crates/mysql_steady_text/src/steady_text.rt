@@ -87,10 +87,7 @@ pub fn bind_text_in_any_mode(
     ensures mixed { (mode : Bool) → OnTokens mode query.now (λ ts. IsSteady query.now →
         HasName ts × HasMark ts → IsErrOf result (SteadyTextError.Bind BindError.Mixed)) }
 {
-    match first_unsteady(query) {
-        Some(at) => Err(SteadyTextError::Unsteady { at }),
-        None => bind_steady(alloc, query, params.borrowed()),
-    }
+    bind_borrowed_in_any_mode(alloc, query, params.borrowed())
 }
 
 /// [`bind_text_anywhere`] with borrowed parameters, lent to the crate above.
@@ -118,6 +115,30 @@ pub fn bind_borrowed_anywhere(
 {
     match query_refusal(query) {
         Some(error) => Err(error),
+        None => bind_steady(alloc, query, params),
+    }
+}
+
+/// [`bind_text_in_any_mode`] with borrowed parameters.
+pub(crate) fn bind_borrowed_in_any_mode(
+    alloc: Global,
+    query: &[u8],
+    params: BorrowedParams<'_>,
+) -> Result<Vec<u8>, SteadyTextError>
+    ensures bound { (mode : Bool) → OnTokens mode query.now (λ ts. IfOk result (λ text.
+        IsSteadyText ts (given_by_borrowed params.entry) text.items)) }
+    ensures refused { (mode : Bool) → OnTokens mode query.now (λ ts. IfErr result
+        (IsSteadyRefusal query.now None (first_cause ts (given_by_borrowed params.entry)))) }
+    ensures bound_again { IfOk result (λ text. IsSteadyBoundAgain text.items) }
+    ensures by_position { (mode : Bool) → OnTokens mode query.now (λ ts. IfOk result (λ text.
+        IsSteadyByPosition mode ts (given_by_borrowed params.entry) text.items)) }
+    ensures unsteady { (at : ℕ) → first_unsteady query.now ≡ Some at →
+        IsErrOf result (SteadyTextError.Unsteady at) }
+    ensures mixed { (mode : Bool) → OnTokens mode query.now (λ ts. IsSteady query.now →
+        HasName ts × HasMark ts → IsErrOf result (SteadyTextError.Bind BindError.Mixed)) }
+{
+    match first_unsteady(query) {
+        Some(at) => Err(SteadyTextError::Unsteady { at }),
         None => bind_steady(alloc, query, params),
     }
 }

@@ -1,0 +1,18 @@
+//! Why a query and borrowed pairs give no text for both modes.
+use crate::both_modes_error::BothModesError;
+use thiserror::Error;
+
+/// Why [`bind_pairs_in_both_modes`](crate::bind_pairs_in_both_modes) gave no text: the first cause,
+/// in this order.
+#[derive(Debug, PartialEq, Drop, Error)]
+pub enum BothModesPairsError {
+    /// The name of a pair is that of an earlier one; the first such pair is reported.
+    #[error("Redefinition of a named parameter by pair {index}")]
+    Redefined {
+        /// Its number among the pairs, from 0.
+        index: usize,
+    },
+    /// What [`bind_text_in_both_modes`](crate::bind_text_in_both_modes) refuses, or out of memory.
+    #[error(transparent)]
+    Bind(BothModesError),
+}

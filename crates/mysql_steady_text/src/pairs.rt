@@ -1,0 +1,222 @@
+//! Queries bound to steady texts, and to those for both modes, from names and values that are
+//! borrowed.
+ghost use Rattle.std.specs.Prelude.{◌≡◌, ℕ, Bool, None, Some, IfErr, IfOk, IsErrOf};
+ghost use Rattle.mysql_named_params.specs.Tokens.{OnTokens};
+ghost use Rattle.mysql_named_params.specs.Places.{HasMark, HasName};
+ghost use Rattle.mysql_named_params.specs.FirstUnportable.{first_unportable};
+ghost use Rattle.mysql_named_params.specs.Steady.{first_unsteady, IsSteady};
+ghost use Rattle.mysql_named_params.specs.declared.portable.Unportable as unportable;
+ghost use Rattle.mysql_params_core.specs.Given.{positional};
+ghost use Rattle.mysql_values.specs.BorrowedValue.{owned_values};
+ghost use Rattle.mysql_binding.specs.BoundPairs.{IfPairs, OfPairs};
+ghost use Rattle.mysql_binding.specs.FirstCause.{first_cause};
+ghost use Rattle.mysql_steady_text.specs.BothModesErrors.{IsBothModesRefusal};
+ghost use Rattle.mysql_steady_text.specs.BothModesText.{IsPortableInBothModes, IsBoundAgainInBothModes, IsByPositionInBothModes};
+ghost use Rattle.mysql_steady_text.specs.FirstBackslash.{first_backslash};
+ghost use Rattle.mysql_steady_text.specs.SteadyAgain.{IsSteadyBoundAgain, IsSteadyByPosition};
+ghost use Rattle.mysql_steady_text.specs.SteadyPairs.{IsBothModesPairsRefusal, IsSteadyPairsRefusal};
+ghost use Rattle.mysql_steady_text.specs.SteadyText.{IsAnywhereText, IsSteadyText};
+ghost use Rattle.mysql_steady_text.specs.SteadyTextErrors.{IsSteadyRefusal};
+
+use crate::both_modes::bind_borrowed_in_both_modes;
+use crate::both_modes_error::BothModesError;
+use crate::both_modes_pairs_error::BothModesPairsError;
+use crate::steady_pairs_error::SteadyPairsError;
+use crate::steady_text::{bind_borrowed_anywhere, bind_borrowed_in_any_mode};
+use crate::steady_text_error::SteadyTextError;
+use mysql_binding::BindError;
+use mysql_params_core::params::{BorrowedParams, NamedPairs};
+use mysql_values::value::ValueRef;
+use std::alloc::Global;
+
+/// [`bind_text_anywhere`](crate::bind_text_anywhere) of named parameters that are borrowed, in
+/// pairs: no name and no value is copied, and no map is made.
+///
+/// A name that is given twice is refused first. Then what
+/// [`bind_text_anywhere`](crate::bind_text_anywhere) refuses is refused, in its order.
+pub fn bind_pairs_anywhere(
+    alloc: Global,
+    query: &[u8],
+    pairs: &[(&[u8], ValueRef<'_>)],
+) -> Result<Vec<u8>, SteadyPairsError>
+    ensures bound { IfOk result (λ text. OfPairs pairs.now (λ given. (mode : Bool) →
+        OnTokens mode query.now (λ ts. IsAnywhereText query.now ts given text.items))) }
+    ensures refused { IfErr result
+        (IsSteadyPairsRefusal query.now first_unportable pairs.now) }
+    ensures bound_again { IfOk result (λ text. IsSteadyBoundAgain text.items) }
+    ensures by_position { IfOk result (λ text. OfPairs pairs.now (λ given. (mode : Bool) →
+        OnTokens mode query.now (λ ts. IsSteadyByPosition mode ts given text.items))) }
+
+    // These are refused without allocating, once no name stands twice.
+    ensures unsteady { IfPairs pairs.now (λ given. (at : ℕ) → first_unsteady query.now ≡ Some at →
+        IsErrOf result (SteadyPairsError.Bind (SteadyTextError.Unsteady at))) }
+    ensures unportable { IfPairs pairs.now (λ given. (mode : Bool) → OnTokens mode query.now (λ ts.
+        IsSteady query.now → (found : unportable.Unportable) → first_unportable ts ≡ Some found →
+        IsErrOf result (SteadyPairsError.Bind (SteadyTextError.Unportable found)))) }
+    ensures mixed { IfPairs pairs.now (λ given. (mode : Bool) → OnTokens mode query.now (λ ts.
+        IsSteady query.now → first_unportable ts ≡ None → HasName ts × HasMark ts →
+        IsErrOf result (SteadyPairsError.Bind (SteadyTextError.Bind BindError.Mixed)))) }
+{
+    let named = NamedPairs(pairs);
+    if let Some(index) = named.first_redefined() {
+        return Err(SteadyPairsError::Redefined { index });
+    }
+    match bind_borrowed_anywhere(alloc, query, BorrowedParams::Pairs(&named)) {
+        Ok(text) => Ok(text),
+        Err(error) => Err(SteadyPairsError::Bind(error)),
+    }
+}
+
+/// [`bind_text_anywhere`](crate::bind_text_anywhere) of borrowed values by position: no value is
+/// copied. It refuses what that refuses.
+pub fn bind_values_anywhere(
+    alloc: Global,
+    query: &[u8],
+    values: &[ValueRef<'_>],
+) -> Result<Vec<u8>, SteadyTextError>
+    ensures bound { (mode : Bool) → OnTokens mode query.now (λ ts. IfOk result (λ text.
+        IsAnywhereText query.now ts (positional (owned_values values.now)) text.items)) }
+    ensures refused { (mode : Bool) → OnTokens mode query.now (λ ts. IfErr result
+        (IsSteadyRefusal query.now (first_unportable ts)
+        (first_cause ts (positional (owned_values values.now))))) }
+    ensures bound_again { IfOk result (λ text. IsSteadyBoundAgain text.items) }
+    ensures by_position { (mode : Bool) → OnTokens mode query.now (λ ts. IfOk result (λ text.
+        IsSteadyByPosition mode ts (positional (owned_values values.now)) text.items)) }
+
+    // These are refused without allocating.
+    ensures unsteady { (at : ℕ) → first_unsteady query.now ≡ Some at →
+        IsErrOf result (SteadyTextError.Unsteady at) }
+    ensures unportable { (mode : Bool) → OnTokens mode query.now (λ ts. IsSteady query.now →
+        (found : unportable.Unportable) → first_unportable ts ≡ Some found →
+        IsErrOf result (SteadyTextError.Unportable found)) }
+    ensures mixed { (mode : Bool) → OnTokens mode query.now (λ ts. IsSteady query.now →
+        first_unportable ts ≡ None → HasName ts × HasMark ts →
+        IsErrOf result (SteadyTextError.Bind BindError.Mixed)) }
+{
+    bind_borrowed_anywhere(alloc, query, BorrowedParams::Values(values))
+}
+
+/// [`bind_pairs_anywhere`] for a query that is meant for one server, as
+/// [`bind_text_in_any_mode`](crate::bind_text_in_any_mode): the query needn't be portable, so
+/// `Unportable` never comes; all else is as there.
+pub fn bind_pairs_in_any_mode(
+    alloc: Global,
+    query: &[u8],
+    pairs: &[(&[u8], ValueRef<'_>)],
+) -> Result<Vec<u8>, SteadyPairsError>
+    ensures bound { IfOk result (λ text. OfPairs pairs.now (λ given. (mode : Bool) →
+        OnTokens mode query.now (λ ts. IsSteadyText ts given text.items))) }
+    ensures refused { IfErr result (IsSteadyPairsRefusal query.now (λ ts. None) pairs.now) }
+    ensures bound_again { IfOk result (λ text. IsSteadyBoundAgain text.items) }
+    ensures by_position { IfOk result (λ text. OfPairs pairs.now (λ given. (mode : Bool) →
+        OnTokens mode query.now (λ ts. IsSteadyByPosition mode ts given text.items))) }
+
+    // These are refused without allocating, once no name stands twice.
+    ensures unsteady { IfPairs pairs.now (λ given. (at : ℕ) → first_unsteady query.now ≡ Some at →
+        IsErrOf result (SteadyPairsError.Bind (SteadyTextError.Unsteady at))) }
+    ensures mixed { IfPairs pairs.now (λ given. (mode : Bool) → OnTokens mode query.now (λ ts.
+        IsSteady query.now → HasName ts × HasMark ts →
+        IsErrOf result (SteadyPairsError.Bind (SteadyTextError.Bind BindError.Mixed)))) }
+{
+    let named = NamedPairs(pairs);
+    if let Some(index) = named.first_redefined() {
+        return Err(SteadyPairsError::Redefined { index });
+    }
+    match bind_borrowed_in_any_mode(alloc, query, BorrowedParams::Pairs(&named)) {
+        Ok(text) => Ok(text),
+        Err(error) => Err(SteadyPairsError::Bind(error)),
+    }
+}
+
+/// [`bind_values_anywhere`] for a query that is meant for one server, as
+/// [`bind_text_in_any_mode`](crate::bind_text_in_any_mode): the query needn't be portable, so
+/// `Unportable` never comes; all else is as there.
+pub fn bind_values_in_any_mode(
+    alloc: Global,
+    query: &[u8],
+    values: &[ValueRef<'_>],
+) -> Result<Vec<u8>, SteadyTextError>
+    ensures bound { (mode : Bool) → OnTokens mode query.now (λ ts. IfOk result (λ text.
+        IsSteadyText ts (positional (owned_values values.now)) text.items)) }
+    ensures refused { (mode : Bool) → OnTokens mode query.now (λ ts. IfErr result
+        (IsSteadyRefusal query.now None (first_cause ts (positional (owned_values values.now))))) }
+    ensures bound_again { IfOk result (λ text. IsSteadyBoundAgain text.items) }
+    ensures by_position { (mode : Bool) → OnTokens mode query.now (λ ts. IfOk result (λ text.
+        IsSteadyByPosition mode ts (positional (owned_values values.now)) text.items)) }
+
+    // These are refused without allocating.
+    ensures unsteady { (at : ℕ) → first_unsteady query.now ≡ Some at →
+        IsErrOf result (SteadyTextError.Unsteady at) }
+    ensures mixed { (mode : Bool) → OnTokens mode query.now (λ ts. IsSteady query.now →
+        HasName ts × HasMark ts → IsErrOf result (SteadyTextError.Bind BindError.Mixed)) }
+{
+    bind_borrowed_in_any_mode(alloc, query, BorrowedParams::Values(values))
+}
+
+/// [`bind_text_in_both_modes`](crate::bind_text_in_both_modes) of named parameters that are
+/// borrowed, in pairs: no name and no value is copied, and no map is made.
+///
+/// A name that is given twice is refused first. Then what
+/// [`bind_text_in_both_modes`](crate::bind_text_in_both_modes) refuses is refused, in its order.
+pub fn bind_pairs_in_both_modes(
+    alloc: Global,
+    query: &[u8],
+    pairs: &[(&[u8], ValueRef<'_>)],
+) -> Result<Vec<u8>, BothModesPairsError>
+    ensures bound { IfOk result (λ text. OfPairs pairs.now (λ given. (mode : Bool) →
+        OnTokens mode query.now (λ ts. IsPortableInBothModes query.now ts given text.items))) }
+    ensures refused { IfErr result (IsBothModesPairsRefusal query.now pairs.now) }
+    ensures bound_again { IfOk result (λ text. IsBoundAgainInBothModes text.items) }
+    ensures by_position { IfOk result (λ text. OfPairs pairs.now (λ given. (mode : Bool) →
+        OnTokens mode query.now (λ ts. IsByPositionInBothModes mode ts given text.items))) }
+
+    // These are refused without allocating, once no name stands twice.
+    ensures backslash { IfPairs pairs.now (λ given. (mode : Bool) → OnTokens mode query.now (λ ts.
+        (at : ℕ) → first_backslash ts ≡ Some at →
+        IsErrOf result (BothModesPairsError.Bind (BothModesError.Backslash at)))) }
+    ensures unportable { IfPairs pairs.now (λ given. (mode : Bool) → OnTokens mode query.now (λ ts.
+        first_backslash ts ≡ None → (found : unportable.Unportable) →
+        first_unportable ts ≡ Some found →
+        IsErrOf result (BothModesPairsError.Bind (BothModesError.Unportable found)))) }
+    ensures mixed { IfPairs pairs.now (λ given. (mode : Bool) → OnTokens mode query.now (λ ts.
+        first_backslash ts ≡ None → first_unportable ts ≡ None → HasName ts × HasMark ts →
+        IsErrOf result (BothModesPairsError.Bind (BothModesError.Bind BindError.Mixed)))) }
+{
+    let named = NamedPairs(pairs);
+    if let Some(index) = named.first_redefined() {
+        return Err(BothModesPairsError::Redefined { index });
+    }
+    match bind_borrowed_in_both_modes(alloc, query, BorrowedParams::Pairs(&named)) {
+        Ok(text) => Ok(text),
+        Err(error) => Err(BothModesPairsError::Bind(error)),
+    }
+}
+
+/// [`bind_text_in_both_modes`](crate::bind_text_in_both_modes) of borrowed values by position: no
+/// value is copied. It refuses what that refuses.
+pub fn bind_values_in_both_modes(
+    alloc: Global,
+    query: &[u8],
+    values: &[ValueRef<'_>],
+) -> Result<Vec<u8>, BothModesError>
+    ensures bound { (mode : Bool) → OnTokens mode query.now (λ ts. IfOk result (λ text.
+        IsPortableInBothModes query.now ts (positional (owned_values values.now)) text.items)) }
+    ensures refused { (mode : Bool) → OnTokens mode query.now (λ ts. IfErr result
+        (IsBothModesRefusal (first_backslash ts) (first_unportable ts)
+        (first_cause ts (positional (owned_values values.now))))) }
+    ensures bound_again { IfOk result (λ text. IsBoundAgainInBothModes text.items) }
+    ensures by_position { (mode : Bool) → OnTokens mode query.now (λ ts. IfOk result (λ text.
+        IsByPositionInBothModes mode ts (positional (owned_values values.now)) text.items)) }
+
+    // These are refused without allocating.
+    ensures backslash { (mode : Bool) → OnTokens mode query.now (λ ts.
+        (at : ℕ) → first_backslash ts ≡ Some at → IsErrOf result (BothModesError.Backslash at)) }
+    ensures unportable { (mode : Bool) → OnTokens mode query.now (λ ts. first_backslash ts ≡ None →
+        (found : unportable.Unportable) → first_unportable ts ≡ Some found →
+        IsErrOf result (BothModesError.Unportable found)) }
+    ensures mixed { (mode : Bool) → OnTokens mode query.now (λ ts. first_backslash ts ≡ None →
+        first_unportable ts ≡ None → HasName ts × HasMark ts →
+        IsErrOf result (BothModesError.Bind BindError.Mixed)) }
+{
+    bind_borrowed_in_both_modes(alloc, query, BorrowedParams::Values(values))
+}

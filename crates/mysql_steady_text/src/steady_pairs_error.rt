@@ -1,0 +1,20 @@
+//! Why a query and borrowed pairs give no steady text.
+use crate::steady_text_error::SteadyTextError;
+use thiserror::Error;
+
+/// Why [`bind_pairs_anywhere`](crate::bind_pairs_anywhere) or
+/// [`bind_pairs_in_any_mode`](crate::bind_pairs_in_any_mode) gave no text: the first cause, in this
+/// order.
+#[derive(Debug, PartialEq, Drop, Error)]
+pub enum SteadyPairsError {
+    /// The name of a pair is that of an earlier one; the first such pair is reported.
+    #[error("Redefinition of a named parameter by pair {index}")]
+    Redefined {
+        /// Its number among the pairs, from 0.
+        index: usize,
+    },
+    /// What [`bind_text_anywhere`](crate::bind_text_anywhere) or
+    /// [`bind_text_in_any_mode`](crate::bind_text_in_any_mode) refuses, or out of memory.
+    #[error(transparent)]
+    Bind(SteadyTextError),
+}
