@@ -9,3 +9,4 @@ pub mod TakenLemmas
 pub mod BorrowedLemmas
 pub mod MakingLemmas
 mod PairLemmas
+mod SortedPairLemmas

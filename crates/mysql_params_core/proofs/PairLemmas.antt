@@ -81,20 +81,26 @@ module _ (pairs : List (Bor (List ℕ) × ValueRef)) (i : ℕ) (d : Bor (List �
   unfolding pair
   is = get_or_default pairs i d (get_or pairs i d) below
 
+  -- the map with a pair whose name is new
+  pub pair_map_more : contains_key (pair_map (take i pairs)) (get_or pairs i d).0.now ≡ false
+      → finite.insert (pair_map (take i pairs)) (get_or pairs i d).0.now (owned (get_or pairs i d).1)
+      ≡ pair_map (take (i + 1) pairs)
+  unfolding pair
+  pair_map_more new =
+      sym (ap pair_map (take_more pairs i d below) ∙ pair_map-push (take i pairs) pair (none_of _ new))
+
   -- a pair whose name is new
   pub made_more : contains_key (pair_map (take i pairs)) (get_or pairs i d).0.now ≡ false
       → fold with_pair (Ok finite.empty) (take (i + 1) (map seen_pair pairs))
       ≡ Ok (pair_map (take (i + 1) pairs))
   unfolding pair is
   made_more new =
-      let none : get (pair_map (take i pairs)) pair.0.now ≡ None = none_of _ new in
       let here : with_pair (Ok (pair_map (take i pairs))) (seen_pair pair)
       ≡ Ok (finite.insert (pair_map (take i pairs)) pair.0.now (owned pair.1)) = rw new refl in
-      let more : take (i + 1) pairs ≡ take i pairs ++ pair ∷ [] = take_more pairs i d below in
       fold-take-next with_pair (λ _ _. refl) (Ok finite.empty) seen_pair pairs i pair below is
       (Ok (pair_map (take i pairs))) before
       ∙ here
-      ∙ ap (λ m. Ok m) (sym (ap pair_map more ∙ pair_map-push (take i pairs) pair none))
+      ∙ ap (λ m. Ok m) (pair_map_more new)
 
   -- a pair whose name is not new
   pub made_no_more : contains_key (pair_map (take i pairs)) (get_or pairs i d).0.now ≡ true

@@ -67,6 +67,10 @@ pairs_made pairs = by_name (fold with_pair (Ok finite.empty) pairs)
 abbrev pub seen_pair : Bor (List ℕ) × ValueRef → List ℕ × Meaning
 seen_pair pair = (pair.0.now, Ok (owned pair.1))
 
+-- the greatest number of pairs among which names are found by walks, without memory
+abbrev pub few_pairs : ℕ
+few_pairs = 64
+
 -- the pair of this number, from 0, is the first whose name is that of an earlier one
 pub record IsFirstRedefined (pairs : List (Bor (List ℕ) × ValueRef)) (index : ℕ) : Type 0 where
   pub pair : Bor (List ℕ) × ValueRef

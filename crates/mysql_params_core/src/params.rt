@@ -10,6 +10,7 @@ mod pair_tuples;
 mod pairs;
 mod row;
 mod shown;
+mod sorted_pairs;
 mod to_params;
 mod tuples;
 

@@ -7,8 +7,9 @@ ghost use Rattle.mysql_params_core.specs.Lookup.{lookup, PlaceValuesTakeMemory};
 ghost use Rattle.mysql_params_core.specs.Referents.{referents};
 ghost use Rattle.mysql_values.specs.BorrowedValue.{owned_values};
 
-use crate::params::entries::{NamedPairs, NamedValues};
+use crate::params::entries::{FEW_PAIRS, NamedPairs, NamedValues};
 use crate::params::lookup::{missing_params_error, reported_name};
+use crate::params::sorted_pairs::sorted_place_values;
 use crate::params::{Params, ParamsConfusionError, ParamsError};
 use mysql_values::value::{Value, ValueRef};
 use std::alloc::{AllocError, Global};
@@ -82,7 +83,13 @@ pub fn place_values<'p>(
             }
         }
         BorrowedParams::Named(entries) => named_place_values(alloc, entries, names),
-        BorrowedParams::Pairs(pairs) => named_place_values(alloc, pairs, names),
+        BorrowedParams::Pairs(pairs) => {
+            if pairs.0.len() <= FEW_PAIRS {
+                named_place_values(alloc, pairs, names)
+            } else {
+                sorted_place_values(alloc, pairs.0, names)
+            }
+        }
         BorrowedParams::Sorted(entries) => named_place_values(alloc, entries, names),
     }
 }

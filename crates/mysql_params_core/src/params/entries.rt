@@ -1,10 +1,11 @@
 //! The entries of named parameters.
-ghost use Rattle.std.specs.Prelude.{◌≡◌, Ok, MatchOption, OnErr, OnOk, map, option_map};
+ghost use Rattle.std.specs.Prelude.{◌≡◌, ◌<◌, Ok, IfOk, MatchOption, OnErr, OnOk, length, map, option_map};
 ghost use Rattle.std.specs.FinMap.{contains_key, empty, get, insert};
 ghost use Rattle.mysql_params_core.specs.Given.{ValueMap, named, pair_map, value_map};
-ghost use Rattle.mysql_params_core.specs.Made.{pairs_made, seen_pair, IsFirstRedefined};
+ghost use Rattle.mysql_params_core.specs.Made.{few_pairs, pairs_made, seen_pair, IsFirstRedefined};
 ghost use Rattle.mysql_value_core.specs.BorrowedValue.{owned};
 
+use crate::params::sorted_pairs::first_redefined_sorted;
 use mysql_values::value::{Value, ValueRef};
 use std::alloc::{AllocError, Global};
 use std::collections::{BTreeMap, HashMap};
@@ -101,11 +102,29 @@ impl NamedValues for NamedPairs<'_> {
     }
 }
 
+/// Up to so many pairs are told apart, and found, sooner by walks than in a sorted map.
+pub(super) const FEW_PAIRS: usize = 64;
+
 impl<'p> NamedPairs<'p> {
     /// The index of the first pair whose name is that of an earlier one. If there is none, the
     /// pairs give what [`Params::from_pairs`](crate::params::Params::from_pairs) makes of them; it
-    /// refuses them otherwise, with that name. Each pair is compared with those before it.
-    pub fn first_redefined(&self) -> Option<usize>
+    /// refuses them otherwise, with that name. Only more than 64 pairs ask for memory: a sorted map
+    /// of them is made, and dropped.
+    pub fn first_redefined(&self, alloc: Global) -> Result<Option<usize>, AllocError>
+        ensures answer { IfOk result (λ found. MatchOption found
+            (pairs_made (map seen_pair self.now.0.now) ≡ Ok (named (pair_map self.now.0.now)))
+            (IsFirstRedefined self.now.0.now)) }
+        ensures memory { OnErr result (few_pairs < length self.now.0.now) }
+    {
+        if self.0.len() <= FEW_PAIRS {
+            Ok(self.first_redefined_by_walks())
+        } else {
+            first_redefined_sorted(alloc, self.0)
+        }
+    }
+
+    // The same of few pairs: each is compared with those before it.
+    fn first_redefined_by_walks(&self) -> Option<usize>
         ensures { MatchOption result
             (pairs_made (map seen_pair self.now.0.now) ≡ Ok (named (pair_map self.now.0.now)))
             (IsFirstRedefined self.now.0.now) }

@@ -1,6 +1,6 @@
 use Rattle.std.proofs.Common.{◌∙◌, sym}
 use Rattle.mysql_params_core.proofs.PairLemmas.{made_more, made_no_more}
-use Rattle.mysql_params_core.proofs.params.entries.NamedPairs.first_redefined.Goals as goal
+use Rattle.mysql_params_core.proofs.params.entries.NamedPairs.first_redefined_by_walks.Goals as goal
 
 pub returns-then-has_name : goal.returns-then-has_name
 returns-then-has_name c =

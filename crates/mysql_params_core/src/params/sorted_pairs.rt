@@ -1,0 +1,108 @@
+//! Borrowed pairs in a sorted map: for many of them, among which a walk for each name would be slow.
+ghost use Rattle.std.specs.Prelude.{◌≡◌, ◌<◌, Ok, IfOk, IsErrOf, MatchOption, alloc_error, length, map, option_map, ⊤};
+ghost use Rattle.std.specs.FinMap.{get};
+ghost use Rattle.mysql_wire_part.specs.Answer.{IsAnswer};
+ghost use Rattle.mysql_values.specs.BorrowedValue.{owned, owned_values};
+ghost use Rattle.mysql_params_core.specs.Errors.{lookup_refusal};
+ghost use Rattle.mysql_params_core.specs.Given.{named, pair_map};
+ghost use Rattle.mysql_params_core.specs.Lookup.{lookup};
+ghost use Rattle.mysql_params_core.specs.Made.{pairs_made, seen_pair, IsFirstRedefined};
+ghost use Rattle.mysql_params_core.specs.Referents.{referents};
+
+use crate::params::entries::{NamedValues, has_name};
+use crate::params::lookup::{missing_params_error, reported_name};
+use crate::params::{ParamsConfusionError, ParamsError};
+use mysql_values::value::ValueRef;
+use std::alloc::{AllocError, Global};
+use std::collections::BTreeMap;
+
+impl<'p> NamedValues for BTreeMap<&'p [u8], ValueRef<'p>> {
+    ghost values = { λ entries. pair_map entries.entries };
+
+    fn value_of(&self, name: &[u8]) -> Option<ValueRef<'_>> {
+        sorted_value(self, name)
+    }
+}
+
+// The value of a name, which outlives the map.
+fn sorted_value<'p>(entries: &BTreeMap<&'p [u8], ValueRef<'p>>, name: &[u8]) -> Option<ValueRef<'p>>
+    ensures { option_map owned result ≡ get (pair_map entries.now.entries) name.now }
+{
+    match BTreeMap::get(entries, name) {
+        Some(value) => Some(*value),
+        None => None,
+    }
+}
+
+/// The index of the first pair whose name is that of an earlier one: the name of each pair is
+/// looked for in a sorted map of those before it.
+pub(super) fn first_redefined_sorted<'p>(
+    alloc: Global,
+    pairs: &[(&'p [u8], ValueRef<'p>)],
+) -> Result<Option<usize>, AllocError>
+    ensures { IfOk result (λ found. MatchOption found
+        (pairs_made (map seen_pair pairs.now) ≡ Ok (named (pair_map pairs.now)))
+        (IsFirstRedefined pairs.now)) }
+{
+    let mut entries: BTreeMap<&'p [u8], ValueRef<'p>> = BTreeMap::new(alloc);
+    for (i, pair) in pairs.iter().enumerate() {
+        if has_name(&entries, pair.0) {
+            return Ok(Some(i));
+        }
+        match entries.insert(pair.0, pair.1) {
+            Ok(_) => {}
+            Err(_) => return Err(AllocError),
+        }
+    }
+    Ok(None)
+}
+
+// The pairs in a sorted map. Of pairs of one name it has the first, since they are inserted from
+// the last on.
+fn sorted_pairs<'p>(
+    alloc: Global,
+    pairs: &[(&'p [u8], ValueRef<'p>)],
+) -> Result<BTreeMap<&'p [u8], ValueRef<'p>>, AllocError>
+    ensures { IfOk result (λ entries. pair_map entries.entries ≡ pair_map pairs.now) }
+{
+    let mut entries: BTreeMap<&'p [u8], ValueRef<'p>> = BTreeMap::new(alloc);
+    let mut i = pairs.len();
+    while i > 0 {
+        i -= 1;
+        match entries.insert(pairs[i].0, pairs[i].1) {
+            Ok(_) => {}
+            Err(_) => return Err(AllocError),
+        }
+    }
+    Ok(entries)
+}
+
+/// What pairs give to a list of names: each name is looked up in a sorted map of them.
+pub(super) fn sorted_place_values<'p>(
+    alloc: Global,
+    pairs: &[(&'p [u8], ValueRef<'p>)],
+    names: &[&[u8]],
+) -> Result<Vec<ValueRef<'p>>, ParamsError>
+    ensures values { IsAnswer (λ values. owned_values values.items) lookup_refusal
+        (lookup (named (pair_map pairs.now)) (referents names.now)) ⊤ result }
+    ensures memory { IsErrOf result (ParamsError.Memory alloc_error) → 0 < length names.now }
+{
+    if names.is_empty() {
+        return Err(ParamsError::Confusion(ParamsConfusionError::NamedParamsForPositionalQuery));
+    }
+    let entries = match sorted_pairs(alloc, pairs) {
+        Ok(entries) => entries,
+        Err(error) => return Err(ParamsError::Memory(error)),
+    };
+    let mut values = Vec::with_capacity(alloc, names.len()).map_err(ParamsError::Memory)?;
+    for (i, name) in names.iter().enumerate() {
+        match sorted_value(&entries, *name) {
+            Some(value) => match values.push(value) {
+                Ok(()) => {}
+                Err(_) => return Err(ParamsError::Memory(AllocError)),
+            },
+            None => return Err(missing_params_error(alloc, reported_name(&entries, names, i))),
+        }
+    }
+    Ok(values)
+}
