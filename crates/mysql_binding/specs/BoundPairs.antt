@@ -1,13 +1,15 @@
 -- What binding by borrowed pairs gives and refuses, by what `Params::from_pairs` makes of the pairs.
-use Rattle.std.specs.Prelude.{◌≡◌, ◌++◌, ℕ, Bool, List, Ok, map}
+use Rattle.std.specs.Prelude.{◌≡◌, ◌≤◌, ◌<◌, ◌⊎◌, ◌++◌, ℕ, Bool, List, Ok, alloc_error, length, map}
 use Rattle.std.specs.Borrow.{Bor}
 use Rattle.mysql_values.specs.declared.value.ValueRef.{ValueRef}
 use Rattle.mysql_named_params.specs.Tokens.{OnTokens}
 use Rattle.mysql_params_core.specs.Given.{Given}
-use Rattle.mysql_params_core.specs.Made.{pairs_made, seen_pair, IsFirstRedefined}
+use Rattle.mysql_params_core.specs.Made.{few_pairs, pairs_made, seen_pair, IsFirstRedefined}
 use Rattle.mysql_binding.specs.BindErrors.{IsCauseOrMemory, AreEqualBindErrors}
 use Rattle.mysql_binding.specs.FirstCause.{first_cause}
 use Rattle.mysql_binding.specs.Isolation.{IsBoundText}
+use Rattle.mysql_binding.specs.declared.bind_error.BindError.{BindError}
+use Rattle.mysql_binding.specs.declared.bind_error.BindError.TheVariants.{Memory}
 use Rattle.mysql_binding.specs.declared.bind_pairs_error.BindPairsError.{BindPairsError}
 use Rattle.mysql_binding.specs.declared.bind_pairs_error.BindPairsError.TheVariants.{Redefined, Bind}
 
@@ -15,16 +17,22 @@ use Rattle.mysql_binding.specs.declared.bind_pairs_error.BindPairsError.TheVaria
 abbrev pub OfPairs : List (Bor (List ℕ) × ValueRef) → (Given → Type 0) → Type 0
 OfPairs pairs Holds = (given : Given) × (pairs_made (map seen_pair pairs) ≡ Ok given) × Holds given
 
--- if the pairs make parameters, this holds of what these give
-abbrev pub IfPairs : List (Bor (List ℕ) × ValueRef) → (Given → Type 0) → Type 0
-IfPairs pairs Holds = (given : Given) → pairs_made (map seen_pair pairs) ≡ Ok given → Holds given
+-- if the pairs are few and make parameters, this holds of what these give
+abbrev pub IfFewPairs : List (Bor (List ℕ) × ValueRef) → (Given → Type 0) → Type 0
+IfFewPairs pairs Holds = length pairs ≤ few_pairs → (given : Given) →
+    pairs_made (map seen_pair pairs) ≡ Ok given → Holds given
+
+-- the pairs are many, and the error is out of memory, which may come before they are told apart
+abbrev pub LacksOrder : List (Bor (List ℕ) × ValueRef) → BindError → Type 0
+LacksOrder pairs error = (few_pairs < length pairs) × (error ≡ Memory alloc_error)
 
 -- the pairs make no parameters, since the name of this pair stands before it too; or they make
--- parameters, and the error is the first cause to refuse these for the query, or out of memory
+-- parameters, and the error is the first cause to refuse these for the query, or out of memory; or
+-- they are many, and out of memory comes before they are told apart
 abbrev pub IsPairsRefusal : Bool → List ℕ → List (Bor (List ℕ) × ValueRef) → BindPairsError
     → Type 0
 IsPairsRefusal mode query pairs (Redefined index) = IsFirstRedefined pairs index
-IsPairsRefusal mode query pairs (Bind error) = OfPairs pairs (λ given.
+IsPairsRefusal mode query pairs (Bind error) = LacksOrder pairs error ⊎ OfPairs pairs (λ given.
     OnTokens mode query (λ ts. IsCauseOrMemory (first_cause ts given) error))
 
 -- after these bytes stands the bound text of the query, and nothing else

@@ -1,12 +1,13 @@
 //! Queries bound from names and values that are borrowed.
-ghost use Rattle.std.specs.Prelude.{◌≡◌, IfErr, IfOk, IsErrOf, OnErr};
+ghost use Rattle.std.specs.Prelude.{◌≡◌, ℕ, Bool, List, None, Ok, map, IfErr, IfOk, IfSome, IsErrOf, OnErr};
 ghost use Rattle.mysql_named_params.specs.Tokens.{OnTokens};
 ghost use Rattle.mysql_named_params.specs.Places.{HasMark, HasName};
-ghost use Rattle.mysql_params_core.specs.Given.{positional};
+ghost use Rattle.mysql_params_core.specs.Given.{named, pair_map, positional};
+ghost use Rattle.mysql_params_core.specs.Made.{pairs_made, seen_pair};
 ghost use Rattle.mysql_values.specs.BorrowedValue.{owned_values};
 ghost use Rattle.mysql_binding.specs.BindErrors.{IsCauseOrMemory};
 ghost use Rattle.mysql_binding.specs.BoundAgain.{IsSameBoundAgain, IsSameByPosition};
-ghost use Rattle.mysql_binding.specs.BoundPairs.{IfPairs, IsPairsRefusal, OfPairs};
+ghost use Rattle.mysql_binding.specs.BoundPairs.{IfFewPairs, IsPairsRefusal, OfPairs};
 ghost use Rattle.mysql_binding.specs.FirstCause.{first_cause};
 ghost use Rattle.mysql_binding.specs.Isolation.{IsBoundText};
 ghost use Rattle.mysql_binding.specs.TextInRoom.{HasTextOf, IsTextInRoom};
@@ -21,10 +22,11 @@ use mysql_values::value::ValueRef;
 use std::alloc::Global;
 
 /// [`bind_text_in`](crate::bind_text_in) of named parameters that are borrowed, in pairs: no name
-/// and no value is copied, and no map is made.
+/// and no value is copied. Names are told apart and found by walks over the pairs, without memory;
+/// of more than 64 pairs a sorted map is made.
 ///
 /// A name that is given twice is refused first. Then what [`bind_text_in`](crate::bind_text_in)
-/// refuses is refused, in its order.
+/// refuses is refused, in its order. Of more than 64 pairs out of memory may come before either.
 pub fn bind_pairs(
     alloc: Global,
     query: &[u8],
@@ -40,13 +42,14 @@ pub fn bind_pairs(
         OnTokens no_backslash_escape query.now (λ ts.
         IsSameByPosition no_backslash_escape ts given text.items))) }
 
-    // A query with a name and a mark is refused without allocating, once no name stands twice.
-    ensures mixed { IfPairs pairs.now (λ given. OnTokens no_backslash_escape query.now (λ ts.
+    // A query with a name and a mark is refused without allocating, once no name stands twice
+    // among few pairs.
+    ensures mixed { IfFewPairs pairs.now (λ given. OnTokens no_backslash_escape query.now (λ ts.
         HasName ts × HasMark ts → IsErrOf result (BindPairsError.Bind BindError.Mixed))) }
 {
     let named = NamedPairs(pairs);
-    if let Some(index) = named.first_redefined() {
-        return Err(BindPairsError::Redefined { index });
+    if let Some(error) = pairs_refusal(alloc, &named) {
+        return Err(error);
     }
     let params = BorrowedParams::Pairs(&named);
     match bind_borrowed_in(alloc, query, params, no_backslash_escape) {
@@ -99,13 +102,13 @@ pub fn bind_pairs_into(
         (IsBoundText no_backslash_escape ts given)
         (HasTextOf (IsBoundText no_backslash_escape ts given)) room.old room.new told))) }
     ensures refused { IfErr result (IsPairsRefusal no_backslash_escape query.now pairs.now) }
-    ensures mixed { IfPairs pairs.now (λ given. OnTokens no_backslash_escape query.now (λ ts.
+    ensures mixed { IfFewPairs pairs.now (λ given. OnTokens no_backslash_escape query.now (λ ts.
         HasName ts × HasMark ts → IsErrOf result (BindPairsError.Bind BindError.Mixed))) }
     ensures unchanged { OnErr result (room.new ≡ room.old) }
 {
     let named = NamedPairs(pairs);
-    if let Some(index) = named.first_redefined() {
-        return Err(BindPairsError::Redefined { index });
+    if let Some(error) = pairs_refusal(alloc, &named) {
+        return Err(error);
     }
     let form = PlainForm {
         no_backslash_escape,
@@ -142,4 +145,20 @@ pub fn bind_values_into(
     };
     let params = BorrowedParams::Values(values);
     bind_borrowed_into(alloc, query, params, no_backslash_escape, &form, room)
+}
+
+/// Why the pairs make no parameters, or memory is refused for more than 64 of them; none if they
+/// make parameters.
+pub(super) fn pairs_refusal(alloc: Global, pairs: &NamedPairs<'_>) -> Option<BindPairsError>
+    ensures none { result ≡ None →
+        pairs_made (map seen_pair pairs.now.0.now) ≡ Ok (named (pair_map pairs.now.0.now)) }
+    ensures some { IfSome result (λ error. (mode : Bool) (query : List ℕ) →
+        IsPairsRefusal mode query pairs.now.0.now error) }
+    ensures few { IfSome result (λ error. IfFewPairs pairs.now.0.now (λ given. ⊥)) }
+{
+    match pairs.first_redefined(alloc) {
+        Ok(None) => None,
+        Ok(Some(index)) => Some(BindPairsError::Redefined { index }),
+        Err(error) => Some(BindPairsError::Bind(BindError::Memory(error))),
+    }
 }

@@ -6,13 +6,14 @@ ghost use Rattle.mysql_params_core.specs.Given.{given_by_borrowed, positional};
 ghost use Rattle.mysql_values.specs.BorrowedValue.{owned_values};
 ghost use Rattle.mysql_binding.specs.BindErrors.{IsCauseOrMemory};
 ghost use Rattle.mysql_binding.specs.BoundAgain.{IsSameBoundAgain, IsSameByPosition};
-ghost use Rattle.mysql_binding.specs.BoundPairs.{IfPairs, IsBoundAfter, IsPairsRefusal, OfPairs};
+ghost use Rattle.mysql_binding.specs.BoundPairs.{IfFewPairs, IsBoundAfter, IsPairsRefusal, OfPairs};
 ghost use Rattle.mysql_binding.specs.FirstCause.{first_cause};
 ghost use Rattle.mysql_binding.specs.Isolation.{IsBoundText};
 
 use crate::bind_error::BindError;
 use crate::bind_pairs_error::BindPairsError;
 use crate::binding::form::PlainForm;
+use crate::binding::pairs::pairs_refusal;
 use crate::binding::parsed_query::ParsedQuery;
 use crate::binding::text::append_measured;
 use crate::binding::{bind_surveyed, measured_text};
@@ -39,13 +40,14 @@ impl<'q> ParsedQuery<'q> {
             OnTokens self.now.mode self.now.query (λ ts.
             IsSameByPosition self.now.mode ts given text.items))) }
 
-        // A query with a name and a mark is refused without allocating, once no name stands twice.
-        ensures mixed { IfPairs pairs.now (λ given. OnTokens self.now.mode self.now.query (λ ts.
+        // A query with a name and a mark is refused without allocating, once no name stands twice
+        // among few pairs.
+        ensures mixed { IfFewPairs pairs.now (λ given. OnTokens self.now.mode self.now.query (λ ts.
             HasName ts × HasMark ts → IsErrOf result (BindPairsError.Bind BindError.Mixed))) }
     {
         let named = NamedPairs(pairs);
-        if let Some(index) = named.first_redefined() {
-            return Err(BindPairsError::Redefined { index });
+        if let Some(error) = pairs_refusal(alloc, &named) {
+            return Err(error);
         }
         match self.bind_borrowed(alloc, BorrowedParams::Pairs(&named)) {
             Ok(text) => Ok(text),
@@ -85,13 +87,13 @@ impl<'q> ParsedQuery<'q> {
             IsBoundAfter self.now.mode self.now.query given text.old.items text.new.items)) }
         ensures refused { IfErr result
             (IsPairsRefusal self.now.mode self.now.query pairs.now) }
-        ensures mixed { IfPairs pairs.now (λ given. OnTokens self.now.mode self.now.query (λ ts.
+        ensures mixed { IfFewPairs pairs.now (λ given. OnTokens self.now.mode self.now.query (λ ts.
             HasName ts × HasMark ts → IsErrOf result (BindPairsError.Bind BindError.Mixed))) }
         ensures kept { OnErr result (text.new.items ≡ text.old.items) }
     {
         let named = NamedPairs(pairs);
-        if let Some(index) = named.first_redefined() {
-            return Err(BindPairsError::Redefined { index });
+        if let Some(error) = pairs_refusal(alloc, &named) {
+            return Err(error);
         }
         match self.append_borrowed(alloc, BorrowedParams::Pairs(&named), text) {
             Ok(()) => Ok(()),

@@ -1,0 +1,4 @@
+use Rattle.mysql_binding.proofs.binding.parsed_query.ParsedQuery.append_pairs.Goals as goal
+
+pub returns-in-Some-clause-refused : goal.returns-in-Some-clause-refused
+returns-in-Some-clause-refused c = c.in-Some.ensures.some c.args.self.now.mode c.args.self.now.query
