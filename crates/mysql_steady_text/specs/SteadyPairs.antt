@@ -1,35 +1,43 @@
 -- What each error of binding borrowed pairs to a steady text, or to one for both modes, stands for.
-use Rattle.std.specs.Prelude.{◌≡◌, ℕ, Bool, List, Option}
+use Rattle.std.specs.Prelude.{◌≡◌, ◌<◌, ◌⊎◌, ℕ, Bool, List, Option, alloc_error, length}
 use Rattle.std.specs.Borrow.{Bor}
 use Rattle.mysql_values.specs.declared.value.ValueRef.{ValueRef}
 use Rattle.mysql_named_params.specs.Tokens.{Token, OnTokens}
 use Rattle.mysql_named_params.specs.FirstUnportable.{first_unportable}
 use Rattle.mysql_named_params.specs.declared.portable.Unportable.{Unportable}
-use Rattle.mysql_params_core.specs.Made.{IsFirstRedefined}
+use Rattle.mysql_params_core.specs.Made.{few_pairs, IsFirstRedefined}
 use Rattle.mysql_binding.specs.BoundPairs.{OfPairs}
 use Rattle.mysql_binding.specs.FirstCause.{first_cause}
+use Rattle.mysql_binding.specs.declared.bind_error.BindError.TheVariants.{Memory}
 use Rattle.mysql_steady_text.specs.BothModesErrors.{IsBothModesRefusal, AreEqualBothModesErrors}
 use Rattle.mysql_steady_text.specs.FirstBackslash.{first_backslash}
 use Rattle.mysql_steady_text.specs.SteadyTextErrors.{IsSteadyRefusal, AreEqualSteadyTextErrors}
+use Rattle.mysql_steady_text.specs.declared.both_modes_error.BothModesError.TheVariants as modes
+use Rattle.mysql_steady_text.specs.declared.steady_text_error.SteadyTextError.TheVariants as steady
 use Rattle.mysql_steady_text.specs.declared.steady_pairs_error.SteadyPairsError.{SteadyPairsError}
 use Rattle.mysql_steady_text.specs.declared.steady_pairs_error.SteadyPairsError.TheVariants.{Redefined, Bind}
 use Rattle.mysql_steady_text.specs.declared.both_modes_pairs_error.BothModesPairsError.{BothModesPairsError}
 use Rattle.mysql_steady_text.specs.declared.both_modes_pairs_error.BothModesPairsError.TheVariants as both
 
 -- The pairs make no parameters, since the name of this pair stands before it too; or they make
--- parameters, and for these the query is refused by this error. The construct that isn't portable,
--- if it is looked for, is the one that is found among the query's tokens.
+-- parameters, and for these the query is refused by this error; or they are many, and out of memory
+-- comes before they are told apart. The construct that isn't portable, if it is looked for, is the
+-- one that is found among the query's tokens.
 abbrev pub IsSteadyPairsRefusal : List ℕ → (List Token → Option Unportable)
     → List (Bor (List ℕ) × ValueRef) → SteadyPairsError → Type 0
 IsSteadyPairsRefusal query unportable pairs (Redefined index) = IsFirstRedefined pairs index
-IsSteadyPairsRefusal query unportable pairs (Bind error) = OfPairs pairs (λ given. (mode : Bool) →
+IsSteadyPairsRefusal query unportable pairs (Bind error) =
+    ((few_pairs < length pairs) × (error ≡ steady.Bind (Memory alloc_error)))
+    ⊎ OfPairs pairs (λ given. (mode : Bool) →
     OnTokens mode query (λ ts. IsSteadyRefusal query (unportable ts) (first_cause ts given) error))
 
 -- the same of a text for both modes
 abbrev pub IsBothModesPairsRefusal : List ℕ → List (Bor (List ℕ) × ValueRef)
     → BothModesPairsError → Type 0
 IsBothModesPairsRefusal query pairs (both.Redefined index) = IsFirstRedefined pairs index
-IsBothModesPairsRefusal query pairs (both.Bind error) = OfPairs pairs (λ given. (mode : Bool) →
+IsBothModesPairsRefusal query pairs (both.Bind error) =
+    ((few_pairs < length pairs) × (error ≡ modes.Bind (Memory alloc_error)))
+    ⊎ OfPairs pairs (λ given. (mode : Bool) →
     OnTokens mode query (λ ts.
     IsBothModesRefusal (first_backslash ts) (first_unportable ts) (first_cause ts given) error))
 

@@ -1,14 +1,15 @@
 //! Queries bound to steady texts, and to those for both modes, from names and values that are
 //! borrowed.
-ghost use Rattle.std.specs.Prelude.{◌≡◌, ℕ, Bool, None, Some, IfErr, IfOk, IsErrOf};
-ghost use Rattle.mysql_named_params.specs.Tokens.{OnTokens};
+ghost use Rattle.std.specs.Prelude.{◌≡◌, ℕ, Bool, List, None, Ok, Option, Some, map, IfErr, IfOk, IfSome, IsErrOf};
+ghost use Rattle.mysql_named_params.specs.Tokens.{OnTokens, Token};
 ghost use Rattle.mysql_named_params.specs.Places.{HasMark, HasName};
 ghost use Rattle.mysql_named_params.specs.FirstUnportable.{first_unportable};
 ghost use Rattle.mysql_named_params.specs.Steady.{first_unsteady, IsSteady};
 ghost use Rattle.mysql_named_params.specs.declared.portable.Unportable as unportable;
-ghost use Rattle.mysql_params_core.specs.Given.{positional};
+ghost use Rattle.mysql_params_core.specs.Given.{named, pair_map, positional};
+ghost use Rattle.mysql_params_core.specs.Made.{pairs_made, seen_pair};
 ghost use Rattle.mysql_values.specs.BorrowedValue.{owned_values};
-ghost use Rattle.mysql_binding.specs.BoundPairs.{IfPairs, OfPairs};
+ghost use Rattle.mysql_binding.specs.BoundPairs.{IfFewPairs, OfPairs};
 ghost use Rattle.mysql_binding.specs.FirstCause.{first_cause};
 ghost use Rattle.mysql_steady_text.specs.BothModesErrors.{IsBothModesRefusal};
 ghost use Rattle.mysql_steady_text.specs.BothModesText.{IsPortableInBothModes, IsBoundAgainInBothModes, IsByPositionInBothModes};
@@ -30,10 +31,11 @@ use mysql_values::value::ValueRef;
 use std::alloc::Global;
 
 /// [`bind_text_anywhere`](crate::bind_text_anywhere) of named parameters that are borrowed, in
-/// pairs: no name and no value is copied, and no map is made.
+/// pairs: no name and no value is copied. Of more than 64 pairs a sorted map is made.
 ///
 /// A name that is given twice is refused first. Then what
-/// [`bind_text_anywhere`](crate::bind_text_anywhere) refuses is refused, in its order.
+/// [`bind_text_anywhere`](crate::bind_text_anywhere) refuses is refused, in its order. Of more than
+/// 64 pairs out of memory may come before either.
 pub fn bind_pairs_anywhere(
     alloc: Global,
     query: &[u8],
@@ -47,19 +49,22 @@ pub fn bind_pairs_anywhere(
     ensures by_position { IfOk result (λ text. OfPairs pairs.now (λ given. (mode : Bool) →
         OnTokens mode query.now (λ ts. IsSteadyByPosition mode ts given text.items))) }
 
-    // These are refused without allocating, once no name stands twice.
-    ensures unsteady { IfPairs pairs.now (λ given. (at : ℕ) → first_unsteady query.now ≡ Some at →
+    // These are refused without allocating, once no name stands twice among few pairs.
+    ensures unsteady { IfFewPairs pairs.now (λ given. (at : ℕ) →
+        first_unsteady query.now ≡ Some at →
         IsErrOf result (SteadyPairsError.Bind (SteadyTextError.Unsteady at))) }
-    ensures unportable { IfPairs pairs.now (λ given. (mode : Bool) → OnTokens mode query.now (λ ts.
-        IsSteady query.now → (found : unportable.Unportable) → first_unportable ts ≡ Some found →
+    ensures unportable { IfFewPairs pairs.now (λ given. (mode : Bool) →
+        OnTokens mode query.now (λ ts. IsSteady query.now → (found : unportable.Unportable) →
+        first_unportable ts ≡ Some found →
         IsErrOf result (SteadyPairsError.Bind (SteadyTextError.Unportable found)))) }
-    ensures mixed { IfPairs pairs.now (λ given. (mode : Bool) → OnTokens mode query.now (λ ts.
-        IsSteady query.now → first_unportable ts ≡ None → HasName ts × HasMark ts →
+    ensures mixed { IfFewPairs pairs.now (λ given. (mode : Bool) →
+        OnTokens mode query.now (λ ts. IsSteady query.now → first_unportable ts ≡ None →
+        HasName ts × HasMark ts →
         IsErrOf result (SteadyPairsError.Bind (SteadyTextError.Bind BindError.Mixed)))) }
 {
     let named = NamedPairs(pairs);
-    if let Some(index) = named.first_redefined() {
-        return Err(SteadyPairsError::Redefined { index });
+    if let Some(error) = steady_pairs_refusal(alloc, &named) {
+        return Err(error);
     }
     match bind_borrowed_anywhere(alloc, query, BorrowedParams::Pairs(&named)) {
         Ok(text) => Ok(text),
@@ -111,16 +116,17 @@ pub fn bind_pairs_in_any_mode(
     ensures by_position { IfOk result (λ text. OfPairs pairs.now (λ given. (mode : Bool) →
         OnTokens mode query.now (λ ts. IsSteadyByPosition mode ts given text.items))) }
 
-    // These are refused without allocating, once no name stands twice.
-    ensures unsteady { IfPairs pairs.now (λ given. (at : ℕ) → first_unsteady query.now ≡ Some at →
+    // These are refused without allocating, once no name stands twice among few pairs.
+    ensures unsteady { IfFewPairs pairs.now (λ given. (at : ℕ) →
+        first_unsteady query.now ≡ Some at →
         IsErrOf result (SteadyPairsError.Bind (SteadyTextError.Unsteady at))) }
-    ensures mixed { IfPairs pairs.now (λ given. (mode : Bool) → OnTokens mode query.now (λ ts.
-        IsSteady query.now → HasName ts × HasMark ts →
+    ensures mixed { IfFewPairs pairs.now (λ given. (mode : Bool) →
+        OnTokens mode query.now (λ ts. IsSteady query.now → HasName ts × HasMark ts →
         IsErrOf result (SteadyPairsError.Bind (SteadyTextError.Bind BindError.Mixed)))) }
 {
     let named = NamedPairs(pairs);
-    if let Some(index) = named.first_redefined() {
-        return Err(SteadyPairsError::Redefined { index });
+    if let Some(error) = steady_pairs_refusal(alloc, &named) {
+        return Err(error);
     }
     match bind_borrowed_in_any_mode(alloc, query, BorrowedParams::Pairs(&named)) {
         Ok(text) => Ok(text),
@@ -154,10 +160,11 @@ pub fn bind_values_in_any_mode(
 }
 
 /// [`bind_text_in_both_modes`](crate::bind_text_in_both_modes) of named parameters that are
-/// borrowed, in pairs: no name and no value is copied, and no map is made.
+/// borrowed, in pairs: no name and no value is copied. Of more than 64 pairs a sorted map is made.
 ///
 /// A name that is given twice is refused first. Then what
-/// [`bind_text_in_both_modes`](crate::bind_text_in_both_modes) refuses is refused, in its order.
+/// [`bind_text_in_both_modes`](crate::bind_text_in_both_modes) refuses is refused, in its order. Of
+/// more than 64 pairs out of memory may come before either.
 pub fn bind_pairs_in_both_modes(
     alloc: Global,
     query: &[u8],
@@ -170,21 +177,22 @@ pub fn bind_pairs_in_both_modes(
     ensures by_position { IfOk result (λ text. OfPairs pairs.now (λ given. (mode : Bool) →
         OnTokens mode query.now (λ ts. IsByPositionInBothModes mode ts given text.items))) }
 
-    // These are refused without allocating, once no name stands twice.
-    ensures backslash { IfPairs pairs.now (λ given. (mode : Bool) → OnTokens mode query.now (λ ts.
-        (at : ℕ) → first_backslash ts ≡ Some at →
+    // These are refused without allocating, once no name stands twice among few pairs.
+    ensures backslash { IfFewPairs pairs.now (λ given. (mode : Bool) →
+        OnTokens mode query.now (λ ts. (at : ℕ) → first_backslash ts ≡ Some at →
         IsErrOf result (BothModesPairsError.Bind (BothModesError.Backslash at)))) }
-    ensures unportable { IfPairs pairs.now (λ given. (mode : Bool) → OnTokens mode query.now (λ ts.
-        first_backslash ts ≡ None → (found : unportable.Unportable) →
+    ensures unportable { IfFewPairs pairs.now (λ given. (mode : Bool) →
+        OnTokens mode query.now (λ ts. first_backslash ts ≡ None → (found : unportable.Unportable) →
         first_unportable ts ≡ Some found →
         IsErrOf result (BothModesPairsError.Bind (BothModesError.Unportable found)))) }
-    ensures mixed { IfPairs pairs.now (λ given. (mode : Bool) → OnTokens mode query.now (λ ts.
-        first_backslash ts ≡ None → first_unportable ts ≡ None → HasName ts × HasMark ts →
+    ensures mixed { IfFewPairs pairs.now (λ given. (mode : Bool) →
+        OnTokens mode query.now (λ ts. first_backslash ts ≡ None → first_unportable ts ≡ None →
+        HasName ts × HasMark ts →
         IsErrOf result (BothModesPairsError.Bind (BothModesError.Bind BindError.Mixed)))) }
 {
     let named = NamedPairs(pairs);
-    if let Some(index) = named.first_redefined() {
-        return Err(BothModesPairsError::Redefined { index });
+    if let Some(error) = both_modes_pairs_refusal(alloc, &named) {
+        return Err(error);
     }
     match bind_borrowed_in_both_modes(alloc, query, BorrowedParams::Pairs(&named)) {
         Ok(text) => Ok(text),
@@ -219,4 +227,39 @@ pub fn bind_values_in_both_modes(
         IsErrOf result (BothModesError.Bind BindError.Mixed)) }
 {
     bind_borrowed_in_both_modes(alloc, query, BorrowedParams::Values(values))
+}
+
+// Why the pairs make no parameters, or memory is refused for more than 64 of them; none if they
+// make parameters.
+fn steady_pairs_refusal(alloc: Global, pairs: &NamedPairs<'_>) -> Option<SteadyPairsError>
+    ensures none { result ≡ None →
+        pairs_made (map seen_pair pairs.now.0.now) ≡ Ok (named (pair_map pairs.now.0.now)) }
+    ensures some { IfSome result (λ error. (query : List ℕ)
+        (unportable : List Token → Option unportable.Unportable) →
+        IsSteadyPairsRefusal query unportable pairs.now.0.now error) }
+    ensures few { IfSome result (λ error. IfFewPairs pairs.now.0.now (λ given. ⊥)) }
+{
+    match pairs.first_redefined(alloc) {
+        Ok(None) => None,
+        Ok(Some(index)) => Some(SteadyPairsError::Redefined { index }),
+        Err(error) => Some(SteadyPairsError::Bind(SteadyTextError::Bind(BindError::Memory(error)))),
+    }
+}
+
+// Why the pairs make no parameters, or memory is refused for more than 64 of them; none if they
+// make parameters.
+fn both_modes_pairs_refusal(alloc: Global, pairs: &NamedPairs<'_>) -> Option<BothModesPairsError>
+    ensures none { result ≡ None →
+        pairs_made (map seen_pair pairs.now.0.now) ≡ Ok (named (pair_map pairs.now.0.now)) }
+    ensures some { IfSome result (λ error. (query : List ℕ) →
+        IsBothModesPairsRefusal query pairs.now.0.now error) }
+    ensures few { IfSome result (λ error. IfFewPairs pairs.now.0.now (λ given. ⊥)) }
+{
+    match pairs.first_redefined(alloc) {
+        Ok(None) => None,
+        Ok(Some(index)) => Some(BothModesPairsError::Redefined { index }),
+        Err(error) => Some(BothModesPairsError::Bind(BothModesError::Bind(BindError::Memory(
+            error,
+        )))),
+    }
 }

@@ -1,4 +1,4 @@
-//! Borrowed pairs in a sorted map: for many of them, among which a walk for each name would be slow.
+//! Borrowed pairs in a sorted map: for many of them, among which walks would be slow.
 ghost use Rattle.std.specs.Prelude.{◌≡◌, ◌<◌, Ok, IfOk, IsErrOf, MatchOption, alloc_error, length, map, option_map, ⊤};
 ghost use Rattle.std.specs.FinMap.{get};
 ghost use Rattle.mysql_wire_part.specs.Answer.{IsAnswer};
