@@ -2,10 +2,10 @@
 //! by name. A program calls them for what they ensure alone, if a proof needs it.
 
 pub use mysql_binding::laws::{
-    bind_error_equality, bound_again_is_the_same, bound_texts_are_sent, bound_texts_in_clients,
-    bound_texts_on_servers, by_position_is_the_same, equal_texts_say_the_same,
-    first_not_alone_is_first, isolation, no_place_is_left, parsed_query_equality,
-    position_of_first_not_alone,
+    bind_error_equality, bind_pairs_error_equality, bound_again_is_the_same, bound_texts_are_sent,
+    bound_texts_in_clients, bound_texts_on_servers, by_position_is_the_same,
+    equal_texts_say_the_same, first_not_alone_is_first, isolation, no_place_is_left,
+    parsed_query_equality, position_of_first_not_alone,
 };
 pub use mysql_named_params::laws::{
     client_is_a_server, grammar_is_a_server, known_servers, locality, mixed_error_equality,
@@ -21,8 +21,8 @@ pub use mysql_params_core::laws::{
 pub use mysql_program::laws::run_error_equality;
 pub use mysql_steady_literal::laws::steady_literals;
 pub use mysql_steady_text::laws::{
-    both_modes_error_equality, bound_steady_texts, bound_steady_texts_are_sent,
-    bound_steady_texts_in_clients, bound_texts_in_both_modes, steady_isolation,
-    steady_text_error_equality, steady_texts_are_sent, steady_texts_in_clients,
-    steady_texts_on_servers,
+    both_modes_error_equality, both_modes_pairs_error_equality, bound_steady_texts,
+    bound_steady_texts_are_sent, bound_steady_texts_in_clients, bound_texts_in_both_modes,
+    steady_isolation, steady_pairs_error_equality, steady_text_error_equality,
+    steady_texts_are_sent, steady_texts_in_clients, steady_texts_on_servers,
 };

@@ -5,7 +5,8 @@
 //! literals of the values in their places; [`bind_text_in`] does so in either mode of backslashes,
 //! and a [`ParsedQuery`] is parsed once and bound many times; [`bind_text_anywhere`] gives text
 //! that no mode and no character set reads otherwise, and [`bind_text_in_both_modes`] one that no
-//! mode does, to a query that may hold bytes from 128 on.
+//! mode does, to a query that may hold bytes from 128 on. [`bind_pairs`] and [`bind_values`] do so
+//! from names and values that are borrowed, and so do their kin of each of these calls.
 //! [`first_unportable`] finds what servers read in different ways or with which a value would join
 //! a number, before a query is bound; [`first_unportable_in_client`] also what the client `mysql`
 //! or `mariadb` reads or sends otherwise; [`first_unsteady`] the first byte that a mode or a
@@ -19,12 +20,17 @@ pub mod laws;
 pub mod named_params;
 pub mod params;
 
-pub use mysql_binding::{BindError, ParsedQuery, bind_text, bind_text_in};
+pub use mysql_binding::{
+    BindError, BindPairsError, ParsedQuery, TextInRoom, bind_pairs, bind_pairs_into, bind_text,
+    bind_text_in, bind_values, bind_values_into,
+};
 pub use mysql_named_params::client::first_unportable_in_client;
 pub use mysql_named_params::portable::{Construct, Unportable, first_unportable};
 pub use mysql_named_params::steady::first_unsteady;
 pub use mysql_program::{RunError, run, words_of};
 pub use mysql_steady_text::{
-    BothModesError, SteadyTextError, bind_text_anywhere, bind_text_in_any_mode,
-    bind_text_in_both_modes,
+    BothModesError, BothModesPairsError, SteadyPairsError, SteadyTextError, bind_pairs_anywhere,
+    bind_pairs_in_any_mode, bind_pairs_in_both_modes, bind_text_anywhere, bind_text_in_any_mode,
+    bind_text_in_both_modes, bind_values_anywhere, bind_values_in_any_mode,
+    bind_values_in_both_modes,
 };
