@@ -1,7 +1,7 @@
 -- Borrowed pairs in a sorted map: what is found in it, and that to insert into it is to insert into
 -- the finite map that it stands for.
 use Rattle.std.proofs.Common.{◌≡◌, ◌<◌, ◌≤◌, ◌+◌, ℕ, Bool, true, false, cond, List, [], ◌∷◌, length, map, take, drop, get_or, refl, sym, ap, ◌∙◌}
-use Rattle.std.specs.Prelude.{Some, Ok, Option, fold}
+use Rattle.std.specs.Prelude.{Some, None, Ok, Option, fold, is_some}
 use Rattle.std.specs.Option.{option_map}
 use Rattle.std.specs.Borrow.{Bor}
 use Rattle.std.specs.Ordering.{nat_cmp, is_eq}
@@ -11,7 +11,7 @@ use Rattle.std.specs.FinMap.{get, insert, empty, contains_key, get-empty, get-in
 use Rattle.std.specs.Map.{lookup, KeepsOthers}
 use Rattle.std.proofs.lemmas.List.{at_drop_more, at_drop_all}
 use Rattle.mysql_value_core.specs.declared.value.borrowed.ValueRef.{ValueRef}
-use Rattle.mysql_value_core.specs.BorrowedValue.{owned}
+use Rattle.mysql_values.specs.BorrowedValue.{owned}
 use Rattle.mysql_params_core.specs.Given.{ValueMap, pair_map}
 use Rattle.mysql_params_core.specs.Made.{with_pair, seen_pair, IsFirstRedefined}
 use Rattle.mysql_params_core.proofs.PairLemmas.{made_more, made_no_more, pair_map_more}
@@ -68,6 +68,16 @@ module _ (es fs : List (Bor (List ℕ) × ValueRef)) (k : Bor (List ℕ)) (v : V
       ∙ owned_either (tied q k) (lookup (tied q) es)
       ∙ ap (cond (tied q k) (Some (owned v))) (sym (get-sorted_pairs es q))
       ∙ sym (get-insert nat_list_cmp_total (pair_map es) k.now (owned v) q))
+
+-- the value that an insert replaces, if it has one, is that of the name
+some_owned : (o : Option ValueRef) → is_some (option_map owned o) ≡ is_some o
+some_owned (Some value) = refl
+some_owned None = refl
+
+pub asked_of_insert : (entries : List (Bor (List ℕ) × ValueRef)) (name : Bor (List ℕ)) (old : Option ValueRef)
+    → old ≡ lookup (by_order name) entries → contains_key (pair_map entries) name.now ≡ is_some old
+asked_of_insert entries name old is =
+    ap is_some (get-sorted_pairs entries name.now) ∙ some_owned (lookup (by_order name) entries) ∙ ap is_some (sym is)
 
 -- ---- a walk that inserts each pair
 

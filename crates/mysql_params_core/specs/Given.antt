@@ -8,7 +8,7 @@ use Rattle.std.specs.FinMap.{FinMap, from_entries}
 use Rattle.std.specs.Borrow.{Bor}
 use Rattle.mysql_value_core.specs.declared.value.Value.{Value}
 use Rattle.mysql_value_core.specs.declared.value.borrowed.ValueRef.{ValueRef}
-use Rattle.mysql_value_core.specs.BorrowedValue.{owned, owned_values}
+use Rattle.mysql_values.specs.BorrowedValue.{owned, owned_values}
 use Rattle.mysql_params_core.specs.declared.params.Params.{Params}
 use Rattle.mysql_params_core.specs.declared.params.Params.TheVariants.{Empty, Named, Positional}
 use Rattle.mysql_params_core.specs.declared.params.borrowed.BorrowedParams.{BorrowedParams}

@@ -3,7 +3,7 @@ ghost use Rattle.std.specs.Prelude.{◌≡◌, ◌<◌, Ok, IfOk, MatchOption, O
 ghost use Rattle.std.specs.FinMap.{contains_key, empty, get, insert};
 ghost use Rattle.mysql_params_core.specs.Given.{ValueMap, named, pair_map, value_map};
 ghost use Rattle.mysql_params_core.specs.Made.{few_pairs, pairs_made, seen_pair, IsFirstRedefined};
-ghost use Rattle.mysql_value_core.specs.BorrowedValue.{owned};
+ghost use Rattle.mysql_values.specs.BorrowedValue.{owned};
 
 use crate::params::sorted_pairs::first_redefined_sorted;
 use mysql_values::value::{Value, ValueRef};

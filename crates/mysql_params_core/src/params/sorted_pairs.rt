@@ -9,7 +9,7 @@ ghost use Rattle.mysql_params_core.specs.Lookup.{lookup};
 ghost use Rattle.mysql_params_core.specs.Made.{pairs_made, seen_pair, IsFirstRedefined};
 ghost use Rattle.mysql_params_core.specs.Referents.{referents};
 
-use crate::params::entries::{NamedValues, has_name};
+use crate::params::entries::NamedValues;
 use crate::params::lookup::{missing_params_error, reported_name};
 use crate::params::{ParamsConfusionError, ParamsError};
 use mysql_values::value::ValueRef;
@@ -34,8 +34,8 @@ fn sorted_value<'p>(entries: &BTreeMap<&'p [u8], ValueRef<'p>>, name: &[u8]) -> 
     }
 }
 
-/// The index of the first pair whose name is that of an earlier one: the name of each pair is
-/// looked for in a sorted map of those before it.
+/// The index of the first pair whose name is that of an earlier one: each pair is inserted into a
+/// sorted map of those before it.
 pub(super) fn first_redefined_sorted<'p>(
     alloc: Global,
     pairs: &[(&'p [u8], ValueRef<'p>)],
@@ -46,11 +46,9 @@ pub(super) fn first_redefined_sorted<'p>(
 {
     let mut entries: BTreeMap<&'p [u8], ValueRef<'p>> = BTreeMap::new(alloc);
     for (i, pair) in pairs.iter().enumerate() {
-        if has_name(&entries, pair.0) {
-            return Ok(Some(i));
-        }
         match entries.insert(pair.0, pair.1) {
-            Ok(_) => {}
+            Ok(None) => {}
+            Ok(Some(_)) => return Ok(Some(i)),
             Err(_) => return Err(AllocError),
         }
     }
