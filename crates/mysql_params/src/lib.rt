@@ -5,8 +5,8 @@
 //! literals of the values in their places; [`bind_text_in`] does so in either mode of backslashes,
 //! and a [`ParsedQuery`] is parsed once and bound many times; [`bind_text_anywhere`] gives text
 //! that no mode and no character set reads otherwise, and [`bind_text_in_both_modes`] one that no
-//! mode does, to a query that may hold bytes from 128 on. [`bind_pairs`] and [`bind_values`] do so
-//! from names and values that are borrowed, and so do their kin of each of these calls.
+//! mode does, to a query that may hold bytes from 128 on. [`bind_pairs`] and [`bind_values`] take
+//! names and values that are borrowed, and two such stand beside each of these calls.
 //! [`first_unportable`] finds what servers read in different ways or with which a value would join
 //! a number, before a query is bound; [`first_unportable_in_client`] also what the client `mysql`
 //! or `mariadb` reads or sends otherwise; [`first_unsteady`] the first byte that a mode or a
