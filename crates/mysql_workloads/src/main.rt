@@ -10,7 +10,9 @@ mod digest;
 mod pools;
 mod random;
 mod requests;
+mod requests_ref;
 mod rows_in;
+mod rows_in_ref;
 mod rows_out;
 mod scripts;
 
@@ -21,8 +23,15 @@ use std::alloc::AllocError;
 use std::process::ExitCode;
 use std::{env, io};
 
-const JOBS: [&str; 6] = [
-    "rows_in", "rows_out", "batches", "requests", "scripts", "awkward",
+const JOBS: [&str; 8] = [
+    "rows_in",
+    "rows_out",
+    "batches",
+    "requests",
+    "scripts",
+    "awkward",
+    "rows_in_ref",
+    "requests_ref",
 ];
 
 // The digest of a job.
@@ -36,6 +45,8 @@ fn job(rt: &HostRuntime, name: &str, seed: u64, size: usize) -> Result<u64, Allo
         "rows_out" => rows_out::run(alloc, &mut random, &pools, size, &mut digest)?,
         "batches" => batches::run(alloc, &mut random, &pools, size, &mut digest)?,
         "requests" => requests::run(alloc, &mut random, &pools, size, &mut digest)?,
+        "rows_in_ref" => rows_in_ref::run(alloc, &mut random, &pools, size, &mut digest)?,
+        "requests_ref" => requests_ref::run(alloc, &mut random, &pools, size, &mut digest)?,
         "scripts" => scripts::run(alloc, &mut random, &pools, size, &mut digest)?,
         _ => awkward::run(alloc, &mut random, &pools, size, &mut digest)?,
     }

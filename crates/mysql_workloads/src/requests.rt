@@ -56,8 +56,12 @@ fn take_bound(
     }
 }
 
-// Begins half of the queries with the comment of a tracer, and a sixth with one of a line.
-fn put_comment(query: &mut Vec<u8>, random: &mut Random, pools: &Pools) -> Result<(), AllocError> {
+/// Begins half of the queries with the comment of a tracer, and a sixth with one of a line.
+pub(crate) fn put_comment(
+    query: &mut Vec<u8>,
+    random: &mut Random,
+    pools: &Pools,
+) -> Result<(), AllocError> {
     match random.below(6) {
         0 => {
             query.extend_from_slice(b"-- ")?;
@@ -76,6 +80,19 @@ fn put_comment(query: &mut Vec<u8>, random: &mut Random, pools: &Pools) -> Resul
     }
 }
 
+/// Writes the query of `find`.
+pub(crate) fn put_find(
+    random: &mut Random,
+    pools: &Pools,
+    query: &mut Vec<u8>,
+) -> Result<(), AllocError> {
+    query.extend_from_slice(b"SELECT `id`, `name`, `")?;
+    query.extend_from_slice(pools.letters(random, 4, 12))?;
+    query.extend_from_slice(b"` FROM `shop`.`")?;
+    query.extend_from_slice(pools.letters(random, 4, 12))?;
+    query.extend_from_slice(b"` WHERE `id` = :id AND kind <> 'closed' LIMIT 1")
+}
+
 // A row by its number: one name.
 fn find(
     alloc: Global,
@@ -83,12 +100,25 @@ fn find(
     pools: &Pools,
     query: &mut Vec<u8>,
 ) -> Result<Result<Params, ToParamsError>, AllocError> {
-    query.extend_from_slice(b"SELECT `id`, `name`, `")?;
-    query.extend_from_slice(pools.letters(random, 4, 12))?;
-    query.extend_from_slice(b"` FROM `shop`.`")?;
-    query.extend_from_slice(pools.letters(random, 4, 12))?;
-    query.extend_from_slice(b"` WHERE `id` = :id AND kind <> 'closed' LIMIT 1")?;
+    put_find(random, pools, query)?;
     Ok((("id", random.positive()),).to_named(alloc))
+}
+
+/// Writes the query of `search`.
+pub(crate) fn put_search(
+    random: &mut Random,
+    pools: &Pools,
+    query: &mut Vec<u8>,
+) -> Result<(), AllocError> {
+    query.extend_from_slice(b"SELECT o.id, o.name, c.name AS customer, '")?;
+    query.extend_from_slice(pools.letters(random, 3, 20))?;
+    query.extend_from_slice(b"' AS label\nFROM orders o JOIN customers c ON c.id = o.customer\n")?;
+    query.extend_from_slice(b"WHERE (o.name LIKE :text OR c.name LIKE :text) AND o.day >= :first")?;
+    query.extend_from_slice(b" AND o.kind IN ('new', 'sent', '")?;
+    query.extend_from_slice(pools.letters(random, 3, 10))?;
+    query.extend_from_slice(b"')\n  AND o.customer = :customer /* ")?;
+    query.extend_from_slice(pools.plain(random, 10, 80))?;
+    query.extend_from_slice(b"*/ ORDER BY o.id LIMIT :most")
 }
 
 // Rows by a text: four names, one of them twice.
@@ -98,15 +128,7 @@ fn search(
     pools: &Pools,
     query: &mut Vec<u8>,
 ) -> Result<Result<Params, ToParamsError>, AllocError> {
-    query.extend_from_slice(b"SELECT o.id, o.name, c.name AS customer, '")?;
-    query.extend_from_slice(pools.letters(random, 3, 20))?;
-    query.extend_from_slice(b"' AS label\nFROM orders o JOIN customers c ON c.id = o.customer\n")?;
-    query.extend_from_slice(b"WHERE (o.name LIKE :text OR c.name LIKE :text) AND o.day >= :first")?;
-    query.extend_from_slice(b" AND o.kind IN ('new', 'sent', '")?;
-    query.extend_from_slice(pools.letters(random, 3, 10))?;
-    query.extend_from_slice(b"')\n  AND o.customer = :customer /* ")?;
-    query.extend_from_slice(pools.plain(random, 10, 80))?;
-    query.extend_from_slice(b"*/ ORDER BY o.id LIMIT :most")?;
+    put_search(random, pools, query)?;
     Ok(
         (
             ("text", pools.text(random, 5, 40)),
@@ -118,6 +140,20 @@ fn search(
     )
 }
 
+/// Writes the query of `update`.
+pub(crate) fn put_update(
+    random: &mut Random,
+    pools: &Pools,
+    query: &mut Vec<u8>,
+) -> Result<(), AllocError> {
+    query.extend_from_slice(b"UPDATE `")?;
+    query.extend_from_slice(pools.letters(random, 4, 12))?;
+    query.extend_from_slice(b"` SET `name` = :name, `note` = :note, `cents` = :cents, ")?;
+    query.extend_from_slice(b"`paid` = :paid, `place` = :place, `by` = '")?;
+    query.extend_from_slice(pools.letters(random, 3, 20))?;
+    query.extend_from_slice(b"' WHERE `id` = :id AND `version` = :version")
+}
+
 // A row that changes: seven names.
 fn update(
     alloc: Global,
@@ -125,12 +161,7 @@ fn update(
     pools: &Pools,
     query: &mut Vec<u8>,
 ) -> Result<Result<Params, ToParamsError>, AllocError> {
-    query.extend_from_slice(b"UPDATE `")?;
-    query.extend_from_slice(pools.letters(random, 4, 12))?;
-    query.extend_from_slice(b"` SET `name` = :name, `note` = :note, `cents` = :cents, ")?;
-    query.extend_from_slice(b"`paid` = :paid, `place` = :place, `by` = '")?;
-    query.extend_from_slice(pools.letters(random, 3, 20))?;
-    query.extend_from_slice(b"' WHERE `id` = :id AND `version` = :version")?;
+    put_update(random, pools, query)?;
     let note = pools.text(random, 20, 200);
     let note = if random.one_in(10) { None } else { Some(note) };
     Ok(
@@ -147,13 +178,12 @@ fn update(
     )
 }
 
-// A long query: twelve names, four of them twice, comments, strings, and columns.
-fn report(
-    alloc: Global,
+/// Writes the query of `report`.
+pub(crate) fn put_report(
     random: &mut Random,
     pools: &Pools,
     query: &mut Vec<u8>,
-) -> Result<Result<Params, ToParamsError>, AllocError> {
+) -> Result<(), AllocError> {
     query.extend_from_slice(b"SELECT\n")?;
     for _ in 0..3 + random.below(8) {
         query.extend_from_slice(b"  SUM(CASE WHEN o.kind = '")?;
@@ -164,7 +194,17 @@ fn report(
         query.extend_from_slice(pools.plain(random, 5, 30))?;
         query.extend_from_slice(b"\n")?;
     }
-    query.extend_from_slice(REPORT)?;
+    query.extend_from_slice(REPORT)
+}
+
+// A long query: twelve names, four of them twice, comments, strings, and columns.
+fn report(
+    alloc: Global,
+    random: &mut Random,
+    pools: &Pools,
+    query: &mut Vec<u8>,
+) -> Result<Result<Params, ToParamsError>, AllocError> {
+    put_report(random, pools, query)?;
     Ok(
         (
             ("first", pools.plain(random, 10, 10)),

@@ -10,14 +10,14 @@ use mysql_wire_part::{
 use std::alloc::{AllocError, Global};
 use std::time::Duration;
 
-// The number of rows that a buffer holds.
-const ROWS: usize = 500;
+/// The number of rows that a buffer holds.
+pub(crate) const ROWS: usize = 500;
 
 // The number of rows to copy from.
 const KINDS: usize = 2048;
 
-// The columns of a row, and whether their numbers have no sign.
-const COLUMNS: [(ColumnType, bool); 9] = [
+/// The columns of a row, and whether their numbers have no sign.
+pub(crate) const COLUMNS: [(ColumnType, bool); 9] = [
     (ColumnType::MYSQL_TYPE_LONGLONG, false),
     (ColumnType::MYSQL_TYPE_LONG, true),
     (ColumnType::MYSQL_TYPE_VAR_STRING, false),
@@ -64,21 +64,25 @@ fn nulls(random: &mut Random) -> u16 {
     bits
 }
 
-// Whether the cell of a column is NULL.
-fn is_null(nulls: u16, column: usize) -> bool {
+/// Whether the cell of a column is NULL.
+pub(crate) fn is_null(nulls: u16, column: usize) -> bool {
     (nulls >> (column % 16)) & 1 == 1
 }
 
-// Rows to copy from, of both forms: those in binary form whole, those in text form without their
-// first cell. A copy gets a first cell of its own.
+/// Rows to copy from, of both forms: those in binary form whole, those in text form without their
+/// first cell. A copy gets a first cell of its own.
 #[derive(Drop)]
-struct RowPools {
+pub(crate) struct RowPools {
     binary: Vec<Vec<u8>>,
     text: Vec<Vec<u8>>,
 }
 
-// The pools of rows.
-fn row_pools(alloc: Global, random: &mut Random, pools: &Pools) -> Result<RowPools, AllocError> {
+/// The pools of rows.
+pub(crate) fn row_pools(
+    alloc: Global,
+    random: &mut Random,
+    pools: &Pools,
+) -> Result<RowPools, AllocError> {
     let mut binary = Vec::with_capacity(alloc, KINDS)?;
     let mut text = Vec::with_capacity(alloc, KINDS)?;
     for _ in 0..KINDS {
@@ -101,8 +105,8 @@ fn binary_row(alloc: Global, random: &mut Random, pools: &Pools) -> Result<Vec<u
     Ok(bytes)
 }
 
-// Fills a buffer with rows in binary form. The number in each, after its bits of NULL, is new.
-fn put_binary_rows(
+/// Fills a buffer with rows in binary form. The number in each, after its bits of NULL, is new.
+pub(crate) fn put_binary_rows(
     bytes: &mut Vec<u8>,
     random: &mut Random,
     rows: &RowPools,
@@ -226,8 +230,8 @@ fn text_row(alloc: Global, random: &mut Random, pools: &Pools) -> Result<Vec<u8>
     Ok(bytes)
 }
 
-// Fills a buffer with rows in text form. The number in the first cell of each is new.
-fn put_text_rows(
+/// Fills a buffer with rows in text form. The number in the first cell of each is new.
+pub(crate) fn put_text_rows(
     bytes: &mut Vec<u8>,
     random: &mut Random,
     pools: &Pools,
