@@ -1,4 +1,4 @@
--- What binding by borrowed pairs gives and refuses, by what `Params::from_pairs` makes of the pairs.
+-- What binding by borrowed pairs gives and refuses, by what `Params::from_pairs` makes of them.
 use Rattle.std.specs.Prelude.{◌≡◌, ◌≤◌, ◌<◌, ◌⊎◌, ◌++◌, ℕ, Bool, List, Ok, alloc_error, length, map}
 use Rattle.std.specs.Borrow.{Bor}
 use Rattle.mysql_values.specs.declared.value.ValueRef.{ValueRef}

@@ -28,7 +28,8 @@ pub record IsMeasured (literal : Literals) (ts : List Token) (given : Given)
     (measured : MeasuredText) : Type 0 where
   pub looked_up : IsLookedUp ts given (owned_values measured.values.items)
   pub in_range : All FieldsInRange (owned_values measured.values.items)
-  pub lens_are : measured.lens.items ≡ map (literal_len literal) (owned_values measured.values.items)
+  pub lens_are : measured.lens.items
+      ≡ map (literal_len literal) (owned_values measured.values.items)
   pub len_is : measured.len ≡ pieces_len ts + sum measured.lens.items
   pub fits : measured.len < 2 ^ 63
 

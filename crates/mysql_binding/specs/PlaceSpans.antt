@@ -83,7 +83,8 @@ pub record IsReady (literal : Literals) (spans : List PlaceSpan) (query : List �
     (measured : MeasuredText) : Type 0 where
   pub each : length (owned_values measured.values.items) ≡ length spans
   pub no_float : first_float (owned_values measured.values.items) ≡ None
-  pub lens_are : measured.lens.items ≡ map (literal_len literal) (owned_values measured.values.items)
+  pub lens_are : measured.lens.items
+      ≡ map (literal_len literal) (owned_values measured.values.items)
   pub len_is : measured.len ≡ outside_len spans query + sum measured.lens.items
 
 -- these bytes with the literals of the values in the places

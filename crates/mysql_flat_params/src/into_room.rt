@@ -3,7 +3,8 @@ ghost use Rattle.std.specs.Prelude.{◌≡◌, ◌≢◌, ◌⊎◌, ◌+◌, �
 ghost use Rattle.std.specs.List.{Contains};
 ghost use Rattle.mysql_named_params.specs.Tokens.{OnTokens};
 ghost use Rattle.mysql_named_params.specs.Places.{HasMark, HasName, names};
-ghost use Rattle.mysql_params_core.specs.Given.{Given, given_by_borrowed};
+ghost use Rattle.mysql_params_core.specs.Given.{Given};
+ghost use Rattle.mysql_params_core.specs.GivenBorrowed.{given_by_borrowed};
 ghost use Rattle.mysql_binding.specs.BindErrors.{IsCauseOrMemory};
 ghost use Rattle.mysql_binding.specs.FirstCause.{first_cause};
 ghost use Rattle.mysql_binding.specs.Isolation.{IsBoundText};

@@ -12,7 +12,8 @@ use Rattle.std.proofs.lemmas.List.{at_drop_more, at_drop_all, take_more, map-app
 use Rattle.std.proofs.lemmas.Option.{slice_get-get_or}
 use Rattle.mysql_value_core.specs.declared.value.borrowed.ValueRef.{ValueRef}
 use Rattle.mysql_values.specs.BorrowedValue.{owned}
-use Rattle.mysql_params_core.specs.Given.{by_borrowed, pair_map, named}
+use Rattle.mysql_params_core.specs.Given.{named}
+use Rattle.mysql_params_core.specs.GivenBorrowed.{by_borrowed, pair_map}
 use Rattle.mysql_params_core.specs.Made.{with_pair, by_name, seen_pair, redefined, IsFirstRedefined}
 use Rattle.mysql_params_core.proofs.MakingLemmas.{fold-take-next, fold-refused_at}
 

@@ -12,7 +12,8 @@ use Rattle.std.specs.Map.{lookup, KeepsOthers}
 use Rattle.std.proofs.lemmas.List.{at_drop_more, at_drop_all}
 use Rattle.mysql_value_core.specs.declared.value.borrowed.ValueRef.{ValueRef}
 use Rattle.mysql_values.specs.BorrowedValue.{owned}
-use Rattle.mysql_params_core.specs.Given.{ValueMap, pair_map}
+use Rattle.mysql_params_core.specs.Given.{ValueMap}
+use Rattle.mysql_params_core.specs.GivenBorrowed.{pair_map}
 use Rattle.mysql_params_core.specs.Made.{with_pair, seen_pair, IsFirstRedefined}
 use Rattle.mysql_params_core.proofs.PairLemmas.{made_more, made_no_more, pair_map_more}
 

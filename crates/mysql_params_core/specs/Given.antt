@@ -5,14 +5,9 @@ use Rattle.std.specs.Global.{Vec}
 use Rattle.std.specs.Ordering.{nat_cmp}
 use Rattle.std.specs.Cmp.Lexicographic.{slice_cmp}
 use Rattle.std.specs.FinMap.{FinMap, from_entries}
-use Rattle.std.specs.Borrow.{Bor}
 use Rattle.mysql_value_core.specs.declared.value.Value.{Value}
-use Rattle.mysql_value_core.specs.declared.value.borrowed.ValueRef.{ValueRef}
-use Rattle.mysql_values.specs.BorrowedValue.{owned, owned_values}
 use Rattle.mysql_params_core.specs.declared.params.Params.{Params}
 use Rattle.mysql_params_core.specs.declared.params.Params.TheVariants.{Empty, Named, Positional}
-use Rattle.mysql_params_core.specs.declared.params.borrowed.BorrowedParams.{BorrowedParams}
-use Rattle.mysql_params_core.specs.declared.params.borrowed.BorrowedParams.TheVariants as borrowed
 
 -- a finite map from names, which are bytes, to values
 abbrev pub ValueMap : Type 0
@@ -35,25 +30,8 @@ pub data Given : Type 0 where
   -- values by position
   positional : List Value → Given
 
--- a borrowed entry, with its name as bytes
-abbrev pub by_borrowed : Bor (List ℕ) × ValueRef → List ℕ × Value
-by_borrowed pair = (pair.0.now, owned pair.1)
-
--- the finite map of pairs; of pairs of one name it has the first
-abbrev pub pair_map : List (Bor (List ℕ) × ValueRef) → ValueMap
-pair_map pairs = from_entries (map by_borrowed pairs)
-
 -- what these parameters give
 abbrev pub given : Params → Given
 given Empty = empty
 given (Named entries) = named (value_map entries.entries)
 given (Positional values) = positional values.items
-
--- what these borrowed parameters give
-abbrev pub given_by_borrowed : BorrowedParams → Given
-given_by_borrowed borrowed.Empty = empty
-given_by_borrowed (borrowed.Named entries) = named (value_map entries.now.entries)
-given_by_borrowed (borrowed.Sorted entries) = named (value_map entries.now.entries)
-given_by_borrowed (borrowed.Pairs pairs) = named (pair_map pairs.now.0.now)
-given_by_borrowed (borrowed.Positional values) = positional values.now
-given_by_borrowed (borrowed.Values values) = positional (owned_values values.now)

@@ -1,4 +1,5 @@
 pub mod Given
+pub mod GivenBorrowed
 pub use Rattle.mysql_wire_part.specs.Answer
 pub mod Referents
 pub mod Names

@@ -2,7 +2,8 @@
 ghost use Rattle.std.specs.Prelude.{◌≡◌, ℕ, Bool, List, None, Ok, map, IfErr, IfOk, IfSome, IsErrOf, OnErr};
 ghost use Rattle.mysql_named_params.specs.Tokens.{OnTokens};
 ghost use Rattle.mysql_named_params.specs.Places.{HasMark, HasName};
-ghost use Rattle.mysql_params_core.specs.Given.{named, pair_map, positional};
+ghost use Rattle.mysql_params_core.specs.Given.{named, positional};
+ghost use Rattle.mysql_params_core.specs.GivenBorrowed.{pair_map};
 ghost use Rattle.mysql_params_core.specs.Made.{pairs_made, seen_pair};
 ghost use Rattle.mysql_values.specs.BorrowedValue.{owned_values};
 ghost use Rattle.mysql_binding.specs.BindErrors.{IsCauseOrMemory};

@@ -2,7 +2,8 @@
 ghost use Rattle.std.specs.Prelude.{◌≡◌, IfErr, IfOk, IsErrOf, OnErr};
 ghost use Rattle.mysql_named_params.specs.Tokens.{OnTokens};
 ghost use Rattle.mysql_named_params.specs.Places.{HasName, HasMark};
-ghost use Rattle.mysql_params_core.specs.Given.{Given, given_by_borrowed};
+ghost use Rattle.mysql_params_core.specs.Given.{Given};
+ghost use Rattle.mysql_params_core.specs.GivenBorrowed.{given_by_borrowed};
 ghost use Rattle.mysql_binding.specs.BindErrors.{IsCauseOrMemory};
 ghost use Rattle.mysql_binding.specs.FirstCause.{first_cause};
 ghost use Rattle.mysql_binding.specs.FoundPlaces.{BeginWithPlaces};

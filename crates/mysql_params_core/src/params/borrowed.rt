@@ -2,7 +2,8 @@
 ghost use Rattle.std.specs.Prelude.{◌≡◌, ◌<◌, IfOk, IsErrOf, OnErr, alloc_error, length, ⊤};
 ghost use Rattle.mysql_wire_part.specs.Answer.{IsAnswer};
 ghost use Rattle.mysql_params_core.specs.Errors.{lookup_refusal};
-ghost use Rattle.mysql_params_core.specs.Given.{ValueMap, given, given_by_borrowed, named};
+ghost use Rattle.mysql_params_core.specs.Given.{ValueMap, given, named};
+ghost use Rattle.mysql_params_core.specs.GivenBorrowed.{given_by_borrowed};
 ghost use Rattle.mysql_params_core.specs.Lookup.{lookup, PlaceValuesTakeMemory};
 ghost use Rattle.mysql_params_core.specs.Referents.{referents};
 ghost use Rattle.mysql_values.specs.BorrowedValue.{owned_values};

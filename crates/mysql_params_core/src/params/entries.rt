@@ -1,7 +1,8 @@
 //! The entries of named parameters.
 ghost use Rattle.std.specs.Prelude.{◌≡◌, ◌<◌, Ok, IfOk, MatchOption, OnErr, OnOk, length, map, option_map};
 ghost use Rattle.std.specs.FinMap.{contains_key, empty, get, insert};
-ghost use Rattle.mysql_params_core.specs.Given.{ValueMap, named, pair_map, value_map};
+ghost use Rattle.mysql_params_core.specs.Given.{ValueMap, named, value_map};
+ghost use Rattle.mysql_params_core.specs.GivenBorrowed.{pair_map};
 ghost use Rattle.mysql_params_core.specs.Made.{few_pairs, pairs_made, seen_pair, IsFirstRedefined};
 ghost use Rattle.mysql_values.specs.BorrowedValue.{owned};
 

@@ -6,8 +6,8 @@ ghost use Rattle.mysql_value_core.specs.declared.value.Value as value;
 
 use crate::value::BinaryRowError;
 
-/// A row that is written in binary form reads back, before any bytes, under each bitmap that says of
-/// its values which are NULL.
+/// A row that is written in binary form reads back, before any bytes, under each bitmap that says
+/// which of its values are NULL.
 pub fn binary_rows_read_back()
     ensures reads_back { (columns : List Column) (bitmap : List ℕ) (values : List value.Value)
         → RowReadsBack columns bitmap values }

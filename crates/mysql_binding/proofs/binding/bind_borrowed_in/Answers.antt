@@ -1,4 +1,4 @@
-use Rattle.mysql_params_core.specs.Given.{given_by_borrowed}
+use Rattle.mysql_params_core.specs.GivenBorrowed.{given_by_borrowed}
 use Rattle.mysql_binding.proofs.BoundTextLemmas.{answer_bound, answer_bound_again, answer_by_position}
 use Rattle.mysql_binding.proofs.binding.bind_borrowed_in.Goals as goal
 

@@ -1,5 +1,5 @@
 use Rattle.std.proofs.Common.{arith}
-use Rattle.mysql_params_core.specs.Given.{given_by_borrowed}
+use Rattle.mysql_params_core.specs.GivenBorrowed.{given_by_borrowed}
 use Rattle.mysql_values.specs.BorrowedValue.{owned_values}
 use Rattle.mysql_binding.proofs.BoundTextLemmas.{refused_later, looked_up}
 use Rattle.mysql_binding.proofs.MeasuredTextLemmas.{is_measured}

@@ -1,6 +1,6 @@
 use Rattle.std.proofs.Common.{ap, sym, ◌∙◌, inl, inr}
 use Rattle.std.specs.Prelude.{option_map}
-use Rattle.mysql_params_core.specs.Given.{given_by_borrowed}
+use Rattle.mysql_params_core.specs.GivenBorrowed.{given_by_borrowed}
 use Rattle.mysql_params_core.specs.Lookup.{lookup}
 use Rattle.mysql_params_core.specs.Referents.{referents}
 use Rattle.mysql_binding.specs.FirstCause.{refused_params}

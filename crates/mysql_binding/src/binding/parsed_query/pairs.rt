@@ -2,7 +2,8 @@
 ghost use Rattle.std.specs.Prelude.{◌≡◌, IfErr, IfOk, IsErrOf, OnErr, OnOk};
 ghost use Rattle.mysql_named_params.specs.Tokens.{OnTokens};
 ghost use Rattle.mysql_named_params.specs.Places.{HasMark, HasName};
-ghost use Rattle.mysql_params_core.specs.Given.{given_by_borrowed, positional};
+ghost use Rattle.mysql_params_core.specs.Given.{positional};
+ghost use Rattle.mysql_params_core.specs.GivenBorrowed.{given_by_borrowed};
 ghost use Rattle.mysql_values.specs.BorrowedValue.{owned_values};
 ghost use Rattle.mysql_binding.specs.BindErrors.{IsCauseOrMemory};
 ghost use Rattle.mysql_binding.specs.BoundAgain.{IsSameBoundAgain, IsSameByPosition};

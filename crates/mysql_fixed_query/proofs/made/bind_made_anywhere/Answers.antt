@@ -2,7 +2,8 @@ use Rattle.std.specs.Prelude.{false}
 use Rattle.std.proofs.Common.{ap, subst, ◌∙◌}
 use Rattle.mysql_named_params.specs.Tokens.{OnTokens}
 use Rattle.mysql_named_params.specs.TokensOf.{tokens_of}
-use Rattle.mysql_params_core.specs.Given.{Given, given_by_borrowed}
+use Rattle.mysql_params_core.specs.Given.{Given}
+use Rattle.mysql_params_core.specs.GivenBorrowed.{given_by_borrowed}
 use Rattle.mysql_binding.specs.FirstCause.{first_cause}
 use Rattle.mysql_steady_text.specs.SteadyText.{IsSteadyText}
 use Rattle.mysql_fixed_query.proofs.AnywhereLemmas.{made_anywhere, made_is, memory_alone}

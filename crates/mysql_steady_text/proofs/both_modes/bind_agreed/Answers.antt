@@ -1,4 +1,4 @@
-use Rattle.mysql_params_core.specs.Given.{given_by_borrowed}
+use Rattle.mysql_params_core.specs.GivenBorrowed.{given_by_borrowed}
 use Rattle.mysql_steady_text.proofs.BothModesAnswerLemmas.{bound_answer}
 use Rattle.mysql_steady_text.proofs.both_modes.bind_agreed.Goals as goal
 

@@ -1,7 +1,7 @@
 use Rattle.std.specs.Prelude.{true, None}
 use Rattle.std.proofs.Common.{refl, sym, ◌∙◌, rules}
 use Rattle.mysql_named_params.proofs.TokensExistLemmas.{tokens_exist}
-use Rattle.mysql_params_core.specs.Given.{given_by_borrowed}
+use Rattle.mysql_params_core.specs.GivenBorrowed.{given_by_borrowed}
 use Rattle.mysql_steady_text.proofs.BothModesTextLemmas.{nothing_said}
 use Rattle.mysql_steady_text.proofs.SteadyTextLemmas.{refused_answer}
 use Rattle.mysql_steady_text.proofs.SteadyAgainLemmas.{answer_bound_again, answer_by_position}

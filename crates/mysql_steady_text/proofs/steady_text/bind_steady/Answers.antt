@@ -1,5 +1,5 @@
 use Rattle.mysql_named_params.proofs.SteadyLemmas.{steady_other}
-use Rattle.mysql_params_core.specs.Given.{given_by_borrowed}
+use Rattle.mysql_params_core.specs.GivenBorrowed.{given_by_borrowed}
 use Rattle.mysql_binding.specs.BindErrors.{IsCauseOrMemory}
 use Rattle.mysql_binding.specs.FirstCause.{first_cause}
 use Rattle.mysql_steady_text.proofs.BothModesTextLemmas.{nothing_said}

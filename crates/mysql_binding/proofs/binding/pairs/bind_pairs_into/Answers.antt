@@ -1,5 +1,6 @@
 use Rattle.std.specs.Prelude.{Ok, refl}
-use Rattle.mysql_params_core.specs.Given.{named, pair_map}
+use Rattle.mysql_params_core.specs.Given.{named}
+use Rattle.mysql_params_core.specs.GivenBorrowed.{pair_map}
 use Rattle.mysql_binding.specs.declared.bind_error.BindError.{BindError}
 use Rattle.mysql_binding.proofs.TextInRoomLemmas.{bound_in_room}
 use Rattle.mysql_binding.proofs.binding.pairs.bind_pairs_into.Goals as goal

@@ -1,7 +1,7 @@
 use Rattle.std.specs.Prelude.{Result, Ok, Err}
 use Rattle.std.proofs.Common.{◌≡◌, ap, refl, arith}
 use Rattle.std.proofs.lemmas.List.{length-take-le}
-use Rattle.mysql_params_core.specs.Given.{given_by_borrowed}
+use Rattle.mysql_params_core.specs.GivenBorrowed.{given_by_borrowed}
 use Rattle.mysql_binding.proofs.MeasuredTextLemmas.{measured_length, front_text}
 use Rattle.mysql_binding.proofs.SpanBindLemmas.{own_given_text}
 use Rattle.mysql_binding.proofs.binding.spans.bind_spans_into.Goals as goal

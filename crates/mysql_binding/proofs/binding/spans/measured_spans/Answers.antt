@@ -1,7 +1,7 @@
 use Rattle.std.proofs.Common.{◌<◌, arith, length, map, refl, ap, sym, ◌∙◌}
 use Rattle.mysql_binding.specs.FirstCause.{first_float}
 use Rattle.mysql_binding.specs.LiteralForm.{literal_len}
-use Rattle.mysql_params_core.specs.Given.{given_by_borrowed}
+use Rattle.mysql_params_core.specs.GivenBorrowed.{given_by_borrowed}
 use Rattle.mysql_values.specs.BorrowedValue.{owned_values}
 use Rattle.mysql_binding.proofs.BoundTextLemmas.{refused_later, looked_up}
 use Rattle.mysql_binding.proofs.MeasuredTextLemmas.{is_measured}

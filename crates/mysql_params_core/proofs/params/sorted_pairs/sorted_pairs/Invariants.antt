@@ -1,5 +1,5 @@
 use Rattle.std.proofs.Common.{◌≡◌, ◌≤◌, length, drop}
-use Rattle.mysql_params_core.specs.Given.{pair_map}
+use Rattle.mysql_params_core.specs.GivenBorrowed.{pair_map}
 use Rattle.mysql_params_core.proofs.params.sorted_pairs.sorted_pairs.Given as goal
 
 abbrev pub invariant-loop-i : goal.invariant-loop-i

@@ -3,7 +3,8 @@ use Rattle.std.specs.Bool.{⊤}
 use Rattle.mysql_wire_part.specs.Answer.{IsExpectedRefusal}
 use Rattle.mysql_values.specs.BorrowedValue.{owned_values}
 use Rattle.mysql_params_core.specs.Errors.{lookup_refusal}
-use Rattle.mysql_params_core.specs.Given.{ValueMap, named, pair_map}
+use Rattle.mysql_params_core.specs.Given.{ValueMap, named}
+use Rattle.mysql_params_core.specs.GivenBorrowed.{pair_map}
 use Rattle.mysql_params_core.specs.Lookup.{lookup}
 use Rattle.mysql_params_core.specs.Referents.{referents}
 use Rattle.mysql_params_core.proofs.BorrowedLemmas.{found_more, first_absent, found_all}

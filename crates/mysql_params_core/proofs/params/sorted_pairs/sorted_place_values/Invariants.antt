@@ -1,5 +1,5 @@
 use Rattle.std.proofs.Common.{take}
-use Rattle.mysql_params_core.specs.Given.{pair_map}
+use Rattle.mysql_params_core.specs.GivenBorrowed.{pair_map}
 use Rattle.mysql_params_core.specs.Referents.{referents}
 use Rattle.mysql_params_core.proofs.BorrowedLemmas.{AreFound}
 use Rattle.mysql_params_core.proofs.params.sorted_pairs.sorted_place_values.Given as goal

@@ -2,7 +2,7 @@ use Rattle.std.specs.Prelude.{IfOk, IsErrOf}
 use Rattle.std.proofs.Common.{subst}
 use Rattle.mysql_named_params.specs.Tokens.{OnTokens}
 use Rattle.mysql_named_params.specs.Places.{HasName, HasMark}
-use Rattle.mysql_params_core.specs.Given.{given_by_borrowed}
+use Rattle.mysql_params_core.specs.GivenBorrowed.{given_by_borrowed}
 use Rattle.mysql_binding.specs.BoundAgain.{IsSameBoundAgain, IsSameByPosition}
 use Rattle.mysql_binding.specs.ParsedQuery.{QueryInMode}
 use Rattle.mysql_binding.specs.declared.bind_error.BindError.TheVariants.{Mixed}

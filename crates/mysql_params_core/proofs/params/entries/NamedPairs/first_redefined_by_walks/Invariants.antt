@@ -1,7 +1,7 @@
 use Rattle.std.proofs.Common.{◌≡◌, map, take}
 use Rattle.std.specs.Prelude.{Ok, fold}
 use Rattle.std.specs.FinMap.{empty}
-use Rattle.mysql_params_core.specs.Given.{pair_map}
+use Rattle.mysql_params_core.specs.GivenBorrowed.{pair_map}
 use Rattle.mysql_params_core.specs.Made.{with_pair, seen_pair}
 use Rattle.mysql_params_core.proofs.params.entries.NamedPairs.first_redefined_by_walks.Given as goal
 

@@ -1,6 +1,6 @@
 use Rattle.std.proofs.Common.{◌≡◌, drop}
 use Rattle.std.specs.FinMap.{get}
-use Rattle.mysql_params_core.specs.Given.{pair_map}
+use Rattle.mysql_params_core.specs.GivenBorrowed.{pair_map}
 use Rattle.mysql_params_core.proofs.params.entries.NamedPairsNamedValues.value_of.Given as goal
 
 abbrev pub invariant-loop-pair : goal.invariant-loop-pair

@@ -1,0 +1,28 @@
+-- What borrowed parameters give to a query: maps and lists that are lent, and pairs whose names and
+-- values are borrowed.
+use Rattle.std.specs.Prelude.{ℕ, List, map}
+use Rattle.std.specs.FinMap.{from_entries}
+use Rattle.std.specs.Borrow.{Bor}
+use Rattle.mysql_value_core.specs.declared.value.Value.{Value}
+use Rattle.mysql_value_core.specs.declared.value.borrowed.ValueRef.{ValueRef}
+use Rattle.mysql_values.specs.BorrowedValue.{owned, owned_values}
+use Rattle.mysql_params_core.specs.Given.{Given, ValueMap, empty, named, positional, value_map}
+use Rattle.mysql_params_core.specs.declared.params.borrowed.BorrowedParams.{BorrowedParams}
+use Rattle.mysql_params_core.specs.declared.params.borrowed.BorrowedParams.TheVariants as borrowed
+
+-- a borrowed entry, with its name as bytes
+abbrev pub by_borrowed : Bor (List ℕ) × ValueRef → List ℕ × Value
+by_borrowed pair = (pair.0.now, owned pair.1)
+
+-- the finite map of pairs; of pairs of one name it has the first
+abbrev pub pair_map : List (Bor (List ℕ) × ValueRef) → ValueMap
+pair_map pairs = from_entries (map by_borrowed pairs)
+
+-- what these borrowed parameters give
+abbrev pub given_by_borrowed : BorrowedParams → Given
+given_by_borrowed borrowed.Empty = empty
+given_by_borrowed (borrowed.Named entries) = named (value_map entries.now.entries)
+given_by_borrowed (borrowed.Sorted entries) = named (value_map entries.now.entries)
+given_by_borrowed (borrowed.Pairs pairs) = named (pair_map pairs.now.0.now)
+given_by_borrowed (borrowed.Positional values) = positional values.now
+given_by_borrowed (borrowed.Values values) = positional (owned_values values.now)
