@@ -52,7 +52,7 @@ written_len literal (v ∷ values) =
       written_len literal values,
     )
 
-bound_len : (ts : List Token) (texts : List (List ℕ)) → length texts ≡ place_count ts →
+pub bound_len : (ts : List Token) (texts : List (List ℕ)) → length texts ≡ place_count ts →
     length (bound ts texts) ≡ plain_len ts + sum_by length texts
 bound_len [] [] e = refl
 bound_len [] (text ∷ texts) e = absurd (omega (arith, e))

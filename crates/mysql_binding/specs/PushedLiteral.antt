@@ -1,5 +1,4 @@
--- What is known of a literal that was written: for `push_literal`, which is lent to the crates
--- above.
+-- What is known of a literal that was written: for `put_literal`, which is lent to the crate above.
 use Rattle.std.specs.Prelude.{◌≡◌, false, List, [], ◌∷◌, Some, ⊤}
 use Rattle.mysql_values.specs.declared.value.Value.{Value}
 use Rattle.mysql_values.specs.Literal.{is_float}

@@ -34,8 +34,9 @@ mod text;
 use crate::bind_error::BindError;
 pub use crate::binding::form::{LiteralForm, PlainForm};
 use crate::binding::found::all_places;
+pub use crate::binding::found::place_after;
 use crate::binding::literals::first_float;
-pub use crate::binding::literals::push_literal;
+pub use crate::binding::literals::{literal_len, put_literal};
 pub use crate::binding::measured::MeasuredText;
 use crate::binding::measured::with_lengths;
 use crate::binding::names::query_names;
@@ -44,8 +45,8 @@ pub use crate::binding::parsed_query::{ParsedQuery, append_parsed};
 pub use crate::binding::room::{TextInRoom, bind_borrowed_into};
 pub use crate::binding::spans::{PlaceSpan, bind_spans_into, can_be_spans, place_spans};
 pub use crate::binding::survey::{Survey, place_survey};
-pub use crate::binding::text::fill_measured;
 use crate::binding::text::written_text;
+pub use crate::binding::text::{append_piece, fill_measured};
 use mysql_named_params::places::{FoundPlace, PlaceKind};
 use mysql_params_core::params::{BorrowedParams, Params, ParamsError, place_values};
 use mysql_values::value::ValueRef;
@@ -110,12 +111,12 @@ pub fn bind_text(alloc: Global, query: &[u8], params: Params) -> Result<Vec<u8>,
     bind_text_in(alloc, query, params, false)
 }
 
-// The number of places that are kept on the stack while a query is surveyed, so that a query with
-// no more of them isn't walked again.
-const KEPT_PLACES: usize = 16;
+/// The number of places that are kept on the stack while a query is surveyed, so that a query with
+/// no more of them isn't walked again.
+pub const KEPT_PLACES: usize = 16;
 
-// What stands in the array before a place is kept.
-const NO_PLACE: FoundPlace = FoundPlace {
+/// What stands in the array before a place is kept.
+pub const NO_PLACE: FoundPlace = FoundPlace {
     before: 0,
     kind: PlaceKind::Mark,
     len: 0,

@@ -1,4 +1,5 @@
 pub mod TextLemmas
+pub mod JoinedLemmas
 pub mod FragmentLemmas
 pub mod SentFragmentLemmas
 pub mod SplicedFragmentLemmas
@@ -8,5 +9,6 @@ pub mod PlaceLemmas
 pub mod CauseLemmas
 pub mod ExpandedLemmas
 pub mod FilledLemmas
+pub mod FillLemmas
 pub mod ValueFragmentLemmas
 pub mod InPlaceLemmas

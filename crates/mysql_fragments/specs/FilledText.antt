@@ -1,7 +1,7 @@
 -- A query with fragments in its places and literals for their values, as it is written at once: for
 -- `placed_fragments` and `filled_query`, which are lent to the crate above. FragmentText.antt has
 -- the same texts with marks.
-use Rattle.std.specs.Prelude.{◌≡◌, ℕ, Bool, true, List, map, ◌++◌, codes, None, Ok}
+use Rattle.std.specs.Prelude.{◌≡◌, ◌==◌, ℕ, Bool, true, List, [], map, ◌++◌, if◌then◌else◌, codes, None, Ok}
 use Rattle.std.specs.Global.{Vec}
 use Rattle.mysql_values.specs.declared.value.Value.{Value}
 use Rattle.mysql_named_params.specs.Tokens.{Token}
@@ -18,6 +18,11 @@ use Rattle.mysql_fragments.specs.declared.fragment.Item.{Item}
 use Rattle.mysql_fragments.specs.declared.fragment.Item.TheVariants as item
 use Rattle.mysql_fragments.specs.declared.fragment.Fragment.{Fragment}
 use Rattle.mysql_fragments.specs.declared.fragment.Fragment.TheVariants as one
+
+-- what stands before the text of this number in a row of texts: the separator, except before the
+-- first
+abbrev pub separator_before : List ℕ → ℕ → List ℕ
+separator_before separator i = if i == 0 then [] else separator
 
 -- an item: this text of a value, a number as it is written
 abbrev pub filled_item : (Value → List ℕ) → Item → List ℕ

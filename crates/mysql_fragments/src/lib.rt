@@ -11,6 +11,8 @@ mod filled;
 mod fragment;
 mod fragments_error;
 pub mod laws;
+mod measured;
+mod names;
 mod places;
 mod written;
 

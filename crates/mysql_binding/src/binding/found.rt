@@ -9,8 +9,8 @@ use mysql_named_params::places::{FoundPlace, first_place};
 use std::alloc::{AllocError, Global};
 
 /// The first place of the rest of a query, before which stand `i` places: the one that is known, or
-/// else the one that is found now.
-pub(super) fn place_after(
+/// else the one that is found now. It is lent to the crate above.
+pub fn place_after(
     known: &[FoundPlace],
     i: usize,
     rest: &[u8],

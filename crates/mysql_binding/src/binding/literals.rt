@@ -1,5 +1,5 @@
 //! The literals of values, in any form.
-ghost use Rattle.std.specs.Prelude.{◌≡◌, ◌+◌, ◌++◌, ◌≤◌, false, Some, IfOk, IfSome, OnErr, length, map, take};
+ghost use Rattle.std.specs.Prelude.{◌≡◌, ◌+◌, ◌++◌, ◌≤◌, false, Some, IfOk, length, map, take};
 ghost use Rattle.std.specs.List.{All};
 ghost use Rattle.mysql_values.specs.Literal.{is_float};
 ghost use Rattle.mysql_values.specs.Value.{FieldsInRange};
@@ -10,7 +10,7 @@ ghost use Rattle.mysql_binding.specs.PushedLiteral.{IsKnownUnlessFloat};
 
 use crate::binding::form::LiteralForm;
 use mysql_values::laws::borrowed_fields_in_range;
-use mysql_values::value::{Value, ValueRef};
+use mysql_values::value::ValueRef;
 use std::alloc::{AllocError, Global};
 
 /// The place of the first float.
@@ -42,9 +42,9 @@ pub(super) fn literal_lens<F: LiteralForm>(
     Ok(lens)
 }
 
-// The length of the literal of a value, 0 for a float.
+/// The length of the literal of a value, 0 for a float. It is lent to the crate above.
 #[tactic(auto, using(crate::proofs::TextLengthLemmas::length_or_zero))]
-fn literal_len<F: LiteralForm>(value: ValueRef<'_>, form: &F) -> u128
+pub fn literal_len<F: LiteralForm>(value: ValueRef<'_>, form: &F) -> u128
     ensures len { result ≡ literal_len (F.literal form.now) (owned value.entry) }
     ensures in_range { FieldsInRange (owned value.entry) }
 {
@@ -77,43 +77,23 @@ pub(super) fn append_literal<F: LiteralForm>(
     end
 }
 
-/// Writes the literal of a value to the end of the text, and nothing for a float. If memory is
-/// refused, the text stays as it is. It is lent to the crates above: a text whose length isn't
-/// known before is written in one pass.
-pub fn push_literal<F: LiteralForm>(
-    text: &mut Vec<u8>,
-    value: &Value,
+/// Writes the literal of a value into the text from this index on, and nothing for a float, and
+/// returns the index after it. What stands before it is kept. It is lent to the crate above.
+pub fn put_literal<F: LiteralForm>(
+    text: &mut [u8],
+    at: usize,
+    value: ValueRef<'_>,
     form: &F,
-) -> Result<(), AllocError>
-    ensures text { IfOk result (λ done. text.new.items
-        ≡ text.old.items ++ written_literal (F.literal form.now) value.now) }
-    ensures known { IfOk result (λ done.
-        IsKnownUnlessFloat (F.literal form.now) (F.IsKnown form.now) value.now) }
-    ensures kept { OnErr result (text.new.items ≡ text.old.items) }
-
-    // Nothing is allocated for a float.
-    ensures memory { OnErr result (is_float value.now ≡ false) }
+) -> usize
+    requires room { at + literal_len (F.literal form.now) (owned value) ≤ length text.old }
+    ensures next { result ≡ at + literal_len (F.literal form.now) (owned value.entry) }
+    ensures front { take result text.new
+        ≡ take at text.old ++ written_literal (F.literal form.now) (owned value.entry) }
+    ensures known { IsKnownUnlessFloat (F.literal form.now) (F.IsKnown form.now)
+        (owned value.entry) }
 {
-    let value = value.borrowed();
-    let Some(len) = form.len(value) else {
-        return Ok(());
-    };
-    let at = text.len();
-    let Some(end) = end_after(at, len) else {
-        return Err(AllocError);
-    };
-    text.resize(end, 0)?;
-    append_literal(text.as_mut_slice(), at, value, end - at, form);
-    Ok(())
-}
-
-// The index after this many bytes from an index on, if there is such an index.
-fn end_after(at: usize, len: u128) -> Option<usize>
-    ensures { IfSome result (λ end. end ≡ at + len) }
-{
-    let end = (at as u128).checked_add(len)?;
-    if end > usize::MAX as u128 {
-        return None;
+    match form.len(value) {
+        Some(len) => append_literal(text, at, value, len as usize, form),
+        None => at,
     }
-    Some(end as usize)
 }

@@ -177,8 +177,8 @@ fn fill_text<F: LiteralForm>(
 }
 
 /// Copies the piece into the text from this index on, and returns the index after it. What stands
-/// before it is kept.
-pub(super) fn append_piece(text: &mut [u8], at: usize, piece: &[u8]) -> usize
+/// before it is kept. It is lent to the crate above.
+pub fn append_piece(text: &mut [u8], at: usize, piece: &[u8]) -> usize
     requires { at + length piece.now ≤ length text.old }
     ensures next { result ≡ at + length piece.now }
     ensures front { take result text.new ≡ take at text.old ++ piece.now }

@@ -1,0 +1,12 @@
+use Rattle.std.proofs.Common.{refl, arith}
+use Rattle.std.specs.Prelude.{codes}
+use Rattle.mysql_binding.specs.LiteralForm.{written_literal}
+use Rattle.mysql_fragments.specs.FilledText.{filled_row}
+use Rattle.mysql_fragments.proofs.JoinedLemmas.{joined_fits}
+use Rattle.mysql_fragments.proofs.measured.with_rows.Goals as goal
+
+pub returns-in_err-sum-clause-too_long : goal.returns-in_err-sum-clause-too_long
+returns-in_err-sum-clause-too_long g c = λ none. omega (arith, c.loop-i.invariant, c.in_err-sum.ensures.too_long refl, joined_fits (codes ", ") (filled_row (written_literal (g.F.LiteralForm.literal c.args.form.now))) c.args.rows.now c.loop-i.i c.index-rows-i.result c.loop-i-test.true c.index-rows-i.is)
+
+pub returns-in_err-sum-2-clause-too_long : goal.returns-in_err-sum-2-clause-too_long
+returns-in_err-sum-2-clause-too_long g c = λ none. omega (arith, c.loop-i.invariant, c.in_ok-sum.ensures.len, c.in_err-sum-2.ensures.too_long refl, joined_fits (codes ", ") (filled_row (written_literal (g.F.LiteralForm.literal c.args.form.now))) c.args.rows.now c.loop-i.i c.index-rows-i.result c.loop-i-test.true c.index-rows-i.is)

@@ -1,0 +1,164 @@
+//! The length of a query with fragments in its places and the literals of values in these, before a
+//! byte of it is written. Nothing is allocated. Each length is added to the one so far, and there
+//! is none if the sum is above `isize::MAX`.
+ghost use Rattle.std.specs.Prelude.{◌≡◌, ◌+◌, ◌++◌, ◌^◌, ◌≤◌, None, IfSome, codes, length, map};
+ghost use Rattle.std.specs.List.{sum_by};
+ghost use Rattle.mysql_params_core.specs.Referents.{referents};
+ghost use Rattle.mysql_binding.specs.LiteralForm.{written_literal};
+ghost use Rattle.mysql_fragments.specs.FilledText.{filled_item, filled_items, filled_row, filled_text, separator_before};
+ghost use Rattle.mysql_fragments.specs.FragmentText.{doubled, identifier_text, joined};
+
+use crate::fragment::{Fragment, Item};
+use mysql_binding::{LiteralForm, literal_len};
+
+/// The length of a text whose pieces have this many bytes, with these fragments between them, their
+/// values as literals in a form.
+pub(crate) fn filled_len<F: LiteralForm>(
+    piece_bytes: usize,
+    fragments: &[&Fragment],
+    form: &F,
+) -> Option<usize>
+    ensures len { IfSome result (λ len. len ≡ piece_bytes + sum_by length
+        (map (filled_text (written_literal (F.literal form.now))) (referents fragments.now))) }
+    ensures too_long { result ≡ None → 2 ^ 63 ≤ piece_bytes + sum_by length
+        (map (filled_text (written_literal (F.literal form.now))) (referents fragments.now)) }
+{
+    let mut len = piece_bytes;
+    for fragment in fragments {
+        len = with_fragment(len, *fragment, form)?;
+    }
+    Some(len)
+}
+
+// The length with that of a fragment.
+fn with_fragment<F: LiteralForm>(len: usize, fragment: &Fragment, form: &F) -> Option<usize>
+    ensures len { IfSome result (λ sum. sum
+        ≡ len + length (filled_text (written_literal (F.literal form.now)) fragment.now)) }
+    ensures too_long { result ≡ None → 2 ^ 63
+        ≤ len + length (filled_text (written_literal (F.literal form.now)) fragment.now) }
+{
+    match fragment {
+        Fragment::Value(value) => with_more(len, literal_len(value.borrowed(), form)),
+        Fragment::List(items) => with_items(len, items.as_slice(), form),
+        Fragment::Rows(rows) => with_rows(len, rows.as_slice(), form),
+        Fragment::Decimal(number) => with_more(len, number.len() as u128),
+        Fragment::Identifier(name) => with_identifier(len, name.as_slice()),
+        Fragment::Qualified(names) => with_names(len, names.as_slice()),
+        Fragment::Keyword(word) => with_more(len, word.as_bytes().len() as u128),
+    }
+}
+
+// The length with that of an item.
+fn with_item<F: LiteralForm>(len: usize, item: &Item, form: &F) -> Option<usize>
+    ensures len { IfSome result (λ sum. sum
+        ≡ len + length (filled_item (written_literal (F.literal form.now)) item.now)) }
+    ensures too_long { result ≡ None → 2 ^ 63
+        ≤ len + length (filled_item (written_literal (F.literal form.now)) item.now) }
+{
+    match item {
+        Item::Value(value) => with_more(len, literal_len(value.borrowed(), form)),
+        Item::Decimal(number) => with_more(len, number.len() as u128),
+    }
+}
+
+// The length with that of items with commas between them.
+fn with_items<F: LiteralForm>(len: usize, items: &[Item], form: &F) -> Option<usize>
+    ensures len { IfSome result (λ sum. sum
+        ≡ len + length (filled_items (written_literal (F.literal form.now)) items.now)) }
+    ensures too_long { result ≡ None → 2 ^ 63
+        ≤ len + length (filled_items (written_literal (F.literal form.now)) items.now) }
+{
+    let mut sum = len;
+    for (i, item) in items.iter().enumerate() {
+        sum = with_separator(sum, i, b", ")?;
+        sum = with_item(sum, item, form)?;
+    }
+    Some(sum)
+}
+
+// The length with that of rows in brackets with commas between them.
+fn with_rows<F: LiteralForm>(len: usize, rows: &[Vec<Item>], form: &F) -> Option<usize>
+    ensures len { IfSome result (λ sum. sum ≡ len + length (joined (codes ", ")
+        (map (filled_row (written_literal (F.literal form.now))) rows.now))) }
+    ensures too_long { result ≡ None → 2 ^ 63 ≤ len + length (joined (codes ", ")
+        (map (filled_row (written_literal (F.literal form.now))) rows.now)) }
+{
+    let mut sum = len;
+    for (i, row) in rows.iter().enumerate() {
+        sum = with_separator(sum, i, b", ")?;
+        sum = with_row(sum, row, form)?;
+    }
+    Some(sum)
+}
+
+// The length with that of a row in brackets.
+fn with_row<F: LiteralForm>(len: usize, row: &Vec<Item>, form: &F) -> Option<usize>
+    ensures len { IfSome result (λ sum. sum
+        ≡ len + length (filled_row (written_literal (F.literal form.now)) row.now)) }
+    ensures too_long { result ≡ None → 2 ^ 63
+        ≤ len + length (filled_row (written_literal (F.literal form.now)) row.now) }
+{
+    let sum = with_items(len, row.as_slice(), form)?;
+    with_more(sum, 2)
+}
+
+// The length with that of names as identifiers with points between them.
+fn with_names(len: usize, names: &[Vec<u8>]) -> Option<usize>
+    ensures len { IfSome result (λ sum. sum ≡ len + length (joined (codes ".")
+        (map (λ name. identifier_text name.items) names.now))) }
+    ensures too_long { result ≡ None → 2 ^ 63 ≤ len + length (joined (codes ".")
+        (map (λ name. identifier_text name.items) names.now)) }
+{
+    let mut sum = len;
+    for (i, name) in names.iter().enumerate() {
+        sum = with_separator(sum, i, b".")?;
+        sum = with_identifier(sum, name.as_slice())?;
+    }
+    Some(sum)
+}
+
+// The length with that of a name as an identifier.
+fn with_identifier(len: usize, name: &[u8]) -> Option<usize>
+    ensures len { IfSome result (λ sum. sum ≡ len + length (identifier_text name.now)) }
+    ensures too_long { result ≡ None → 2 ^ 63 ≤ len + length (identifier_text name.now) }
+{
+    with_more(len, name.len() as u128 + backquotes(name) as u128 + 2)
+}
+
+// The number of backquotes in a name.
+fn backquotes(name: &[u8]) -> usize
+    ensures doubled { length (doubled name.now) ≡ length name.now + result }
+    ensures in_name { result ≤ length name.now }
+{
+    let mut count = 0;
+    for b in name {
+        if *b == b'`' {
+            count += 1;
+        }
+    }
+    count
+}
+
+// The length with that of a separator, which stands before each text except the first.
+fn with_separator(len: usize, i: usize, separator: &[u8]) -> Option<usize>
+    ensures len { IfSome result (λ sum. sum ≡ len + length (separator_before separator.now i)) }
+    ensures too_long { result ≡ None → 2 ^ 63 ≤ len + length (separator_before separator.now i) }
+{
+    if i == 0 {
+        Some(len)
+    } else {
+        with_more(len, separator.len() as u128)
+    }
+}
+
+// The length and so many bytes more.
+fn with_more(len: usize, more: u128) -> Option<usize>
+    ensures len { IfSome result (λ sum. sum ≡ len + more) }
+    ensures too_long { result ≡ None → 2 ^ 63 ≤ len + more }
+{
+    let sum = (len as u128).checked_add(more)?;
+    if sum > isize::MAX as u128 {
+        return None;
+    }
+    Some(sum as usize)
+}
