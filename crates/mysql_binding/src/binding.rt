@@ -126,7 +126,7 @@ pub const NO_PLACE: FoundPlace = FoundPlace {
 pub fn bind_borrowed_in(
     alloc: Global,
     query: &[u8],
-    params: BorrowedParams<'_>,
+    params: BorrowedParams<'_, '_>,
     no_backslash_escape: bool,
 ) -> Result<Vec<u8>, BindError>
     ensures bound { OnTokens no_backslash_escape query.now (λ ts. IfOk result (λ text.
@@ -150,7 +150,7 @@ pub fn bind_borrowed_in(
 pub fn bind_borrowed_as<F: LiteralForm>(
     alloc: Global,
     query: &[u8],
-    params: BorrowedParams<'_>,
+    params: BorrowedParams<'_, '_>,
     no_backslash_escape: bool,
     form: &F,
 ) -> Result<Vec<u8>, BindError>
@@ -194,7 +194,7 @@ fn bind_many_names<F: LiteralForm>(
     query: &[u8],
     survey: Survey,
     known: &[FoundPlace],
-    params: BorrowedParams<'_>,
+    params: BorrowedParams<'_, '_>,
     no_backslash_escape: bool,
     form: &F,
 ) -> Result<Vec<u8>, BindError>
@@ -232,7 +232,7 @@ pub fn bind_surveyed(
     query: &[u8],
     survey: Survey,
     known: &[FoundPlace],
-    params: BorrowedParams<'_>,
+    params: BorrowedParams<'_, '_>,
     no_backslash_escape: bool,
 ) -> Result<Vec<u8>, BindError>
     requires survey { OnTokens no_backslash_escape query.now (IsSurvey survey) }
@@ -268,7 +268,7 @@ pub fn bind_surveyed_as<F: LiteralForm>(
     query: &[u8],
     survey: Survey,
     known: &[FoundPlace],
-    params: BorrowedParams<'_>,
+    params: BorrowedParams<'_, '_>,
     no_backslash_escape: bool,
     form: &F,
 ) -> Result<Vec<u8>, BindError>
@@ -306,7 +306,7 @@ pub fn measured_text<'p, F: LiteralForm>(
     query: &[u8],
     survey: Survey,
     known: &[FoundPlace],
-    params: BorrowedParams<'p>,
+    params: BorrowedParams<'p, '_>,
     no_backslash_escape: bool,
     form: &F,
 ) -> Result<MeasuredText<'p>, BindError>
@@ -371,7 +371,7 @@ fn values_of_places<'p>(
     query: &[u8],
     known: &[FoundPlace],
     name_count: usize,
-    params: BorrowedParams<'p>,
+    params: BorrowedParams<'p, '_>,
     no_backslash_escape: bool,
 ) -> Result<Vec<ValueRef<'p>>, BindError>
     requires known { OnTokens no_backslash_escape query.now (BeginWithPlaces known.now) }

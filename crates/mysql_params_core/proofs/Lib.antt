@@ -8,5 +8,5 @@ pub mod WalkLemmas
 pub mod TakenLemmas
 pub mod BorrowedLemmas
 pub mod MakingLemmas
-mod PairLemmas
-mod SortedPairLemmas
+pub mod PairLemmas
+pub mod SortedPairLemmas

@@ -58,19 +58,19 @@ get-no_pairs pairs i q done =
 
 -- ---- the map that pairs make
 
+none_of : {A : Type 0} (o : Option A) → is_some o ≡ false → o ≡ None
+none_of None h = refl
+none_of (Some a) h = cc
+
 -- a pair with a new name goes to the end
-pair_map-push : (pairs : List (Bor (List ℕ) × ValueRef)) (pair : Bor (List ℕ) × ValueRef)
-    → get (pair_map pairs) pair.0.now ≡ None
+pub pair_map-push : (pairs : List (Bor (List ℕ) × ValueRef)) (pair : Bor (List ℕ) × ValueRef)
+    → contains_key (pair_map pairs) pair.0.now ≡ false
     → pair_map (pairs ++ pair ∷ []) ≡ finite.insert (pair_map pairs) pair.0.now (owned pair.1)
 pair_map-push pairs pair new =
     ap from_entries (map-append by_borrowed pairs (pair ∷ []))
     ∙ from_entries_push nat_list_cmp_total (slice_cmp-IsAntisymmetric nat_cmp-IsAntisymmetric)
     (map by_borrowed pairs) pair.0.now (owned pair.1)
-    (sym (get-from_entries nat_list_cmp_total (map by_borrowed pairs) pair.0.now) ∙ new)
-
-none_of : {A : Type 0} (o : Option A) → is_some o ≡ false → o ≡ None
-none_of None h = refl
-none_of (Some a) h = cc
+    (sym (get-from_entries nat_list_cmp_total (map by_borrowed pairs) pair.0.now) ∙ none_of _ new)
 
 module _ (pairs : List (Bor (List ℕ) × ValueRef)) (i : ℕ) (d : Bor (List ℕ) × ValueRef)
     (below : i < length pairs)
@@ -88,7 +88,7 @@ module _ (pairs : List (Bor (List ℕ) × ValueRef)) (i : ℕ) (d : Bor (List �
       ≡ pair_map (take (i + 1) pairs)
   unfolding pair
   pair_map_more new =
-      sym (ap pair_map (take_more pairs i d below) ∙ pair_map-push (take i pairs) pair (none_of _ new))
+      sym (ap pair_map (take_more pairs i d below) ∙ pair_map-push (take i pairs) pair new)
 
   -- a pair whose name is new
   pub made_more : contains_key (pair_map (take i pairs)) (get_or pairs i d).0.now ≡ false

@@ -24,5 +24,6 @@ given_by_borrowed borrowed.Empty = empty
 given_by_borrowed (borrowed.Named entries) = named (value_map entries.now.entries)
 given_by_borrowed (borrowed.Sorted entries) = named (value_map entries.now.entries)
 given_by_borrowed (borrowed.Pairs pairs) = named (pair_map pairs.now.0.now)
+given_by_borrowed (borrowed.SortedPairs entries) = named (pair_map entries.now.entries)
 given_by_borrowed (borrowed.Positional values) = positional values.now
 given_by_borrowed (borrowed.Values values) = positional (owned_values values.now)

@@ -71,7 +71,7 @@ pub fn bind_text_in_both_modes(
 pub(crate) fn bind_borrowed_in_both_modes(
     alloc: Global,
     query: &[u8],
-    params: BorrowedParams<'_>,
+    params: BorrowedParams<'_, '_>,
 ) -> Result<Vec<u8>, BothModesError>
     ensures bound { (mode : Bool) → OnTokens mode query.now (λ ts. IfOk result (λ text.
         IsPortableInBothModes query.now ts (given_by_borrowed params.entry) text.items)) }
@@ -106,7 +106,7 @@ pub(crate) fn bind_borrowed_in_both_modes(
 fn bind_agreed(
     alloc: Global,
     query: &[u8],
-    params: BorrowedParams<'_>,
+    params: BorrowedParams<'_, '_>,
 ) -> Result<Vec<u8>, BindError>
     requires { OnTokens true query.now HoldNoEscapes }
     ensures bound { OnTokens true query.now (λ ts. IfOk result (λ text.

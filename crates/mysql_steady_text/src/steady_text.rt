@@ -95,7 +95,7 @@ pub fn bind_text_in_any_mode(
 pub fn bind_borrowed_anywhere(
     alloc: Global,
     query: &[u8],
-    params: BorrowedParams<'_>,
+    params: BorrowedParams<'_, '_>,
 ) -> Result<Vec<u8>, SteadyTextError>
     ensures bound { (mode : Bool) → OnTokens mode query.now (λ ts. IfOk result (λ text.
         IsAnywhereText query.now ts (given_by_borrowed params.entry) text.items)) }
@@ -124,7 +124,7 @@ pub fn bind_borrowed_anywhere(
 pub(crate) fn bind_borrowed_in_any_mode(
     alloc: Global,
     query: &[u8],
-    params: BorrowedParams<'_>,
+    params: BorrowedParams<'_, '_>,
 ) -> Result<Vec<u8>, SteadyTextError>
     ensures bound { (mode : Bool) → OnTokens mode query.now (λ ts. IfOk result (λ text.
         IsSteadyText ts (given_by_borrowed params.entry) text.items)) }
@@ -149,7 +149,7 @@ pub(crate) fn bind_borrowed_in_any_mode(
 pub fn bind_steady(
     alloc: Global,
     query: &[u8],
-    params: BorrowedParams<'_>,
+    params: BorrowedParams<'_, '_>,
 ) -> Result<Vec<u8>, SteadyTextError>
     requires { IsSteady query.now }
     ensures bound { (mode : Bool) → OnTokens mode query.now (λ ts. IfOk result (λ text.

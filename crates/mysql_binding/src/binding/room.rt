@@ -42,7 +42,7 @@ pub enum TextInRoom {
 pub fn bind_borrowed_into<F: LiteralForm>(
     alloc: Global,
     query: &[u8],
-    params: BorrowedParams<'_>,
+    params: BorrowedParams<'_, '_>,
     no_backslash_escape: bool,
     form: &F,
     room: &mut [u8],

@@ -138,7 +138,7 @@ pub fn bind_spans_into<F: LiteralForm>(
     query: &[u8],
     survey: Survey,
     spans: &[PlaceSpan],
-    params: BorrowedParams<'_>,
+    params: BorrowedParams<'_, '_>,
     form: &F,
     room: &mut [u8],
 ) -> Result<TextInRoom, BindError>
@@ -176,7 +176,7 @@ fn measured_spans<'p, F: LiteralForm>(
     query: &[u8],
     survey: Survey,
     spans: &[PlaceSpan],
-    params: BorrowedParams<'p>,
+    params: BorrowedParams<'p, '_>,
     form: &F,
 ) -> Result<MeasuredText<'p>, BindError>
     requires fit { FitSurvey survey spans.now query.now }
@@ -213,7 +213,7 @@ fn values_at<'p>(
     alloc: Global,
     query: &[u8],
     spans: &[PlaceSpan],
-    params: BorrowedParams<'p>,
+    params: BorrowedParams<'p, '_>,
 ) -> Result<Vec<ValueRef<'p>>, BindError>
     requires fit { FitIn spans.now query.now }
     ensures values { IfOk result (λ values. lookup (given_by_borrowed params.entry)

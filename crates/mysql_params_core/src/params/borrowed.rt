@@ -19,7 +19,7 @@ use std::collections::{BTreeMap, HashMap};
 /// Borrowed parameters: those of [`Params`], or named ones in a sorted map. The crates above bind
 /// by these; no user needs them.
 #[derive(Clone, Copy)]
-pub enum BorrowedParams<'p> {
+pub enum BorrowedParams<'p, 'v> {
     /// Nothing.
     Empty,
     /// Values by name.
@@ -28,6 +28,8 @@ pub enum BorrowedParams<'p> {
     Sorted(&'p BTreeMap<Vec<u8>, Value>),
     /// Values by name, in pairs. Of pairs of one name the first counts.
     Pairs(&'p NamedPairs<'p>),
+    /// Values by name, in the order of the names; both are borrowed.
+    SortedPairs(&'p BTreeMap<&'v [u8], ValueRef<'v>>),
     /// Values by position.
     Positional(&'p [Value]),
     /// Borrowed values by position.
@@ -36,7 +38,7 @@ pub enum BorrowedParams<'p> {
 
 impl Params {
     /// The same parameters, borrowed.
-    pub fn borrowed(&self) -> BorrowedParams<'_>
+    pub fn borrowed(&self) -> BorrowedParams<'_, '_>
         ensures { given_by_borrowed result ≡ given self.now }
     {
         match self {
@@ -56,7 +58,7 @@ impl Params {
 /// The crates above bind by this; no user needs it.
 pub fn place_values<'p>(
     alloc: Global,
-    params: BorrowedParams<'p>,
+    params: BorrowedParams<'p, '_>,
     names: &[&[u8]],
 ) -> Result<Vec<ValueRef<'p>>, ParamsError>
     ensures values { IsAnswer (λ values. owned_values values.items) lookup_refusal
@@ -92,6 +94,7 @@ pub fn place_values<'p>(
             }
         }
         BorrowedParams::Sorted(entries) => named_place_values(alloc, entries, names),
+        BorrowedParams::SortedPairs(entries) => named_place_values(alloc, entries, names),
     }
 }
 

@@ -125,7 +125,7 @@ impl<'q> ParsedQuery<'q> {
     pub(super) fn bind_borrowed(
         &self,
         alloc: Global,
-        params: BorrowedParams<'_>,
+        params: BorrowedParams<'_, '_>,
     ) -> Result<Vec<u8>, BindError>
         ensures bound { OnTokens self.now.mode self.now.query (λ ts. IfOk result (λ text.
             IsBoundText self.now.mode ts (given_by_borrowed params.entry) text.items)) }
@@ -151,7 +151,7 @@ impl<'q> ParsedQuery<'q> {
     fn append_borrowed(
         &self,
         alloc: Global,
-        params: BorrowedParams<'_>,
+        params: BorrowedParams<'_, '_>,
         text: &mut Vec<u8>,
     ) -> Result<(), BindError>
         ensures appended { OnOk result (IsBoundAfter self.now.mode self.now.query
