@@ -1,10 +1,13 @@
 -- A form has one reading, and parameter by parameter it is that of what is left.
 use Rattle.std.specs.Prelude.{Result, Ok, Err, ⊤, IsOk, alloc_error, IfOk, IfErr, IsErrAnd, IsTrue, ◌==◌}
 use Rattle.std.specs.FinMap as finite
-use Rattle.std.proofs.Common.{◌≡◌, ◌≢◌, ℕ, zero, suc, ◌+◌, ◌-◌, ◌<◌, ◌≤◌, List, [], ◌∷◌, length, inl, inr, true, false, refl, sym, ap, ◌∙◌, subst, arith}
+use Rattle.std.proofs.Common.{◌≡◌, ◌≢◌, ℕ, zero, suc, ◌+◌, ◌-◌, ◌<◌, ◌≤◌, List, [], ◌∷◌, ◌++◌, length, take, get_or, inl, inr, true, false, refl, sym, ap, ◌∙◌, subst, arith}
+use Rattle.std.proofs.lemmas.List.{map-append, take_more}
 use Rattle.mysql_value_core.specs.declared.value.Value.{Value}
+use Rattle.mysql_value_core.specs.declared.value.borrowed.ValueRef.{ValueRef}
+use Rattle.mysql_values.specs.BorrowedValue.{owned, owned_values}
 use Rattle.mysql_params_core.specs.Given.{Given, empty, named, positional}
-use Rattle.mysql_flat_params.specs.FlatForm.{FormRefusal, FormReading, read_name, read_value, with_parameter, after_value, after_name, read_parameter, IsReadFrom, IsFormReading, read_to_end, refused_at, read_on}
+use Rattle.mysql_flat_params.specs.FlatForm.{FormRefusal, FormReading, read_name, read_value, with_parameter, after_value, after_name, read_parameter, HasFirstParameter, IsReadFrom, IsFormReading, read_to_end, refused_at, read_on}
 use Rattle.std.proofs.lemmas.Bool.{eqb-true}
 use Rattle.mysql_wire_part.specs.Answer.{IsExpectedRefusal}
 use Rattle.mysql_wire_part.proofs.AnswerLemmas.{refusal_expected_too}
@@ -135,10 +138,10 @@ module _ (form : List ℕ) where
   module _ (name rest : List ℕ) (is : read_name 0 0 form ≡ Ok (name, rest)) where
     -- its value is refused
     pub first_value_refused : (error : FormError) → form ≢ [] →
-        IsExpectedRefusal (read_value 0 0 rest) (IsOk (read_value 0 0 rest)) (form_refusal error) → IsFormRefusal form error
+        IsExpectedRefusal (read_value 0 0 rest) ⊥ (form_refusal error) → IsFormRefusal form error
     first_value_refused error some answer =
         parameter_refused (length form) 0 empty form 0 empty form error all_of_it some
-        (refusal_expected_too (read_value 0 0 rest) (read_parameter (length form) 0 empty form) (IsOk (read_value 0 0 rest)) ⊤ (form_refusal error)
+        (refusal_expected_too (read_value 0 0 rest) (read_parameter (length form) 0 empty form) ⊥ ⊤ (form_refusal error)
         (λ why e. first_parameter (Ok (name, rest)) is ∙ ap (after_value empty name) e) (λ _. tt) answer)
 
     parameter_is_ok : (value : FormReading Value) → read_value 0 0 rest ≡ value → IsOk value → IsOk (read_parameter (length form) 0 empty form)
@@ -190,3 +193,26 @@ pub not_empty : (xs : List ℕ) → (xs ≡ [] → IsTrue false) → xs ≢ []
 not_empty xs h e =
     let never : false ≡ true = h e in
     cc
+
+-- a form that says values has a first parameter
+values_have_first : (total place : ℕ) (given : Given) (bytes : List ℕ) (reading : Result Given FormRefusal) →
+    IsReadFrom total place given bytes reading → given ≡ empty → (values : List Value) → reading ≡ Ok (positional values) →
+    IsOk (read_parameter total place given bytes)
+values_have_first total place given bytes reading (read_to_end _ _ _) none values says = cc
+values_have_first total place given bytes reading (refused_at _ _ _ b bs why is) none values says = cc
+values_have_first total place given bytes reading (read_on _ _ _ b bs more rest _ is h) none values says =
+    subst (λ r. IsOk r) (sym is) refl
+
+pub positional_has_first : (form : List ℕ) (values : List Value) → IsFormReading form (Ok (positional values)) → HasFirstParameter form
+positional_has_first form values h = values_have_first (length form) 0 empty form _ h refl values refl
+
+-- one more value of its own bytes
+pub owned_more : (values : List ValueRef) (i : ℕ) (d : ValueRef) → i < length values →
+    (items more : List Value) (value : Value) → items ≡ owned_values (take i values) → value ≡ owned (get_or values i d) →
+    more ≡ items ++ value ∷ [] → more ≡ owned_values (take (i + 1) values)
+owned_more values i d below items more value before is pushed =
+    pushed
+    ∙ ap (λ xs. xs ++ value ∷ []) before
+    ∙ ap (λ v. owned_values (take i values) ++ v ∷ []) is
+    ∙ sym (map-append owned (take i values) (get_or values i d ∷ []))
+    ∙ sym (ap owned_values (take_more values i d below))

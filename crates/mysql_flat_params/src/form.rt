@@ -1,9 +1,10 @@
 //! The flat form of parameters.
-ghost use Rattle.std.specs.Prelude.{◌≡◌, ◌≤◌, ◌+◌, ◌<◌, ⊤, [], ◌∷◌, length, None, Some, Ok, Err, IsOk, IfOk, IfErr, IfSome, is_some, true, option_and_then, IsErrOf, OnOk, alloc_error};
+ghost use Rattle.std.specs.Prelude.{◌≡◌, ◌≤◌, ◌+◌, ◌<◌, ⊤, [], ◌∷◌, length, None, Some, Ok, Err, IfOk, IfErr, IfSome, is_some, true, false, option_and_then, IsErrOf, OnOk, alloc_error};
 ghost use Rattle.std.specs.FinMap as finite;
 ghost use Rattle.mysql_wire_part.specs.Answer.{IsAnswer};
 ghost use Rattle.mysql_wire_part.specs.Column.{is_unsigned};
 ghost use Rattle.mysql_wire_part.specs.ParseBuf.{left, read_refusal};
+ghost use Rattle.mysql_values.specs.BorrowedValue.{owned, owned_values};
 ghost use Rattle.mysql_params_core.specs.Given.{empty, given, named, positional};
 ghost use Rattle.mysql_flat_params.specs.ColumnNumbers.{is_unsigned_parameter};
 ghost use Rattle.mysql_flat_params.specs.FlatForm.{HasFirstParameter, IsFormReading, IsReadFrom, name_refusal, refused_in, read_name, read_parameter, read_value};
@@ -12,14 +13,21 @@ ghost use Rattle.mysql_flat_params.specs.FormParams.{given_in_form};
 
 use crate::column_number::column_type;
 use crate::form_error::FormError;
-use mysql_params_core::params::{NameMap, Params, has_name};
-use mysql_values::value::{BinValue, Value, ValueDeserializer};
-use mysql_wire_part::{ColumnFlags, Flags, MyDeserialize, ParseBuf, WireError};
+use crate::form_names::FormNames;
+use mysql_params_core::params::Params;
+use mysql_values::value::{Value, ValueRef, read_binary_value};
+use mysql_wire_part::{ColumnFlags, Flags, ParseBuf, WireError};
 use std::alloc::{AllocError, Global};
 use std::collections::HashMap;
 
 // The flag of a parameter whose whole numbers have no sign.
 const UNSIGNED: u8 = 128;
+
+// The bytes of the shortest parameter: that of its name's length, its type and its flags.
+const LEAST_PARAMETER: usize = 3;
+
+// For so many values after the first there is room at once.
+const MANY_VALUES: usize = 63;
 
 // Where a parameter stands in the form.
 #[derive(Clone, Copy)]
@@ -37,7 +45,7 @@ struct Spot {
 /// string (of no bytes: by position); a byte, the number of its column type
 /// ("Protocol::ColumnType" of the MySQL client/server protocol); a byte of flags, of which 128 says
 /// that a whole number has no sign and the others say nothing ("COM_STMT_EXECUTE"); and its value
-/// in binary form, as [`ValueDeserializer`] reads it.
+/// in binary form, as [`read_binary_value`] reads it.
 ///
 /// The parameters are read in order, up to the first that is refused. The name of each is read
 /// first (`End`, `LengthLead`) and judged (`Mixed`, `Repeated`), then type and flags (`End`); a
@@ -55,24 +63,38 @@ pub fn params_of_form(alloc: Global, form: &[u8]) -> Result<Params, FormError>
     match form_params::<HashMap<Vec<u8>, Value>>(alloc, form) {
         Ok(FormParams::Empty) => Ok(Params::Empty),
         Ok(FormParams::Named(entries)) => Ok(Params::Named(entries)),
-        Ok(FormParams::Positional(values)) => Ok(Params::Positional(values)),
+        Ok(FormParams::Positional(values)) => match own_values(alloc, values.as_slice()) {
+            Ok(values) => Ok(Params::Positional(values)),
+            Err(error) => Err(FormError::Memory(error)),
+        },
         Err(error) => Err(error),
     }
 }
 
-/// What a form says, with names in a map of either kind.
+// The same values, each of its own bytes.
+fn own_values(alloc: Global, values: &[ValueRef<'_>]) -> Result<Vec<Value>, AllocError>
+    ensures { IfOk result (λ list. list.items ≡ owned_values values.now) }
+{
+    let mut list = Vec::with_capacity(alloc, values.len())?;
+    for value in values {
+        list.push(value.to_value(alloc)?)?;
+    }
+    Ok(list)
+}
+
+/// What a form says: values by position stay in the form, and names are kept as `M` keeps them.
 #[derive(Drop)]
-pub(crate) enum FormParams<M: Drop> {
+pub(crate) enum FormParams<'f, M: Drop> {
     Empty,
     Named(M),
-    Positional(Vec<Value>),
+    Positional(Vec<ValueRef<'f>>),
 }
 
 /// The parameters that a form says, as [`params_of_form`] gives them.
-pub(crate) fn form_params<M: NameMap>(
+pub(crate) fn form_params<'f, M: FormNames<'f>>(
     alloc: Global,
-    form: &[u8],
-) -> Result<FormParams<M>, FormError>
+    form: &'f [u8],
+) -> Result<FormParams<'f, M>, FormError>
     ensures params { IfOk result (λ params.
         IsFormReading form.now (Ok (given_in_form M.values params))) }
     ensures refused { IfErr result (IsFormRefusal form.now) }
@@ -88,7 +110,7 @@ pub(crate) fn form_params<M: NameMap>(
         position: 0,
     };
     let name = eat_name(spot, &mut rest)?;
-    let value = eat_value(alloc, spot, &mut rest)?;
+    let value = eat_value(spot, &mut rest)?;
     if name.is_empty() {
         positional_params(alloc, form.len(), value, rest)
     } else {
@@ -97,42 +119,58 @@ pub(crate) fn form_params<M: NameMap>(
 }
 
 // The parameters by position that begin with this value and go on with the rest.
-fn positional_params<M: NameMap>(
+fn positional_params<'f, M: FormNames<'f>>(
     alloc: Global,
     total: usize,
-    first: Value,
-    rest: ParseBuf<'_>,
-) -> Result<FormParams<M>, FormError>
+    first: ValueRef<'f>,
+    rest: ParseBuf<'f>,
+) -> Result<FormParams<'f, M>, FormError>
     requires { length (left rest) < total }
     ensures params { IfOk result (λ params.
-        IsReadFrom total 1 (positional (first ∷ [])) (left rest.entry)
+        IsReadFrom total 1 (positional (owned first.entry ∷ [])) (left rest.entry)
         (Ok (given_in_form M.values params))) }
     ensures refused { IfErr result
-        (IsRefusalFrom total 1 (positional (first ∷ [])) (left rest.entry)) }
+        (IsRefusalFrom total 1 (positional (owned first.entry ∷ [])) (left rest.entry)) }
 {
-    let mut values = Vec::new(alloc);
-    match values.push(first) {
-        Ok(()) => {}
-        Err(_) => return Err(FormError::Memory(AllocError)),
-    }
+    let mut values = match first_value(alloc, first, rest.len() / LEAST_PARAMETER) {
+        Ok(values) => values,
+        Err(error) => return Err(FormError::Memory(error)),
+    };
     let mut rest = rest;
     while !rest.is_empty() {
-        append_parameter(alloc, total, &mut values, &mut rest)?;
+        append_parameter(total, &mut values, &mut rest)?;
     }
     Ok(FormParams::Positional(values))
 }
 
-// Appends the value of the next parameter by position.
-fn append_parameter(
+// The first value, where at most so many follow it: a few of them ask for no more memory.
+fn first_value<'f>(
     alloc: Global,
+    first: ValueRef<'f>,
+    most: usize,
+) -> Result<Vec<ValueRef<'f>>, AllocError>
+    ensures { IfOk result (λ values. values.items ≡ first.entry ∷ []) }
+{
+    let follow = if most < MANY_VALUES {
+        most
+    } else {
+        MANY_VALUES
+    };
+    let mut values = Vec::with_capacity(alloc, follow + 1)?;
+    values.push(first)?;
+    Ok(values)
+}
+
+// Appends the value of the next parameter by position.
+fn append_parameter<'f>(
     total: usize,
-    values: &mut Vec<Value>,
-    rest: &mut ParseBuf<'_>,
+    values: &mut Vec<ValueRef<'f>>,
+    rest: &mut ParseBuf<'f>,
 ) -> Result<(), FormError>
     requires { length (left rest.old) ≤ total }
-    ensures parameter { IsAnswer (λ _. (positional values.new.items, left rest.new)) form_refusal
-        (read_parameter total (length values.old.items)
-        (positional values.old.items) (left rest.old)) ⊤ result }
+    ensures parameter { IsAnswer (λ _. (positional (owned_values values.new.items), left rest.new))
+        form_refusal (read_parameter total (length values.old.items)
+        (positional (owned_values values.old.items)) (left rest.old)) ⊤ result }
     ensures one_more { OnOk result (length values.new.items ≡ length values.old.items + 1) }
 {
     let spot = Spot {
@@ -146,7 +184,7 @@ fn append_parameter(
             position: spot.position,
         });
     }
-    let value = eat_value(alloc, spot, rest)?;
+    let value = eat_value(spot, rest)?;
     match values.push(value) {
         Ok(()) => Ok(()),
         Err(_) => Err(FormError::Memory(AllocError)),
@@ -154,46 +192,46 @@ fn append_parameter(
 }
 
 // The parameters by name that begin with this one and go on with the rest.
-fn named_params<M: NameMap>(
+fn named_params<'f, M: FormNames<'f>>(
     alloc: Global,
     total: usize,
-    name: &[u8],
-    first: Value,
-    rest: ParseBuf<'_>,
-) -> Result<FormParams<M>, FormError>
+    name: &'f [u8],
+    first: ValueRef<'f>,
+    rest: ParseBuf<'f>,
+) -> Result<FormParams<'f, M>, FormError>
     requires { length (left rest) < total }
     ensures params { IfOk result (λ params.
-        IsReadFrom total 1 (named (finite.insert finite.empty name.now first)) (left rest.entry)
-        (Ok (given_in_form M.values params))) }
+        IsReadFrom total 1 (named (finite.insert finite.empty name.now (owned first.entry)))
+        (left rest.entry) (Ok (given_in_form M.values params))) }
     ensures refused { IfErr result
-        (IsRefusalFrom total 1 (named (finite.insert finite.empty name.now first))
+        (IsRefusalFrom total 1 (named (finite.insert finite.empty name.now (owned first.entry)))
         (left rest.entry)) }
 {
-    let mut entries = M::without_names(alloc);
-    match entries.insert_value(alloc, name, first) {
-        Ok(()) => {}
+    let follow = rest.len() / (LEAST_PARAMETER + 1);
+    let mut names = match M::with_first(alloc, name, first, follow) {
+        Ok(names) => names,
         Err(error) => return Err(FormError::Memory(error)),
-    }
+    };
     let mut rest = rest;
     let mut place = 1;
     while !rest.is_empty() {
-        insert_parameter(alloc, total, place, &mut entries, &mut rest)?;
+        insert_parameter(alloc, total, place, &mut names, &mut rest)?;
         place += 1;
     }
-    Ok(FormParams::Named(entries))
+    Ok(FormParams::Named(names))
 }
 
 // Inserts the value of the next parameter by name under its name.
-fn insert_parameter<M: NameMap>(
+fn insert_parameter<'f, M: FormNames<'f>>(
     alloc: Global,
     total: usize,
     place: usize,
-    entries: &mut M,
-    rest: &mut ParseBuf<'_>,
+    names: &mut M,
+    rest: &mut ParseBuf<'f>,
 ) -> Result<(), FormError>
     requires { length (left rest.old) ≤ total }
-    ensures { IsAnswer (λ _. (named (M.values entries.new), left rest.new)) form_refusal
-        (read_parameter total place (named (M.values entries.old)) (left rest.old)) ⊤ result }
+    ensures { IsAnswer (λ _. (named (M.values names.new), left rest.new)) form_refusal
+        (read_parameter total place (named (M.values names.old)) (left rest.old)) ⊤ result }
 {
     let spot = Spot {
         place,
@@ -201,28 +239,34 @@ fn insert_parameter<M: NameMap>(
     };
     let name = eat_name(spot, rest)?;
     let at = total - rest.len() - name.len();
-    if let Some(error) = name_error(spot, at, entries, name) {
+    if let Some(error) = name_error(spot, at, names, name) {
         return Err(error);
     }
-    let value = eat_value(alloc, spot, rest)?;
-    match entries.insert_value(alloc, name, value) {
+    let value = eat_value(spot, rest)?;
+    match names.insert_new(alloc, name, value) {
         Ok(()) => Ok(()),
         Err(error) => Err(FormError::Memory(error)),
     }
 }
 
 // Why a name, which stands at this index, is refused after parameters by name.
-fn name_error<M: NameMap>(spot: Spot, at: usize, entries: &M, name: &[u8]) -> Option<FormError>
+fn name_error<'f, M: FormNames<'f>>(
+    spot: Spot,
+    at: usize,
+    names: &M,
+    name: &[u8],
+) -> Option<FormError>
     ensures refusal { option_and_then form_refusal result
         ≡ name_refusal spot.place spot.position at
-        (named (M.values entries.now)) name.now }
+        (named (M.values names.now)) name.now }
     ensures no_memory { IfSome result (λ error. is_some (form_refusal error) ≡ true) }
+    ensures new { result ≡ None → finite.contains_key (M.values names.now) name.now ≡ false }
 {
     let Spot { place, position } = spot;
     if name.is_empty() {
         return Some(FormError::Mixed { place, position });
     }
-    if has_name(entries, name) {
+    if names.has(name) {
         return Some(FormError::Repeated {
             place,
             position: at,
@@ -246,10 +290,9 @@ fn eat_name<'a>(spot: Spot, rest: &mut ParseBuf<'a>) -> Result<&'a [u8], FormErr
 }
 
 // The value of a parameter, after its name.
-fn eat_value(alloc: Global, spot: Spot, rest: &mut ParseBuf<'_>) -> Result<Value, FormError>
-    ensures { IsAnswer (λ value. (value, left rest.new)) form_refusal
-        (read_value spot.place spot.position (left rest.old))
-        (IsOk (read_value spot.place spot.position (left rest.old))) result }
+fn eat_value<'f>(spot: Spot, rest: &mut ParseBuf<'f>) -> Result<ValueRef<'f>, FormError>
+    ensures { IsAnswer (λ value. (owned value, left rest.new)) form_refusal
+        (read_value spot.place spot.position (left rest.old)) ⊥ result }
 {
     let Spot { place, position } = spot;
     let [number, flags, bytes @ ..] = rest.0 else {
@@ -264,11 +307,10 @@ fn eat_value(alloc: Global, spot: Spot, rest: &mut ParseBuf<'_>) -> Result<Value
         });
     };
     let mut after = ParseBuf(bytes);
-    let ctx = (column, column_flags(*flags));
-    match ValueDeserializer::<BinValue>::deserialize(alloc, ctx, &mut after) {
-        Ok(read) => {
+    match read_binary_value(column, column_flags(*flags), &mut after) {
+        Ok(value) => {
             *rest = after;
-            Ok(read.0)
+            Ok(value)
         }
         Err(error) => Err(form_error(spot, number, error)),
     }

@@ -11,7 +11,7 @@ ghost use Rattle.mysql_binding.specs.Isolation.{IsBoundText};
 ghost use Rattle.mysql_binding.specs.TextInRoom.{HasTextOf, IsTextInRoom};
 ghost use Rattle.mysql_flat_params.specs.FlatForm.{HasFirstParameter, IsFormReading};
 ghost use Rattle.mysql_flat_params.specs.FormErrors.{IsFormRefusal};
-ghost use Rattle.mysql_flat_params.specs.FormParams.{given_by_sorted};
+ghost use Rattle.mysql_flat_params.specs.FormParams.{given_in_place, pairs_in_place};
 ghost use Rattle.mysql_flat_params.specs.IntoRoom.{IfMixed, IsBindOutcome, IsBoundForm, IsMissingName, MissesOtherName};
 ghost use Rattle.mysql_flat_params.specs.Outcomes.{HasNoAnswer, IfDone, IfTooLong, UnlessDone, text_outcome};
 ghost use Rattle.mysql_flat_params.specs.Steadiness.{IsBoundAs, refusal_as};
@@ -20,13 +20,12 @@ ghost use Rattle.mysql_flat_params.specs.declared.steady_room.Steadiness as stea
 
 use crate::form::{FormParams, form_params};
 use crate::form_error::FormError;
+use crate::form_names::NamesInPlace;
 use crate::missing_place::name_place;
 use crate::outcome::Outcome;
 use mysql_binding::{BindError, PlainForm, TextInRoom, bind_borrowed_into};
-use mysql_params_core::params::{BorrowedParams, ParamsConfusionError, ParamsError};
-use mysql_values::value::Value;
+use mysql_params_core::params::{BorrowedParams, NamedPairs, ParamsConfusionError, ParamsError};
 use std::alloc::Global;
-use std::collections::BTreeMap;
 
 /// Binds into a query what a form says, as [`bind_text_in`](mysql_binding::bind_text_in) binds the
 /// form's parameters in a mode, and writes the text to the front of the room. The form is that of
@@ -62,7 +61,7 @@ pub fn bind_into(
     ensures too_long { IfTooLong result (λ len. length room.old < len) }
     ensures unchanged { UnlessDone result (room.new ≡ room.old) }
 {
-    let params = match form_params::<BTreeMap<Vec<u8>, Value>>(alloc, form) {
+    let params = match form_params::<NamesInPlace>(alloc, form) {
         Ok(params) => params,
         Err(error) => return form_outcome(error),
     };
@@ -76,16 +75,16 @@ pub fn bind_into(
 fn bind_params(
     alloc: Global,
     query: &[u8],
-    params: FormParams<BTreeMap<Vec<u8>, Value>>,
+    params: ParamsInPlace<'_>,
     no_backslash_escape: bool,
     room: &mut [u8],
 ) -> Result<TextInRoom, BindError>
     ensures bound { OnTokens no_backslash_escape query.now (λ ts. IfOk result (IsTextInRoom
-        (IsBoundText no_backslash_escape ts (given_by_sorted params))
-        (HasTextOf (IsBoundText no_backslash_escape ts (given_by_sorted params)))
+        (IsBoundText no_backslash_escape ts (given_in_place params.entry))
+        (HasTextOf (IsBoundText no_backslash_escape ts (given_in_place params.entry)))
         room.old room.new)) }
     ensures refused { OnTokens no_backslash_escape query.now (λ ts. IfErr result
-        (IsCauseOrMemory (first_cause ts (given_by_sorted params)))) }
+        (IsCauseOrMemory (first_cause ts (given_in_place params.entry)))) }
     ensures mixed { OnTokens no_backslash_escape query.now (λ ts.
         HasName ts × HasMark ts → IsErrOf result BindError.Mixed) }
     ensures unchanged { OnErr result (room.new ≡ room.old) }
@@ -93,7 +92,8 @@ fn bind_params(
     let form = PlainForm {
         no_backslash_escape,
     };
-    let borrowed = borrowed_params(&params);
+    let pairs = named_pairs(&params);
+    let borrowed = borrowed_params(&params, &pairs);
     bind_borrowed_into(alloc, query, borrowed, no_backslash_escape, &form, room)
 }
 
@@ -107,14 +107,32 @@ pub(crate) fn text_outcome(text: TextInRoom) -> Outcome
     }
 }
 
-// The same parameters, borrowed.
-pub(crate) fn borrowed_params(params: &FormParams<BTreeMap<Vec<u8>, Value>>) -> BorrowedParams<'_>
-    ensures { given_by_borrowed result ≡ given_by_sorted params.now }
+/// What a form says, kept in the form's own bytes.
+pub(crate) type ParamsInPlace<'f> = FormParams<'f, NamesInPlace<'f>>;
+
+// The pairs in which names are kept, for `borrowed_params`; none if they are kept otherwise.
+pub(crate) fn named_pairs<'p, 'f>(params: &'p ParamsInPlace<'f>) -> NamedPairs<'p>
+    ensures { result.0.now ≡ pairs_in_place params.now }
+{
+    match params {
+        FormParams::Named(NamesInPlace::Pairs(pairs)) => NamedPairs(pairs.as_slice()),
+        _ => NamedPairs(&[]),
+    }
+}
+
+// The same parameters, borrowed; the pairs are those of `named_pairs`.
+pub(crate) fn borrowed_params<'p, 'f>(
+    params: &'p ParamsInPlace<'f>,
+    pairs: &'p NamedPairs<'p>,
+) -> BorrowedParams<'p, 'f>
+    requires { pairs.now.0.now ≡ pairs_in_place params.now }
+    ensures { given_by_borrowed result ≡ given_in_place params.now }
 {
     match params {
         FormParams::Empty => BorrowedParams::Empty,
-        FormParams::Named(entries) => BorrowedParams::Sorted(entries),
-        FormParams::Positional(values) => BorrowedParams::Positional(values.as_slice()),
+        FormParams::Named(NamesInPlace::Pairs(_)) => BorrowedParams::Pairs(pairs),
+        FormParams::Named(NamesInPlace::Sorted(entries)) => BorrowedParams::SortedPairs(entries),
+        FormParams::Positional(values) => BorrowedParams::Values(values.as_slice()),
     }
 }
 

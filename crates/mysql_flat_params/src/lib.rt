@@ -14,6 +14,7 @@
 mod column_number;
 mod form;
 mod form_error;
+mod form_names;
 mod into_room;
 pub mod laws;
 mod missing_place;

@@ -9,21 +9,22 @@ ghost use Rattle.mysql_binding.specs.Isolation.{IsBoundText};
 ghost use Rattle.mysql_binding.specs.PlaceSpans.{AreSpansOf, FitSurvey, RefusesNamesAt, StaysInRoom};
 ghost use Rattle.mysql_binding.specs.TextInRoom.{HasTextOf, IsTextInRoom};
 ghost use Rattle.mysql_flat_params.specs.FlatForm.{HasFirstParameter, IsFormReading};
-ghost use Rattle.mysql_flat_params.specs.FormParams.{given_by_sorted};
+ghost use Rattle.mysql_flat_params.specs.FormParams.{given_in_place};
 ghost use Rattle.mysql_flat_params.specs.IntoRoom.{IfMixed, IsBoundForm, MissesOtherName};
 ghost use Rattle.mysql_flat_params.specs.Outcomes as outcomes;
 ghost use Rattle.mysql_flat_params.specs.PlaceTable.{IfDone, IfTooLong, IsMadeTable, IsTableBindOutcome, IsTableOf, IsTableOutcome, MissesOtherPlace, UnlessDone, number_of, report_of, survey_of};
 
-use crate::form::{FormParams, form_params};
-use crate::into_room::{borrowed_params, form_outcome, text_outcome, told_outcome};
+use crate::form::form_params;
+use crate::form_names::NamesInPlace;
+use crate::into_room::{
+    ParamsInPlace, borrowed_params, form_outcome, named_pairs, text_outcome, told_outcome,
+};
 use crate::outcome::{NO_FIELDS, Outcome, Report};
 use mysql_binding::{
     BindError, PlaceSpan, PlainForm, Survey, TextInRoom, bind_spans_into, can_be_spans,
     place_spans, place_survey,
 };
-use mysql_values::value::Value;
 use std::alloc::Global;
-use std::collections::BTreeMap;
 
 /// What a table says of a query's places together.
 #[derive(Clone, Copy, Debug, PartialEq, Eq)]
@@ -198,7 +199,7 @@ pub fn bind_by_table_into(
     if !can_be_spans(query, survey, places) {
         return TableOutcome::OtherTable;
     }
-    let params = match form_params::<BTreeMap<Vec<u8>, Value>>(alloc, form) {
+    let params = match form_params::<NamesInPlace>(alloc, form) {
         Ok(params) => params,
         Err(error) => return TableOutcome::AsQuery(form_outcome(error)),
     };
@@ -222,31 +223,32 @@ fn bind_places(
     query: &[u8],
     survey: Survey,
     places: &[PlaceSpan],
-    params: FormParams<BTreeMap<Vec<u8>, Value>>,
+    params: ParamsInPlace<'_>,
     no_backslash_escape: bool,
     room: &mut [u8],
 ) -> Result<TextInRoom, BindError>
     requires fit { FitSurvey survey places.now query.now }
     ensures bound { AreSpansOf survey places.now no_backslash_escape query.now →
         OnTokens no_backslash_escape query.now (λ ts. IfOk result (IsTextInRoom
-        (IsBoundText no_backslash_escape ts (given_by_sorted params))
-        (HasTextOf (IsBoundText no_backslash_escape ts (given_by_sorted params)))
+        (IsBoundText no_backslash_escape ts (given_in_place params.entry))
+        (HasTextOf (IsBoundText no_backslash_escape ts (given_in_place params.entry)))
         room.old room.new)) }
     ensures refused { AreSpansOf survey places.now no_backslash_escape query.now →
         OnTokens no_backslash_escape query.now (λ ts. IfErr result
-        (IsCauseOrMemory (first_cause ts (given_by_sorted params)))) }
+        (IsCauseOrMemory (first_cause ts (given_in_place params.entry)))) }
     ensures mixed { AreSpansOf survey places.now no_backslash_escape query.now →
         OnTokens no_backslash_escape query.now (λ ts.
         HasName ts × HasMark ts → IsErrOf result BindError.Mixed) }
     ensures lookup { IfErr result
-        (RefusesNamesAt survey places.now query.now (given_by_sorted params)) }
+        (RefusesNamesAt survey places.now query.now (given_in_place params.entry)) }
     ensures in_room { IfOk result (StaysInRoom room.old room.new) }
     ensures unchanged { OnErr result (room.new ≡ room.old) }
 {
     let form = PlainForm {
         no_backslash_escape,
     };
-    let borrowed = borrowed_params(&params);
+    let pairs = named_pairs(&params);
+    let borrowed = borrowed_params(&params, &pairs);
     bind_spans_into(alloc, query, survey, places, borrowed, &form, room)
 }
 

@@ -13,15 +13,14 @@ ghost use Rattle.mysql_flat_params.specs.Outcomes.{IfDone, IfTooLong};
 ghost use Rattle.mysql_flat_params.specs.RowInRoom.{IsFormInRoom, IsRowInRoom, IsStringInRoom};
 
 use crate::form::form_params;
-use crate::into_room::{bind_outcome, borrowed_params, form_outcome};
+use crate::form_names::NamesInPlace;
+use crate::into_room::{bind_outcome, borrowed_params, form_outcome, named_pairs};
 use crate::outcome::Outcome;
 use byteorder::{ByteOrder, LittleEndian};
 use mysql_binding::{MeasuredText, PlainForm, Survey, fill_measured, measured_text, place_survey};
 use mysql_named_params::places::{FoundPlace, PlaceKind};
-use mysql_values::value::Value;
 use mysql_wire_part::{ParseBuf, WireError};
 use std::alloc::Global;
-use std::collections::BTreeMap;
 
 /// How far a call has come that binds row after row.
 #[derive(Clone, Copy, Debug, PartialEq, Eq)]
@@ -216,10 +215,11 @@ fn bind_form(
     requires known { OnTokens no_backslash_escape query.now (BeginWithPlaces known.now) }
     ensures { IsFormInRoom no_backslash_escape query.now form.now room.old room.new result }
 {
-    let params = match form_params::<BTreeMap<Vec<u8>, Value>>(alloc, form) {
+    let params = match form_params::<NamesInPlace>(alloc, form) {
         Ok(params) => params,
         Err(error) => return form_outcome(error),
     };
+    let pairs = named_pairs(&params);
     let plain = PlainForm {
         no_backslash_escape,
     };
@@ -228,7 +228,7 @@ fn bind_form(
         query,
         survey,
         known,
-        borrowed_params(&params),
+        borrowed_params(&params, &pairs),
         no_backslash_escape,
         &plain,
     ) {

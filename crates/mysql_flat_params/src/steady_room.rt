@@ -13,14 +13,17 @@ ghost use Rattle.mysql_steady_text.specs.SteadyLiterals.{IsSteadyFor};
 ghost use Rattle.mysql_flat_params.specs.AnywhereIntoRoom.{IsAnywhereForm, IsAnywhereOutcome, anywhere_refusal};
 ghost use Rattle.mysql_flat_params.specs.BothModesIntoRoom.{IsBothModesForm, IsBothModesOutcome, both_modes_refusal};
 ghost use Rattle.mysql_flat_params.specs.FlatForm.{HasFirstParameter};
-ghost use Rattle.mysql_flat_params.specs.FormParams.{given_by_sorted};
+ghost use Rattle.mysql_flat_params.specs.FormParams.{given_in_place};
 ghost use Rattle.mysql_flat_params.specs.Outcomes.{HasNoAnswer, IfDone, IfTooLong, UnlessDone};
 ghost use Rattle.mysql_flat_params.specs.Steadiness.{IsBoundAs, byte_refusal, refusal_as};
 ghost use Rattle.mysql_flat_params.specs.SteadyIntoRoom.{IsSteadyForm, IsSteadyOutcome};
 ghost use Rattle.mysql_flat_params.specs.declared.outcome.Outcome as outcome;
 
-use crate::form::{FormParams, form_params};
-use crate::into_room::{bind_outcome, borrowed_params, form_outcome, text_outcome};
+use crate::form::form_params;
+use crate::form_names::NamesInPlace;
+use crate::into_room::{
+    ParamsInPlace, bind_outcome, borrowed_params, form_outcome, named_pairs, text_outcome,
+};
 use crate::outcome::Outcome;
 use crate::unportable::construct_number;
 use mysql_binding::{BindError, TextInRoom, bind_borrowed_into};
@@ -28,9 +31,7 @@ use mysql_named_params::portable::first_unportable;
 use mysql_named_params::steady::first_unsteady;
 use mysql_steady_text::SteadyForm;
 use mysql_steady_text::first_backslash::first_backslash;
-use mysql_values::value::Value;
 use std::alloc::Global;
-use std::collections::BTreeMap;
 
 /// Binds into a query what a form says, as
 /// [`bind_text_anywhere`](mysql_steady_text::bind_text_anywhere) binds the form's parameters, and
@@ -132,7 +133,7 @@ fn bind_steady_into(
     ensures too_long { IfTooLong result (λ len. length room.old < len) }
     ensures unchanged { UnlessDone result (room.new ≡ room.old) }
 {
-    let params = match form_params::<BTreeMap<Vec<u8>, Value>>(alloc, form) {
+    let params = match form_params::<NamesInPlace>(alloc, form) {
         Ok(params) => params,
         Err(error) => return form_outcome(error),
     };
@@ -203,22 +204,23 @@ fn byte_refusal(query: &[u8], steadiness: Steadiness) -> Option<Outcome>
 fn bind_params_steady(
     alloc: Global,
     query: &[u8],
-    params: FormParams<BTreeMap<Vec<u8>, Value>>,
+    params: ParamsInPlace<'_>,
     room: &mut [u8],
 ) -> Result<TextInRoom, BindError>
     ensures text { OnTokens true query.now (λ ts. IfOk result (IsTextInRoom
-        (IsGivenText steady_literal_of IsSteadyFor ts (given_by_sorted params))
-        (HasGivenLength steady_literal_of ts (given_by_sorted params)) room.old room.new)) }
+        (IsGivenText steady_literal_of IsSteadyFor ts (given_in_place params.entry))
+        (HasGivenLength steady_literal_of ts (given_in_place params.entry)) room.old room.new)) }
     ensures refused { OnTokens true query.now (λ ts. IfErr result
-        (IsCauseOrMemory (first_cause ts (given_by_sorted params)))) }
+        (IsCauseOrMemory (first_cause ts (given_in_place params.entry)))) }
     ensures mixed { OnTokens true query.now (λ ts.
         HasName ts × HasMark ts → IsErrOf result BindError.Mixed) }
     ensures unchanged { OnErr result (room.new ≡ room.old) }
 {
+    let pairs = named_pairs(&params);
     bind_borrowed_into(
         alloc,
         query,
-        borrowed_params(&params),
+        borrowed_params(&params, &pairs),
         true,
         &SteadyForm,
         room,

@@ -1,4 +1,4 @@
-use Rattle.mysql_flat_params.specs.FormParams.{given_by_sorted}
+use Rattle.mysql_flat_params.specs.FormParams.{given_in_place}
 use Rattle.std.proofs.Common.{subst, sym, rules}
 use Rattle.mysql_binding.specs.PlaceSpans.{FitSurvey}
 use Rattle.mysql_flat_params.specs.IntoRoom.{IsBindOutcome, IsBoundForm}
@@ -32,7 +32,7 @@ returns-in-Err-bind_places-clause-unfit c = λ unfit. never_unfit c.args.head c.
 
 pub returns-in-Err-bind_places-clause-other : goal.returns-in-Err-bind_places-clause-other
 returns-in-Err-bind_places-clause-other c = λ is fit.
-    misses_other c.args.head c.survey_of-survey.result c.args.places.now c.args.no_backslash_escape c.args.query.now c.args.form.now (given_by_sorted c.in-Ok.params) c.in-Err-bind_places.error
+    misses_other c.args.head c.survey_of-survey.result c.args.places.now c.args.no_backslash_escape c.args.query.now c.args.form.now (given_in_place c.in-Ok.params) c.in-Err-bind_places.error
     c.survey_of-survey.ensures c.in-Ok.ensures.params c.in-Err-bind_places.ensures.lookup (c.table_outcome.ensures.other is)
 
 pub returns-in-Err-clause-outcome : goal.returns-in-Err-clause-outcome
@@ -42,13 +42,13 @@ returns-in-Err-clause-outcome c = λ own.
 pub returns-in-Ok-bind_places-clause-outcome : goal.returns-in-Ok-bind_places-clause-outcome
 returns-in-Ok-bind_places-clause-outcome c = λ own.
     subst (IsBindOutcome c.args.no_backslash_escape c.args.query.now c.args.form.now) (sym c.text_outcome.ensures)
-    (text_told c.args.no_backslash_escape c.args.query.now c.args.form.now (given_by_sorted c.in-Ok.params) c.args.room.now c.bind_places.new.room c.in-Ok.ensures.params c.bind_places.auto.room c.in-Ok-bind_places.text
+    (text_told c.args.no_backslash_escape c.args.query.now c.args.form.now (given_in_place c.in-Ok.params) c.args.room.now c.bind_places.new.room c.in-Ok.ensures.params c.bind_places.auto.room c.in-Ok-bind_places.text
     (c.in-Ok-bind_places.ensures.bound (own_table c.args.head c.survey_of-survey.result c.args.places.now c.args.no_backslash_escape c.args.query.now c.survey_of-survey.ensures own)))
 
 pub returns-in-Ok-bind_places-clause-written : goal.returns-in-Ok-bind_places-clause-written
 returns-in-Ok-bind_places-clause-written c = λ own.
     subst (λ (o : Outcome). IfDone o (λ len. IsBoundForm c.args.no_backslash_escape c.args.query.now c.args.form.now (take len c.bind_places.new.room))) (sym c.text_outcome.ensures)
-    (text_at_front c.args.no_backslash_escape c.args.query.now c.args.form.now (given_by_sorted c.in-Ok.params) c.args.room.now c.bind_places.new.room c.in-Ok.ensures.params c.bind_places.auto.room c.in-Ok-bind_places.text
+    (text_at_front c.args.no_backslash_escape c.args.query.now c.args.form.now (given_in_place c.in-Ok.params) c.args.room.now c.bind_places.new.room c.in-Ok.ensures.params c.bind_places.auto.room c.in-Ok-bind_places.text
     (c.in-Ok-bind_places.ensures.bound (own_table c.args.head c.survey_of-survey.result c.args.places.now c.args.no_backslash_escape c.args.query.now c.survey_of-survey.ensures own)))
 
 pub returns-in-Ok-bind_places-clause-mixed : goal.returns-in-Ok-bind_places-clause-mixed

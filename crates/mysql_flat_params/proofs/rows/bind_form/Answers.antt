@@ -6,7 +6,7 @@ use Rattle.mysql_params_core.specs.GivenBorrowed.{given_by_borrowed}
 use Rattle.mysql_binding.specs.BindErrors.{IsCauseOrMemory}
 use Rattle.mysql_binding.specs.FirstCause.{first_cause}
 use Rattle.mysql_flat_params.specs.FlatForm.{IsFormReading}
-use Rattle.mysql_flat_params.specs.FormParams.{given_by_sorted}
+use Rattle.mysql_flat_params.specs.FormParams.{given_in_place}
 use Rattle.mysql_flat_params.proofs.RowsLemmas.{refused_in_room}
 use Rattle.mysql_flat_params.proofs.StringRoomLemmas.{form_in_room}
 use Rattle.mysql_flat_params.proofs.rows.bind_form.Goals as goal
@@ -28,6 +28,6 @@ returns-in-Ok-measured_text c =
 pub returns : goal.returns
 returns c =
     refused_in_room c.args.no_backslash_escape c.args.query.now c.args.form.now c.args.room.now c.bind_outcome.result c.bind_outcome.ensures.no_answer
-    (c.bind_outcome.ensures.outcome c.args.form.now (given_by_sorted c.in-Ok.params) c.in-Ok.ensures.params
+    (c.bind_outcome.ensures.outcome c.args.form.now (given_in_place c.in-Ok.params) c.in-Ok.ensures.params
     (subst (λ (g : Given). OnTokens c.args.no_backslash_escape c.args.query.now (λ ts. IsCauseOrMemory (first_cause ts g) c.in-Err-measured_text.error))
     c.borrowed_params.ensures c.in-Err-measured_text.ensures.refused))

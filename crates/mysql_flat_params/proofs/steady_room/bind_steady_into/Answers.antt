@@ -2,7 +2,7 @@ use Rattle.std.specs.Prelude.{Err, true}
 use Rattle.std.proofs.Common.{ap, inr, sym, ◌∙◌}
 use Rattle.mysql_named_params.proofs.TokensExistLemmas.{tokens_exist}
 use Rattle.mysql_steady_text.proofs.BothModesAnswerLemmas.{in_each_mode}
-use Rattle.mysql_flat_params.specs.FormParams.{given_by_sorted}
+use Rattle.mysql_flat_params.specs.FormParams.{given_in_place}
 use Rattle.mysql_flat_params.specs.Steadiness.{IsBoundAs, refusal_as}
 use Rattle.mysql_flat_params.proofs.IntoRoomLemmas.{empty_not_refused, first_stands}
 use Rattle.mysql_flat_params.proofs.SteadyOutcomeLemmas.{cause_told, is_query_refusal, none_of, refusal_told}
@@ -33,7 +33,7 @@ returns-in-Err-clause-memory c = λ is. inr (c.in-Err.ensures.memory (ap (λ e. 
 pub returns-in-Some-clause-outcome : goal.returns-in-Some-clause-outcome
 returns-in-Some-clause-outcome c =
     let t = c.query_refusal.ensures.told true in
-    refusal_told (IsBoundAs c.args.steadiness c.args.query.now) (refusal_as c.args.steadiness c.args.query.now) c.args.query.now c.args.form.now (given_by_sorted c.in-Ok.params) c.in-Ok.ensures.params c.in-Some.outcome
+    refusal_told (IsBoundAs c.args.steadiness c.args.query.now) (refusal_as c.args.steadiness c.args.query.now) c.args.query.now c.args.form.now (given_in_place c.in-Ok.params) c.in-Ok.ensures.params c.in-Some.outcome
     (is_query_refusal c.args.steadiness c.args.query.now t.0 c.in-Some.outcome (sym t.2 ∙ c.in-Some.is))
     (λ mode. let o = c.query_refusal.ensures.told mode in (o.0, o.1, sym o.2 ∙ c.in-Some.is))
 
@@ -53,20 +53,20 @@ returns-in-Some-clause-memory c = λ is. first_stands _ _ c.in-Ok.ensures.params
 -- ---- a text, or another cause
 
 pub bind_outcome-requires : goal.bind_outcome-requires
-bind_outcome-requires c = ((given_by_sorted c.in-Ok.params), c.in-Err-bind_params_steady.ensures.refused)
+bind_outcome-requires c = ((given_in_place c.in-Ok.params), c.in-Err-bind_params_steady.ensures.refused)
 
 pub returns-in-Ok-bind_params_steady-clause-outcome : goal.returns-in-Ok-bind_params_steady-clause-outcome
 returns-in-Ok-bind_params_steady-clause-outcome c =
-    steady_told (IsBoundAs c.args.steadiness c.args.query.now) (refusal_as c.args.steadiness c.args.query.now) c.args.query.now c.args.form.now (given_by_sorted c.in-Ok.params) c.in-Ok.ensures.params c.args.room.now c.bind_params_steady.new.room
+    steady_told (IsBoundAs c.args.steadiness c.args.query.now) (refusal_as c.args.steadiness c.args.query.now) c.args.query.now c.args.form.now (given_in_place c.in-Ok.params) c.in-Ok.ensures.params c.args.room.now c.bind_params_steady.new.room
     c.in-Ok-bind_params_steady.text c.text_outcome.result c.text_outcome.ensures
-    (steady_in_room c.args.steadiness c.args.query.now (given_by_sorted c.in-Ok.params) c.args.room.now c.bind_params_steady.new.room c.in-Ok-bind_params_steady.text (none_of c.args.steadiness c.args.query.now c.query_refusal.result c.query_refusal.ensures.told c.in_default.is true) c.in-Ok-bind_params_steady.ensures.text)
+    (steady_in_room c.args.steadiness c.args.query.now (given_in_place c.in-Ok.params) c.args.room.now c.bind_params_steady.new.room c.in-Ok-bind_params_steady.text (none_of c.args.steadiness c.args.query.now c.query_refusal.result c.query_refusal.ensures.told c.in_default.is true) c.in-Ok-bind_params_steady.ensures.text)
     c.bind_params_steady.auto.room
 
 pub returns-in-Ok-bind_params_steady-clause-written : goal.returns-in-Ok-bind_params_steady-clause-written
 returns-in-Ok-bind_params_steady-clause-written c =
-    steady_written (IsBoundAs c.args.steadiness c.args.query.now) (refusal_as c.args.steadiness c.args.query.now) c.args.query.now c.args.form.now (given_by_sorted c.in-Ok.params) c.in-Ok.ensures.params c.args.room.now c.bind_params_steady.new.room
+    steady_written (IsBoundAs c.args.steadiness c.args.query.now) (refusal_as c.args.steadiness c.args.query.now) c.args.query.now c.args.form.now (given_in_place c.in-Ok.params) c.in-Ok.ensures.params c.args.room.now c.bind_params_steady.new.room
     c.in-Ok-bind_params_steady.text c.text_outcome.result c.text_outcome.ensures
-    (steady_in_room c.args.steadiness c.args.query.now (given_by_sorted c.in-Ok.params) c.args.room.now c.bind_params_steady.new.room c.in-Ok-bind_params_steady.text (none_of c.args.steadiness c.args.query.now c.query_refusal.result c.query_refusal.ensures.told c.in_default.is true) c.in-Ok-bind_params_steady.ensures.text)
+    (steady_in_room c.args.steadiness c.args.query.now (given_in_place c.in-Ok.params) c.args.room.now c.bind_params_steady.new.room c.in-Ok-bind_params_steady.text (none_of c.args.steadiness c.args.query.now c.query_refusal.result c.query_refusal.ensures.told c.in_default.is true) c.in-Ok-bind_params_steady.ensures.text)
 
 pub returns-in-Ok-bind_params_steady-clause-refused : goal.returns-in-Ok-bind_params_steady-clause-refused
 returns-in-Ok-bind_params_steady-clause-refused c mode =
@@ -81,7 +81,7 @@ returns-in-Ok-bind_params_steady-clause-mixed c mode =
 pub returns-in-Err-bind_params_steady-clause-outcome : goal.returns-in-Err-bind_params_steady-clause-outcome
 returns-in-Err-bind_params_steady-clause-outcome c =
     cause_told (IsBoundAs c.args.steadiness c.args.query.now) (refusal_as c.args.steadiness c.args.query.now) c.args.query.now c.args.form.now (c.query_refusal.ensures.agree c.in_default.is) (none_of c.args.steadiness c.args.query.now c.query_refusal.result c.query_refusal.ensures.told c.in_default.is) c.bind_outcome.result c.bind_outcome.ensures.no_answer
-    (c.bind_outcome.ensures.outcome c.args.form.now (given_by_sorted c.in-Ok.params) c.in-Ok.ensures.params c.in-Err-bind_params_steady.ensures.refused)
+    (c.bind_outcome.ensures.outcome c.args.form.now (given_in_place c.in-Ok.params) c.in-Ok.ensures.params c.in-Err-bind_params_steady.ensures.refused)
 
 pub returns-in-Err-bind_params_steady-clause-refused : goal.returns-in-Err-bind_params_steady-clause-refused
 returns-in-Err-bind_params_steady-clause-refused c mode =
