@@ -9,7 +9,8 @@ use crate::value::Value;
 use std::alloc::{AllocError, Global};
 
 /// A value of the MySQL client/server protocol whose bytes are borrowed: a [`Value`] of the same
-/// variant with the same fields, which is copied without memory.
+/// variant with the same fields, which is copied without memory. Equality and order are those of
+/// the values.
 #[derive(Clone, Copy, PartialEq, Eq, PartialOrd, Ord)]
 pub enum ValueRef<'v> {
     NULL,
