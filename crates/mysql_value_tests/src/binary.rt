@@ -1,5 +1,5 @@
 //! Values in binary form: as they are written.
-use crate::shared::{Plain, answer_of, bytes, same_in, value};
+use crate::shared::{Plain, answer_of, bytes, same_in, value, value_ref};
 use mysql_values::value::{
     BinValue, ClientSide, SerializationSide, ServerSide, TextValue, ValueDeserializer,
 };
@@ -70,6 +70,11 @@ fn written_values(rt: HostRuntime) {
         answer_of(&rt, value.serialize(&mut buf));
         let found = (buf.strip_prefix(&[7]), value.bin_len());
         same_in(&rt, found, (Some(*form), form.len() as u64), &value);
+        let borrowed = value_ref(*plain);
+        let mut buf = answer_of(&rt, vec![in rt.alloc(); 7]);
+        answer_of(&rt, borrowed.serialize(&mut buf));
+        let found = (buf.strip_prefix(&[7]), borrowed.bin_len());
+        same_in(&rt, found, (Some(*form), form.len() as u64), &borrowed);
     }
 }
 

@@ -1,7 +1,7 @@
 //! Values in binary form: as the types of columns read them.
 use crate::shared::Plain::{Bytes, Date, Double, Float, Int, Null, Time, UInt};
-use crate::shared::{Plain, answer_of, same_in, value};
-use mysql_values::value::{BinValue, Value, ValueDeserializer};
+use crate::shared::{Plain, answer_of, same_in, value, value_ref};
+use mysql_values::value::{BinValue, Value, ValueDeserializer, read_binary_value};
 use mysql_wire_part::WireError::{BadLengthLead, UnexpectedEof, UnsupportedColumn};
 use mysql_wire_part::{ColumnFlags, ColumnType, Flags, MyDeserialize, ParseBuf, WireError};
 use std::alloc::Global;
@@ -109,6 +109,11 @@ fn values_that_are_read(rt: HostRuntime) {
         let mut buf = ParseBuf(*input);
         let found = answer_of(&rt, read(rt.alloc(), (*column, *flags), &mut buf));
         same_in(&rt, (&found, buf.0), (&value, b"*"), &(column, input));
+        let mut buf = ParseBuf(*input);
+        let flags = ColumnFlags::from_bits_retain(*flags);
+        let found = read_binary_value(*column, flags, &mut buf).ok();
+        let wanted = (Some(value_ref(*plain)), b"*".as_slice());
+        same_in(&rt, (found, buf.0), wanted, &(column, input));
     }
 }
 

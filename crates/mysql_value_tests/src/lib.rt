@@ -8,6 +8,10 @@ mod binary;
 #[cfg(test)]
 mod binary_reading;
 #[cfg(test)]
+mod binary_rows;
+#[cfg(test)]
+mod borrowed_conversions;
+#[cfg(test)]
 mod conversions;
 #[cfg(test)]
 mod durations;

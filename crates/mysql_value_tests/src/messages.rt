@@ -1,7 +1,7 @@
 //! What errors say.
 use crate::shared::{Plain, gives, says, value};
-use mysql_values::value::AsSqlError;
 use mysql_values::value::convert::{FromValueError, ToValueError};
+use mysql_values::value::{AsSqlError, BinaryRowError};
 use mysql_wire_part::{ColumnType, WireError};
 use std::alloc::AllocError;
 use std::time::Duration;
@@ -23,6 +23,14 @@ fn errors_of_the_wire(rt: HostRuntime) {
         says(&rt, rt.alloc(), error, *message);
     }
     says(&rt, rt.alloc(), &WireError::from(AllocError), NO_MEMORY);
+}
+
+#[test]
+fn refused_rows(rt: HostRuntime) {
+    let header = BinaryRowError::BadHeader(254);
+    says(&rt, rt.alloc(), &header, "Bad row header 254");
+    let cut = BinaryRowError::Wire(WireError::UnexpectedEof);
+    says(&rt, rt.alloc(), &cut, "Unexpected end of buffer");
 }
 
 #[test]

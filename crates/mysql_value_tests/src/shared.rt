@@ -1,7 +1,7 @@
 //! What several tests share.
 use mysql_values::bytes::Bytes;
-use mysql_values::value::Value;
 use mysql_values::value::convert::{FromValue, FromValueError, IntoValue, ToValue, from_value_opt};
+use mysql_values::value::{Value, ValueRef};
 use std::alloc::Global;
 use std::fmt::{Debug, Display};
 use std::process::Abort;
@@ -59,6 +59,31 @@ pub(crate) fn value(rt: &impl Abort, alloc: Global, plain: Plain) -> Value {
         Plain::Date(y, m, d, h, min, s, micros) => Value::Date(y, m, d, h, min, s, micros),
         Plain::Time(negative, d, h, min, s, micros) => Value::Time(negative, d, h, min, s, micros),
     }
+}
+
+// The value as a borrowed one.
+pub(crate) fn value_ref(plain: Plain) -> ValueRef<'static> {
+    match plain {
+        Plain::Null => ValueRef::NULL,
+        Plain::Bytes(text) => ValueRef::Bytes(text),
+        Plain::Int(number) => ValueRef::Int(number),
+        Plain::UInt(number) => ValueRef::UInt(number),
+        Plain::Float(bits) => ValueRef::Float(bits),
+        Plain::Double(bits) => ValueRef::Double(bits),
+        Plain::Date(y, m, d, h, min, s, micros) => ValueRef::Date(y, m, d, h, min, s, micros),
+        Plain::Time(negative, d, h, min, s, micros) => {
+            ValueRef::Time(negative, d, h, min, s, micros)
+        }
+    }
+}
+
+// The values as borrowed ones, in a vector.
+pub(crate) fn value_refs(rt: &impl Abort, alloc: Global, rows: &[Plain]) -> Vec<ValueRef<'static>> {
+    let mut values = Vec::new(alloc);
+    for plain in rows {
+        answer_of(rt, values.push(value_ref(*plain)));
+    }
+    values
 }
 
 // The value that holds these bytes.

@@ -1,7 +1,7 @@
 //! SQL literals of values.
 use crate::shared::Plain::{Bytes, Date, Double, Float, Int, Null, Time, UInt};
-use crate::shared::{Plain, answer_of, bytes, same_in, value};
-use mysql_values::value::AsSqlError;
+use crate::shared::{Plain, answer_of, bytes, same_in, value, value_ref};
+use mysql_values::value::{AsSqlError, ValueRef};
 
 // Values, whether without backslash escapes, and their literals. Only texts differ by the mode.
 const LITERALS: &[(Plain, bool, &str)] = &[
@@ -213,6 +213,15 @@ fn literals(rt: HostRuntime) {
         let found = answer_of(&rt, value.as_sql(rt.alloc(), *no_backslash_escape));
         let found = (found.as_str(), value.sql_len(*no_backslash_escape));
         same_in(&rt, found, (*literal, Some(literal.len() as u128)), &value);
+        let borrowed = value_ref(*plain);
+        let found = answer_of(&rt, borrowed.as_sql(rt.alloc(), *no_backslash_escape));
+        let found = (found.as_str(), borrowed.sql_len(*no_backslash_escape));
+        same_in(
+            &rt,
+            found,
+            (*literal, Some(literal.len() as u128)),
+            &borrowed,
+        );
     }
 }
 
@@ -224,6 +233,15 @@ fn a_literal_in_a_room(rt: HostRuntime) {
     assert!(rt; value.sql_len(false) == Some(7));
     value.put_sql(false, &mut room);
     same_in(&rt, room.as_slice(), b"'it\\'s'", &"a room");
+}
+
+#[test]
+fn a_borrowed_literal_in_a_room(rt: HostRuntime) {
+    let value = ValueRef::Bytes(b"it's");
+    let mut room = [0xFFu8; 7];
+    assert!(rt; value.sql_len(true) == Some(7));
+    value.put_sql(true, &mut room);
+    same_in(&rt, room.as_slice(), b"'it''s'", &"a room");
 }
 
 const FLOATS: &[(Plain, bool)] = &[

@@ -1,5 +1,5 @@
 //! Values: how they are shown, compared and copied.
-use crate::shared::{Plain, answer_of, same_in, value, values};
+use crate::shared::{Plain, answer_of, same_in, value, value_ref, value_refs, values};
 use mysql_values::bytes::Bytes;
 use std::cmp::Ordering;
 use std::fmt::Debug;
@@ -52,6 +52,9 @@ fn debug_texts(rt: HostRuntime) {
         let value = value(&rt, rt.alloc(), *plain);
         let shown = answer_of(&rt, format!(in rt.alloc(); "{value:?}"));
         same_in(&rt, shown.as_str(), *text, &"a value");
+        let borrowed = value_ref(*plain);
+        let shown = answer_of(&rt, format!(in rt.alloc(); "{borrowed:?}"));
+        same_in(&rt, shown.as_str(), *text, &"a borrowed value");
     }
 }
 
@@ -96,6 +99,27 @@ fn equality_and_order(rt: HostRuntime) {
         for (j, b) in copies.iter().enumerate() {
             are_in_order(&rt, a, b, i.cmp(&j));
         }
+    }
+}
+
+#[test]
+fn equality_and_order_of_borrowed_values(rt: HostRuntime) {
+    let values = value_refs(&rt, rt.alloc(), ASCENDING);
+    for (i, a) in values.iter().enumerate() {
+        for (j, b) in values.iter().enumerate() {
+            are_in_order(&rt, a, b, i.cmp(&j));
+        }
+    }
+}
+
+#[test]
+fn borrowed_and_owned_values(rt: HostRuntime) {
+    for plain in ASCENDING {
+        let owned = value(&rt, rt.alloc(), *plain);
+        let borrowed = value_ref(*plain);
+        same_in(&rt, owned.borrowed(), borrowed, &owned);
+        let copy = answer_of(&rt, borrowed.to_value(rt.alloc()));
+        same_in(&rt, &copy, &owned, &borrowed);
     }
 }
 
