@@ -23,7 +23,8 @@ pub(crate) trait FormNames<'f>: Drop {
         value: ValueRef<'f>,
         follow: usize,
     ) -> Result<Self, AllocError>
-        ensures { IfOk result (λ names. Self.values names ≡ insert empty name.now (owned value.entry)) };
+        ensures { IfOk result (λ names.
+            Self.values names ≡ insert empty name.now (owned value.entry)) };
 
     /// Whether the name is among them.
     fn has(&self, name: &[u8]) -> bool
