@@ -7,6 +7,24 @@ use mysql_params_core::params::Params;
 use std::alloc::{AllocError, Global};
 use std::process::Abort;
 
+/// As many names as are kept in pairs: `a` to `p`, of type TINY (1), with the values 1 to 16.
+const FORM_OF_16: &[u8] = b"\
+    \x01a\x01\0\x01\x01b\x01\0\x02\x01c\x01\0\x03\x01d\x01\0\x04\x01e\x01\0\x05\x01f\x01\0\x06\
+    \x01g\x01\0\x07\x01h\x01\0\x08\x01i\x01\0\x09\x01j\x01\0\x0a\x01k\x01\0\x0b\x01l\x01\0\x0c\
+    \x01m\x01\0\x0d\x01n\x01\0\x0e\x01o\x01\0\x0f\x01p\x01\0\x10";
+
+/// The same with `q`, 17.
+const FORM_OF_17: &[u8] = b"\
+    \x01a\x01\0\x01\x01b\x01\0\x02\x01c\x01\0\x03\x01d\x01\0\x04\x01e\x01\0\x05\x01f\x01\0\x06\
+    \x01g\x01\0\x07\x01h\x01\0\x08\x01i\x01\0\x09\x01j\x01\0\x0a\x01k\x01\0\x0b\x01l\x01\0\x0c\
+    \x01m\x01\0\x0d\x01n\x01\0\x0e\x01o\x01\0\x0f\x01p\x01\0\x10\x01q\x01\0\x11";
+
+/// The same with `r`, 18.
+const FORM_OF_18: &[u8] = b"\
+    \x01a\x01\0\x01\x01b\x01\0\x02\x01c\x01\0\x03\x01d\x01\0\x04\x01e\x01\0\x05\x01f\x01\0\x06\
+    \x01g\x01\0\x07\x01h\x01\0\x08\x01i\x01\0\x09\x01j\x01\0\x0a\x01k\x01\0\x0b\x01l\x01\0\x0c\
+    \x01m\x01\0\x0d\x01n\x01\0\x0e\x01o\x01\0\x0f\x01p\x01\0\x10\x01q\x01\0\x11\x01r\x01\0\x12";
+
 /// Queries, forms, and the text.
 const TEXTS: &[(&[u8], &[u8], &[u8])] = &[
     (QUERY, FORM, TEXT),
@@ -26,12 +44,40 @@ const TEXTS: &[(&[u8], &[u8], &[u8])] = &[
     // A length in three bytes, and one in nine.
     (b":a", b"\xfc\x01\0a\x06\0", b"NULL"),
     (b"?", b"\xfe\0\0\0\0\0\0\0\0\x06\0", b"NULL"),
+    // As many names as are kept in pairs, one more, and two more.
+    (b":p, :a", FORM_OF_16, b"16, 1"),
+    (b":q, :p, :a", FORM_OF_17, b"17, 16, 1"),
+    (b":r, :q, :p, :a", FORM_OF_18, b"18, 17, 16, 1"),
 ];
 
 #[test]
 fn bound_texts(rt: HostRuntime) {
     all_bind_in(&rt, rt.alloc(), WITH_BACKSLASHES, TEXTS);
 }
+
+/// The form of 16 names, and the first of them again.
+const SIXTEEN_AND_THE_FIRST: &[u8] = b"\
+    \x01a\x01\0\x01\x01b\x01\0\x02\x01c\x01\0\x03\x01d\x01\0\x04\x01e\x01\0\x05\x01f\x01\0\x06\
+    \x01g\x01\0\x07\x01h\x01\0\x08\x01i\x01\0\x09\x01j\x01\0\x0a\x01k\x01\0\x0b\x01l\x01\0\x0c\
+    \x01m\x01\0\x0d\x01n\x01\0\x0e\x01o\x01\0\x0f\x01p\x01\0\x10\x01a\x01\0\x11";
+
+/// The form of 17 names, and the first of them again.
+const SEVENTEEN_AND_THE_FIRST: &[u8] = b"\
+    \x01a\x01\0\x01\x01b\x01\0\x02\x01c\x01\0\x03\x01d\x01\0\x04\x01e\x01\0\x05\x01f\x01\0\x06\
+    \x01g\x01\0\x07\x01h\x01\0\x08\x01i\x01\0\x09\x01j\x01\0\x0a\x01k\x01\0\x0b\x01l\x01\0\x0c\
+    \x01m\x01\0\x0d\x01n\x01\0\x0e\x01o\x01\0\x0f\x01p\x01\0\x10\x01q\x01\0\x11\x01a\x01\0\x12";
+
+/// The form of 17 names, and the last of them again.
+const SEVENTEEN_AND_THE_LAST: &[u8] = b"\
+    \x01a\x01\0\x01\x01b\x01\0\x02\x01c\x01\0\x03\x01d\x01\0\x04\x01e\x01\0\x05\x01f\x01\0\x06\
+    \x01g\x01\0\x07\x01h\x01\0\x08\x01i\x01\0\x09\x01j\x01\0\x0a\x01k\x01\0\x0b\x01l\x01\0\x0c\
+    \x01m\x01\0\x0d\x01n\x01\0\x0e\x01o\x01\0\x0f\x01p\x01\0\x10\x01q\x01\0\x11\x01q\x01\0\x12";
+
+/// The form of 17 names, and a value without one.
+const SEVENTEEN_AND_NO_NAME: &[u8] = b"\
+    \x01a\x01\0\x01\x01b\x01\0\x02\x01c\x01\0\x03\x01d\x01\0\x04\x01e\x01\0\x05\x01f\x01\0\x06\
+    \x01g\x01\0\x07\x01h\x01\0\x08\x01i\x01\0\x09\x01j\x01\0\x0a\x01k\x01\0\x0b\x01l\x01\0\x0c\
+    \x01m\x01\0\x0d\x01n\x01\0\x0e\x01o\x01\0\x0f\x01p\x01\0\x10\x01q\x01\0\x11\0\x01\0\x12";
 
 /// Forms, and why they are refused.
 const FORMS: &[(&[u8], Outcome)] = &[
@@ -165,6 +211,38 @@ const FORMS: &[(&[u8], Outcome)] = &[
             place: 1,
             position: 5,
             len: 1,
+        },
+    ),
+    // A name after 16 and after 17 others that is one of them, and none after 17.
+    (
+        SIXTEEN_AND_THE_FIRST,
+        Outcome::FormRepeated {
+            place: 16,
+            position: 81,
+            len: 1,
+        },
+    ),
+    (
+        SEVENTEEN_AND_THE_FIRST,
+        Outcome::FormRepeated {
+            place: 17,
+            position: 86,
+            len: 1,
+        },
+    ),
+    (
+        SEVENTEEN_AND_THE_LAST,
+        Outcome::FormRepeated {
+            place: 17,
+            position: 86,
+            len: 1,
+        },
+    ),
+    (
+        SEVENTEEN_AND_NO_NAME,
+        Outcome::FormMixed {
+            place: 17,
+            position: 85,
         },
     ),
 ];
