@@ -60,7 +60,7 @@ pub fn params_of_form(alloc: Global, form: &[u8]) -> Result<Params, FormError>
     ensures memory { IsErrOf result (FormError.Memory alloc_error) →
         HasFirstParameter form.now }
 {
-    match form_params::<HashMap<Vec<u8>, Value>>(alloc, form) {
+    match form_params::<HashMap<Vec<u8>, Value>>(alloc, form, Vec::new(alloc)) {
         Ok(FormParams::Empty) => Ok(Params::Empty),
         Ok(FormParams::Named(entries)) => Ok(Params::Named(entries)),
         Ok(FormParams::Positional(values)) => match own_values(alloc, values.as_slice()) {
@@ -90,10 +90,12 @@ pub(crate) enum FormParams<'f, M: Drop> {
     Positional(Vec<ValueRef<'f>>),
 }
 
-/// The parameters that a form says, as [`params_of_form`] gives them.
+/// The parameters that a form says, as [`params_of_form`] gives them. Values by position go into
+/// the spare list, whatever stood there.
 pub(crate) fn form_params<'f, M: FormNames<'f>>(
     alloc: Global,
     form: &'f [u8],
+    spare: Vec<ValueRef<'f>>,
 ) -> Result<FormParams<'f, M>, FormError>
     ensures params { IfOk result (λ params.
         IsFormReading form.now (Ok (given_in_form M.values params))) }
@@ -112,18 +114,19 @@ pub(crate) fn form_params<'f, M: FormNames<'f>>(
     let name = eat_name(spot, &mut rest)?;
     let value = eat_value(spot, &mut rest)?;
     if name.is_empty() {
-        positional_params(alloc, form.len(), value, rest)
+        positional_params(form.len(), value, rest, spare)
     } else {
+        drop(spare);
         named_params(alloc, form.len(), name, value, rest)
     }
 }
 
 // The parameters by position that begin with this value and go on with the rest.
 fn positional_params<'f, M: FormNames<'f>>(
-    alloc: Global,
     total: usize,
     first: ValueRef<'f>,
     rest: ParseBuf<'f>,
+    spare: Vec<ValueRef<'f>>,
 ) -> Result<FormParams<'f, M>, FormError>
     requires { length (left rest) < total }
     ensures params { IfOk result (λ params.
@@ -132,7 +135,7 @@ fn positional_params<'f, M: FormNames<'f>>(
     ensures refused { IfErr result
         (IsRefusalFrom total 1 (positional (owned first.entry ∷ [])) (left rest.entry)) }
 {
-    let mut values = match first_value(alloc, first, rest.len() / LEAST_PARAMETER) {
+    let mut values = match first_value(first, rest.len() / LEAST_PARAMETER, spare) {
         Ok(values) => values,
         Err(error) => return Err(FormError::Memory(error)),
     };
@@ -143,11 +146,12 @@ fn positional_params<'f, M: FormNames<'f>>(
     Ok(FormParams::Positional(values))
 }
 
-// The first value, where at most so many follow it: a few of them ask for no more memory.
+// The first value in the spare list, where at most so many follow it: a few of them ask for no more
+// memory.
 fn first_value<'f>(
-    alloc: Global,
     first: ValueRef<'f>,
     most: usize,
+    spare: Vec<ValueRef<'f>>,
 ) -> Result<Vec<ValueRef<'f>>, AllocError>
     ensures { IfOk result (λ values. values.items ≡ first.entry ∷ []) }
 {
@@ -156,7 +160,9 @@ fn first_value<'f>(
     } else {
         MANY_VALUES
     };
-    let mut values = Vec::with_capacity(alloc, follow + 1)?;
+    let mut values = spare;
+    values.clear();
+    values.reserve_exact(follow + 1)?;
     values.push(first)?;
     Ok(values)
 }

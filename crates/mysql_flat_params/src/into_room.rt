@@ -61,7 +61,7 @@ pub fn bind_into(
     ensures too_long { IfTooLong result (λ len. length room.old < len) }
     ensures unchanged { UnlessDone result (room.new ≡ room.old) }
 {
-    let params = match form_params::<NamesInPlace>(alloc, form) {
+    let params = match form_params::<NamesInPlace>(alloc, form, Vec::new(alloc)) {
         Ok(params) => params,
         Err(error) => return form_outcome(error),
     };

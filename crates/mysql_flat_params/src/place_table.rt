@@ -199,7 +199,7 @@ pub fn bind_by_table_into(
     if !can_be_spans(query, survey, places) {
         return TableOutcome::OtherTable;
     }
-    let params = match form_params::<NamesInPlace>(alloc, form) {
+    let params = match form_params::<NamesInPlace>(alloc, form, Vec::new(alloc)) {
         Ok(params) => params,
         Err(error) => return TableOutcome::AsQuery(form_outcome(error)),
     };

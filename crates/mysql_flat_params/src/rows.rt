@@ -1,5 +1,5 @@
 //! Rows: one query, parsed once and bound to many forms, in a room that the caller lends.
-ghost use Rattle.std.specs.Prelude.{◌≡◌, ◌+◌, ◌≤◌, ◌<◌, length, take, drop, IfSome};
+ghost use Rattle.std.specs.Prelude.{◌≡◌, ◌+◌, ◌≤◌, ◌<◌, length, take, drop, ℕ, List, Ok, IfSome};
 ghost use Rattle.mysql_wire_part.specs.Lenenc.{length_spelling};
 ghost use Rattle.mysql_wire_part.specs.ParseBuf.{read_refusal};
 ghost use Rattle.mysql_named_params.specs.Tokens.{OnTokens};
@@ -9,18 +9,22 @@ ghost use Rattle.mysql_params_core.specs.Given.{Given};
 ghost use Rattle.mysql_binding.specs.MeasuredText.{IsMeasured};
 ghost use Rattle.mysql_binding.specs.Survey.{IsSurvey};
 ghost use Rattle.mysql_flat_params.specs.BoundRows.{AreBoundRows, IsRowsOutcome, unread_row};
+ghost use Rattle.mysql_flat_params.specs.FlatForm.{IsFormReading};
+ghost use Rattle.mysql_flat_params.specs.FormParams.{given_in_place};
 ghost use Rattle.mysql_flat_params.specs.Outcomes.{IfDone, IfTooLong};
 ghost use Rattle.mysql_flat_params.specs.RowInRoom.{IsFormInRoom, IsRowInRoom, IsStringInRoom};
 
-use crate::form::form_params;
+use crate::form::{FormParams, form_params};
 use crate::form_names::NamesInPlace;
-use crate::into_room::{bind_outcome, borrowed_params, form_outcome, named_pairs};
+use crate::into_room::{ParamsInPlace, bind_outcome, borrowed_params, form_outcome, named_pairs};
 use crate::outcome::Outcome;
 use byteorder::{ByteOrder, LittleEndian};
 use mysql_binding::{MeasuredText, PlainForm, Survey, fill_measured, measured_text, place_survey};
 use mysql_named_params::places::{FoundPlace, PlaceKind};
+use mysql_values::value::ValueRef;
 use mysql_wire_part::{ParseBuf, WireError};
 use std::alloc::Global;
+use std::mem;
 
 /// How far a call has come that binds row after row.
 #[derive(Clone, Copy, Debug, PartialEq, Eq)]
@@ -138,6 +142,7 @@ fn bind_rows(
     ensures rest { (result.0.written ≤ length room.old)
         × (drop result.0.written room.new ≡ drop result.0.written room.old) }
 {
+    let mut spare = Vec::new(alloc);
     let mut count = 0;
     let mut read = 0;
     let mut written = 0;
@@ -149,6 +154,7 @@ fn bind_rows(
             known,
             &forms[read..],
             no_backslash_escape,
+            &mut spare,
             &mut room[written..],
         );
         let Outcome::Done { len } = outcome else {
@@ -177,13 +183,14 @@ fn bind_rows(
 
 // Binds the row whose form is the string at the front of the forms, and writes its text to the
 // front of the room. The number is that of the form's bytes as a string, if the text is written.
-fn bind_row(
+fn bind_row<'f>(
     alloc: Global,
     query: &[u8],
     survey: Survey,
     known: &[FoundPlace],
-    forms: &[u8],
+    forms: &'f [u8],
     no_backslash_escape: bool,
+    spare: &mut Vec<ValueRef<'f>>,
     room: &mut [u8],
 ) -> (Outcome, usize)
     requires survey { OnTokens no_backslash_escape query.now (IsSurvey survey) }
@@ -197,29 +204,78 @@ fn bind_row(
         Ok(form) => form,
         Err(error) => return (unread_row(error), 0),
     };
-    let outcome = bind_form(alloc, query, survey, known, form, no_backslash_escape, room);
+    let outcome = bind_form(
+        alloc,
+        query,
+        survey,
+        known,
+        form,
+        no_backslash_escape,
+        spare,
+        room,
+    );
     (outcome, forms.len() - rest.len())
 }
 
 // Binds what a form says, and writes the text to the front of the room, as a length-encoded string.
-fn bind_form(
+// The spare list lends its memory, and has it again afterwards.
+fn bind_form<'f>(
     alloc: Global,
     query: &[u8],
     survey: Survey,
     known: &[FoundPlace],
-    form: &[u8],
+    form: &'f [u8],
     no_backslash_escape: bool,
+    spare: &mut Vec<ValueRef<'f>>,
     room: &mut [u8],
 ) -> Outcome
     requires survey { OnTokens no_backslash_escape query.now (IsSurvey survey) }
     requires known { OnTokens no_backslash_escape query.now (BeginWithPlaces known.now) }
     ensures { IsFormInRoom no_backslash_escape query.now form.now room.old room.new result }
 {
-    let params = match form_params::<NamesInPlace>(alloc, form) {
+    let lent = mem::replace(spare, Vec::new(alloc));
+    let params = match form_params::<NamesInPlace>(alloc, form, lent) {
         Ok(params) => params,
         Err(error) => return form_outcome(error),
     };
-    let pairs = named_pairs(&params);
+    let outcome = bind_read(
+        alloc,
+        query,
+        survey,
+        known,
+        &params,
+        no_backslash_escape,
+        room,
+    );
+    *spare = spare_values(alloc, params);
+    outcome
+}
+
+// The list of a form's values, if it has one.
+fn spare_values<'f>(alloc: Global, params: ParamsInPlace<'f>) -> Vec<ValueRef<'f>> {
+    match params {
+        FormParams::Empty => Vec::new(alloc),
+        FormParams::Named(_names) => Vec::new(alloc),
+        FormParams::Positional(values) => values,
+    }
+}
+
+// The same with what a form says.
+fn bind_read(
+    alloc: Global,
+    query: &[u8],
+    survey: Survey,
+    known: &[FoundPlace],
+    params: &ParamsInPlace<'_>,
+    no_backslash_escape: bool,
+    room: &mut [u8],
+) -> Outcome
+    requires survey { OnTokens no_backslash_escape query.now (IsSurvey survey) }
+    requires known { OnTokens no_backslash_escape query.now (BeginWithPlaces known.now) }
+    ensures { (form : List ℕ) → IsFormReading form (Ok (given_in_place params.now)) →
+        IsFormInRoom no_backslash_escape query.now form room.old room.new result }
+{
+    let pairs = named_pairs(params);
     let plain = PlainForm {
         no_backslash_escape,
     };
@@ -228,7 +284,7 @@ fn bind_form(
         query,
         survey,
         known,
-        borrowed_params(&params, &pairs),
+        borrowed_params(params, &pairs),
         no_backslash_escape,
         &plain,
     ) {
