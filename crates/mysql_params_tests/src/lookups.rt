@@ -3,7 +3,7 @@ use crate::shared::{Given, answer_of, names, params, same, same_in, values};
 use mysql_params::params::{
     IntoPositionalError, MissingNamedParameterError, Params, ParamsConfusionError, ParamsError,
 };
-use mysql_params_core::params::{BorrowedParams, NameMap, place_values};
+use mysql_params_core::params::{BorrowedParams, NameMap, NamedPairs, place_values};
 use mysql_values::value::{Value, ValueRef};
 use std::alloc::{AllocError, Global};
 use std::collections::BTreeMap;
@@ -176,6 +176,58 @@ fn values_of_a_sorted_map(rt: HostRuntime) {
     let wanted = [ValueRef::UInt(1)];
     same(&rt, found.as_slice(), wanted.as_slice());
 }
+
+// Of the name `a` the first pair counts.
+const PAIRS: &[(&[u8], ValueRef<'static>)] = &[
+    (b"a", ValueRef::UInt(1)),
+    (b"b", ValueRef::Bytes(b"x")),
+    (b"a", ValueRef::NULL),
+];
+
+#[test]
+fn values_of_borrowed_pairs(rt: HostRuntime) {
+    let pairs = NamedPairs(PAIRS);
+    let params = BorrowedParams::Pairs(&pairs);
+    let found = answer_of(&rt, place_values(rt.alloc(), params, &[b"b", b"a", b"b"]));
+    let wanted = [
+        ValueRef::Bytes(b"x"),
+        ValueRef::UInt(1),
+        ValueRef::Bytes(b"x"),
+    ];
+    same(&rt, found.as_slice(), wanted.as_slice());
+    same(
+        &rt,
+        answer_of(&rt, pairs.first_redefined(rt.alloc())),
+        Some(2),
+    );
+    let values = BorrowedParams::Values(&wanted);
+    let found = answer_of(&rt, place_values(rt.alloc(), values, &[]));
+    same(&rt, found.as_slice(), wanted.as_slice());
+}
+
+// Fifty names twice each, in the same order: more pairs than are found by walks.
+#[test]
+fn values_of_many_pairs(rt: HostRuntime) {
+    let mut pairs = Vec::new(rt.alloc());
+    for i in 0..100u64 {
+        let at = (i % 50) as usize;
+        answer_of(&rt, pairs.push((&LETTERS[at..at + 3], ValueRef::UInt(i))));
+    }
+    let pairs = NamedPairs(pairs.as_slice());
+    same(
+        &rt,
+        answer_of(&rt, pairs.first_redefined(rt.alloc())),
+        Some(50),
+    );
+    let params = BorrowedParams::Pairs(&pairs);
+    let names: &[&[u8]] = &[&LETTERS[49..52], &LETTERS[..3]];
+    let found = answer_of(&rt, place_values(rt.alloc(), params, names));
+    let wanted = [ValueRef::UInt(49), ValueRef::UInt(0)];
+    same(&rt, found.as_slice(), wanted.as_slice());
+}
+
+// Any three of them that follow one another are another name.
+const LETTERS: &[u8] = b"abcdefghijklmnopqrstuvwxyzABCDEFGHIJKLMNOPQRSTUVWXYZ";
 
 // Both differ, and a copy of the first is the same.
 fn differ(rt: &impl Abort, first: Params, second: Params) {
