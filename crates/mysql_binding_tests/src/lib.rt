@@ -5,6 +5,8 @@
 #[cfg(test)]
 mod binding;
 #[cfg(test)]
+mod borrowed;
+#[cfg(test)]
 mod both_modes;
 #[cfg(test)]
 mod fixed_query;
