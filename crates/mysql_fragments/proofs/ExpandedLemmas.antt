@@ -143,8 +143,8 @@ module _ (as_literals mode : Bool) (query : List ℕ) (given : GivenFragments) (
 
 -- ---- the query with fragments, written as far as a rest of it
 
--- (with this text of each fragment)
-pub record SplicedSoFar (mode : Bool) (write : Fragment → List ℕ) (query rest : List ℕ) (fragments : List Fragment) (i : ℕ) (text : List ℕ) : Type 0 where
+-- (with this text of each fragment, which may be a borrowed one)
+pub record SplicedSoFar {X : Type 0} (mode : Bool) (write : X → List ℕ) (query rest : List ℕ) (fragments : List X) (i : ℕ) (text : List ℕ) : Type 0 where
   pub all : List Token
   pub tokens : IsTokens mode query all
   pub left : List Token
@@ -153,7 +153,7 @@ pub record SplicedSoFar (mode : Bool) (write : Fragment → List ℕ) (query res
   pub room : length fragments ≡ place_count all
   pub text_is : text ++ bound left (drop i (map write fragments)) ≡ bound all (map write fragments)
 
-pub spliced_none : (mode : Bool) (write : Fragment → List ℕ) (query : List ℕ) (fragments : List Fragment) (text : List ℕ) →
+pub spliced_none : {X : Type 0} (mode : Bool) (write : X → List ℕ) (query : List ℕ) (fragments : List X) (text : List ℕ) →
     OnTokens mode query (λ ts. length fragments ≡ place_count ts) → text ≡ [] →
     SplicedSoFar mode write query query fragments 0 text
 spliced_none mode write query fragments text o nil = record {
@@ -183,14 +183,14 @@ place_count-place (Name name) k back e = refl
 place_count-place Mark k back e = refl
 place_count-place t k back e = cc
 
-module _ (mode : Bool) (write : Fragment → List ℕ) (query rest : List ℕ) (fragments : List Fragment) (i : ℕ) (text : List ℕ) (s : SplicedSoFar mode write query rest fragments i text) where
+module _ {X : Type 0} (mode : Bool) (write : X → List ℕ) (query rest : List ℕ) (fragments : List X) (i : ℕ) (text : List ℕ) (s : SplicedSoFar mode write query rest fragments i text) where
   -- as long as fragments are left, a place is found
   pub place_left : i < length fragments → OnTokens mode rest (λ us. place_count us ≡ 0) → ⊥
   place_left below o =
       let same : o.0 ≡ s.left = one_token_list mode rest o.0 s.left o.1 s.rest_tokens in
       omega (arith, below, s.places_left, ap place_count same, o.2)
 
-  pub spliced_more : (run after text1 text2 : List ℕ) (fragment : Fragment) (found : FoundPlace) →
+  pub spliced_more : (run after text1 text2 : List ℕ) (fragment : X) (found : FoundPlace) →
       i < length fragments → fragment ≡ get_or fragments i fragment →
       OnTokens mode rest (λ us. IsFirstPlace us found) → run ≡ take found.before rest →
       after ≡ drop (found.before + found.len) rest → text1 ≡ text ++ run →

@@ -14,20 +14,19 @@ use Rattle.mysql_binding.proofs.BoundText.{bound}
 use Rattle.mysql_binding.proofs.MeasuredTextLemmas.{bound_len}
 use Rattle.mysql_binding.proofs.PieceLemmas.{joined_text_is}
 use Rattle.mysql_binding.proofs.TextLengthLemmas.{pieces_len-plain_len}
-use Rattle.mysql_fragments.specs.declared.fragment.Fragment.{Fragment}
 use Rattle.mysql_fragments.proofs.ExpandedLemmas.{SplicedSoFar, spliced_none, place_left, spliced_more, spliced_all}
 
 -- the whole text has this length
-abbrev HasLength : Bool → (Fragment → List ℕ) → List ℕ → List Fragment → ℕ → Type 0
+abbrev HasLength : {X : Type 0} → Bool → (X → List ℕ) → List ℕ → List X → ℕ → Type 0
 HasLength mode write query fragments n = OnTokens mode query (λ ts. n ≡ length (bound ts (map write fragments)))
 
 -- the text is written as far as the index, and has room for what is left
-pub record FilledSoFar (mode : Bool) (write : Fragment → List ℕ) (query rest : List ℕ) (fragments : List Fragment) (i : ℕ) (text : List ℕ) (at : ℕ) : Type 0 where
+pub record FilledSoFar {X : Type 0} (mode : Bool) (write : X → List ℕ) (query rest : List ℕ) (fragments : List X) (i : ℕ) (text : List ℕ) (at : ℕ) : Type 0 where
   pub so_far : SplicedSoFar mode write query rest fragments i (take at text)
   pub in_range : at ≤ length text
   pub whole : OnTokens mode query (λ ts. length text ≡ length (bound ts (map write fragments)))
 
-pub filled_none : (mode : Bool) (write : Fragment → List ℕ) (query : List ℕ) (fragments : List Fragment) (text : List ℕ) →
+pub filled_none : {X : Type 0} (mode : Bool) (write : X → List ℕ) (query : List ℕ) (fragments : List X) (text : List ℕ) →
     OnTokens mode query (λ ts. length fragments ≡ place_count ts) →
     OnTokens mode query (λ ts. length text ≡ pieces_len ts + sum_by length (map write fragments)) →
     FilledSoFar mode write query query fragments 0 text 0
@@ -44,7 +43,7 @@ filled_none mode write query fragments text o room = record {
 }
 
 -- what is written so far is no longer than the whole
-front_fits : (mode : Bool) (write : Fragment → List ℕ) (query rest : List ℕ) (fragments : List Fragment) (i : ℕ) (front : List ℕ) (n : ℕ) →
+front_fits : {X : Type 0} (mode : Bool) (write : X → List ℕ) (query rest : List ℕ) (fragments : List X) (i : ℕ) (front : List ℕ) (n : ℕ) →
     SplicedSoFar mode write query rest fragments i front → HasLength mode write query fragments n → length front ≤ n
 front_fits mode write query rest fragments i front n s whole =
     let same : whole.0 ≡ s.all = one_token_list mode query whole.0 s.all whole.1 s.tokens in
@@ -57,7 +56,7 @@ front_fits mode write query rest fragments i front n s whole =
     )
 
 -- once the fragments are written, the rest of the query is what is missing of the whole
-whole_text : (mode : Bool) (write : Fragment → List ℕ) (query : List ℕ) (fragments : List Fragment) (text : List ℕ) (n : ℕ) →
+whole_text : {X : Type 0} (mode : Bool) (write : X → List ℕ) (query : List ℕ) (fragments : List X) (text : List ℕ) (n : ℕ) →
     OnTokens mode query (λ ts. joined_text (pieces ts) (map write fragments) ≡ Some text) →
     HasLength mode write query fragments n → length text ≡ n
 whole_text mode write query fragments text n j whole =
@@ -69,7 +68,7 @@ whole_text mode write query fragments text n j whole =
       ap length (joined_text_is j.0 (map write fragments) text j.2),
     )
 
-module _ (mode : Bool) (write : Fragment → List ℕ) (query rest : List ℕ) (fragments : List Fragment) (i : ℕ) (text : List ℕ) (at : ℕ) (s : FilledSoFar mode write query rest fragments i text at) where
+module _ {X : Type 0} (mode : Bool) (write : X → List ℕ) (query rest : List ℕ) (fragments : List X) (i : ℕ) (text : List ℕ) (at : ℕ) (s : FilledSoFar mode write query rest fragments i text at) where
   filled : length (take at text) ≡ at
   filled = length-take-le at text s.in_range
 
@@ -78,7 +77,7 @@ module _ (mode : Bool) (write : Fragment → List ℕ) (query rest : List ℕ) (
     pub fill_place_left : OnTokens mode rest (λ us. place_count us ≡ 0) → ⊥
     fill_place_left o = place_left mode write query rest fragments i (take at text) s.so_far below o
 
-    module _ (fragment : Fragment) (fragment_is : fragment ≡ get_or fragments i fragment) (found : FoundPlace) (o : OnTokens mode rest (λ us. IsFirstPlace us found)) (run : List ℕ) (run_is : run ≡ take found.before rest) where
+    module _ (fragment : X) (fragment_is : fragment ≡ get_or fragments i fragment) (found : FoundPlace) (o : OnTokens mode rest (λ us. IsFirstPlace us found)) (run : List ℕ) (run_is : run ≡ take found.before rest) where
       both_fit : at + (length run + length (write fragment)) ≤ length text
       both_fit =
           let more = spliced_more mode write query rest fragments i (take at text) s.so_far run (drop (found.before + found.len) rest) (take at text ++ run) ((take at text ++ run) ++ write fragment) fragment found

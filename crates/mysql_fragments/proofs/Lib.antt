@@ -10,5 +10,8 @@ pub mod CauseLemmas
 pub mod ExpandedLemmas
 pub mod FilledLemmas
 pub mod FillLemmas
+pub mod CellLemmas
+pub mod SaidLemmas
+pub mod BoundBorrowedLemmas
 pub mod ValueFragmentLemmas
 pub mod InPlaceLemmas

@@ -9,3 +9,6 @@ pub mod ValueFragments
 pub mod FragmentsInPlace
 pub mod FilledText
 pub mod SentFragments
+pub mod RowShape
+pub mod BorrowedFragments
+pub mod BorrowedText

@@ -114,9 +114,14 @@ fn fill_places<F: LiteralForm>(
     append_piece(text, at, rest);
 }
 
-// Writes the text of a fragment with the literals of its values into the text from this index on,
-// and returns the index after it. What stands before it is kept.
-fn append_filled<F: LiteralForm>(text: &mut [u8], at: usize, fragment: &Fragment, form: &F) -> usize
+/// Writes the text of a fragment with the literals of its values into the text from this index on,
+/// and returns the index after it. What stands before it is kept.
+pub(crate) fn append_filled<F: LiteralForm>(
+    text: &mut [u8],
+    at: usize,
+    fragment: &Fragment,
+    form: &F,
+) -> usize
     requires room { at + length (filled_text (written_literal (F.literal form.now)) fragment.now)
         ≤ length text.old }
     ensures next { result

@@ -5,23 +5,31 @@
 //! values, as a prepared statement wants them. `specs/Expanded.antt` says what they promise.
 #![tactic(auto)]
 
+mod borrowed;
+mod bound_refs;
 mod expanded;
 mod faults;
 mod filled;
+mod filled_refs;
 mod fragment;
+mod fragment_ref;
 mod fragments_error;
 pub mod laws;
 mod measured;
 mod names;
 mod places;
+mod rows_ref;
 mod written;
 
+pub use bound_refs::bind_borrowed_fragments;
 pub use expanded::{
     ExpandedQuery, bind_fragments, bind_fragments_in, expanded_for_literals, expanded_query,
     expanded_query_in, placed_fragments,
 };
 pub use filled::filled_query;
 pub use fragment::{Fragment, Fragments, Item, Keyword};
+pub use fragment_ref::FragmentRef;
 pub use fragments_error::{FragmentFault, FragmentsError};
 pub use places::fragments_of_places;
+pub use rows_ref::RowsRef;
 pub use written::push_fragment;

@@ -30,8 +30,12 @@ pub(crate) fn filled_len<F: LiteralForm>(
     Some(len)
 }
 
-// The length with that of a fragment.
-fn with_fragment<F: LiteralForm>(len: usize, fragment: &Fragment, form: &F) -> Option<usize>
+/// The length with that of a fragment.
+pub(crate) fn with_fragment<F: LiteralForm>(
+    len: usize,
+    fragment: &Fragment,
+    form: &F,
+) -> Option<usize>
     ensures len { IfSome result (λ sum. sum
         ≡ len + length (filled_text (written_literal (F.literal form.now)) fragment.now)) }
     ensures too_long { result ≡ None → 2 ^ 63
@@ -139,8 +143,8 @@ fn backquotes(name: &[u8]) -> usize
     count
 }
 
-// The length with that of a separator, which stands before each text except the first.
-fn with_separator(len: usize, i: usize, separator: &[u8]) -> Option<usize>
+/// The length with that of a separator, which stands before each text except the first.
+pub(crate) fn with_separator(len: usize, i: usize, separator: &[u8]) -> Option<usize>
     ensures len { IfSome result (λ sum. sum ≡ len + length (separator_before separator.now i)) }
     ensures too_long { result ≡ None → 2 ^ 63 ≤ len + length (separator_before separator.now i) }
 {
@@ -151,8 +155,8 @@ fn with_separator(len: usize, i: usize, separator: &[u8]) -> Option<usize>
     }
 }
 
-// The length and so many bytes more.
-fn with_more(len: usize, more: u128) -> Option<usize>
+/// The length and so many bytes more.
+pub(crate) fn with_more(len: usize, more: u128) -> Option<usize>
     ensures len { IfSome result (λ sum. sum ≡ len + more) }
     ensures too_long { result ≡ None → 2 ^ 63 ≤ len + more }
 {

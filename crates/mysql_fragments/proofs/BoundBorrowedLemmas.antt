@@ -1,0 +1,101 @@
+-- The text that is bound to borrowed fragments, and why there is none.
+use Rattle.std.specs.Prelude.{Bool, Ok, Err, Option, Some, None, option_map}
+use Rattle.std.specs.List.{flat_map}
+use Rattle.std.specs.Option.{option_or}
+use Rattle.std.proofs.Common.{◌≡◌, ◌≢◌, ◌<◌, ℕ, true, false, eq-eqb, ne_eqb, List, [], ◌∷◌, length, map, arith, inr, refl, sym, ap, ◌∙◌, subst}
+use Rattle.mysql_named_params.specs.Tokens.{Token, OnTokens}
+use Rattle.mysql_named_params.specs.Places.{names, HasName, HasMark}
+use Rattle.mysql_params_core.specs.declared.params.errors.ParamsConfusionError.TheVariants.{PositionalParamsForNamedQuery}
+use Rattle.mysql_binding.specs.FirstCause.{mark_count_differs}
+use Rattle.mysql_binding.specs.LiteralForm.{IsPlainLiteral, written_literal}
+use Rattle.mysql_binding.specs.Pieces.{pieces, joined_text}
+use Rattle.mysql_binding.specs.PushedLiteral.{AreKnownUnlessFloats}
+use Rattle.mysql_binding.specs.Survey.{IsSurvey}
+use Rattle.mysql_binding.specs.declared.binding.survey.Survey.{Survey}
+use Rattle.mysql_binding.proofs.CauseLemmas.{or_none}
+use Rattle.mysql_values.specs.Literal.{literal_of}
+use Rattle.mysql_fragments.specs.BorrowedFragments.{AreSaid}
+use Rattle.mysql_fragments.specs.BorrowedText.{borrowed_text, borrowed_values}
+use Rattle.mysql_fragments.specs.Expanded.{IsBoundFragments}
+use Rattle.mysql_fragments.specs.FilledText.{ArePlaced}
+use Rattle.mysql_fragments.specs.FragmentErrors.{Cause, IsCauseOrMemory, cause_of, cause_of_places, first_cause, later_cause, mixed_cause, mixed_query, refused_fragments}
+use Rattle.mysql_fragments.specs.GivenFragments.{confused, fragments_for, positional}
+use Rattle.mysql_fragments.specs.declared.fragment.Fragment.{Fragment}
+use Rattle.mysql_fragments.specs.declared.fragment_ref.FragmentRef.{FragmentRef}
+use Rattle.mysql_fragments.specs.declared.fragments_error.FragmentsError.{FragmentsError}
+use Rattle.mysql_fragments.proofs.CauseLemmas.{first_by, first_refused, mixed_none, mixed_some}
+use Rattle.mysql_fragments.proofs.FilledLemmas.{bound_on, filled_on}
+use Rattle.mysql_fragments.proofs.SaidLemmas.{said_all_values, said_texts}
+
+module _ (ts : List Token) (said : List Fragment) where
+  pub first_is_mixed : 0 < length (names ts) → HasMark ts → Some (Some mixed_query) ≡ option_map Some (first_cause true ts (positional said))
+  first_is_mixed some more =
+      sym (ap (λ x. option_map Some (option_or x (cause_of_places true ts (fragments_for (positional said) (names ts))))) (mixed_some ts (some, more)))
+
+  pub first_is_confused : 0 < length (names ts) → (HasName ts × HasMark ts → ⊥) →
+      Some (Some (refused_fragments (confused PositionalParamsForNamedQuery))) ≡ option_map Some (first_cause true ts (positional said))
+  first_is_confused some apart =
+      sym (ap (option_map Some) (first_refused true ts (positional said) (confused PositionalParamsForNamedQuery) (mixed_none ts apart) (named (names ts) some)))
+    where
+      named : (ns : List (List ℕ)) → 0 < length ns → fragments_for (positional said) ns ≡ Err (confused PositionalParamsForNamedQuery)
+      named [] some = absurd (omega (arith, some))
+      named (n ∷ ns) some = refl
+
+  pub first_is_later : length (names ts) ≡ 0 → option_map (λ x. Some x) (later_cause true ts said) ≡ option_map Some (first_cause true ts (positional said))
+  first_is_later none =
+      sym (ap (option_map Some) (first_by true ts (positional said) said (later_cause true ts said) (mixed_none ts (λ both. omega (arith, both.0, none))) (nameless (names ts) none) refl))
+    where
+      nameless : (ns : List (List ℕ)) → length ns ≡ 0 → fragments_for (positional said) ns ≡ Ok said
+      nameless [] e = refl
+      nameless (n ∷ ns) e = absurd (omega (arith, e))
+
+  -- fragments that nothing refuses
+  placed_by : None ≡ option_map (λ x. Some x) (first_cause true ts (positional said)) → ArePlaced true ts (positional said) said
+  placed_by e =
+      let p = or_none (mixed_cause ts) (cause_of_places true ts (fragments_for (positional said) (names ts))) (no_error _ e) in
+      let q = by_names (names ts) p.1 in
+      record { unmixed = p.0; given_to_places = q.0; no_later = q.1 }
+    where
+      no_error : (y : Option Cause) → None ≡ option_map (λ x. Some x) y → y ≡ None
+      no_error None e = refl
+      no_error (Some why) e = cc
+
+      by_names : (ns : List (List ℕ)) → cause_of_places true ts (fragments_for (positional said) ns) ≡ None →
+          (fragments_for (positional said) ns ≡ Ok said) × (later_cause true ts said ≡ None)
+      by_names [] e = (refl, e)
+      by_names (n ∷ ns) e = cc
+
+some_cause : (x y : Option Cause) → Some x ≡ option_map Some y → (why : Cause) × (y ≡ Some why) × (x ≡ Some why)
+some_cause x None e = cc
+some_cause x (Some why) e = (why, refl, cc)
+
+module _ (mode : Bool) (query : List ℕ) (survey : Survey) (o : OnTokens mode query (IsSurvey survey)) (fragments : List FragmentRef) (said : List Fragment) (s : AreSaid fragments said) where
+  pub borrowed_refused : (error : FragmentsError) →
+      ((ts : List Token) (said : List Fragment) → AreSaid fragments said → IsSurvey survey ts → Some (cause_of error) ≡ option_map Some (first_cause true ts (positional said))) →
+      OnTokens mode query (λ ts. IsCauseOrMemory (first_cause true ts (positional said)) error)
+  borrowed_refused error e = (o.0, o.1, inr (some_cause (cause_of error) (first_cause true o.0 (positional said)) (e o.0 said s o.2)))
+
+  pub borrowed_bound : (text : List ℕ) →
+      ((ts : List Token) (said : List Fragment) → AreSaid fragments said → IsSurvey survey ts → None ≡ option_map (λ x. Some x) (first_cause true ts (positional said))) →
+      OnTokens mode query (λ ts. joined_text (pieces ts) (map (borrowed_text (written_literal (literal_of mode))) fragments) ≡ Some text) →
+      AreKnownUnlessFloats (literal_of mode) (IsPlainLiteral mode) (flat_map borrowed_values fragments) →
+      OnTokens mode query (λ ts. IsBoundFragments mode ts (positional said) text)
+  borrowed_bound text none joined known =
+      bound_on mode query (positional said) text
+      (filled_on (literal_of mode) (IsPlainLiteral mode) mode query (positional said) said text (o.0, o.1, placed_by o.0 said (none o.0 said s o.2))
+      (subst (λ ls. OnTokens mode query (λ ts. joined_text (pieces ts) ls ≡ Some text)) (sym (said_texts (written_literal (literal_of mode)) fragments said s)) joined)
+      (subst (AreKnownUnlessFloats (literal_of mode) (IsPlainLiteral mode)) (sym (said_all_values fragments said s)) known))
+
+-- ---- the number of marks
+
+pub count_differs : (n k v : ℕ) → n ≡ 0 → k ≢ v → mark_count_differs n k v ≡ true
+count_differs n k v none differ = ap (λ m. mark_count_differs m k v) none ∙ zero_differs
+  where
+    zero_differs : mark_count_differs 0 k v ≡ true
+    zero_differs = rw (ne_eqb k v differ) refl
+
+pub count_same : (n k v : ℕ) → n ≡ 0 → k ≡ v → mark_count_differs n k v ≡ false
+count_same n k v none same = ap (λ m. mark_count_differs m k v) none ∙ zero_same
+  where
+    zero_same : mark_count_differs 0 k v ≡ false
+    zero_same = rw (eq-eqb k v same) refl

@@ -1,0 +1,16 @@
+use Rattle.std.proofs.Common.{◌≡◌, ◌+◌, ◌++◌, length, map, take}
+use Rattle.std.specs.Prelude.{codes}
+use Rattle.mysql_binding.specs.LiteralForm.{written_literal}
+use Rattle.mysql_fragments.specs.FragmentText.{item_values, joined}
+use Rattle.mysql_fragments.specs.BorrowedFragments.{cell_item}
+use Rattle.mysql_fragments.specs.FilledText.{filled_item}
+use Rattle.std.specs.List.{flat_map}
+use Rattle.mysql_binding.specs.PushedLiteral.{AreKnownUnlessFloats}
+use Rattle.mysql_fragments.proofs.filled_refs.append_cells.Given as goal
+
+abbrev pub invariant-loop-i : goal.invariant-loop-i
+invariant-loop-i g l =
+    (l.end ≡ l.at + length (joined (codes ", ") (map (filled_item (written_literal (g.F.LiteralForm.literal l.form))) (take l.i (map cell_item l.cells)))))
+    × (take l.end l.text ≡ take l.at l.fn.text ++ joined (codes ", ") (map (filled_item (written_literal (g.F.LiteralForm.literal l.form))) (take l.i (map cell_item l.cells))))
+    × (length l.text ≡ length l.fn.text)
+    × AreKnownUnlessFloats (g.F.LiteralForm.literal l.form) (g.F.LiteralForm.IsKnown l.form) (flat_map item_values (take l.i (map cell_item l.cells)))

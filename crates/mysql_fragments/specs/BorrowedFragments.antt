@@ -1,0 +1,37 @@
+-- Fragments of borrowed values: which fragment says the same.
+use Rattle.std.specs.Prelude.{◌≡◌, List, [], ◌∷◌, map, ⊤}
+use Rattle.std.specs.Global.{Vec}
+use Rattle.std.specs.Simd.{first_chunks}
+use Rattle.mysql_value_core.specs.declared.value.borrowed.ValueRef.{ValueRef}
+use Rattle.mysql_values.specs.BorrowedValue.{owned}
+use Rattle.mysql_fragments.specs.declared.fragment.Item.{Item}
+use Rattle.mysql_fragments.specs.declared.fragment.Item.TheVariants as item
+use Rattle.mysql_fragments.specs.declared.fragment.Fragment.{Fragment}
+use Rattle.mysql_fragments.specs.declared.fragment.Fragment.TheVariants as one
+use Rattle.mysql_fragments.specs.declared.fragment_ref.FragmentRef.{FragmentRef}
+use Rattle.mysql_fragments.specs.declared.fragment_ref.FragmentRef.TheVariants as borrowed
+use Rattle.mysql_fragments.specs.declared.rows_ref.RowsRef.{RowsRef}
+
+-- the item of a borrowed value
+abbrev pub cell_item : ValueRef → Item
+cell_item cell = item.Value (owned cell)
+
+-- the rows of cells: so many times `width` of them
+abbrev pub cell_rows : RowsRef → List (List ValueRef)
+cell_rows rows = first_chunks rows.width rows.count rows.cells.now
+
+-- the fragment is what the borrowed one says: the same one, or that of the same values
+abbrev pub Says : FragmentRef → Fragment → Type 0
+Says (borrowed.Owned fragment) said = said ≡ fragment.now
+Says (borrowed.Value value) said = said ≡ one.Value (owned value)
+Says (borrowed.List cells) said = (items : Vec Item) × (said ≡ one.List items)
+    × (items.items ≡ map cell_item cells.now)
+Says (borrowed.Rows rows) said = (said_rows : Vec (Vec Item)) × (said ≡ one.Rows said_rows)
+    × (map (λ row. row.items) said_rows.items ≡ map (map cell_item) (cell_rows rows))
+
+-- as many fragments, and each is what its borrowed one says
+abbrev pub AreSaid : List FragmentRef → List Fragment → Type 0
+AreSaid [] [] = ⊤
+AreSaid [] (said ∷ more) = ⊥
+AreSaid (fragment ∷ fragments) [] = ⊥
+AreSaid (fragment ∷ fragments) (said ∷ more) = Says fragment said × AreSaid fragments more
