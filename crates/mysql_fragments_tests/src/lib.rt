@@ -4,6 +4,8 @@
 #[cfg(test)]
 mod arguments;
 #[cfg(test)]
+mod borrowed;
+#[cfg(test)]
 mod bound;
 #[cfg(test)]
 mod refused;
