@@ -1,5 +1,5 @@
-//! Queries bound from names and values that are borrowed: each call gives the text of the table, and
-//! a name that is given twice is refused before all else.
+//! Queries bound from names and values that are borrowed: each call gives the text of the table,
+//! and a name that is given twice is refused before all else.
 use crate::shared::{answer_of, is_text, same_in, says};
 use mysql_params::{
     BindError, BindPairsError, BothModesError, BothModesPairsError, ParsedQuery, SteadyPairsError,

@@ -1,5 +1,5 @@
--- The text of borrowed fragments, their values and faults, as the code finds them. What they promise
--- is said of the fragments that they say (BorrowedFragments.antt).
+-- The text of borrowed fragments, their values and faults, as the code finds them. What is promised
+-- of them is said of the fragments that they say (BorrowedFragments.antt).
 use Rattle.std.specs.Prelude.{◌+◌, ℕ, Bool, List, [], ◌∷◌, ◌++◌, codes, map, if◌then◌else◌, Option, None, Some, option_map}
 use Rattle.std.specs.List.{flat_map, list_any}
 use Rattle.std.specs.Option.{option_or}

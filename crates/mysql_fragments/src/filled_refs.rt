@@ -40,7 +40,8 @@ pub(crate) fn filled_borrowed<F: LiteralForm>(
     requires places { OnTokens no_backslash_escape query.now (λ ts.
         length fragments.now ≡ place_count ts) }
     ensures text { IfOk result (λ text. OnTokens no_backslash_escape query.now (λ ts.
-        joined_text (pieces ts) (map (borrowed_text (written_literal (F.literal form.now))) fragments.now) ≡ Some text.items)) }
+        joined_text (pieces ts) (map (borrowed_text (written_literal (F.literal form.now)))
+        fragments.now) ≡ Some text.items)) }
     ensures known { IfOk result (λ text. AreKnownUnlessFloats (F.literal form.now)
         (F.IsKnown form.now) (flat_map borrowed_values fragments.now)) }
 {
@@ -59,7 +60,7 @@ pub(crate) fn filled_borrowed<F: LiteralForm>(
     Ok(text)
 }
 
-// Fills the text with the pieces of the query and, between them, the texts of borrowed fragments. It
+// Fills the text with the pieces of the query and, between them, those of borrowed fragments. It
 // has exactly their length. The first places of the query may be known.
 fn fill_borrowed<F: LiteralForm>(
     query: &[u8],
@@ -73,9 +74,11 @@ fn fill_borrowed<F: LiteralForm>(
     requires places { OnTokens no_backslash_escape query.now (λ ts.
         length fragments.now ≡ place_count ts) }
     requires room { OnTokens no_backslash_escape query.now (λ ts. length text.old
-        ≡ pieces_len ts + sum_by length (map (borrowed_text (written_literal (F.literal form.now))) fragments.now)) }
+        ≡ pieces_len ts + sum_by length (map (borrowed_text (written_literal (F.literal form.now)))
+        fragments.now)) }
     ensures text { OnTokens no_backslash_escape query.now (λ ts. joined_text (pieces ts)
-        (map (borrowed_text (written_literal (F.literal form.now))) fragments.now) ≡ Some text.new) }
+        (map (borrowed_text (written_literal (F.literal form.now))) fragments.now)
+        ≡ Some text.new) }
     ensures known { AreKnownUnlessFloats (F.literal form.now) (F.IsKnown form.now)
         (flat_map borrowed_values fragments.now) }
 {
@@ -101,9 +104,12 @@ fn append_borrowed<F: LiteralForm>(
     fragment: &FragmentRef<'_>,
     form: &F,
 ) -> usize
-    requires room { at + length (borrowed_text (written_literal (F.literal form.now)) fragment.now) ≤ length text.old }
-    ensures next { result ≡ at + length (borrowed_text (written_literal (F.literal form.now)) fragment.now) }
-    ensures front { take result text.new ≡ take at text.old ++ borrowed_text (written_literal (F.literal form.now)) fragment.now }
+    requires room { at + length (borrowed_text (written_literal (F.literal form.now)) fragment.now)
+        ≤ length text.old }
+    ensures next { result
+        ≡ at + length (borrowed_text (written_literal (F.literal form.now)) fragment.now) }
+    ensures front { take result text.new ≡ take at text.old
+        ++ borrowed_text (written_literal (F.literal form.now)) fragment.now }
     ensures known { AreKnownUnlessFloats (F.literal form.now) (F.IsKnown form.now)
         (borrowed_values fragment.now) }
 {
@@ -122,9 +128,12 @@ fn append_cells<F: LiteralForm>(
     cells: &[ValueRef<'_>],
     form: &F,
 ) -> usize
-    requires room { at + length (cells_text (written_literal (F.literal form.now)) cells.now) ≤ length text.old }
-    ensures next { result ≡ at + length (cells_text (written_literal (F.literal form.now)) cells.now) }
-    ensures front { take result text.new ≡ take at text.old ++ cells_text (written_literal (F.literal form.now)) cells.now }
+    requires room { at + length (cells_text (written_literal (F.literal form.now)) cells.now)
+        ≤ length text.old }
+    ensures next { result
+        ≡ at + length (cells_text (written_literal (F.literal form.now)) cells.now) }
+    ensures front { take result text.new ≡ take at text.old
+        ++ cells_text (written_literal (F.literal form.now)) cells.now }
     ensures known { AreKnownUnlessFloats (F.literal form.now) (F.IsKnown form.now)
         (cell_values cells.now) }
 {
@@ -144,7 +153,8 @@ fn append_cell_rows<F: LiteralForm>(
     form: &F,
 ) -> usize
     requires room { at + length (joined (codes ", ")
-        (map (cell_row_text (written_literal (F.literal form.now))) (cell_rows rows.now))) ≤ length text.old }
+        (map (cell_row_text (written_literal (F.literal form.now))) (cell_rows rows.now)))
+        ≤ length text.old }
     ensures next { result ≡ at + length (joined (codes ", ")
         (map (cell_row_text (written_literal (F.literal form.now))) (cell_rows rows.now))) }
     ensures front { take result text.new ≡ take at text.old ++ joined (codes ", ")
@@ -167,9 +177,12 @@ fn append_cell_row<F: LiteralForm>(
     row: &[ValueRef<'_>],
     form: &F,
 ) -> usize
-    requires room { at + length (cell_row_text (written_literal (F.literal form.now)) row.now) ≤ length text.old }
-    ensures next { result ≡ at + length (cell_row_text (written_literal (F.literal form.now)) row.now) }
-    ensures front { take result text.new ≡ take at text.old ++ cell_row_text (written_literal (F.literal form.now)) row.now }
+    requires room { at + length (cell_row_text (written_literal (F.literal form.now)) row.now)
+        ≤ length text.old }
+    ensures next { result
+        ≡ at + length (cell_row_text (written_literal (F.literal form.now)) row.now) }
+    ensures front { take result text.new ≡ take at text.old
+        ++ cell_row_text (written_literal (F.literal form.now)) row.now }
     ensures known { AreKnownUnlessFloats (F.literal form.now) (F.IsKnown form.now)
         (cell_values row.now) }
 {

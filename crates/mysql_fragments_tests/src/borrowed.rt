@@ -120,6 +120,11 @@ fn borrowed_causes(rt: HostRuntime) {
         },
     );
     assert!(rt; few);
+}
+
+#[test]
+fn borrowed_causes_of_the_query(rt: HostRuntime) {
+    let alloc = rt.alloc();
     let alone = refused(
         alloc,
         b"1?",
