@@ -7,6 +7,7 @@ mod bind_cases;
 mod bind_inputs;
 mod bind_rows_cases;
 mod binding_cases;
+mod borrowed_cases;
 mod conversion_cases;
 mod copy_cases;
 mod fixed_query_cases;
@@ -18,6 +19,7 @@ mod inputs;
 mod lookup_cases;
 mod maker_cases;
 mod outcome;
+mod pair_cases;
 mod parsed_query_cases;
 mod program_cases;
 mod query_cases;
@@ -62,6 +64,9 @@ fn value_case(alloc: Global, name: &str) -> Option<Case> {
         return Some(case);
     }
     if let Some(case) = read_cases::case(alloc, name) {
+        return Some(case);
+    }
+    if let Some(case) = borrowed_cases::case(alloc, name) {
         return Some(case);
     }
     if let Some(case) = copy_cases::case(alloc, name) {
@@ -115,6 +120,9 @@ fn bind_case(alloc: Global, name: &str) -> Option<Case> {
 /// Of binding, the program and the archive.
 fn bound_case(alloc: Global, name: &str) -> Option<Case> {
     if let Some(case) = binding_cases::case(alloc, name) {
+        return Some(case);
+    }
+    if let Some(case) = pair_cases::case(alloc, name) {
         return Some(case);
     }
     if let Some(case) = steady_cases::case(alloc, name) {
