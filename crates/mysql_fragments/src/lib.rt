@@ -3,6 +3,7 @@
 //! [`bind_fragments_in`] is the call for a mode of the server, and [`bind_fragments`] the same for
 //! the mode in which a backslash escapes. [`expanded_query_in`] gives the query with marks and the
 //! values, as a prepared statement wants them. `specs/Expanded.antt` says what they promise.
+//! [`bind_borrowed_fragments`] copies nothing of what it binds.
 #![tactic(auto)]
 
 mod borrowed;

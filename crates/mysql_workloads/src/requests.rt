@@ -57,6 +57,7 @@ fn take_bound(
 }
 
 /// Begins half of the queries with the comment of a tracer, and a sixth with one of a line.
+#[inline(always)]
 pub(crate) fn put_comment(
     query: &mut Vec<u8>,
     random: &mut Random,
@@ -81,6 +82,7 @@ pub(crate) fn put_comment(
 }
 
 /// Writes the query of `find`.
+#[inline(always)]
 pub(crate) fn put_find(
     random: &mut Random,
     pools: &Pools,
@@ -105,6 +107,7 @@ fn find(
 }
 
 /// Writes the query of `search`.
+#[inline(always)]
 pub(crate) fn put_search(
     random: &mut Random,
     pools: &Pools,
@@ -141,6 +144,7 @@ fn search(
 }
 
 /// Writes the query of `update`.
+#[inline(always)]
 pub(crate) fn put_update(
     random: &mut Random,
     pools: &Pools,
@@ -179,6 +183,7 @@ fn update(
 }
 
 /// Writes the query of `report`.
+#[inline(always)]
 pub(crate) fn put_report(
     random: &mut Random,
     pools: &Pools,

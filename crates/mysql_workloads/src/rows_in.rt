@@ -65,6 +65,7 @@ fn nulls(random: &mut Random) -> u16 {
 }
 
 /// Whether the cell of a column is NULL.
+#[inline(always)]
 pub(crate) fn is_null(nulls: u16, column: usize) -> bool {
     (nulls >> (column % 16)) & 1 == 1
 }
@@ -78,6 +79,7 @@ pub(crate) struct RowPools {
 }
 
 /// The pools of rows.
+#[inline(always)]
 pub(crate) fn row_pools(
     alloc: Global,
     random: &mut Random,
@@ -106,6 +108,7 @@ fn binary_row(alloc: Global, random: &mut Random, pools: &Pools) -> Result<Vec<u
 }
 
 /// Fills a buffer with rows in binary form. The number in each, after its bits of NULL, is new.
+#[inline(always)]
 pub(crate) fn put_binary_rows(
     bytes: &mut Vec<u8>,
     random: &mut Random,
@@ -231,6 +234,7 @@ fn text_row(alloc: Global, random: &mut Random, pools: &Pools) -> Result<Vec<u8>
 }
 
 /// Fills a buffer with rows in text form. The number in the first cell of each is new.
+#[inline(always)]
 pub(crate) fn put_text_rows(
     bytes: &mut Vec<u8>,
     random: &mut Random,

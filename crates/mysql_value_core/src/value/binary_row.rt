@@ -32,7 +32,8 @@ pub enum BinaryRowError {
 pub struct NullBitmap<'b>(&'b [u8]);
 
 impl NullBitmap<'_> {
-    /// Whether the column of this index is NULL; not if the row has no such column.
+    /// Whether the column of this index is NULL. If the row has no such column, it is what the
+    /// bitmap's spare bits say.
     pub fn is_null(self, index: usize) -> bool
         ensures bit { result ≡ is_null_column (bitmap_bytes self.entry) index }
     {

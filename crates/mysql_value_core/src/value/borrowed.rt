@@ -24,7 +24,9 @@ pub enum ValueRef<'v> {
 }
 
 impl Value {
-    /// The same value, borrowed. Nothing is copied but numbers.
+    /// The same value, borrowed. Nothing is copied except numbers.
+    // Inline, since it stands before each call that takes borrowed values.
+    #[inline(always)]
     pub fn borrowed(&self) -> ValueRef<'_>
         ensures same { owned result ≡ self.now }
     {
