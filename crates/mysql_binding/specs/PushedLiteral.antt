@@ -1,4 +1,5 @@
--- What is known of a literal that was written: for `put_literal`, which is lent to the crate above.
+-- What is known of a literal that was written: for `push_literal` and `put_literal`, which are lent
+-- to the crates above.
 use Rattle.std.specs.Prelude.{◌≡◌, false, List, [], ◌∷◌, Some, ⊤}
 use Rattle.mysql_values.specs.declared.value.Value.{Value}
 use Rattle.mysql_values.specs.Literal.{is_float}

@@ -36,7 +36,7 @@ pub use crate::binding::form::{LiteralForm, PlainForm};
 use crate::binding::found::all_places;
 pub use crate::binding::found::place_after;
 use crate::binding::literals::first_float;
-pub use crate::binding::literals::{literal_len, put_literal};
+pub use crate::binding::literals::{literal_len, push_literal, put_literal};
 pub use crate::binding::measured::MeasuredText;
 use crate::binding::measured::with_lengths;
 use crate::binding::names::query_names;

@@ -1,27 +1,21 @@
-//! Queries with fragments in their places and the literals of values in these, written at once into
-//! a slice of exactly their length: no text with marks is made and read again, no value is copied,
-//! and no vector grows.
-ghost use Rattle.std.specs.Prelude.{◌≡◌, ◌+◌, ◌++◌, ◌≤◌, true, List, Some, IfOk, codes, length, map, take};
-ghost use Rattle.std.specs.List.{flat_map, sum_by};
+//! Queries with fragments in their places and the literals of values in these, written at once: no
+//! text with marks is made and read again, and no value is copied.
+ghost use Rattle.std.specs.Prelude.{◌≡◌, ◌++◌, true, List, Some, IfOk, codes, length, map};
+ghost use Rattle.std.specs.List.{flat_map};
 ghost use Rattle.mysql_named_params.specs.Tokens.{OnTokens};
 ghost use Rattle.mysql_named_params.specs.Places.{place_count};
 ghost use Rattle.mysql_params_core.specs.Referents.{referents};
-ghost use Rattle.mysql_binding.specs.FoundPlaces.{BeginWithPlaces};
 ghost use Rattle.mysql_binding.specs.LiteralForm.{written_literal};
 ghost use Rattle.mysql_binding.specs.Pieces.{pieces, joined_text};
 ghost use Rattle.mysql_binding.specs.PushedLiteral.{AreKnownUnlessFloats};
-ghost use Rattle.mysql_binding.specs.TextLength.{pieces_len};
 ghost use Rattle.mysql_fragments.specs.FilledText.{ArePlaced, IsFilledQuery, filled_item, filled_items, filled_row, filled_text};
 ghost use Rattle.mysql_fragments.specs.FragmentText.{all_values, fragment_values, item_values, joined};
 ghost use Rattle.mysql_fragments.specs.GivenFragments.{GivenFragments};
 
 use crate::fragment::{Fragment, Item};
-use crate::measured::filled_len;
-use crate::names::{append_identifier, append_names, append_separator};
-use mysql_binding::{
-    KEPT_PLACES, LiteralForm, NO_PLACE, append_piece, place_after, place_survey, put_literal,
-};
-use mysql_named_params::places::FoundPlace;
+use crate::written::{push_identifier, push_names};
+use mysql_binding::{LiteralForm, push_literal};
+use mysql_named_params::places::first_place;
 use std::alloc::{AllocError, Global};
 
 /// The query with these fragments in its places and the literals of their values in a form. Lent to
@@ -61,154 +55,102 @@ fn filled_places<F: LiteralForm>(
     ensures known { IfOk result (λ text. AreKnownUnlessFloats (F.literal form.now)
         (F.IsKnown form.now) (all_values (referents fragments.now))) }
 {
-    let mut first = [NO_PLACE; KEPT_PLACES];
-    let (survey, kept) = place_survey(query, &mut first, no_backslash_escape);
-    let Some(len) = filled_len(survey.piece_bytes, fragments, form) else {
-        return Err(AllocError);
-    };
-    let mut text = vec![in alloc; 0u8; len]?;
-    fill_places(
-        query,
-        &first[..kept],
-        fragments,
-        no_backslash_escape,
-        form,
-        text.as_mut_slice(),
-    );
-    Ok(text)
-}
-
-// Fills the text with the pieces of the query and, between them, the filled texts of fragments. It
-// has exactly their length. The first places of the query may be known.
-fn fill_places<F: LiteralForm>(
-    query: &[u8],
-    known: &[FoundPlace],
-    fragments: &[&Fragment],
-    no_backslash_escape: bool,
-    form: &F,
-    text: &mut [u8],
-)
-    requires known { OnTokens no_backslash_escape query.now (BeginWithPlaces known.now) }
-    requires places { OnTokens no_backslash_escape query.now (λ ts.
-        length (referents fragments.now) ≡ place_count ts) }
-    requires room { OnTokens no_backslash_escape query.now (λ ts. length text.old
-        ≡ pieces_len ts + sum_by length (map
-        (filled_text (written_literal (F.literal form.now))) (referents fragments.now))) }
-    ensures text { OnTokens no_backslash_escape query.now (λ ts. joined_text (pieces ts)
-        (map (filled_text (written_literal (F.literal form.now))) (referents fragments.now))
-        ≡ Some text.new) }
-    ensures known { AreKnownUnlessFloats (F.literal form.now) (F.IsKnown form.now)
-        (all_values (referents fragments.now)) }
-{
+    let mut text = Vec::new(alloc);
     let mut rest = query;
-    let mut at = 0;
-    for (i, fragment) in fragments.iter().enumerate() {
-        let Some(found) = place_after(known, i, rest, no_backslash_escape) else {
+    for fragment in fragments {
+        let Some(found) = first_place(rest, no_backslash_escape) else {
             unreachable!()
         };
         let (piece, _, after) = found.cut(rest);
-        at = append_piece(text, at, piece);
-        at = append_filled(text, at, *fragment, form);
+        text.extend_from_slice(piece)?;
+        push_filled(&mut text, *fragment, form)?;
         rest = after;
     }
-    append_piece(text, at, rest);
+    text.extend_from_slice(rest)?;
+
+    // The text grew into more room than it needs. A caller may keep it, so it gets just its own.
+    let text = Vec::from_slice(alloc, text.as_slice())?;
+    Ok(text)
 }
 
-/// Writes the text of a fragment with the literals of its values into the text from this index on,
-/// and returns the index after it. What stands before it is kept.
-pub(crate) fn append_filled<F: LiteralForm>(
-    text: &mut [u8],
-    at: usize,
+// Writes the text of a fragment with the literals of its values to the end.
+fn push_filled<F: LiteralForm>(
+    text: &mut Vec<u8>,
     fragment: &Fragment,
     form: &F,
-) -> usize
-    requires room { at + length (filled_text (written_literal (F.literal form.now)) fragment.now)
-        ≤ length text.old }
-    ensures next { result
-        ≡ at + length (filled_text (written_literal (F.literal form.now)) fragment.now) }
-    ensures front { take result text.new ≡ take at text.old
-        ++ filled_text (written_literal (F.literal form.now)) fragment.now }
-    ensures known { AreKnownUnlessFloats (F.literal form.now) (F.IsKnown form.now)
-        (fragment_values fragment.now) }
+) -> Result<(), AllocError>
+    ensures text { IfOk result (λ done. text.new.items
+        ≡ text.old.items ++ filled_text (written_literal (F.literal form.now)) fragment.now) }
+    ensures known { IfOk result (λ done. AreKnownUnlessFloats (F.literal form.now)
+        (F.IsKnown form.now) (fragment_values fragment.now)) }
 {
     match fragment {
-        Fragment::Value(value) => put_literal(text, at, value.borrowed(), form),
-        Fragment::List(items) => append_items(text, at, items.as_slice(), form),
-        Fragment::Rows(rows) => append_rows(text, at, rows.as_slice(), form),
-        Fragment::Decimal(number) => append_piece(text, at, number.as_slice()),
-        Fragment::Identifier(name) => append_identifier(text, at, name.as_slice()),
-        Fragment::Qualified(names) => append_names(text, at, names.as_slice()),
-        Fragment::Keyword(word) => append_piece(text, at, word.as_bytes()),
+        Fragment::Value(value) => push_literal(text, value, form),
+        Fragment::List(items) => push_filled_items(text, items.as_slice(), form),
+        Fragment::Rows(rows) => push_filled_rows(text, rows.as_slice(), form),
+        Fragment::Decimal(number) => text.extend_from_slice(number.as_slice()),
+        Fragment::Identifier(name) => push_identifier(text, name.as_slice()),
+        Fragment::Qualified(names) => push_names(text, names.as_slice()),
+        Fragment::Keyword(word) => text.extend_from_slice(word.as_bytes()),
     }
 }
 
-// Writes an item, and returns the index after it: the literal of a value.
-fn append_item<F: LiteralForm>(text: &mut [u8], at: usize, item: &Item, form: &F) -> usize
-    requires room { at + length (filled_item (written_literal (F.literal form.now)) item.now)
-        ≤ length text.old }
-    ensures next { result
-        ≡ at + length (filled_item (written_literal (F.literal form.now)) item.now) }
-    ensures front { take result text.new ≡ take at text.old
-        ++ filled_item (written_literal (F.literal form.now)) item.now }
-    ensures known { AreKnownUnlessFloats (F.literal form.now) (F.IsKnown form.now)
-        (item_values item.now) }
+// Writes an item to the end: the literal of a value.
+fn push_filled_item<F: LiteralForm>(
+    text: &mut Vec<u8>,
+    item: &Item,
+    form: &F,
+) -> Result<(), AllocError>
+    ensures text { IfOk result (λ done. text.new.items
+        ≡ text.old.items ++ filled_item (written_literal (F.literal form.now)) item.now) }
+    ensures known { IfOk result (λ done. AreKnownUnlessFloats (F.literal form.now)
+        (F.IsKnown form.now) (item_values item.now)) }
 {
     match item {
-        Item::Value(value) => put_literal(text, at, value.borrowed(), form),
-        Item::Decimal(number) => append_piece(text, at, number.as_slice()),
+        Item::Value(value) => push_literal(text, value, form),
+        Item::Decimal(number) => text.extend_from_slice(number.as_slice()),
     }
 }
 
-// Writes items with commas between them, and returns the index after them.
-fn append_items<F: LiteralForm>(text: &mut [u8], at: usize, items: &[Item], form: &F) -> usize
-    requires room { at + length (filled_items (written_literal (F.literal form.now)) items.now)
-        ≤ length text.old }
-    ensures next { result
-        ≡ at + length (filled_items (written_literal (F.literal form.now)) items.now) }
-    ensures front { take result text.new ≡ take at text.old
-        ++ filled_items (written_literal (F.literal form.now)) items.now }
-    ensures known { AreKnownUnlessFloats (F.literal form.now) (F.IsKnown form.now)
-        (flat_map item_values items.now) }
+// Writes items with commas between them to the end.
+fn push_filled_items<F: LiteralForm>(
+    text: &mut Vec<u8>,
+    items: &[Item],
+    form: &F,
+) -> Result<(), AllocError>
+    ensures text { IfOk result (λ done. text.new.items
+        ≡ text.old.items ++ filled_items (written_literal (F.literal form.now)) items.now) }
+    ensures known { IfOk result (λ done. AreKnownUnlessFloats (F.literal form.now)
+        (F.IsKnown form.now) (flat_map item_values items.now)) }
 {
-    let mut end = at;
     for (i, item) in items.iter().enumerate() {
-        end = append_separator(text, end, i, b", ");
-        end = append_item(text, end, item, form);
+        if i > 0 {
+            text.extend_from_slice(b", ")?;
+        }
+        push_filled_item(text, item, form)?;
     }
-    end
+    Ok(())
 }
 
-// Writes rows in brackets with commas between them, and returns the index after them.
-fn append_rows<F: LiteralForm>(text: &mut [u8], at: usize, rows: &[Vec<Item>], form: &F) -> usize
-    requires room { at + length (joined (codes ", ")
-        (map (filled_row (written_literal (F.literal form.now))) rows.now)) ≤ length text.old }
-    ensures next { result ≡ at + length (joined (codes ", ")
+// Writes rows in brackets with commas between them to the end.
+fn push_filled_rows<F: LiteralForm>(
+    text: &mut Vec<u8>,
+    rows: &[Vec<Item>],
+    form: &F,
+) -> Result<(), AllocError>
+    ensures text { IfOk result (λ done. text.new.items ≡ text.old.items
+        ++ joined (codes ", ")
         (map (filled_row (written_literal (F.literal form.now))) rows.now)) }
-    ensures front { take result text.new ≡ take at text.old ++ joined (codes ", ")
-        (map (filled_row (written_literal (F.literal form.now))) rows.now) }
-    ensures known { AreKnownUnlessFloats (F.literal form.now) (F.IsKnown form.now)
-        (flat_map (λ row. flat_map item_values row.items) rows.now) }
+    ensures known { IfOk result (λ done. AreKnownUnlessFloats (F.literal form.now)
+        (F.IsKnown form.now) (flat_map (λ row. flat_map item_values row.items) rows.now)) }
 {
-    let mut end = at;
     for (i, row) in rows.iter().enumerate() {
-        end = append_separator(text, end, i, b", ");
-        end = append_row(text, end, row, form);
+        if i > 0 {
+            text.extend_from_slice(b", ")?;
+        }
+        text.push(b'(')?;
+        push_filled_items(text, row.as_slice(), form)?;
+        text.push(b')')?;
     }
-    end
-}
-
-// Writes a row in brackets, and returns the index after it.
-fn append_row<F: LiteralForm>(text: &mut [u8], at: usize, row: &Vec<Item>, form: &F) -> usize
-    requires room { at + length (filled_row (written_literal (F.literal form.now)) row.now)
-        ≤ length text.old }
-    ensures next { result
-        ≡ at + length (filled_row (written_literal (F.literal form.now)) row.now) }
-    ensures front { take result text.new ≡ take at text.old
-        ++ filled_row (written_literal (F.literal form.now)) row.now }
-    ensures known { AreKnownUnlessFloats (F.literal form.now) (F.IsKnown form.now)
-        (flat_map item_values row.now.items) }
-{
-    let start = append_piece(text, at, b"(");
-    let end = append_items(text, start, row.as_slice(), form);
-    append_piece(text, end, b")")
+    Ok(())
 }

@@ -14,8 +14,8 @@ ghost use Rattle.mysql_fragments.specs.BorrowedFragments.{cell_rows};
 ghost use Rattle.mysql_fragments.specs.BorrowedText.{borrowed_text, borrowed_values, cell_row_text, cell_values, cells_text};
 ghost use Rattle.mysql_fragments.specs.FragmentText.{joined};
 
+use crate::appended::append_filled;
 use crate::borrowed::borrowed_len;
-use crate::filled::append_filled;
 use crate::fragment_ref::FragmentRef;
 use crate::names::append_separator;
 use crate::rows_ref::RowsRef;

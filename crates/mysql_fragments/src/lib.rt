@@ -6,6 +6,7 @@
 //! [`bind_borrowed_fragments`] copies nothing of what it binds.
 #![tactic(auto)]
 
+mod appended;
 mod borrowed;
 mod bound_refs;
 mod expanded;

@@ -11,25 +11,6 @@ ghost use Rattle.mysql_fragments.specs.FragmentText.{doubled, identifier_text, j
 use crate::fragment::{Fragment, Item};
 use mysql_binding::{LiteralForm, literal_len};
 
-/// The length of a text whose pieces have this many bytes, with these fragments between them, their
-/// values as literals in a form.
-pub(crate) fn filled_len<F: LiteralForm>(
-    piece_bytes: usize,
-    fragments: &[&Fragment],
-    form: &F,
-) -> Option<usize>
-    ensures len { IfSome result (λ len. len ≡ piece_bytes + sum_by length
-        (map (filled_text (written_literal (F.literal form.now))) (referents fragments.now))) }
-    ensures too_long { result ≡ None → 2 ^ 63 ≤ piece_bytes + sum_by length
-        (map (filled_text (written_literal (F.literal form.now))) (referents fragments.now)) }
-{
-    let mut len = piece_bytes;
-    for fragment in fragments {
-        len = with_fragment(len, *fragment, form)?;
-    }
-    Some(len)
-}
-
 /// The length with that of a fragment.
 pub(crate) fn with_fragment<F: LiteralForm>(
     len: usize,

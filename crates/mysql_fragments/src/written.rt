@@ -76,8 +76,8 @@ fn push_rows(text: &mut Vec<u8>, rows: &[Vec<Item>]) -> Result<(), AllocError>
     Ok(())
 }
 
-// Writes names as identifiers with points between them to the end.
-fn push_names(text: &mut Vec<u8>, names: &[Vec<u8>]) -> Result<(), AllocError>
+/// Writes names as identifiers with points between them to the end.
+pub(crate) fn push_names(text: &mut Vec<u8>, names: &[Vec<u8>]) -> Result<(), AllocError>
     ensures text { IfOk result (λ done. text.new.items ≡ text.old.items
         ++ joined (codes ".") (map (λ name. identifier_text name.items) names.now)) }
     ensures kept { OnErr result (StartsWith text.new.items text.old.items) }
@@ -91,8 +91,8 @@ fn push_names(text: &mut Vec<u8>, names: &[Vec<u8>]) -> Result<(), AllocError>
     Ok(())
 }
 
-// Writes a name as an identifier in backquotes to the end.
-fn push_identifier(text: &mut Vec<u8>, name: &[u8]) -> Result<(), AllocError>
+/// Writes a name as an identifier in backquotes to the end.
+pub(crate) fn push_identifier(text: &mut Vec<u8>, name: &[u8]) -> Result<(), AllocError>
     ensures text { IfOk result (λ done.
         text.new.items ≡ text.old.items ++ identifier_text name.now) }
     ensures kept { OnErr result (StartsWith text.new.items text.old.items) }

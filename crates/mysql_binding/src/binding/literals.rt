@@ -1,5 +1,5 @@
 //! The literals of values, in any form.
-ghost use Rattle.std.specs.Prelude.{◌≡◌, ◌+◌, ◌++◌, ◌≤◌, false, Some, IfOk, length, map, take};
+ghost use Rattle.std.specs.Prelude.{◌≡◌, ◌+◌, ◌++◌, ◌≤◌, false, Some, IfOk, IfSome, OnErr, length, map, take};
 ghost use Rattle.std.specs.List.{All};
 ghost use Rattle.mysql_values.specs.Literal.{is_float};
 ghost use Rattle.mysql_values.specs.Value.{FieldsInRange};
@@ -10,7 +10,7 @@ ghost use Rattle.mysql_binding.specs.PushedLiteral.{IsKnownUnlessFloat};
 
 use crate::binding::form::LiteralForm;
 use mysql_values::laws::borrowed_fields_in_range;
-use mysql_values::value::ValueRef;
+use mysql_values::value::{Value, ValueRef};
 use std::alloc::{AllocError, Global};
 
 /// The place of the first float.
@@ -75,6 +75,47 @@ pub(super) fn append_literal<F: LiteralForm>(
     let end = at + len;
     form.put(value, &mut text[at..end]);
     end
+}
+
+/// Writes the literal of a value to the end of the text, and nothing for a float. If memory is
+/// refused, the text stays as it is. It is lent to the crates above: a text whose length isn't
+/// known before is written in one pass.
+pub fn push_literal<F: LiteralForm>(
+    text: &mut Vec<u8>,
+    value: &Value,
+    form: &F,
+) -> Result<(), AllocError>
+    ensures text { IfOk result (λ done. text.new.items
+        ≡ text.old.items ++ written_literal (F.literal form.now) value.now) }
+    ensures known { IfOk result (λ done.
+        IsKnownUnlessFloat (F.literal form.now) (F.IsKnown form.now) value.now) }
+    ensures kept { OnErr result (text.new.items ≡ text.old.items) }
+
+    // Nothing is allocated for a float.
+    ensures memory { OnErr result (is_float value.now ≡ false) }
+{
+    let value = value.borrowed();
+    let Some(len) = form.len(value) else {
+        return Ok(());
+    };
+    let at = text.len();
+    let Some(end) = end_after(at, len) else {
+        return Err(AllocError);
+    };
+    text.resize(end, 0)?;
+    append_literal(text.as_mut_slice(), at, value, end - at, form);
+    Ok(())
+}
+
+// The index after this many bytes from an index on, if there is such an index.
+fn end_after(at: usize, len: u128) -> Option<usize>
+    ensures { IfSome result (λ end. end ≡ at + len) }
+{
+    let end = (at as u128).checked_add(len)?;
+    if end > usize::MAX as u128 {
+        return None;
+    }
+    Some(end as usize)
 }
 
 /// Writes the literal of a value into the text from this index on, and nothing for a float, and

@@ -1,15 +1,13 @@
-use Rattle.std.proofs.Common.{◌≡◌, ◌+◌, ◌++◌, length, map, take}
+use Rattle.std.proofs.Common.{◌≡◌, ◌++◌, take, map}
 use Rattle.std.specs.Prelude.{codes}
 use Rattle.std.specs.List.{flat_map}
 use Rattle.mysql_binding.specs.LiteralForm.{written_literal}
 use Rattle.mysql_binding.specs.PushedLiteral.{AreKnownUnlessFloats}
 use Rattle.mysql_fragments.specs.FilledText.{filled_row}
 use Rattle.mysql_fragments.specs.FragmentText.{item_values, joined}
-use Rattle.mysql_fragments.proofs.filled.append_rows.Given as goal
+use Rattle.mysql_fragments.proofs.filled.push_filled_rows.Given as goal
 
 abbrev pub invariant-loop-i : goal.invariant-loop-i
 invariant-loop-i g l =
-    (l.end ≡ l.at + length (joined (codes ", ") (map (filled_row (written_literal (g.F.LiteralForm.literal l.form))) (take l.i l.rows))))
-    × (take l.end l.text ≡ take l.at l.fn.text ++ joined (codes ", ") (map (filled_row (written_literal (g.F.LiteralForm.literal l.form))) (take l.i l.rows)))
-    × (length l.text ≡ length l.fn.text)
+    (l.text.items ≡ l.fn.text.items ++ joined (codes ", ") (map (filled_row (written_literal (g.F.LiteralForm.literal l.form))) (take l.i l.rows)))
     × AreKnownUnlessFloats (g.F.LiteralForm.literal l.form) (g.F.LiteralForm.IsKnown l.form) (flat_map (λ row. flat_map item_values row.items) (take l.i l.rows))

@@ -5,7 +5,7 @@ use Rattle.mysql_fragments.specs.FilledText.{filled_item}
 use Rattle.mysql_fragments.specs.FragmentText.{item_values}
 use Rattle.mysql_fragments.proofs.JoinedLemmas.{appended_next, joined_fits, joined_len}
 use Rattle.mysql_fragments.proofs.FilledLemmas.{known_all, known_step}
-use Rattle.mysql_fragments.proofs.filled.append_items.Goals as goal
+use Rattle.mysql_fragments.proofs.appended.append_items.Goals as goal
 
 pub append_separator-end-requires : goal.append_separator-end-requires
 append_separator-end-requires g c = record {

@@ -5,7 +5,7 @@ use Rattle.mysql_binding.specs.LiteralForm.{written_literal}
 use Rattle.mysql_binding.specs.PushedLiteral.{AreKnownUnlessFloats}
 use Rattle.mysql_fragments.specs.FilledText.{filled_item}
 use Rattle.mysql_fragments.specs.FragmentText.{item_values, joined}
-use Rattle.mysql_fragments.proofs.filled.append_items.Given as goal
+use Rattle.mysql_fragments.proofs.appended.append_items.Given as goal
 
 abbrev pub invariant-loop-i : goal.invariant-loop-i
 invariant-loop-i g l =

@@ -1,0 +1,12 @@
+use Rattle.std.proofs.Common.{◌≡◌, ◌++◌, take}
+use Rattle.std.specs.List.{flat_map}
+use Rattle.mysql_binding.specs.LiteralForm.{written_literal}
+use Rattle.mysql_binding.specs.PushedLiteral.{AreKnownUnlessFloats}
+use Rattle.mysql_fragments.specs.FilledText.{filled_items}
+use Rattle.mysql_fragments.specs.FragmentText.{item_values}
+use Rattle.mysql_fragments.proofs.filled.push_filled_items.Given as goal
+
+abbrev pub invariant-loop-i : goal.invariant-loop-i
+invariant-loop-i g l =
+    (l.text.items ≡ l.fn.text.items ++ filled_items (written_literal (g.F.LiteralForm.literal l.form)) (take l.i l.items))
+    × AreKnownUnlessFloats (g.F.LiteralForm.literal l.form) (g.F.LiteralForm.IsKnown l.form) (flat_map item_values (take l.i l.items))
