@@ -234,7 +234,9 @@ pub fn read_binary_value<'b>(
 }
 
 // The value at the front of the buffer, read by the type of its column. After an error any bytes of
-// it may have been taken off.
+// it may have been taken off. Inline, as is all that it calls: a value is built where it is wanted,
+// borrowed or of its own bytes.
+#[inline(always)]
 fn eat_binary<'b>(
     column: ColumnType,
     unsigned: bool,
@@ -280,6 +282,7 @@ fn eat_binary<'b>(
 }
 
 // A length-encoded string.
+#[inline(always)]
 fn eat_string<'b>(buf: &mut ParseBuf<'b>) -> Result<ValueRef<'b>, WireError>
     ensures read { IsAnswer (λ value. (owned value, left buf.new)) read_refusal
         (read_bytes_value (left buf.old)) ⊥ result }
@@ -289,6 +292,7 @@ fn eat_string<'b>(buf: &mut ParseBuf<'b>) -> Result<ValueRef<'b>, WireError>
 }
 
 // A whole number of `width` bytes.
+#[inline(always)]
 fn eat_integer<'b>(
     width: usize,
     unsigned: bool,
@@ -314,6 +318,7 @@ fn eat_integer<'b>(
 }
 
 // The 4 bytes of a `Float`.
+#[inline(always)]
 fn eat_float<'b>(buf: &mut ParseBuf<'b>) -> Result<ValueRef<'b>, WireError>
     ensures read { IsAnswer (λ value. (owned value, left buf.new)) read_refusal
         (map_read (λ bits. Value.Float bits) (read_number 4 (left buf.old))) ⊥ result }
@@ -323,6 +328,7 @@ fn eat_float<'b>(buf: &mut ParseBuf<'b>) -> Result<ValueRef<'b>, WireError>
 }
 
 // The 8 bytes of a `Double`.
+#[inline(always)]
 fn eat_double<'b>(buf: &mut ParseBuf<'b>) -> Result<ValueRef<'b>, WireError>
     ensures read { IsAnswer (λ value. (owned value, left buf.new)) read_refusal
         (map_read (λ bits. Value.Double bits) (read_number 8 (left buf.old))) ⊥ result }
@@ -344,6 +350,7 @@ fn eat_counted<'a>(buf: &mut ParseBuf<'a>) -> Result<&'a [u8], WireError>
 }
 
 // The date of these bytes.
+#[inline(always)]
 fn date_of<'b>(fields: &[u8]) -> ValueRef<'b>
     ensures fields { owned result ≡ date_value fields.now }
 {
@@ -366,6 +373,7 @@ fn date_of<'b>(fields: &[u8]) -> ValueRef<'b>
 }
 
 // The time of these bytes.
+#[inline(always)]
 fn time_of<'b>(fields: &[u8]) -> ValueRef<'b>
     ensures fields { owned result ≡ time_value fields.now }
 {

@@ -49,6 +49,8 @@ impl Value {
 
 impl<'v> ValueRef<'v> {
     /// The same value, of its own bytes. Only that of `Bytes` allocates.
+    // Inline, so that a value that is read and copied is built once.
+    #[inline(always)]
     pub fn to_value(self, alloc: Global) -> Result<Value, AllocError>
         ensures same { IfOk result (λ value. value ≡ owned self.entry) }
         ensures memory { OnErr result (IsBytes (owned self.entry)) }

@@ -6,6 +6,7 @@ ghost use Rattle.mysql_value_core.specs.BorrowedValue.{owned, owned_values};
 ghost use Rattle.mysql_value_core.specs.TextCell.{read_cell, read_cells, ReadsBytes, ReadsACell};
 ghost use Rattle.mysql_value_core.specs.declared.value.Value as value;
 
+use crate::bytes::Bytes;
 use crate::value::{Value, ValueDeserializer, ValueRef};
 use mysql_wire_part::{MyDeserialize, ParseBuf, WireError};
 use std::alloc::{AllocError, Global};
@@ -84,11 +85,15 @@ fn eat_cell(alloc: Global, buf: &mut ParseBuf<'_>) -> Result<Value, WireError>
         (read_cell (left buf.old)) (ReadsBytes (read_cell (left buf.old))) result }
     ensures unchanged { OnErr result (left buf.new ≡ left buf.old) }
 {
+    if let [NULL_CELL, rest @ ..] = buf.0 {
+        buf.0 = rest;
+        return Ok(Value::NULL);
+    }
     let mut after = *buf;
-    let cell = read_text_cell(&mut after)?;
-    let value = cell.to_value(alloc)?;
+    let text = after.eat_lenenc_str()?;
+    let bytes = Bytes::from(Vec::from_slice(alloc, text)?);
     *buf = after;
-    Ok(value)
+    Ok(Value::Bytes(bytes))
 }
 
 /// The cell at the front of the buffer, whose bytes are those of the buffer: nothing is copied.
@@ -99,8 +104,8 @@ pub fn read_text_cell<'b>(buf: &mut ParseBuf<'b>) -> Result<ValueRef<'b>, WireEr
         (read_cell (left buf.old)) ⊥ result }
     ensures unchanged { OnErr result (left buf.new ≡ left buf.old) }
 {
-    if let [NULL_CELL, rest @ ..] = buf.0 {
-        buf.0 = rest;
+    if let [NULL_CELL, behind @ ..] = buf.0 {
+        buf.0 = behind;
         return Ok(ValueRef::NULL);
     }
     let text = buf.eat_lenenc_str()?;
