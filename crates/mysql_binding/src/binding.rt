@@ -339,8 +339,8 @@ pub fn measured_text<'p, F: LiteralForm>(
     }
 }
 
-/// The same of values that are looked up, which are given to the places of a query with this survey.
-/// Lent to the crates above, which look up a row's values once for the names of all rows.
+/// The same of values that are looked up, given to the places of a query with this survey. Lent to
+/// the crates above, which find the places of names once for all rows.
 pub fn measured_values<'p, F: LiteralForm>(
     alloc: Global,
     survey: Survey,

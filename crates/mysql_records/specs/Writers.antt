@@ -1,6 +1,6 @@
 -- Writers that are in use, and which bytes each can write: of CSV and TSV; servers, by `SELECT ..
--- INTO OUTFILE` with escapes, except columns of the type BIT, whose bytes they write as they are;
--- and clients, by `mysql --batch` (sources: see WrittenRecords).
+-- INTO OUTFILE` with escapes, except MariaDB's columns of the type BIT, whose bytes it writes as
+-- they are; and clients, by `mysql --batch` (sources: see WrittenRecords).
 use Rattle.std.specs.Prelude.{ℕ, Bool, true, false, ◌==◌, List, [], ◌∷◌, codes, Option, Some, None, if◌then◌else◌}
 use Rattle.std.specs.List.{list_any}
 use Rattle.std.specs.Str.{byte}
