@@ -33,6 +33,7 @@ pub use Rattle.mysql_binding.specs.BoundStatements
 pub use Rattle.mysql_binding.specs.FirstCause
 pub use Rattle.mysql_binding.specs.ValueLiterals
 pub use Rattle.mysql_binding.specs.BindErrors
+pub use Rattle.mysql_binding.specs.BoundPairs
 pub use Rattle.mysql_binding.specs.Isolation
 pub use Rattle.mysql_steady_literal.specs.SteadyLiteral
 pub use Rattle.mysql_steady_literal.specs.SteadyShape
@@ -41,6 +42,7 @@ pub use Rattle.mysql_steady_text.specs.SteadyLiterals
 pub use Rattle.mysql_steady_text.specs.SteadyText
 pub use Rattle.mysql_steady_text.specs.SteadyAgain
 pub use Rattle.mysql_steady_text.specs.SteadyTextErrors
+pub use Rattle.mysql_steady_text.specs.SteadyPairs
 pub use Rattle.mysql_steady_text.specs.FirstBackslash
 pub use Rattle.mysql_steady_text.specs.BothModesText
 pub use Rattle.mysql_steady_text.specs.BothModesErrors

@@ -8,7 +8,7 @@ ghost use Rattle.mysql_named_params.specs.Steady.{IsSteady};
 ghost use Rattle.mysql_steady_literal.specs.SteadyLiteral.{is_spelled_out, steady_bytes_literal, steady_literal_of};
 ghost use Rattle.mysql_steady_literal.specs.ReadSteadyLiteral.{ReadsSteadyAs};
 
-use crate::laws::borrowed_steady_literals;
+use crate::laws::{borrowed_steady_literals, steady_literals};
 use mysql_sql_text::strings::{fill_hexadecimal, fill_string, string_len};
 use mysql_value_core::value::{Value, ValueRef};
 
@@ -23,7 +23,10 @@ pub fn steady_len(value: &Value) -> Option<u128>
     ensures exact { result ≡ option_map length (steady_literal_of value.now) }
     ensures float { is_none result ≡ is_float value.now }
 {
-    borrowed_steady_len(value.borrowed())
+    match value {
+        Value::Bytes(bytes) => Some(steady_bytes_len(bytes.as_slice())),
+        other => other.sql_len(true),
+    }
 }
 
 /// Writes the steady literal of a value over the whole of `room`.
@@ -36,7 +39,8 @@ pub fn put_steady(value: &Value, room: &mut [u8])
     ensures steady { IsSteady room.new }
     ensures reads_back { ReadsSteadyAs value.now room.new }
 {
-    put_borrowed_steady(value.borrowed(), room);
+    steady_literals(value);
+    fill_literal(value, room);
 }
 
 /// How many bytes the steady literal of a borrowed value has.
@@ -49,7 +53,7 @@ pub fn borrowed_steady_len(value: ValueRef<'_>) -> Option<u128>
 {
     match value {
         ValueRef::Bytes(bytes) => Some(steady_bytes_len(bytes)),
-        other => other.sql_len(true),
+        plain => plain.sql_len(true),
     }
 }
 
@@ -64,17 +68,28 @@ pub fn put_borrowed_steady(value: ValueRef<'_>, room: &mut [u8])
     ensures reads_back { ReadsSteadyAs (owned value.entry) room.new }
 {
     borrowed_steady_literals(value);
-    fill_literal(value, room);
+    fill_borrowed_literal(value, room);
 }
 
 // Fills the slice with the steady literal.
-fn fill_literal(value: ValueRef<'_>, buffer: &mut [u8])
+fn fill_literal(value: &Value, buffer: &mut [u8])
+    requires { option_map length (steady_literal_of value.now) ≡ Some (length buffer.old) }
+    ensures { steady_literal_of value.now ≡ Some buffer.new }
+{
+    match value {
+        Value::Bytes(bytes) => fill_steady_bytes(buffer, bytes.as_slice()),
+        other => other.put_sql(true, buffer),
+    }
+}
+
+// Fills the slice with the steady literal of a borrowed value.
+fn fill_borrowed_literal(value: ValueRef<'_>, buffer: &mut [u8])
     requires { option_map length (steady_literal_of (owned value)) ≡ Some (length buffer.old) }
     ensures { steady_literal_of (owned value.entry) ≡ Some buffer.new }
 {
     match value {
         ValueRef::Bytes(bytes) => fill_steady_bytes(buffer, bytes),
-        other => other.put_sql(true, buffer),
+        plain => plain.put_sql(true, buffer),
     }
 }
 

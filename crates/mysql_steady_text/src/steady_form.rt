@@ -5,9 +5,11 @@ ghost use Rattle.mysql_steady_literal.specs.SteadyLiteral.{steady_literal_of};
 ghost use Rattle.mysql_steady_text.specs.SteadyLiterals.{IsSteadyFor};
 
 use mysql_binding::LiteralForm;
-use mysql_steady_literal::laws::borrowed_steady_literals;
-use mysql_steady_literal::steady_literal::{borrowed_steady_len, put_borrowed_steady};
-use mysql_values::value::ValueRef;
+use mysql_steady_literal::laws::{borrowed_steady_literals, steady_literals};
+use mysql_steady_literal::steady_literal::{
+    borrowed_steady_len, put_borrowed_steady, put_steady, steady_len,
+};
+use mysql_values::value::{Value, ValueRef};
 
 /// Steady literals, lent to the crates above.
 #[derive(Debug, Clone, Copy)]
@@ -36,5 +38,14 @@ impl LiteralForm for SteadyForm {
     fn put(&self, value: ValueRef<'_>, room: &mut [u8]) {
         borrowed_steady_literals(value);
         put_borrowed_steady(value, room);
+    }
+
+    fn value_len(&self, value: &Value) -> Option<u128> {
+        steady_len(value)
+    }
+
+    fn put_value(&self, value: &Value, room: &mut [u8]) {
+        steady_literals(value);
+        put_steady(value, room);
     }
 }

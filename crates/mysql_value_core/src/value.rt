@@ -5,17 +5,20 @@ ghost use Rattle.mysql_value_core.specs.Value.{FieldsInRange, IsBytes};
 mod binary;
 mod binary_row;
 mod borrowed;
+mod borrowed_binary;
+mod borrowed_literal;
 pub mod convert;
 mod literal;
 mod side;
 mod text;
 
 use crate::bytes::Bytes;
-pub use crate::value::binary::{BinValue, read_binary_value};
+pub use crate::value::binary::BinValue;
 pub use crate::value::binary_row::{
     BinaryRowError, NullBitmap, read_binary_cells_into, read_null_bitmap,
 };
 pub use crate::value::borrowed::ValueRef;
+pub use crate::value::borrowed_binary::read_binary_value;
 pub use crate::value::literal::AsSqlError;
 pub use crate::value::side::{ClientSide, SerializationSide, ServerSide};
 pub use crate::value::text::{TextValue, read_text_cell, read_text_cells, read_text_cells_into};

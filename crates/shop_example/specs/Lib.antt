@@ -3,4 +3,5 @@ pub mod Cell
 pub mod CustomerRow
 pub mod Day
 pub mod OrderQuery
+pub mod PairQuery
 pub mod State

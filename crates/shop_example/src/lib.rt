@@ -7,6 +7,7 @@ pub mod cell;
 pub mod customer_row;
 pub mod day;
 pub mod order_query;
+pub mod pair_query;
 #[cfg(test)]
 mod shared;
 pub mod state;

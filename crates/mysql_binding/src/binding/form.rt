@@ -5,8 +5,8 @@ ghost use Rattle.mysql_values.specs.Literal.{literal_of};
 ghost use Rattle.mysql_values.specs.declared.value.Value.TheVariants.{NULL, Bytes, Int, UInt, Float, Double, Date, Time};
 ghost use Rattle.mysql_binding.specs.LiteralForm.{Literals, LiteralFacts, LackFloats, IsPlainLiteral};
 
-use mysql_values::laws::borrowed_literal_shape;
-use mysql_values::value::ValueRef;
+use mysql_values::laws::{borrowed_literal_shape, literal_shape};
+use mysql_values::value::{Value, ValueRef};
 
 /// A form in which [`bind_borrowed_as`](crate::bind_borrowed_as) writes the literals of values,
 /// lent to the crate above. Exactly floats have no literal.
@@ -26,6 +26,16 @@ pub trait LiteralForm {
         requires { option_map length (literal self.now (owned value)) ≡ Some (length room.old) }
         ensures exact { literal self.now (owned value.entry) ≡ Some room.new }
         ensures known { IsKnown self.now (owned value.entry) room.new };
+
+    /// `len` of a value that isn't borrowed: to lend it takes longer.
+    fn value_len(&self, value: &Value) -> Option<u128>
+        ensures { result ≡ option_map length (literal self.now value.now) };
+
+    /// `put` of a value that isn't borrowed.
+    fn put_value(&self, value: &Value, room: &mut [u8])
+        requires { option_map length (literal self.now value.now) ≡ Some (length room.old) }
+        ensures exact { literal self.now value.now ≡ Some room.new }
+        ensures known { IsKnown self.now value.now room.new };
 
     // exactly floats have no literal
     ghost floats: { (form : Self) → LackFloats (literal form) };
@@ -61,5 +71,20 @@ impl LiteralForm for PlainForm {
     fn put(&self, value: ValueRef<'_>, room: &mut [u8]) {
         borrowed_literal_shape(value);
         value.put_sql(self.no_backslash_escape, room);
+    }
+
+    fn value_len(&self, value: &Value) -> Option<u128> {
+        let PlainForm {
+            no_backslash_escape,
+        } = *self;
+        value.sql_len(no_backslash_escape)
+    }
+
+    fn put_value(&self, value: &Value, room: &mut [u8]) {
+        let PlainForm {
+            no_backslash_escape,
+        } = *self;
+        literal_shape(value);
+        value.put_sql(no_backslash_escape, room);
     }
 }

@@ -94,8 +94,7 @@ pub fn push_literal<F: LiteralForm>(
     // Nothing is allocated for a float.
     ensures memory { OnErr result (is_float value.now ≡ false) }
 {
-    let value = value.borrowed();
-    let Some(len) = form.len(value) else {
+    let Some(len) = form.value_len(value) else {
         return Ok(());
     };
     let at = text.len();
@@ -103,8 +102,32 @@ pub fn push_literal<F: LiteralForm>(
         return Err(AllocError);
     };
     text.resize(end, 0)?;
-    append_literal(text.as_mut_slice(), at, value, end - at, form);
+    append_owned_literal(text.as_mut_slice(), at, value, end - at, form);
     Ok(())
+}
+
+// `append_literal` of a value that isn't borrowed.
+fn append_owned_literal<F: LiteralForm>(
+    text: &mut [u8],
+    at: usize,
+    value: &Value,
+    len: usize,
+    form: &F,
+) -> usize
+    requires no_float { is_float value.now ≡ false }
+    requires len { len ≡ literal_len (F.literal form.now) value.now }
+    requires room { at + len ≤ length text.old }
+    ensures next { result ≡ at + len }
+    ensures front { take result text.new
+        ≡ take at text.old ++ written_literal (F.literal form.now) value.now }
+    ensures literal { F.literal form.now value.now
+        ≡ Some (written_literal (F.literal form.now) value.now) }
+    ensures known { F.IsKnown form.now value.now
+        (written_literal (F.literal form.now) value.now) }
+{
+    let next = at + len;
+    form.put_value(value, &mut text[at..next]);
+    next
 }
 
 // The index after this many bytes from an index on, if there is such an index.

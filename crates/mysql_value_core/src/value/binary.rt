@@ -4,14 +4,14 @@ ghost use Rattle.mysql_wire_part.specs.Reading.{read_number, map_read};
 ghost use Rattle.mysql_wire_part.specs.Answer.{IsAnswer};
 ghost use Rattle.mysql_wire_part.specs.ParseBuf.{left, read_refusal};
 ghost use Rattle.mysql_wire_part.specs.Column.{is_unsigned};
-ghost use Rattle.mysql_value_core.specs.BorrowedValue.{owned};
 ghost use Rattle.mysql_value_core.specs.TextCell.{ReadsBytes};
 ghost use Rattle.mysql_value_core.specs.BinaryForm.{binary_form, date_form, time_form};
 ghost use Rattle.mysql_value_core.specs.BinaryReading.{date_value, time_value, read_counted, read_bytes_value, read_integer, read_binary};
 ghost use Rattle.mysql_value_core.specs.BinaryReadBack.{ReadsBackInBinary};
 ghost use Rattle.mysql_value_core.specs.declared.value.Value as value;
 
-use crate::value::{Value, ValueDeserializer, ValueRef};
+use crate::bytes::Bytes;
+use crate::value::{Value, ValueDeserializer};
 use byteorder::{ByteOrder, LittleEndian};
 use mysql_sql_text::dates::{DateFields, TimeFields};
 use mysql_wire_part::{
@@ -30,7 +30,18 @@ impl Value {
     pub fn bin_len(&self) -> u64
         ensures count { result ≡ length (binary_form self.now) }
     {
-        self.borrowed().bin_len()
+        match self {
+            Value::NULL => 0,
+            Value::Bytes(bytes) => lenenc_str_len(bytes.as_slice()),
+            Value::Int(_) | Value::UInt(_) | Value::Double(_) => 8,
+            Value::Float(_) => 4,
+            Value::Date(0, 0, 0, 0, 0, 0, 0) | Value::Time(_, 0, 0, 0, 0, 0) => 1,
+            Value::Date(_, _, _, 0, 0, 0, 0) => 5,
+            Value::Date(_, _, _, _, _, _, 0) => 8,
+            Value::Date(..) => 12,
+            Value::Time(_, _, _, _, _, 0) => 9,
+            Value::Time(..) => 13,
+        }
     }
 }
 
@@ -38,57 +49,22 @@ impl MySerialize for Value {
     ghost spelling = { binary_form };
 
     /// Appends the binary form, whole or not at all.
+    #[tactic(auto, using(crate::proofs::BinaryLemmas::reads_back_in_binary))]
     fn serialize(&self, buf: &mut Vec<u8>) -> Result<(), AllocError>
         ensures appended { OnOk result (buf.new.items ≡ buf.old.items ++ binary_form self.now) }
         ensures unchanged { OnErr result (buf.new.items ≡ buf.old.items) }
         ensures no_memory { self.now ≡ Value.NULL → IsOk result }
         ensures reads_back { ReadsBackInBinary self.now }
     {
-        self.borrowed().serialize(buf)
-    }
-}
-
-impl ValueRef<'_> {
-    /// The number of bytes of the binary form.
-    pub fn bin_len(self) -> u64
-        ensures count { result ≡ length (binary_form (owned self.entry)) }
-    {
-        match self {
-            ValueRef::NULL => 0,
-            ValueRef::Bytes(bytes) => lenenc_str_len(bytes),
-            ValueRef::Int(_) | ValueRef::UInt(_) | ValueRef::Double(_) => 8,
-            ValueRef::Float(_) => 4,
-            ValueRef::Date(0, 0, 0, 0, 0, 0, 0) | ValueRef::Time(_, 0, 0, 0, 0, 0) => 1,
-            ValueRef::Date(_, _, _, 0, 0, 0, 0) => 5,
-            ValueRef::Date(_, _, _, _, _, _, 0) => 8,
-            ValueRef::Date(..) => 12,
-            ValueRef::Time(_, _, _, _, _, 0) => 9,
-            ValueRef::Time(..) => 13,
-        }
-    }
-}
-
-impl MySerialize for ValueRef<'_> {
-    ghost spelling = { λ value. binary_form (owned value) };
-
-    /// Appends the binary form, whole or not at all.
-    #[tactic(auto, using(crate::proofs::BinaryLemmas::reads_back_in_binary))]
-    fn serialize(&self, buf: &mut Vec<u8>) -> Result<(), AllocError>
-        ensures appended { OnOk result
-            (buf.new.items ≡ buf.old.items ++ binary_form (owned self.now)) }
-        ensures unchanged { OnErr result (buf.new.items ≡ buf.old.items) }
-        ensures no_memory { owned self.now ≡ Value.NULL → IsOk result }
-        ensures reads_back { ReadsBackInBinary (owned self.now) }
-    {
         self.fields_in_range();
-        match *self {
-            ValueRef::NULL => Ok(()),
-            ValueRef::Bytes(bytes) => put_lenenc_str(buf, bytes),
-            ValueRef::Int(number) => buf.extend_from_slice(&number.to_le_bytes()),
-            ValueRef::UInt(number) => buf.extend_from_slice(&number.to_le_bytes()),
-            ValueRef::Float(bits) => buf.extend_from_slice(&bits.to_le_bytes()),
-            ValueRef::Double(bits) => buf.extend_from_slice(&bits.to_le_bytes()),
-            ValueRef::Date(year, month, day, hour, minute, second, microseconds) => {
+        match self {
+            Value::NULL => Ok(()),
+            Value::Bytes(bytes) => put_lenenc_str(buf, bytes.as_slice()),
+            Value::Int(number) => buf.extend_from_slice(&number.to_le_bytes()),
+            Value::UInt(number) => buf.extend_from_slice(&number.to_le_bytes()),
+            Value::Float(bits) => buf.extend_from_slice(&bits.to_le_bytes()),
+            Value::Double(bits) => buf.extend_from_slice(&bits.to_le_bytes()),
+            &Value::Date(year, month, day, hour, minute, second, microseconds) => {
                 append_date(
                     buf,
                     DateFields {
@@ -102,7 +78,7 @@ impl MySerialize for ValueRef<'_> {
                     },
                 )
             }
-            ValueRef::Time(negative, days, hours, minutes, seconds, microseconds) => {
+            &Value::Time(negative, days, hours, minutes, seconds, microseconds) => {
                 append_time(
                     buf,
                     TimeFields {
@@ -119,8 +95,8 @@ impl MySerialize for ValueRef<'_> {
     }
 }
 
-// Appends the binary form of a date.
-fn append_date(buf: &mut Vec<u8>, date: DateFields) -> Result<(), AllocError>
+/// Appends the binary form of a date.
+pub(super) fn append_date(buf: &mut Vec<u8>, date: DateFields) -> Result<(), AllocError>
     ensures appended { OnOk result (buf.new.items ≡ buf.old.items
         ++ date_form date.year date.month date.day
         date.hour date.minute date.second date.microseconds) }
@@ -150,8 +126,8 @@ fn append_date(buf: &mut Vec<u8>, date: DateFields) -> Result<(), AllocError>
     buf.extend_from_slice(&[0])
 }
 
-// Appends the binary form of a time.
-fn append_time(buf: &mut Vec<u8>, time: TimeFields) -> Result<(), AllocError>
+/// Appends the binary form of a time.
+pub(super) fn append_time(buf: &mut Vec<u8>, time: TimeFields) -> Result<(), AllocError>
     ensures appended { OnOk result (buf.new.items ≡ buf.old.items
         ++ time_form time.negative time.days time.hours
         time.minutes time.seconds time.microseconds) }
@@ -207,43 +183,24 @@ impl<'de> MyDeserialize<'de> for ValueDeserializer<BinValue> {
         ensures unchanged { OnErr result (left buf.new ≡ left buf.old) }
     {
         let mut rest = *buf;
-        let read = read_binary_value(ctx.0, ctx.1, &mut rest)?;
-        let value = read.to_value(alloc)?;
+        let unsigned = ctx.1.contains(ColumnFlags::UNSIGNED_FLAG);
+        let value = eat_binary(alloc, ctx.0, unsigned, &mut rest)?;
         *buf = rest;
         Ok(ValueDeserializer(value, PhantomData))
     }
 }
 
-/// The value at the front of the buffer, read by the type of its column and its flags, whose bytes
-/// are those of the buffer: nothing is copied. After an error the buffer is unchanged.
-pub fn read_binary_value<'b>(
-    column: ColumnType,
-    flags: ColumnFlags,
-    buf: &mut ParseBuf<'b>,
-) -> Result<ValueRef<'b>, WireError>
-    // It allocates nothing, so it is never out of memory.
-    ensures read { IsAnswer (λ value. (owned value, left buf.new)) read_refusal
-        (read_binary column (is_unsigned flags) (left buf.old)) ⊥ result }
-    ensures unchanged { OnErr result (left buf.new ≡ left buf.old) }
-{
-    let mut rest = *buf;
-    let unsigned = flags.contains(ColumnFlags::UNSIGNED_FLAG);
-    let value = eat_binary(column, unsigned, &mut rest)?;
-    *buf = rest;
-    Ok(value)
-}
-
 // The value at the front of the buffer, read by the type of its column. After an error any bytes of
-// it may have been taken off. Inline, as is all that it calls: a value is built where it is wanted,
-// borrowed or of its own bytes.
-#[inline(always)]
-fn eat_binary<'b>(
+// it may have been taken off.
+fn eat_binary(
+    alloc: Global,
     column: ColumnType,
     unsigned: bool,
-    buf: &mut ParseBuf<'b>,
-) -> Result<ValueRef<'b>, WireError>
-    ensures read { IsAnswer (λ value. (owned value, left buf.new)) read_refusal
-        (read_binary column unsigned (left buf.old)) ⊥ result }
+    buf: &mut ParseBuf<'_>,
+) -> Result<Value, WireError>
+    ensures read { IsAnswer (λ value. (value, left buf.new)) read_refusal
+        (read_binary column unsigned (left buf.old))
+        (ReadsBytes (read_binary column unsigned (left buf.old))) result }
 {
     match column {
         ColumnType::MYSQL_TYPE_BIT
@@ -260,14 +217,14 @@ fn eat_binary<'b>(
         | ColumnType::MYSQL_TYPE_TINY_BLOB
         | ColumnType::MYSQL_TYPE_VARCHAR
         | ColumnType::MYSQL_TYPE_VAR_STRING
-        | ColumnType::MYSQL_TYPE_VECTOR => eat_string(buf),
+        | ColumnType::MYSQL_TYPE_VECTOR => eat_string(alloc, buf),
         ColumnType::MYSQL_TYPE_TINY => eat_integer(1, unsigned, buf),
         ColumnType::MYSQL_TYPE_SHORT | ColumnType::MYSQL_TYPE_YEAR => eat_integer(2, unsigned, buf),
         ColumnType::MYSQL_TYPE_LONG | ColumnType::MYSQL_TYPE_INT24 => eat_integer(4, unsigned, buf),
         ColumnType::MYSQL_TYPE_LONGLONG => eat_integer(8, unsigned, buf),
         ColumnType::MYSQL_TYPE_FLOAT => eat_float(buf),
         ColumnType::MYSQL_TYPE_DOUBLE => eat_double(buf),
-        ColumnType::MYSQL_TYPE_NULL => Ok(ValueRef::NULL),
+        ColumnType::MYSQL_TYPE_NULL => Ok(Value::NULL),
         ColumnType::MYSQL_TYPE_TIME => Ok(time_of(eat_counted(buf)?)),
         ColumnType::MYSQL_TYPE_DATE
         | ColumnType::MYSQL_TYPE_DATETIME
@@ -281,26 +238,21 @@ fn eat_binary<'b>(
     }
 }
 
-// A length-encoded string.
-#[inline(always)]
-fn eat_string<'b>(buf: &mut ParseBuf<'b>) -> Result<ValueRef<'b>, WireError>
-    ensures read { IsAnswer (λ value. (owned value, left buf.new)) read_refusal
-        (read_bytes_value (left buf.old)) ⊥ result }
+// A length-encoded string, copied.
+fn eat_string(alloc: Global, buf: &mut ParseBuf<'_>) -> Result<Value, WireError>
+    ensures read { IsAnswer (λ value. (value, left buf.new)) read_refusal
+        (read_bytes_value (left buf.old)) (ReadsBytes (read_bytes_value (left buf.old))) result }
 {
     let text = buf.eat_lenenc_str()?;
-    Ok(ValueRef::Bytes(text))
+    let bytes = Bytes::from(Vec::from_slice(alloc, text)?);
+    Ok(Value::Bytes(bytes))
 }
 
 // A whole number of `width` bytes.
-#[inline(always)]
-fn eat_integer<'b>(
-    width: usize,
-    unsigned: bool,
-    buf: &mut ParseBuf<'b>,
-) -> Result<ValueRef<'b>, WireError>
+fn eat_integer(width: usize, unsigned: bool, buf: &mut ParseBuf<'_>) -> Result<Value, WireError>
     requires low { 1 ≤ width }
     requires high { width ≤ 8 }
-    ensures read { IsAnswer (λ value. (owned value, left buf.new)) read_refusal
+    ensures read { IsAnswer (λ value. (value, left buf.new)) read_refusal
         (read_integer width unsigned (left buf.old)) ⊥ result }
 {
     let bytes = buf.0;
@@ -308,37 +260,35 @@ fn eat_integer<'b>(
         return Err(WireError::UnexpectedEof);
     }
     if !unsigned {
-        return Ok(ValueRef::Int(LittleEndian::read_int(bytes, width)));
+        return Ok(Value::Int(LittleEndian::read_int(bytes, width)));
     }
     let number = LittleEndian::read_uint(bytes, width);
     match i64::try_from(number) {
-        Ok(number) => Ok(ValueRef::Int(number)),
-        Err(_) => Ok(ValueRef::UInt(number)),
+        Ok(number) => Ok(Value::Int(number)),
+        Err(_) => Ok(Value::UInt(number)),
     }
 }
 
 // The 4 bytes of a `Float`.
-#[inline(always)]
-fn eat_float<'b>(buf: &mut ParseBuf<'b>) -> Result<ValueRef<'b>, WireError>
-    ensures read { IsAnswer (λ value. (owned value, left buf.new)) read_refusal
+fn eat_float(buf: &mut ParseBuf<'_>) -> Result<Value, WireError>
+    ensures read { IsAnswer (λ value. (value, left buf.new)) read_refusal
         (map_read (λ bits. Value.Float bits) (read_number 4 (left buf.old))) ⊥ result }
 {
     let bits = buf.checked_eat_u32_le().ok_or(WireError::UnexpectedEof)?;
-    Ok(ValueRef::Float(bits))
+    Ok(Value::Float(bits))
 }
 
 // The 8 bytes of a `Double`.
-#[inline(always)]
-fn eat_double<'b>(buf: &mut ParseBuf<'b>) -> Result<ValueRef<'b>, WireError>
-    ensures read { IsAnswer (λ value. (owned value, left buf.new)) read_refusal
+fn eat_double(buf: &mut ParseBuf<'_>) -> Result<Value, WireError>
+    ensures read { IsAnswer (λ value. (value, left buf.new)) read_refusal
         (map_read (λ bits. Value.Double bits) (read_number 8 (left buf.old))) ⊥ result }
 {
     let bits = buf.checked_eat_u64_le().ok_or(WireError::UnexpectedEof)?;
-    Ok(ValueRef::Double(bits))
+    Ok(Value::Double(bits))
 }
 
-// A length byte and that many bytes, which are returned.
-fn eat_counted<'a>(buf: &mut ParseBuf<'a>) -> Result<&'a [u8], WireError>
+/// A length byte and that many bytes, which are returned.
+pub(super) fn eat_counted<'a>(buf: &mut ParseBuf<'a>) -> Result<&'a [u8], WireError>
     ensures read { IsAnswer (λ fields. (fields.now, left buf.new)) read_refusal
         (read_counted (left buf.old)) ⊥ result }
 {
@@ -350,32 +300,30 @@ fn eat_counted<'a>(buf: &mut ParseBuf<'a>) -> Result<&'a [u8], WireError>
 }
 
 // The date of these bytes.
-#[inline(always)]
-fn date_of<'b>(fields: &[u8]) -> ValueRef<'b>
-    ensures fields { owned result ≡ date_value fields.now }
+fn date_of(fields: &[u8]) -> Value
+    ensures fields { result ≡ date_value fields.now }
 {
     match fields {
         [y0, y1, month, day, hour, minute, second, u0, u1, u2, u3] => {
             let year = u16::from_le_bytes([*y0, *y1]);
             let microseconds = u32::from_le_bytes([*u0, *u1, *u2, *u3]);
-            ValueRef::Date(year, *month, *day, *hour, *minute, *second, microseconds)
+            Value::Date(year, *month, *day, *hour, *minute, *second, microseconds)
         }
         [y0, y1, month, day, hour, minute, second, ..] => {
             let year = u16::from_le_bytes([*y0, *y1]);
-            ValueRef::Date(year, *month, *day, *hour, *minute, *second, 0)
+            Value::Date(year, *month, *day, *hour, *minute, *second, 0)
         }
         [y0, y1, month, day, ..] => {
             let year = u16::from_le_bytes([*y0, *y1]);
-            ValueRef::Date(year, *month, *day, 0, 0, 0, 0)
+            Value::Date(year, *month, *day, 0, 0, 0, 0)
         }
-        _ => ValueRef::Date(0, 0, 0, 0, 0, 0, 0),
+        _ => Value::Date(0, 0, 0, 0, 0, 0, 0),
     }
 }
 
 // The time of these bytes.
-#[inline(always)]
-fn time_of<'b>(fields: &[u8]) -> ValueRef<'b>
-    ensures fields { owned result ≡ time_value fields.now }
+fn time_of(fields: &[u8]) -> Value
+    ensures fields { result ≡ time_value fields.now }
 {
     match fields {
         [
@@ -394,12 +342,12 @@ fn time_of<'b>(fields: &[u8]) -> ValueRef<'b>
         ] => {
             let days = u32::from_le_bytes([*d0, *d1, *d2, *d3]);
             let microseconds = u32::from_le_bytes([*u0, *u1, *u2, *u3]);
-            ValueRef::Time(*sign == 1, days, *hours, *minutes, *seconds, microseconds)
+            Value::Time(*sign == 1, days, *hours, *minutes, *seconds, microseconds)
         }
         [sign, d0, d1, d2, d3, hours, minutes, seconds, ..] => {
             let days = u32::from_le_bytes([*d0, *d1, *d2, *d3]);
-            ValueRef::Time(*sign == 1, days, *hours, *minutes, *seconds, 0)
+            Value::Time(*sign == 1, days, *hours, *minutes, *seconds, 0)
         }
-        _ => ValueRef::Time(false, 0, 0, 0, 0, 0),
+        _ => Value::Time(false, 0, 0, 0, 0, 0),
     }
 }

@@ -6,7 +6,7 @@ ghost use Rattle.mysql_value_core.specs.BorrowedValue.{owned, owned_values};
 ghost use Rattle.mysql_value_core.specs.BinaryRow.{bitmap_bytes, is_null_column, read_bitmap, read_column, read_columns, read_row, row_refusal};
 
 use crate::value::ValueRef;
-use crate::value::binary::read_binary_value;
+use crate::value::borrowed_binary::read_binary_value;
 use crate::value::side::{SerializationSide, ServerSide};
 use mysql_wire_part::{ColumnFlags, ColumnType, ParseBuf, WireError};
 use std::alloc::AllocError;

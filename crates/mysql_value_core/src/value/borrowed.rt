@@ -25,9 +25,24 @@ pub enum ValueRef<'v> {
 
 impl Value {
     /// The same value, borrowed. Nothing is copied except numbers.
-    // Inline, since it stands before each call that takes borrowed values.
+    // Inline, since it stands before each call that takes borrowed values. What is rare is lent by a
+    // call: the many small fields of dates would be taken apart for each value.
     #[inline(always)]
     pub fn borrowed(&self) -> ValueRef<'_>
+        ensures same { owned result ≡ self.now }
+    {
+        match self {
+            Value::NULL => ValueRef::NULL,
+            Value::Bytes(bytes) => ValueRef::Bytes(bytes.as_slice()),
+            Value::Int(number) => ValueRef::Int(*number),
+            Value::UInt(number) => ValueRef::UInt(*number),
+            _ => self.borrowed_by_call(),
+        }
+    }
+
+    // The same value, borrowed, by a call.
+    #[inline(never)]
+    fn borrowed_by_call(&self) -> ValueRef<'_>
         ensures same { owned result ≡ self.now }
     {
         match self {
@@ -49,8 +64,6 @@ impl Value {
 
 impl<'v> ValueRef<'v> {
     /// The same value, of its own bytes. Only that of `Bytes` allocates.
-    // Inline, so that a value that is read and copied is built once.
-    #[inline(always)]
     pub fn to_value(self, alloc: Global) -> Result<Value, AllocError>
         ensures same { IfOk result (λ value. value ≡ owned self.entry) }
         ensures memory { OnErr result (IsBytes (owned self.entry)) }

@@ -3,13 +3,12 @@ ghost use Rattle.std.specs.Prelude.{◌≡◌, length, Some, Err, IfOk, IsSome, 
 ghost use Rattle.mysql_wire_part.specs.Answer.{IsAnswer};
 ghost use Rattle.mysql_value_core.specs.declared.value.literal.AsSqlError as AsSqlError;
 ghost use Rattle.mysql_value_core.specs.declared.value.literal.AsSqlError.TheVariants.{Memory};
-ghost use Rattle.mysql_value_core.specs.BorrowedValue.{owned};
 ghost use Rattle.mysql_value_core.specs.AsSql.{float, literal_refusal};
 ghost use Rattle.mysql_value_core.specs.Literal.{is_float, literal_of};
 ghost use Rattle.mysql_value_core.specs.ReadBack.{ReadsAs};
 ghost use Rattle.mysql_value_core.specs.TimeLiteral.{WritesTimeText};
 
-use crate::value::{Value, ValueRef};
+use crate::value::Value;
 use mysql_sql_text::dates::{self, DateFields, TimeFields};
 use mysql_sql_text::{numbers, strings};
 use std::alloc::{AllocError, Global};
@@ -52,54 +51,6 @@ impl Value {
             (λ sql. ReadsAs no_backslash_escape self.now (string_bytes sql)) }
         ensures time { IfOk result (λ sql. WritesTimeText self.now (string_bytes sql)) }
     {
-        self.borrowed().as_sql(alloc, no_backslash_escape)
-    }
-
-    /// How many bytes the SQL literal of the value has, the text of `as_sql`.
-    ///
-    /// `None` exactly for `Float` and `Double`, which have no literal. It allocates nothing. The
-    /// length may be above `isize::MAX`, and then no slice is that long.
-    pub fn sql_len(&self, no_backslash_escape: bool) -> Option<u128>
-        ensures exact { result ≡ option_map length (literal_of no_backslash_escape self.now) }
-        ensures float { is_none result ≡ is_float self.now }
-    {
-        self.borrowed().sql_len(no_backslash_escape)
-    }
-
-    /// Writes the SQL literal of the value, the text of `as_sql`, over the whole of `room`.
-    ///
-    /// It can be called only if the value has a literal, so is no float, and `room` is exactly as
-    /// long as `sql_len` says in the same mode. Nothing is allocated, and nothing is refused. What
-    /// `as_sql` promises of its text holds of the bytes in `room` too.
-    pub fn put_sql(&self, no_backslash_escape: bool, room: &mut [u8])
-        requires { option_map length (literal_of no_backslash_escape self.now)
-            ≡ Some (length room.old) }
-        ensures exact { literal_of no_backslash_escape self.now ≡ Some room.new }
-        ensures reads_back { ReadsAs no_backslash_escape self.now room.new }
-        ensures time { WritesTimeText self.now room.new }
-    {
-        self.borrowed().put_sql(no_backslash_escape, room);
-    }
-}
-
-impl ValueRef<'_> {
-    /// The SQL literal of the value (MySQL Reference Manual, "Literal Values").
-    ///
-    /// Bytes that are UTF-8 become a string, and others hexadecimal. A date or a time becomes a
-    /// string, in which a field out of its usual range stands as it is. `no_backslash_escape` is
-    /// for a server in the SQL mode `NO_BACKSLASH_ESCAPES`, in which a backslash in a string
-    /// escapes nothing. `Float` is returned for `Float` and `Double`, without allocating, and for
-    /// nothing else; any other value may be out of memory.
-    pub fn as_sql(self, alloc: Global, no_backslash_escape: bool) -> Result<String, AsSqlError>
-        ensures gives { IsAnswer string_bytes literal_refusal
-            (ok_or (literal_of no_backslash_escape (owned self.entry)) float)
-            (IsSome (literal_of no_backslash_escape (owned self.entry))) result }
-        // A float allocates nothing.
-        ensures float { IsTrue (is_float (owned self.entry)) → result ≡ Err AsSqlError.Float }
-        ensures reads_back { IfOk result
-            (λ sql. ReadsAs no_backslash_escape (owned self.entry) (string_bytes sql)) }
-        ensures time { IfOk result (λ sql. WritesTimeText (owned self.entry) (string_bytes sql)) }
-    {
         let Some(len) = self.sql_len(no_backslash_escape) else {
             return Err(AsSqlError::Float);
         };
@@ -116,18 +67,20 @@ impl ValueRef<'_> {
     ///
     /// `None` exactly for `Float` and `Double`, which have no literal. It allocates nothing. The
     /// length may be above `isize::MAX`, and then no slice is that long.
-    pub fn sql_len(self, no_backslash_escape: bool) -> Option<u128>
-        ensures exact { result
-            ≡ option_map length (literal_of no_backslash_escape (owned self.entry)) }
-        ensures float { is_none result ≡ is_float (owned self.entry) }
+    pub fn sql_len(&self, no_backslash_escape: bool) -> Option<u128>
+        ensures exact { result ≡ option_map length (literal_of no_backslash_escape self.now) }
+        ensures float { is_none result ≡ is_float self.now }
     {
         match self {
-            ValueRef::NULL => Some(4),
-            ValueRef::Bytes(bytes) => Some(strings::bytes_literal_len(bytes, no_backslash_escape)),
-            ValueRef::Int(number) => Some(numbers::signed_len(number)),
-            ValueRef::UInt(number) => Some(numbers::decimal_len(number) as u128),
-            ValueRef::Float(_) | ValueRef::Double(_) => None,
-            ValueRef::Date(year, month, day, hour, minute, second, microseconds) => {
+            Value::NULL => Some(4),
+            Value::Bytes(bytes) => Some(strings::bytes_literal_len(
+                bytes.as_slice(),
+                no_backslash_escape,
+            )),
+            Value::Int(number) => Some(numbers::signed_len(*number)),
+            Value::UInt(number) => Some(numbers::decimal_len(*number) as u128),
+            Value::Float(_) | Value::Double(_) => None,
+            &Value::Date(year, month, day, hour, minute, second, microseconds) => {
                 Some(dates::date_len(DateFields {
                     year,
                     month,
@@ -138,7 +91,7 @@ impl ValueRef<'_> {
                     microseconds,
                 }))
             }
-            ValueRef::Time(negative, days, hours, minutes, seconds, microseconds) => {
+            &Value::Time(negative, days, hours, minutes, seconds, microseconds) => {
                 Some(dates::time_len(TimeFields {
                     negative,
                     days,
@@ -156,34 +109,34 @@ impl ValueRef<'_> {
     /// It can be called only if the value has a literal, so is no float, and `room` is exactly as
     /// long as `sql_len` says in the same mode. Nothing is allocated, and nothing is refused. What
     /// `as_sql` promises of its text holds of the bytes in `room` too.
-    pub fn put_sql(self, no_backslash_escape: bool, room: &mut [u8])
-        requires { option_map length (literal_of no_backslash_escape (owned self))
+    pub fn put_sql(&self, no_backslash_escape: bool, room: &mut [u8])
+        requires { option_map length (literal_of no_backslash_escape self.now)
             ≡ Some (length room.old) }
-        ensures exact { literal_of no_backslash_escape (owned self.entry) ≡ Some room.new }
-        ensures reads_back { ReadsAs no_backslash_escape (owned self.entry) room.new }
-        ensures time { WritesTimeText (owned self.entry) room.new }
+        ensures exact { literal_of no_backslash_escape self.now ≡ Some room.new }
+        ensures reads_back { ReadsAs no_backslash_escape self.now room.new }
+        ensures time { WritesTimeText self.now room.new }
     {
         self.fields_in_range();
         self.fill_literal(no_backslash_escape, room);
     }
 
     // Fills the slice with the literal.
-    fn fill_literal(self, no_backslash_escape: bool, buffer: &mut [u8])
-        requires { option_map length (literal_of no_backslash_escape (owned self))
+    fn fill_literal(&self, no_backslash_escape: bool, buffer: &mut [u8])
+        requires { option_map length (literal_of no_backslash_escape self.now)
             ≡ Some (length buffer.old) }
-        ensures { literal_of no_backslash_escape (owned self.entry) ≡ Some buffer.new }
+        ensures { literal_of no_backslash_escape self.now ≡ Some buffer.new }
     {
         match self {
-            ValueRef::NULL => buffer.copy_from_slice(b"NULL"),
-            ValueRef::Bytes(bytes) => strings::fill_bytes_literal(
+            Value::NULL => buffer.copy_from_slice(b"NULL"),
+            Value::Bytes(bytes) => strings::fill_bytes_literal(
                 buffer,
-                bytes,
+                bytes.as_slice(),
                 no_backslash_escape,
             ),
-            ValueRef::Int(number) => numbers::fill_signed(buffer, number),
-            ValueRef::UInt(number) => numbers::fill_padded(buffer, number),
-            ValueRef::Float(_) | ValueRef::Double(_) => unreachable!(),
-            ValueRef::Date(year, month, day, hour, minute, second, microseconds) => {
+            Value::Int(number) => numbers::fill_signed(buffer, *number),
+            Value::UInt(number) => numbers::fill_padded(buffer, *number),
+            Value::Float(_) | Value::Double(_) => unreachable!(),
+            &Value::Date(year, month, day, hour, minute, second, microseconds) => {
                 dates::fill_date(
                     buffer,
                     DateFields {
@@ -197,7 +150,7 @@ impl ValueRef<'_> {
                     },
                 )
             }
-            ValueRef::Time(negative, days, hours, minutes, seconds, microseconds) => {
+            &Value::Time(negative, days, hours, minutes, seconds, microseconds) => {
                 dates::fill_time(
                     buffer,
                     TimeFields {
