@@ -11,7 +11,7 @@ ghost use Rattle.mysql_value_core.specs.BorrowedValue.{owned};
 ghost use Rattle.mysql_value_core.specs.BinaryForm.{binary_form};
 ghost use Rattle.mysql_value_core.specs.BinaryReading.{date_value, time_value, read_bytes_value, read_integer, read_binary};
 ghost use Rattle.mysql_value_core.specs.BinaryReadBack.{ReadsBackInBinary};
-ghost use Rattle.mysql_value_core.specs.declared.value.Value as value;
+ghost use Rattle.mysql_value_core.specs.declared.value.Value.TheVariants.{Double, Float, NULL};
 
 use crate::value::ValueRef;
 use crate::value::binary::{append_date, append_time, eat_counted};
@@ -52,7 +52,7 @@ impl MySerialize for ValueRef<'_> {
         ensures appended { OnOk result
             (buf.new.items ≡ buf.old.items ++ binary_form (owned self.now)) }
         ensures unchanged { OnErr result (buf.new.items ≡ buf.old.items) }
-        ensures no_memory { owned self.now ≡ Value.NULL → IsOk result }
+        ensures no_memory { owned self.now ≡ NULL → IsOk result }
         ensures reads_back { ReadsBackInBinary (owned self.now) }
     {
         self.fields_in_range();
@@ -196,7 +196,7 @@ fn eat_integer<'b>(
 // The 4 bytes of a `Float`.
 fn eat_float<'b>(buf: &mut ParseBuf<'b>) -> Result<ValueRef<'b>, WireError>
     ensures read { IsAnswer (λ value. (owned value, left buf.new)) read_refusal
-        (map_read (λ bits. Value.Float bits) (read_number 4 (left buf.old))) ⊥ result }
+        (map_read (λ bits. Float bits) (read_number 4 (left buf.old))) ⊥ result }
 {
     let bits = buf.checked_eat_u32_le().ok_or(WireError::UnexpectedEof)?;
     Ok(ValueRef::Float(bits))
@@ -205,7 +205,7 @@ fn eat_float<'b>(buf: &mut ParseBuf<'b>) -> Result<ValueRef<'b>, WireError>
 // The 8 bytes of a `Double`.
 fn eat_double<'b>(buf: &mut ParseBuf<'b>) -> Result<ValueRef<'b>, WireError>
     ensures read { IsAnswer (λ value. (owned value, left buf.new)) read_refusal
-        (map_read (λ bits. Value.Double bits) (read_number 8 (left buf.old))) ⊥ result }
+        (map_read (λ bits. Double bits) (read_number 8 (left buf.old))) ⊥ result }
 {
     let bits = buf.checked_eat_u64_le().ok_or(WireError::UnexpectedEof)?;
     Ok(ValueRef::Double(bits))
