@@ -13,3 +13,4 @@ pub mod OutcomeLemmas
 pub mod SteadyRoomLemmas
 pub mod StringRoomLemmas
 pub mod RowsLemmas
+pub mod RowNamesLemmas

@@ -15,3 +15,4 @@ pub mod Steadiness
 pub mod BoundRows
 pub mod RowInRoom
 pub mod UnportableReport
+pub mod RowNames

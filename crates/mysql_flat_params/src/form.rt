@@ -29,13 +29,13 @@ const LEAST_PARAMETER: usize = 3;
 // For so many values after the first there is room at once.
 const MANY_VALUES: usize = 63;
 
-// Where a parameter stands in the form.
+/// Where a parameter stands in the form.
 #[derive(Clone, Copy)]
-struct Spot {
-    // Its number, from 0.
-    place: usize,
-    // The index of its first byte.
-    position: usize,
+pub(crate) struct Spot {
+    /// Its number, from 0.
+    pub(crate) place: usize,
+    /// The index of its first byte.
+    pub(crate) position: usize,
 }
 
 /// The parameters that a form says: none for the empty form, and otherwise by position or by name,
@@ -282,8 +282,8 @@ fn name_error<'f, M: FormNames<'f>>(
     None
 }
 
-// The name at the front of a parameter.
-fn eat_name<'a>(spot: Spot, rest: &mut ParseBuf<'a>) -> Result<&'a [u8], FormError>
+/// The name at the front of a parameter.
+pub(crate) fn eat_name<'a>(spot: Spot, rest: &mut ParseBuf<'a>) -> Result<&'a [u8], FormError>
     ensures name { IsAnswer (λ name. (name.now, left rest.new)) form_refusal
         (read_name spot.place spot.position (left rest.old)) ⊥ result }
     ensures within { IfOk result (λ name.
@@ -295,8 +295,8 @@ fn eat_name<'a>(spot: Spot, rest: &mut ParseBuf<'a>) -> Result<&'a [u8], FormErr
     }
 }
 
-// The value of a parameter, after its name.
-fn eat_value<'f>(spot: Spot, rest: &mut ParseBuf<'f>) -> Result<ValueRef<'f>, FormError>
+/// The value of a parameter, after its name.
+pub(crate) fn eat_value<'f>(spot: Spot, rest: &mut ParseBuf<'f>) -> Result<ValueRef<'f>, FormError>
     ensures { IsAnswer (λ value. (owned value, left rest.new)) form_refusal
         (read_value spot.place spot.position (left rest.old)) ⊥ result }
 {

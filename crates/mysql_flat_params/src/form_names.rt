@@ -72,8 +72,8 @@ impl<'f> FormNames<'f> for HashMap<Vec<u8>, Value> {
     }
 }
 
-// A walk over so many names finds one sooner than a sorted map does.
-const FEW_NAMES: usize = 16;
+/// A walk over so many names finds one sooner than a sorted map does.
+pub(crate) const FEW_NAMES: usize = 16;
 
 /// Names with values that stay in the form: a few in pairs, which a walk finds, and more in a
 /// sorted map, which no choice of names makes slow.
@@ -135,8 +135,8 @@ impl<'f> FormNames<'f> for NamesInPlace<'f> {
     }
 }
 
-// The pairs in a sorted map. Of pairs of one name the first counts, so the last are inserted first.
-fn sorted_names<'f>(
+/// The pairs in a sorted map. Of pairs of one name the first counts, so the last are inserted first.
+pub(crate) fn sorted_names<'f>(
     alloc: Global,
     pairs: &[(&'f [u8], ValueRef<'f>)],
 ) -> Result<BTreeMap<&'f [u8], ValueRef<'f>>, AllocError>
@@ -152,8 +152,8 @@ fn sorted_names<'f>(
     Ok(entries)
 }
 
-// Inserts a value under a name.
-fn insert_sorted<'f>(
+/// Inserts a value under a name.
+pub(crate) fn insert_sorted<'f>(
     entries: &mut BTreeMap<&'f [u8], ValueRef<'f>>,
     name: &'f [u8],
     value: ValueRef<'f>,

@@ -21,6 +21,7 @@ mod missing_place;
 mod names_room;
 mod outcome;
 mod place_table;
+mod row_names;
 mod rows;
 mod steady_room;
 mod unportable;

@@ -12,14 +12,18 @@ ghost use Rattle.mysql_flat_params.specs.BoundRows.{AreBoundRows, IsRowsOutcome,
 ghost use Rattle.mysql_flat_params.specs.FlatForm.{IsFormReading};
 ghost use Rattle.mysql_flat_params.specs.FormParams.{given_in_place};
 ghost use Rattle.mysql_flat_params.specs.Outcomes.{IfDone, IfTooLong};
+ghost use Rattle.mysql_flat_params.specs.RowNames.{AreFoundNames, IsFormOfPairs};
 ghost use Rattle.mysql_flat_params.specs.RowInRoom.{IsFormInRoom, IsRowInRoom, IsStringInRoom};
 
 use crate::form::{FormParams, form_params};
 use crate::form_names::NamesInPlace;
 use crate::into_room::{ParamsInPlace, bind_outcome, borrowed_params, form_outcome, named_pairs};
 use crate::outcome::Outcome;
+use crate::row_names::{FoundNames, RowMemory};
 use byteorder::{ByteOrder, LittleEndian};
-use mysql_binding::{MeasuredText, PlainForm, Survey, fill_measured, measured_text, place_survey};
+use mysql_binding::{
+    MeasuredText, PlainForm, Survey, fill_measured, measured_text, measured_values, place_survey,
+};
 use mysql_named_params::places::{FoundPlace, PlaceKind};
 use mysql_values::value::ValueRef;
 use mysql_wire_part::{ParseBuf, WireError};
@@ -142,7 +146,7 @@ fn bind_rows(
     ensures rest { (result.0.written ≤ length room.old)
         × (drop result.0.written room.new ≡ drop result.0.written room.old) }
 {
-    let mut spare = Vec::new(alloc);
+    let mut memory = RowMemory::new(alloc);
     let mut count = 0;
     let mut read = 0;
     let mut written = 0;
@@ -154,7 +158,7 @@ fn bind_rows(
             known,
             &forms[read..],
             no_backslash_escape,
-            &mut spare,
+            &mut memory,
             &mut room[written..],
         );
         let Outcome::Done { len } = outcome else {
@@ -190,20 +194,25 @@ fn bind_row<'f>(
     known: &[FoundPlace],
     forms: &'f [u8],
     no_backslash_escape: bool,
-    spare: &mut Vec<ValueRef<'f>>,
+    memory: &mut RowMemory<'f>,
     room: &mut [u8],
 ) -> (Outcome, usize)
     requires survey { OnTokens no_backslash_escape query.now (IsSurvey survey) }
     requires known { OnTokens no_backslash_escape query.now (BeginWithPlaces known.now) }
+    requires found { IfSome memory.old.found (AreFoundNames no_backslash_escape query.now) }
     requires some { 0 < length forms.now }
-    ensures { IsRowInRoom no_backslash_escape query.now forms.now room.old room.new
+    ensures row { IsRowInRoom no_backslash_escape query.now forms.now room.old room.new
         result.1 result.0 }
+    ensures found { IfSome memory.new.found (AreFoundNames no_backslash_escape query.now) }
 {
     let mut rest = ParseBuf(forms);
     let form = match rest.eat_lenenc_str() {
         Ok(form) => form,
         Err(error) => return (unread_row(error), 0),
     };
+    // After the last row no names are looked for.
+    let tries = if rest.is_empty() { 0 } else { memory.tries };
+    memory.tries = tries;
     let outcome = bind_form(
         alloc,
         query,
@@ -211,15 +220,91 @@ fn bind_row<'f>(
         known,
         form,
         no_backslash_escape,
-        spare,
+        memory,
         room,
     );
     (outcome, forms.len() - rest.len())
 }
 
 // Binds what a form says, and writes the text to the front of the room, as a length-encoded string.
-// The spare list lends its memory, and has it again afterwards.
 fn bind_form<'f>(
+    alloc: Global,
+    query: &[u8],
+    survey: Survey,
+    known: &[FoundPlace],
+    form: &'f [u8],
+    no_backslash_escape: bool,
+    memory: &mut RowMemory<'f>,
+    room: &mut [u8],
+) -> Outcome
+    requires survey { OnTokens no_backslash_escape query.now (IsSurvey survey) }
+    requires known { OnTokens no_backslash_escape query.now (BeginWithPlaces known.now) }
+    requires found { IfSome memory.old.found (AreFoundNames no_backslash_escape query.now) }
+    ensures form { IsFormInRoom no_backslash_escape query.now form.now room.old room.new result }
+    ensures found { IfSome memory.new.found (AreFoundNames no_backslash_escape query.now) }
+{
+    let Some(found) = memory.names_of(alloc, query, survey, known, form, no_backslash_escape) else {
+        return bind_other(
+            alloc,
+            query,
+            survey,
+            known,
+            form,
+            no_backslash_escape,
+            &mut memory.spare,
+            room,
+        );
+    };
+    bind_found(
+        alloc,
+        query,
+        survey,
+        known,
+        found,
+        no_backslash_escape,
+        memory,
+        room,
+    )
+}
+
+// Binds the values of a form whose names are found.
+fn bind_found<'f>(
+    alloc: Global,
+    query: &[u8],
+    survey: Survey,
+    known: &[FoundPlace],
+    found: FoundNames<'f>,
+    no_backslash_escape: bool,
+    memory: &mut RowMemory<'f>,
+    room: &mut [u8],
+) -> Outcome
+    requires survey { OnTokens no_backslash_escape query.now (IsSurvey survey) }
+    requires known { OnTokens no_backslash_escape query.now (BeginWithPlaces known.now) }
+    requires found { AreFoundNames no_backslash_escape query.now found }
+    requires kept { IfSome memory.old.found (AreFoundNames no_backslash_escape query.now) }
+    ensures form { (form : List ℕ) → IsFormOfPairs form found.entry.pairs.items →
+        IsFormInRoom no_backslash_escape query.now form room.old room.new result }
+    ensures found { IfSome memory.new.found (AreFoundNames no_backslash_escape query.now) }
+{
+    let spare = mem::replace(&mut memory.spare, Vec::new(alloc));
+    let Some(values) = found.place_values(spare) else {
+        return Outcome::OutOfMemory;
+    };
+    let literals = PlainForm {
+        no_backslash_escape,
+    };
+    let measured = match measured_values(alloc, survey, values, &literals) {
+        Ok(measured) => measured,
+        Err(error) => return bind_outcome(query, error, no_backslash_escape),
+    };
+    let outcome = fill_string(query, known, &measured, no_backslash_escape, room);
+    memory.spare = measured.values;
+    memory.found = Some(found);
+    outcome
+}
+
+// Binds what any form says. The spare list lends its memory, and has it again afterwards.
+fn bind_other<'f>(
     alloc: Global,
     query: &[u8],
     survey: Survey,

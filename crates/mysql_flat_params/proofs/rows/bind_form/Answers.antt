@@ -1,7 +1,4 @@
-use Rattle.mysql_flat_params.proofs.RowsLemmas.{refused_in_room}
 use Rattle.mysql_flat_params.proofs.rows.bind_form.Goals as goal
 
-pub returns-in-Err : goal.returns-in-Err
-returns-in-Err c =
-    refused_in_room c.args.no_backslash_escape c.args.query.now c.args.form.now c.args.room.now c.form_outcome.result c.form_outcome.ensures.no_answer
-    (c.form_outcome.ensures.outcome c.args.no_backslash_escape c.args.query.now c.args.form.now c.in-Err.ensures.refused)
+pub returns-clause-form : goal.returns-clause-form
+returns-clause-form c = c.bind_found.ensures.form c.args.form.now c.in-Some.ensures.names.1
