@@ -201,7 +201,7 @@ impl<'f> RowMemory<'f> {
             return None;
         }
         self.tries -= 1;
-        let Some(mut found) = FoundNames::of_form(
+        let Some(mut names) = FoundNames::of_form(
             alloc,
             query,
             survey,
@@ -211,8 +211,8 @@ impl<'f> RowMemory<'f> {
         ) else {
             return None;
         };
-        if found.read_values(form) {
-            Some(found)
+        if names.read_values(form) {
+            Some(names)
         } else {
             None
         }
