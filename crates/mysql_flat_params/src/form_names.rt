@@ -135,7 +135,8 @@ impl<'f> FormNames<'f> for NamesInPlace<'f> {
     }
 }
 
-/// The pairs in a sorted map. Of pairs of one name the first counts, so the last are inserted first.
+/// The pairs in a sorted map. Of pairs of one name the first counts, so the last are inserted
+/// first.
 pub(crate) fn sorted_names<'f>(
     alloc: Global,
     pairs: &[(&'f [u8], ValueRef<'f>)],

@@ -244,8 +244,8 @@ fn read_under<'f>(form: &'f [u8], pairs: &mut [(&'f [u8], ValueRef<'f>)]) -> boo
 
 // The value of the next parameter, if it has this name and is read.
 fn value_under<'f>(spot: Spot, name: &[u8], rest: &mut ParseBuf<'f>) -> Option<ValueRef<'f>>
-    ensures { IfSome result (λ value.
-        IsReadUnder spot.place spot.position name.now (owned value) (left rest.old) (left rest.new)) }
+    ensures { IfSome result (λ value. IsReadUnder spot.place spot.position name.now (owned value)
+        (left rest.old) (left rest.new)) }
 {
     let Ok(found) = eat_name(spot, rest) else {
         return None;
@@ -260,8 +260,8 @@ fn value_under<'f>(spot: Spot, name: &[u8], rest: &mut ParseBuf<'f>) -> Option<V
 }
 
 // The names of a form by name in its order, and the same in a sorted map if there are more than a
-// few. Each has its number, from 0, for a value. None if a name has no bytes or stands twice, if the
-// form is not read, or if memory is refused.
+// few. Each has its number, from 0, for a value. None if a name has no bytes or stands twice, if
+// the form is not read, or if memory is refused.
 fn numbered_names<'f>(alloc: Global, form: &'f [u8]) -> Option<(NamePairs<'f>, SortedNames<'f>)>
     ensures { IfSome result (λ found. (0 < length found.0.items)
         × AreOwnNames (names_of_pairs found.0.items)) }
