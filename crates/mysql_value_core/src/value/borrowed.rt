@@ -25,8 +25,8 @@ pub enum ValueRef<'v> {
 
 impl Value {
     /// The same value, borrowed. Nothing is copied except numbers.
-    // Inline, since it stands before each call that takes borrowed values. What is rare is lent by a
-    // call: the many small fields of dates would be taken apart for each value.
+    // Inline, since it stands before each call that takes borrowed values. What is rare is lent by
+    // a call: the many small fields of dates would be taken apart for each value.
     #[inline(always)]
     pub fn borrowed(&self) -> ValueRef<'_>
         ensures same { owned result ≡ self.now }

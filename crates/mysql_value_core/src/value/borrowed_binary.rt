@@ -1,7 +1,7 @@
 //! Borrowed values in binary form, which is that of the values that they say.
 //!
-//! These calls stand beside those of [`Value`](crate::value::Value), whose bodies they have: a value
-//! that is lent or copied first takes longer.
+//! These calls stand beside those of [`Value`](crate::value::Value), whose bodies they have: a
+//! value that is lent or copied first takes longer.
 ghost use Rattle.std.specs.Prelude.{◌≡◌, ◌≤◌, ◌++◌, length, IsOk, OnOk, OnErr};
 ghost use Rattle.mysql_wire_part.specs.Reading.{read_number, map_read};
 ghost use Rattle.mysql_wire_part.specs.Answer.{IsAnswer};

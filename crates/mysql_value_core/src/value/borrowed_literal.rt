@@ -1,7 +1,7 @@
 //! SQL literals of borrowed values, which are those of the values that they say.
 //!
-//! These calls stand beside those of [`Value`](crate::value::Value), whose bodies they have: a value
-//! that is lent first takes longer.
+//! These calls stand beside those of [`Value`](crate::value::Value), whose bodies they have: a
+//! value that is lent first takes longer.
 ghost use Rattle.std.specs.Prelude.{◌≡◌, length, Some, Err, IfOk, IsSome, IsTrue, is_none, ok_or, option_map, string_bytes};
 ghost use Rattle.mysql_wire_part.specs.Answer.{IsAnswer};
 ghost use Rattle.mysql_value_core.specs.declared.value.literal.AsSqlError as AsSqlError;
