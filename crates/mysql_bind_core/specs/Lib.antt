@@ -8,4 +8,6 @@ pub mod QueryEnd
 pub mod Bound
 pub mod Refusals
 pub mod FoundPairs
+pub mod Cells
+pub mod MatchedQuery
 pub mod Statements
