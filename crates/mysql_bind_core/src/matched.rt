@@ -94,6 +94,9 @@ impl<'q> MatchedQuery<'q> {
     /// [`taken_text`](crate::taken_text) gives it for what the cells assign to the names of their
     /// columns. If it refuses, the script stays as it is. The values of cells are written from
     /// where they lie, except those of bytes that are decoded, if each cell has a value.
+    ///
+    /// If there are more cells than columns, those at the end assign nothing. If there are fewer,
+    /// the columns at the end have no value, and a query with such a name is refused.
     pub fn append_row(
         &self,
         alloc: Global,

@@ -2,7 +2,7 @@
 ghost use Rattle.std.specs.Prelude.{◌≡◌, true, IfOk, IsErr, OnErr, option_map};
 ghost use Rattle.std.specs.Str.{is_utf8};
 ghost use Rattle.mysql_values.specs.BorrowedValue.{owned};
-ghost use Rattle.mysql_bind_core.specs.ValueTypes.{line_of, has_newline, takes_memory, typed_value, number_value, hex_value, base64_value, truth_value};
+ghost use Rattle.mysql_bind_core.specs.ValueTypes.{IsSomeBytes, line_of, has_newline, takes_memory, typed_value, hex_value, base64_value, truth_value};
 
 use crate::lent_value::{lent_int, lent_line, lent_number, lent_text, lent_uint};
 use base64::DecodeAllocError;
@@ -64,7 +64,7 @@ pub fn typed_value(
         ValueType::Bytes => copied(alloc, Some(ValueRef::Bytes(bytes))),
         ValueType::Int => copied(alloc, lent_int(bytes)),
         ValueType::Uint => copied(alloc, lent_uint(bytes)),
-        ValueType::Number => number_value(alloc, bytes),
+        ValueType::Number => copied(alloc, lent_number(bytes)),
         ValueType::Bool => Ok(truth_value(bytes)),
         ValueType::Hex => hex_value(alloc, bytes),
         ValueType::Base64 => base64_value(alloc, bytes),
@@ -73,8 +73,12 @@ pub fn typed_value(
 }
 
 // The value, with a copy of its bytes if it has some.
-fn copied(alloc: Global, found: Option<ValueRef<'_>>) -> Result<Option<Value>, AllocError>
-    ensures { IfOk result (λ value. value ≡ option_map owned found.entry) }
+pub(crate) fn copied(
+    alloc: Global,
+    found: Option<ValueRef<'_>>,
+) -> Result<Option<Value>, AllocError>
+    ensures value { IfOk result (λ value. value ≡ option_map owned found.entry) }
+    ensures memory { OnErr result (IsSomeBytes (option_map owned found.entry)) }
 {
     match found {
         Some(value) => Ok(Some(value.to_value(alloc)?)),
@@ -110,13 +114,6 @@ pub(crate) fn has_newline(bytes: &[u8]) -> bool
     ensures { result ≡ has_newline bytes.now }
 {
     bytes.contains(&b'\n')
-}
-
-// The number of a decimal text, if an `i64` or else a `u64` holds it.
-pub(crate) fn number_value(alloc: Global, bytes: &[u8]) -> Result<Option<Value>, AllocError>
-    ensures { IfOk result (λ value. value ≡ number_value bytes.now) }
-{
-    copied(alloc, lent_number(bytes))
 }
 
 // The value of `true` or `false`.

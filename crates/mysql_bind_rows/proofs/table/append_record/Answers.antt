@@ -1,0 +1,20 @@
+use Rattle.std.specs.Prelude.{Ok, Err}
+use Rattle.std.proofs.Common.{◌++◌, ◌∷◌, [], ◌∙◌, ap, append_assoc}
+use Rattle.mysql_bind_core.specs.Refusals.{of_query}
+use Rattle.mysql_bind_rows.proofs.table.append_record.Goals as goal
+
+pub returns-in-Ok-extend_from_slice-clause-appended : goal.returns-in-Ok-extend_from_slice-clause-appended
+returns-in-Ok-extend_from_slice-clause-appended c = λ row are.
+    let bound = c.in-Ok.ensures.bound row.assignments.items are in (
+      bound.0,
+      bound.1,
+      c.in-Ok-extend_from_slice.ensures.items
+          ∙ ap (λ s. s ++ 10 ∷ 59 ∷ 10 ∷ []) bound.2
+          ∙ append_assoc c.args.script.now.items bound.0 (10 ∷ 59 ∷ 10 ∷ []),
+    )
+
+pub returns-in-Err-clause-refused : goal.returns-in-Err-clause-refused
+returns-in-Err-clause-refused c = λ row are. c.in-Err.ensures.refused row.assignments.items are
+
+pub returns-in-Err-extend_from_slice-clause-refused : goal.returns-in-Err-extend_from_slice-clause-refused
+returns-in-Err-extend_from_slice-clause-refused c = λ row are. of_query tt
