@@ -241,6 +241,24 @@ fn add_row(
     script.add(rt, query, row, line)
 }
 
+// Adds a row for each record that isn't read yet.
+fn add_rows(
+    script: &mut TableScript<'_>,
+    rt: &HostRuntime,
+    bound: &Bound<'_>,
+    records: &mut Records<'_>,
+) -> Result<(), Complaint> {
+    let wanted = script.wanted;
+    // Each record has a byte.
+    for _ in 0..records.bytes.len() {
+        if !records.read(rt.alloc(), wanted.path.as_str())? {
+            break;
+        }
+        add_row(script, rt, bound, records)?;
+    }
+    Ok(())
+}
+
 /// Adds the rows of a table to the script. Its first record names the columns.
 pub fn add_records(
     script: &mut TableScript<'_>,
@@ -276,14 +294,7 @@ pub fn add_records(
         fixed: fixed.as_slice(),
         query,
     };
-    // Each record has a byte.
-    for _ in 0..bytes.len() {
-        if !records.read(rt.alloc(), path)? {
-            break;
-        }
-        add_row(script, rt, &bound, &records)?;
-    }
-    Ok(())
+    add_rows(script, rt, &bound, &mut records)
 }
 
 // The query, matched with the columns of these names.

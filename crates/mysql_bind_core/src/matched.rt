@@ -103,6 +103,8 @@ impl<'q> MatchedQuery<'q> {
         cells: &[Cell<'_>],
         script: &mut Vec<u8>,
     ) -> Result<(), Failure>
+        ensures behind { OnOk result ((text : List ℕ)
+            × (script.new.items ≡ script.old.items ++ text)) }
         ensures bound { OnOk result ((assignments : List declared.Assignment) →
             AreAssigned self.now.columns cells.now assignments → (text : List ℕ)
             × IsWritten self.now.request self.now.query assignments text
@@ -126,6 +128,8 @@ impl<'q> MatchedQuery<'q> {
         cells: &[Cell<'_>],
         script: &mut Vec<u8>,
     ) -> Result<(), Failure>
+        ensures behind { OnOk result ((text : List ℕ)
+            × (script.new.items ≡ script.old.items ++ text)) }
         ensures bound { OnOk result ((assignments : List declared.Assignment) →
             AreAssigned self.now.columns cells.now assignments → (text : List ℕ)
             × IsWritten self.now.request self.now.query assignments text
@@ -157,6 +161,8 @@ impl<'q> MatchedQuery<'q> {
         cells: &[Cell<'_>],
         script: &mut Vec<u8>,
     ) -> Result<bool, AllocError>
+        ensures behind { IfOk result (λ done. IsTrue done → (text : List ℕ)
+            × (script.new.items ≡ script.old.items ++ text)) }
         ensures bound { IfOk result (λ done. IsTrue done →
             (assignments : List declared.Assignment) →
             AreAssigned self.now.columns cells.now assignments → (text : List ℕ)

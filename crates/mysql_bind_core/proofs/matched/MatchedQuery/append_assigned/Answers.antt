@@ -30,3 +30,6 @@ returns-clause-refused c =
     subst (λ (v : TableQuery). IfErr c.append_text.result (IsRefusal v.request v.query made))
     c.self.view_is (rw (c.query.ensures, c.as_slice.ensures.value) at c.append_text.ensures.refused) in
     if_err c.append_text.result _ _ (λ e r assignments are. same_refusal q.request q.query made assignments (said ∙ sym are) e r) refused
+
+pub returns-clause-behind : goal.returns-clause-behind
+returns-clause-behind c = on_ok c.append_text.result _ _ (λ b. (b.0, b.2)) c.append_text.ensures.bound
