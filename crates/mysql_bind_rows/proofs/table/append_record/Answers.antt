@@ -1,4 +1,3 @@
-use Rattle.std.specs.Prelude.{Ok, Err}
 use Rattle.std.proofs.Common.{◌++◌, ◌∷◌, [], ◌∙◌, ap, append_assoc}
 use Rattle.mysql_bind_core.specs.Refusals.{of_query}
 use Rattle.mysql_bind_rows.proofs.table.append_record.Goals as goal
