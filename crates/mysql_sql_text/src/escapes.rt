@@ -90,13 +90,29 @@ fn escaped_byte_len(byte: u8, no_backslash_escape: bool) -> usize
     }
 }
 
-// Appends bytes, escaped.
+// Appends bytes, escaped. Each mode has loops of its own, so that the mode isn't asked for at each
+// byte.
 pub(crate) fn append_escaped(
     buffer: &mut [u8],
     start: usize,
     bytes: &[u8],
     no_backslash_escape: bool,
 ) -> usize
+    requires { start + length (escaped no_backslash_escape bytes.now) ≤ length buffer.old }
+    ensures next { result ≡ start + length (escaped no_backslash_escape bytes.now) }
+    ensures front { take result buffer.new
+        ≡ take start buffer.old ++ escaped no_backslash_escape bytes.now }
+{
+    if no_backslash_escape {
+        append_blocks(buffer, start, bytes, true)
+    } else {
+        append_blocks(buffer, start, bytes, false)
+    }
+}
+
+// Appends bytes, escaped, in blocks. Inline, so that the mode is known in the loops.
+#[inline(always)]
+fn append_blocks(buffer: &mut [u8], start: usize, bytes: &[u8], no_backslash_escape: bool) -> usize
     requires { start + length (escaped no_backslash_escape bytes.now) ≤ length buffer.old }
     ensures next { result ≡ start + length (escaped no_backslash_escape bytes.now) }
     ensures front { take result buffer.new
@@ -212,7 +228,8 @@ fn escaped_lanes(block: u8x16, no_backslash_escape: bool) -> u64
     escapes.to_bitmask()
 }
 
-// Appends bytes, escaped, byte by byte.
+// Appends bytes, escaped, byte by byte. Inline, so that the mode is known in the loop.
+#[inline(always)]
 fn append_escaped_bytes(
     buffer: &mut [u8],
     start: usize,
@@ -231,7 +248,8 @@ fn append_escaped_bytes(
     at
 }
 
-// Appends a byte, escaped.
+// Appends a byte, escaped. Inline, as the loop that it is a part of.
+#[inline(always)]
 fn append_escaped_byte(buffer: &mut [u8], at: usize, byte: u8, no_backslash_escape: bool) -> usize
     requires { at + length (escaped_byte no_backslash_escape byte) ≤ length buffer.old }
     ensures next { result ≡ at + length (escaped_byte no_backslash_escape byte) }
@@ -248,6 +266,7 @@ fn append_escaped_byte(buffer: &mut [u8], at: usize, byte: u8, no_backslash_esca
 }
 
 // The two bytes that stand for a byte between quotes, if it doesn't stand for itself.
+#[inline(always)]
 fn escape(byte: u8, no_backslash_escape: bool) -> Option<(u8, u8)>
     ensures { MatchOption result (escaped_byte no_backslash_escape byte ≡ byte ∷ [])
         (λ pair. escaped_byte no_backslash_escape byte ≡ pair.0 ∷ pair.1 ∷ []) }

@@ -1,6 +1,6 @@
 use Rattle.std.proofs.Common.{◌≡◌, ◌++◌, ◌+◌, ◌-◌, ◌≤◌, take, drop, length}
 use Rattle.mysql_sql_text.specs.LiteralText.{escaped}
-use Rattle.mysql_sql_text.proofs.escapes.append_escaped.Given as goal
+use Rattle.mysql_sql_text.proofs.escapes.append_blocks.Given as goal
 
 abbrev pub invariant-loop-from : goal.invariant-loop-from
 invariant-loop-from l = record {
