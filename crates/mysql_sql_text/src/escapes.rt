@@ -14,6 +14,9 @@ use std::simd::prelude::*;
 // The number of bytes in a block.
 const LANES: usize = 16;
 
+// Half as many.
+const HALF: usize = 8;
+
 // A block with more escapes than these goes byte by byte.
 const FEW_ESCAPES: u32 = 4;
 
@@ -153,7 +156,7 @@ fn append_block(
     // After each of few escapes 16 bytes are copied, so as many have to follow the block.
     if escapes.count_ones() > FEW_ESCAPES || bytes.len() - from < 2 * LANES {
         let end = from + LANES;
-        return append_escaped_bytes(buffer, at, &bytes[from..end], no_backslash_escape);
+        return append_halves(buffer, at, &bytes[from..end], no_backslash_escape);
     }
     append_few_escapes(buffer, at, bytes, from, escapes, no_backslash_escape)
 }
@@ -226,6 +229,20 @@ fn escaped_lanes(block: u8x16, no_backslash_escape: bool) -> u64
         | block.simd_eq(u8x16::splat(b'\r'))
         | block.simd_eq(u8x16::splat(CONTROL_Z));
     escapes.to_bitmask()
+}
+
+// Appends 16 bytes, escaped, byte by byte, in two halves. A loop of 8 turns is short enough to be
+// written out by the compiler.
+#[inline(always)]
+fn append_halves(buffer: &mut [u8], start: usize, bytes: &[u8], no_backslash_escape: bool) -> usize
+    requires block { length bytes.now ≡ LANES }
+    requires fits { start + length (escaped no_backslash_escape bytes.now) ≤ length buffer.old }
+    ensures next { result ≡ start + length (escaped no_backslash_escape bytes.now) }
+    ensures front { take result buffer.new
+        ≡ take start buffer.old ++ escaped no_backslash_escape bytes.now }
+{
+    let at = append_escaped_bytes(buffer, start, &bytes[..HALF], no_backslash_escape);
+    append_escaped_bytes(buffer, at, &bytes[HALF..], no_backslash_escape)
 }
 
 // Appends bytes, escaped, byte by byte. Inline, so that the mode is known in the loop.

@@ -23,8 +23,8 @@ returns-then-escapes-eq0-clause-front c =
     block_front c.args.no_backslash_escape c.args.bytes.now c.args.from (take c.args.at c.args.buffer.now) _
     (c.append_lanes.ensures.front ∙ ap (λ t. take c.args.at c.args.buffer.now ++ t) (sym plain))
 
-pub append_escaped_bytes-requires : goal.append_escaped_bytes-requires
-append_escaped_bytes-requires c =
+pub append_halves-requires-clause-fits : goal.append_halves-requires-clause-fits
+append_halves-requires-clause-fits c =
     let len : c.args.from + 16 - c.args.from ≡ 16 = omega arith in
     let same = ap (λ n. length (escaped c.args.no_backslash_escape (take n (drop c.args.from c.args.bytes.now)))) len in
     omega (arith, same, length-escaped-cut c.args.no_backslash_escape c.args.bytes.now c.args.from, c.requires.fits)
@@ -32,13 +32,13 @@ append_escaped_bytes-requires c =
 pub returns-then-escapes-gt-FEW_ESCAPES-clause-next : goal.returns-then-escapes-gt-FEW_ESCAPES-clause-next
 returns-then-escapes-gt-FEW_ESCAPES-clause-next c =
     let len : c.args.from + 16 - c.args.from ≡ 16 = omega arith in
-    block_next c.args.no_backslash_escape c.args.bytes.now c.args.from c.args.at c.append_escaped_bytes.result
-    (c.append_escaped_bytes.ensures.next
+    block_next c.args.no_backslash_escape c.args.bytes.now c.args.from c.args.at c.append_halves.result
+    (c.append_halves.ensures.next
     ∙ ap (λ n. c.args.at + length (escaped c.args.no_backslash_escape (take n (drop c.args.from c.args.bytes.now)))) len)
 
 pub returns-then-escapes-gt-FEW_ESCAPES-clause-front : goal.returns-then-escapes-gt-FEW_ESCAPES-clause-front
 returns-then-escapes-gt-FEW_ESCAPES-clause-front c =
     let len : c.args.from + 16 - c.args.from ≡ 16 = omega arith in
     block_front c.args.no_backslash_escape c.args.bytes.now c.args.from (take c.args.at c.args.buffer.now) _
-    (c.append_escaped_bytes.ensures.front
+    (c.append_halves.ensures.front
     ∙ ap (λ n. take c.args.at c.args.buffer.now ++ escaped c.args.no_backslash_escape (take n (drop c.args.from c.args.bytes.now))) len)
