@@ -19,8 +19,7 @@ use std::alloc::Global;
 
 /// The query with a fragment in the place of each mark, its values as literals: what
 /// [`bind_fragments_in`](crate::bind_fragments_in) gives for positional fragments that say the
-/// same. The fragments are borrowed, and nothing of them is copied: only the text takes memory, in
-/// one vector of its length.
+/// same. The fragments are borrowed: nothing is allocated except one vector of the text's length.
 ///
 /// What refuses those refuses these, in the same order. [`RowsRef::new`](crate::RowsRef::new) has
 /// refused rows of two lengths before.
