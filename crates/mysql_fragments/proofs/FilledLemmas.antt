@@ -1,12 +1,13 @@
 -- The text that is written at once, with literals in place of the values of fragments, is the one that
 -- binding gives for the expanded query and these values.
-use Rattle.std.specs.Prelude.{Bool, codes, option_map, Result, Ok, Err, IfOk, ⊤}
+use Rattle.std.specs.Prelude.{Bool, codes, Option, option_map, Result, Ok, Err, IfOk, IfSome, ⊤}
 use Rattle.std.specs.List.{flat_map}
 use Rattle.std.specs.Global.{Vec}
 use Rattle.std.specs.Str.{byte}
 use Rattle.std.proofs.Common.{◌≡◌, ◌+◌, ◌++◌, ◌<◌, ◌≤◌, ℕ, true, List, [], ◌∷◌, length, map, take, take_all, get_or, Some, None, arith, refl, sym, ap, ◌∙◌, subst, append_assoc, append-nil, length-append}
 use Rattle.std.proofs.lemmas.List.{length-map, map-append, take_more}
 use Rattle.mysql_values.specs.declared.value.Value.{Value}
+use Rattle.mysql_values.specs.Value.{FieldsInRange}
 use Rattle.mysql_values.specs.Literal.{literal_of}
 use Rattle.mysql_named_params.specs.Tokens.{Token, IsTokens, OnTokens, bytes_of, Name, Mark, Plain}
 use Rattle.mysql_named_params.specs.Places.{names, marks, place_count}
@@ -15,7 +16,8 @@ use Rattle.mysql_named_params.proofs.TokenRowLemmas.{place_count-sum}
 use Rattle.mysql_params_core.specs.Given.{positional}
 use Rattle.mysql_params_core.specs.Lookup.{lookup}
 use Rattle.mysql_binding.specs.FirstCause as bound_cause
-use Rattle.mysql_binding.specs.LiteralForm.{Literals, LiteralFacts, AreWrittenAs, IsPlainLiteral, written_literal}
+use Rattle.mysql_binding.specs.LiteralForm.{Literals, LiteralFacts, LackFloats, AreWrittenAs, IsPlainLiteral, written_literal}
+use Rattle.mysql_binding.specs.MeasuredText.{IsOfFields}
 use Rattle.mysql_binding.specs.Pieces.{pieces, joined_text}
 use Rattle.mysql_binding.specs.PushedLiteral.{AreKnownUnlessFloats}
 use Rattle.mysql_binding.specs.Replaced.{AreTokensOf, with_literal_tokens}
@@ -24,7 +26,7 @@ use Rattle.mysql_binding.proofs.BoundText.{bound}
 use Rattle.mysql_binding.proofs.BoundTextLemmas.{is_bound_text}
 use Rattle.mysql_binding.proofs.CauseLemmas.{or_none}
 use Rattle.mysql_binding.proofs.PieceLemmas.{bound_none, joined_text-pieces_from, joined_text_is}
-use Rattle.mysql_binding.proofs.ValueLiteralLemmas.{float_step}
+use Rattle.mysql_binding.proofs.ValueLiteralLemmas.{float_step, has_literal}
 use Rattle.mysql_fragments.specs.Expanded.{IsBoundFragments, IsExpanded}
 use Rattle.mysql_fragments.specs.FilledText.{ArePlaced, IsFilledQuery, filled_item, filled_items, filled_row, filled_text}
 use Rattle.mysql_fragments.specs.FragmentErrors.{first_fault_from}
@@ -219,6 +221,15 @@ known_written literal IsKnown (v ∷ values) place none k =
     let step = float_step _ place (bound_cause.first_float_from (place + 1) values) none in
     let one = k.0 step.0 in
     (one.0, one.1, known_written literal IsKnown values (place + 1) step.1 k.1)
+
+-- before the literal of a value is written
+pub known_of_fields : (literal : Literals) → LackFloats literal → (v : Value) → FieldsInRange v → AreKnownUnlessFloats literal IsOfFields (v ∷ [])
+known_of_fields literal floats v range = ((λ no_float. (has_literal literal floats v no_float, range)), tt)
+
+-- what holds in any case, also holds if there is a length
+pub if_some : {P : Type 0} (r : Option ℕ) → P → IfSome r (λ len. P)
+if_some None p = tt
+if_some (Some len) p = p
 
 known_more : (literal : Literals) (IsKnown : LiteralFacts) (values more : List Value) → AreKnownUnlessFloats literal IsKnown values →
     AreKnownUnlessFloats literal IsKnown more → AreKnownUnlessFloats literal IsKnown (values ++ more)

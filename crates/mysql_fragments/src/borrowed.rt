@@ -1,19 +1,21 @@
 //! What is found of borrowed fragments: floats, faults, and the length of their text.
 ghost use Rattle.std.specs.Prelude.{◌≡◌, ◌+◌, ◌^◌, ◌≤◌, None, IfSome, codes, length, map};
-ghost use Rattle.std.specs.List.{list_any, sum_by};
+ghost use Rattle.std.specs.List.{flat_map, list_any, sum_by};
 ghost use Rattle.mysql_values.specs.BorrowedValue.{owned};
 ghost use Rattle.mysql_values.specs.Literal.{is_float};
 ghost use Rattle.mysql_binding.specs.LiteralForm.{written_literal};
+ghost use Rattle.mysql_binding.specs.MeasuredText.{IsOfFields};
+ghost use Rattle.mysql_binding.specs.PushedLiteral.{AreKnownUnlessFloats};
 ghost use Rattle.mysql_fragments.specs.BorrowedFragments.{cell_item, cell_rows};
-ghost use Rattle.mysql_fragments.specs.BorrowedText.{borrowed_fault, borrowed_text, cell_row_text, cells_fault, cells_text, first_borrowed_fault_from, first_borrowed_float_from, has_borrowed_float, has_float_cell};
+ghost use Rattle.mysql_fragments.specs.BorrowedText.{borrowed_fault, borrowed_text, borrowed_values, cell_row_text, cell_values, cells_fault, cells_text, first_borrowed_fault_from, first_borrowed_float_from, has_borrowed_float, has_float_cell};
 ghost use Rattle.mysql_fragments.specs.FragmentText.{joined};
 
 use crate::fragment_ref::FragmentRef;
 use crate::fragments_error::FragmentFault;
-use crate::measured::{with_fragment, with_more, with_separator};
+use crate::measured::{with_fragment, with_literal, with_more, with_separator};
 use crate::rows_ref::RowsRef;
 use crate::written::has_float;
-use mysql_binding::{LiteralForm, literal_len};
+use mysql_binding::LiteralForm;
 use mysql_values::value::ValueRef;
 
 /// The place of the first borrowed fragment with a float.
@@ -115,6 +117,8 @@ pub(crate) fn borrowed_len<F: LiteralForm>(
         (map (borrowed_text (written_literal (F.literal form.now))) fragments.now)) }
     ensures too_long { result ≡ None → 2 ^ 63 ≤ piece_bytes + sum_by length
         (map (borrowed_text (written_literal (F.literal form.now))) fragments.now) }
+    ensures known { IfSome result (λ len. AreKnownUnlessFloats (F.literal form.now) IsOfFields
+        (flat_map borrowed_values fragments.now)) }
 {
     let mut len = piece_bytes;
     for fragment in fragments {
@@ -129,10 +133,12 @@ fn with_borrowed<F: LiteralForm>(len: usize, fragment: &FragmentRef<'_>, form: &
         ≡ len + length (borrowed_text (written_literal (F.literal form.now)) fragment.now)) }
     ensures too_long { result ≡ None → 2 ^ 63
         ≤ len + length (borrowed_text (written_literal (F.literal form.now)) fragment.now) }
+    ensures known { IfSome result (λ sum. AreKnownUnlessFloats (F.literal form.now) IsOfFields
+        (borrowed_values fragment.now)) }
 {
     match fragment {
         FragmentRef::Owned(fragment) => with_fragment(len, *fragment, form),
-        FragmentRef::Value(value) => with_more(len, literal_len(*value, form)),
+        FragmentRef::Value(value) => with_literal(len, *value, form),
         FragmentRef::List(cells) => with_cells(len, *cells, form),
         FragmentRef::Rows(rows) => with_cell_rows(len, rows, form),
     }
@@ -144,11 +150,13 @@ fn with_cells<F: LiteralForm>(len: usize, cells: &[ValueRef<'_>], form: &F) -> O
         ≡ len + length (cells_text (written_literal (F.literal form.now)) cells.now)) }
     ensures too_long { result ≡ None → 2 ^ 63
         ≤ len + length (cells_text (written_literal (F.literal form.now)) cells.now) }
+    ensures known { IfSome result (λ sum. AreKnownUnlessFloats (F.literal form.now) IsOfFields
+        (cell_values cells.now)) }
 {
     let mut sum = len;
     for (i, cell) in cells.iter().enumerate() {
         sum = with_separator(sum, i, b", ")?;
-        sum = with_more(sum, literal_len(*cell, form))?;
+        sum = with_literal(sum, *cell, form)?;
     }
     Some(sum)
 }
@@ -159,6 +167,8 @@ fn with_cell_rows<F: LiteralForm>(len: usize, rows: &RowsRef<'_>, form: &F) -> O
         (map (cell_row_text (written_literal (F.literal form.now))) (cell_rows rows.now)))) }
     ensures too_long { result ≡ None → 2 ^ 63 ≤ len + length (joined (codes ", ")
         (map (cell_row_text (written_literal (F.literal form.now))) (cell_rows rows.now))) }
+    ensures known { IfSome result (λ sum. AreKnownUnlessFloats (F.literal form.now) IsOfFields
+        (flat_map cell_values (cell_rows rows.now))) }
 {
     let mut sum = len;
     for r in 0..rows.len() {
@@ -174,6 +184,8 @@ fn with_cell_row<F: LiteralForm>(len: usize, row: &[ValueRef<'_>], form: &F) -> 
         ≡ len + length (cell_row_text (written_literal (F.literal form.now)) row.now)) }
     ensures too_long { result ≡ None → 2 ^ 63
         ≤ len + length (cell_row_text (written_literal (F.literal form.now)) row.now) }
+    ensures known { IfSome result (λ sum. AreKnownUnlessFloats (F.literal form.now) IsOfFields
+        (cell_values row.now)) }
 {
     let sum = with_cells(len, row, form)?;
     with_more(sum, 2)

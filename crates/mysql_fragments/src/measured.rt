@@ -1,15 +1,18 @@
 //! The length of a query with fragments in its places and the literals of values in these, before a
 //! byte of it is written. Nothing is allocated. Each length is added to the one so far, and there
 //! is none if the sum is above `isize::MAX`.
-ghost use Rattle.std.specs.Prelude.{◌≡◌, ◌+◌, ◌++◌, ◌^◌, ◌≤◌, None, IfSome, codes, length, map};
-ghost use Rattle.std.specs.List.{sum_by};
-ghost use Rattle.mysql_params_core.specs.Referents.{referents};
+ghost use Rattle.std.specs.Prelude.{◌≡◌, ◌+◌, ◌++◌, ◌^◌, ◌≤◌, [], ◌∷◌, None, IfSome, codes, length, map};
+ghost use Rattle.std.specs.List.{flat_map};
+ghost use Rattle.mysql_values.specs.BorrowedValue.{owned};
 ghost use Rattle.mysql_binding.specs.LiteralForm.{written_literal};
+ghost use Rattle.mysql_binding.specs.MeasuredText.{IsOfFields};
+ghost use Rattle.mysql_binding.specs.PushedLiteral.{AreKnownUnlessFloats};
 ghost use Rattle.mysql_fragments.specs.FilledText.{filled_item, filled_items, filled_row, filled_text, separator_before};
-ghost use Rattle.mysql_fragments.specs.FragmentText.{doubled, identifier_text, joined};
+ghost use Rattle.mysql_fragments.specs.FragmentText.{doubled, fragment_values, identifier_text, item_values, joined};
 
 use crate::fragment::{Fragment, Item};
 use mysql_binding::{LiteralForm, literal_len};
+use mysql_values::value::ValueRef;
 
 /// The length with that of a fragment.
 pub(crate) fn with_fragment<F: LiteralForm>(
@@ -21,9 +24,11 @@ pub(crate) fn with_fragment<F: LiteralForm>(
         ≡ len + length (filled_text (written_literal (F.literal form.now)) fragment.now)) }
     ensures too_long { result ≡ None → 2 ^ 63
         ≤ len + length (filled_text (written_literal (F.literal form.now)) fragment.now) }
+    ensures known { IfSome result (λ sum. AreKnownUnlessFloats (F.literal form.now) IsOfFields
+        (fragment_values fragment.now)) }
 {
     match fragment {
-        Fragment::Value(value) => with_more(len, literal_len(value.borrowed(), form)),
+        Fragment::Value(value) => with_literal(len, value.borrowed(), form),
         Fragment::List(items) => with_items(len, items.as_slice(), form),
         Fragment::Rows(rows) => with_rows(len, rows.as_slice(), form),
         Fragment::Decimal(number) => with_more(len, number.len() as u128),
@@ -39,9 +44,11 @@ fn with_item<F: LiteralForm>(len: usize, item: &Item, form: &F) -> Option<usize>
         ≡ len + length (filled_item (written_literal (F.literal form.now)) item.now)) }
     ensures too_long { result ≡ None → 2 ^ 63
         ≤ len + length (filled_item (written_literal (F.literal form.now)) item.now) }
+    ensures known { IfSome result (λ sum. AreKnownUnlessFloats (F.literal form.now) IsOfFields
+        (item_values item.now)) }
 {
     match item {
-        Item::Value(value) => with_more(len, literal_len(value.borrowed(), form)),
+        Item::Value(value) => with_literal(len, value.borrowed(), form),
         Item::Decimal(number) => with_more(len, number.len() as u128),
     }
 }
@@ -52,6 +59,8 @@ fn with_items<F: LiteralForm>(len: usize, items: &[Item], form: &F) -> Option<us
         ≡ len + length (filled_items (written_literal (F.literal form.now)) items.now)) }
     ensures too_long { result ≡ None → 2 ^ 63
         ≤ len + length (filled_items (written_literal (F.literal form.now)) items.now) }
+    ensures known { IfSome result (λ sum. AreKnownUnlessFloats (F.literal form.now) IsOfFields
+        (flat_map item_values items.now)) }
 {
     let mut sum = len;
     for (i, item) in items.iter().enumerate() {
@@ -67,6 +76,8 @@ fn with_rows<F: LiteralForm>(len: usize, rows: &[Vec<Item>], form: &F) -> Option
         (map (filled_row (written_literal (F.literal form.now))) rows.now))) }
     ensures too_long { result ≡ None → 2 ^ 63 ≤ len + length (joined (codes ", ")
         (map (filled_row (written_literal (F.literal form.now))) rows.now)) }
+    ensures known { IfSome result (λ sum. AreKnownUnlessFloats (F.literal form.now) IsOfFields
+        (flat_map (λ row. flat_map item_values row.items) rows.now)) }
 {
     let mut sum = len;
     for (i, row) in rows.iter().enumerate() {
@@ -82,6 +93,8 @@ fn with_row<F: LiteralForm>(len: usize, row: &Vec<Item>, form: &F) -> Option<usi
         ≡ len + length (filled_row (written_literal (F.literal form.now)) row.now)) }
     ensures too_long { result ≡ None → 2 ^ 63
         ≤ len + length (filled_row (written_literal (F.literal form.now)) row.now) }
+    ensures known { IfSome result (λ sum. AreKnownUnlessFloats (F.literal form.now) IsOfFields
+        (flat_map item_values row.now.items)) }
 {
     let sum = with_items(len, row.as_slice(), form)?;
     with_more(sum, 2)
@@ -122,6 +135,22 @@ fn backquotes(name: &[u8]) -> usize
         }
     }
     count
+}
+
+/// The length with that of the literal of a value; a float has none.
+pub(crate) fn with_literal<F: LiteralForm>(
+    len: usize,
+    value: ValueRef<'_>,
+    form: &F,
+) -> Option<usize>
+    ensures len { IfSome result (λ sum. sum
+        ≡ len + length (written_literal (F.literal form.now) (owned value.entry))) }
+    ensures too_long { result ≡ None → 2 ^ 63
+        ≤ len + length (written_literal (F.literal form.now) (owned value.entry)) }
+    ensures known { IfSome result (λ sum. AreKnownUnlessFloats (F.literal form.now) IsOfFields
+        (owned value.entry ∷ [])) }
+{
+    with_more(len, literal_len(value, form))
 }
 
 /// The length with that of a separator, which stands before each text except the first.

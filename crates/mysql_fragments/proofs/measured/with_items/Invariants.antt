@@ -3,7 +3,13 @@ use Rattle.std.specs.Prelude.{codes}
 use Rattle.mysql_binding.specs.LiteralForm.{written_literal}
 use Rattle.mysql_fragments.specs.FilledText.{filled_item}
 use Rattle.mysql_fragments.specs.FragmentText.{joined}
+use Rattle.std.specs.List.{flat_map}
+use Rattle.mysql_binding.specs.MeasuredText.{IsOfFields}
+use Rattle.mysql_binding.specs.PushedLiteral.{AreKnownUnlessFloats}
+use Rattle.mysql_fragments.specs.FragmentText.{item_values}
 use Rattle.mysql_fragments.proofs.measured.with_items.Given as goal
 
 abbrev pub invariant-loop-i : goal.invariant-loop-i
-invariant-loop-i g l = l.sum ≡ l.len + length (joined (codes ", ") (map (filled_item (written_literal (g.F.LiteralForm.literal l.form))) (take l.i l.items)))
+invariant-loop-i g l =
+    (l.sum ≡ l.len + length (joined (codes ", ") (map (filled_item (written_literal (g.F.LiteralForm.literal l.form))) (take l.i l.items))))
+    × AreKnownUnlessFloats (g.F.LiteralForm.literal l.form) IsOfFields (flat_map item_values (take l.i l.items))
