@@ -1,12 +1,12 @@
 -- The text that is bound to borrowed fragments, and why there is none.
-use Rattle.std.specs.Prelude.{Bool, Ok, Err, Option, Some, None, option_map}
+use Rattle.std.specs.Prelude.{Bool, Ok, Err, Option, Some, None, option_map, alloc_error}
 use Rattle.std.specs.List.{flat_map}
 use Rattle.std.specs.Option.{option_or}
-use Rattle.std.proofs.Common.{◌≡◌, ◌≢◌, ◌<◌, ℕ, true, false, eq-eqb, ne_eqb, List, [], ◌∷◌, length, map, arith, inr, refl, sym, ap, ◌∙◌, subst}
+use Rattle.std.proofs.Common.{◌≡◌, ◌<◌, ℕ, true, List, [], ◌∷◌, length, map, arith, inl, inr, refl, sym, ap, subst}
 use Rattle.mysql_named_params.specs.Tokens.{Token, OnTokens}
 use Rattle.mysql_named_params.specs.Places.{names, HasName, HasMark}
+use Rattle.mysql_named_params.proofs.TokenListLemmas.{one_token_list}
 use Rattle.mysql_params_core.specs.declared.params.errors.ParamsConfusionError.TheVariants.{PositionalParamsForNamedQuery}
-use Rattle.mysql_binding.specs.FirstCause.{mark_count_differs}
 use Rattle.mysql_binding.specs.LiteralForm.{IsPlainLiteral, written_literal}
 use Rattle.mysql_binding.specs.Pieces.{pieces, joined_text}
 use Rattle.mysql_binding.specs.PushedLiteral.{AreKnownUnlessFloats}
@@ -19,13 +19,19 @@ use Rattle.mysql_fragments.specs.BorrowedText.{borrowed_text, borrowed_values}
 use Rattle.mysql_fragments.specs.Expanded.{IsBoundFragments}
 use Rattle.mysql_fragments.specs.FilledText.{ArePlaced}
 use Rattle.mysql_fragments.specs.FragmentErrors.{Cause, IsCauseOrMemory, cause_of, cause_of_places, first_cause, later_cause, mixed_cause, mixed_query, refused_fragments}
+use Rattle.mysql_fragments.specs.FragmentsInRoom.{IsCauseOrTooLong, IsTooLong}
 use Rattle.mysql_fragments.specs.GivenFragments.{confused, fragments_for, positional}
 use Rattle.mysql_fragments.specs.declared.fragment.Fragment.{Fragment}
 use Rattle.mysql_fragments.specs.declared.fragment_ref.FragmentRef.{FragmentRef}
 use Rattle.mysql_fragments.specs.declared.fragments_error.FragmentsError.{FragmentsError}
+use Rattle.mysql_fragments.specs.declared.fragments_error.FragmentsError.TheVariants.{Memory}
 use Rattle.mysql_fragments.proofs.CauseLemmas.{first_by, first_refused, mixed_none, mixed_some}
 use Rattle.mysql_fragments.proofs.FilledLemmas.{bound_on, filled_on}
 use Rattle.mysql_fragments.proofs.SaidLemmas.{said_all_values, said_texts}
+
+no_cause : (y : Option Cause) → None ≡ option_map (λ x. Some x) y → y ≡ None
+no_cause None e = refl
+no_cause (Some why) e = cc
 
 module _ (ts : List Token) (said : List Fragment) where
   pub first_is_mixed : 0 < length (names ts) → HasMark ts → Some (Some mixed_query) ≡ option_map Some (first_cause true ts (positional said))
@@ -52,14 +58,10 @@ module _ (ts : List Token) (said : List Fragment) where
   -- fragments that nothing refuses
   placed_by : None ≡ option_map (λ x. Some x) (first_cause true ts (positional said)) → ArePlaced true ts (positional said) said
   placed_by e =
-      let p = or_none (mixed_cause ts) (cause_of_places true ts (fragments_for (positional said) (names ts))) (no_error _ e) in
+      let p = or_none (mixed_cause ts) (cause_of_places true ts (fragments_for (positional said) (names ts))) (no_cause _ e) in
       let q = by_names (names ts) p.1 in
       record { unmixed = p.0; given_to_places = q.0; no_later = q.1 }
     where
-      no_error : (y : Option Cause) → None ≡ option_map (λ x. Some x) y → y ≡ None
-      no_error None e = refl
-      no_error (Some why) e = cc
-
       by_names : (ns : List (List ℕ)) → cause_of_places true ts (fragments_for (positional said) ns) ≡ None →
           (fragments_for (positional said) ns ≡ Ok said) × (later_cause true ts said ≡ None)
       by_names [] e = (refl, e)
@@ -86,16 +88,19 @@ module _ (mode : Bool) (query : List ℕ) (survey : Survey) (o : OnTokens mode q
       (subst (λ ls. OnTokens mode query (λ ts. joined_text (pieces ts) ls ≡ Some text)) (sym (said_texts (written_literal (literal_of mode)) fragments said s)) joined)
       (subst (AreKnownUnlessFloats (literal_of mode) (IsPlainLiteral mode)) (sym (said_all_values fragments said s)) known))
 
--- ---- the number of marks
+  -- ---- in a room
 
-pub count_differs : (n k v : ℕ) → n ≡ 0 → k ≢ v → mark_count_differs n k v ≡ true
-count_differs n k v none differ = ap (λ m. mark_count_differs m k v) none ∙ zero_differs
-  where
-    zero_differs : mark_count_differs 0 k v ≡ true
-    zero_differs = rw (ne_eqb k v differ) refl
+  pub refused_in_room : (error : FragmentsError) →
+      ((ts : List Token) (said : List Fragment) → AreSaid fragments said → IsSurvey survey ts → Some (cause_of error) ≡ option_map Some (first_cause true ts (positional said))) →
+      OnTokens mode query (λ ts. IsCauseOrTooLong (first_cause true ts (positional said)) (IsTooLong (literal_of mode) ts said) error)
+  refused_in_room error e = (o.0, o.1, inr (some_cause (cause_of error) (first_cause true o.0 (positional said)) (e o.0 said s o.2)))
 
-pub count_same : (n k v : ℕ) → n ≡ 0 → k ≡ v → mark_count_differs n k v ≡ false
-count_same n k v none same = ap (λ m. mark_count_differs m k v) none ∙ zero_same
-  where
-    zero_same : mark_count_differs 0 k v ≡ false
-    zero_same = rw (eq-eqb k v same) refl
+  module _ (none : (ts : List Token) (said : List Fragment) → AreSaid fragments said → IsSurvey survey ts → None ≡ option_map (λ x. Some x) (first_cause true ts (positional said))) where
+    pub placed_on : OnTokens mode query (λ ts. ArePlaced true ts (positional said) said)
+    placed_on = (o.0, o.1, placed_by o.0 said (none o.0 said s o.2))
+
+    pub too_long_in_room : OnTokens mode query (λ ts. IsTooLong (literal_of mode) ts said) →
+        OnTokens mode query (λ ts. IsCauseOrTooLong (first_cause true ts (positional said)) (IsTooLong (literal_of mode) ts said) (Memory alloc_error))
+    too_long_in_room t =
+        let same : t.0 ≡ o.0 = one_token_list mode query t.0 o.0 t.1 o.1 in
+        (o.0, o.1, inl (no_cause _ (none o.0 said s o.2), subst (λ ts. IsTooLong (literal_of mode) ts said) same t.2, refl))

@@ -44,7 +44,7 @@ mixed_some ts h = rw (both ts h) refl
 
 -- ---- the number of marks
 
-same_counts : (k v : ℕ) → mark_count_differs 0 k v ≡ false → k ≡ v
+pub same_counts : (k v : ℕ) → mark_count_differs 0 k v ≡ false → k ≡ v
 same_counts k v e = elim (cases_Bool (k == v)) [ inl h ↦ eqb-true k v h | inr h ↦ absurd (apart h) ]
   where
     apart : (k == v) ≡ false → ⊥

@@ -12,6 +12,7 @@ pub mod FilledLemmas
 pub mod FillLemmas
 pub mod CellLemmas
 pub mod SaidLemmas
+pub mod RoomLemmas
 pub mod BoundBorrowedLemmas
 pub mod ValueFragmentLemmas
 pub mod InPlaceLemmas

@@ -12,3 +12,4 @@ pub mod SentFragments
 pub mod RowShape
 pub mod BorrowedFragments
 pub mod BorrowedText
+pub mod FragmentsInRoom

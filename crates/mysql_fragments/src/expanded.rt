@@ -275,8 +275,8 @@ fn later_error(survey: Survey, fragments: &[&Fragment], as_literals: bool) -> Op
     }
 }
 
-// Whether the marks of a query without names are not as many as the fragments.
-fn mark_count_differs(survey: Survey, fragments: usize) -> bool
+/// Whether the marks of a query without names are not as many as the fragments.
+pub(crate) fn mark_count_differs(survey: Survey, fragments: usize) -> bool
     ensures { result ≡ mark_count_differs survey.names survey.marks fragments }
 {
     survey.names == 0 && survey.marks != fragments

@@ -37,8 +37,7 @@ pub(crate) fn filled_borrowed<F: LiteralForm>(
 ) -> Result<Vec<u8>, AllocError>
     requires survey { OnTokens no_backslash_escape query.now (IsSurvey survey) }
     requires known { OnTokens no_backslash_escape query.now (BeginWithPlaces known.now) }
-    requires places { OnTokens no_backslash_escape query.now (λ ts.
-        length fragments.now ≡ place_count ts) }
+    requires places { survey.names + survey.marks ≡ length fragments.now }
     ensures text { IfOk result (λ text. OnTokens no_backslash_escape query.now (λ ts.
         joined_text (pieces ts) (map (borrowed_text (written_literal (F.literal form.now)))
         fragments.now) ≡ Some text.items)) }
@@ -60,9 +59,9 @@ pub(crate) fn filled_borrowed<F: LiteralForm>(
     Ok(text)
 }
 
-// Fills the text with the pieces of the query and, between them, those of borrowed fragments. It
-// has exactly their length. The first places of the query may be known.
-fn fill_borrowed<F: LiteralForm>(
+/// Fills the text with the pieces of the query and, between them, those of borrowed fragments. It
+/// has exactly their length. The first places of the query may be known.
+pub(crate) fn fill_borrowed<F: LiteralForm>(
     query: &[u8],
     known: &[FoundPlace],
     fragments: &[FragmentRef<'_>],

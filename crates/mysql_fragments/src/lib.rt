@@ -3,7 +3,8 @@
 //! [`bind_fragments_in`] is the call for a mode of the server, and [`bind_fragments`] the same for
 //! the mode in which a backslash escapes. [`expanded_query_in`] gives the query with marks and the
 //! values, as a prepared statement wants them. `specs/Expanded.antt` says what they promise.
-//! [`bind_borrowed_fragments`] copies nothing of what it binds.
+//! [`bind_borrowed_fragments`] copies nothing of what it binds, and
+//! [`bind_borrowed_fragments_into`] allocates nothing.
 #![tactic(auto)]
 
 mod appended;
@@ -19,11 +20,12 @@ mod fragments_error;
 pub mod laws;
 mod measured;
 mod names;
+mod placed_refs;
 mod places;
 mod rows_ref;
 mod written;
 
-pub use bound_refs::bind_borrowed_fragments;
+pub use bound_refs::{bind_borrowed_fragments, bind_borrowed_fragments_into};
 pub use expanded::{
     ExpandedQuery, bind_fragments, bind_fragments_in, expanded_for_literals, expanded_query,
     expanded_query_in, placed_fragments,
@@ -32,6 +34,8 @@ pub use filled::filled_query;
 pub use fragment::{Fragment, Fragments, Item, Keyword};
 pub use fragment_ref::FragmentRef;
 pub use fragments_error::{FragmentFault, FragmentsError};
+pub use mysql_binding::TextInRoom;
+pub use placed_refs::{bind_placed_into, placed_error};
 pub use places::fragments_of_places;
 pub use rows_ref::RowsRef;
 pub use written::push_fragment;

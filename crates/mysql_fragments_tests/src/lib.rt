@@ -8,6 +8,10 @@ mod borrowed;
 #[cfg(test)]
 mod bound;
 #[cfg(test)]
+mod placed;
+#[cfg(test)]
 mod refused;
+#[cfg(test)]
+mod room;
 #[cfg(test)]
 mod shared;
