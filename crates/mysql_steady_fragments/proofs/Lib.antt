@@ -1,2 +1,4 @@
 pub mod SteadyPartLemmas
 pub mod SteadyFragmentLemmas
+pub mod SaidSteadyLemmas
+pub mod SteadyRoomLemmas

@@ -12,3 +12,4 @@ mod unsteady;
 
 pub use steady_fragments::{bind_fragments_anywhere, bind_fragments_in_any_mode};
 pub use steady_fragments_error::SteadyFragmentsError;
+pub use unsteady::first_unsteady_fragment;

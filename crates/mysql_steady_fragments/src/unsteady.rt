@@ -1,12 +1,14 @@
 //! The first fragment whose text isn't steady.
-ghost use Rattle.std.specs.Prelude.{◌≡◌};
+ghost use Rattle.std.specs.Prelude.{◌≡◌, List};
 ghost use Rattle.std.specs.List.{list_all};
 ghost use Rattle.mysql_named_params.specs.Steady.{is_steady};
 ghost use Rattle.mysql_params_core.specs.Referents.{referents};
+ghost use Rattle.mysql_fragments.specs.BorrowedFragments.{AreSaid, Says};
 ghost use Rattle.mysql_fragments.specs.FragmentText.{fragment_text, item_text};
+ghost use Rattle.mysql_fragments.specs.declared.fragment.Fragment as said_fragment;
 ghost use Rattle.mysql_steady_fragments.specs.SteadyFragments.{first_unsteady_from};
 
-use mysql_fragments::{Fragment, Item};
+use mysql_fragments::{Fragment, FragmentRef, Item};
 use mysql_named_params::steady::first_unsteady;
 
 /// The place of the first fragment whose text isn't steady.
@@ -19,6 +21,32 @@ pub(crate) fn first_unsteady_place(fragments: &[&Fragment]) -> Option<usize>
         }
     }
     None
+}
+
+/// The place of the first borrowed fragment whose text isn't steady. It is lent to the crate above.
+pub fn first_unsteady_fragment(fragments: &[FragmentRef<'_>]) -> Option<usize>
+    ensures { (said : List said_fragment.Fragment) → AreSaid fragments.now said →
+        result ≡ first_unsteady_from 0 said }
+{
+    for (place, fragment) in fragments.iter().enumerate() {
+        if !is_steady_borrowed(fragment) {
+            return Some(place);
+        }
+    }
+    None
+}
+
+// Whether the text of the fragment is steady. That of values always is.
+fn is_steady_borrowed(fragment: &FragmentRef<'_>) -> bool
+    ensures { (said : said_fragment.Fragment) → Says fragment.now said →
+        result ≡ list_all is_steady (fragment_text said) }
+{
+    match fragment {
+        FragmentRef::Owned(fragment) => is_steady_fragment(*fragment),
+        FragmentRef::Value(_) => true,
+        FragmentRef::List(_) => true,
+        FragmentRef::Rows(_) => true,
+    }
 }
 
 // Whether the text of the fragment is steady. The text isn't made: marks, and all that stands

@@ -2,6 +2,8 @@
 #![tactic(auto)]
 
 #[cfg(test)]
+mod borrowed;
+#[cfg(test)]
 mod bound;
 #[cfg(test)]
 mod refused;
