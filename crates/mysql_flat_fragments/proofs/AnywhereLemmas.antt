@@ -1,6 +1,7 @@
 -- What an outcome of binding for any mode and any server says, by what the calls below returned.
 use Rattle.std.specs.Prelude.{Bool, false, true, Some, None, Ok}
-use Rattle.std.proofs.Common.{◌≡◌, ℕ, List, ap, length, sym, ◌∙◌, refl, subst, take}
+use Rattle.std.proofs.Common.{◌≡◌, ℕ, List, arith, length, refl, take}
+use Rattle.std.proofs.lemmas.List.{length-take-le}
 use Rattle.mysql_named_params.specs.Tokens.{Token, OnTokens}
 use Rattle.mysql_named_params.specs.FirstUnportable.{first_unportable}
 use Rattle.mysql_named_params.specs.Steady.{first_unsteady, IsSteady}
@@ -11,14 +12,17 @@ use Rattle.mysql_fragments.specs.GivenFragments.{GivenFragments}
 use Rattle.mysql_fragments.specs.declared.fragments_error.FragmentsError.{FragmentsError}
 use Rattle.mysql_steady_fragments.specs.declared.steady_fragments_error.SteadyFragmentsError.TheVariants as error
 use Rattle.mysql_flat_params.specs.AnywhereIntoRoom.{anywhere_refusal}
-use Rattle.mysql_flat_params.specs.IntoRoom.{IsInRoom}
+use Rattle.mysql_binding.specs.TextInRoom.{HasTextOf, IsTextInRoom}
+use Rattle.mysql_binding.specs.declared.binding.room.TextInRoom.{TextInRoom}
+use Rattle.mysql_binding.specs.declared.binding.room.TextInRoom.TheVariants.{Written, TooShort}
 use Rattle.mysql_flat_params.specs.Outcomes as values
+use Rattle.mysql_flat_params.specs.Outcomes.{text_outcome}
 use Rattle.mysql_flat_params.specs.SteadyIntoRoom.{unportable_outcome}
 use Rattle.mysql_flat_params.specs.declared.outcome.Outcome.{Outcome}
 use Rattle.mysql_flat_params.specs.declared.outcome.Outcome.TheVariants.{Done, OutOfMemory, Room, FormEnd, FormLengthLead, FormType, FormMixed, FormRepeated, Mixed, Missing, NamedForPositional, PositionalForNamed, MarkCount, NotAlone, Float, Unsteady, Backslash}
 use Rattle.mysql_flat_params.specs.declared.outcome.Outcome.TheVariants as variant
 use Rattle.mysql_flat_fragments.specs.FlatFragments.{IsFormReading}
-use Rattle.mysql_flat_fragments.specs.FragmentsAnywhereIntoRoom.{IsAnywhereAsValues, IsAnywhereForm, IsAnywhereOutcome, IsRefusedBy, IsTakenQuery}
+use Rattle.mysql_flat_fragments.specs.FragmentsAnywhereIntoRoom.{IsAnywhereAsValues, IsAnywhereForm, IsAnywhereOutcome, IsAnywhereText, IsRefusedBy, IsTakenQuery}
 use Rattle.mysql_flat_fragments.specs.FragmentsIntoRoom.{IsFragmentsOutcome, IsOutcomeAsValues, IsRefusedFor}
 use Rattle.mysql_flat_fragments.specs.FragmentsOutcomes.{HasNoAnswer}
 use Rattle.mysql_flat_fragments.specs.declared.outcome.FragmentsOutcome.{FragmentsOutcome}
@@ -59,20 +63,6 @@ module _ (query : List ℕ) (given : GivenFragments) where
     λ mode. (let o = refused mode in (given, reads, (o.0, o.1, o.2.2))),
   )
 
--- ---- a text in the room
-
-module _ (query form text answer old new : List ℕ) (same : answer ≡ text) (is : IsAnywhereForm query form text) where
-  pub in_room_told : (outcome : Outcome) → IsInRoom answer old new outcome → IsAnywhereAsValues query form outcome
-  in_room_told (Done len) h = (text, is, ap length (sym same) ∙ h.0)
-  in_room_told (Room len) h = (text, is, ap length (sym same) ∙ h.0)
-  in_room_told outcome h = absurd h
-
-  pub in_room_written : (outcome : Outcome) → IsInRoom answer old new outcome →
-      values.IfDone outcome (λ len. IsAnywhereForm query form (take len new))
-  in_room_written (Done len) h = subst (IsAnywhereForm query form) (sym (h.2 ∙ same)) is
-  in_room_written (Room len) h = tt
-  in_room_written outcome h = absurd h
-
 -- ---- any other outcome
 
 module _ (query form : List ℕ) (steady : IsSteady query) (none : IsTakenQuery query) where
@@ -112,3 +102,16 @@ module _ (query form : List ℕ) (steady : IsSteady query) (none : IsTakenQuery 
   outcome_told (AsValues outcome) no_answer is = as_values_told outcome no_answer is
   outcome_told (Fault place fault) no_answer is = (none, either _ is)
   outcome_told (UnsteadyFragment place) no_answer is = absurd is
+
+-- ---- a text in the room, as an outcome
+
+pub told_in_room : (query form : List ℕ) (given : GivenFragments) → IsFormReading form (Ok given) → (old new : List ℕ) → length new ≡ length old → (text : TextInRoom) →
+    IsTextInRoom (IsAnywhereText query given) (HasTextOf (IsAnywhereText query given)) old new text → IsAnywhereAsValues query form (text_outcome text)
+told_in_room query form given reads old new same (Written len) h = (take len new, (given, reads, h.1), length-take-le len new (omega (arith, h.0, same)))
+told_in_room query form given reads old new same (TooShort len) h = (h.1.0, (given, reads, h.1.1), h.1.2)
+
+pub written_in_room : (query form : List ℕ) (given : GivenFragments) → IsFormReading form (Ok given) → (old new : List ℕ) (text : TextInRoom) →
+    IsTextInRoom (IsAnywhereText query given) (HasTextOf (IsAnywhereText query given)) old new text →
+    values.IfDone (text_outcome text) (λ len. IsAnywhereForm query form (take len new))
+written_in_room query form given reads old new (Written len) h = (given, reads, h.1)
+written_in_room query form given reads old new (TooShort len) h = tt

@@ -5,3 +5,6 @@ pub mod FragmentMapLemmas
 pub mod KeywordLemmas
 pub mod RoomLemmas
 pub mod AnywhereLemmas
+pub mod InPlaceLemmas
+pub mod FormInPlaceLemmas
+pub mod PlacedLemmas

@@ -3,7 +3,8 @@ use Rattle.std.specs.Prelude.{Option, Some, None, Result, Ok, Err, option_map, t
 use Rattle.std.specs.Option.{option_or}
 use Rattle.std.specs.List.{Contains}
 use Rattle.std.specs.FinMap.{get}
-use Rattle.std.proofs.Common.{arith, ◌≡◌, inl, inr, ℕ, suc, Bool, false, List, [], ◌∷◌, length, sym, ap, ◌∙◌}
+use Rattle.std.proofs.Common.{arith, ◌≡◌, inl, inr, ℕ, suc, Bool, false, List, [], ◌∷◌, length, subst, sym, take, ap, ◌∙◌}
+use Rattle.std.proofs.lemmas.List.{length-take-le}
 use Rattle.mysql_named_params.specs.Tokens.{OnTokens, Token}
 use Rattle.mysql_named_params.specs.Places.{names, marks, has_both}
 use Rattle.mysql_binding.specs.FirstCause.{mark_count_differs}
@@ -15,11 +16,17 @@ use Rattle.mysql_fragments.specs.declared.fragments_error.FragmentFault.{Fragmen
 use Rattle.mysql_fragments.specs.declared.fragments_error.FragmentsError.{FragmentsError}
 use Rattle.mysql_fragments.specs.declared.fragments_error.FragmentsError.TheVariants as error
 use Rattle.mysql_params_core.specs.declared.params.errors.MissingNamedParameterError.{MissingNamedParameterError}
+use Rattle.mysql_binding.specs.TextInRoom.{HasTextOf, IsTextInRoom}
+use Rattle.mysql_binding.specs.declared.binding.room.TextInRoom.{TextInRoom}
+use Rattle.mysql_binding.specs.declared.binding.room.TextInRoom.TheVariants.{Written, TooShort}
+use Rattle.mysql_fragments.specs.Expanded.{IsBoundFragments}
 use Rattle.mysql_flat_params.specs.IntoRoom.{IsMissingName}
+use Rattle.mysql_flat_params.specs.Outcomes as values
+use Rattle.mysql_flat_params.specs.Outcomes.{text_outcome}
 use Rattle.mysql_flat_params.specs.declared.outcome.Outcome.{Outcome}
 use Rattle.mysql_flat_params.specs.declared.outcome.Outcome.TheVariants as outcome
 use Rattle.mysql_flat_fragments.specs.FlatFragments.{IsFormReading}
-use Rattle.mysql_flat_fragments.specs.FragmentsIntoRoom.{IsOutcomeAsValues, IsRefusedFor}
+use Rattle.mysql_flat_fragments.specs.FragmentsIntoRoom.{IsBoundForm, IsOutcomeAsValues, IsRefusedFor}
 
 -- ---- a missing name is one of the query's
 
@@ -124,3 +131,23 @@ pub missing_told : (mode : Bool) (query form name : List ℕ) (told : Outcome) �
     IsMissingName mode query name told → IsOutcomeAsValues mode query form told
 missing_told mode query form name (outcome.Missing place position len) refused is = (name, refused, is)
 missing_told mode query form name told refused is = absurd is
+
+-- ---- a text in the room
+
+module _ (mode : Bool) (query form : List ℕ) (given : GivenFragments) (reads : IsFormReading form (Ok given)) (old new : List ℕ) (text : TextInRoom)
+    (h : OnTokens mode query (λ ts. IsTextInRoom (IsBoundFragments mode ts given) (HasTextOf (IsBoundFragments mode ts given)) old new text)) where
+  pub bound_told : length new ≡ length old → (outcome : Outcome) → outcome ≡ text_outcome text → IsOutcomeAsValues mode query form outcome
+  bound_told same outcome is = subst (IsOutcomeAsValues mode query form) (sym is) (told text h)
+    where
+      told : (text : TextInRoom) → OnTokens mode query (λ ts. IsTextInRoom (IsBoundFragments mode ts given) (HasTextOf (IsBoundFragments mode ts given)) old new text) →
+          IsOutcomeAsValues mode query form (text_outcome text)
+      told (Written len) (ts, is, (fits, bound, rest)) = (take len new, (given, reads, (ts, is, bound)), length-take-le len new (omega (arith, fits, same)))
+      told (TooShort len) (ts, is, (short, (bound, is_bound, long), rest)) = (bound, (given, reads, (ts, is, is_bound)), long)
+
+  pub bound_written : (outcome : Outcome) → outcome ≡ text_outcome text → values.IfDone outcome (λ len. IsBoundForm mode query form (take len new))
+  bound_written outcome is = subst (λ o. values.IfDone o (λ len. IsBoundForm mode query form (take len new))) (sym is) (written text h)
+    where
+      written : (text : TextInRoom) → OnTokens mode query (λ ts. IsTextInRoom (IsBoundFragments mode ts given) (HasTextOf (IsBoundFragments mode ts given)) old new text) →
+          values.IfDone (text_outcome text) (λ len. IsBoundForm mode query form (take len new))
+      written (Written len) (ts, is, (fits, bound, rest)) = (given, reads, (ts, is, bound))
+      written (TooShort len) o = tt

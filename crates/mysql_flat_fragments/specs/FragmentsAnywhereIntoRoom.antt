@@ -6,7 +6,7 @@ use Rattle.mysql_named_params.specs.Places.{names}
 use Rattle.mysql_named_params.specs.FirstUnportable.{first_unportable}
 use Rattle.mysql_fragments.specs.FragmentErrors.{first_cause}
 use Rattle.mysql_fragments.specs.GivenFragments.{GivenFragments, fragments_for}
-use Rattle.mysql_steady_fragments.specs.SteadyFragments.{IsAnywhereFragments, unsteady_place}
+use Rattle.mysql_steady_fragments.specs.SteadyFragments.{IsAnywhereFragments, IsSteadyFragments, unsteady_place}
 use Rattle.mysql_steady_fragments.specs.SteadyFragmentsErrors.{IsSteadyRefusal}
 use Rattle.mysql_steady_fragments.specs.declared.steady_fragments_error.SteadyFragmentsError.{SteadyFragmentsError}
 use Rattle.mysql_flat_params.specs.AnywhereIntoRoom.{anywhere_refusal}
@@ -18,10 +18,20 @@ use Rattle.mysql_flat_fragments.specs.FragmentsIntoRoom.{IsFragmentsOutcome, IsO
 use Rattle.mysql_flat_fragments.specs.declared.outcome.FragmentsOutcome.{FragmentsOutcome}
 use Rattle.mysql_flat_fragments.specs.declared.outcome.FragmentsOutcome.TheVariants.{AsValues, Fault, UnsteadyFragment}
 
--- the form says fragments, and this is the query bound to them, for any mode and any server
+-- this is the query bound to the fragments that are given to it, for any mode
+abbrev pub IsSteadyBound : (query : List ℕ) → GivenFragments → (text : List ℕ) → Type 0
+IsSteadyBound query given text =
+    (mode : Bool) → OnTokens mode query (λ ts. IsSteadyFragments ts given text)
+
+-- this is the query bound to the fragments that are given to it, for any mode and any server
+abbrev pub IsAnywhereText : (query : List ℕ) → GivenFragments → (text : List ℕ) → Type 0
+IsAnywhereText query given text =
+    (mode : Bool) → OnTokens mode query (λ ts. IsAnywhereFragments query ts given text)
+
+-- the form says fragments, and this is the query bound so to them
 abbrev pub IsAnywhereForm : (query form text : List ℕ) → Type 0
 IsAnywhereForm query form text = (given : GivenFragments) × IsFormReading form (Ok given)
-    × ((mode : Bool) → OnTokens mode query (λ ts. IsAnywhereFragments query ts given text))
+    × IsAnywhereText query given text
 
 -- the query bound so to what the form says has this length
 abbrev pub HasAnywhereLength : (query form : List ℕ) → ℕ → Type 0

@@ -1,6 +1,7 @@
 pub mod FragmentContent
 pub mod Keywords
 pub mod FlatFragments
+pub mod FormInPlace
 pub mod FragmentsFormErrors
 pub mod FragmentsOutcomes
 pub mod FragmentsIntoRoom

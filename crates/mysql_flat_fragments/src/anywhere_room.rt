@@ -1,20 +1,32 @@
 //! The text for any server that is bound to fragments, in a room that the caller lends.
-ghost use Rattle.std.specs.Prelude.{◌≡◌, ◌≤◌, ◌<◌, List, ℕ, Ok, length, take, drop};
+ghost use Rattle.std.specs.Prelude.{◌≡◌, ◌≤◌, ◌<◌, Bool, List, ℕ, Ok, IfErr, IfOk, OnErr, length, take, drop};
+ghost use Rattle.mysql_named_params.specs.Tokens.{OnTokens};
+ghost use Rattle.mysql_named_params.specs.Steady.{IsSteady};
+ghost use Rattle.mysql_binding.specs.TextInRoom.{HasTextOf, IsTextInRoom};
 ghost use Rattle.mysql_fragments.specs.GivenFragments.{GivenFragments};
+ghost use Rattle.mysql_steady_fragments.specs.SteadyFragmentsErrors.{IsFragmentsRefusal};
 ghost use Rattle.mysql_flat_fragments.specs.FlatFragments.{IsFormReading};
-ghost use Rattle.mysql_flat_fragments.specs.FragmentsAnywhereIntoRoom.{IsAnywhereForm, IsAnywhereOutcome, IsRefusedBy};
+ghost use Rattle.mysql_flat_fragments.specs.FormInPlace.{IsGivenAs};
+ghost use Rattle.mysql_flat_fragments.specs.FragmentsAnywhereIntoRoom.{IsAnywhereForm, IsAnywhereOutcome, IsAnywhereText, IsRefusedBy, IsSteadyBound};
 ghost use Rattle.mysql_flat_fragments.specs.FragmentsOutcomes.{HasNoAnswer, IfDone, IfTooLong, UnlessDone};
 
-use crate::form::form_fragments;
-use crate::into_room::{fill_front, form_outcome, fragments_outcome};
+use crate::form_in_place::{FormInPlace, form_in_place};
+use crate::into_room::{form_outcome, fragments_outcome, text_outcome};
 use crate::outcome::FragmentsOutcome;
+use crate::placed::placed_fragments;
+use mysql_binding::{KEPT_PLACES, NO_PLACE, TextInRoom, place_survey};
 use mysql_flat_params::{Outcome, construct_number};
-use mysql_steady_fragments::{SteadyFragmentsError, bind_fragments_anywhere};
-use std::alloc::Global;
+use mysql_fragments::{FragmentsError, bind_placed_into, placed_error};
+use mysql_named_params::portable::first_unportable;
+use mysql_named_params::steady::first_unsteady;
+use mysql_steady_fragments::{SteadyFragmentsError, first_unsteady_fragment};
+use mysql_steady_text::SteadyForm;
+use std::alloc::{AllocError, Global};
 
-/// Binds into a query what a form says, as [`bind_fragments_anywhere`] binds the form's fragments,
-/// and writes the text to the front of the room: SQL text that no `sql_mode` and no character set
-/// of a connection reads otherwise, on any server.
+/// Binds into a query what a form says, as
+/// [`bind_fragments_anywhere`](mysql_steady_fragments::bind_fragments_anywhere) binds the form's
+/// fragments, and writes the text to the front of the room: SQL text that no `sql_mode` and no
+/// character set of a connection reads otherwise, on any server.
 ///
 /// Form, room, `Done` and `Room` are as for [`bind_fragments_into`](crate::bind_fragments_into). A
 /// form is refused before the query; then come `Unsteady` and `Unportable`, then the causes of
@@ -36,13 +48,73 @@ pub fn bind_fragments_anywhere_into(
     ensures too_long { IfTooLong result (λ len. length room.old < len) }
     ensures unchanged { UnlessDone result (room.new ≡ room.old) }
 {
-    let fragments = match form_fragments(alloc, form) {
-        Ok(fragments) => fragments,
+    let kept = match form_in_place(alloc, form) {
+        Ok(kept) => kept,
         Err(error) => return FragmentsOutcome::AsValues(form_outcome(error)),
     };
-    match bind_fragments_anywhere(alloc, query, &fragments) {
-        Ok(text) => FragmentsOutcome::AsValues(fill_front(room, text.as_slice())),
+    match bind_kept_anywhere(alloc, query, &kept, room) {
+        Ok(text) => FragmentsOutcome::AsValues(text_outcome(text)),
         Err(error) => anywhere_outcome(query, error),
+    }
+}
+
+// The query with what is kept of a form in its places, for any server, at the front of the room.
+fn bind_kept_anywhere(
+    alloc: Global,
+    query: &[u8],
+    kept: &FormInPlace<'_>,
+    room: &mut [u8],
+) -> Result<TextInRoom, SteadyFragmentsError>
+    requires { (given : GivenFragments) × IsGivenAs kept.now given }
+    ensures bound { (given : GivenFragments) → IsGivenAs kept.now given → IfOk result
+        (IsTextInRoom (IsAnywhereText query.now given) (HasTextOf (IsAnywhereText query.now given))
+        room.old room.new) }
+    ensures refused { (given : GivenFragments) → IsGivenAs kept.now given →
+        IfErr result (IsRefusedBy query.now given) }
+    ensures unchanged { OnErr result (room.new ≡ room.old) }
+{
+    if let Some(at) = first_unsteady(query) {
+        return Err(SteadyFragmentsError::Unsteady { at });
+    }
+    if let Some(found) = first_unportable(query, false) {
+        return Err(SteadyFragmentsError::Unportable(found));
+    }
+    bind_kept_steady(alloc, query, kept, room)
+}
+
+// The same for a steady query, which has the same tokens in both modes.
+fn bind_kept_steady(
+    alloc: Global,
+    query: &[u8],
+    kept: &FormInPlace<'_>,
+    room: &mut [u8],
+) -> Result<TextInRoom, SteadyFragmentsError>
+    requires steady { IsSteady query.now }
+    requires given { (given : GivenFragments) × IsGivenAs kept.now given }
+    ensures bound { (given : GivenFragments) → IsGivenAs kept.now given → IfOk result
+        (IsTextInRoom (IsSteadyBound query.now given) (HasTextOf (IsSteadyBound query.now given))
+        room.old room.new) }
+    ensures refused { (given : GivenFragments) → IsGivenAs kept.now given → (mode : Bool) →
+        OnTokens mode query.now (λ ts. IfErr result (IsFragmentsRefusal ts given)) }
+    ensures unchanged { OnErr result (room.new ≡ room.old) }
+{
+    let mut first = [NO_PLACE; KEPT_PLACES];
+    let (survey, found) = place_survey(query, &mut first, false);
+    let known = &first[..found];
+    let placed = match placed_fragments(alloc, query, (survey, known), kept, false) {
+        Ok(placed) => placed,
+        Err(error) => return Err(SteadyFragmentsError::Fragments(error)),
+    };
+    let placed = placed.as_slice();
+    if let Some(error) = placed_error(survey, placed) {
+        return Err(SteadyFragmentsError::Fragments(error));
+    }
+    if let Some(place) = first_unsteady_fragment(placed) {
+        return Err(SteadyFragmentsError::UnsteadyFragment { place });
+    }
+    match bind_placed_into(query, survey, known, placed, false, &SteadyForm, room) {
+        Some(text) => Ok(text),
+        None => Err(SteadyFragmentsError::Fragments(FragmentsError::Memory(AllocError))),
     }
 }
 

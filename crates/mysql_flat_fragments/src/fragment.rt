@@ -15,15 +15,15 @@ use mysql_wire_part::ParseBuf;
 use std::alloc::Global;
 
 // The numbers of the other types of this library's own.
-const LIST: u8 = 129;
+pub(crate) const LIST: u8 = 129;
 
-const ROWS: u8 = 130;
+pub(crate) const ROWS: u8 = 130;
 
 const IDENTIFIER: u8 = 131;
 
 const QUALIFIED: u8 = 132;
 
-const KEYWORD: u8 = 133;
+pub(crate) const KEYWORD: u8 = 133;
 
 /// The fragment at the front, with its type and its flags.
 pub(crate) fn eat_fragment(

@@ -1,34 +1,44 @@
 //! The text that is bound to fragments, in a room that the caller lends.
-ghost use Rattle.std.specs.Prelude.{◌≡◌, ◌≤◌, ◌<◌, Bool, List, ℕ, [], Ok, length, take, drop, true};
+ghost use Rattle.std.specs.Prelude.{◌≡◌, ◌≤◌, ◌<◌, Bool, List, ℕ, [], Ok, IfErr, IfOk, IsErrOf, OnErr, length, take, drop, true};
 ghost use Rattle.std.specs.List.{Contains};
 ghost use Rattle.mysql_named_params.specs.Tokens.{OnTokens};
-ghost use Rattle.mysql_named_params.specs.Places.{names};
+ghost use Rattle.mysql_named_params.specs.Places.{HasMark, HasName, names};
+ghost use Rattle.mysql_binding.specs.TextInRoom.{HasTextOf, IsTextInRoom};
+ghost use Rattle.mysql_fragments.specs.Expanded.{IsBoundFragments};
 ghost use Rattle.mysql_fragments.specs.FragmentErrors.{IsCauseOrMemory, first_cause};
 ghost use Rattle.mysql_fragments.specs.GivenFragments.{GivenFragments};
-ghost use Rattle.mysql_flat_params.specs.IntoRoom.{IfMixed, IsInRoom, IsMissingName};
+ghost use Rattle.mysql_flat_params.specs.IntoRoom.{IfMixed, IsMissingName};
 ghost use Rattle.mysql_flat_params.specs.Outcomes as values;
+ghost use Rattle.mysql_flat_params.specs.Outcomes.{text_outcome};
 ghost use Rattle.mysql_flat_fragments.specs.FlatFragments.{IsFormReading};
+ghost use Rattle.mysql_flat_fragments.specs.FormInPlace.{IsGivenAs};
 ghost use Rattle.mysql_flat_fragments.specs.FragmentsAnywhereIntoRoom.{IsAnywhereAsValues};
 ghost use Rattle.mysql_flat_fragments.specs.FragmentsFormErrors.{IsFormRefusal};
 ghost use Rattle.mysql_flat_fragments.specs.FragmentsIntoRoom.{IsBoundForm, IsFragmentsOutcome, IsOutcomeAsValues};
 ghost use Rattle.mysql_flat_fragments.specs.FragmentsOutcomes.{HasNoAnswer, IfDone, IfTooLong, UnlessDone};
 
-use crate::form::form_fragments;
+use crate::form_in_place::{FormInPlace, form_in_place};
 use crate::outcome::FragmentsOutcome;
+use crate::placed::placed_fragments;
+use mysql_binding::{KEPT_PLACES, NO_PLACE, PlainForm, TextInRoom, place_survey};
 use mysql_flat_params::{FormError, Outcome, name_place};
-use mysql_fragments::{FragmentsError, bind_fragments_in};
+use mysql_fragments::{FragmentsError, bind_placed_into, placed_error};
 use mysql_params_core::params::ParamsConfusionError;
-use std::alloc::Global;
+use std::alloc::{AllocError, Global};
 
-/// Binds into a query what a form says, as [`bind_fragments_in`] binds the form's fragments in a
-/// mode, and writes the text to the front of the room. The form is that of [`form_fragments`].
+/// Binds into a query what a form says, as
+/// [`bind_fragments_in`](mysql_fragments::bind_fragments_in) binds the form's fragments in a mode,
+/// and writes the text to the front of the room. The form is that of
+/// [`form_fragments`](crate::form_fragments). Names and values stay where they lie in it, also
+/// those of a list and of rows of one length. Any other fragment is copied, as a list with an exact
+/// number in it.
 ///
 /// `Done` has the length of the text; the rest of the room is unchanged. `Room` has the length that
 /// the room would need. A form is refused before the query; then the first of the causes of
 /// `bind_fragments_in` refuses it. `Missing` tells the first place that has the missing name. The
 /// empty form over a query with names and marks is `Mixed` without allocating. Any other outcome
-/// may be `OutOfMemory` instead, also if a form is refused for its first parameter: of a list the
-/// items before the refused one are copied. It also comes if the text would be longer than
+/// may be `OutOfMemory` instead, also if a form is refused for its first parameter: memory is
+/// allocated for the items before the refused one. It also comes if the text would be longer than
 /// `isize::MAX` bytes. After every outcome except `Done` the room is as before.
 pub fn bind_fragments_into(
     alloc: Global,
@@ -49,25 +59,72 @@ pub fn bind_fragments_into(
     ensures too_long { IfTooLong result (λ len. length room.old < len) }
     ensures unchanged { UnlessDone result (room.new ≡ room.old) }
 {
-    let fragments = match form_fragments(alloc, form) {
-        Ok(fragments) => fragments,
+    let kept = match form_in_place(alloc, form) {
+        Ok(kept) => kept,
         Err(error) => return FragmentsOutcome::AsValues(form_outcome(error)),
     };
-    match bind_fragments_in(alloc, query, &fragments, no_backslash_escape) {
-        Ok(text) => FragmentsOutcome::AsValues(fill_front(room, text.as_slice())),
+    match bind_kept(alloc, query, &kept, no_backslash_escape, room) {
+        Ok(text) => FragmentsOutcome::AsValues(text_outcome(text)),
         Err(error) => fragments_outcome(query, error, no_backslash_escape),
     }
 }
 
-/// Writes the answer to the front of the room, if the room has its length.
-pub(crate) fn fill_front(room: &mut [u8], answer: &[u8]) -> Outcome
-    ensures { IsInRoom answer.now room.old room.new result }
+// The query with what is kept of a form in its places, at the front of the room.
+fn bind_kept(
+    alloc: Global,
+    query: &[u8],
+    kept: &FormInPlace<'_>,
+    no_backslash_escape: bool,
+    room: &mut [u8],
+) -> Result<TextInRoom, FragmentsError>
+    requires { (given : GivenFragments) × IsGivenAs kept.now given }
+    ensures bound { (given : GivenFragments) → IsGivenAs kept.now given →
+        OnTokens no_backslash_escape query.now (λ ts. IfOk result (IsTextInRoom
+        (IsBoundFragments no_backslash_escape ts given)
+        (HasTextOf (IsBoundFragments no_backslash_escape ts given)) room.old room.new)) }
+    ensures refused { (given : GivenFragments) → IsGivenAs kept.now given →
+        OnTokens no_backslash_escape query.now (λ ts. IfErr result
+        (IsCauseOrMemory (first_cause true ts given))) }
+    ensures mixed { OnTokens no_backslash_escape query.now (λ ts.
+        HasName ts × HasMark ts → IsErrOf result FragmentsError.Mixed) }
+    ensures unchanged { OnErr result (room.new ≡ room.old) }
 {
-    if room.len() < answer.len() {
-        return Outcome::Room { len: answer.len() };
+    let mut first = [NO_PLACE; KEPT_PLACES];
+    let (survey, found) = place_survey(query, &mut first, no_backslash_escape);
+    let known = &first[..found];
+    let placed = match placed_fragments(alloc, query, (survey, known), kept, no_backslash_escape) {
+        Ok(placed) => placed,
+        Err(error) => return Err(error),
+    };
+    let placed = placed.as_slice();
+    if let Some(error) = placed_error(survey, placed) {
+        return Err(error);
     }
-    room[..answer.len()].copy_from_slice(answer);
-    Outcome::Done { len: answer.len() }
+    let form = PlainForm {
+        no_backslash_escape,
+    };
+    match bind_placed_into(
+        query,
+        survey,
+        known,
+        placed,
+        no_backslash_escape,
+        &form,
+        room,
+    ) {
+        Some(text) => Ok(text),
+        None => Err(FragmentsError::Memory(AllocError)),
+    }
+}
+
+/// What is told of a text in a room.
+pub(crate) fn text_outcome(text: TextInRoom) -> Outcome
+    ensures { result ≡ text_outcome text }
+{
+    match text {
+        TextInRoom::Written { len } => Outcome::Done { len },
+        TextInRoom::TooShort { len } => Outcome::Room { len },
+    }
 }
 
 /// A refusal of a form.

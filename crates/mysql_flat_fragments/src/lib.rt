@@ -7,12 +7,16 @@
 
 mod anywhere_room;
 mod form;
+mod form_in_place;
 mod fragment;
+mod in_place;
 mod into_room;
 mod items;
 mod keywords;
 mod outcome;
 mod parts;
+mod placed;
+mod rows_in_place;
 
 pub use anywhere_room::bind_fragments_anywhere_into;
 pub use form::form_fragments;

@@ -3,6 +3,7 @@ ghost use Rattle.std.specs.Prelude.{◌≡◌, ◌+◌, ◌<◌, None, Some, Ok,
 ghost use Rattle.mysql_wire_part.specs.Answer.{IsAnswer};
 ghost use Rattle.mysql_wire_part.specs.Column.{is_unsigned};
 ghost use Rattle.mysql_wire_part.specs.ParseBuf.{left, read_refusal};
+ghost use Rattle.mysql_values.specs.BorrowedValue.{owned};
 ghost use Rattle.mysql_params_core.specs.Names.{names_of};
 ghost use Rattle.mysql_flat_params.specs.ColumnNumbers.{column_type, is_unsigned_parameter};
 ghost use Rattle.mysql_flat_params.specs.FlatForm.{read_name, read_of_type, refused_in};
@@ -10,8 +11,8 @@ ghost use Rattle.mysql_flat_params.specs.FormErrors.{form_refusal};
 ghost use Rattle.mysql_flat_fragments.specs.FlatFragments.{read_all, read_count};
 
 use mysql_flat_params::{FormError, column_type};
-use mysql_values::value::{BinValue, Value, ValueDeserializer};
-use mysql_wire_part::{ColumnFlags, Flags, MyDeserialize, ParseBuf, WireError};
+use mysql_values::value::{Value, ValueRef, read_binary_value};
+use mysql_wire_part::{ColumnFlags, Flags, ParseBuf, WireError};
 use std::alloc::{AllocError, Global};
 
 // The flag of a parameter whose whole numbers have no sign.
@@ -95,7 +96,7 @@ pub(crate) fn eat_names(
     Ok(names)
 }
 
-/// The value of a parameter whose type has this number, after its flags.
+/// A copy of the value of a parameter whose type has this number, after its flags.
 pub(crate) fn eat_value(
     alloc: Global,
     spot: Spot,
@@ -107,6 +108,24 @@ pub(crate) fn eat_value(
         (read_of_type spot.place spot.position number (column_type number)
         (is_unsigned_parameter flags) (left rest.old)) ⊤ result }
 {
+    let value = eat_value_ref(spot, number, flags, rest)?;
+    match value.to_value(alloc) {
+        Ok(value) => Ok(value),
+        Err(error) => Err(FormError::Memory(error)),
+    }
+}
+
+/// The value of a parameter whose type has this number, after its flags.
+pub(crate) fn eat_value_ref<'f>(
+    spot: Spot,
+    number: u8,
+    flags: u8,
+    rest: &mut ParseBuf<'f>,
+) -> Result<ValueRef<'f>, FormError>
+    ensures { IsAnswer (λ value. (owned value, left rest.new)) form_refusal
+        (read_of_type spot.place spot.position number (column_type number)
+        (is_unsigned_parameter flags) (left rest.old)) ⊤ result }
+{
     let Some(column) = column_type(number) else {
         return Err(FormError::UnsupportedType {
             place: spot.place,
@@ -114,9 +133,8 @@ pub(crate) fn eat_value(
             number,
         });
     };
-    let ctx = (column, column_flags(flags));
-    match ValueDeserializer::<BinValue>::deserialize(alloc, ctx, rest) {
-        Ok(read) => Ok(read.0),
+    match read_binary_value(column, column_flags(flags), rest) {
+        Ok(value) => Ok(value),
         Err(error) => Err(form_error(spot, number, error)),
     }
 }

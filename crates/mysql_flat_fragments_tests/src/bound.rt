@@ -18,6 +18,18 @@ const TEXTS: &[(&[u8], &[u8], &[u8])] = &[
         b"\0\x81\0\x03\0\0\0\x01\0\x07\x80\0\x05-1.50\x06\0",
         b"a IN (7, -1.50, NULL)",
     ),
+    // A list of 7 and NULL.
+    (
+        b"a IN (?)",
+        b"\0\x81\0\x02\0\0\0\x01\0\x07\x06\0",
+        b"a IN (7, NULL)",
+    ),
+    // A row of an exact number and NULL.
+    (
+        b"VALUES ?",
+        b"\0\x82\0\x01\0\0\0\x02\0\0\0\x80\0\x030.5\x06\0",
+        b"VALUES (0.5, NULL)",
+    ),
     // Two rows of a number and a text (VAR_STRING).
     (
         b"VALUES ?",
@@ -154,6 +166,49 @@ const REFUSED: &[(&[u8], &[u8], FragmentsOutcome)] = &[
             fault: FragmentFault::EmptyName { part: 1 },
         },
     ),
+    // No rows, a row without items, and rows of one and of two items.
+    (
+        b"?",
+        b"\0\x82\0\0\0\0\0",
+        FragmentsOutcome::Fault {
+            place: 0,
+            fault: FragmentFault::Empty,
+        },
+    ),
+    (
+        b"?",
+        b"\0\x82\0\x01\0\0\0\0\0\0\0",
+        FragmentsOutcome::Fault {
+            place: 0,
+            fault: FragmentFault::EmptyRow { row: 0 },
+        },
+    ),
+    (
+        b"?",
+        b"\0\x82\0\x02\0\0\0\x01\0\0\0\x06\0\x02\0\0\0\x06\0\x06\0",
+        FragmentsOutcome::Fault {
+            place: 0,
+            fault: FragmentFault::RowLength { row: 1 },
+        },
+    ),
+    // A list of the double 0.
+    (
+        b"a IN (?)",
+        b"\0\x81\0\x01\0\0\0\x05\0\0\0\0\0\0\0\0\0",
+        FragmentsOutcome::AsValues(Outcome::Float { place: 0 }),
+    ),
+    // The other kind of parameters, and both kinds of places.
+    (
+        b"?",
+        b"\x01a\x06\0",
+        FragmentsOutcome::AsValues(Outcome::NamedForPositional),
+    ),
+    (
+        b":a",
+        b"\0\x06\0",
+        FragmentsOutcome::AsValues(Outcome::PositionalForNamed),
+    ),
+    (b":a, ?", b"", FragmentsOutcome::AsValues(Outcome::Mixed)),
     // A backslash at the end, and before a backquote in the second name.
     (
         b"?",
