@@ -2,7 +2,7 @@
 use Rattle.std.specs.Prelude.{Bool, Ok, Err, Result, Option, Some, None, option_map, IfOk, IfErr}
 use Rattle.std.specs.Borrow.{Bor}
 use Rattle.std.specs.FinMap.{get}
-use Rattle.std.proofs.Common.{◌≡◌, ◌<◌, ℕ, zero, suc, List, [], ◌∷◌, ◌++◌, map, length, take, get_or, arith, inr, refl, sym, ap, ◌∙◌, subst, true, false, if◌then◌else◌}
+use Rattle.std.proofs.Common.{◌≡◌, ◌+◌, ◌<◌, ℕ, zero, suc, List, [], ◌∷◌, ◌++◌, map, length, take, get_or, arith, inr, refl, sym, ap, ◌∙◌, subst, true, false, if◌then◌else◌}
 use Rattle.mysql_named_params.specs.Tokens.{Token, OnTokens}
 use Rattle.mysql_named_params.specs.Places.{has_both, names}
 use Rattle.mysql_named_params.proofs.TokenListLemmas.{one_token_list}
