@@ -2,15 +2,15 @@
 ghost use Rattle.std.specs.Prelude.{◌≡◌, ◌≢◌, ℕ, IfErr, IfOk, IfNone, IfSome, IsTrue, List, [], ◌∷◌, ◌++◌, true, false};
 ghost use Rattle.std.specs.Str.{byte};
 ghost use Rattle.mysql_records.specs.Formats.{backslash, has_escapes, has_quotes, quote, separator};
-ghost use Rattle.mysql_records.specs.Seen.{field_seen};
+ghost use Rattle.mysql_records.specs.Seen.{lent_seen};
 ghost use Rattle.mysql_records.specs.Fields.{BeginsWithField, IsFieldEnd, IsFieldRefusal, StartsNoPiece};
 ghost use Rattle.mysql_records.specs.Faults.{BeginsWithNoNull, IsFaultAt, IsFieldBefore};
 ghost use Rattle.mysql_records.specs.Records.{EndsField, IsPieces};
 
 use crate::fault::FaultKind;
 use crate::format::RecordFormat;
-use crate::pieces::{behind, has_escapes, pieces};
-use crate::record::Field;
+use crate::lent::LentField;
+use crate::pieces::{behind, has_escapes, lent_pieces};
 use std::alloc::{AllocError, Global};
 
 // Why no field is read.
@@ -36,13 +36,13 @@ pub(crate) fn first_field<'a>(
     alloc: Global,
     format: RecordFormat,
     text: &'a [u8],
-) -> Result<(Field, &'a [u8]), FieldError<'a>>
+) -> Result<(LentField<'a>, &'a [u8]), FieldError<'a>>
     ensures read { IfOk result (λ read.
-        BeginsWithField format text.now (field_seen read.0) read.1.now) }
+        BeginsWithField format text.now (lent_seen read.0) read.1.now) }
     ensures refused { IfErr result (IsFieldRefusal format text.now) }
 {
     if let Some(rest) = behind_null(format, text) {
-        return Ok((Field::Null, rest));
+        return Ok((LentField::Null, rest));
     }
     if let Some(tail) = behind_quote(format, text) {
         return enclosed_field(alloc, format, text, tail);
@@ -56,14 +56,14 @@ fn enclosed_field<'a>(
     format: RecordFormat,
     text: &'a [u8],
     tail: &'a [u8],
-) -> Result<(Field, &'a [u8]), FieldError<'a>>
+) -> Result<(LentField<'a>, &'a [u8]), FieldError<'a>>
     requires quotes { IsTrue (has_quotes format) }
     requires whole { text.now ≡ quote ∷ tail.now }
     ensures read { IfOk result (λ read.
-        BeginsWithField format text.now (field_seen read.0) read.1.now) }
+        BeginsWithField format text.now (lent_seen read.0) read.1.now) }
     ensures refused { IfErr result (IsFieldRefusal format text.now) }
 {
-    let (bytes, back) = match pieces(alloc, format, true, tail) {
+    let (field, back) = match lent_pieces(alloc, format, true, tail) {
         Ok(read) => read,
         Err(error) => return Err(FieldError::Memory(error)),
     };
@@ -74,7 +74,7 @@ fn enclosed_field<'a>(
         return Err(FieldError::Fault(FaultKind::UnknownEscape, back));
     };
     if field_end(format, rest).is_some() {
-        return Ok((Field::Bytes(bytes), rest));
+        return Ok((field, rest));
     }
     Err(FieldError::Fault(fault_behind_quote(format, rest), rest))
 }
@@ -100,20 +100,20 @@ fn bare_field<'a>(
     alloc: Global,
     format: RecordFormat,
     text: &'a [u8],
-) -> Result<(Field, &'a [u8]), FieldError<'a>>
+) -> Result<(LentField<'a>, &'a [u8]), FieldError<'a>>
     requires no_quote { (tail : List ℕ) → IsTrue (has_quotes format) → text.now ≢ quote ∷ tail }
     requires no_null { (rest : List ℕ) → IsTrue (has_escapes format) →
         text.now ≡ backslash ∷ byte "N" ∷ rest → EndsField format rest → ⊥ }
     ensures read { IfOk result (λ read.
-        BeginsWithField format text.now (field_seen read.0) read.1.now) }
+        BeginsWithField format text.now (lent_seen read.0) read.1.now) }
     ensures refused { IfErr result (IsFieldRefusal format text.now) }
 {
-    let (bytes, back) = match pieces(alloc, format, false, text) {
+    let (field, back) = match lent_pieces(alloc, format, false, text) {
         Ok(read) => read,
         Err(error) => return Err(FieldError::Memory(error)),
     };
     if field_end(format, back).is_some() {
-        return Ok((Field::Bytes(bytes), back));
+        return Ok((field, back));
     }
     Err(FieldError::Fault(fault_without_quotes(format, back), back))
 }

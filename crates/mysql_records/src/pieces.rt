@@ -1,15 +1,37 @@
 //! The bytes of a field as they stand in a text.
-ghost use Rattle.std.specs.Prelude.{◌≡◌, ◌≢◌, ℕ, ◌<◌, ◌≤◌, IfOk, IfSome, IfNone, IsFalse, IsTrue, ◌∷◌, ◌++◌, List, length, slice_index, take};
+ghost use Rattle.std.specs.Prelude.{◌≡◌, ◌≢◌, ℕ, ◌<◌, ◌≤◌, IfOk, IfSome, IfNone, IsFalse, IsTrue, ◌∷◌, ◌++◌, List, Some, length, slice_index, take};
 ghost use Rattle.std.specs.List.{list_any};
 ghost use Rattle.mysql_records.specs.Formats.{doubles_quotes, escape_value, has_escapes, is_special};
 ghost use Rattle.mysql_records.specs.Records.{IsPiece};
 ghost use Rattle.mysql_records.specs.Fields.{BeginsSpecial, BeginsWithPieces, StartsNoPiece};
+ghost use Rattle.mysql_records.specs.Seen.{lent_seen};
 
 use crate::format::RecordFormat;
+use crate::lent::LentField;
 use std::alloc::{AllocError, Global};
 
+// The longest row of pieces at the front of a text as a field, and the text behind it. If each byte
+// stands for itself, they are lent.
+pub(crate) fn lent_pieces<'a>(
+    alloc: Global,
+    format: RecordFormat,
+    quoted: bool,
+    text: &'a [u8],
+) -> Result<(LentField<'a>, &'a [u8]), AllocError>
+    ensures { IfOk result (λ read. (bytes : List ℕ) × (lent_seen read.0 ≡ Some bytes)
+        × BeginsWithPieces format quoted text.now bytes read.1.now) }
+{
+    let len = raw_len(format, quoted, text);
+    let rest = &text[len..];
+    if pair(format, quoted, rest).is_none() {
+        return Ok((LentField::Lent(&text[..len]), rest));
+    }
+    let (bytes, back) = pieces(alloc, format, quoted, text)?;
+    Ok((LentField::Made(bytes), back))
+}
+
 // The bytes of the longest row of pieces at the front of a text, and the text behind it.
-pub(crate) fn pieces<'a>(
+fn pieces<'a>(
     alloc: Global,
     format: RecordFormat,
     quoted: bool,

@@ -2,11 +2,12 @@
 ghost use Rattle.std.specs.Prelude.{◌≡◌, ◌≢◌, ◌<◌, length, IfErr, IfOk, IfSome, IsNone, ◌↔◌, []};
 ghost use Rattle.mysql_records.specs.Faults.{IsRefusal};
 ghost use Rattle.mysql_records.specs.Records.{BeginsWithRecord};
-ghost use Rattle.mysql_records.specs.Seen.{fields_seen};
+ghost use Rattle.mysql_records.specs.Seen.{fields_seen, lent_fields_seen};
 
 use crate::fault::{Fault, RecordError};
 use crate::fields::{FieldEnd, FieldError, field_end, first_field};
 use crate::format::RecordFormat;
+use crate::lent::LentField;
 use std::alloc::{AllocError, Global};
 
 /// A field of a record.
@@ -42,10 +43,53 @@ pub fn first_record<'a>(
     ensures refused { IfErr result (IsRefusal format text.now) }
     ensures some { IfErr result (λ error. text.now ≢ []) }
 {
+    let mut lent = Vec::new(alloc);
+    let Some(rest) = first_record_into(alloc, format, text, &mut lent)? else {
+        return Ok(None);
+    };
+    match owned_fields(alloc, lent) {
+        Ok(fields) => Ok(Some(Record { fields, rest })),
+        Err(error) => Err(RecordError::Memory(error)),
+    }
+}
+
+// The fields with their bytes as vectors.
+fn owned_fields(alloc: Global, lent: Vec<LentField<'_>>) -> Result<Vec<Field>, AllocError>
+    ensures { IfOk result (λ fields.
+        fields_seen fields.items ≡ lent_fields_seen lent.entry.items) }
+{
+    let mut fields = Vec::with_capacity(alloc, lent.len())?;
+    for field in lent {
+        let owned = field.into_field(alloc)?;
+        if fields.push(owned).is_err() {
+            return Err(AllocError);
+        }
+    }
+    Ok(fields)
+}
+
+/// The fields of the record at the front of a text, in place of those that the vector has, and the
+/// text behind its line end; none exactly if the text is empty. It is what [`first_record`] gives,
+/// without a copy of the bytes that stand in the text as they are. So one vector serves for all
+/// records of a text.
+pub fn first_record_into<'a>(
+    alloc: Global,
+    format: RecordFormat,
+    text: &'a [u8],
+    fields: &mut Vec<LentField<'a>>,
+) -> Result<Option<&'a [u8]>, RecordError>
+    ensures none { IfOk result (λ found. IsNone found ↔ (text.now ≡ [])) }
+    ensures read { IfOk result (λ found. IfSome found (λ rest.
+        BeginsWithRecord format text.now (lent_fields_seen fields.new.items) rest.now)) }
+    ensures shorter { IfOk result (λ found. IfSome found (λ rest.
+        length rest.now < length text.now)) }
+    ensures refused { IfErr result (IsRefusal format text.now) }
+    ensures some { IfErr result (λ error. text.now ≢ []) }
+{
+    fields.clear();
     if text.is_empty() {
         return Ok(None);
     }
-    let mut fields = Vec::new(alloc);
     let mut rest = text;
     'fields: loop {
         let (field, back) = match first_field(alloc, format, rest) {
@@ -66,7 +110,7 @@ pub fn first_record<'a>(
         };
         match end {
             FieldEnd::Separator(more) => rest = more,
-            FieldEnd::Record(rest) => return Ok(Some(Record { fields, rest })),
+            FieldEnd::Record(rest) => return Ok(Some(rest)),
         }
     }
 }
