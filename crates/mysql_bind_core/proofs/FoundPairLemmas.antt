@@ -31,31 +31,31 @@ use Rattle.mysql_bind_core.specs.FoundPairs.{AreValuesIn, are_distinct, value_in
 -- ---- the map of pairs
 
 -- a pair as a maker of parameters takes it
-abbrev meant : List ℕ × Value → List ℕ × Meaning
+abbrev pub meant : List ℕ × Value → List ℕ × Meaning
 meant pair = (pair.0, Ok pair.1)
 
-some_is : {A : Type 0} (o : Option A) → is_none o ≡ true → o ≡ None
+pub some_is : {A : Type 0} (o : Option A) → is_none o ≡ true → o ≡ None
 some_is None e = refl
 some_is (Some a) e = absurd (true≢false (sym e))
 
-same_names : (xs ys : List ℕ) → pointwise nat_eq xs ys ≡ true → xs ≡ ys
+pub same_names : (xs ys : List ℕ) → pointwise nat_eq xs ys ≡ true → xs ≡ ys
 same_names xs ys e = (bytes_decides xs ys).0 e
 
-itself : (xs : List ℕ) → pointwise nat_eq xs xs ≡ true
+pub itself : (xs : List ℕ) → pointwise nat_eq xs xs ≡ true
 itself xs = (bytes_decides xs xs).1 refl
 
 -- no pair has the name of an entry
-abbrev AreNew : ValueMap → List (List ℕ × Value) → Type 0
+abbrev pub AreNew : ValueMap → List (List ℕ × Value) → Type 0
 AreNew m pairs = (name : List ℕ) (v : Value) → value_in pairs name ≡ Some v → get m name ≡ None
 
 -- what an insertion gives
-inserted : (m : ValueMap) (k : List ℕ) (v : Value) (name : List ℕ) →
+pub inserted : (m : ValueMap) (k : List ℕ) (v : Value) (name : List ℕ) →
     get (insert m k v) name ≡ cond (pointwise nat_eq name k) (Some v) (get m name)
 inserted m k v name =
     get-insert nat_list_cmp_total m k v name ∙ ap (λ b. cond b (Some v) (get m name)) (sym (lists_ties nat_cmp unsigned_ties name k))
 
 -- the first pair is new
-head_new : (m : ValueMap) (pair : List ℕ × Value) (pairs : List (List ℕ × Value)) → AreNew m (pair ∷ pairs) → get m pair.0 ≡ None
+pub head_new : (m : ValueMap) (pair : List ℕ × Value) (pairs : List (List ℕ × Value)) → AreNew m (pair ∷ pairs) → get m pair.0 ≡ None
 head_new m pair pairs new = new pair.0 pair.1 (ap (λ b. cond b (Some pair.1) (value_in pairs pair.0)) (itself pair.0))
 
 -- and the others are, once it is inserted

@@ -8,3 +8,6 @@ pub mod QueryEndLemmas
 pub mod MarkLemmas
 pub mod FoundPairLemmas
 pub mod AppendedRowLemmas
+pub mod CellLemmas
+pub mod MatchedLemmas
+pub mod CellRowLemmas

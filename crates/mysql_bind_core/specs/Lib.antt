@@ -8,4 +8,7 @@ pub mod QueryEnd
 pub mod Bound
 pub mod Refusals
 pub mod FoundPairs
+pub mod Cells
+pub mod MatchedQuery
+pub mod RowTexts
 pub mod Statements

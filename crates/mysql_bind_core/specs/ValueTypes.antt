@@ -10,6 +10,7 @@ use Rattle.base64.specs.Engines.{standard}
 use Rattle.mysql_values.specs.declared.value.Value.{Value}
 use Rattle.mysql_values.specs.declared.value.Value.TheVariants as value
 use Rattle.mysql_values.specs.Intermediate.{committed}
+use Rattle.mysql_values.specs.Value.{IsBytes}
 use Rattle.mysql_values.specs.WholeNumber.{whole_conversion}
 use Rattle.mysql_bind_core.specs.declared.value_type.ValueType.{ValueType}
 use Rattle.mysql_bind_core.specs.declared.value_type.ValueType.TheVariants.{Null, Text, Line, Bytes, Int, Uint, Number, Bool as Truth, Hex, Base64, Decimal, Identifier, List as ListType}
@@ -87,11 +88,16 @@ typed_value Decimal bytes = None
 typed_value Identifier bytes = None
 typed_value ListType bytes = None
 
+-- there is a value, and it is bytes
+abbrev pub IsSomeBytes : Option Value → Type 0
+IsSomeBytes (Some found) = IsBytes found
+IsSomeBytes None = ⊥
+
 -- whether bytes are copied or decoded for a value of this type, for which memory may be refused
 abbrev pub takes_memory : ValueType → Bool
-takes_memory Null = false
-takes_memory Truth = false
-takes_memory Decimal = false
-takes_memory Identifier = false
-takes_memory ListType = false
-takes_memory value_type = true
+takes_memory Text = true
+takes_memory Line = true
+takes_memory Bytes = true
+takes_memory Hex = true
+takes_memory Base64 = true
+takes_memory value_type = false

@@ -59,7 +59,7 @@ pub fn append_taken(
 }
 
 // Writes the text to the end of the script by a vector of its own.
-fn append_text(
+pub(crate) fn append_text(
     alloc: Global,
     query: &[u8],
     assignments: &[Assignment],
@@ -186,7 +186,7 @@ fn append_pairs(
 }
 
 // Writes the text of values that are found, or says by `false` that it can't be written.
-fn append_found(
+pub(crate) fn append_found(
     alloc: Global,
     query: &ParsedQuery<'_>,
     values: Vec<ValueRef<'_>>,

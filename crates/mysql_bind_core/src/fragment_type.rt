@@ -4,7 +4,8 @@ ghost use Rattle.json.specs.Json.{document};
 ghost use Rattle.json.specs.Value.{value_view};
 ghost use Rattle.mysql_bind_core.specs.Contents.{all_of, content, is_value_type, item_of, item_said, list_in, list_of_json, name_of, number_item, number_of, said};
 
-use crate::value_type::{ValueType, is_utf8, number_value, typed_value};
+use crate::lent_value::lent_number;
+use crate::value_type::{ValueType, copied, is_utf8, typed_value};
 use json::{Error as JsonError, Scratch, Value as Json};
 use mysql_fragments::{Fragment, Item};
 use mysql_values::bytes::Bytes;
@@ -143,7 +144,7 @@ fn item_of(alloc: Global, json: &Json<'_>) -> Result<Option<Item>, AllocError>
 fn number_item(alloc: Global, text: &[u8]) -> Result<Option<Item>, AllocError>
     ensures { IfOk result (λ found. option_map item_said found ≡ number_item text.now) }
 {
-    if let Some(value) = number_value(alloc, text)? {
+    if let Some(value) = copied(alloc, lent_number(text))? {
         return Ok(Some(Item::Value(value)));
     }
     let number = Fragment::Decimal(Vec::from_slice(alloc, text)?);

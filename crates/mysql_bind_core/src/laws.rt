@@ -1,14 +1,16 @@
 //! Laws of what is written. They do nothing: each is called for what it ensures.
-ghost use Rattle.std.specs.Prelude.{◌≡◌, ℕ, Bool, false, List, length};
+ghost use Rattle.std.specs.Prelude.{◌≡◌, ◌<◌, ◌^◌, ℕ, Bool, false, List, All, length};
 ghost use Rattle.mysql_named_params.specs.Tokens.{Token, OnTokens};
 ghost use Rattle.mysql_named_params.specs.Quiet.{DecidesWithin, IsHonest};
 ghost use Rattle.mysql_named_params.specs.Client.{Client, IsReadBy};
 ghost use Rattle.mysql_named_params.specs.Statements.{statements};
 ghost use Rattle.mysql_bind_core.specs.Bound.{IsAssignedText, IsPortableIfWanted, IsTaken, IsWritten};
+ghost use Rattle.mysql_bind_core.specs.Cells.{AreAssigned};
 ghost use Rattle.mysql_bind_core.specs.Contents.{has_fragment};
 ghost use Rattle.mysql_bind_core.specs.Requests.{mode_of};
 ghost use Rattle.mysql_bind_core.specs.Statements.{AreReplaced};
 ghost use Rattle.mysql_bind_core.specs.declared.assignment.Assignment.{Assignment};
+ghost use Rattle.mysql_bind_core.specs.declared.cell.Cell.{Cell};
 ghost use Rattle.mysql_bind_core.specs.declared.request.Portability.TheVariants as portability;
 ghost use Rattle.mysql_bind_core.specs.declared.request.Request.{Request};
 
@@ -16,6 +18,7 @@ use mysql_binding::laws::{bound_texts_are_sent, bound_texts_in_clients};
 use mysql_fragments::laws::bound_fragments_in_clients;
 use mysql_steady_fragments::laws::steady_fragments_in_clients;
 use mysql_steady_text::laws::{bound_steady_texts_are_sent, bound_steady_texts_in_clients};
+use std::alloc::Global;
 
 /// Unless all queries are taken, a client that keeps comments cuts what is written into as many
 /// statements as the query has, whatever the assignments say (`count`). If it decides about a quiet
@@ -41,6 +44,18 @@ pub fn written_in_clients()
     bound_fragments_in_clients();
     bound_steady_texts_in_clients();
     steady_fragments_in_clients();
+}
+
+/// For all names and cells whose bytes fit into memory, as those of slices do, there are
+/// assignments that say what the cells do under the names. So what is promised of a row for all of
+/// these is promised for some.
+pub fn cells_are_assigned(alloc: Global)
+    ensures { (columns : List (List ℕ)) (cells : List Cell) →
+        All (λ name. length name < 2 ^ 63) columns →
+        All (λ cell. length cell.bytes.now < 2 ^ 63) cells →
+        (assignments : List Assignment) × AreAssigned columns cells assignments }
+{
+    let _alloc = alloc;
 }
 
 // Values in steady literals or with backslash escapes have no newline and no byte 0 in the text, so

@@ -1,15 +1,15 @@
 //! The values that the bytes of a source stand for.
-ghost use Rattle.std.specs.Prelude.{◌≡◌, true, IfOk, IsErr, OnErr};
+ghost use Rattle.std.specs.Prelude.{◌≡◌, true, IfOk, IsErr, OnErr, option_map};
 ghost use Rattle.std.specs.Str.{is_utf8};
-ghost use Rattle.mysql_values.specs.declared.value.Value.TheVariants.{Bytes as BytesOf};
-ghost use Rattle.mysql_bind_core.specs.ValueTypes.{line_of, has_newline, takes_memory, typed_value, number_value, hex_value, base64_value, text_value, line_value, truth_value, int_value, uint_value};
+ghost use Rattle.mysql_values.specs.BorrowedValue.{owned};
+ghost use Rattle.mysql_bind_core.specs.ValueTypes.{IsSomeBytes, line_of, has_newline, takes_memory, typed_value, hex_value, base64_value, truth_value};
 
+use crate::lent_value::{lent_int, lent_line, lent_number, lent_text, lent_uint};
 use base64::DecodeAllocError;
 use base64::engine::general_purpose::STANDARD;
 use hex::FromHexError;
 use mysql_values::bytes::Bytes;
-use mysql_values::value::Value;
-use mysql_values::value::convert::from_value_opt;
+use mysql_values::value::{Value, ValueRef};
 use std::alloc::{AllocError, Global};
 
 /// How the bytes of a source are taken.
@@ -59,12 +59,12 @@ pub fn typed_value(
 {
     match value_type {
         ValueType::Null => Ok(Some(Value::NULL)),
-        ValueType::Text => text_value(alloc, bytes),
-        ValueType::Line => line_value(alloc, bytes),
-        ValueType::Bytes => some_bytes(alloc, bytes),
-        ValueType::Int => int_value(alloc, bytes),
-        ValueType::Uint => uint_value(alloc, bytes),
-        ValueType::Number => number_value(alloc, bytes),
+        ValueType::Text => copied(alloc, lent_text(bytes)),
+        ValueType::Line => copied(alloc, lent_line(bytes)),
+        ValueType::Bytes => copied(alloc, Some(ValueRef::Bytes(bytes))),
+        ValueType::Int => copied(alloc, lent_int(bytes)),
+        ValueType::Uint => copied(alloc, lent_uint(bytes)),
+        ValueType::Number => copied(alloc, lent_number(bytes)),
         ValueType::Bool => Ok(truth_value(bytes)),
         ValueType::Hex => hex_value(alloc, bytes),
         ValueType::Base64 => base64_value(alloc, bytes),
@@ -72,12 +72,18 @@ pub fn typed_value(
     }
 }
 
-// The bytes as a value.
-pub(crate) fn some_bytes(alloc: Global, bytes: &[u8]) -> Result<Option<Value>, AllocError>
-    ensures { IfOk result (λ value. value ≡ Some (BytesOf bytes.now)) }
+// The value, with a copy of its bytes if it has some.
+pub(crate) fn copied(
+    alloc: Global,
+    found: Option<ValueRef<'_>>,
+) -> Result<Option<Value>, AllocError>
+    ensures value { IfOk result (λ value. value ≡ option_map owned found.entry) }
+    ensures memory { OnErr result (IsSomeBytes (option_map owned found.entry)) }
 {
-    let copy = Vec::from_slice(alloc, bytes)?;
-    Ok(Some(Value::Bytes(Bytes::from(copy))))
+    match found {
+        Some(value) => Ok(Some(value.to_value(alloc)?)),
+        None => Ok(None),
+    }
 }
 
 // Whether the bytes are UTF-8.
@@ -90,19 +96,8 @@ pub(crate) fn is_utf8(bytes: &[u8]) -> bool
     }
 }
 
-// The value of a text.
-fn text_value(alloc: Global, bytes: &[u8]) -> Result<Option<Value>, AllocError>
-    ensures { IfOk result (λ value. value ≡ text_value bytes.now) }
-{
-    if is_utf8(bytes) {
-        some_bytes(alloc, bytes)
-    } else {
-        Ok(None)
-    }
-}
-
 // The bytes without the newline at their end.
-fn line_of(bytes: &[u8]) -> &[u8]
+pub(crate) fn line_of(bytes: &[u8]) -> &[u8]
     ensures { result.now ≡ line_of bytes.now }
 {
     if bytes.ends_with(b"\r\n") {
@@ -115,53 +110,10 @@ fn line_of(bytes: &[u8]) -> &[u8]
 }
 
 // Whether a newline is in the bytes.
-fn has_newline(bytes: &[u8]) -> bool
+pub(crate) fn has_newline(bytes: &[u8]) -> bool
     ensures { result ≡ has_newline bytes.now }
 {
     bytes.contains(&b'\n')
-}
-
-// The value of a line.
-fn line_value(alloc: Global, bytes: &[u8]) -> Result<Option<Value>, AllocError>
-    ensures { IfOk result (λ value. value ≡ line_value bytes.now) }
-{
-    let line = line_of(bytes);
-    if has_newline(line) {
-        return Ok(None);
-    }
-    text_value(alloc, line)
-}
-
-// The number of a decimal text, if an `i64` holds it.
-fn int_value(alloc: Global, bytes: &[u8]) -> Result<Option<Value>, AllocError>
-    ensures { IfOk result (λ value. value ≡ int_value bytes.now) }
-{
-    let copy = Vec::from_slice(alloc, bytes)?;
-    match from_value_opt::<i64>(Value::Bytes(Bytes::from(copy))) {
-        Ok(number) => Ok(Some(Value::Int(number))),
-        Err(_) => Ok(None),
-    }
-}
-
-// The number of a decimal text, if a `u64` holds it.
-fn uint_value(alloc: Global, bytes: &[u8]) -> Result<Option<Value>, AllocError>
-    ensures { IfOk result (λ value. value ≡ uint_value bytes.now) }
-{
-    let copy = Vec::from_slice(alloc, bytes)?;
-    match from_value_opt::<u64>(Value::Bytes(Bytes::from(copy))) {
-        Ok(number) => Ok(Some(Value::UInt(number))),
-        Err(_) => Ok(None),
-    }
-}
-
-// The number of a decimal text, if an `i64` or else a `u64` holds it.
-pub(crate) fn number_value(alloc: Global, bytes: &[u8]) -> Result<Option<Value>, AllocError>
-    ensures { IfOk result (λ value. value ≡ number_value bytes.now) }
-{
-    match int_value(alloc, bytes)? {
-        Some(value) => Ok(Some(value)),
-        None => uint_value(alloc, bytes),
-    }
 }
 
 // The value of `true` or `false`.

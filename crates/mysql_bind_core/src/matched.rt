@@ -1,0 +1,344 @@
+//! A query whose places are matched with the columns of a table, once for all rows. Each row is
+//! bound from its cells where they lie.
+ghost use Rattle.std.specs.Prelude.{◌≡◌, ◌++◌, ◌<◌, ℕ, false, true, List, length, map, Some, IfOk, IfErr, IfSome, IsTrue, IsFalse, OnErr, OnOk};
+ghost use Rattle.std.specs.List.{slice_get};
+ghost use Rattle.mysql_named_params.specs.Tokens.{OnTokens};
+ghost use Rattle.mysql_named_params.specs.Places.{names};
+ghost use Rattle.mysql_params_core.specs.Referents.{referents};
+ghost use Rattle.mysql_values.specs.BorrowedValue.{owned_values};
+ghost use Rattle.mysql_bind_core.specs.Bound.{IsTaken};
+ghost use Rattle.mysql_bind_core.specs.Cells.{AreAssigned, AreNumbersOf, TableQuery, are_distinct_names, value_said};
+ghost use Rattle.mysql_bind_core.specs.Contents.{has_fragment};
+ghost use Rattle.mysql_bind_core.specs.Refusals.{IsQueryRefusal};
+ghost use Rattle.mysql_bind_core.specs.RowTexts.{IsAssignedRowText, IsRowRefusal, IsRowText};
+ghost use Rattle.mysql_bind_core.specs.declared.assignment.Assignment as declared;
+
+use crate::appended::{append_found, append_text};
+use crate::assignment::Assignment;
+use crate::binding::{check_query, found_in_text};
+use crate::cell::{Cell, CellValue, cell_values};
+use crate::failure::Failure;
+use crate::laws::values_are_sent;
+use crate::request::Request;
+use mysql_binding::ParsedQuery;
+use mysql_params_core::params::NamedPairs;
+use mysql_values::value::ValueRef;
+use std::alloc::{AllocError, Global};
+use std::collections::BTreeMap;
+use std::marker::Model;
+
+/// A query that a request takes, and for each of its places the number of the column with its name.
+#[derive(Debug, Drop)]
+pub struct MatchedQuery<'q, 'c> {
+    query: ParsedQuery<'q>,
+    columns: &'q [&'c [u8]],
+    request: Request,
+    // None if each row is bound as its assignments are: of a query without names, and of columns of
+    // which two have one name or that leave out a name.
+    numbers: Option<Vec<usize>>,
+}
+
+impl<'q, 'c> Model for MatchedQuery<'q, 'c> {
+    ghost use Rattle.mysql_params_core.specs.Referents.{referents};
+    ghost use Rattle.mysql_bind_core.specs.Cells.{TableQuery};
+    ghost use Rattle.mysql_bind_core.specs.MatchedQuery.{AreMatched};
+
+    ghost Value = { TableQuery };
+
+    ghost view = { λ m. record {
+      query = m.query.query;
+      columns = referents m.columns.now;
+      request = m.request;
+    } };
+
+    ghost invariant = { λ m.
+        AreMatched m.query m.request (referents m.columns.now) m.numbers };
+}
+
+impl<'q, 'c> MatchedQuery<'q, 'c> {
+    /// Matches the places of a query with columns of these names, or tells why the request doesn't
+    /// take the query.
+    pub fn with_columns(
+        alloc: Global,
+        query: &'q [u8],
+        columns: &'q [&'c [u8]],
+        request: Request,
+    ) -> Result<MatchedQuery<'q, 'c>, Failure>
+        ensures matched { IfOk result (λ m. m ≡ record {
+          query = query.now;
+          columns = referents columns.now;
+          request = request;
+        }) }
+        ensures taken { IfOk result (λ m. IsTaken request query.now) }
+        ensures refused { IfErr result (IsQueryRefusal request query.now) }
+    {
+        check_query(alloc, query, request)?;
+        let mode = request.literals.no_backslash_escape();
+        let parsed = match ParsedQuery::parse_in(alloc, query, mode) {
+            Ok(parsed) => parsed,
+            Err(error) => return Err(Failure::Memory(error)),
+        };
+        let numbers = match column_numbers(alloc, &parsed, columns) {
+            Ok(numbers) => numbers,
+            Err(error) => return Err(Failure::Memory(error)),
+        };
+        Ok(MatchedQuery {
+            query: parsed,
+            columns,
+            request,
+            numbers,
+        })
+    }
+
+    /// Writes the text of a row to the end of a script, as
+    /// [`taken_text`](crate::taken_text) gives it for what the cells assign to the names of their
+    /// columns. If it refuses, the script stays as it is. The values of cells are written from
+    /// where they lie, except those of bytes that are decoded, if each cell has a value.
+    ///
+    /// If there are more cells than columns, those at the end assign nothing. If there are fewer,
+    /// the columns at the end have no value, and a query with such a name is refused. There are
+    /// assignments that say what cells do (law
+    /// [`cells_are_assigned`](crate::laws::cells_are_assigned)).
+    pub fn append_row(
+        &self,
+        alloc: Global,
+        cells: &[Cell<'_>],
+        script: &mut Vec<u8>,
+    ) -> Result<(), Failure>
+        ensures bound { OnOk result ((text : List ℕ) × IsRowText self.now cells.now text
+            × (script.new.items ≡ script.old.items ++ text)) }
+        ensures refused { IfErr result (IsRowRefusal self.now cells.now) }
+        ensures kept { OnErr result (script.new.items ≡ script.old.items) }
+    {
+        match self.append_values(alloc, cells, script) {
+            Ok(true) => Ok(()),
+            Ok(false) => self.append_assigned(alloc, cells, script),
+            Err(error) => Err(Failure::Memory(error)),
+        }
+    }
+
+    // The same for assignments that are made of the cells.
+    fn append_assigned(
+        &self,
+        alloc: Global,
+        cells: &[Cell<'_>],
+        script: &mut Vec<u8>,
+    ) -> Result<(), Failure>
+        ensures bound { OnOk result ((text : List ℕ) × IsRowText self.now cells.now text
+            × (script.new.items ≡ script.old.items ++ text)) }
+        ensures refused { IfErr result (IsRowRefusal self.now cells.now) }
+        ensures kept { OnErr result (script.new.items ≡ script.old.items) }
+    {
+        let assignments = match assignments_of(alloc, self.columns, cells) {
+            Ok(assignments) => assignments,
+            Err(error) => return Err(Failure::Memory(error)),
+        };
+        append_text(
+            alloc,
+            self.query.query(),
+            assignments.as_slice(),
+            self.request,
+            script,
+        )
+    }
+
+    // Writes the text, if each cell has a value and each place a column. Else it writes nothing and
+    // says so by `false`; so it does of a text that can't be written, and of one that a client
+    // would change.
+    fn append_values(
+        &self,
+        alloc: Global,
+        cells: &[Cell<'_>],
+        script: &mut Vec<u8>,
+    ) -> Result<bool, AllocError>
+        ensures bound { IfOk result (λ done. IsTrue done → (text : List ℕ)
+            × IsRowText self.now cells.now text
+            × (script.new.items ≡ script.old.items ++ text)) }
+        ensures kept { IfOk result (λ done. IsFalse done →
+            script.new.items ≡ script.old.items) }
+        ensures refused { OnErr result (script.new.items ≡ script.old.items) }
+    {
+        let start = script.len();
+        if !self.append_cells(alloc, cells, script)? {
+            return Ok(false);
+        }
+        if !self.request.literals.no_backslash_escape() {
+            values_are_sent();
+            return Ok(true);
+        }
+        if found_in_text(&script.as_slice()[start..], self.request).is_none() {
+            return Ok(true);
+        }
+        script.truncate(start);
+        Ok(false)
+    }
+
+    // The same, whether or not the text is portable. What is written has no fragment.
+    fn append_cells(
+        &self,
+        alloc: Global,
+        cells: &[Cell<'_>],
+        script: &mut Vec<u8>,
+    ) -> Result<bool, AllocError>
+        ensures taken { IfOk result (λ done. IsTaken self.now.request self.now.query) }
+        ensures bound { IfOk result (λ done. IsTrue done → (text : List ℕ)
+            × IsAssignedRowText self.now cells.now text
+            × (script.new.items ≡ script.old.items ++ text)) }
+        ensures values { IfOk result (λ done. IsTrue done →
+            (assignments : List declared.Assignment) →
+            AreAssigned self.now.columns cells.now assignments →
+            has_fragment assignments ≡ false) }
+        ensures kept { IfOk result (λ done. IsFalse done →
+            script.new.items ≡ script.old.items) }
+        ensures refused { OnErr result (script.new.items ≡ script.old.items) }
+    {
+        if cells.len() != self.columns.len() {
+            return Ok(false);
+        }
+        let Some(numbers) = &self.numbers else {
+            return Ok(false);
+        };
+        let Some(values) = cell_values(alloc, cells)? else {
+            return Ok(false);
+        };
+        let Some(placed) = placed_values(alloc, numbers.as_slice(), values.as_slice())? else {
+            return Ok(false);
+        };
+        append_found(alloc, &self.query, placed, self.request, script)
+    }
+}
+
+/// What the cells of a row assign to the names of their columns. A name or a cell that the other
+/// list has no partner for is left out.
+pub fn assignments_of(
+    alloc: Global,
+    columns: &[&[u8]],
+    cells: &[Cell<'_>],
+) -> Result<Vec<Assignment>, AllocError>
+    ensures { IfOk result (λ assignments.
+        AreAssigned (referents columns.now) cells.now assignments.items) }
+{
+    let mut assignments = Vec::new(alloc);
+    for i in 0..columns.len() {
+        if i >= cells.len() {
+            return Ok(assignments);
+        }
+        let assignment = Assignment {
+            name: Vec::from_slice(alloc, columns[i])?,
+            value_type: cells[i].value_type,
+            bytes: Vec::from_slice(alloc, cells[i].bytes)?,
+        };
+        assignments.push(assignment)?;
+    }
+    Ok(assignments)
+}
+
+// The values of the columns with these numbers, if there are such columns.
+fn placed_values<'v>(
+    alloc: Global,
+    numbers: &[usize],
+    values: &'v [CellValue<'_>],
+) -> Result<Option<Vec<ValueRef<'v>>>, AllocError>
+    ensures { IfOk result (λ found. IfSome found (λ placed.
+        map (slice_get (map value_said values.now)) numbers.now
+        ≡ map (λ value. Some value) (owned_values placed.items))) }
+{
+    let mut placed = Vec::with_capacity(alloc, numbers.len())?;
+    for number in numbers {
+        let at = *number;
+        if at >= values.len() {
+            return Ok(None);
+        }
+        placed.push(values[at].borrowed())?;
+    }
+    Ok(Some(placed))
+}
+
+// For each place of the query the number of the column with its name, if the query has names, each
+// has a column, and no two columns have one name.
+fn column_numbers(
+    alloc: Global,
+    query: &ParsedQuery<'_>,
+    columns: &[&[u8]],
+) -> Result<Option<Vec<usize>>, AllocError>
+    ensures distinct { IfOk result (λ found. IfSome found (λ numbers.
+        are_distinct_names (referents columns.now) ≡ true)) }
+    ensures some { IfOk result (λ found. IfSome found (λ numbers. 0 < length columns.now)) }
+    ensures asked { IfOk result (λ found. IfSome found (λ numbers. 0 < length numbers.items)) }
+    ensures numbers { IfOk result (λ found. IfSome found (λ numbers.
+        OnTokens query.now.mode query.now.query (λ ts.
+        AreNumbersOf (referents columns.now) (names ts) numbers.items))) }
+{
+    let names = match query.names(alloc) {
+        Ok(names) => names,
+        Err(_) => return Err(AllocError),
+    };
+    if names.is_empty() || columns.is_empty() || !are_distinct_names(alloc, columns)? {
+        return Ok(None);
+    }
+    numbers_of(alloc, columns, names.as_slice())
+}
+
+// Whether no name stands twice.
+fn are_distinct_names(alloc: Global, names: &[&[u8]]) -> Result<bool, AllocError>
+    ensures { IfOk result (λ distinct. IsTrue distinct →
+        are_distinct_names (referents names.now) ≡ true) }
+{
+    let mut pairs = Vec::with_capacity(alloc, names.len())?;
+    for name in names {
+        pairs.push((*name, ValueRef::NULL))?;
+    }
+    match NamedPairs(pairs.as_slice()).first_redefined(alloc)? {
+        Some(_) => Ok(false),
+        None => Ok(true),
+    }
+}
+
+// The number of the column with each of these names, if each has one.
+fn numbers_of(
+    alloc: Global,
+    columns: &[&[u8]],
+    names: &[&[u8]],
+) -> Result<Option<Vec<usize>>, AllocError>
+    ensures { IfOk result (λ found. IfSome found (λ numbers.
+        AreNumbersOf (referents columns.now) (referents names.now) numbers.items)) }
+{
+    let by_name = numbers_by_name(alloc, columns)?;
+    let mut numbers = Vec::with_capacity(alloc, names.len())?;
+    for name in names {
+        match number_of(columns, &by_name, *name) {
+            Some(number) => numbers.push(number)?,
+            None => return Ok(None),
+        }
+    }
+    Ok(Some(numbers))
+}
+
+// Columns by name. What is found in it is compared again, so nothing is said of it.
+fn numbers_by_name<'c>(
+    alloc: Global,
+    columns: &[&'c [u8]],
+) -> Result<BTreeMap<&'c [u8], usize>, AllocError> {
+    let mut by_name = BTreeMap::new(alloc);
+    for (number, name) in columns.iter().enumerate() {
+        if by_name.insert(*name, number).is_err() {
+            return Err(AllocError);
+        }
+    }
+    Ok(by_name)
+}
+
+// The number of the column with this name.
+fn number_of(columns: &[&[u8]], by_name: &BTreeMap<&[u8], usize>, name: &[u8]) -> Option<usize>
+    ensures { IfSome result (λ number. slice_get (referents columns.now) number ≡ Some name.now) }
+{
+    let number = match by_name.get(name) {
+        Some(number) => *number,
+        None => return None,
+    };
+    if number < columns.len() && columns[number] == name {
+        Some(number)
+    } else {
+        None
+    }
+}
