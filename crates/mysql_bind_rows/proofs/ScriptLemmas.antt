@@ -32,6 +32,18 @@ written-snoc request query (r ∷ rows) (t ∷ texts) row text all one = (all.0,
 written-snoc request query [] (t ∷ texts) row text all one = absurd all
 written-snoc request query (r ∷ rows) [] row text all one = absurd all
 
+-- the statement of one row more
+pub statement_behind : (request : Request) (query : List ℕ) (rows : List Row) (row : Row) (old before after text : List ℕ)
+    → AreStatements request query rows old before → IsWritten request query row.assignments.items text → after ≡ before ++ statement text
+    → AreStatements request query (rows ++ row ∷ []) old after
+statement_behind request query rows row old before after text so_far written after_is = record {
+  texts = so_far.texts ++ text ∷ [];
+  written = written-snoc request query rows so_far.texts row text so_far.written written;
+  bytes = after_is ∙ ap (λ b. b ++ statement text) so_far.bytes
+      ∙ append_assoc old (script so_far.texts) (statement text)
+      ∙ ap (λ s. old ++ s) (sym (script-snoc so_far.texts text));
+}
+
 take-one : (rows : List Row) (n : ℕ) (row : Row) → n < length rows → row ≡ get_or rows n row → take (n + 1) rows ≡ take n rows ++ row ∷ []
 take-one rows n row below is = take_more rows n row below ∙ ap (λ r. take n rows ++ r ∷ []) (sym is)
 
@@ -40,14 +52,9 @@ pub statement_more : (request : Request) (query : List ℕ) (rows : List Row) (n
     → AreStatements request query (take n rows) old before
     → IsWritten request query row.assignments.items text → one ≡ statement text → after ≡ before ++ one
     → AreStatements request query (take (n + 1) rows) old after
-statement_more request query rows n row old before after one text below is so_far written one_is after_is = record {
-  texts = so_far.texts ++ text ∷ [];
-  written = subst (λ rs. AreWritten request query rs (so_far.texts ++ text ∷ [])) (sym (take-one rows n row below is))
-      (written-snoc request query (take n rows) so_far.texts row text so_far.written written);
-  bytes = after_is ∙ ap (λ o. before ++ o) one_is ∙ ap (λ b. b ++ statement text) so_far.bytes
-      ∙ append_assoc old (script so_far.texts) (statement text)
-      ∙ ap (λ s. old ++ s) (sym (script-snoc so_far.texts text));
-}
+statement_more request query rows n row old before after one text below is so_far written one_is after_is =
+    subst (λ rs. AreStatements request query rs old after) (sym (take-one rows n row below is))
+    (statement_behind request query (take n rows) row old before after text so_far written (after_is ∙ ap (λ o. before ++ o) one_is))
 
 take-all : (rows : List Row) → take (length rows) rows ≡ rows
 take-all [] = refl

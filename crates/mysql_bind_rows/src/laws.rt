@@ -1,13 +1,16 @@
 //! Laws of scripts. They do nothing: each is called for what it ensures.
-ghost use Rattle.std.specs.Prelude.{◌≡◌, ◌+◌, ℕ, Bool, List, [], if◌then◌else◌, length};
+ghost use Rattle.std.specs.Prelude.{◌≡◌, ◌+◌, ◌++◌, ◌∷◌, ℕ, Bool, List, [], if◌then◌else◌, length};
 ghost use Rattle.mysql_named_params.specs.Portable.{AreReadAlike};
 ghost use Rattle.mysql_named_params.specs.Statements.{statements};
 ghost use Rattle.mysql_named_params.specs.Tokens.{Token, IsTokens, OnTokens};
 ghost use Rattle.mysql_binding.specs.Replaced.{AreTokensOf};
+ghost use Rattle.mysql_bind_core.specs.Cells.{AreAssigned, TableQuery};
 ghost use Rattle.mysql_bind_core.specs.Requests.{mode_of};
+ghost use Rattle.mysql_bind_core.specs.RowTexts.{IsRowText};
+ghost use Rattle.mysql_bind_core.specs.declared.cell.Cell as cell;
 ghost use Rattle.mysql_bind_core.specs.declared.request.Portability.TheVariants as portability;
 ghost use Rattle.mysql_bind_core.specs.declared.request.Request as declared;
-ghost use Rattle.mysql_bind_rows.specs.Scripts.{AreStatements, IsScript};
+ghost use Rattle.mysql_bind_rows.specs.Scripts.{AreStatements, IsScript, statement};
 ghost use Rattle.mysql_bind_rows.specs.ScriptTokens.{AreLinesReadAlike, IsReadIn, IsSentByClient, count_of_statements, script_tokens, tokens_of_statements};
 ghost use Rattle.mysql_bind_rows.specs.declared.row.Row as row;
 
@@ -47,4 +50,18 @@ pub fn scripts_in_clients()
         (bytes : List ℕ) → request.portability ≡ portability.Portable →
         AreStatements request query rows [] bytes →
         OnTokens (mode_of request.literals) bytes IsSentByClient }
+{}
+
+/// What [`append_record`](crate::append_record) appends for one record after another are the
+/// statements of rows that say what their cells do: before the first there are none (`none`), and
+/// each record has the statement of one row more (`more`).
+pub fn records_make_scripts()
+    ensures none { (request : declared.Request) (query before : List ℕ) →
+        AreStatements request query [] before before }
+    ensures more { (query : TableQuery) (cells : List cell.Cell) (rows : List row.Row)
+        (row : row.Row) (before script after text : List ℕ) →
+        AreStatements query.request query.query rows before script →
+        AreAssigned query.columns cells row.assignments.items → IsRowText query cells text →
+        after ≡ script ++ statement text →
+        AreStatements query.request query.query (rows ++ row ∷ []) before after }
 {}

@@ -7,7 +7,9 @@ pub mod laws;
 mod row;
 mod rows;
 mod script;
+mod table;
 
 pub use row::{RefusedRow, Row, RowsFailure};
 pub use rows::append_rows;
 pub use script::{COMMIT, START, script_of, stream_rows, write_rows};
+pub use table::append_record;
