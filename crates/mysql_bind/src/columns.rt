@@ -5,7 +5,7 @@ use crate::query_file::{PlacesInOrder, QueryFile};
 use crate::told::SourceName;
 use crate::values::{TYPES, Values, type_of};
 use mysql_bind_core::{Assignment, ValueType};
-use mysql_records::Field;
+use mysql_records::LentField;
 use mysql_values::show::Shown;
 use std::alloc::{AllocError, Global};
 use std::collections::{BTreeMap, BTreeSet};
@@ -95,15 +95,12 @@ fn types_by_name<'t>(
 fn named_columns(
     alloc: Global,
     wanted: &Wanted<'_>,
-    header: &[Field],
+    header: &[LentField<'_>],
 ) -> Result<Vec<Column>, AllocError> {
     let types = types_by_name(alloc, wanted.types.as_slice())?;
     let mut columns = Vec::new(alloc);
     for field in header {
-        let name = match field {
-            Field::Bytes(name) => name.as_slice(),
-            Field::Null => b"".as_slice(),
-        };
+        let name = field.bytes().unwrap_or(b"");
         let column = Column {
             name: Vec::from_slice(alloc, name)?,
             // Text, unless a word says another type.
@@ -213,7 +210,7 @@ fn add_untyped(
 pub fn columns_of(
     alloc: Global,
     wanted: &Wanted<'_>,
-    header: &[Field],
+    header: &[LentField<'_>],
     line: u64,
 ) -> Result<Vec<Column>, Complaint> {
     let columns = named_columns(alloc, wanted, header)?;

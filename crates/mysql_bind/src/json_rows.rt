@@ -140,13 +140,13 @@ fn is_white_space(byte: u8) -> bool {
 /// Adds the rows of NDJSON to the script: a line is a row, except one of white space. A line ends
 /// only at LF, and at the end of the bytes.
 pub fn add_objects(
-    script: &mut Script<'_>,
+    script: &mut Script<'_, '_>,
     rt: &HostRuntime,
     decimals: Decimals,
     bytes: &[u8],
 ) -> Result<(), Complaint> {
-    check_fixed(rt.alloc(), &script.wanted)?;
-    let members = Members::new(rt.alloc(), &script.wanted, decimals)?;
+    check_fixed(rt.alloc(), script.wanted)?;
+    let members = Members::new(rt.alloc(), script.wanted, decimals)?;
     let mut rest = unmarked(bytes);
     let mut line = 1u64;
     // Each line has a byte.
@@ -159,7 +159,7 @@ pub fn add_objects(
             None => (rest, &rest[rest.len()..]),
         };
         if !text.iter().all(|byte| is_white_space(*byte)) {
-            let assignments = object_assignments(rt.alloc(), &script.wanted, &members, line, text)?;
+            let assignments = object_assignments(rt.alloc(), script.wanted, &members, line, text)?;
             script.add(rt, assignments, line)?;
         }
         line = line.saturating_add(1);

@@ -9,9 +9,11 @@ use crate::records::add_records;
 use crate::requests::request_of;
 use crate::script::Script;
 use crate::sources::{Sources, shown_path};
+use crate::table_script::TableScript;
 use crate::values::{Values, values_of};
 use clap::ArgMatches;
 use mysql_bind_core::{Request, check_query};
+use mysql_bind_rows::START;
 use mysql_records::RecordFormat;
 use std::alloc::{AllocError, Global};
 
@@ -76,19 +78,19 @@ fn null_text_of(alloc: Global, matches: &ArgMatches<'_>) -> Result<Option<Vec<u8
     }
 }
 
-// A script without a row.
-fn empty_script<'a>(
+// What the columns of a table are held against.
+fn wanted_of<'a>(
     alloc: Global,
     matches: &ArgMatches<'_>,
     path: &str,
     query: QueryFile<'a>,
     fixed: Values,
     request: Request,
-) -> Result<Script<'a>, Complaint> {
+) -> Result<Wanted<'a>, Complaint> {
     let mode = request.literals.no_backslash_escape();
     let places = name_places(alloc, query.bytes.as_slice(), mode)?;
     let numbers = place_numbers(alloc, places.as_slice())?;
-    let wanted = Wanted {
+    Ok(Wanted {
         query,
         places,
         numbers,
@@ -97,29 +99,67 @@ fn empty_script<'a>(
         null_text: null_text_of(alloc, matches)?,
         allow_unused: matches.get_flag("allow-unused"),
         path: String::from_str(alloc, shown_path(path))?,
-    };
-    Ok(Script {
+    })
+}
+
+// Writes the rows of a table of records.
+fn write_records(
+    rt: &HostRuntime,
+    matches: &ArgMatches<'_>,
+    wanted: &Wanted<'_>,
+    request: Request,
+    format: RecordFormat,
+    bytes: &[u8],
+) -> Result<(), Complaint> {
+    let mut script = TableScript {
         wanted,
         request,
         transaction: matches.get_flag("transaction"),
         stream: matches.get_flag("stream"),
         begun: false,
-        rows: Vec::new(alloc),
-        lines: Vec::new(alloc),
-    })
+        text: Vec::new(rt.alloc()),
+        waiting: 0,
+        refused: None,
+    };
+    if script.transaction && !script.stream {
+        script.text.extend_from_slice(START)?;
+    }
+    match add_records(&mut script, rt, format, bytes) {
+        Ok(()) => script.finish(rt, matches.get_str("output")),
+        Err(complaint) => {
+            if script.stream {
+                script.write_streamed(rt)?;
+            }
+            Err(complaint)
+        }
+    }
 }
 
-// Adds the rows of the table.
-fn add_rows(
-    script: &mut Script<'_>,
+// Writes the rows of NDJSON.
+fn write_objects(
     rt: &HostRuntime,
-    form: Form,
-    decimals: Decimals,
+    matches: &ArgMatches<'_>,
+    wanted: &Wanted<'_>,
+    request: Request,
     bytes: &[u8],
 ) -> Result<(), Complaint> {
-    match form {
-        Form::Records(format) => add_records(script, rt, format, bytes),
-        Form::Ndjson => add_objects(script, rt, decimals, bytes),
+    let mut script = Script {
+        wanted,
+        request,
+        transaction: matches.get_flag("transaction"),
+        stream: matches.get_flag("stream"),
+        begun: false,
+        rows: Vec::new(rt.alloc()),
+        lines: Vec::new(rt.alloc()),
+    };
+    match add_objects(&mut script, rt, Decimals::of(matches), bytes) {
+        Ok(()) => script.finish(rt, matches.get_str("output")),
+        Err(complaint) => {
+            if script.stream {
+                script.write_streamed(rt)?;
+            }
+            Err(complaint)
+        }
     }
 }
 
@@ -144,16 +184,17 @@ pub fn rows(rt: &HostRuntime, matches: &ArgMatches<'_>) -> Result<(), Complaint>
         let values = Values::new(rt.alloc());
         return Err(complaint_of(rt.alloc(), &query, &values, request, failure)?);
     }
-    let mut script = empty_script(rt.alloc(), matches, path, query, fixed, request)?;
+    let wanted = wanted_of(rt.alloc(), matches, path, query, fixed, request)?;
     let bytes = sources.read(rt, path)?;
-    let decimals = Decimals::of(matches);
-    match add_rows(&mut script, rt, form, decimals, bytes.as_slice()) {
-        Ok(()) => script.finish(rt, matches.get_str("output")),
-        Err(complaint) => {
-            if script.stream {
-                script.write_streamed(rt)?;
-            }
-            Err(complaint)
-        }
+    match form {
+        Form::Records(format) => write_records(
+            rt,
+            matches,
+            &wanted,
+            request,
+            format,
+            bytes.as_slice(),
+        ),
+        Form::Ndjson => write_objects(rt, matches, &wanted, request, bytes.as_slice()),
     }
 }

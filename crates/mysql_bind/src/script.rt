@@ -1,25 +1,24 @@
 //! The rows that are bound, and what is said of a refused one.
-use crate::changed_text::changed_text;
 use crate::columns::Wanted;
-use crate::complaint::{Complaint, Fault, Place, add_fault, bad_row};
+use crate::complaint::Complaint;
 use crate::output::write_text;
 use crate::query_file::complaint_of;
-use crate::values::{Values, wrong_value};
-use mysql_bind_core::{Assignment, Failure, Request, typed_fragment};
+use crate::refused_row::{RowAt, complaint_of_row};
+use crate::values::Values;
+use mysql_bind_core::{Assignment, Request};
 use mysql_bind_rows::{
     COMMIT, RefusedRow, Row, RowsFailure, START, script_of, stream_rows, write_rows,
 };
-use mysql_values::show::Shown;
 use std::alloc::{AllocError, Global};
 
-// So many rows are written at once by `--stream`.
-const STREAMED_ROWS: usize = 256;
+/// So many rows are written at once by `--stream`.
+pub const STREAMED_ROWS: usize = 256;
 
 /// The rows of a table, and how they are written.
 #[derive(Drop)]
-pub struct Script<'a> {
+pub struct Script<'a, 'w> {
     /// The query, and what the table is held against.
-    pub wanted: Wanted<'a>,
+    pub wanted: &'a Wanted<'w>,
     /// What is asked of the query.
     pub request: Request,
     /// Whether a transaction is asked for.
@@ -34,7 +33,7 @@ pub struct Script<'a> {
     pub lines: Vec<u64>,
 }
 
-impl Script<'_> {
+impl Script<'_, '_> {
     /// Adds a row.
     pub fn add(
         &mut self,
@@ -158,49 +157,7 @@ impl Script<'_> {
             Some(row) => row.assignments.as_slice(),
             None => return Ok(Complaint::Memory),
         };
-        let path = self.wanted.path.as_str();
-        match refused.failure {
-            Failure::NoValue => self.wrong_fields(alloc, assignments, line),
-            Failure::UnportableText(found) => {
-                let query = self.wanted.query.bytes.as_slice();
-                let changed = changed_text(alloc, query, assignments, self.request, found)?;
-                Ok(bad_row(alloc, path, line, changed.what.as_str()))
-            }
-            Failure::Redefined(name) => {
-                let what = format!(in alloc; "`{}` is given two values", Shown(name.as_slice()))?;
-                Ok(bad_row(alloc, path, line, what.as_str()))
-            }
-            failure => complaint_of(
-                alloc,
-                &self.wanted.query,
-                &Values::new(alloc),
-                self.request,
-                failure,
-            ),
-        }
-    }
-
-    // A fault for each field whose bytes have no value of its type.
-    fn wrong_fields(
-        &self,
-        alloc: Global,
-        assignments: &[Assignment],
-        line: u64,
-    ) -> Result<Complaint, AllocError> {
-        let mut faults: Vec<Fault> = Vec::new(alloc);
-        for assignment in assignments {
-            let value_type = assignment.value_type;
-            if typed_fragment(alloc, value_type, assignment.bytes.as_slice())?.is_some() {
-                continue;
-            }
-            let what = format!(in alloc;
-                "`{}` {}",
-                Shown(assignment.name.as_slice()),
-                wrong_value(value_type)
-            )?;
-            let path = String::from_str(alloc, self.wanted.path.as_str())?;
-            add_fault(&mut faults, Place::Row { path, line }, what)?;
-        }
-        Ok(Complaint::Refused(faults))
+        let row = RowAt { assignments, line };
+        complaint_of_row(alloc, self.wanted, self.request, row, refused.failure)
     }
 }
