@@ -18,6 +18,7 @@ mod fragment_inputs;
 mod inputs;
 mod lookup_cases;
 mod maker_cases;
+mod matched_cases;
 mod outcome;
 mod pair_cases;
 mod parsed_query_cases;
@@ -111,6 +112,9 @@ fn bind_case(alloc: Global, name: &str) -> Option<Case> {
     if let Some(case) = bind_cases::case(alloc, name) {
         return Some(case);
     }
+    if let Some(case) = matched_cases::case(alloc, name) {
+        return Some(case);
+    }
     if let Some(case) = record_cases::case(alloc, name) {
         return Some(case);
     }
@@ -184,7 +188,7 @@ fn read_lines(rt: &HostRuntime, room: &mut [u8]) -> io::Result<usize> {
 }
 
 fn main(rt: HostRuntime) -> io::Result<()> {
-    let mut room = [0u8; 16_384];
+    let mut room = [0u8; 32_768];
     let len = read_lines(&rt, &mut room)?;
     let read = room.get(..len).unwrap_or(&[]);
     let text = str::from_utf8(read).unwrap_or("");

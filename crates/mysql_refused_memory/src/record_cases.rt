@@ -1,13 +1,16 @@
-//! Records of a text: `first_record` and `all_rows`.
+//! Records of a text: `first_record`, `first_record_into` and `all_rows`.
 use crate::outcome::{Case, Is, Memory, cases, judged, row};
 use mysql_records::RecordFormat::{self, Csv, MysqlTsv};
-use mysql_records::{Field, Record, Row, all_rows, first_record};
+use mysql_records::{Field, LentField, Record, Row, all_rows, first_record, first_record_into};
 use std::alloc::Global;
 
 /// How the call of this name went, if it stands here.
 pub(crate) fn case(alloc: Global, name: &str) -> Option<Case> {
     if let Some((format, text, wanted, memory)) = row(FIRST, name) {
         return Some(Ok(judged(first_record(alloc, format, text), wanted).with(memory)));
+    }
+    if let Some((room, row)) = row(INTO, name) {
+        return Some(read_into(alloc, room, row));
     }
     let (format, text, wanted, memory) = row(ALL, name)?;
     Some(Ok(judged(all_rows(alloc, format, text), wanted).with(memory)))
@@ -27,6 +30,19 @@ const FIRST: &[(&str, ReadRow<Option<Fields>>)] = cases! {
     "first_record of a quote in a field" =>
         Csv, b"a,b\"c", Err("Fault(Fault { at: 3, kind: StrayQuote })"), Memory::Asked;
     "first_record of an empty text" => Csv, b"", Ok(None), Memory::Never;
+};
+
+/// The room of the vector, and the same.
+const INTO: &[(&str, (usize, ReadRow<Option<Fields>>))] = cases! {
+    "first_record_into of fields in quotes and without" =>
+        0, (Csv, b"\"a\"\"b\",c\r\nd\r\n", Ok(Some(&[Some(b"a\"b"), Some(b"c")])), Memory::Asked);
+    "first_record_into of NULL and escapes" =>
+        0, (MysqlTsv, b"\\N\ta\\tb\n", Ok(Some(&[None, Some(b"a\tb")])), Memory::Asked);
+    "first_record_into of room and bytes as they stand" =>
+        2, (Csv, b"\"a,b\",c", Ok(Some(&[Some(b"a,b"), Some(b"c")])), Memory::Never);
+    "first_record_into of a quote in a field" =>
+        0, (Csv, b"a,b\"c", Err("Fault(Fault { at: 3, kind: StrayQuote })"), Memory::Asked);
+    "first_record_into of an empty text" => 0, (Csv, b"", Ok(None), Memory::Never);
 };
 
 const ALL: &[(&str, ReadRow<&'static [Fields]>)] = cases! {
@@ -52,6 +68,34 @@ impl Is<Option<Fields>> for Option<Record<'_>> {
         match (self, wanted) {
             (None, None) => true,
             (Some(record), Some(wanted)) => are_fields(record.fields.as_slice(), wanted),
+            _ => false,
+        }
+    }
+}
+
+/// The same for fields that lie in a text, as `first_record_into` reads them.
+fn read_into(alloc: Global, room: usize, row: ReadRow<Option<Fields>>) -> Case {
+    let (format, text, wanted, memory) = row;
+    let mut fields = Vec::with_capacity(alloc, room)?;
+    let answer = match first_record_into(alloc, format, text, &mut fields) {
+        Ok(Some(_)) => Ok(Some(fields)),
+        Ok(None) => Ok(None),
+        Err(error) => Err(error),
+    };
+    Ok(judged(answer, wanted).with(memory))
+}
+
+impl Is<Option<Fields>> for Option<Vec<LentField<'_>>> {
+    fn is(&self, wanted: Option<Fields>) -> bool {
+        match (self, wanted) {
+            (None, None) => true,
+            (Some(fields), Some(wanted)) => {
+                fields.len() == wanted.len()
+                    && fields
+                        .iter()
+                        .zip(wanted)
+                        .all(|(field, wanted)| field.bytes() == *wanted)
+            }
             _ => false,
         }
     }
