@@ -267,6 +267,12 @@ class Test(unittest.TestCase):
             self.send(connection, params={"b": 1})
         self.assertEqual(connection.sent, [])
 
+    def test_call_of_readme(self):
+        connection = PyMySQL()
+        cursor = connection.cursor()
+        mysql_params.execute(cursor, "SELECT :id", {"id": 42})
+        self.assertEqual(connection.sent[-1], b"SELECT 42")
+
     def test_fragments(self):
         sent = self.send(PyMySQL(), "SELECT ? IN (?)", [mysql_params.Identifier("a"), [1, 2]])
         self.assertEqual(sent, b"SELECT `a` IN (1, 2)")

@@ -1,5 +1,5 @@
 //! Durations, and parameters as the macro writes them.
-use mysql_params::{DurationTooLong, Params, Time, Value, bind, params};
+use mysql_params::{DurationTooLong, Error, Params, Time, Value, bind, bind_anywhere, params};
 use std::time::Duration;
 
 const DAY: u64 = 24 * 60 * 60;
@@ -73,4 +73,11 @@ fn written_parameters() {
     assert_eq!(params![], Params::Empty);
     let text = bind(b":b", &params! { "b" => &name }).unwrap();
     assert_eq!(text, br"'it\'s'");
+}
+
+#[test]
+fn call_of_readme() -> Result<(), Error> {
+    let text = bind_anywhere(b"SELECT :id", &params! { "id" => 42 })?;
+    assert_eq!(text, b"SELECT 42");
+    Ok(())
 }

@@ -1,7 +1,7 @@
 //! The first call, to which README links: a query of texts that come as arguments, by name and by
 //! position.
 use mysql_params::params::{Params, ToParams, ToParamsError};
-use mysql_params::{BindError, bind_text};
+use mysql_params::{BindError, SteadyTextError, bind_text, bind_text_anywhere};
 use mysql_values::value::convert::{ToValue, ToValueError};
 use std::alloc::Global;
 use thiserror::Error;
@@ -15,6 +15,8 @@ pub enum QueryError {
     Params(#[from] ToParamsError),
     #[error(transparent)]
     Bind(#[from] BindError),
+    #[error(transparent)]
+    Anywhere(#[from] SteadyTextError),
 }
 
 /// The query for a customer.
@@ -28,6 +30,12 @@ pub fn customer(alloc: Global, id: u64, name: &str) -> Result<Vec<u8>, QueryErro
 pub fn customer_by_position(alloc: Global, id: u64, name: &str) -> Result<Vec<u8>, QueryError> {
     let params = (id, name).to_params(alloc)?;
     Ok(bind_text(alloc, b"SELECT ?, ':id', ?", params)?)
+}
+
+/// The query for a customer, for any server.
+pub fn customer_anywhere(alloc: Global, id: u64) -> Result<Vec<u8>, QueryError> {
+    let params = Params::from_pairs(alloc, &[("id", id.to_value(alloc)?)])?;
+    Ok(bind_text_anywhere(alloc, b"SELECT :id", params)?)
 }
 
 #[cfg(test)]
@@ -48,6 +56,11 @@ mod tests {
     #[test]
     fn by_name(rt: HostRuntime) {
         gives(&rt, customer(rt.alloc(), 42, HOSTILE), BOUND);
+    }
+
+    #[test]
+    fn for_any_server(rt: HostRuntime) {
+        gives(&rt, customer_anywhere(rt.alloc(), 42), b"SELECT 42");
     }
 
     #[test]
