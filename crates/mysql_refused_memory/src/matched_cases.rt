@@ -38,7 +38,7 @@ type MatchedRow = (&'static [u8], Columns, Request, Option<&'static str>);
 const MATCHED: &[(&str, MatchedRow)] = cases! {
     "with_columns of names" => b":b, :a, :b", A_AND_B, STEADY, None;
     "with_columns of a name without a column" => b":a, :c", A_AND_B, PLAIN, None;
-    "with_columns of no columns" => b"DO 1", &[], STEADY, None;
+    "with_columns of no columns" => b"DO :a", &[], STEADY, None;
     "with_columns of a mark" => b":a ?", A, PLAIN, Some("Marks");
     "with_columns of an open query" => b"':a", A, STEADY, Some("Open { at: 0 }");
 };
