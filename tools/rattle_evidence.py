@@ -217,18 +217,32 @@ def tests_of(crate):
     for source in sources_of(crate):
         path = "::".join(source.path.relative_to(ROOT / "crates" / crate / "src").with_suffix("").parts)
         for holder, item in functions(source.items):
-            bodies.setdefault(item.name, set()).update(name for name in names_in(item) if name[0] != ".")
+            words = {name for name in names_in(item) if name[0] != "."}
+            bodies.setdefault(item.name, {}).setdefault(source.path, set()).update(words)
             if holder is None:
                 own.add(item.name)
             if "#[test]" in item.attributes and source.path != PATHS:
-                found.append((f"{crate}::{path}::{item.name}", item.name))
-    for path, name in found:
-        depths, layer, depth = {}, {name}, 0
-        while layer:
-            new = set().union(*(bodies[one] for one in layer)) - set(depths)
-            depths.update(dict.fromkeys(new, depth))
-            layer, depth = new & set(bodies), depth + 1
-        yield Test(crate, path, depths, own)
+                found.append((f"{crate}::{path}::{item.name}", source.path, item.name))
+    for path, file, name in found:
+        yield Test(crate, path, depths_from(bodies, file, name), own)
+
+
+def depths_from(bodies, file, name):
+    """How many calls lead from a function of a file to each name. A name is of its own file if it has one, else of any."""
+    depths, seen, layer, depth = {}, set(), {(file, name)}, 0
+    while layer:
+        seen |= layer
+        named = {(file, word) for file, name in layer for word in bodies[name][file]}
+        for _, word in named:
+            depths.setdefault(word, depth)
+        layer, depth = {one for file, word in named for one in places_of(bodies, file, word)} - seen, depth + 1
+    return depths
+
+
+def places_of(bodies, file, name):
+    """The functions that a name in a file may be: that of the file, and else each of the crate."""
+    places = bodies.get(name, {})
+    return [(file, name)] if file in places else [(other, name) for other in places]
 
 
 class Tests:
