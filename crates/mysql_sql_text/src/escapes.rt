@@ -8,6 +8,7 @@ ghost use Rattle.std.specs.Int.RustNames.{count_ones};
 ghost use Rattle.std.specs.Simd.Lanes.{chunk, mask_l};
 ghost use Rattle.mysql_sql_text.specs.LiteralText.{escaped, escaped_byte, is_escaped};
 
+use crate::blocks::{HALF, both_ends};
 use crate::numbers::append_byte;
 use std::simd::prelude::*;
 
@@ -39,7 +40,7 @@ pub(crate) fn escaped_len(bytes: &[u8], no_backslash_escape: bool) -> usize
     ensures few { result ≤ 2 * length bytes.now }
 {
     if bytes.len() < LANES {
-        return escaped_bytes_len(bytes, no_backslash_escape);
+        return escaped_len_of_few(bytes, no_backslash_escape);
     }
     let mut at = 0;
     let mut escapes = 0;
@@ -64,6 +65,23 @@ fn count_set_bits(bits: u64) -> usize
         return 0;
     }
     bits.count_ones() as usize
+}
+
+// `escaped_len` of fewer than 16 bytes. From 8 on they are looked at together, and fewer one by
+// one.
+#[inline(always)]
+fn escaped_len_of_few(bytes: &[u8], no_backslash_escape: bool) -> usize
+    requires { length bytes.now ≤ LANES }
+    ensures exact { result ≡ length (escaped no_backslash_escape bytes.now) }
+    ensures few { result ≤ 2 * length bytes.now }
+{
+    if bytes.len() < HALF {
+        return escaped_bytes_len(bytes, no_backslash_escape);
+    }
+    let escapes = escaped_lanes(both_ends(bytes), no_backslash_escape);
+    // Those of the last 8 bytes that are among the first 8 are counted with these alone.
+    let counted = escapes >> (LANES - bytes.len());
+    bytes.len() + counted.count_ones() as usize
 }
 
 // How long the escaped bytes are, byte by byte.
