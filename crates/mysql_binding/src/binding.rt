@@ -365,8 +365,8 @@ pub fn measured_values<'p, F: LiteralForm>(
     }
 }
 
-// References to the values in the parameters that are given to the places of a query with this many
-// names, and no marks beside them. The list of names is dropped before the text is written.
+// The values, borrowed, that are given to the places of a query with this many names, and no marks
+// beside them. The list of names is dropped before the text is written.
 fn values_of_places<'p>(
     alloc: Global,
     query: &[u8],

@@ -2,8 +2,8 @@
 //!
 //! Most bytes stand for themselves. So the bytes go in blocks of 16, and the escapes of a block are
 //! counted together. When the bytes are written, a block without escapes is copied whole, and one
-//! with few goes from escape to escape. One with many goes four bytes at once, whichever of them are
-//! escaped. The last bytes go byte by byte.
+//! with few goes from escape to escape. One with many goes four bytes at once, whichever of them
+//! are escaped. The last bytes go byte by byte.
 ghost use Rattle.std.specs.Prelude.{◌≡◌, [], ◌∷◌, ◌++◌, ◌+◌, ◌*◌, ◌≤◌, length, take, drop, map, MatchOption};
 ghost use Rattle.std.specs.Int.RustNames.{count_ones};
 ghost use Rattle.std.specs.Simd.Lanes.{chunk, mask_l};

@@ -208,7 +208,7 @@ fn measured_spans<'p, F: LiteralForm>(
     }
 }
 
-// References to the values that are given to the names at these places.
+// The values, borrowed, that are given to the names at these places.
 fn values_at<'p>(
     alloc: Global,
     query: &[u8],

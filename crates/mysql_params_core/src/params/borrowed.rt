@@ -16,8 +16,8 @@ use mysql_values::value::{Value, ValueRef};
 use std::alloc::{AllocError, Global};
 use std::collections::{BTreeMap, HashMap};
 
-/// Borrowed parameters: those of [`Params`], or named ones in a sorted map. The crates above bind
-/// by these; no user needs them.
+/// Parameters that are lent: maps, pairs or lists, of values that are owned or borrowed. The crates
+/// above bind by these; no user needs them.
 #[derive(Clone, Copy)]
 pub enum BorrowedParams<'p, 'v> {
     /// Nothing.
@@ -53,9 +53,9 @@ impl Params {
 /// the parameters: no value is copied, and of the names only one that is missing. An empty list
 /// means a query without names.
 ///
-/// `Missing` and `Confusion` are as with [`Params::into_values`]. `Memory` is returned only for
-/// `Named` or `Empty` and a list with names, and for `Positional` with values and an empty list.
-/// The crates above bind by this; no user needs it.
+/// `Missing` and `Confusion` are as with [`Params::into_values`]. For a list with names `Memory` is
+/// returned only if the parameters are not by position. For an empty list it is returned only if
+/// there are values by position. The crates above bind by this; no user needs it.
 pub fn place_values<'p>(
     alloc: Global,
     params: BorrowedParams<'p, '_>,

@@ -49,7 +49,7 @@ impl NullBitmap<'_> {
 /// there: [`read_binary_value`] reads that of each column which isn't NULL. So a row is read
 /// without memory, also if the packets come one after another in one buffer.
 ///
-/// After an error the buffer is unchanged. It is never out of memory.
+/// After an error the buffer is unchanged.
 pub fn read_null_bitmap<'b>(
     count: usize,
     buf: &mut ParseBuf<'b>,
