@@ -1,6 +1,6 @@
 //! Texts that are bound to borrowed fragments. The wanted texts are written by the rules of the
-//! MySQL Reference Manual, "VALUES Statement", "Comparison Functions and Operators" and "String
-//! Literals".
+//! MySQL Reference Manual, "VALUES Statement", "Comparison Functions and Operators", "String
+//! Literals" and "Server SQL Modes" (of `NO_BACKSLASH_ESCAPES`).
 use mysql_fragments::{
     Fragment, FragmentFault, FragmentRef, FragmentsError, RowsRef, bind_borrowed_fragments,
 };
@@ -66,6 +66,22 @@ fn borrowed_rows(rt: HostRuntime) {
                     b"VALUES (1, 'it\\'s'), (-2, NULL);",
                 )
         }
+        Err(_) => false,
+    };
+    assert!(rt; same);
+}
+
+// A backslash is a byte like any other, and a quote is doubled.
+#[test]
+fn borrowed_texts_without_backslashes(rt: HostRuntime) {
+    let texts = [ValueRef::Bytes(b"it's"), ValueRef::Bytes(b"a\\b")];
+    let fragments = [
+        FragmentRef::List(&texts),
+        FragmentRef::Value(ValueRef::Bytes(b"it's")),
+    ];
+    let text = bind_borrowed_fragments(rt.alloc(), b"a IN (?) OR b=?", &fragments, true);
+    let same = match text {
+        Ok(text) => text.as_slice() == b"a IN ('it''s', 'a\\b') OR b='it''s'".as_slice(),
         Err(_) => false,
     };
     assert!(rt; same);
