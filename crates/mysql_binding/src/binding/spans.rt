@@ -270,7 +270,7 @@ fn fill_spans<F: LiteralForm>(
     for (i, value) in measured.values.iter().enumerate() {
         let (piece, _, after) = spans[i].cut(rest);
         at = append_piece(room, at, piece);
-        at = append_literal(room, at, *value, lens[i] as usize, form);
+        at = append_literal(room, at, *value, lens[i], form);
         rest = after;
     }
     append_piece(room, at, rest);
