@@ -1,10 +1,10 @@
 //! The values of the names of a query, borrowed and not copied, from parameters that are borrowed.
-ghost use Rattle.std.specs.Prelude.{◌≡◌, ◌<◌, [], ◌∷◌, IfOk, IfSome, IsErrOf, Ok, OnErr, alloc_error, length, ⊤};
+ghost use Rattle.std.specs.Prelude.{◌≡◌, ◌<◌, ◌⊎◌, [], ◌∷◌, IfOk, IfSome, IsErr, IsErrOf, None, Ok, OnErr, alloc_error, length, ⊤};
 ghost use Rattle.mysql_wire_part.specs.Answer.{IsAnswer};
 ghost use Rattle.mysql_params_core.specs.Errors.{lookup_refusal};
 ghost use Rattle.mysql_params_core.specs.Given.{ValueMap, given, named};
 ghost use Rattle.mysql_params_core.specs.GivenBorrowed.{given_by_borrowed};
-ghost use Rattle.mysql_params_core.specs.Lookup.{lookup, PlaceValuesTakeMemory};
+ghost use Rattle.mysql_params_core.specs.Lookup.{AreManyPairs, PlaceValuesTakeMemory, lookup};
 ghost use Rattle.mysql_params_core.specs.Referents.{referents};
 ghost use Rattle.mysql_values.specs.BorrowedValue.{owned, owned_values};
 
@@ -101,11 +101,13 @@ pub fn place_values<'p>(
 /// The value of a name, borrowed, where it is found without memory. The crates above bind by this;
 /// no user needs it.
 ///
-/// More than 64 pairs are not walked for one name, so of these none is found. Of parameters by
-/// position and of none it is none too.
+/// It is none if a lookup of the name refuses it. It is none of more than 64 pairs, which aren't
+/// walked for one name.
 pub fn value_of<'p>(params: BorrowedParams<'p, '_>, name: &[u8]) -> Option<ValueRef<'p>>
-    ensures { IfSome result (λ value. lookup (given_by_borrowed params.entry) (name.now ∷ [])
+    ensures found { IfSome result (λ value. lookup (given_by_borrowed params.entry) (name.now ∷ [])
         ≡ Ok (owned value ∷ [])) }
+    ensures none { result ≡ None →
+        IsErr (lookup (given_by_borrowed params.entry) (name.now ∷ [])) ⊎ AreManyPairs params.entry }
 {
     match params {
         BorrowedParams::Named(entries) => entries.value_of(name),

@@ -26,7 +26,7 @@ loop-rest-preserved c =
         _,
         listed_more _ _ _ _ _ so_far.1 _ _ _ _ (omega (arith, looked_up_length _ so_far.0 c.loop-rest.values.items so_far.2)) c.in-Some.ensures.place
             c.cut.ensures.place c.cut.ensures.after refl,
-        looked_up_more _ so_far.0 _ c.loop-rest.values.items _ _ so_far.2 c.in-Some-value_of.ensures c.in_ok-push.ensures.items,
+        looked_up_more _ so_far.0 _ c.loop-rest.values.items _ _ so_far.2 c.in-Some-value_of.ensures.found c.in_ok-push.ensures.items,
       ),
       one_passed c.args.no_backslash_escape c.loop-rest.rest.now _ c.args.known.now (c.in-Some.found.before + c.in-Some.found.len) c.len-in-loop-rest.result _ _ _ c.in_ok-push.ensures.items c.cut.ensures.after (omega arith) c.in-Some.ensures.next,
     )
