@@ -2,10 +2,13 @@
 use crate::columns::{Column, Wanted, columns_of};
 use crate::complaint::{Complaint, Place, bad_file, one_fault};
 use crate::query_file::complaint_of;
+use crate::refused_row::{RowAt, complaint_of_row};
+use crate::script::STREAMED_ROWS;
 use crate::sources::unmarked;
-use crate::table_script::{TableRow, TableScript};
+use crate::table_script::TableScript;
 use crate::values::Values;
-use mysql_bind_core::{Cell, MatchedQuery, Request, ValueType, line_and_column};
+use mysql_bind_core::{Cell, Failure, MatchedQuery, Request, assignments_of, line_and_column};
+use mysql_bind_rows::{TableColumn, TableForm, TableRefusal, append_table, record_cells};
 use mysql_records::{Fault, FaultKind, LentField, RecordError, RecordFormat, first_record_into};
 use std::alloc::{AllocError, Global};
 
@@ -50,43 +53,90 @@ fn place_refused(alloc: Global, path: &str, line: usize, column: usize, what: &s
     }
 }
 
-// What is said of a table whose bytes aren't records from a byte on.
-fn record_refused(
-    alloc: Global,
-    path: &str,
+// The bytes of a table.
+#[derive(Clone, Copy)]
+struct Table<'t> {
+    // Its path, as messages have it.
+    path: &'t str,
     format: RecordFormat,
-    fault: Fault,
-    bytes: &[u8],
-) -> Complaint {
-    let (line, column) = line_and_column(bytes, fault.at.min(bytes.len()));
-    place_refused(alloc, path, line, column, fault_text(format, fault.kind))
+    bytes: &'t [u8],
 }
 
-// What is said of a record that begins at a line, and has another number of fields than there are
-// columns.
-fn length_refused(alloc: Global, path: &str, line: u64, len: usize, columns: usize) -> Complaint {
-    let fields = if len == 1 { "field" } else { "fields" };
-    match format!(in alloc; "{len} {fields}, and the first line has {columns}") {
-        Ok(what) => place_refused(alloc, path, line as usize, 1, what.as_str()),
-        Err(_) => Complaint::Memory,
+impl<'t> Table<'t> {
+    // The bytes from an index on.
+    fn from_index(self, at: usize) -> &'t [u8] {
+        let at = at.min(self.bytes.len());
+        &self.bytes[at..]
     }
-}
 
-// What a field is for its column.
-fn cell_of<'f>(wanted: &Wanted<'_>, column: &Column, field: &'f LentField<'_>) -> Cell<'f> {
-    let Some(bytes) = field.bytes() else {
-        return Cell {
-            value_type: ValueType::Null,
-            bytes: b"",
-        };
-    };
-    let is_null = matches!(&wanted.null_text, Some(text) if text.as_slice() == bytes);
-    let value_type = if is_null {
-        ValueType::Null
-    } else {
-        column.value_type
-    };
-    Cell { value_type, bytes }
+    // The index at which a rest of the bytes begins.
+    fn index_of(self, rest: &[u8]) -> usize {
+        self.bytes.len().saturating_sub(rest.len())
+    }
+
+    // The line and the column of an index.
+    fn place_of(self, at: usize) -> (usize, usize) {
+        line_and_column(self.bytes, at.min(self.bytes.len()))
+    }
+
+    // What is said of a fault in a rest of the bytes that begins at an index.
+    fn fault_refused(self, alloc: Global, start: usize, fault: Fault) -> Complaint {
+        let (line, column) = self.place_of(start.saturating_add(fault.at));
+        place_refused(
+            alloc,
+            self.path,
+            line,
+            column,
+            fault_text(self.format, fault.kind),
+        )
+    }
+
+    // What is said of a record that begins at an index, and has another number of fields than there
+    // are columns.
+    fn length_refused(self, alloc: Global, at: usize, len: usize, columns: usize) -> Complaint {
+        let (line, _) = self.place_of(at);
+        let fields = if len == 1 { "field" } else { "fields" };
+        match format!(in alloc; "{len} {fields}, and the first line has {columns}") {
+            Ok(what) => place_refused(alloc, self.path, line, 1, what.as_str()),
+            Err(_) => Complaint::Memory,
+        }
+    }
+
+    // Reads the fields of the record at the front of a rest of the bytes, if there is one, and
+    // gives the bytes behind it.
+    fn read(
+        self,
+        alloc: Global,
+        rest: &'t [u8],
+        fields: &mut Vec<LentField<'t>>,
+    ) -> Result<Option<&'t [u8]>, Complaint> {
+        match first_record_into(alloc, self.format, rest, fields) {
+            Ok(more) => Ok(more),
+            Err(RecordError::Fault(fault)) => {
+                Err(self.fault_refused(alloc, self.index_of(rest), fault))
+            }
+            Err(RecordError::Memory(_)) => Err(Complaint::Memory),
+        }
+    }
+
+    // Refuses a rest of the bytes that isn't records, or has one with another number of fields than
+    // there are columns.
+    fn check_records(self, alloc: Global, rest: &'t [u8], columns: usize) -> Result<(), Complaint> {
+        let mut fields = Vec::new(alloc);
+        let mut rest = rest;
+        // Each record has a byte.
+        for _ in 0..rest.len() {
+            let Some(more) = self.read(alloc, rest, &mut fields)? else {
+                break;
+            };
+            if fields.len() != columns {
+                let at = self.index_of(rest);
+                return Err(self.length_refused(alloc, at, fields.len(), columns));
+            }
+            rest = more;
+        }
+        Ok(())
+    }
 }
 
 // The names of what is bound in each row: of the columns that are used, and of the values that are
@@ -125,138 +175,108 @@ fn fixed_cells<'n>(alloc: Global, wanted: &'n Wanted<'_>) -> Result<Vec<Cell<'n>
     Ok(cells)
 }
 
-// How many lines end in the bytes.
-fn line_ends(bytes: &[u8]) -> u64 {
-    let mut count = 0u64;
-    for byte in bytes {
-        if *byte == b'\n' {
-            count = count.saturating_add(1);
-        }
+// The columns, as records are bound by them.
+fn table_columns(alloc: Global, columns: &[Column]) -> Result<Vec<TableColumn>, AllocError> {
+    let mut taken = Vec::with_capacity(alloc, columns.len())?;
+    for column in columns {
+        taken.push(TableColumn {
+            value_type: column.value_type,
+            used: column.used,
+        })?;
     }
-    count
-}
-
-// The records of a table, one after another.
-#[derive(Drop)]
-struct Records<'t> {
-    format: RecordFormat,
-    // The whole table.
-    bytes: &'t [u8],
-    // What isn't read yet.
-    rest: &'t [u8],
-    // The line at which that begins.
-    next_line: u64,
-    // The fields of the record that was read.
-    fields: Vec<LentField<'t>>,
-    // The line at which it begins.
-    line: u64,
-}
-
-impl<'t> Records<'t> {
-    // The records of a table, of which none is read.
-    fn new(alloc: Global, format: RecordFormat, bytes: &'t [u8]) -> Records<'t> {
-        Records {
-            format,
-            bytes,
-            rest: bytes,
-            next_line: 1,
-            fields: Vec::new(alloc),
-            line: 1,
-        }
-    }
-
-    // Reads the next record, if there is one.
-    fn read(&mut self, alloc: Global, path: &str) -> Result<bool, Complaint> {
-        let rest = self.rest;
-        match first_record_into(alloc, self.format, rest, &mut self.fields) {
-            Ok(Some(more)) => {
-                self.line = self.next_line;
-                let len = rest.len().saturating_sub(more.len());
-                self.next_line = self.line.saturating_add(line_ends(&rest[..len]));
-                self.rest = more;
-                Ok(true)
-            }
-            Ok(None) => Ok(false),
-            Err(RecordError::Fault(mut fault)) => {
-                let start = self.bytes.len().saturating_sub(rest.len());
-                fault.at = fault.at.saturating_add(start);
-                Err(record_refused(alloc, path, self.format, fault, self.bytes))
-            }
-            Err(RecordError::Memory(_)) => Err(Complaint::Memory),
-        }
-    }
+    Ok(taken)
 }
 
 // What is bound in each row.
 #[derive(Drop)]
-struct Bound<'b, 'n, 'v> {
-    // The columns.
-    columns: &'b [Column],
-    // The names of those that are used, and of the values that are the same in each row.
-    names: &'b [&'n [u8]],
-    // These values.
-    fixed: &'b [Cell<'v>],
+struct Bound<'b> {
+    // The names of the columns that are used, and of the values that are the same in each row.
+    names: &'b [&'b [u8]],
+    // The query, matched with these.
+    query: MatchedQuery<'b, 'b>,
+    // How a record becomes the cells of these.
+    form: TableForm<'b>,
 }
 
-// The cells of what is bound for a record with these fields.
-fn row_cells<'f>(
-    alloc: Global,
-    wanted: &Wanted<'_>,
-    bound: &'f Bound<'_, '_, '_>,
-    fields: &'f [LentField<'_>],
-) -> Result<Vec<Cell<'f>>, AllocError> {
-    let mut cells = Vec::with_capacity(alloc, bound.names.len())?;
-    for (column, field) in bound.columns.iter().zip(fields) {
-        if column.used {
-            cells.push(cell_of(wanted, column, field))?;
-        }
-    }
-    for cell in bound.fixed {
-        cells.push(Cell {
-            value_type: cell.value_type,
-            bytes: cell.bytes,
-        })?;
-    }
-    Ok(cells)
-}
-
-// Adds the row of the record that was read.
-fn add_row(
+// What is said of the row of the record that begins at an index, and is refused for this. Without
+// --stream, a later record that isn't one or has another number of fields is told in its place.
+fn row_refused(
     script: &mut TableScript<'_, '_>,
     rt: &HostRuntime,
-    bound: &Bound<'_, '_, '_>,
-    query: &MatchedQuery<'_, '_>,
-    records: &Records<'_>,
-) -> Result<(), Complaint> {
-    let (fields, columns) = (records.fields.as_slice(), bound.columns);
-    let line = records.line;
-    if fields.len() != columns.len() {
-        let path = script.wanted.path.as_str();
-        return Err(length_refused(rt.alloc(), path, line, fields.len(), columns.len()));
-    }
-    let cells = row_cells(rt.alloc(), script.wanted, bound, fields)?;
-    let row = TableRow {
-        names: bound.names,
-        cells: cells.as_slice(),
+    table: Table<'_>,
+    bound: &Bound<'_>,
+    at: usize,
+    failure: Failure,
+) -> Result<Complaint, Complaint> {
+    let mut fields = Vec::new(rt.alloc());
+    let Some(more) = table.read(rt.alloc(), table.from_index(at), &mut fields)? else {
+        return Err(Complaint::Memory);
     };
-    script.add(rt, query, row, line)
+    let cells = record_cells(rt.alloc(), &bound.form, fields.as_slice())?;
+    let assigned = assignments_of(rt.alloc(), bound.names, cells.as_slice())?;
+    let (line, _) = table.place_of(at);
+    let row = RowAt {
+        assignments: assigned.as_slice(),
+        line: line as u64,
+    };
+    let complaint = complaint_of_row(rt.alloc(), script.wanted, script.request, row, failure)?;
+    if script.stream {
+        script.begin(rt)?;
+    } else {
+        table.check_records(rt.alloc(), more, bound.form.columns.len())?;
+    }
+    Ok(complaint)
 }
 
-// Adds a row for each record that isn't read yet.
+// What is said of a refusal in a rest of the table.
+fn table_refused(
+    script: &mut TableScript<'_, '_>,
+    rt: &HostRuntime,
+    table: Table<'_>,
+    bound: &Bound<'_>,
+    rest: &[u8],
+    refusal: TableRefusal,
+) -> Result<Complaint, Complaint> {
+    let start = table.index_of(rest);
+    match refusal {
+        TableRefusal::Record(fault) => Ok(table.fault_refused(rt.alloc(), start, fault)),
+        TableRefusal::Length { at, fields } => {
+            let at = start.saturating_add(at);
+            let columns = bound.form.columns.len();
+            Ok(table.length_refused(rt.alloc(), at, fields, columns))
+        }
+        TableRefusal::Row { at, failure } => {
+            row_refused(script, rt, table, bound, start.saturating_add(at), failure)
+        }
+        TableRefusal::Memory(_) => Ok(Complaint::Memory),
+    }
+}
+
+// Adds a row for each record of a rest of the table.
 fn add_rows(
     script: &mut TableScript<'_, '_>,
     rt: &HostRuntime,
-    bound: &Bound<'_, '_, '_>,
-    query: &MatchedQuery<'_, '_>,
-    records: &mut Records<'_>,
+    table: Table<'_>,
+    bound: &Bound<'_>,
+    rest: &[u8],
 ) -> Result<(), Complaint> {
-    let wanted = script.wanted;
-    // Each record has a byte.
-    for _ in 0..records.bytes.len() {
-        if !records.read(rt.alloc(), wanted.path.as_str())? {
+    let most = if script.stream {
+        STREAMED_ROWS
+    } else {
+        usize::MAX
+    };
+    let mut rest = rest;
+    // What is added at once has a byte, except at the end.
+    for _ in 0..table.bytes.len() {
+        let text = &mut script.text;
+        match append_table(rt.alloc(), &bound.query, &bound.form, rest, most, text) {
+            Ok(more) => rest = more,
+            Err(refusal) => return Err(table_refused(script, rt, table, bound, rest, refusal)?),
+        }
+        if rest.is_empty() {
             break;
         }
-        add_row(script, rt, bound, query, records)?;
+        script.write_streamed(rt)?;
     }
     Ok(())
 }
@@ -271,38 +291,46 @@ pub fn add_records(
     let wanted = script.wanted;
     let path = wanted.path.as_str();
     let bytes = unmarked(bytes);
-    let mut records = Records::new(rt.alloc(), format, bytes);
-    if !records.read(rt.alloc(), path)? {
+    let table = Table {
+        path,
+        format,
+        bytes,
+    };
+    let mut header = Vec::new(rt.alloc());
+    let Some(rest) = table.read(rt.alloc(), bytes, &mut header)? else {
         return Err(bad_file(
             rt.alloc(),
             path,
             "is empty: its first line has the names of the columns",
         ));
-    }
-    let columns = columns_of(rt.alloc(), wanted, records.fields.as_slice(), records.line)?;
-    add_table(script, rt, wanted, columns.as_slice(), &mut records)
+    };
+    let columns = columns_of(rt.alloc(), wanted, header.as_slice(), 1)?;
+    add_table(script, rt, table, columns.as_slice(), rest)
 }
 
-// Adds the rows of a table with these columns, for each record that isn't read yet.
-fn add_table<'t>(
+// Adds a row for each record of a rest of the table, which has these columns.
+fn add_table(
     script: &mut TableScript<'_, '_>,
     rt: &HostRuntime,
-    wanted: &'t Wanted<'_>,
-    columns: &'t [Column],
-    records: &mut Records<'_>,
+    table: Table<'_>,
+    columns: &[Column],
+    rest: &[u8],
 ) -> Result<(), Complaint> {
+    let wanted = script.wanted;
     let names = bound_names(rt.alloc(), wanted, columns)?;
+    let taken = table_columns(rt.alloc(), columns)?;
     let fixed = fixed_cells(rt.alloc(), wanted)?;
-    let query = match matched_query(rt.alloc(), &*wanted, names.as_slice(), script.request) {
-        Ok(query) => query,
-        Err(complaint) => return Err(complaint),
-    };
     let bound = Bound {
-        columns: &*columns,
         names: names.as_slice(),
-        fixed: fixed.as_slice(),
+        query: matched_query(rt.alloc(), wanted, names.as_slice(), script.request)?,
+        form: TableForm {
+            format: table.format,
+            columns: taken.as_slice(),
+            null_text: wanted.null_text.as_deref(),
+            fixed: fixed.as_slice(),
+        },
     };
-    add_rows(script, rt, &bound, &query, records)
+    add_rows(script, rt, table, &bound, rest)
 }
 
 // The query, matched with the columns of these names.

@@ -118,8 +118,6 @@ fn write_records(
         stream: matches.get_flag("stream"),
         begun: false,
         text: Vec::new(rt.alloc()),
-        waiting: 0,
-        refused: None,
     };
     if script.transaction && !script.stream {
         script.text.extend_from_slice(START)?;

@@ -1,12 +1,9 @@
-//! The script of a table's rows: each is bound from its cells where they lie.
+//! The script of a table's records, and when it is written.
 use crate::columns::Wanted;
 use crate::complaint::Complaint;
 use crate::output::write_text;
-use crate::refused_row::{RowAt, complaint_of_row};
-use crate::script::STREAMED_ROWS;
-use mysql_bind_core::{Cell, Failure, MatchedQuery, Request, assignments_of};
-use mysql_bind_rows::{COMMIT, START, append_record};
-use std::alloc::{AllocError, Global};
+use mysql_bind_core::Request;
+use mysql_bind_rows::{COMMIT, START};
 
 /// The statements of the rows so far.
 #[derive(Drop)]
@@ -19,53 +16,15 @@ pub struct TableScript<'a, 'w> {
     pub transaction: bool,
     /// Whether rows are written before all are bound.
     pub stream: bool,
-    /// Whether a row was written.
+    /// Whether what begins the script was written.
     pub begun: bool,
-    /// The statements that aren't written yet.
+    /// What isn't written yet: with `stream` the statements of rows, else the script so far.
     pub text: Vec<u8>,
-    /// How many rows aren't written yet, with a refused one and those behind it.
-    pub waiting: usize,
-    /// What is said of the first row that is refused.
-    pub refused: Option<Complaint>,
 }
 
 impl TableScript<'_, '_> {
-    /// Adds a row that begins at a line. Behind a refused row none is bound.
-    pub fn add(
-        &mut self,
-        rt: &HostRuntime,
-        query: &MatchedQuery<'_, '_>,
-        row: TableRow<'_, '_, '_>,
-        line: u64,
-    ) -> Result<(), Complaint> {
-        if self.refused.is_none()
-            && let Err(failure) = append_record(rt.alloc(), query, row.cells, &mut self.text)
-        {
-            self.refused = Some(self.row_refused(rt.alloc(), row, line, failure)?);
-        }
-        self.waiting = self.waiting.saturating_add(1);
-        if self.stream && self.waiting >= STREAMED_ROWS {
-            self.write_streamed(rt)?;
-        }
-        Ok(())
-    }
-
-    // What is said of a refused row.
-    fn row_refused(
-        &self,
-        alloc: Global,
-        row: TableRow<'_, '_, '_>,
-        line: u64,
-        failure: Failure,
-    ) -> Result<Complaint, AllocError> {
-        let assigned = assignments_of(alloc, row.names, row.cells)?;
-        let assignments = assigned.as_slice();
-        let row = RowAt { assignments, line };
-        complaint_of_row(alloc, self.wanted, self.request, row, failure)
-    }
-
-    // Writes what begins the script, once.
-    fn begin(&mut self, rt: &HostRuntime) -> Result<(), Complaint> {
+    /// Writes what begins the script, once.
+    pub fn begin(&mut self, rt: &HostRuntime) -> Result<(), Complaint> {
         if self.transaction && !self.begun {
             write_text(rt, None, START)?;
         }
@@ -73,19 +32,15 @@ impl TableScript<'_, '_> {
         Ok(())
     }
 
-    /// Writes the rows that wait, up to a refused one.
+    /// Writes the rows that wait.
     pub fn write_streamed(&mut self, rt: &HostRuntime) -> Result<(), Complaint> {
-        if self.waiting == 0 {
+        if self.text.is_empty() {
             return Ok(());
         }
         self.begin(rt)?;
         write_text(rt, None, self.text.as_slice())?;
         self.text.clear();
-        self.waiting = 0;
-        match self.refused.take() {
-            Some(complaint) => Err(complaint),
-            None => Ok(()),
-        }
+        Ok(())
     }
 
     /// Writes what is left, and what ends the script.
@@ -99,21 +54,9 @@ impl TableScript<'_, '_> {
                 Ok(())
             };
         }
-        if let Some(complaint) = self.refused.take() {
-            return Err(complaint);
-        }
         if self.transaction {
             self.text.extend_from_slice(COMMIT)?;
         }
         write_text(rt, output, self.text.as_slice())
     }
-}
-
-/// A row of a table.
-#[derive(Clone, Copy)]
-pub struct TableRow<'r, 'n, 'c> {
-    /// The names of the columns.
-    pub names: &'r [&'n [u8]],
-    /// As many cells.
-    pub cells: &'r [Cell<'c>],
 }

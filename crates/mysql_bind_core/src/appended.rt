@@ -232,7 +232,7 @@ fn done_of(written: Result<(), BindError>) -> Result<bool, AllocError>
     }
 }
 
-// References to the values of the pairs with these names, if each name has one.
+// The values, borrowed, of the pairs with these names, if each name has one.
 fn values_in<'v>(
     alloc: Global,
     names: &[&[u8]],

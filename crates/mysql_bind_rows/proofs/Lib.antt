@@ -6,3 +6,4 @@ pub mod ScriptTokenLemmas
 pub mod ScriptCountLemmas
 pub mod AlikeLineLemmas
 pub mod ScriptSentLemmas
+pub mod TableLemmas

@@ -18,7 +18,7 @@ no_statements request query before = record { texts = []; written = tt; bytes = 
     right_nil [] = refl
     right_nil (x ∷ xs) = ap (λ ys. x ∷ ys) (right_nil xs)
 
-script-snoc : (texts : List (List ℕ)) (text : List ℕ) → script (texts ++ text ∷ []) ≡ script texts ++ statement text
+pub script-snoc : (texts : List (List ℕ)) (text : List ℕ) → script (texts ++ text ∷ []) ≡ script texts ++ statement text
 script-snoc [] text = search rules
 script-snoc (t ∷ texts) text =
     ap (λ s. statement t ++ s) (script-snoc texts text)

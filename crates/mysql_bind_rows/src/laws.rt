@@ -12,7 +12,10 @@ ghost use Rattle.mysql_bind_core.specs.declared.request.Portability.TheVariants 
 ghost use Rattle.mysql_bind_core.specs.declared.request.Request as declared;
 ghost use Rattle.mysql_bind_rows.specs.Scripts.{AreStatements, IsScript, statement};
 ghost use Rattle.mysql_bind_rows.specs.ScriptTokens.{AreLinesReadAlike, IsReadIn, IsSentByClient, count_of_statements, script_tokens, tokens_of_statements};
+ghost use Rattle.mysql_bind_rows.specs.Tables.{AreAppended, AreRowsOf, Fields};
 ghost use Rattle.mysql_bind_rows.specs.declared.row.Row as row;
+ghost use Rattle.mysql_bind_rows.specs.declared.table_form.TableForm as form;
+ghost use Rattle.mysql_records.specs.Records.{IsTable};
 
 /// The tokens of a script are those of its texts, in their order, each with a newline after it, and
 /// with `;` and a newline after that; with a transaction its two statements stand around them. So
@@ -64,4 +67,20 @@ pub fn records_make_scripts()
         AreAssigned query.columns cells row.assignments.items → IsRowText query cells text →
         after ≡ script ++ statement text →
         AreStatements query.request query.query (rows ++ row ∷ []) before after }
+{}
+
+/// What [`append_table`](crate::append_table) appends for the records of a table are the statements
+/// of all rows that say what the cells of these records do (`statements`). If it leaves no text,
+/// these records are the table (`table`), of which a text has one at most
+/// ([`tables_are_unambiguous`](mysql_records::laws::tables_are_unambiguous)).
+pub fn tables_make_scripts()
+    ensures statements { (query : TableQuery) (form : form.TableForm) (text : List ℕ)
+        (records : List Fields) (rest before after : List ℕ) (rows : List row.Row) →
+        AreAppended query form text records rest before after →
+        AreRowsOf query form records rows →
+        AreStatements query.request query.query rows before after }
+    ensures table { (query : TableQuery) (form : form.TableForm) (text : List ℕ)
+        (records : List Fields) (before after : List ℕ) →
+        AreAppended query form text records [] before after →
+        IsTable form.format records text }
 {}

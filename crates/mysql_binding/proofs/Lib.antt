@@ -17,6 +17,7 @@ pub mod SurveyLemmas
 pub mod CauseLemmas
 pub mod FoundPlacesLemmas
 pub mod NameListLemmas
+pub mod FoundValueLemmas
 pub mod WrittenTextLemmas
 pub mod FilledTextLemmas
 pub mod BoundAgainLemmas
@@ -24,6 +25,7 @@ pub mod BoundTextLemmas
 pub mod MeasuredTextLemmas
 pub mod AppendedTextLemmas
 pub mod SpanLemmas
+pub mod SpanValueLemmas
 pub mod SpanTextLemmas
 pub mod SpanBindLemmas
 pub mod TextInRoomLemmas

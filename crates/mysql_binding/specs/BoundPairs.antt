@@ -23,8 +23,8 @@ IfFewPairs pairs Holds = length pairs ≤ few_pairs → (given : Given) →
     pairs_made (map seen_pair pairs) ≡ Ok given → Holds given
 
 -- the pairs are many, and the error is out of memory, which may come before they are told apart
-abbrev pub LacksOrder : List (Bor (List ℕ) × ValueRef) → BindError → Type 0
-LacksOrder pairs error = (few_pairs < length pairs) × (error ≡ Memory alloc_error)
+abbrev pub IsMemoryOfMany : List (Bor (List ℕ) × ValueRef) → BindError → Type 0
+IsMemoryOfMany pairs error = (few_pairs < length pairs) × (error ≡ Memory alloc_error)
 
 -- the pairs make no parameters, since the name of this pair stands before it too; or they make
 -- parameters, and the error is the first cause to refuse these for the query, or out of memory; or
@@ -32,7 +32,7 @@ LacksOrder pairs error = (few_pairs < length pairs) × (error ≡ Memory alloc_e
 abbrev pub IsPairsRefusal : Bool → List ℕ → List (Bor (List ℕ) × ValueRef) → BindPairsError
     → Type 0
 IsPairsRefusal mode query pairs (Redefined index) = IsFirstRedefined pairs index
-IsPairsRefusal mode query pairs (Bind error) = LacksOrder pairs error ⊎ OfPairs pairs (λ given.
+IsPairsRefusal mode query pairs (Bind error) = IsMemoryOfMany pairs error ⊎ OfPairs pairs (λ given.
     OnTokens mode query (λ ts. IsCauseOrMemory (first_cause ts given) error))
 
 -- after these bytes stands the bound text of the query, and nothing else

@@ -1,5 +1,4 @@
--- A text in a room that the caller lends: for `bind_borrowed_into`, which is lent to the crates
--- above.
+-- A text in a room that the caller lends.
 use Rattle.std.specs.Prelude.{◌≡◌, ◌≤◌, ◌<◌, ℕ, List, length, take, drop}
 use Rattle.mysql_binding.specs.declared.binding.room.TextInRoom.{TextInRoom}
 use Rattle.mysql_binding.specs.declared.binding.room.TextInRoom.TheVariants.{Written, TooShort}

@@ -2,7 +2,12 @@
 use crate::bind_error::BindError;
 use thiserror::Error;
 
-/// Why [`bind_pairs`](crate::bind_pairs) gave no text: the first cause, in this order.
+/// Why a query and borrowed pairs gave no text.
+///
+/// It is of [`bind_pairs`](crate::bind_pairs), [`bind_pairs_into`](crate::bind_pairs_into) and of
+/// `bind_pairs` and `append_pairs` of a [`ParsedQuery`](crate::ParsedQuery). Of at most 64 pairs it
+/// is the first cause, in this order. Of more, out of memory may come before a name that is given
+/// twice.
 #[derive(Debug, PartialEq, Drop, Error)]
 pub enum BindPairsError {
     /// The name of a pair is that of an earlier one; the first such pair is reported.
@@ -11,7 +16,7 @@ pub enum BindPairsError {
         /// Its number among the pairs, from 0.
         index: usize,
     },
-    /// What [`bind_text`](crate::bind_text) refuses, or out of memory.
+    /// What [`bind_text_in`](crate::bind_text_in) refuses, or out of memory.
     #[error(transparent)]
     Bind(BindError),
 }

@@ -30,6 +30,7 @@ mod spans;
 mod stands_alone;
 mod survey;
 mod text;
+mod values;
 
 use crate::bind_error::BindError;
 pub use crate::binding::form::{LiteralForm, PlainForm};
@@ -47,6 +48,7 @@ pub use crate::binding::spans::{PlaceSpan, bind_spans_into, can_be_spans, place_
 pub use crate::binding::survey::{Survey, place_survey};
 use crate::binding::text::written_text;
 pub use crate::binding::text::{append_piece, fill_measured};
+use crate::binding::values::found_values;
 use mysql_named_params::places::{FoundPlace, PlaceKind};
 use mysql_params_core::params::{BorrowedParams, Params, ParamsError, place_values};
 use mysql_values::value::ValueRef;
@@ -365,9 +367,37 @@ pub fn measured_values<'p, F: LiteralForm>(
     }
 }
 
-// References to the values in the parameters that are given to the places of a query with this many
-// names, and no marks beside them. The list of names is dropped before the text is written.
+// The values, borrowed, that are given to the places of a query with this many names, and no marks
+// beside them.
 fn values_of_places<'p>(
+    alloc: Global,
+    query: &[u8],
+    known: &[FoundPlace],
+    name_count: usize,
+    params: BorrowedParams<'p, '_>,
+    no_backslash_escape: bool,
+) -> Result<Vec<ValueRef<'p>>, BindError>
+    requires known { OnTokens no_backslash_escape query.now (BeginWithPlaces known.now) }
+    requires names { OnTokens no_backslash_escape query.now (λ ts.
+        (name_count ≡ length (names ts)) × (mixed_cause ts ≡ None)) }
+    ensures values { IfOk result (λ values. OnTokens no_backslash_escape query.now (λ ts.
+        lookup (given_by_borrowed params.entry) (names ts) ≡ Ok (owned_values values.items))) }
+    ensures refused { IfErr result (λ error. OnTokens no_backslash_escape query.now (λ ts.
+        IsCauseOrMemory (first_cause ts (given_by_borrowed params.entry)) error)) }
+{
+    if name_count > 0 {
+        match found_values(alloc, query, known, name_count, params, no_backslash_escape) {
+            Ok(Some(values)) => return Ok(values),
+            Ok(None) => {}
+            Err(error) => return Err(BindError::Memory(error)),
+        }
+    }
+    values_of_list(alloc, query, known, name_count, params, no_backslash_escape)
+}
+
+// The same by a list of the names, which tells a name without a value. The list is dropped before
+// the text is written.
+fn values_of_list<'p>(
     alloc: Global,
     query: &[u8],
     known: &[FoundPlace],

@@ -153,6 +153,21 @@ fn a_script_and_a_short_room(rt: HostRuntime) {
     same_in(&rt, room, [7u8; 8], &"a short room");
 }
 
+/// With the escape of its quote the text is longer than the room.
+#[test]
+fn a_short_room_for_pairs(rt: HostRuntime) {
+    let pairs: Pairs<'_> = &[(b"a", ValueRef::Bytes(b"it's"))];
+    let mut room = [7u8; 13];
+    let told = bind_pairs_into(rt.alloc(), b"SELECT :a", pairs, false, &mut room);
+    same_in(
+        &rt,
+        answer_of(&rt, told),
+        TextInRoom::TooShort { len: 14 },
+        &"a room that lacks a byte",
+    );
+    same_in(&rt, room, [7u8; 13], &"a room that lacks a byte");
+}
+
 /// Of these the third pair has the name of the first, and the fourth too.
 const TWICE: Pairs<'static> = &[
     (b"a", ValueRef::UInt(1)),

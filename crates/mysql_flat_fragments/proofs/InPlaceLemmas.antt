@@ -1,5 +1,6 @@
 -- What is kept of a fragment where it lies says a fragment, and what is read says the same.
 use Rattle.std.specs.Prelude.{Ok, Option, ⊤}
+use Rattle.std.specs.Borrow.{Bor}
 use Rattle.std.specs.Global.{Vec}
 use Rattle.std.specs.Simd.{first_chunks}
 use Rattle.std.proofs.Common.{◌≡◌, ◌≢◌, ◌⊎◌, inl, inr, ℕ, zero, suc, ◌+◌, ◌*◌, ◌<◌, ◌≤◌, List, [], ◌∷◌, ◌++◌, map, length, take, drop, refl, sym, ap, ◌∙◌, arith, ne_eqb}
@@ -16,57 +17,23 @@ use Rattle.mysql_fragments.specs.declared.rows_ref.RowsRef.{RowsRef}
 use Rattle.mysql_fragments.specs.declared.fragment.Item.{Item}
 use Rattle.mysql_fragments.specs.declared.fragment.Fragment.{Fragment}
 use Rattle.mysql_fragments.specs.declared.fragment.Fragment.TheVariants as one
+use Rattle.mysql_fragments.specs.declared.fragment_ref.FragmentRef.TheVariants as borrowed
+use Rattle.mysql_fragments.proofs.SaidExistLemmas.{one_said}
 use Rattle.mysql_flat_fragments.specs.FlatFragments.{map_form, read_all, read_fragment_of, read_items}
 use Rattle.mysql_flat_fragments.specs.FormInPlace.{IsKeptAs, cell_content, rows_content}
 use Rattle.mysql_flat_fragments.specs.FragmentContent.{content_of, item_content, items_content, list, rows, value}
 use Rattle.mysql_flat_fragments.specs.declared.in_place.FragmentInPlace.TheVariants as kept
 use Rattle.mysql_flat_fragments.specs.declared.rows_in_place.RowsInPlace.{RowsInPlace}
 
--- ---- vectors of other elements exist, if they are no more than those of one that exists
-abbrev remade : {X Y : Type 0} (v : Vec X) (ys : List Y) → length ys ≤ length v.items → Vec Y
-remade v ys few = record {
-  ptr = v.ptr;
-  len = length ys;
-  cap = length ys;
-  alloc = v.alloc;
-  items = ys;
-  ok = (refl, omega arith);
-  small = omega (arith, few, v.ok.0, v.ok.1, v.small);
-}
-
-length_take : {X : Type 0} (n : ℕ) (xs : List X) → length (take n xs) ≤ length xs
-length_take zero xs = omega arith
-length_take (suc n) [] = omega arith
-length_take (suc n) (x ∷ xs) = omega (arith, length_take n xs)
-
-module _ {X : Type 0} (v : Vec X) where
-  abbrev row_vectors : (width count : ℕ) (cells : List ValueRef) → length cells ≤ length v.items → List (Vec Item)
-  row_vectors width zero cells few = []
-  row_vectors width (suc count) cells few =
-      remade v (map cell_item (take width cells)) (omega (arith, few, length-map (take width cells) cell_item, length_take width cells))
-      ∷ row_vectors width count (drop width cells) (omega (arith, few, length-drop width cells))
-
-  rows_of_vectors : (width count : ℕ) (cells : List ValueRef) (few : length cells ≤ length v.items) →
-      map (λ row. row.items) (row_vectors width count cells few) ≡ map (map cell_item) (first_chunks width count cells)
-  rows_of_vectors width zero cells few = refl
-  rows_of_vectors width (suc count) cells few = ap (λ rs. map cell_item (take width cells) ∷ rs) (rows_of_vectors width count (drop width cells) _)
-
-  count_of_vectors : (width count : ℕ) (cells : List ValueRef) (few : length cells ≤ length v.items) →
-      length (row_vectors width count cells few) ≡ count
-  count_of_vectors width zero cells few = refl
-  count_of_vectors width (suc count) cells few = ap suc (count_of_vectors width count (drop width cells) _)
+lent : {X : Type 0} → List X → Bor (List X)
+lent items = record { ref_ptr = (0, 0); now = items }
 
 -- ---- the fragment that is kept
 
-few_rows : (count width : ℕ) → 0 < width → count ≤ count * width
-few_rows count zero some = absurd (omega (arith, some))
-few_rows count (suc width) some = omega arith
-
 -- of cells there is a list
 pub list_kept : (cells : Vec ValueRef) → (said : Fragment) × IsKeptAs (kept.List cells) said
-list_kept cells =
-    let items = remade cells (map cell_item cells.items) (omega (arith, length-map cells.items cell_item)) in
-    (one.List items, (items, refl, refl))
+unfolding lent
+list_kept cells = one_said cells.alloc (borrowed.List (lent cells.items)) (omega (arith, cells.ok.0, cells.ok.1, cells.small))
 
 pub list_says : (cells : Vec ValueRef) (said : Fragment) → IsKeptAs (kept.List cells) said → list (map cell_content cells.items) ≡ content_of said
 list_says cells said h =
@@ -74,13 +41,10 @@ list_says cells said h =
 
 -- of rows of cells there are rows
 pub rows_kept : (r : RowsInPlace) → (said : Fragment) × IsKeptAs (kept.Rows r) said
+unfolding lent
 rows_kept r =
-    let fits : length r.cells.items ≤ length r.cells.items = omega arith in
-    let vectors = row_vectors r.cells r.width r.count r.cells.items fits in
-    let all =
-    remade r.cells vectors
-    (omega (arith, count_of_vectors r.cells r.width r.count r.cells.items fits, r.shape.0, few_rows r.count r.width r.shape.2)) in
-    (one.Rows all, (all, refl, rows_of_vectors r.cells r.width r.count r.cells.items fits))
+    one_said r.cells.alloc (borrowed.Rows (record { cells = lent r.cells.items; width = r.width; count = r.count; shape = r.shape }))
+    (omega (arith, r.cells.ok.0, r.cells.ok.1, r.cells.small))
 
 -- what is said of each row
 contents_of_rows : (said : List (Vec Item)) (cells : List (List ValueRef)) → map (λ row. row.items) said ≡ map (map cell_item) cells →

@@ -59,17 +59,17 @@ const NO_ROWS: Rows = Rows {
     written: 0,
 };
 
-/// Binds a query, which is parsed once, to row after row, and writes the texts one after another to
+/// Binds a query, which is parsed once, to row after row. It writes the texts one after another to
 /// the front of the room, each as a length-encoded string.
 ///
 /// The forms of the rows stand one after another, each as a length-encoded string. Each row gives
 /// the text, or the refusal, that [`bind_into`](crate::bind_into) gives for its form. `Done`, with
 /// the bytes of all texts, says that all rows are bound. Every other outcome is that of the row at
-/// which the call ends, and what stands before it is kept: of `Room` the length is that of this
-/// row's text as a length-encoded string, so that a caller goes on from there with a room of at
-/// least so many bytes. If the form of a row isn't a length-encoded string, it is `FormEnd` or
-/// `FormLengthLead` with place and position 0. `OutOfMemory` may come in place of any other
-/// outcome if a row is left. The room behind the texts is as before.
+/// which the call ends, and what stands before it is kept. The length of `Room` is that of this
+/// row's text as a length-encoded string. So a caller goes on from there with a room of at least so
+/// many bytes. If the form of a row isn't a length-encoded string, the outcome is `FormEnd` or
+/// `FormLengthLead` with place and position 0. `OutOfMemory` may come in place of any other outcome
+/// if a row is left. The room behind the texts is as before.
 pub fn bind_rows_into(
     alloc: Global,
     query: &[u8],

@@ -18,7 +18,7 @@ use Rattle.mysql_fragments.specs.BorrowedFragments.{AreSaid}
 use Rattle.mysql_fragments.specs.BorrowedText.{borrowed_text, borrowed_values}
 use Rattle.mysql_fragments.specs.Expanded.{IsBoundFragments}
 use Rattle.mysql_fragments.specs.FilledText.{ArePlaced}
-use Rattle.mysql_fragments.specs.FragmentErrors.{Cause, IsCauseOrMemory, cause_of, cause_of_places, first_cause, later_cause, mixed_cause, mixed_query, refused_fragments}
+use Rattle.mysql_fragments.specs.FragmentErrors.{Cause, IsCauseElseMemory, cause_of, cause_of_places, first_cause, later_cause, mixed_cause, mixed_query, refused_fragments}
 use Rattle.mysql_fragments.specs.FragmentsInRoom.{IsCauseOrTooLong, IsTooLong}
 use Rattle.mysql_fragments.specs.GivenFragments.{confused, fragments_for, positional}
 use Rattle.mysql_fragments.specs.declared.fragment.Fragment.{Fragment}
@@ -74,8 +74,12 @@ some_cause x (Some why) e = (why, refl, cc)
 module _ (mode : Bool) (query : List ℕ) (survey : Survey) (o : OnTokens mode query (IsSurvey survey)) (fragments : List FragmentRef) (said : List Fragment) (s : AreSaid fragments said) where
   pub borrowed_refused : (error : FragmentsError) →
       ((ts : List Token) (said : List Fragment) → AreSaid fragments said → IsSurvey survey ts → Some (cause_of error) ≡ option_map Some (first_cause true ts (positional said))) →
-      OnTokens mode query (λ ts. IsCauseOrMemory (first_cause true ts (positional said)) error)
+      OnTokens mode query (λ ts. IsCauseElseMemory (first_cause true ts (positional said)) error)
   borrowed_refused error e = (o.0, o.1, inr (some_cause (cause_of error) (first_cause true o.0 (positional said)) (e o.0 said s o.2)))
+
+  pub borrowed_memory : ((ts : List Token) (said : List Fragment) → AreSaid fragments said → IsSurvey survey ts → None ≡ option_map (λ x. Some x) (first_cause true ts (positional said))) →
+      OnTokens mode query (λ ts. IsCauseElseMemory (first_cause true ts (positional said)) (Memory alloc_error))
+  borrowed_memory none = (o.0, o.1, inl (no_cause _ (none o.0 said s o.2), refl))
 
   pub borrowed_bound : (text : List ℕ) →
       ((ts : List Token) (said : List Fragment) → AreSaid fragments said → IsSurvey survey ts → None ≡ option_map (λ x. Some x) (first_cause true ts (positional said))) →

@@ -16,3 +16,4 @@ pub mod RoomLemmas
 pub mod BoundBorrowedLemmas
 pub mod ValueFragmentLemmas
 pub mod InPlaceLemmas
+pub mod SaidExistLemmas

@@ -1,5 +1,5 @@
 -- Fragments of borrowed values: which fragment says the same.
-use Rattle.std.specs.Prelude.{◌≡◌, List, [], ◌∷◌, map, ⊤}
+use Rattle.std.specs.Prelude.{◌≡◌, ◌<◌, ◌^◌, List, [], ◌∷◌, length, map, ⊤}
 use Rattle.std.specs.Global.{Vec}
 use Rattle.std.specs.Simd.{first_chunks}
 use Rattle.mysql_value_core.specs.declared.value.borrowed.ValueRef.{ValueRef}
@@ -35,3 +35,15 @@ AreSaid [] [] = ⊤
 AreSaid [] (said ∷ more) = ⊥
 AreSaid (fragment ∷ fragments) [] = ⊥
 AreSaid (fragment ∷ fragments) (said ∷ more) = Says fragment said × AreSaid fragments more
+
+-- it has fewer cells than a vector can have
+abbrev pub HasFewCells : FragmentRef → Type 0
+HasFewCells (borrowed.Owned fragment) = ⊤
+HasFewCells (borrowed.Value value) = ⊤
+HasFewCells (borrowed.List cells) = length cells.now < 2 ^ 63
+HasFewCells (borrowed.Rows rows) = length rows.cells.now < 2 ^ 63
+
+-- each of them has
+abbrev pub HaveFewCells : List FragmentRef → Type 0
+HaveFewCells [] = ⊤
+HaveFewCells (fragment ∷ fragments) = HasFewCells fragment × HaveFewCells fragments

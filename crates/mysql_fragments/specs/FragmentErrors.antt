@@ -119,6 +119,11 @@ abbrev pub IsCauseOrMemory : Option Cause → FragmentsError → Type 0
 IsCauseOrMemory cause error = (error ≡ Memory alloc_error)
     ⊎ ((why : Cause) × (cause ≡ Some why) × (cause_of error ≡ Some why))
 
+-- the error is the first cause if there is one; if there is none, it is `Memory`
+abbrev pub IsCauseElseMemory : Option Cause → FragmentsError → Type 0
+IsCauseElseMemory cause error = ((cause ≡ None) × (error ≡ Memory alloc_error))
+    ⊎ ((why : Cause) × (cause ≡ Some why) × (cause_of error ≡ Some why))
+
 -- the error is the refusal of the lookup, or out of memory
 abbrev pub IsPlaceRefusal : Result (List Fragment) PlaceRefusal → FragmentsError → Type 0
 IsPlaceRefusal looked_up error = (error ≡ Memory alloc_error)

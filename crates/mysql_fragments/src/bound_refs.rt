@@ -7,7 +7,7 @@ ghost use Rattle.mysql_binding.specs.Survey.{IsSurvey};
 ghost use Rattle.mysql_binding.specs.TextInRoom.{HasTextOf, IsTextInRoom};
 ghost use Rattle.mysql_fragments.specs.BorrowedFragments.{AreSaid};
 ghost use Rattle.mysql_fragments.specs.Expanded.{IsBoundFragments};
-ghost use Rattle.mysql_fragments.specs.FragmentErrors.{IsCauseOrMemory, cause_of, first_cause};
+ghost use Rattle.mysql_fragments.specs.FragmentErrors.{IsCauseElseMemory, cause_of, first_cause};
 ghost use Rattle.mysql_fragments.specs.FragmentsInRoom.{IsCauseOrTooLong, IsTooLong};
 ghost use Rattle.mysql_fragments.specs.GivenFragments.{positional};
 ghost use Rattle.mysql_fragments.specs.declared.fragment.Fragment as said_fragment;
@@ -42,7 +42,7 @@ pub fn bind_borrowed_fragments(
         IsBoundFragments no_backslash_escape ts (positional said) text.items)) }
     ensures refused { (said : List said_fragment.Fragment) → AreSaid fragments.now said →
         OnTokens no_backslash_escape query.now (λ ts. IfErr result
-        (IsCauseOrMemory (first_cause true ts (positional said)))) }
+        (IsCauseElseMemory (first_cause true ts (positional said)))) }
 
     // A query with a name and a mark is refused without allocating.
     ensures mixed { OnTokens no_backslash_escape query.now (λ ts.

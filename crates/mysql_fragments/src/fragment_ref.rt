@@ -6,7 +6,7 @@ use mysql_values::value::ValueRef;
 /// What is put in a place of a query, without a copy of what it is written from.
 #[derive(Clone, Copy)]
 pub enum FragmentRef<'f> {
-    /// A fragment, as it stands elsewhere.
+    /// A fragment that is lent whole.
     Owned(&'f Fragment),
     /// The literal of a value, as [`Fragment::Value`].
     Value(ValueRef<'f>),

@@ -1,5 +1,6 @@
 //! Laws of fragments. No program needs to call them.
 ghost use Rattle.std.specs.Prelude.{◌≡◌, ◌++◌, ◌∷◌, ℕ, ℤ, Bool, true, List, None, Some, Ok, IsTrue, codes, length, map, option_map, pos, neg_ℤ};
+ghost use Rattle.std.specs.Global.{Global};
 ghost use Rattle.std.specs.Str.Parse.{digits_value};
 ghost use Rattle.mysql_values.specs.declared.value.Value.{Value};
 ghost use Rattle.mysql_sql_text.specs.LiteralEnd.{BeginsWithout};
@@ -21,6 +22,7 @@ ghost use Rattle.mysql_binding.specs.Isolation.{IsBoundText};
 ghost use Rattle.mysql_binding.specs.Pieces.{pieces, joined_text};
 ghost use Rattle.mysql_binding.specs.Replaced.{AreTokensOf, with_literal_tokens};
 ghost use Rattle.mysql_binding.specs.StandsAlone.{first_not_alone, may_stand_after, none_or_first};
+ghost use Rattle.mysql_fragments.specs.BorrowedFragments.{AreSaid, HaveFewCells};
 ghost use Rattle.mysql_fragments.specs.Expanded.{IsBoundFragments};
 ghost use Rattle.mysql_fragments.specs.FragmentErrors as fragments;
 ghost use Rattle.mysql_fragments.specs.FragmentFaults.{is_decimal};
@@ -31,9 +33,18 @@ ghost use Rattle.mysql_fragments.specs.GivenFragments.{GivenFragments, fragments
 ghost use Rattle.mysql_fragments.specs.ReadFragment.{AreReadAsNames, ReadsAsOne, is_backquote, read_exact, read_identifier};
 ghost use Rattle.mysql_fragments.specs.SentFragments.{BeginNoWords};
 ghost use Rattle.mysql_fragments.specs.ValueFragments.{same_cause};
+ghost use Rattle.mysql_fragments.specs.declared.fragment.Fragment as said_fragment;
 ghost use Rattle.mysql_fragments.specs.declared.fragment.Fragment.TheVariants as fragment;
+ghost use Rattle.mysql_fragments.specs.declared.fragment_ref.FragmentRef as borrowed;
 
 use mysql_binding::laws::{bound_texts_are_sent, bound_texts_in_clients, bound_texts_on_servers};
+
+/// For borrowed fragments there are fragments that say the same, of any allocator, if no list and
+/// no rows have 2^63 cells or more. So what is said of all of these isn't said of none.
+pub fn said_fragments_exist()
+    ensures exist { (alloc : Global) (fragments : List borrowed.FragmentRef) →
+        HaveFewCells fragments → (said : List said_fragment.Fragment) × AreSaid fragments said }
+{}
 
 /// Whatever texts of the shape of fragments stand in the places of a query, if these stand alone,
 /// then the tokens are the query's, with those of each text in place of its name or mark

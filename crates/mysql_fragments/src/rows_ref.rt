@@ -17,10 +17,12 @@ pub struct RowsRef<'v> {
 impl<'v> RowsRef<'v> {
     /// The rows of these cells with `width` of them in each.
     ///
-    /// It refuses no cells (`Empty`), a width of 0 (`EmptyRow`), and cells that are not a multiple
-    /// of the width (`RowLength`, with the number of the last row).
+    /// It refuses no cells (`Empty`) and a width of 0 (`EmptyRow`). Cells that are not a multiple
+    /// of the width are refused as `RowLength`, with the number of the last row. It is 0 if the
+    /// cells are fewer than the width.
     pub fn new(cells: &'v [ValueRef<'v>], width: usize) -> Result<RowsRef<'v>, FragmentFault>
-        ensures made { IfOk result (λ rows. (rows.cells.now ≡ cells.now) × (rows.width ≡ width)) }
+        ensures made { IfOk result (λ rows. (rows.cells.now ≡ cells.now) × (rows.width ≡ width)
+            × (length cells.now ≡ rows.count * width)) }
         ensures has_shape { IfOk result (λ rows. shape_fault (length cells.now) width ≡ None) }
         ensures refused { IfErr result (λ fault.
             shape_fault (length cells.now) width ≡ Some fault) }

@@ -11,7 +11,12 @@ use std::time::Duration;
 const TOO_LONG: u64 = 371085174374400;
 
 // Whether a query and arguments for it give this text.
-fn gives<A: ToFragments>(alloc: Global, query: &[u8], arguments: &A, wanted: &[u8]) -> bool {
+fn arguments_give<A: ToFragments>(
+    alloc: Global,
+    query: &[u8],
+    arguments: &A,
+    wanted: &[u8],
+) -> bool {
     match arguments.to_fragments(alloc) {
         Ok(fragments) => match bind_fragments(alloc, query, &fragments) {
             Ok(text) => text.as_slice() == wanted,
@@ -29,7 +34,7 @@ fn values_and_exact_numbers(rt: HostRuntime) {
         ("c", Decimal(b"-1.50")),
         ("d", None::<u8>),
     );
-    let same = gives(
+    let same = arguments_give(
         rt.alloc(),
         b":d, :c, :b, :a",
         &arguments,
@@ -46,7 +51,7 @@ fn a_list_and_rows(rt: HostRuntime) {
         ("ids", ListOf(ids.as_slice())),
         ("rows", RowsOf(rows.as_slice())),
     );
-    let same = gives(
+    let same = arguments_give(
         rt.alloc(),
         b"a IN (:ids) AND (b, c, d) IN (:rows)",
         &arguments,
@@ -63,7 +68,7 @@ fn names_and_a_keyword(rt: HostRuntime) {
         ("column", Identifier(b"a`b")),
         ("way", Word(b"DESC")),
     );
-    let same = gives(
+    let same = arguments_give(
         rt.alloc(),
         b"TABLE :table ORDER BY :column :way",
         &arguments,
@@ -85,7 +90,7 @@ fn eight_of_each(rt: HostRuntime) {
         ("g", 7u8),
         ("h", RowsOf(rows.as_slice())),
     );
-    let same = gives(
+    let same = arguments_give(
         rt.alloc(),
         b":a,:b,:c,:d,:e,:f,:g,:h",
         &arguments,

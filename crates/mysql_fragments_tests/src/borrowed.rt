@@ -1,6 +1,6 @@
 //! Texts that are bound to borrowed fragments. The wanted texts are written by the rules of the
-//! MySQL Reference Manual, "VALUES Statement", "Comparison Functions and Operators" and "String
-//! Literals".
+//! MySQL Reference Manual, "VALUES Statement", "Comparison Functions and Operators", "String
+//! Literals" and "Server SQL Modes" (of `NO_BACKSLASH_ESCAPES`).
 use mysql_fragments::{
     Fragment, FragmentFault, FragmentRef, FragmentsError, RowsRef, bind_borrowed_fragments,
 };
@@ -15,14 +15,19 @@ const CELLS: &[ValueRef<'static>] = &[
     ValueRef::NULL,
 ];
 
-fn gives(alloc: Global, query: &[u8], fragments: &[FragmentRef<'_>], wanted: &[u8]) -> bool {
+fn borrowed_gives(
+    alloc: Global,
+    query: &[u8],
+    fragments: &[FragmentRef<'_>],
+    wanted: &[u8],
+) -> bool {
     match bind_borrowed_fragments(alloc, query, fragments, false) {
         Ok(text) => text.as_slice() == wanted,
         Err(_) => false,
     }
 }
 
-fn refused(
+fn borrowed_refused(
     alloc: Global,
     query: &[u8],
     fragments: &[FragmentRef<'_>],
@@ -34,13 +39,13 @@ fn refused(
     }
 }
 
-fn rows(cells: &[ValueRef<'_>], width: usize) -> Option<FragmentFault> {
+fn rows_fault(cells: &[ValueRef<'_>], width: usize) -> Option<FragmentFault> {
     RowsRef::new(cells, width).err()
 }
 
 #[test]
 fn borrowed_list(rt: HostRuntime) {
-    let same = gives(
+    let same = borrowed_gives(
         rt.alloc(),
         b"a IN (?)",
         &[FragmentRef::List(CELLS)],
@@ -54,7 +59,7 @@ fn borrowed_rows(rt: HostRuntime) {
     let same = match RowsRef::new(CELLS, 2) {
         Ok(rows) => {
             rows.len() == 2
-                && gives(
+                && borrowed_gives(
                     rt.alloc(),
                     b"VALUES ?;",
                     &[FragmentRef::Rows(rows)],
@@ -66,10 +71,26 @@ fn borrowed_rows(rt: HostRuntime) {
     assert!(rt; same);
 }
 
+// A backslash is a byte like any other, and a quote is doubled.
+#[test]
+fn borrowed_texts_without_backslashes(rt: HostRuntime) {
+    let texts = [ValueRef::Bytes(b"it's"), ValueRef::Bytes(b"a\\b")];
+    let fragments = [
+        FragmentRef::List(&texts),
+        FragmentRef::Value(ValueRef::Bytes(b"it's")),
+    ];
+    let text = bind_borrowed_fragments(rt.alloc(), b"a IN (?) OR b=?", &fragments, true);
+    let same = match text {
+        Ok(text) => text.as_slice() == b"a IN ('it''s', 'a\\b') OR b='it''s'".as_slice(),
+        Err(_) => false,
+    };
+    assert!(rt; same);
+}
+
 #[test]
 fn borrowed_value_beside_a_fragment(rt: HostRuntime) {
     let owned = Fragment::Value(Value::Int(7));
-    let same = gives(
+    let same = borrowed_gives(
         rt.alloc(),
         b"?=?",
         &[
@@ -83,17 +104,17 @@ fn borrowed_value_beside_a_fragment(rt: HostRuntime) {
 
 #[test]
 fn cells_that_are_no_rows(rt: HostRuntime) {
-    assert!(rt; rows(&[], 2) == Some(FragmentFault::Empty));
-    assert!(rt; rows(CELLS, 0) == Some(FragmentFault::EmptyRow { row: 0 }));
-    assert!(rt; rows(CELLS, 3) == Some(FragmentFault::RowLength { row: 1 }));
-    assert!(rt; rows(CELLS, 5) == Some(FragmentFault::RowLength { row: 0 }));
-    assert!(rt; rows(CELLS, 4) == None);
+    assert!(rt; rows_fault(&[], 2) == Some(FragmentFault::Empty));
+    assert!(rt; rows_fault(CELLS, 0) == Some(FragmentFault::EmptyRow { row: 0 }));
+    assert!(rt; rows_fault(CELLS, 3) == Some(FragmentFault::RowLength { row: 1 }));
+    assert!(rt; rows_fault(CELLS, 5) == Some(FragmentFault::RowLength { row: 0 }));
+    assert!(rt; rows_fault(CELLS, 4) == None);
 }
 
 #[test]
 fn borrowed_causes(rt: HostRuntime) {
     let alloc = rt.alloc();
-    let empty = refused(
+    let empty = borrowed_refused(
         alloc,
         b"a IN (?)",
         &[FragmentRef::List(&[])],
@@ -103,14 +124,14 @@ fn borrowed_causes(rt: HostRuntime) {
         },
     );
     assert!(rt; empty);
-    let float = refused(
+    let float = borrowed_refused(
         alloc,
         b"a IN (?)",
         &[FragmentRef::List(&[ValueRef::NULL, ValueRef::Double(0)])],
         FragmentsError::Float { place: 0 },
     );
     assert!(rt; float);
-    let few = refused(
+    let few = borrowed_refused(
         alloc,
         b"? = ?",
         &[FragmentRef::List(CELLS)],
@@ -125,21 +146,21 @@ fn borrowed_causes(rt: HostRuntime) {
 #[test]
 fn borrowed_causes_of_the_query(rt: HostRuntime) {
     let alloc = rt.alloc();
-    let alone = refused(
+    let alone = borrowed_refused(
         alloc,
         b"1?",
         &[FragmentRef::Value(ValueRef::Int(1))],
         FragmentsError::NotAlone { place: 0, at: 1 },
     );
     assert!(rt; alone);
-    let named = refused(
+    let named = borrowed_refused(
         alloc,
         b":a",
         &[FragmentRef::List(CELLS)],
         FragmentsError::Confusion(ParamsConfusionError::PositionalParamsForNamedQuery),
     );
     assert!(rt; named);
-    let mixed = refused(
+    let mixed = borrowed_refused(
         alloc,
         b":a ?",
         &[FragmentRef::List(CELLS)],

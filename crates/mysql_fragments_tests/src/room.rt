@@ -36,7 +36,7 @@ fn written(told: &Result<TextInRoom, FragmentsError>, room: &[u8], wanted: &[u8]
     *told == Ok(TextInRoom::Written { len: wanted.len() }) && stands_in(room, wanted)
 }
 
-fn refused(query: &[u8], fragments: &[FragmentRef<'_>], wanted: FragmentsError) -> bool {
+fn refused_in_room(query: &[u8], fragments: &[FragmentRef<'_>], wanted: FragmentsError) -> bool {
     let mut room = [b'*'; 8];
     let told = bind_borrowed_fragments_into(query, fragments, false, &mut room);
     told == Err(wanted) && is_untouched(&room)
@@ -86,20 +86,20 @@ fn room_that_is_too_short(rt: HostRuntime) {
 #[test]
 fn refusals_in_a_room(rt: HostRuntime) {
     let list = &[FragmentRef::List(CELLS)];
-    assert!(rt; refused(b":a ?", list, FragmentsError::Mixed));
-    assert!(rt; refused(b"1?", list, FragmentsError::NotAlone { place: 0, at: 1 }));
+    assert!(rt; refused_in_room(b":a ?", list, FragmentsError::Mixed));
+    assert!(rt; refused_in_room(b"1?", list, FragmentsError::NotAlone { place: 0, at: 1 }));
     let kind = FragmentsError::Confusion(ParamsConfusionError::PositionalParamsForNamedQuery);
-    assert!(rt; refused(b":a", list, kind));
+    assert!(rt; refused_in_room(b":a", list, kind));
     let few = FragmentsError::MarkCount {
         marks: 2,
         fragments: 1,
     };
-    assert!(rt; refused(b"? = ?", list, few));
+    assert!(rt; refused_in_room(b"? = ?", list, few));
     let float = &[FragmentRef::List(&[ValueRef::NULL, ValueRef::Double(0)])];
-    assert!(rt; refused(b"a IN (?)", float, FragmentsError::Float { place: 0 }));
+    assert!(rt; refused_in_room(b"a IN (?)", float, FragmentsError::Float { place: 0 }));
     let empty = FragmentsError::Fault {
         place: 0,
         fault: FragmentFault::Empty,
     };
-    assert!(rt; refused(b"a IN (?)", &[FragmentRef::List(&[])], empty));
+    assert!(rt; refused_in_room(b"a IN (?)", &[FragmentRef::List(&[])], empty));
 }

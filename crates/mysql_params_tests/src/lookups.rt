@@ -3,7 +3,7 @@ use crate::shared::{Given, answer_of, names, params, same, same_in, values};
 use mysql_params::params::{
     IntoPositionalError, MissingNamedParameterError, Params, ParamsConfusionError, ParamsError,
 };
-use mysql_params_core::params::{BorrowedParams, NameMap, NamedPairs, place_values};
+use mysql_params_core::params::{BorrowedParams, NameMap, NamedPairs, place_values, value_of};
 use mysql_values::value::{Value, ValueRef};
 use std::alloc::{AllocError, Global};
 use std::collections::BTreeMap;
@@ -203,6 +203,22 @@ fn values_of_borrowed_pairs(rt: HostRuntime) {
     let values = BorrowedParams::Values(&wanted);
     let found = answer_of(&rt, place_values(rt.alloc(), values, &[]));
     same(&rt, found.as_slice(), wanted.as_slice());
+}
+
+#[test]
+fn value_of_one_name(rt: HostRuntime) {
+    let params = params(&rt, rt.alloc(), Given::Named(b"ab"));
+    let lent = params.borrowed();
+    assert!(rt; value_of(lent, b"b") == Some(ValueRef::UInt(2)));
+    assert!(rt; value_of(lent, b"c") == None);
+}
+
+#[test]
+fn value_of_one_pair(rt: HostRuntime) {
+    let pairs = NamedPairs(PAIRS);
+    let lent = BorrowedParams::Pairs(&pairs);
+    assert!(rt; value_of(lent, b"a") == Some(ValueRef::UInt(1)));
+    assert!(rt; value_of(lent, b"ab") == None);
 }
 
 // Fifty names twice each, in the same order: more pairs than are found by walks.

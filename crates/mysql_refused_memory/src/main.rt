@@ -30,6 +30,7 @@ mod rows_cases;
 mod steady_cases;
 mod steady_fragment_cases;
 mod table_cases;
+mod table_text_cases;
 mod value_cases;
 mod wire_cases;
 mod written_cases;
@@ -116,6 +117,9 @@ fn bind_case(alloc: Global, name: &str) -> Option<Case> {
         return Some(case);
     }
     if let Some(case) = record_cases::case(alloc, name) {
+        return Some(case);
+    }
+    if let Some(case) = table_text_cases::case(alloc, name) {
         return Some(case);
     }
     bind_rows_cases::case(alloc, name)

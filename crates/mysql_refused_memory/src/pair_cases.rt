@@ -20,8 +20,8 @@ pub(crate) fn case(alloc: Global, name: &str) -> Option<Case> {
     if let Some(row) = row(VALUES, name) {
         return Some(values_bound(alloc, row));
     }
-    if let Some(count) = row(MANY, name) {
-        return Some(many_bound(alloc, count));
+    if let Some(call) = row(MANY, name) {
+        return Some(many_bound(alloc, call));
     }
     Some(fragments_bound(alloc, row(FRAGMENTS, name)?))
 }
@@ -74,7 +74,18 @@ const PAIRS: &[(&str, PairsRow)] = cases! {
 };
 
 fn pairs_bound(alloc: Global, (call, query, pairs, wanted, memory): PairsRow) -> Case {
-    let outcome = match call {
+    Ok(bound_by(alloc, call, query, pairs, wanted)?.with(memory))
+}
+
+/// How this call of pairs went.
+fn bound_by(
+    alloc: Global,
+    call: Call,
+    query: &[u8],
+    pairs: &[(&[u8], ValueRef<'_>)],
+    wanted: Wanted,
+) -> Case {
+    Ok(match call {
         Call::Plain => judged_pairs(bind_pairs(alloc, query, pairs, false), wanted),
         Call::Room => pairs_in_room(alloc, query, pairs, wanted),
         Call::Parsed => {
@@ -85,8 +96,7 @@ fn pairs_bound(alloc: Global, (call, query, pairs, wanted, memory): PairsRow) ->
         Call::Anywhere => judged_steady(bind_pairs_anywhere(alloc, query, pairs), wanted),
         Call::AnyMode => judged_steady(bind_pairs_in_any_mode(alloc, query, pairs), wanted),
         Call::BothModes => judged_both(bind_pairs_in_both_modes(alloc, query, pairs), wanted),
-    };
-    Ok(outcome.with(memory))
+    })
 }
 
 /// A call, a query, values, the text or the refusal, and whether the call asks for memory.
@@ -194,7 +204,12 @@ fn told_in_room<E: Debug + Drop>(
 
 const ROOM: &[u8] = b"........";
 
-fn pairs_in_room(alloc: Global, query: &[u8], pairs: &[Pair], wanted: Wanted) -> Outcome {
+fn pairs_in_room(
+    alloc: Global,
+    query: &[u8],
+    pairs: &[(&[u8], ValueRef<'_>)],
+    wanted: Wanted,
+) -> Outcome {
     let mut room = *b"........";
     match bind_pairs_into(alloc, query, pairs, false, &mut room) {
         Err(BindPairsError::Bind(error)) => told_in_room(Err(error), &room, wanted),
@@ -208,7 +223,12 @@ fn values_in_room(alloc: Global, query: &[u8], values: &[ValueRef<'_>], wanted: 
     told_in_room(told, &room, wanted)
 }
 
-fn pairs_appended(alloc: Global, query: &[u8], pairs: &[Pair], wanted: Wanted) -> Case {
+fn pairs_appended(
+    alloc: Global,
+    query: &[u8],
+    pairs: &[(&[u8], ValueRef<'_>)],
+    wanted: Wanted,
+) -> Case {
     let parsed = ParsedQuery::parse(alloc, query)?;
     let mut text = Vec::from_slice(alloc, b"xy")?;
     Ok(match parsed.append_pairs(alloc, pairs, &mut text) {
@@ -230,10 +250,16 @@ fn values_appended(alloc: Global, query: &[u8], values: &[ValueRef<'_>], wanted:
     })
 }
 
-/// So many pairs, of the names from `aa` on, are put into a sorted map.
-const MANY: &[(&str, usize)] = cases! {
-    "bind_pairs of more pairs than are walked" => 65usize;
+/// Calls with pairs that are put into a sorted map.
+const MANY: &[(&str, Call)] = cases! {
+    "bind_pairs of more pairs than are walked" => Call::Plain;
+    "bind_pairs of a parsed query of more pairs than are walked" => Call::Parsed;
+    "bind_pairs_anywhere of more pairs than are walked" => Call::Anywhere;
+    "bind_pairs_in_both_modes of more pairs than are walked" => Call::BothModes;
 };
+
+/// One pair more than is walked.
+const COUNT: usize = 65;
 
 const LETTERS: &[u8] = b"abcdefghijklmnopqrstuvwxyz";
 
@@ -245,17 +271,17 @@ fn letter(number: usize) -> u8 {
     }
 }
 
-fn many_bound(alloc: Global, count: usize) -> Case {
-    let mut names = Vec::with_capacity(alloc, count)?;
-    for i in 0..count {
+/// How a call of pairs of the names from `aa` on went.
+fn many_bound(alloc: Global, call: Call) -> Case {
+    let mut names = Vec::with_capacity(alloc, COUNT)?;
+    for i in 0..COUNT {
         names.push([letter(i / LETTERS.len()), letter(i)])?;
     }
-    let mut pairs: Vec<(&[u8], ValueRef<'_>)> = Vec::with_capacity(alloc, count)?;
+    let mut pairs: Vec<(&[u8], ValueRef<'_>)> = Vec::with_capacity(alloc, COUNT)?;
     for (i, name) in names.iter().enumerate() {
         pairs.push((name.as_slice(), ValueRef::UInt(i as u64)))?;
     }
-    let answer = bind_pairs(alloc, b"x=:cm", pairs.as_slice(), false);
-    Ok(judged_pairs(answer, Ok(b"x=64")))
+    bound_by(alloc, call, b"x=:cm", pairs.as_slice(), Ok(b"x=64"))
 }
 
 /// A query, fragments, and the text or the refusal.

@@ -1,10 +1,10 @@
 -- ASCII at the front of bytes, and that the rest decides whether they are UTF-8.
-use Rattle.std.proofs.Common.{◌≡◌, ℕ, ◌+◌, ◌≤◌, List, [], ◌∷◌, ◌++◌, map, length, take, drop, sym, subst, ap, ◌∙◌}
+use Rattle.std.proofs.Common.{◌≡◌, ℕ, ◌+◌, ◌-◌, ◌≤◌, List, [], ◌∷◌, ◌++◌, map, length, take, drop, sym, subst, ap, ◌∙◌, arith}
 use Rattle.std.specs.Prelude.{Result, Ok, Err, MatchResult, is_ok}
 use Rattle.std.specs.Str.{IsAscii, IsUtf8, is_utf8}
 use Rattle.std.proofs.lemmas.Bool.{leb-false, false_from_ne_true}
-use Rattle.std.proofs.lemmas.List.{take-take, take-append-drop}
-use Rattle.std.proofs.lemmas.Str.{IsAscii-append, IsAscii-take, IsUtf8-append, IsUtf8-drop, IsUtf8-from_ascii, IsUtf8-from_is_utf8, is_utf8-from_IsUtf8, IsCharBoundary-from_take}
+use Rattle.std.proofs.lemmas.List.{take-take, take-append-drop, take-append-le, take_all, drop-append-le, drop_all, length-drop}
+use Rattle.std.proofs.lemmas.Str.{IsAscii-append, IsAscii-take, IsAscii-drop, IsUtf8-append, IsUtf8-drop, IsUtf8-from_ascii, IsUtf8-from_is_utf8, is_utf8-from_IsUtf8, IsCharBoundary-from_take}
 use Rattle.std.proofs.lemmas.Str.Ascii.{IsAscii-cons, IsAscii-nil}
 use Rattle.std.proofs.Math.Seq.{take-add}
 use lib.Dec.{leb}
@@ -32,6 +32,23 @@ IsAscii-last_block bytes last at long within front block =
     let whole : take last bytes ++ chunk last 16 bytes ≡ bytes =
     ap (λ t. take last bytes ++ t) (block_to_end bytes last long) ∙ take-append-drop last bytes in
     subst IsAscii whole (IsAscii-append (take last bytes) (chunk last 16 bytes) before block)
+
+-- ASCII of at most 16 bytes, by the last 8 and the first 8
+pub IsAscii-from_ends : (bytes : List ℕ) → 8 ≤ length bytes → length bytes ≤ 16
+    → IsAscii (drop (length bytes - 8) bytes ++ take 8 bytes) → IsAscii bytes
+IsAscii-from_ends bytes at_least at_most ends =
+    let last = length bytes - 8 in
+    let end = drop last bytes in
+    let eight : length end ≡ 8 = omega (arith, at_least, length-drop last bytes) in
+    let front : IsAscii (take 8 bytes) =
+    subst IsAscii (drop-append-le 8 end (take 8 bytes) (omega (arith, eight)) ∙ ap (λ t. t ++ take 8 bytes) (drop_all 8 end (omega (arith, eight))))
+    (IsAscii-drop (end ++ take 8 bytes) 8 ends) in
+    let back : IsAscii end =
+    subst IsAscii (take-append-le 8 end (take 8 bytes) (omega (arith, eight)) ∙ take_all 8 end (omega (arith, eight)))
+    (IsAscii-take (end ++ take 8 bytes) 8 ends) in
+    let before : IsAscii (take last bytes) =
+    subst IsAscii (take-take last 8 bytes (omega (arith, at_most))) (IsAscii-take (take 8 bytes) last front) in
+    subst IsAscii (take-append-drop last bytes) (IsAscii-append (take last bytes) end before back)
 
 -- after ASCII the rest is UTF-8 if all is, and the other way round
 pub IsUtf8-after_ascii : (bytes : List ℕ) (at : ℕ) → at ≤ length bytes → IsAscii (take at bytes) → IsUtf8 bytes → IsUtf8 (drop at bytes)

@@ -1,10 +1,10 @@
 -- Blocks that are looked at in part: up to their first escape, or from a byte on.
-use Rattle.std.proofs.Common.{◌≡◌, ℕ, zero, suc, ◌+◌, ◌-◌, ◌/◌, ◌^◌, ◌<◌, ◌≤◌, Bool, false, not, List, [], ◌∷◌, ◌++◌, map, length, take, drop, get_or, refl, sym, ap, ap₂, ◌∙◌, arith, inl, inr, append_assoc, length-append}
+use Rattle.std.proofs.Common.{◌≡◌, ℕ, zero, suc, ◌+◌, ◌-◌, ◌/◌, ◌^◌, ◌<◌, ◌≤◌, Bool, false, not, cond, List, [], ◌∷◌, ◌++◌, map, length, take, drop, get_or, refl, sym, ap, ap₂, ◌∙◌, arith, inl, inr, append_assoc, length-append}
 use Rattle.std.specs.List.{count_by, prefix_len}
 use Rattle.std.specs.Int.RustNames.{count_ones}
 use Rattle.std.proofs.lemmas.Bool.{cases_Bool, cases_lt}
-use Rattle.std.proofs.lemmas.List.{take_all, drop_all, take-take, length-take-le, drop-drop, drop-map, length-drop}
-use Rattle.std.proofs.lemmas.List.Sums.{count_by-le-length}
+use Rattle.std.proofs.lemmas.List.{take_all, drop_all, take-take, length-take-le, drop-append-le, drop-drop, drop-map, length-drop}
+use Rattle.std.proofs.lemmas.List.Sums.{count_by-le-length, sum_by-append, sum_by-take-drop}
 use Rattle.std.proofs.lemmas.Grind.{flat_map-append}
 use Rattle.std.proofs.lemmas.Simd.{ones-mask_l, chunk-drop, length-chunk, trailing_mask_l, run_in_chunk_le, run_in_chunk_fails}
 use Rattle.std.proofs.Math.Seq.{drop-cons, take-append-add}
@@ -33,6 +33,28 @@ ones-last_block mode bytes last at long within =
     ap count_ones (mask_l-drop (at - last) (map (is_escaped mode) block)
     ∙ ap mask_l (drop-map (is_escaped mode) (at - last) block ∙ ap (map (is_escaped mode)) (last_block bytes last at long within)))
     ∙ ones-mask_l (is_escaped mode) (drop at bytes)
+
+-- the escapes of at most 16 bytes are those of the last 8, except what the first 8 have of them, and of the first 8
+pub ones-ends : (mode : Bool) (bytes ends : List ℕ) (mask : ℕ) → 8 ≤ length bytes → length bytes ≤ 16
+    → ends ≡ drop (length bytes - 8) bytes ++ take 8 bytes → mask ≡ mask_l (map (is_escaped mode) ends)
+    → count_ones (mask / 2 ^ (16 - length bytes)) ≡ count_by (is_escaped mode) bytes
+ones-ends mode bytes ends mask at_least at_most are is =
+    let last = length bytes - 8 in
+    let twice = 16 - length bytes in
+    let place : last + twice ≡ 8 = omega (arith, at_least, at_most) in
+    let apart : drop twice ends ≡ drop 8 bytes ++ take 8 bytes =
+    ap (drop twice) are
+    ∙ drop-append-le twice (drop last bytes) (take 8 bytes) (omega (arith, at_least, at_most, length-drop last bytes))
+    ∙ ap (λ t. t ++ take 8 bytes) (drop-drop twice last bytes ∙ ap (λ i. drop i bytes) place) in
+    ap (λ m. count_ones (m / 2 ^ twice)) is
+    ∙ ap count_ones (mask_l-drop twice (map (is_escaped mode) ends)
+    ∙ ap mask_l (drop-map (is_escaped mode) twice ends ∙ ap (map (is_escaped mode)) apart))
+    ∙ ones-mask_l (is_escaped mode) (drop 8 bytes ++ take 8 bytes)
+    ∙ omega (
+      arith,
+      sum_by-append (λ b. cond (is_escaped mode b) 1 0) (drop 8 bytes) (take 8 bytes),
+      sum_by-take-drop (λ b. cond (is_escaped mode b) 1 0) bytes 8,
+    )
 
 -- the length of the end of the bytes, by its escapes
 pub length-escaped-end : (mode : Bool) (bytes : List ℕ) (at : ℕ) → at ≤ length bytes

@@ -5,6 +5,7 @@ mod EscapeTableLemmas
 pub mod MaskLemmas
 mod BlockLemmas
 mod EscapeWalkLemmas
+mod EscapedLanesLemmas
 pub mod AsciiLemmas
 pub mod StringLemmas
 pub mod ValueOfDigitsLemmas

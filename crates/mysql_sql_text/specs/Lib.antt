@@ -1,5 +1,6 @@
 pub mod StringUnits
 pub mod LiteralText
+pub mod EscapedLanes
 pub mod LiteralShape
 pub mod ReadLiteral
 pub mod LiteralEnd

@@ -2,20 +2,23 @@
 //!
 //! Most bytes stand for themselves. So the bytes go in blocks of 16, and the escapes of a block are
 //! counted together. When the bytes are written, a block without escapes is copied whole, and one
-//! with few goes from escape to escape. One with many goes byte by byte, and so do the last bytes.
+//! with few goes from escape to escape. One with many goes four bytes at once, whichever of them
+//! are escaped. The last bytes go byte by byte.
 ghost use Rattle.std.specs.Prelude.{◌≡◌, [], ◌∷◌, ◌++◌, ◌+◌, ◌*◌, ◌≤◌, length, take, drop, map, MatchOption};
 ghost use Rattle.std.specs.Int.RustNames.{count_ones};
 ghost use Rattle.std.specs.Simd.Lanes.{chunk, mask_l};
+ghost use Rattle.mysql_sql_text.specs.EscapedLanes.{first_byte, four_lanes, last_byte};
 ghost use Rattle.mysql_sql_text.specs.LiteralText.{escaped, escaped_byte, is_escaped};
 
+use crate::blocks::{HALF, both_ends};
 use crate::numbers::append_byte;
 use std::simd::prelude::*;
 
 // The number of bytes in a block.
 const LANES: usize = 16;
 
-// A block with more escapes than these goes byte by byte.
-const FEW_ESCAPES: u32 = 4;
+// A block with more escapes than these goes four bytes at once.
+const FEW_ESCAPES: u32 = 2;
 
 // ASCII's character "substitute".
 const CONTROL_Z: u8 = 26;
@@ -32,6 +35,27 @@ static AFTER_BACKSLASH: [u8; 256] = *b"\
     ................................\
     ................................";
 
+// For each set of escaped lanes among four, one bit a lane: the lanes that are written, in order.
+// `128` stands for the first byte of an escape. What follows the last of the four is written over.
+static PLACES: [[u8; 16]; 16] = [
+    [0, 1, 2, 3, 0, 0, 0, 0, 0, 0, 0, 0, 0, 0, 0, 0],
+    [128, 0, 1, 2, 3, 0, 0, 0, 0, 0, 0, 0, 0, 0, 0, 0],
+    [0, 128, 1, 2, 3, 0, 0, 0, 0, 0, 0, 0, 0, 0, 0, 0],
+    [128, 0, 128, 1, 2, 3, 0, 0, 0, 0, 0, 0, 0, 0, 0, 0],
+    [0, 1, 128, 2, 3, 0, 0, 0, 0, 0, 0, 0, 0, 0, 0, 0],
+    [128, 0, 1, 128, 2, 3, 0, 0, 0, 0, 0, 0, 0, 0, 0, 0],
+    [0, 128, 1, 128, 2, 3, 0, 0, 0, 0, 0, 0, 0, 0, 0, 0],
+    [128, 0, 128, 1, 128, 2, 3, 0, 0, 0, 0, 0, 0, 0, 0, 0],
+    [0, 1, 2, 128, 3, 0, 0, 0, 0, 0, 0, 0, 0, 0, 0, 0],
+    [128, 0, 1, 2, 128, 3, 0, 0, 0, 0, 0, 0, 0, 0, 0, 0],
+    [0, 128, 1, 2, 128, 3, 0, 0, 0, 0, 0, 0, 0, 0, 0, 0],
+    [128, 0, 128, 1, 2, 128, 3, 0, 0, 0, 0, 0, 0, 0, 0, 0],
+    [0, 1, 128, 2, 128, 3, 0, 0, 0, 0, 0, 0, 0, 0, 0, 0],
+    [128, 0, 1, 128, 2, 128, 3, 0, 0, 0, 0, 0, 0, 0, 0, 0],
+    [0, 128, 1, 128, 2, 128, 3, 0, 0, 0, 0, 0, 0, 0, 0, 0],
+    [128, 0, 128, 1, 128, 2, 128, 3, 0, 0, 0, 0, 0, 0, 0, 0],
+];
+
 // How long the escaped bytes are. The last block overlaps the one before it, so that no bytes are
 // left over.
 pub(crate) fn escaped_len(bytes: &[u8], no_backslash_escape: bool) -> usize
@@ -39,7 +63,7 @@ pub(crate) fn escaped_len(bytes: &[u8], no_backslash_escape: bool) -> usize
     ensures few { result ≤ 2 * length bytes.now }
 {
     if bytes.len() < LANES {
-        return escaped_bytes_len(bytes, no_backslash_escape);
+        return escaped_len_of_few(bytes, no_backslash_escape);
     }
     let mut at = 0;
     let mut escapes = 0;
@@ -64,6 +88,23 @@ fn count_set_bits(bits: u64) -> usize
         return 0;
     }
     bits.count_ones() as usize
+}
+
+// `escaped_len` of fewer than 16 bytes. From 8 on they are looked at together, and fewer one by
+// one.
+#[inline(always)]
+fn escaped_len_of_few(bytes: &[u8], no_backslash_escape: bool) -> usize
+    requires { length bytes.now ≤ LANES }
+    ensures exact { result ≡ length (escaped no_backslash_escape bytes.now) }
+    ensures few { result ≤ 2 * length bytes.now }
+{
+    if bytes.len() < HALF {
+        return escaped_bytes_len(bytes, no_backslash_escape);
+    }
+    let escapes = escaped_lanes(both_ends(bytes), no_backslash_escape);
+    // Those of the last 8 bytes that are among the first 8 are counted with these alone.
+    let counted = escapes >> (LANES - bytes.len());
+    bytes.len() + counted.count_ones() as usize
 }
 
 // How long the escaped bytes are, byte by byte.
@@ -134,10 +175,13 @@ fn append_block(
     if escapes == 0 {
         return append_lanes(buffer, at, block);
     }
-    // After each of few escapes 16 bytes are copied, so as many have to follow the block.
-    if escapes.count_ones() > FEW_ESCAPES || bytes.len() - from < 2 * LANES {
+    // 16 bytes are written at once, so as many have to follow the block.
+    if bytes.len() - from < 2 * LANES {
         let end = from + LANES;
         return append_escaped_bytes(buffer, at, &bytes[from..end], no_backslash_escape);
+    }
+    if escapes.count_ones() > FEW_ESCAPES {
+        return append_many_escapes(buffer, at, block, escapes, no_backslash_escape);
     }
     append_few_escapes(buffer, at, bytes, from, escapes, no_backslash_escape)
 }
@@ -179,6 +223,85 @@ fn append_few_escapes(
     }
     append_lanes(buffer, at, u8x16::from_slice(&bytes[from..]));
     at + (end - from)
+}
+
+// Appends 16 bytes, escaped, four at once.
+#[inline(always)]
+fn append_many_escapes(
+    buffer: &mut [u8],
+    start: usize,
+    block: u8x16,
+    block_escapes: u64,
+    no_backslash_escape: bool,
+) -> usize
+    requires mask { block_escapes ≡ mask_l (map (is_escaped no_backslash_escape) block) }
+    requires fits { start + length (escaped no_backslash_escape block) + LANES
+        ≤ length buffer.old }
+    ensures next { result ≡ start + length (escaped no_backslash_escape block) }
+    ensures front { take result buffer.new
+        ≡ take start buffer.old ++ escaped no_backslash_escape block }
+{
+    let mut at = start;
+    let mut lanes = last_bytes(block, no_backslash_escape);
+    for quarter in 0..4u32 {
+        let escapes = block_escapes >> (4 * quarter);
+        at = append_four(buffer, at, lanes, escapes, no_backslash_escape);
+        lanes = lanes.shuffle(
+            lanes,
+            [4, 5, 6, 7, 8, 9, 10, 11, 12, 13, 14, 15, 16, 17, 18, 19],
+        );
+    }
+    at
+}
+
+// Appends the first four lanes, each after the first byte of an escape if its bit is set.
+#[inline(always)]
+fn append_four(
+    buffer: &mut [u8],
+    at: usize,
+    lanes: u8x16,
+    escapes: u64,
+    no_backslash_escape: bool,
+) -> usize
+    requires { at + LANES ≤ length buffer.old }
+    ensures next { result ≡ at + length (four_lanes no_backslash_escape escapes lanes) }
+    ensures front { take result buffer.new
+        ≡ take at buffer.old ++ four_lanes no_backslash_escape escapes lanes }
+{
+    let four = escapes % 16;
+    let places = u8x16::from_slice(&PLACES[four as usize]);
+    let firsts = u8x16::splat(first_byte(no_backslash_escape));
+    let text = places
+        .simd_ge(u8x16::splat(128))
+        .select(firsts, lanes.swizzle_dyn(places));
+    append_lanes(buffer, at, text);
+    at + 4 + four.count_ones() as usize
+}
+
+// The first of the two bytes that stand for an escaped byte.
+#[inline(always)]
+fn first_byte(no_backslash_escape: bool) -> u8
+    ensures { result ≡ first_byte no_backslash_escape }
+{
+    if no_backslash_escape { b'\'' } else { b'\\' }
+}
+
+// The last of the bytes that stand for each byte.
+#[inline(always)]
+fn last_bytes(block: u8x16, no_backslash_escape: bool) -> u8x16
+    ensures { result ≡ map (last_byte no_backslash_escape) block }
+{
+    if no_backslash_escape {
+        return block;
+    }
+    let zeros = block.simd_eq(u8x16::splat(0));
+    let newlines = block.simd_eq(u8x16::splat(b'\n'));
+    let returns = block.simd_eq(u8x16::splat(b'\r'));
+    let substitutes = block.simd_eq(u8x16::splat(CONTROL_Z));
+    let last = zeros.select(u8x16::splat(b'0'), block);
+    let last = newlines.select(u8x16::splat(b'n'), last);
+    let last = returns.select(u8x16::splat(b'r'), last);
+    substitutes.select(u8x16::splat(b'Z'), last)
 }
 
 // Appends 16 bytes as they are. Inline, as the loop over blocks that it is a part of.

@@ -2,6 +2,7 @@
 ghost use Rattle.std.specs.Prelude.{◌≡◌, ◌+◌, ◌≤◌, length, take, drop, IsTrue};
 ghost use Rattle.std.specs.Str.{IsAscii, is_utf8};
 
+use crate::blocks::{HALF, both_ends};
 use std::simd::prelude::*;
 
 // The number of bytes in a block.
@@ -42,11 +43,16 @@ fn ascii_front_len(bytes: &[u8]) -> usize
     }
 }
 
-// The number of bytes before the first that isn't ASCII, one by one.
+// `ascii_front_len` of fewer than 16 bytes. From 8 on they are looked at together, and fewer one by
+// one.
 fn ascii_front_of_few(bytes: &[u8]) -> usize
+    requires { length bytes.now ≤ LANES }
     ensures within { result ≤ length bytes.now }
     ensures ascii { IsAscii (take result bytes.now) }
 {
+    if bytes.len() >= HALF {
+        return ascii_front_of_ends(bytes);
+    }
     for at in 0..bytes.len() {
         if bytes[at] >= 128 {
             return at;
@@ -55,12 +61,34 @@ fn ascii_front_of_few(bytes: &[u8]) -> usize
     bytes.len()
 }
 
+// `ascii_front_len` of 8 bytes to 16, by the first 8 and the last 8: all, or none.
+#[inline(always)]
+fn ascii_front_of_ends(bytes: &[u8]) -> usize
+    requires at_least { HALF ≤ length bytes.now }
+    requires at_most { length bytes.now ≤ LANES }
+    ensures within { result ≤ length bytes.now }
+    ensures ascii { IsAscii (take result bytes.now) }
+{
+    if are_ascii_lanes(both_ends(bytes)) {
+        bytes.len()
+    } else {
+        0
+    }
+}
+
 // Whether the 16 bytes from this one on are all ASCII.
 #[inline(always)]
 fn is_ascii_block(bytes: &[u8], at: usize) -> bool
     requires { at + LANES ≤ length bytes.now }
     ensures { IsTrue result → IsAscii (take LANES (drop at bytes.now)) }
 {
-    let block = u8x16::from_slice(&bytes[at..]);
+    are_ascii_lanes(u8x16::from_slice(&bytes[at..]))
+}
+
+// Whether the bytes of a block are all ASCII.
+#[inline(always)]
+fn are_ascii_lanes(block: u8x16) -> bool
+    ensures { IsTrue result → IsAscii block }
+{
     block.simd_ge(u8x16::splat(128)).to_bitmask() == 0
 }

@@ -2,8 +2,10 @@
 use crate::both_modes_error::BothModesError;
 use thiserror::Error;
 
-/// Why [`bind_pairs_in_both_modes`](crate::bind_pairs_in_both_modes) gave no text: the first cause,
-/// in this order.
+/// Why [`bind_pairs_in_both_modes`](crate::bind_pairs_in_both_modes) gave no text.
+///
+/// Of at most 64 pairs it is the first cause, in this order. Of more, out of memory may come before
+/// a name that is given twice.
 #[derive(Debug, PartialEq, Drop, Error)]
 pub enum BothModesPairsError {
     /// The name of a pair is that of an earlier one; the first such pair is reported.

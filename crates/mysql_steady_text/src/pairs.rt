@@ -50,7 +50,7 @@ pub fn bind_pairs_anywhere(
     ensures by_position { IfOk result (λ text. OfPairs pairs.now (λ given. (mode : Bool) →
         OnTokens mode query.now (λ ts. IsSteadyByPosition mode ts given text.items))) }
 
-    // These are refused without allocating, once no name stands twice among few pairs.
+    // These are refused without allocating, if there are at most 64 pairs and no name stands twice.
     ensures unsteady { IfFewPairs pairs.now (λ given. (at : ℕ) →
         first_unsteady query.now ≡ Some at →
         IsErrOf result (SteadyPairsError.Bind (SteadyTextError.Unsteady at))) }
@@ -117,7 +117,7 @@ pub fn bind_pairs_in_any_mode(
     ensures by_position { IfOk result (λ text. OfPairs pairs.now (λ given. (mode : Bool) →
         OnTokens mode query.now (λ ts. IsSteadyByPosition mode ts given text.items))) }
 
-    // These are refused without allocating, once no name stands twice among few pairs.
+    // These are refused without allocating, if there are at most 64 pairs and no name stands twice.
     ensures unsteady { IfFewPairs pairs.now (λ given. (at : ℕ) →
         first_unsteady query.now ≡ Some at →
         IsErrOf result (SteadyPairsError.Bind (SteadyTextError.Unsteady at))) }
@@ -178,7 +178,7 @@ pub fn bind_pairs_in_both_modes(
     ensures by_position { IfOk result (λ text. OfPairs pairs.now (λ given. (mode : Bool) →
         OnTokens mode query.now (λ ts. IsByPositionInBothModes mode ts given text.items))) }
 
-    // These are refused without allocating, once no name stands twice among few pairs.
+    // These are refused without allocating, if there are at most 64 pairs and no name stands twice.
     ensures backslash { IfFewPairs pairs.now (λ given. (mode : Bool) →
         OnTokens mode query.now (λ ts. (at : ℕ) → first_backslash ts ≡ Some at →
         IsErrOf result (BothModesPairsError.Bind (BothModesError.Backslash at)))) }

@@ -3,8 +3,10 @@ use crate::steady_text_error::SteadyTextError;
 use thiserror::Error;
 
 /// Why [`bind_pairs_anywhere`](crate::bind_pairs_anywhere) or
-/// [`bind_pairs_in_any_mode`](crate::bind_pairs_in_any_mode) gave no text: the first cause, in this
-/// order.
+/// [`bind_pairs_in_any_mode`](crate::bind_pairs_in_any_mode) gave no text.
+///
+/// Of at most 64 pairs it is the first cause, in this order. Of more, out of memory may come before
+/// a name that is given twice.
 #[derive(Debug, PartialEq, Drop, Error)]
 pub enum SteadyPairsError {
     /// The name of a pair is that of an earlier one; the first such pair is reported.

@@ -130,7 +130,7 @@ fn columns(rt: &impl Abort, alloc: Global, types: &[ColumnType]) -> Vec<(ColumnT
 
 // One vector serves all rows, and keeps its room.
 #[test]
-fn rows_in_one_vector(rt: HostRuntime) {
+fn binary_rows_in_one_vector(rt: HostRuntime) {
     let mut cells = answer_of(&rt, Vec::with_capacity(rt.alloc(), 9));
     for (types, input, plain, left) in ROWS {
         let columns = columns(&rt, rt.alloc(), *types);
@@ -217,7 +217,7 @@ const REFUSED: &[(&[ColumnType], &[u8], BinaryRowError)] = &[
 ];
 
 #[test]
-fn refused_rows_leave_the_buffer(rt: HostRuntime) {
+fn refused_binary_rows_leave_the_buffer(rt: HostRuntime) {
     for (types, input, error) in REFUSED {
         let columns = columns(&rt, rt.alloc(), *types);
         let mut cells = Vec::new(rt.alloc());

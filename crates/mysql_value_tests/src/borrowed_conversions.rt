@@ -8,7 +8,7 @@ use std::process::Abort;
 use std::time::Duration;
 
 // Each value converts to the thing beside it, or to none.
-fn gives<'v, T: FromValueRef<'v> + Copy + Debug + PartialEq>(
+fn borrowed_gives<'v, T: FromValueRef<'v> + Copy + Debug + PartialEq>(
     rt: &impl Abort,
     rows: &[(ValueRef<'v>, Option<T>)],
 ) {
@@ -19,7 +19,7 @@ fn gives<'v, T: FromValueRef<'v> + Copy + Debug + PartialEq>(
 
 #[test]
 fn whole_numbers(rt: HostRuntime) {
-    gives::<i8>(
+    borrowed_gives::<i8>(
         &rt,
         &[
             (Int(-128), Some(-128)),
@@ -33,7 +33,7 @@ fn whole_numbers(rt: HostRuntime) {
             (Float(0), None),
         ],
     );
-    gives::<u64>(
+    borrowed_gives::<u64>(
         &rt,
         &[
             (UInt(u64::MAX), Some(u64::MAX)),
@@ -43,12 +43,12 @@ fn whole_numbers(rt: HostRuntime) {
             (Date(0, 0, 0, 0, 0, 0, 0), None),
         ],
     );
-    gives::<i128>(&rt, &[(UInt(u64::MAX), Some(18446744073709551615))]);
+    borrowed_gives::<i128>(&rt, &[(UInt(u64::MAX), Some(18446744073709551615))]);
 }
 
 #[test]
 fn booleans(rt: HostRuntime) {
-    gives::<bool>(
+    borrowed_gives::<bool>(
         &rt,
         &[
             (Int(0), Some(false)),
@@ -64,7 +64,7 @@ fn booleans(rt: HostRuntime) {
 
 #[test]
 fn durations(rt: HostRuntime) {
-    gives::<Duration>(
+    borrowed_gives::<Duration>(
         &rt,
         &[
             (
@@ -89,7 +89,7 @@ fn durations(rt: HostRuntime) {
 
 #[test]
 fn texts_and_bytes(rt: HostRuntime) {
-    gives::<&str>(
+    borrowed_gives::<&str>(
         &rt,
         &[
             (Bytes(b"it's"), Some("it's")),
@@ -98,7 +98,7 @@ fn texts_and_bytes(rt: HostRuntime) {
             (Int(97), None),
         ],
     );
-    gives::<&[u8]>(
+    borrowed_gives::<&[u8]>(
         &rt,
         &[
             (Bytes(b"\xC3\x28"), Some(b"\xC3\x28")),
@@ -110,7 +110,7 @@ fn texts_and_bytes(rt: HostRuntime) {
 
 #[test]
 fn options(rt: HostRuntime) {
-    gives::<Option<i32>>(
+    borrowed_gives::<Option<i32>>(
         &rt,
         &[
             (NULL, Some(None)),
@@ -118,7 +118,7 @@ fn options(rt: HostRuntime) {
             (Bytes(b"seven"), None),
         ],
     );
-    gives::<Option<&str>>(&rt, &[(NULL, Some(None)), (Bytes(b"a"), Some(Some("a")))]);
+    borrowed_gives::<Option<&str>>(&rt, &[(NULL, Some(None)), (Bytes(b"a"), Some(Some("a")))]);
 }
 
 #[test]

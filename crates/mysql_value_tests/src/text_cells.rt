@@ -45,7 +45,7 @@ fn rows(rt: HostRuntime) {
 
 // One vector serves all rows, and keeps its room.
 #[test]
-fn rows_in_one_vector(rt: HostRuntime) {
+fn text_rows_in_one_vector(rt: HostRuntime) {
     let mut cells = answer_of(&rt, Vec::with_capacity(rt.alloc(), 8));
     for (input, plain, left) in ROWS {
         let wanted = value_refs(&rt, rt.alloc(), *plain);
@@ -75,7 +75,7 @@ const REFUSED: &[(&[u8], usize, WireError)] = &[
 ];
 
 #[test]
-fn refused_rows_leave_the_buffer(rt: HostRuntime) {
+fn refused_text_rows_leave_the_buffer(rt: HostRuntime) {
     for (input, count, error) in REFUSED {
         let mut buf = ParseBuf(*input);
         let refusal = read_text_cells(rt.alloc(), &mut buf, *count).err();

@@ -1,6 +1,5 @@
 //! The literals of values, in any form.
-ghost use Rattle.std.specs.Prelude.{◌≡◌, ◌+◌, ◌++◌, ◌≤◌, false, Some, IfOk, IfSome, OnErr, length, map, take};
-ghost use Rattle.std.specs.List.{All};
+ghost use Rattle.std.specs.Prelude.{◌≡◌, ◌+◌, ◌++◌, ◌^◌, ◌<◌, ◌≤◌, false, None, Some, IfOk, IfSome, OnErr, length, take};
 ghost use Rattle.mysql_values.specs.Literal.{is_float};
 ghost use Rattle.mysql_values.specs.Value.{FieldsInRange};
 ghost use Rattle.mysql_values.specs.BorrowedValue.{owned, owned_values};
@@ -23,23 +22,6 @@ pub(super) fn first_float(values: &[ValueRef<'_>]) -> Option<usize>
         }
     }
     None
-}
-
-/// The length of the literal of each value, 0 for floats. A length may be above `isize::MAX`.
-pub(super) fn literal_lens<F: LiteralForm>(
-    alloc: Global,
-    values: &[ValueRef<'_>],
-    form: &F,
-) -> Result<Vec<u128>, AllocError>
-    ensures lens { IfOk result (λ lens.
-        lens.items ≡ map (literal_len (F.literal form.now)) (owned_values values.now)) }
-    ensures in_range { IfOk result (λ lens. All FieldsInRange (owned_values values.now)) }
-{
-    let mut lens = Vec::with_capacity(alloc, values.len())?;
-    for value in values {
-        lens.push(literal_len(*value, form))?;
-    }
-    Ok(lens)
 }
 
 /// The length of the literal of a value, 0 for a float. It is lent to the crate above.
@@ -130,12 +112,14 @@ fn append_owned_literal<F: LiteralForm>(
     next
 }
 
-// The index after this many bytes from an index on, if there is such an index.
-fn end_after(at: usize, len: u128) -> Option<usize>
-    ensures { IfSome result (λ end. end ≡ at + len) }
+/// The index after this many bytes from an index on, if it is at most `isize::MAX`.
+pub(super) fn end_after(at: usize, len: u128) -> Option<usize>
+    ensures end { IfSome result (λ end. end ≡ at + len) }
+    ensures fits { IfSome result (λ end. end < 2 ^ 63) }
+    ensures too_long { result ≡ None → 2 ^ 63 ≤ at + len }
 {
     let end = (at as u128).checked_add(len)?;
-    if end > usize::MAX as u128 {
+    if end > isize::MAX as u128 {
         return None;
     }
     Some(end as usize)

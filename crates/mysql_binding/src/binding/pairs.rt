@@ -43,8 +43,8 @@ pub fn bind_pairs(
         OnTokens no_backslash_escape query.now (λ ts.
         IsSameByPosition no_backslash_escape ts given text.items))) }
 
-    // A query with a name and a mark is refused without allocating, once no name stands twice
-    // among few pairs.
+    // A query with a name and a mark is refused without allocating, if there are at most 64 pairs
+    // and no name stands twice.
     ensures mixed { IfFewPairs pairs.now (λ given. OnTokens no_backslash_escape query.now (λ ts.
         HasName ts × HasMark ts → IsErrOf result (BindPairsError.Bind BindError.Mixed))) }
 {

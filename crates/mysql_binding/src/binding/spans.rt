@@ -1,6 +1,6 @@
 //! Where the places of a query stand, as plain numbers that a caller keeps, and binding by them
 //! without a walk of the query.
-ghost use Rattle.std.specs.Prelude.{◌≡◌, ◌↔◌, ◌+◌, ◌≤◌, Bool, None, Ok, length, map, take, drop, IfErr, IfOk, IfSome, IsErrOf, IsTrue, OnErr, OnOk};
+ghost use Rattle.std.specs.Prelude.{◌≡◌, ◌↔◌, ◌+◌, ◌<◌, ◌≤◌, Bool, None, Ok, length, map, take, drop, IfErr, IfOk, IfSome, IsErrOf, IsTrue, OnErr, OnOk};
 ghost use Rattle.mysql_named_params.specs.Tokens.{OnTokens};
 ghost use Rattle.mysql_named_params.specs.Places.{HasMark, HasName, place_count};
 ghost use Rattle.mysql_params_core.specs.GivenBorrowed.{given_by_borrowed};
@@ -25,7 +25,7 @@ use crate::binding::survey::Survey;
 use crate::binding::text::append_piece;
 use crate::binding::{bind_error_of, later_error};
 use mysql_named_params::places::FoundPlace;
-use mysql_params_core::params::{BorrowedParams, place_values};
+use mysql_params_core::params::{BorrowedParams, place_values, value_of};
 use mysql_values::value::ValueRef;
 use std::alloc::{AllocError, Global};
 
@@ -208,8 +208,57 @@ fn measured_spans<'p, F: LiteralForm>(
     }
 }
 
-// References to the values that are given to the names at these places.
+// The values, borrowed, that are given to the names at these places.
 fn values_at<'p>(
+    alloc: Global,
+    query: &[u8],
+    spans: &[PlaceSpan],
+    params: BorrowedParams<'p, '_>,
+) -> Result<Vec<ValueRef<'p>>, BindError>
+    requires fit { FitIn spans.now query.now }
+    ensures values { IfOk result (λ values. lookup (given_by_borrowed params.entry)
+        (names_at spans.now query.now) ≡ Ok (owned_values values.items)) }
+    ensures refused { IfErr result
+        (IsLookupError (given_by_borrowed params.entry) (names_at spans.now query.now)) }
+{
+    if !spans.is_empty() {
+        match found_at(alloc, query, spans, params) {
+            Ok(Some(values)) => return Ok(values),
+            Ok(None) => {}
+            Err(error) => return Err(BindError::Memory(error)),
+        }
+    }
+    values_of_list(alloc, query, spans, params)
+}
+
+// The same of places, one at least, if each value is found without memory. No list of the names is
+// made.
+fn found_at<'p>(
+    alloc: Global,
+    query: &[u8],
+    spans: &[PlaceSpan],
+    params: BorrowedParams<'p, '_>,
+) -> Result<Option<Vec<ValueRef<'p>>>, AllocError>
+    requires fit { FitIn spans.now query.now }
+    requires some { 0 < length spans.now }
+    ensures { IfOk result (λ found. IfSome found (λ values. lookup (given_by_borrowed params.entry)
+        (names_at spans.now query.now) ≡ Ok (owned_values values.items))) }
+{
+    let mut values = Vec::with_capacity(alloc, spans.len())?;
+    let mut rest = query;
+    for span in spans {
+        let (_, place, after) = span.cut(rest);
+        let Some(value) = value_of(params, &place[1..]) else {
+            return Ok(None);
+        };
+        values.push(value)?;
+        rest = after;
+    }
+    Ok(Some(values))
+}
+
+// The same by a list of the names, which tells a name without a value.
+fn values_of_list<'p>(
     alloc: Global,
     query: &[u8],
     spans: &[PlaceSpan],
@@ -270,7 +319,7 @@ fn fill_spans<F: LiteralForm>(
     for (i, value) in measured.values.iter().enumerate() {
         let (piece, _, after) = spans[i].cut(rest);
         at = append_piece(room, at, piece);
-        at = append_literal(room, at, *value, lens[i] as usize, form);
+        at = append_literal(room, at, *value, lens[i], form);
         rest = after;
     }
     append_piece(room, at, rest);

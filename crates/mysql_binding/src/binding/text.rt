@@ -146,7 +146,7 @@ fn fill_text<F: LiteralForm>(
     query: &[u8],
     known: &[FoundPlace],
     values: &[ValueRef<'_>],
-    lens: &[u128],
+    lens: &[usize],
     text: &mut [u8],
     no_backslash_escape: bool,
     form: &F,
@@ -170,7 +170,7 @@ fn fill_text<F: LiteralForm>(
         };
         let (piece, _, after) = found.cut(rest);
         at = append_piece(text, at, piece);
-        at = append_literal(text, at, *value, lens[i] as usize, form);
+        at = append_literal(text, at, *value, lens[i], form);
         rest = after;
     }
     append_piece(text, at, rest);

@@ -1,12 +1,13 @@
 //! The values of the names of a query, borrowed and not copied, from parameters that are borrowed.
-ghost use Rattle.std.specs.Prelude.{◌≡◌, ◌<◌, IfOk, IsErrOf, OnErr, alloc_error, length, ⊤};
+ghost use Rattle.std.specs.Prelude.{◌≡◌, ◌<◌, ◌⊎◌, [], ◌∷◌, IfOk, IfSome, IsErr, IsErrOf, None, Ok, OnErr, alloc_error, length, ⊤};
 ghost use Rattle.mysql_wire_part.specs.Answer.{IsAnswer};
 ghost use Rattle.mysql_params_core.specs.Errors.{lookup_refusal};
 ghost use Rattle.mysql_params_core.specs.Given.{ValueMap, given, named};
 ghost use Rattle.mysql_params_core.specs.GivenBorrowed.{given_by_borrowed};
 ghost use Rattle.mysql_params_core.specs.Lookup.{lookup, PlaceValuesTakeMemory};
+ghost use Rattle.mysql_params_core.specs.ManyPairs.{AreManyPairs};
 ghost use Rattle.mysql_params_core.specs.Referents.{referents};
-ghost use Rattle.mysql_values.specs.BorrowedValue.{owned_values};
+ghost use Rattle.mysql_values.specs.BorrowedValue.{owned, owned_values};
 
 use crate::params::entries::{FEW_PAIRS, NamedPairs, NamedValues};
 use crate::params::lookup::{missing_params_error, reported_name};
@@ -16,8 +17,8 @@ use mysql_values::value::{Value, ValueRef};
 use std::alloc::{AllocError, Global};
 use std::collections::{BTreeMap, HashMap};
 
-/// Borrowed parameters: those of [`Params`], or named ones in a sorted map. The crates above bind
-/// by these; no user needs them.
+/// Parameters that are lent: maps, pairs or lists, of values that are owned or borrowed. The crates
+/// above bind by these; no user needs them.
 #[derive(Clone, Copy)]
 pub enum BorrowedParams<'p, 'v> {
     /// Nothing.
@@ -53,9 +54,9 @@ impl Params {
 /// the parameters: no value is copied, and of the names only one that is missing. An empty list
 /// means a query without names.
 ///
-/// `Missing` and `Confusion` are as with [`Params::into_values`]. `Memory` is returned only for
-/// `Named` or `Empty` and a list with names, and for `Positional` with values and an empty list.
-/// The crates above bind by this; no user needs it.
+/// `Missing` and `Confusion` are as with [`Params::into_values`]. For a list with names `Memory` is
+/// returned only if the parameters are not by position. For an empty list it is returned only if
+/// there are values by position. The crates above bind by this; no user needs it.
 pub fn place_values<'p>(
     alloc: Global,
     params: BorrowedParams<'p, '_>,
@@ -95,6 +96,32 @@ pub fn place_values<'p>(
         }
         BorrowedParams::Sorted(entries) => named_place_values(alloc, entries, names),
         BorrowedParams::SortedPairs(entries) => named_place_values(alloc, entries, names),
+    }
+}
+
+/// The value of a name, borrowed, where it is found without memory. The crates above bind by this;
+/// no user needs it.
+///
+/// It is none if a lookup of the name refuses it. It is none of more than 64 pairs, which aren't
+/// walked for one name.
+pub fn value_of<'p>(params: BorrowedParams<'p, '_>, name: &[u8]) -> Option<ValueRef<'p>>
+    ensures found { IfSome result (λ value. lookup (given_by_borrowed params.entry) (name.now ∷ [])
+        ≡ Ok (owned value ∷ [])) }
+    ensures none { result ≡ None → IsErr (lookup (given_by_borrowed params.entry)
+        (name.now ∷ [])) ⊎ AreManyPairs params.entry }
+{
+    match params {
+        BorrowedParams::Named(entries) => entries.value_of(name),
+        BorrowedParams::Sorted(entries) => entries.value_of(name),
+        BorrowedParams::SortedPairs(entries) => entries.value_of(name),
+        BorrowedParams::Pairs(pairs) => {
+            if pairs.0.len() <= FEW_PAIRS {
+                pairs.value_of(name)
+            } else {
+                None
+            }
+        }
+        BorrowedParams::Empty | BorrowedParams::Positional(_) | BorrowedParams::Values(_) => None,
     }
 }
 

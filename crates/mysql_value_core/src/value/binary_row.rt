@@ -1,5 +1,5 @@
 //! Rows in binary form.
-ghost use Rattle.std.specs.Prelude.{◌≡◌, ◌≤◌, ◌<◌, length, OnErr, vec_capacity};
+ghost use Rattle.std.specs.Prelude.{◌≡◌, ◌≤◌, ◌<◌, length, IsOk, OnErr, vec_capacity};
 ghost use Rattle.mysql_wire_part.specs.Answer.{IsAnswer};
 ghost use Rattle.mysql_wire_part.specs.ParseBuf.{left, read_refusal};
 ghost use Rattle.mysql_value_core.specs.BorrowedValue.{owned, owned_values};
@@ -49,7 +49,7 @@ impl NullBitmap<'_> {
 /// there: [`read_binary_value`] reads that of each column which isn't NULL. So a row is read
 /// without memory, also if the packets come one after another in one buffer.
 ///
-/// After an error the buffer is unchanged. It is never out of memory.
+/// After an error the buffer is unchanged.
 pub fn read_null_bitmap<'b>(
     count: usize,
     buf: &mut ParseBuf<'b>,
@@ -88,9 +88,10 @@ pub fn read_binary_cells_into<'b>(
     buf: &mut ParseBuf<'b>,
     cells: &mut Vec<ValueRef<'b>>,
 ) -> Result<(), BinaryRowError>
+    // It may be out of memory only if the vector has no room, and once the bitmap is read.
     ensures read { IsAnswer (λ _. (owned_values cells.new.items, left buf.new)) row_refusal
-        (read_row columns.now (left buf.old))
-        (vec_capacity cells.old < length columns.now) result }
+        (read_row columns.now (left buf.old)) ((vec_capacity cells.old < length columns.now)
+        × IsOk (read_bitmap (length columns.now) (left buf.old))) result }
     ensures unchanged { OnErr result (left buf.new ≡ left buf.old) }
     ensures room { vec_capacity cells.old ≤ vec_capacity cells.new }
 {

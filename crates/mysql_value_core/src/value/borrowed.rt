@@ -9,8 +9,8 @@ use crate::value::Value;
 use std::alloc::{AllocError, Global};
 
 /// A value of the MySQL client/server protocol whose bytes are borrowed: a [`Value`] of the same
-/// variant with the same fields, which is copied without memory. Equality and order are those of
-/// the values.
+/// variant with the same fields. It is copied without memory. Equality and order are those of the
+/// values.
 #[derive(Clone, Copy, PartialEq, Eq, PartialOrd, Ord)]
 pub enum ValueRef<'v> {
     NULL,
@@ -24,7 +24,7 @@ pub enum ValueRef<'v> {
 }
 
 impl Value {
-    /// The same value, borrowed. Nothing is copied except numbers.
+    /// The same value, borrowed. No bytes are copied.
     // Inline, since it stands before each call that takes borrowed values. What is rare is lent by
     // a call: the many small fields of dates would be taken apart for each value.
     #[inline(always)]

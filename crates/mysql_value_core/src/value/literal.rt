@@ -106,9 +106,9 @@ impl Value {
 
     /// Writes the SQL literal of the value, the text of `as_sql`, over the whole of `room`.
     ///
-    /// It can be called only if the value has a literal, so is no float, and `room` is exactly as
-    /// long as `sql_len` says in the same mode. Nothing is allocated, and nothing is refused. What
-    /// `as_sql` promises of its text holds of the bytes in `room` too.
+    /// It can be called only if the value has a literal, so is no float. `room` has to be exactly
+    /// as long as `sql_len` says in the same mode. Nothing is allocated, and nothing is refused.
+    /// What `as_sql` promises of its text holds of the bytes in `room` too.
     pub fn put_sql(&self, no_backslash_escape: bool, room: &mut [u8])
         requires { option_map length (literal_of no_backslash_escape self.now)
             ≡ Some (length room.old) }

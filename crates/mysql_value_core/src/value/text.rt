@@ -113,15 +113,21 @@ pub fn read_text_cell<'b>(buf: &mut ParseBuf<'b>) -> Result<ValueRef<'b>, WireEr
 }
 
 /// Reads `count` cells into a vector, in place of what it holds: row after row can be read into
-/// one, and nothing is copied. It allocates only if the vector has no room for so many. On each
-/// error the buffer is unchanged, and the vector may hold any cells.
+/// one, and nothing is copied. It allocates only if the vector has no room for so many, and once
+/// the first cell is there. On each error the buffer is unchanged, and the vector may hold any
+/// cells.
+///
+/// All rows that go into one vector have to live as long as it. If each packet comes into the
+/// buffer of the one before, take [`read_text_cell`].
 pub fn read_text_cells_into<'b>(
     buf: &mut ParseBuf<'b>,
     count: usize,
     cells: &mut Vec<ValueRef<'b>>,
 ) -> Result<(), WireError>
+    // It may be out of memory only if the vector has no room, and once the first cell is there.
     ensures read { IsAnswer (λ _. (owned_values cells.new.items, left buf.new)) read_refusal
-        (read_cells count (left buf.old)) (vec_capacity cells.old < count) result }
+        (read_cells count (left buf.old))
+        ((vec_capacity cells.old < count) × ReadsACell count (left buf.old)) result }
     ensures unchanged { OnErr result (left buf.new ≡ left buf.old) }
     ensures room { vec_capacity cells.old ≤ vec_capacity cells.new }
 {

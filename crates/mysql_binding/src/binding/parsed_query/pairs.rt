@@ -41,8 +41,8 @@ impl<'q> ParsedQuery<'q> {
             OnTokens self.now.mode self.now.query (λ ts.
             IsSameByPosition self.now.mode ts given text.items))) }
 
-        // A query with a name and a mark is refused without allocating, once no name stands twice
-        // among few pairs.
+        // A query with a name and a mark is refused without allocating, if there are at most 64
+        // pairs and no name stands twice.
         ensures mixed { IfFewPairs pairs.now (λ given. OnTokens self.now.mode self.now.query (λ ts.
             HasName ts × HasMark ts → IsErrOf result (BindPairsError.Bind BindError.Mixed))) }
     {
@@ -76,8 +76,8 @@ impl<'q> ParsedQuery<'q> {
         self.bind_borrowed(alloc, BorrowedParams::Values(values))
     }
 
-    /// [`bind_pairs`](ParsedQuery::bind_pairs) to the end of another text, which needs no vector of
-    /// its own then. If it is refused, that text stays as it is.
+    /// [`bind_pairs`](ParsedQuery::bind_pairs) to the end of another text. The bound text takes no
+    /// vector of its own. If it is refused, the other text stays as it is.
     pub fn append_pairs(
         &self,
         alloc: Global,
@@ -102,8 +102,8 @@ impl<'q> ParsedQuery<'q> {
         }
     }
 
-    /// [`bind_values`](ParsedQuery::bind_values) to the end of another text, which needs no vector
-    /// of its own then. If it is refused, that text stays as it is.
+    /// [`bind_values`](ParsedQuery::bind_values) to the end of another text. The bound text takes
+    /// no vector of its own. If it is refused, the other text stays as it is.
     pub fn append_values(
         &self,
         alloc: Global,

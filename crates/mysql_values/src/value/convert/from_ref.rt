@@ -19,10 +19,15 @@ use crate::value::convert::duration::{duration_of, duration_of_text};
 use std::alloc::{AllocError, Global};
 use std::time::Duration;
 
-/// What borrowed values convert to: as the owned values do, and bytes and texts stay where they
-/// are. The value is `Copy`, so a refusal hands nothing back. A `String` and a `Vec<u8>` take
-/// memory, and refused memory is another answer than a value that doesn't convert: they are made by
-/// [`copied_text`] and [`copied_bytes`].
+/// A type that borrowed values convert to, as owned ones do. Bytes and texts stay where they are.
+///
+/// The value is `Copy`, so a refusal hands nothing back, and there is no intermediate. In contracts
+/// `converted` is what a value becomes. `conversion` of [`FromValue`](super::FromValue) is the
+/// intermediate, before it is committed.
+///
+/// A `String` and a `Vec<u8>` take memory, and refused memory is another answer than a value that
+/// doesn't convert. They are made by [`copied_text`] and [`copied_bytes`], so no call makes an
+/// `Option<String>`.
 pub trait FromValueRef<'v>: Sized {
     // what contracts see of the type
     ghost Seen: { Type 0 };

@@ -1,12 +1,13 @@
 use Rattle.std.proofs.Common.{length, ◌-◌, drop}
 use Rattle.mysql_named_params.specs.Tokens.{OnTokens}
+use Rattle.mysql_params_core.specs.Referents.{referents}
 use Rattle.mysql_binding.specs.FoundPlaces.{BeginWithPlaces}
 use Rattle.mysql_binding.proofs.NameListLemmas.{ListedSoFar}
 use Rattle.mysql_binding.proofs.binding.names.query_names.Given as goal
 
 abbrev pub invariant-loop-rest : goal.invariant-loop-rest
 invariant-loop-rest l =
-    ListedSoFar l.no_backslash_escape l.query l.rest l.count l.list.items
+    ListedSoFar l.no_backslash_escape l.query l.rest l.count (referents l.list.items)
     × OnTokens l.no_backslash_escape l.rest (BeginWithPlaces (drop (length l.list.items) l.known))
 
 abbrev pub decreases-loop-rest : goal.decreases-loop-rest

@@ -5,7 +5,7 @@ use Rattle.mysql_params_core.specs.Lookup.{lookup}
 use Rattle.mysql_params_core.specs.Referents.{referents}
 use Rattle.mysql_binding.specs.FirstCause.{refused_params}
 use Rattle.mysql_binding.proofs.BoundTextLemmas.{no_refusal_or_expected, refused_lookup}
-use Rattle.mysql_binding.proofs.binding.values_of_places.Goals as goal
+use Rattle.mysql_binding.proofs.binding.values_of_list.Goals as goal
 
 pub returns-clause-refused : goal.returns-clause-refused
 returns-clause-refused c =

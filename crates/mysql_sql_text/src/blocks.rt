@@ -1,0 +1,20 @@
+//! Bytes that are fewer than a block of 16, as one block.
+ghost use Rattle.std.specs.Prelude.{◌≡◌, ◌++◌, ◌-◌, ◌≤◌, length, take, drop};
+
+use std::simd::prelude::*;
+
+// Half the bytes of a block.
+pub(crate) const HALF: usize = 8;
+
+// The last 8 bytes, and after them the first 8. Of fewer than 16 bytes some stand in both.
+#[inline(always)]
+pub(crate) fn both_ends(bytes: &[u8]) -> u8x16
+    requires { HALF ≤ length bytes.now }
+    ensures { result ≡ drop (length bytes.now - HALF) bytes.now ++ take HALF bytes.now }
+{
+    let last = bytes.len() - HALF;
+    u8x8::from_slice(&bytes[last..]).shuffle(
+        u8x8::from_slice(bytes),
+        [0, 1, 2, 3, 4, 5, 6, 7, 8, 9, 10, 11, 12, 13, 14, 15],
+    )
+}
