@@ -82,8 +82,8 @@ pub fn compare_text(
     let mut owned = ParseBuf(row.as_slice());
     let mut lent = ParseBuf(row.as_slice());
     let mut cells = Vec::with_capacity(alloc, 4)?;
-    for number in 0..random.below(4) {
-        cells.push(ValueRef::Int(number as i64))?;
+    for _ in 0..random.below(4) {
+        cells.push(ValueRef::Int(-1))?;
     }
     let old = read_text_cells(alloc, &mut owned, count);
     let new = read_text_cells_into(&mut lent, count, &mut cells);
@@ -140,8 +140,8 @@ pub fn compare_binary(
     let mut owned = ParseBuf(row.as_slice());
     let mut lent = ParseBuf(row.as_slice());
     let mut cells = Vec::with_capacity(alloc, 4)?;
-    for number in 0..random.below(4) {
-        cells.push(ValueRef::Int(number as i64))?;
+    for _ in 0..random.below(4) {
+        cells.push(ValueRef::Int(-1))?;
     }
     let old = owned_row(alloc, columns.as_slice(), &mut owned);
     let new = read_binary_cells_into(columns.as_slice(), &mut lent, &mut cells);
