@@ -6,4 +6,5 @@ pub mod Names
 pub mod FirstAbsent
 pub mod Lookup
 pub mod Made
+pub mod ManyPairs
 pub mod Errors

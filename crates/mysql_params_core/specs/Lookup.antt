@@ -1,14 +1,11 @@
 -- What parameters give to the names of a query.
-use Rattle.std.specs.Prelude.{◌≡◌, ◌≢◌, ◌↔◌, ◌<◌, ℕ, length, List, [], ◌∷◌, Option, Some, Result, Ok, Err, ok_or, ⊤}
+use Rattle.std.specs.Prelude.{◌≡◌, ◌≢◌, ◌↔◌, ℕ, List, [], ◌∷◌, Option, Some, Result, Ok, Err, ok_or, ⊤}
 use Rattle.std.specs.Option.{option_map, option_and_then}
 use Rattle.std.specs.FinMap.{get}
 use Rattle.mysql_value_core.specs.declared.value.Value.{Value}
 use Rattle.mysql_params_core.specs.declared.params.errors.ParamsConfusionError.{ParamsConfusionError}
 use Rattle.mysql_params_core.specs.declared.params.errors.ParamsConfusionError.TheVariants.{NamedParamsForPositionalQuery, PositionalParamsForNamedQuery}
-use Rattle.mysql_params_core.specs.declared.params.borrowed.BorrowedParams.{BorrowedParams}
-use Rattle.mysql_params_core.specs.declared.params.borrowed.BorrowedParams.TheVariants as borrowed
 use Rattle.mysql_params_core.specs.Given.{ValueMap, Given, empty, named, positional}
-use Rattle.mysql_params_core.specs.Made.{few_pairs}
 use Rattle.mysql_params_core.specs.Names.{missing_name, first_missing}
 
 -- why parameters don't give the values of a query
@@ -68,8 +65,3 @@ abbrev pub LookupsAgree : Type 0
 LookupsAgree = (entries : ValueMap) (names : List (List ℕ)) → names ≢ [] → (values : List Value) →
     (lookup (named entries) names ≡ Ok values)
     ↔ (positional_of (named entries) names ≡ Ok (positional values))
-
--- the names of these parameters are looked up in a sorted map, which takes memory
-abbrev pub AreManyPairs : BorrowedParams → Type 0
-AreManyPairs (borrowed.Pairs pairs) = few_pairs < length pairs.now.0.now
-AreManyPairs params = ⊥

@@ -4,7 +4,8 @@ ghost use Rattle.mysql_wire_part.specs.Answer.{IsAnswer};
 ghost use Rattle.mysql_params_core.specs.Errors.{lookup_refusal};
 ghost use Rattle.mysql_params_core.specs.Given.{ValueMap, given, named};
 ghost use Rattle.mysql_params_core.specs.GivenBorrowed.{given_by_borrowed};
-ghost use Rattle.mysql_params_core.specs.Lookup.{AreManyPairs, PlaceValuesTakeMemory, lookup};
+ghost use Rattle.mysql_params_core.specs.Lookup.{lookup, PlaceValuesTakeMemory};
+ghost use Rattle.mysql_params_core.specs.ManyPairs.{AreManyPairs};
 ghost use Rattle.mysql_params_core.specs.Referents.{referents};
 ghost use Rattle.mysql_values.specs.BorrowedValue.{owned, owned_values};
 
@@ -106,8 +107,8 @@ pub fn place_values<'p>(
 pub fn value_of<'p>(params: BorrowedParams<'p, '_>, name: &[u8]) -> Option<ValueRef<'p>>
     ensures found { IfSome result (λ value. lookup (given_by_borrowed params.entry) (name.now ∷ [])
         ≡ Ok (owned value ∷ [])) }
-    ensures none { result ≡ None →
-        IsErr (lookup (given_by_borrowed params.entry) (name.now ∷ [])) ⊎ AreManyPairs params.entry }
+    ensures none { result ≡ None → IsErr (lookup (given_by_borrowed params.entry)
+        (name.now ∷ [])) ⊎ AreManyPairs params.entry }
 {
     match params {
         BorrowedParams::Named(entries) => entries.value_of(name),
