@@ -60,6 +60,13 @@ struct Said {
     lent: Lent,
 }
 
+// Fragments, and what they are made of.
+#[derive(Drop)]
+struct Given {
+    said: Vec<Said>,
+    fragments: Fragments,
+}
+
 /// Binds a random query with random fragments by each call in each mode.
 pub fn compare(alloc: Global, random: &mut Random, tally: &mut Tally) -> Result<(), AllocError> {
     compare_rows(alloc, random, tally)?;
@@ -74,25 +81,49 @@ pub fn compare(alloc: Global, random: &mut Random, tally: &mut Tally) -> Result<
         owned.push(owned_fragment(alloc, random, &fragment)?)?;
         said.push(fragment)?;
     }
-    let fragments = Fragments::Positional(owned);
-    let mut cells: Vec<Vec<ValueRef<'_>>> = Vec::with_capacity(alloc, count)?;
-    for fragment in &said {
+    let given = Given {
+        said,
+        fragments: Fragments::Positional(owned),
+    };
+    compare_given(alloc, random, case.query.as_slice(), &given, tally)
+}
+
+// Lends the values of the fragments, and binds.
+fn compare_given(
+    alloc: Global,
+    random: &mut Random,
+    query: &[u8],
+    given: &Given,
+    tally: &mut Tally,
+) -> Result<(), AllocError> {
+    let mut cells: Vec<Vec<ValueRef<'_>>> = Vec::with_capacity(alloc, given.said.len())?;
+    for fragment in &given.said {
         cells.push(borrowed_values(alloc, fragment.values.as_slice())?)?;
     }
-    let mut lent: Vec<FragmentRef<'_>> = Vec::with_capacity(alloc, count)?;
-    for i in 0..count {
-        if let Some(fragment) = lent_fragment(i, &said, &cells, &fragments) {
-            lent.push(fragment)?;
-        }
-    }
-    let mut binder = Binder {
+    let binder = Binder {
         alloc,
-        query: case.query.as_slice(),
+        query,
         room: Vec::with_capacity(alloc, 256)?,
         tally,
     };
-    binder.compare_in(random, &fragments, lent.as_slice(), false)?;
-    binder.compare_in(random, &fragments, lent.as_slice(), true)
+    compare_lent(binder, random, given, cells.as_slice())
+}
+
+// Lends the fragments, and binds.
+fn compare_lent(
+    mut binder: Binder<'_>,
+    random: &mut Random,
+    given: &Given,
+    cells: &[Vec<ValueRef<'_>>],
+) -> Result<(), AllocError> {
+    let mut lent: Vec<FragmentRef<'_>> = Vec::with_capacity(binder.alloc, cells.len())?;
+    for i in 0..cells.len() {
+        if let Some(fragment) = lent_fragment(i, given, cells) {
+            lent.push(fragment)?;
+        }
+    }
+    binder.compare_in(random, &given.fragments, lent.as_slice(), false)?;
+    binder.compare_in(random, &given.fragments, lent.as_slice(), true)
 }
 
 // Who binds a query, and takes in the answers.
@@ -265,15 +296,14 @@ fn borrowed_values(alloc: Global, values: &[Value]) -> Result<Vec<ValueRef<'_>>,
 // The fragment of this number, lent.
 fn lent_fragment<'f>(
     index: usize,
-    said: &[Said],
+    given: &'f Given,
     cells: &'f [Vec<ValueRef<'f>>],
-    fragments: &'f Fragments,
 ) -> Option<FragmentRef<'f>> {
-    let Fragments::Positional(owned) = fragments else {
+    let Fragments::Positional(owned) = &given.fragments else {
         return None;
     };
     let cells = cells.get(index)?.as_slice();
-    match said.get(index)?.lent {
+    match given.said.get(index)?.lent {
         Lent::Whole => Some(FragmentRef::Owned(owned.get(index)?)),
         Lent::Value => Some(FragmentRef::Value(*cells.first()?)),
         Lent::List => Some(FragmentRef::List(cells)),
@@ -299,14 +329,24 @@ fn compare_rows(alloc: Global, random: &mut Random, tally: &mut Tally) -> Result
     let mut list = Vec::with_capacity(alloc, 1)?;
     list.push(Fragment::Rows(rows(alloc, values.as_slice(), width)?))?;
     let owned = bind_fragments_in(alloc, b"VALUES ?", &Fragments::Positional(list), false);
-    let cells = borrowed_values(alloc, values.as_slice())?;
-    let is_same = match (&owned, RowsRef::new(cells.as_slice(), width)) {
-        (Ok(_), Ok(rows)) => rows.len().wrapping_mul(width) == count,
-        (Err(FragmentsError::Fault { place: 0, fault }), Err(refused)) => *fault == refused,
-        _ => false,
-    };
+    let is_same = are_refused_alike(alloc, &owned, values.as_slice(), width)?;
     tally.take(Call::NewRows, answer_of(&owned), is_same);
     Ok(())
+}
+
+// Whether the cells are refused as rows of this width for the fault of the call for owned ones.
+fn are_refused_alike(
+    alloc: Global,
+    owned: &Result<Vec<u8>, FragmentsError>,
+    values: &[Value],
+    width: usize,
+) -> Result<bool, AllocError> {
+    let cells = borrowed_values(alloc, values)?;
+    Ok(match (owned, RowsRef::new(cells.as_slice(), width)) {
+        (Ok(_), Ok(rows)) => rows.len().wrapping_mul(width) == values.len(),
+        (Err(FragmentsError::Fault { place: 0, fault }), Err(refused)) => *fault == refused,
+        _ => false,
+    })
 }
 
 // The kind of an answer.

@@ -78,9 +78,19 @@ pub fn compare_text(
         _ => count,
     };
     compare_text_cells(alloc, row.as_slice(), count, tally);
+    compare_text_row(alloc, random, row.as_slice(), count, tally)
+}
 
-    let mut owned = ParseBuf(row.as_slice());
-    let mut lent = ParseBuf(row.as_slice());
+// Reads so many cells by the calls for whole rows.
+fn compare_text_row(
+    alloc: Global,
+    random: &mut Random,
+    row: &[u8],
+    count: usize,
+    tally: &mut Tally,
+) -> Result<(), AllocError> {
+    let mut owned = ParseBuf(row);
+    let mut lent = ParseBuf(row);
     let mut cells = Vec::with_capacity(alloc, 4)?;
     for _ in 0..random.below(4) {
         cells.push(ValueRef::Int(-1))?;
@@ -136,15 +146,25 @@ pub fn compare_binary(
     let row = changed(alloc, random, whole.as_slice())?;
     compare_bitmap(row.as_slice(), columns.len(), tally);
     compare_binary_values(alloc, random, columns.as_slice(), tally)?;
+    compare_binary_row(alloc, random, row.as_slice(), columns.as_slice(), tally)
+}
 
-    let mut owned = ParseBuf(row.as_slice());
-    let mut lent = ParseBuf(row.as_slice());
+// Reads the cells of these columns by the calls for whole rows.
+fn compare_binary_row(
+    alloc: Global,
+    random: &mut Random,
+    row: &[u8],
+    columns: &[Column],
+    tally: &mut Tally,
+) -> Result<(), AllocError> {
+    let mut owned = ParseBuf(row);
+    let mut lent = ParseBuf(row);
     let mut cells = Vec::with_capacity(alloc, 4)?;
     for _ in 0..random.below(4) {
         cells.push(ValueRef::Int(-1))?;
     }
-    let old = owned_row(alloc, columns.as_slice(), &mut owned);
-    let new = read_binary_cells_into(columns.as_slice(), &mut lent, &mut cells);
+    let old = owned_row(alloc, columns, &mut owned);
+    let new = read_binary_cells_into(columns, &mut lent, &mut cells);
     let is_same = match (&old, new) {
         (Ok(old), Ok(())) => are_same(old.as_slice(), cells.as_slice()),
         (Err(a), Err(b)) => *a == b,
