@@ -1,11 +1,11 @@
 -- The records of a table, one after another, and their statements.
-use Rattle.std.proofs.Common.{◌≡◌, ◌≢◌, ◌∙◌, ℕ, ◌+◌, ◌-◌, ◌<◌, ◌≤◌, suc, zero, List, [], ◌∷◌, ◌++◌, length, map, min, drop, drop-cons, get_or, inl, inr, refl, ap, sym, subst, append_assoc, append-nil, arith, length-append}
-use Rattle.std.specs.Prelude.{All, Option}
+use Rattle.std.proofs.Common.{◌≡◌, ◌≢◌, ◌∙◌, ℕ, ◌+◌, ◌-◌, ◌<◌, ◌≤◌, suc, zero, List, [], ◌∷◌, ◌++◌, length, map, min, drop, drop-cons, get_or, inl, inr, refl, ap, sym, subst, append_assoc, append-nil, arith, length-append, rules}
+use Rattle.std.specs.Prelude.{All, Option, Some, None, IsNone, ◌↔◌}
 use Rattle.std.proofs.lemmas.Bool.{cases_lt}
 use Rattle.std.proofs.lemmas.List.{drop_all, drop_at, get_or-map, length-map, map-append}
 use Rattle.std.specs.Borrow.{Bor}
 use Rattle.std.proofs.lemmas.List.Elements.{All-append}
-use Rattle.mysql_records.specs.Faults.{IsFaulty}
+use Rattle.mysql_records.specs.Faults.{IsFaulty, IsFaultyTable}
 use Rattle.mysql_records.specs.Records.{BeginsWithRecord, IsTable}
 use Rattle.mysql_records.specs.Records as records
 use Rattle.mysql_records.specs.Seen.{lent_fields_seen, lent_seen}
@@ -13,7 +13,7 @@ use Rattle.mysql_records.specs.declared.fault.Fault.{Fault}
 use Rattle.mysql_records.specs.declared.format.RecordFormat.{RecordFormat}
 use Rattle.mysql_records.specs.declared.lent.LentField.{LentField}
 use Rattle.mysql_records.proofs.TableLemmas.{ReadRows, rows_fault, rows_more, rows_none}
-use Rattle.mysql_bind_core.specs.Cells.{TableQuery, cells_said}
+use Rattle.mysql_bind_core.specs.Cells.{AreAssigned, TableQuery, cells_said}
 use Rattle.mysql_bind_core.specs.RowTexts.{IsRowRefusal, IsRowText}
 use Rattle.mysql_bind_core.specs.declared.cell.Cell.{Cell}
 use Rattle.mysql_bind_core.specs.declared.failure.Failure.{Failure}

@@ -28,18 +28,18 @@ pub struct TableForm<'a> {
 /// Why the first record without a statement has none. Those before it have one.
 #[derive(Debug, PartialEq, Drop)]
 pub enum TableRefusal {
-    /// The text isn't records: its first fault, at its index in the text.
+    /// The text isn't records: its first fault.
     Record(Fault),
     /// The record has another number of fields than there are columns.
     Length {
-        /// The index in the text at which the record begins.
+        /// The index at which the record begins.
         at: usize,
         /// How many fields it has.
         fields: usize,
     },
     /// The row of the record is refused.
     Row {
-        /// The index in the text at which the record begins.
+        /// The index at which the record begins.
         at: usize,
         /// Why it has no statement. It is never `Write`.
         failure: Failure,

@@ -53,9 +53,9 @@ said_more (x ∷ list) [] r f all h = absurd all
 said_more (x ∷ list) (s ∷ said) r f all h = (all.0, said_more list said r f all.1 h)
 
 -- the names so far have fragments in the map, and these say them
-abbrev pub IsFoundSoFar : List (Bor (List ℕ) × FragmentInPlace) → List (Bor (List ℕ)) → List FragmentRef → Type 0
+abbrev pub IsFoundSoFar : List (Bor (List ℕ) × FragmentInPlace) → List (List ℕ) → List FragmentRef → Type 0
 IsFoundSoFar entries names list = (fragments : FragmentMap) → IsMapKeptAs entries fragments →
-    (said : List Fragment) × (map (get fragments) (referents names) ≡ map (λ x. Some x) said) × AreSaid list said
+    (said : List Fragment) × (map (get fragments) names ≡ map (λ x. Some x) said) × AreSaid list said
 
 pub none_found : (entries : List (Bor (List ℕ) × FragmentInPlace)) (list : List FragmentRef) → list ≡ [] → IsFoundSoFar entries [] list
 none_found entries list none fragments all = ([], refl, subst (λ l. AreSaid l []) (sym none) tt)
@@ -71,27 +71,26 @@ missing_here None None h e = refl
 missing_here None (Some said) h e = absurd h
 missing_here (Some f) g h e = cc
 
-module _ (entries : List (Bor (List ℕ) × FragmentInPlace)) (names : List (Bor (List ℕ))) (list : List FragmentRef) (name : Bor (List ℕ)) (so_far : IsFoundSoFar entries names list) where
+module _ (entries : List (Bor (List ℕ) × FragmentInPlace)) (names : List (List ℕ)) (list : List FragmentRef) (name : List ℕ) (so_far : IsFoundSoFar entries names list) where
   -- one more
-  pub found_more : (kept : FragmentInPlace) (lent : FragmentRef) (new : List FragmentRef) → Some kept ≡ kept_at entries name.now →
+  pub found_more : (kept : FragmentInPlace) (lent : FragmentRef) (new : List FragmentRef) → Some kept ≡ kept_at entries name →
       ((said : Fragment) → IsKeptAs kept said → Says lent said) → new ≡ list ++ lent ∷ [] → IsFoundSoFar entries (names ++ name ∷ []) new
   found_more kept lent new is says pushed fragments all =
       let (said, found, are) = so_far fragments all in
-      let (one, here, kept_as) = found_here (kept_at entries name.now) (get fragments name.now) kept (all name.now) is in (
+      let (one, here, kept_as) = found_here (kept_at entries name) (get fragments name) kept (all name) is in (
         said ++ one ∷ [],
-        ap (map (get fragments)) (map-append (λ (v : Bor (List ℕ)). v.now) names (name ∷ []))
-            ∙ (map-append (get fragments) (referents names) (name.now ∷ [])
-            ∙ (ap (λ os. os ++ get fragments name.now ∷ []) found
-            ∙ (ap (λ o. map (λ x. Some x) said ++ o ∷ []) here ∙ sym (map-append (λ x. Some x) said (one ∷ []))))),
+        map-append (get fragments) names (name ∷ [])
+            ∙ (ap (λ os. os ++ get fragments name ∷ []) found
+            ∙ (ap (λ o. map (λ x. Some x) said ++ o ∷ []) here ∙ sym (map-append (λ x. Some x) said (one ∷ [])))),
         subst (λ l. AreSaid l (said ++ one ∷ [])) (sym pushed) (said_more list said lent one are (says one kept_as)),
       )
 
   -- or none, and the name is missing
-  pub not_found : (fragments : FragmentMap) (more : List (List ℕ)) → None ≡ kept_at entries name.now → IsMapKeptAs entries fragments →
-      fragments_at fragments (referents names ++ name.now ∷ more) ≡ Err (missing name.now)
+  pub not_found : (fragments : FragmentMap) (more : List (List ℕ)) → None ≡ kept_at entries name → IsMapKeptAs entries fragments →
+      fragments_at fragments (names ++ name ∷ more) ≡ Err (missing name)
   not_found fragments more is all =
       let (said, found, are) = so_far fragments all in
-      missing_after fragments (referents names) name.now more said found (missing_here (kept_at entries name.now) (get fragments name.now) (all name.now) is)
+      missing_after fragments names name more said found (missing_here (kept_at entries name) (get fragments name) (all name) is)
 
 -- ---- by position
 

@@ -25,7 +25,6 @@ use Rattle.mysql_params_core.specs.Given.{ValueMap, empty, named}
 use Rattle.mysql_params_core.specs.GivenBorrowed.{pair_map}
 use Rattle.mysql_params_core.specs.Lookup.{lookup, values_at}
 use Rattle.mysql_params_core.proofs.PairLemmas.{pair_map-push}
-use Rattle.mysql_params_core.specs.Referents.{referents}
 use Rattle.mysql_binding.specs.AppendedText.{AreFound}
 use Rattle.mysql_binding.specs.FirstCause.{mixed_cause}
 use Rattle.mysql_binding.specs.Survey.{IsSurvey}
@@ -311,18 +310,11 @@ places_found mode query ns places some at =
 
 -- ---- the places of a query
 
-lent : List ℕ → Bor (List ℕ)
-lent name = record { ref_ptr = (0, 0); now = name }
-
-some_of : (list : List (Bor (List ℕ))) → map (λ (name : Bor (List ℕ)). Some name.now) list ≡ map Some (referents list)
-some_of [] = refl
-some_of (name ∷ list) = ap (λ ns. Some name.now ∷ ns) (some_of list)
-
 -- at the indices so far stand the names that are listed so far
 pub record NumberedSoFar (mode : Bool) (query rest : List ℕ) (count : ℕ) (ns : List (List ℕ)) (places : List ℕ) : Type 0 where
-  pub list : List (Bor (List ℕ))
+  pub list : List (List ℕ)
   pub listed : ListedSoFar mode query rest count list
-  pub numbered : map (slice_get ns) places ≡ map (λ (name : Bor (List ℕ)). Some name.now) list
+  pub numbered : map (slice_get ns) places ≡ map Some list
 
 pub numbered_none : (mode : Bool) (query : List ℕ) (count : ℕ) (ns : List (List ℕ)) (places : List ℕ) →
     OnTokens mode query (λ ts. (count ≡ length (names ts)) × (mixed_cause ts ≡ None)) → places ≡ [] →
@@ -335,9 +327,7 @@ numbered_none mode query count ns places o nil = record {
 
 module _ (mode : Bool) (query rest : List ℕ) (count : ℕ) (ns : List (List ℕ)) (places : List ℕ) (s : NumberedSoFar mode query rest count ns places) where
   as_long : length s.list ≡ length places
-  as_long =
-      sym (length-map s.list (λ (name : Bor (List ℕ)). Some name.now))
-      ∙ (sym (ap length s.numbered) ∙ length-map places (slice_get ns))
+  as_long = sym (length-map s.list Some) ∙ (sym (ap length s.numbered) ∙ length-map places (slice_get ns))
 
   pub number_left : length places < count → OnTokens mode rest (λ us. place_count us ≡ 0) → ⊥
   number_left missing o = name_left mode query rest count s.list s.listed (omega (arith, missing, as_long)) o
@@ -347,22 +337,21 @@ module _ (mode : Bool) (query rest : List ℕ) (count : ℕ) (ns : List (List �
       place ≡ take found.len (drop found.before rest) → after ≡ drop (found.before + found.len) rest →
       places' ≡ places ++ number ∷ [] → name ≡ slice_from 1 place → slice_get ns number ≡ Some name →
       NumberedSoFar mode query after count ns places'
-  unfolding lent
   numbered_more place after places' number name found missing o place_is after_is more name_is at = record {
-    list = s.list ++ lent name ∷ [];
-    listed = listed_more mode query rest count s.list s.listed place after (s.list ++ lent name ∷ []) (lent name) found
-        (omega (arith, missing, as_long)) o place_is after_is refl name_is;
+    list = s.list ++ name ∷ [];
+    listed = listed_more mode query rest count s.list s.listed place after name found
+        (omega (arith, missing, as_long)) o place_is after_is name_is;
     numbered = ap (map (slice_get ns)) more
         ∙ (map-append (slice_get ns) places (number ∷ [])
         ∙ (ap (λ xs. xs ++ slice_get ns number ∷ []) s.numbered
-        ∙ (ap (λ x. map (λ (n : Bor (List ℕ)). Some n.now) s.list ++ x ∷ []) at
-        ∙ sym (map-append (λ (n : Bor (List ℕ)). Some n.now) s.list (lent name ∷ [])))));
+        ∙ (ap (λ x. map Some s.list ++ x ∷ []) at
+        ∙ sym (map-append Some s.list (name ∷ [])))));
   }
 
   pub numbered_all : count ≤ length places → OnTokens mode query (λ ts. AreAtPlaces ns places (names ts))
   numbered_all done =
       let (ts, is, names_are) = listed_all mode query rest count s.list s.listed (omega (arith, done, as_long)) in
-      (ts, is, s.numbered ∙ (some_of s.list ∙ ap (map Some) names_are))
+      (ts, is, s.numbered ∙ ap (map Some) names_are)
 
 -- ---- the values at places
 

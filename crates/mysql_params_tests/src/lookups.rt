@@ -207,19 +207,18 @@ fn values_of_borrowed_pairs(rt: HostRuntime) {
 
 #[test]
 fn value_of_one_name(rt: HostRuntime) {
+    let params = params(&rt, rt.alloc(), Given::Named(b"ab"));
+    let lent = params.borrowed();
+    assert!(rt; value_of(lent, b"b") == Some(ValueRef::UInt(2)));
+    assert!(rt; value_of(lent, b"c") == None);
+}
+
+#[test]
+fn value_of_one_pair(rt: HostRuntime) {
     let pairs = NamedPairs(PAIRS);
     let lent = BorrowedParams::Pairs(&pairs);
-    same(&rt, value_of(lent, b"a"), Some(ValueRef::UInt(1)));
-    same(&rt, value_of(lent, b"b"), Some(ValueRef::Bytes(b"x")));
-    same(&rt, value_of(lent, b"ab"), None);
-    let map = params(&rt, rt.alloc(), Given::Named(b"ab"));
-    same(&rt, value_of(map.borrowed(), b"b"), Some(ValueRef::UInt(2)));
-    same(&rt, value_of(map.borrowed(), b"c"), None);
-    same(
-        &rt,
-        value_of(BorrowedParams::Values(&[ValueRef::NULL]), b"a"),
-        None,
-    );
+    assert!(rt; value_of(lent, b"a") == Some(ValueRef::UInt(1)));
+    assert!(rt; value_of(lent, b"ab") == None);
 }
 
 // Fifty names twice each, in the same order: more pairs than are found by walks.

@@ -1,4 +1,3 @@
-use Rattle.std.specs.Borrow.{Bor}
 use Rattle.std.proofs.Common.{◌≡◌, ℕ, List, drop, length, ◌-◌}
 use Rattle.mysql_named_params.specs.Tokens.{OnTokens}
 use Rattle.mysql_binding.specs.FoundPlaces.{BeginWithPlaces}
@@ -8,7 +7,7 @@ use Rattle.mysql_flat_fragments.proofs.placed.named_fragments.Given as goal
 
 abbrev pub invariant-loop-known : goal.invariant-loop-known
 invariant-loop-known l =
-    ((names : List (Bor (List ℕ))) × ListedSoFar l.no_backslash_escape l.query l.rest l.count names
+    ((names : List (List ℕ)) × ListedSoFar l.no_backslash_escape l.query l.rest l.count names
     × (length names ≡ length l.list.items) × IsFoundSoFar l.entries.entries names l.list.items)
     × OnTokens l.no_backslash_escape l.rest (BeginWithPlaces (drop (length l.list.items) l.known))
 
