@@ -14,6 +14,8 @@ mod borrowed_conversions;
 #[cfg(test)]
 mod conversions;
 #[cfg(test)]
+mod doubles;
+#[cfg(test)]
 mod durations;
 #[cfg(test)]
 mod messages;

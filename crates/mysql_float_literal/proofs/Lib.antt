@@ -1,0 +1,5 @@
+mod BitLemmas
+mod DoubleEndLemmas
+pub mod ReadBeforeLemmas
+pub mod DoubleLemmas
+pub mod DoubleTestLemmas

@@ -1,0 +1,20 @@
+use Rattle.std.proofs.Common.{◌∙◌, sym, ap, subst}
+use Rattle.std.specs.Float.{binary64}
+use Rattle.std.specs.Float.Parse.{parse_float}
+use Rattle.mysql_float_literal.specs.DoubleShape.{IsDouble}
+use Rattle.mysql_float_literal.proofs.DoubleLemmas.{double_as_it_is, with_zero_exponent}
+use Rattle.mysql_float_literal.proofs.literal.put_finite.Goals as goal
+
+pub returns-then-has_exponent-clause-shape : goal.returns-then-has_exponent-clause-shape
+returns-then-has_exponent-clause-shape c =
+    double_as_it_is _ c.format-len.ensures.plain (sym c.has_exponent.ensures ∙ c.if-has_exponent.true)
+
+pub returns-clause-exact : goal.returns-clause-exact
+returns-clause-exact c =
+    let none = sym c.has_exponent.ensures ∙ c.if-has_exponent.false in
+    ap (parse_float binary64) c.put_zero_exponent.ensures.text ∙ ((with_zero_exponent binary64 _ c.format-len.ensures.plain none).same ∙ c.format-len.ensures.parses)
+
+pub returns-clause-shape : goal.returns-clause-shape
+returns-clause-shape c =
+    let none = sym c.has_exponent.ensures ∙ c.if-has_exponent.false in
+    subst IsDouble (sym c.put_zero_exponent.ensures.text) (with_zero_exponent binary64 _ c.format-len.ensures.plain none).shape

@@ -1,0 +1,77 @@
+//! A double as the number that is written of it.
+ghost use Rattle.std.specs.Prelude.{◌≤◌, take, IsTrue};
+ghost use Rattle.mysql_float_literal.specs.DoubleTest.{is_double};
+ghost use Rattle.mysql_float_literal.specs.ReadDouble.{reads_finite};
+
+use crate::literal::{finite_of, put_finite};
+
+/// A finite double with the number that is written of it: digits and an exponent, as `1.5e0`, by
+/// which servers read it as a double. It allocates nothing.
+#[derive(Clone, Copy)]
+pub struct Double {
+    room: [u8; 27],
+    len: u8,
+    ghost within: { len ≤ 27 },
+    ghost shaped: { IsTrue (is_double (take len room)) },
+    ghost finite: { IsTrue (reads_finite (take len room)) },
+}
+
+impl Double {
+    ghost use Rattle.std.specs.Prelude.{◌≡◌, ◌↔◌, IfSome, IsNone, Some, IsFalse, from_bits, length};
+    ghost use Rattle.std.specs.Float.{binary64, float_is_finite};
+    ghost use Rattle.std.specs.Float.Parse.{parse_float};
+    ghost use Rattle.mysql_float_literal.specs.DoubleShape.{IsDouble};
+    ghost use Rattle.mysql_float_literal.specs.DoubleText.{double_text, double_value};
+
+    /// The number of a double; `None` for a NaN and an infinity, which have none. The sign of -0 is
+    /// kept. An `f32` is given as `f64::from(x)`, which has the same value.
+    pub fn new(double: f64) -> Option<Double>
+        ensures none { IsNone result ↔ IsFalse (float_is_finite double) }
+        ensures same { IfSome result (λ made. double_value made ≡ double) }
+    {
+        if double.is_finite() {
+            Some(Double::of_finite(double))
+        } else {
+            None
+        }
+    }
+
+    /// The number of the double with these bits; `None` for a NaN and an infinity.
+    pub fn from_bits(bits: u64) -> Option<Double>
+        ensures none { IsNone result ↔ IsFalse (float_is_finite (from_bits binary64 bits)) }
+        ensures same { IfSome result (λ made. double_value made ≡ from_bits binary64 bits) }
+    {
+        match finite_of(bits) {
+            Some(double) => Some(Double::of_finite(double)),
+            None => None,
+        }
+    }
+
+    // The number of a finite double.
+    fn of_finite(double: f64) -> Double
+        requires { IsTrue (float_is_finite double) }
+        ensures { double_value result ≡ double }
+    {
+        let mut text = [0; 32];
+        let len = put_finite(double, &mut text);
+        let mut room = [0; 27];
+        let front = &text[..27];
+        room.copy_from_slice(front);
+        Double {
+            room,
+            len: len as u8,
+        }
+    }
+
+    /// Its text, of at most 27 bytes. It is a number with an exponent (`shape`), and reads as the
+    /// double (`exact`), which is finite.
+    pub fn as_bytes(&self) -> &[u8]
+        ensures text { result.now ≡ double_text self.now }
+        ensures short { length result.now ≤ 27 }
+        ensures shape { IsDouble result.now }
+        ensures exact { parse_float binary64 result.now ≡ Some (double_value self.now) }
+        ensures finite { IsTrue (float_is_finite (double_value self.now)) }
+    {
+        &self.room[..self.len as usize]
+    }
+}

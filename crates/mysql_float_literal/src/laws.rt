@@ -1,0 +1,27 @@
+//! Laws of doubles. No program needs to call them.
+ghost use Rattle.std.specs.Prelude.{◌≡◌, ℕ, ◌↔◌, List, Some, IsTrue};
+ghost use Rattle.std.specs.Float.{binary64};
+ghost use Rattle.std.specs.Float.Ieee.{Float};
+ghost use Rattle.std.specs.Float.Parse.{parse_float};
+ghost use Rattle.mysql_float_literal.specs.DoubleEnds.{begins_number, ends_in_digit};
+ghost use Rattle.mysql_float_literal.specs.DoubleShape.{IsDouble};
+ghost use Rattle.mysql_float_literal.specs.DoubleTest.{is_double};
+ghost use Rattle.mysql_float_literal.specs.ReadDouble.{ReadsAs};
+
+/// The test for a number with an exponent tests for its shape.
+pub fn is_double_is_shape()
+    ensures { (text : List ℕ) → IsTrue (is_double text) ↔ IsDouble text }
+{}
+
+/// A number with an exponent that reads as a float alone reads as it before every text that doesn't
+/// begin with a digit, and ends there.
+pub fn doubles_read_before_others()
+    ensures { (text : List ℕ) (x : Float) → IsDouble text → parse_float binary64 text ≡ Some x
+        → ReadsAs text x }
+{}
+
+/// A number with an exponent begins with a minus or a digit, and ends in a digit.
+pub fn ends_of_doubles()
+    ensures begins { (text : List ℕ) → IsDouble text → IsTrue (begins_number text) }
+    ensures ends { (text : List ℕ) → IsDouble text → IsTrue (ends_in_digit text) }
+{}

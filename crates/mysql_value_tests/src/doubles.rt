@@ -1,0 +1,58 @@
+//! Doubles as numbers with an exponent.
+use crate::shared::same_in;
+use mysql_float_literal::Double;
+
+// The bits of doubles, and their numbers. The digits are those of Python's `repr`, and the bits
+// those of its `struct`.
+const NUMBERS: &[(u64, &[u8])] = &[
+    (0, b"0.0e0"),
+    (0x8000_0000_0000_0000, b"-0.0e0"),
+    (0x3ff8_0000_0000_0000, b"1.5e0"),
+    (0x3fb9_9999_9999_999a, b"0.1e0"),
+    (0x3fd5_5555_5555_5555, b"0.3333333333333333e0"),
+    (0xc05e_d000_0000_0000, b"-123.25e0"),
+    (0x4340_0000_0000_0000, b"9007199254740992.0e0"),
+    (0x4341_c379_37e0_8000, b"1e16"),
+    (0x44b5_2d02_c7e1_4af6, b"1e23"),
+    (0x3e7a_d7f2_9abc_af48, b"1e-7"),
+    // The least and the greatest of their kinds.
+    (1, b"5e-324"),
+    (0x800f_ffff_ffff_ffff, b"-2.225073858507201e-308"),
+    (0x0010_0000_0000_0000, b"2.2250738585072014e-308"),
+    (0x7fef_ffff_ffff_ffff, b"1.7976931348623157e308"),
+    (0xffef_ffff_ffff_ffff, b"-1.7976931348623157e308"),
+];
+
+#[test]
+fn numbers(rt: HostRuntime) {
+    for (bits, number) in NUMBERS {
+        let double = Double::from_bits(*bits).expect(&rt, "no number");
+        same_in(&rt, double.as_bytes(), *number, bits);
+    }
+}
+
+#[test]
+fn other_doubles_have_none(rt: HostRuntime) {
+    let infinity = 0x7ff0_0000_0000_0000;
+    let found = (
+        Double::from_bits(infinity).is_none(),
+        Double::from_bits(0xfff0_0000_0000_0000).is_none(),
+        Double::from_bits(infinity + 1).is_none(),
+        Double::from_bits(0xfff8_0000_0000_0000).is_none(),
+        Double::new(f64::NAN).is_none(),
+        Double::new(f64::INFINITY).is_none(),
+    );
+    same_in(
+        &rt,
+        found,
+        (true, true, true, true, true, true),
+        &"no numbers",
+    );
+}
+
+// 0.1 as a float of 32 bits isn't 0.1, and neither is it when it is widened.
+#[test]
+fn floats_are_widened(rt: HostRuntime) {
+    let widened = Double::new(f64::from(0.1f32)).expect(&rt, "no number");
+    same_in(&rt, widened.as_bytes(), b"0.10000000149011612e0", &"0.1");
+}
