@@ -25,6 +25,8 @@ pub data ItemContent : Type 0 where
   value_item : Value → ItemContent
   -- the text of an exact number
   exact_number : List ℕ → ItemContent
+  -- a double, which no type gives
+  other_item : ItemContent
 
 -- what stands in the place of a name
 pub data Content : Type 0 where
@@ -36,18 +38,20 @@ pub data Content : Type 0 where
   name_content : List ℕ → Content
   -- items
   list_content : List ItemContent → Content
-  -- rows, a qualified name or a keyword, which no type gives
+  -- a double, rows, a qualified name or a keyword, which no type gives
   other_content : Content
 
 -- what an item says
 abbrev pub item_said : Item → ItemContent
 item_said (one_item.Value v) = value_item v
 item_said (one_item.Decimal text) = exact_number text.items
+item_said (one_item.Double finite) = other_item
 
 -- what a fragment says
 abbrev pub said : Fragment → Content
 said (one.Value v) = value_content v
 said (one.Decimal text) = number_content text.items
+said (one.Double finite) = other_content
 said (one.List items) = list_content (map item_said items.items)
 said (one.Identifier name) = name_content name.items
 said (one.Rows rows) = other_content

@@ -1,6 +1,8 @@
 -- What a fragment says, without where its bytes and items stand in memory.
 use Rattle.std.specs.Prelude.{ℕ, List, map}
 use Rattle.mysql_value_core.specs.declared.value.Value.{Value}
+use Rattle.std.specs.Float.Ieee.{Float}
+use Rattle.mysql_float_literal.specs.DoubleText.{double_value}
 use Rattle.mysql_params_core.specs.Names.{names_of}
 use Rattle.mysql_fragments.specs.declared.fragment.Item.{Item}
 use Rattle.mysql_fragments.specs.declared.fragment.Item.TheVariants as item
@@ -13,6 +15,8 @@ pub data ItemContent : Type 0 where
   value_item : Value → ItemContent
   -- the text of an exact number
   number_item : List ℕ → ItemContent
+  -- a finite double
+  double_item : Float → ItemContent
 
 -- what a fragment says
 pub data FragmentContent : Type 0 where
@@ -20,6 +24,8 @@ pub data FragmentContent : Type 0 where
   value : Value → FragmentContent
   -- the text of an exact number
   number : List ℕ → FragmentContent
+  -- a finite double
+  double : Float → FragmentContent
   -- items
   list : List ItemContent → FragmentContent
   -- rows of items
@@ -35,6 +41,7 @@ pub data FragmentContent : Type 0 where
 abbrev pub item_content : Item → ItemContent
 item_content (item.Value said) = value_item said
 item_content (item.Decimal text) = number_item text.items
+item_content (item.Double said) = double_item (double_value said)
 
 -- what these items say
 abbrev pub items_content : List Item → List ItemContent
@@ -44,6 +51,7 @@ items_content items = map item_content items
 abbrev pub content_of : Fragment → FragmentContent
 content_of (one.Value said) = value said
 content_of (one.Decimal text) = number text.items
+content_of (one.Double said) = double (double_value said)
 content_of (one.List items) = list (items_content items.items)
 content_of (one.Rows items) = rows (map (λ row. items_content row.items) items.items)
 content_of (one.Identifier name) = identifier name.items

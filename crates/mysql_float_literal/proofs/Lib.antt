@@ -3,3 +3,4 @@ mod DoubleEndLemmas
 pub mod ReadBeforeLemmas
 pub mod DoubleLemmas
 pub mod DoubleTestLemmas
+pub mod DoubleValueLemmas

@@ -15,7 +15,7 @@ use Rattle.mysql_value_core.specs.declared.value.convert.ToValueError.{ToValueEr
 use Rattle.mysql_value_core.specs.declared.value.convert.ToValueError.TheVariants.{DurationTooLong, Memory}
 use Rattle.mysql_params_core.proofs.EqualityLemmas.{has_bytes, key_eq}
 use Rattle.mysql_fragments.specs.declared.fragment.Fragment.{Fragment}
-use Rattle.mysql_fragment_arguments.specs.FragmentContent.{FragmentContent, content_of}
+use Rattle.mysql_fragment_arguments.specs.FragmentContent.{content_of}
 use Rattle.mysql_fragment_arguments.specs.Arguments.{SaidFragment}
 use Rattle.mysql_fragment_arguments.specs.NamedContents.{ContentMap, content_map, entry_content, with_new}
 

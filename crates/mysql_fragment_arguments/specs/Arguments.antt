@@ -2,7 +2,7 @@
 -- value. A type of a caller's own names what it says.
 use Rattle.std.specs.Prelude.{List, [], ◌∷◌, ◌++◌, Result, Ok, Err, fold}
 use Rattle.std.specs.declared.time.Duration.{Duration}
-use Rattle.mysql_fragment_arguments.specs.FragmentContent.{ItemContent, value_item, number_item, FragmentContent, value, number}
+use Rattle.mysql_fragment_arguments.specs.FragmentContent.{ItemContent, value_item, number_item, double_item, FragmentContent, value, number, double}
 
 -- an item, or the duration that is too long for its value
 abbrev pub SaidItem : Type 0
@@ -36,3 +36,4 @@ all_said each = fold with_one (Ok []) each
 abbrev pub alone : ItemContent → FragmentContent
 alone (value_item said) = value said
 alone (number_item text) = number text
+alone (double_item x) = double x

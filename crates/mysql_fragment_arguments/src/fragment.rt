@@ -31,6 +31,7 @@ impl<T: ToItem> ToFragment for T {
         match self.to_item(alloc) {
             Ok(Item::Value(value)) => Ok(Fragment::Value(value)),
             Ok(Item::Decimal(number)) => Ok(Fragment::Decimal(number)),
+            Ok(Item::Double(double)) => Ok(Fragment::Double(double)),
             Err(ToValueError::Memory(error)) => Err(ToValueError::Memory(error)),
             Err(ToValueError::DurationTooLong(duration)) => {
                 Err(ToValueError::DurationTooLong(duration))

@@ -178,7 +178,7 @@ fragment_each ts given fragments not_both looked count = by (names ts) refl
 
 -- ---- floats
 
-or_false : (a b : Bool) → (a || b) ≡ false → (a ≡ false) × (b ≡ false)
+pub or_false : (a b : Bool) → (a || b) ≡ false → (a ≡ false) × (b ≡ false)
 or_false true b e = absurd (true≢false e)
 or_false false b e = (refl, e)
 
@@ -199,6 +199,7 @@ any_flat values test f (x ∷ xs) h =
 item_no_float : (x : Item) → is_float_item x ≡ false → list_any is_float (item_values x) ≡ false
 item_no_float (item.Value value) h = rw h refl
 item_no_float (item.Decimal number) h = refl
+item_no_float (item.Double double) h = refl
 
 fragment_no_float : (fragment : Fragment) → has_float fragment ≡ false → list_any is_float (fragment_values fragment) ≡ false
 fragment_no_float (one.Value value) h = rw h refl
@@ -206,11 +207,12 @@ fragment_no_float (one.List items) h = any_flat item_values is_float_item item_n
 fragment_no_float (one.Rows rows) h =
     any_flat (λ row. flat_map item_values row.items) (λ row. list_any is_float_item row.items) (λ row. any_flat item_values is_float_item item_no_float row.items) rows.items h
 fragment_no_float (one.Decimal number) h = refl
+fragment_no_float (one.Double double) h = refl
 fragment_no_float (one.Identifier name) h = refl
 fragment_no_float (one.Qualified names) h = refl
 fragment_no_float (one.Keyword keyword) h = refl
 
-if_none : {A : Type 0} (b : Bool) (x : A) (y : Option A) → (if b then Some x else y) ≡ None → (b ≡ false) × (y ≡ None)
+pub if_none : {A : Type 0} (b : Bool) (x : A) (y : Option A) → (if b then Some x else y) ≡ None → (b ≡ false) × (y ≡ None)
 if_none true x y e = cc
 if_none false x y e = (refl, e)
 

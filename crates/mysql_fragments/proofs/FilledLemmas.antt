@@ -39,8 +39,10 @@ use Rattle.mysql_fragments.specs.declared.fragment.Item.TheVariants as item
 use Rattle.mysql_fragments.specs.declared.fragment.Fragment.{Fragment}
 use Rattle.mysql_fragments.specs.declared.fragment.Fragment.TheVariants as one
 use Rattle.mysql_fragments.proofs.ExpandedLemmas.{expanded_parts, expanded_nameless, expanded_marks, is_expanded, no_cause_expanded}
-use Rattle.mysql_fragments.proofs.FragmentLemmas.{IsFragmentList, comma_then, fragment_list_of, in_brackets, list_list, mark_list, row_list}
-use Rattle.mysql_fragments.proofs.ShapeLemmas.{fragment_shape, if_row, map_none, number_shape}
+use Rattle.mysql_fragments.proofs.FragmentLemmas.{comma_then, fragment_list_of, in_brackets, list_list, row_list}
+use Rattle.mysql_fragments.proofs.FragmentListLemmas.{IsFragmentList, mark_list}
+use Rattle.mysql_fragments.proofs.ShapeLemmas.{fragment_shape, if_row, map_none, item_shape, number_shape}
+use Rattle.mysql_float_literal.specs.DoubleText.{double_text}
 use Rattle.mysql_fragments.proofs.CauseLemmas.{no_first_float}
 use Rattle.mysql_fragments.proofs.TextLemmas.{flat_map_more}
 
@@ -124,6 +126,7 @@ module _ (mode : Bool) (write : Value → List ℕ) where
   item_fills : (row index : ℕ) (x : Item) → item_fault row index x ≡ None → Fills mode write (item_text x) (item_values x) (filled_item write x)
   item_fills row index (item.Value value) h = fills_mark value
   item_fills row index (item.Decimal text) h = fills_plain text.items (number_shape mode row index text.items h)
+  item_fills row index (item.Double double) h = fills_plain (double_text double) (item_shape mode row index (item.Double double) h)
 
   all_items_fill : (row index : ℕ) (items : List Item) → items_fault row index items ≡ None →
       AllFill item_text item_values (filled_item write) items
@@ -169,6 +172,7 @@ module _ (mode : Bool) (write : Value → List ℕ) where
       go [] h = cc
       go (row ∷ rows) h = joined_fills row_text row_values (filled_row write) row rows (all_rows_fill (length row.items) 0 (row ∷ rows) h)
   fragment_fills (one.Decimal number) h = fills_plain _ (fragment_shape mode (one.Decimal number) h)
+  fragment_fills (one.Double double) h = fills_plain _ (fragment_shape mode (one.Double double) h)
   fragment_fills (one.Identifier name) h = fills_plain _ (fragment_shape mode (one.Identifier name) h)
   fragment_fills (one.Qualified names) h = fills_plain _ (fragment_shape mode (one.Qualified names) h)
   fragment_fills (one.Keyword keyword) h = fills_plain _ (fragment_shape mode (one.Keyword keyword) h)
@@ -195,7 +199,7 @@ module _ (mode : Bool) (write : Value → List ℕ) where
       ∙ (bound-append list us (map write (fragment_values fragment)) (map write (all_values fragments)) f.0
       ∙ (ap (λ z. z ++ bound us (map write (all_values fragments))) f.1 ∙ ap (λ z. filled_text write fragment ++ z) e))
 
-  filled_bound : (place : ℕ) (ts : List Token) (fragments : List Fragment) (lists : List (List Token)) → first_fault_from place fragments ≡ None →
+  pub filled_bound : (place : ℕ) (ts : List Token) (fragments : List Fragment) (lists : List (List Token)) → first_fault_from place fragments ≡ None →
       AreTokensOf mode (map fragment_text fragments) lists → length fragments ≡ place_count ts →
       bound (with_literal_tokens ts lists) (map write (all_values fragments)) ≡ bound ts (map (filled_text write) fragments)
   filled_bound place [] [] lists h a n = refl

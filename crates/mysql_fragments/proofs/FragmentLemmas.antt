@@ -1,26 +1,21 @@
--- A fragment, known by its shape alone: its tokens end where it ends, in a place that stands alone its
--- first bytes open nothing and its tokens are portable, and the places that it brings stand alone too.
+-- A fragment, known by its shape alone: its tokens, and what is known of them.
 use Rattle.std.specs.Prelude.{Bool}
-use Rattle.std.proofs.Common.{◌≡◌, ◌+◌, ◌++◌, ◌==◌, ◌&&◌, ◌||◌, not, ℕ, true, false, List, [], ◌∷◌, if◌then◌else◌, Option, Some, None, arith, inl, inr, refl, ap, ◌∙◌, sym, subst, append-nil, append_assoc, true≢false}
-use Rattle.std.specs.Char.{is_ascii_alphabetic, is_ascii_digit}
+use Rattle.std.proofs.Common.{◌≡◌, ◌+◌, ◌++◌, ◌==◌, ◌&&◌, ◌||◌, not, ℕ, true, false, List, [], ◌∷◌, if◌then◌else◌, None, arith, inl, inr, refl, ap, ◌∙◌, sym, subst, append-nil, append_assoc, true≢false}
+use Rattle.std.specs.Char.{is_ascii_alphabetic}
 use Rattle.std.specs.List.{list_all}
 use Rattle.std.specs.Str.{byte}
-use Rattle.std.proofs.lemmas.Bool.{and_parts, and_from, cases_Bool, eqb-true, false_from_ne_true, or_from, or_parts}
+use Rattle.std.proofs.lemmas.Bool.{and_parts, and_from, cases_Bool, eqb-true, or_from, or_parts}
 use Rattle.std.proofs.lemmas.Bool.Decides.{nat_tests}
-use Rattle.std.proofs.lemmas.List.{nil_from_length}
-use Rattle.mysql_sql_text.specs.LiteralEnd.{continues_literal}
-use Rattle.mysql_sql_text.specs.LiteralShape.{AreDigits, IsLiteral}
-use Rattle.mysql_named_params.specs.Bytes.{backquote, colon, dash, point, question_mark, space, underscore, is_start_byte, HoldsOnlyAtEnd, IsUpTo, up_to_word}
-use Rattle.mysql_named_params.specs.Tokens.{Token, IsToken, AreTokensBefore, text_of, text_then, bytes_of, QuotedIdentifier, Name, Mark, Plain}
-use Rattle.mysql_named_params.specs.Places.{names, marks, place_count}
-use Rattle.mysql_named_params.specs.Server.{begins_fraction, escapes_backquote}
+use Rattle.mysql_named_params.specs.Bytes.{backquote, colon, dash, point, space, underscore, is_start_byte, HoldsOnlyAtEnd, IsUpTo, up_to_word}
+use Rattle.mysql_named_params.specs.Tokens.{Token, IsToken, AreTokensBefore, text_of, text_then, QuotedIdentifier, Mark, Plain}
+use Rattle.mysql_named_params.specs.Places.{names, place_count}
+use Rattle.mysql_named_params.specs.Server.{escapes_backquote}
 use Rattle.mysql_named_params.proofs.PortableLemmas.{false_if, is_alike_on_all}
 use Rattle.mysql_named_params.proofs.TokenEnds.{plain_at}
-use Rattle.mysql_named_params.proofs.TokenRowLemmas.{text_then-append, text_then-text_of, text_of-append, AreTokensBefore-append, names-append, marks-append, place_count-append, place_count-sum}
-use Rattle.mysql_binding.specs.StandsAlone.{may_stand_before, may_stand_after, none_or_first, none_or_last, first_not_alone_from}
-use Rattle.mysql_binding.proofs.BoundStatementLemmas.{StayWithin, StayWithin-append, list_within as literal_within, plain_within, within}
-use Rattle.mysql_binding.proofs.ByteTestLemmas.{behind_ends}
-use Rattle.mysql_binding.proofs.LiteralTokenLemmas.{AreSettledBefore, AreSettledBefore-append, no_double, plain_tokens, other, plain_text, plain_places, plain_before, plain_settled, is_alphanumeric-plain, alphanumeric_portable, alphanumeric_single, is_alphanumeric, AreDigits-alphanumeric, minus_plain, minus_portable, minus_single, digits_open_nothing, minus_opens_nothing, IsLiteral-cut, IsLiteral-opens_nothing}
+use Rattle.mysql_named_params.proofs.TokenRowLemmas.{text_then-append, text_then-text_of, text_of-append, AreTokensBefore-append, names-append, marks-append, place_count-append}
+use Rattle.mysql_binding.specs.StandsAlone.{may_stand_before, none_or_first}
+use Rattle.mysql_binding.proofs.BoundStatementLemmas.{StayWithin, StayWithin-append}
+use Rattle.mysql_binding.proofs.LiteralTokenLemmas.{AreSettledBefore, AreSettledBefore-append, no_double, plain_tokens, other, plain_text, plain_places, is_alphanumeric-plain, alphanumeric_portable, alphanumeric_single, is_alphanumeric}
 use Rattle.mysql_sql_text.specs.InLine.{is_in_line}
 use Rattle.mysql_binding.proofs.SentLiteralLemmas.{no_zero, quotes_found}
 use Rattle.mysql_binding.proofs.SentTextLemmas.{AreSentBefore, statement_after, line_after}
@@ -29,189 +24,9 @@ use Rattle.mysql_named_params.specs.FoundInClient.{found_in_client}
 use Rattle.std.proofs.lemmas.List.Folds.{list_all-append}
 use Rattle.mysql_binding.proofs.UpToSpliceLemmas.{joins_nothing, opens_nothing_after}
 use Rattle.mysql_fragments.specs.FragmentFaults.{escapes_end, is_keyword, is_keyword_from}
-use Rattle.mysql_fragments.specs.FragmentShape.{IsIdentifier, one_name, more_names, IsFragment, mark_fragment, literal_fragment, decimal_fragment, negative_decimal_fragment, identifier_fragment, keyword_fragment, list_fragment, row_fragment}
+use Rattle.mysql_fragments.specs.FragmentShape.{IsIdentifier, one_name, more_names, IsFragment, mark_fragment, literal_fragment, decimal_fragment, negative_decimal_fragment, double_fragment, identifier_fragment, keyword_fragment, list_fragment, row_fragment}
 use Rattle.mysql_fragments.specs.FragmentText.{doubled, identifier_text}
-
--- ---- texts that may stand before a place (these two stand in mysql_binding's RenamedPlaceLemmas too,
--- which doesn't lend them)
-
-pub last-append : (test : ℕ → Bool) (xs : List ℕ) (b : ℕ) (ys : List ℕ) →
-    none_or_last test (xs ++ b ∷ ys) ≡ none_or_last test (b ∷ ys)
-last-append test [] b ys = refl
-last-append test (x ∷ []) b ys = refl
-last-append test (x ∷ x' ∷ xs) b ys = last-append test (x' ∷ xs) b ys
-
-if_alone : (b : Bool) (x : Option (ℕ × ℕ)) (p : ℕ × ℕ) → b ≡ true → x ≡ None →
-    (if b then x else Some p) ≡ None
-if_alone true x p e h = h
-if_alone false x p e h = absurd (true≢false (sym e))
-
--- the places of the list stand alone if it does, before tokens whose places do
-abbrev pub StandAlone : List Token → Type 0
-StandAlone list = (more : List Token) → none_or_first may_stand_after (text_of more) ≡ true →
-    ((place : ℕ) (before : List ℕ) → first_not_alone_from place before more ≡ None) →
-    (place : ℕ) (before : List ℕ) → none_or_last may_stand_before before ≡ true →
-    first_not_alone_from place before (list ++ more) ≡ None
-
--- what is known of the tokens of a fragment with this number of marks
-pub record IsFragmentList (mode : Bool) (n : ℕ) (text : List ℕ) (list : List Token) : Type 0 where
-  pub list_text : text_of list ≡ text
-  pub list_tokens : (rest : List ℕ) → AreTokensBefore mode rest list
-  pub list_opens : (before : ℕ) (rest : List ℕ) → may_stand_before before ≡ true →
-      opens_nothing_after before (text_then rest list) ≡ true
-  pub list_settled : (rest : List ℕ) → none_or_first may_stand_after rest ≡ true → AreSettledBefore rest list
-  pub list_alone : StandAlone list
-  -- it holds no comment and no `;`
-  pub list_within : StayWithin list
-  pub list_names : names list ≡ []
-  pub list_marks : marks list ≡ n
-
--- ---- without places
-
-placeless_alone : (list : List Token) → place_count list ≡ 0 → StandAlone list
-placeless_alone list none more first each place before last = go list none place before
-  where
-    go : (list : List Token) → place_count list ≡ 0 → (place : ℕ) (before : List ℕ) →
-        first_not_alone_from place before (list ++ more) ≡ None
-    go [] none place before = each place before
-    go (Name name ∷ list) none place before = absurd (omega arith)
-    go (Mark ∷ list) none place before = absurd (omega arith)
-    go (t ∷ list) none place before = go list none place (before ++ bytes_of t)
-
-no_names : (list : List Token) → place_count list ≡ 0 → names list ≡ []
-no_names list none = nil_from_length (names list) (omega (arith, none, place_count-sum list))
-
-no_marks : (list : List Token) → place_count list ≡ 0 → marks list ≡ 0
-no_marks list none = omega (arith, none, place_count-sum list)
-
--- ---- a mark
-
-pub mark_list : (mode : Bool) → IsFragmentList mode 1 (question_mark ∷ []) (Mark ∷ [])
-mark_list mode = record {
-  list_text = refl;
-  list_tokens = λ rest. (tt, tt);
-  list_opens = λ before rest b. refl;
-  list_settled = λ rest h. (refl, refl, tt);
-  list_alone = λ more first each place before last. if_alone _ _ _ (and_from _ _ last first) (each _ _);
-  list_within = (refl, tt);
-  list_names = refl;
-  list_marks = refl;
-}
-
--- ---- a literal
-
-literal_list : (mode : Bool) (literal : List ℕ) → IsLiteral mode literal →
-    (list : List Token) × IsFragmentList mode 0 literal list
-literal_list mode literal h =
-    let c = IsLiteral-cut mode h in (
-      c.0,
-      record {
-        list_text = c.1.cut_text;
-        list_tokens = c.1.cut_tokens;
-        list_opens = λ before rest b. rw (text_then-text_of c.0 rest, c.1.cut_text) (IsLiteral-opens_nothing mode h before rest);
-        list_settled = λ rest h. c.1.cut_settled rest;
-        list_alone = placeless_alone c.0 c.1.cut_places;
-        list_within = literal_within mode literal c.0 (within mode h) (record { text = c.1.cut_text; each = c.1.cut_tokens [] });
-        list_names = no_names c.0 c.1.cut_places;
-        list_marks = no_marks c.0 c.1.cut_places;
-      },
-    )
-
--- ---- an exact number
-
-abbrev dot : ℕ
-dot = point
-
--- what may stand after a place goes on with no fraction
-no_fraction : (rest : List ℕ) → none_or_first may_stand_after rest ≡ true → begins_fraction rest ≡ false
-no_fraction [] h = refl
-no_fraction (b ∷ rest) h =
-    let ends = behind_ends b h in
-    let no_digit : is_ascii_digit b ≡ false = false_from_ne_true _ (λ d. true≢false (sym (digit_continues b d) ∙ ends)) in
-    rw (other may_stand_after b question_mark h refl, other may_stand_after b colon h refl, no_digit, other may_stand_after b (byte "e") h refl, other may_stand_after b (byte "E") h refl) refl
-  where
-    or_true : (a : Bool) → (a || true) ≡ true
-    or_true true = refl
-    or_true false = refl
-
-    digit_continues : (b : ℕ) → is_ascii_digit b ≡ true → continues_literal b ≡ true
-    digit_continues b d = rw d (or_true _)
-
-fraction_ends : (digits : List ℕ) → list_all is_ascii_digit digits ≡ true → (rest : List ℕ) →
-    none_or_first may_stand_after rest ≡ true → begins_fraction (text_then rest (plain_tokens digits)) ≡ false
-fraction_ends [] all rest h = no_fraction rest h
-fraction_ends (d ∷ digits) all rest h =
-    let p = and_parts (is_ascii_digit d) (list_all is_ascii_digit digits) all in
-    rw (other is_ascii_digit d question_mark p.0 refl, other is_ascii_digit d colon p.0 refl, fraction_ends digits p.1 rest h, other is_ascii_digit d (byte "e") p.0 refl, other is_ascii_digit d (byte "E") p.0 refl, p.0) refl
-
--- digits, a point and digits
-abbrev decimal_tokens : List ℕ → List ℕ → List Token
-decimal_tokens whole fraction = plain_tokens whole ++ (Plain dot ∷ plain_tokens fraction)
-
-module _ (whole fraction : List ℕ) (w : AreDigits whole) (f : AreDigits fraction) where
-  fraction_digits : (bytes : List ℕ) → AreDigits bytes → list_all is_ascii_digit bytes ≡ true
-  fraction_digits [] h = absurd h
-  fraction_digits (b ∷ bytes) h = and_from _ _ h.0 h.1
-
-  decimal_text : text_of (decimal_tokens whole fraction) ≡ whole ++ (dot ∷ fraction)
-  decimal_text = text_of-append (plain_tokens whole) (Plain dot ∷ plain_tokens fraction) ∙ (ap (λ x. x ++ text_of (Plain dot ∷ plain_tokens fraction)) (plain_text whole) ∙ ap (λ x. whole ++ (dot ∷ x)) (plain_text fraction))
-
-  decimal_before : (mode : Bool) (rest : List ℕ) → AreTokensBefore mode rest (decimal_tokens whole fraction)
-  decimal_before mode rest =
-      AreTokensBefore-append mode (plain_tokens whole) (Plain dot ∷ plain_tokens fraction) rest (plain_before mode whole (AreDigits-alphanumeric whole w) _)
-      (plain_at mode dot _ refl, plain_before mode fraction (AreDigits-alphanumeric fraction f) rest)
-
-  decimal_settled : (rest : List ℕ) → none_or_first may_stand_after rest ≡ true → AreSettledBefore rest (decimal_tokens whole fraction)
-  decimal_settled rest h =
-      AreSettledBefore-append (plain_tokens whole) (Plain dot ∷ plain_tokens fraction) rest (plain_settled whole (AreDigits-alphanumeric whole w) _)
-      (ap not (fraction_ends fraction (fraction_digits fraction f) rest h), refl, plain_settled fraction (AreDigits-alphanumeric fraction f) rest)
-
-  decimal_within : StayWithin (decimal_tokens whole fraction)
-  decimal_within =
-      StayWithin-append (plain_tokens whole) (Plain dot ∷ plain_tokens fraction) (plain_within whole (AreDigits-alphanumeric whole w))
-      (refl, plain_within fraction (AreDigits-alphanumeric fraction f))
-
-  decimal_places : place_count (decimal_tokens whole fraction) ≡ 0
-  decimal_places = rw (place_count-append (plain_tokens whole) (Plain dot ∷ plain_tokens fraction), plain_places whole, plain_places fraction) refl
-
-  decimal_opens : (before : ℕ) (rest : List ℕ) → opens_nothing_after before (text_then rest (decimal_tokens whole fraction)) ≡ true
-  decimal_opens before rest = rw (text_then-text_of (decimal_tokens whole fraction) rest, decimal_text, append_assoc whole (dot ∷ fraction) rest) (digits_open_nothing whole w before _)
-
-  decimal_list : (mode : Bool) → IsFragmentList mode 0 (whole ++ (dot ∷ fraction)) (decimal_tokens whole fraction)
-  decimal_list mode = record {
-    list_text = decimal_text;
-    list_tokens = decimal_before mode;
-    list_opens = λ before rest b. decimal_opens before rest;
-    list_settled = decimal_settled;
-    list_alone = placeless_alone (decimal_tokens whole fraction) decimal_places;
-    list_within = decimal_within;
-    list_names = no_names (decimal_tokens whole fraction) decimal_places;
-    list_marks = no_marks (decimal_tokens whole fraction) decimal_places;
-  }
-
-negative_opens : (whole fraction : List ℕ) → AreDigits whole → AreDigits fraction → (before : ℕ) (rest : List ℕ) →
-    opens_nothing_after before (dash ∷ text_then rest (decimal_tokens whole fraction)) ≡ true
-negative_opens whole fraction w f before rest =
-    let e : text_then rest (decimal_tokens whole fraction) ≡ whole ++ ((dot ∷ fraction) ++ rest) = text_then-text_of (decimal_tokens whole fraction) rest ∙ (ap (λ x. x ++ rest) (decimal_text whole fraction w f) ∙ append_assoc whole (dot ∷ fraction) rest) in
-    ap (λ x. opens_nothing_after before (dash ∷ x)) e ∙ minus_opens_nothing whole w before _
-
-negative_list : (mode : Bool) (whole fraction : List ℕ) → AreDigits whole → AreDigits fraction →
-    IsFragmentList mode 0 (dash ∷ (whole ++ (dot ∷ fraction))) (Plain dash ∷ decimal_tokens whole fraction)
-negative_list mode [] fraction w f = absurd w
-negative_list mode (d ∷ digits) fraction w f =
-    let whole : List ℕ = d ∷ digits in
-    let c = decimal_list whole fraction w f mode in
-    let places = decimal_places whole fraction w f in
-    record {
-      list_text = ap (λ x. dash ∷ x) (decimal_text whole fraction w f);
-      list_tokens = λ rest. (minus_plain mode d _ w.0, c.list_tokens rest);
-      list_opens = λ before rest b. negative_opens (d ∷ digits) fraction w f before rest;
-      list_settled = λ rest h. (minus_portable d (text_then rest (plain_tokens digits ++ (Plain dot ∷ plain_tokens fraction))) w.0, minus_single d (text_then rest (plain_tokens digits ++ (Plain dot ∷ plain_tokens fraction))) w.0, c.list_settled rest h);
-      list_alone = placeless_alone (Plain dash ∷ decimal_tokens whole fraction) places;
-      list_within = (refl, c.list_within);
-      list_names = no_names (Plain dash ∷ decimal_tokens whole fraction) places;
-      list_marks = no_marks (Plain dash ∷ decimal_tokens whole fraction) places;
-    }
+use Rattle.mysql_fragments.proofs.FragmentListLemmas.{IsFragmentList, decimal_list, decimal_tokens, double_list, last-append, literal_list, mark_list, negative_list, no_marks, no_names, placeless_alone}
 
 -- ---- an identifier
 
@@ -570,6 +385,7 @@ fragment_list_of mode mark_fragment = (Mark ∷ [], mark_list mode)
 fragment_list_of mode (literal_fragment literal h) = literal_list mode literal h
 fragment_list_of mode (decimal_fragment whole fraction w f) = (decimal_tokens whole fraction, decimal_list whole fraction w f mode)
 fragment_list_of mode (negative_decimal_fragment whole fraction w f) = (Plain dash ∷ decimal_tokens whole fraction, negative_list mode whole fraction w f)
+fragment_list_of mode (double_fragment text h) = double_list mode text h
 fragment_list_of mode (identifier_fragment text h) = identifier_list mode h
 fragment_list_of mode (keyword_fragment text h) = keyword_list mode text h
 fragment_list_of mode (list_fragment n k first more a b) =

@@ -17,3 +17,5 @@ pub mod BoundBorrowedLemmas
 pub mod ValueFragmentLemmas
 pub mod InPlaceLemmas
 pub mod SaidExistLemmas
+mod DoubleTokenLemmas
+mod FragmentListLemmas

@@ -41,7 +41,7 @@ no_point = may_follow is_point (apart_from point refl)
 digit_may_not : (b : ℕ) → may_stand_after b ≡ true → is_ascii_digit b ≡ false
 digit_may_not b h = grind (arith, nat_tests)
 
-no_digit : (rest : List ℕ) → none_or_first may_stand_after rest ≡ true → BeginsWithout is_ascii_digit rest
+pub no_digit : (rest : List ℕ) → none_or_first may_stand_after rest ≡ true → BeginsWithout is_ascii_digit rest
 no_digit = may_follow is_ascii_digit digit_may_not
 
 -- ---- identifiers

@@ -17,8 +17,9 @@ use Rattle.mysql_binding.proofs.SentLiteralLemmas.{and_none, SentPart, SentText,
 use Rattle.mysql_binding.proofs.SentTextLemmas.{is_calm_first, is_word_letter, no_word_found}
 use Rattle.mysql_named_params.proofs.OtherModeLemmas.{all_parts}
 use Rattle.mysql_named_params.specs.FoundInClient.{begins_statement, begins_line, begins_no_word, found_in_client, is_client_word, letter_of}
+use Rattle.mysql_float_literal.specs.DoubleShape.{IsSign, no_sign, minus_sign, IsFraction, no_fraction, point_and_digits, IsDouble, double_shape}
 use Rattle.mysql_fragments.specs.FragmentFaults.{escapes_end, is_keyword}
-use Rattle.mysql_fragments.specs.FragmentShape.{IsIdentifier, one_name, more_names, IsFragment, mark_fragment, literal_fragment, decimal_fragment, negative_decimal_fragment, identifier_fragment, keyword_fragment, list_fragment, row_fragment}
+use Rattle.mysql_fragments.specs.FragmentShape.{IsIdentifier, one_name, more_names, IsFragment, mark_fragment, literal_fragment, decimal_fragment, negative_decimal_fragment, double_fragment, identifier_fragment, keyword_fragment, list_fragment, row_fragment}
 use Rattle.mysql_fragments.specs.FragmentText.{doubled, identifier_text}
 use Rattle.mysql_fragments.specs.SentFragments.{begins_no_word_of_client}
 use Rattle.mysql_fragments.proofs.FragmentLemmas.{doubled_other, doubled_quote, identifier_tokens, is_word_byte, keyword_bytes, keyword_first, quoted_run, word_plain}
@@ -119,6 +120,26 @@ negative_sent mode whole fraction w f =
     front_and_part mode (dash ∷ whole) (codes "." ++ fraction) (minus_text mode whole w)
     (both_parts mode (codes ".") fraction (point_part mode) (run_part mode fraction (AreDigits-alphanumeric fraction f)))
 
+-- a double: after its whole part a point with digits or none, and its exponent
+exponent_part : (mode : Bool) {sign : List ℕ} (digits : List ℕ) → IsSign sign → AreDigits digits → SentPart mode (codes "e" ++ (sign ++ digits))
+exponent_part mode digits no_sign e =
+    both_parts mode (codes "e") digits (run_part mode (codes "e") refl) (run_part mode digits (AreDigits-alphanumeric digits e))
+exponent_part mode digits minus_sign e =
+    both_parts mode (codes "e") (dash ∷ digits) (run_part mode (codes "e") refl) (part_of mode (dash ∷ digits) (minus_text mode digits e))
+
+after_whole_part : (mode : Bool) {fraction sign : List ℕ} (exponent : List ℕ) → IsFraction fraction → IsSign sign → AreDigits exponent →
+    SentPart mode (fraction ++ (codes "e" ++ (sign ++ exponent)))
+after_whole_part mode exponent no_fraction s e = exponent_part mode exponent s e
+after_whole_part mode {sign = sign} exponent (point_and_digits digits f) s e =
+    both_parts mode (codes ".") (digits ++ (codes "e" ++ (sign ++ exponent))) (point_part mode)
+    (both_parts mode digits (codes "e" ++ (sign ++ exponent)) (run_part mode digits (AreDigits-alphanumeric digits f)) (exponent_part mode exponent s e))
+
+double_sent : (mode : Bool) {text : List ℕ} → IsDouble text → SentText mode text
+double_sent mode (double_shape _ whole fraction sign exponent no_sign w f s e) =
+    front_and_part mode whole (fraction ++ (codes "e" ++ (sign ++ exponent))) (digits_text mode whole w) (after_whole_part mode exponent f s e)
+double_sent mode (double_shape _ whole fraction sign exponent minus_sign w f s e) =
+    front_and_part mode (dash ∷ whole) (fraction ++ (codes "e" ++ (sign ++ exponent))) (minus_text mode whole w) (after_whole_part mode exponent f s e)
+
 -- a keyword behind the front of a list
 word_found : (b : ℕ) (rest : List ℕ) → is_word_byte b ≡ true → found_in_client false false (Plain b) rest ≡ None
 unfolding is_word_byte
@@ -143,6 +164,7 @@ fragment_part mode mark_fragment k = part_of mode (codes "?") (mark_text mode)
 fragment_part mode (literal_fragment literal h) k = part_of mode literal (literal_sent mode h k)
 fragment_part mode (decimal_fragment whole fraction w f) k = part_of mode (whole ++ (codes "." ++ fraction)) (decimal_sent mode whole fraction w f)
 fragment_part mode (negative_decimal_fragment whole fraction w f) k = part_of mode (codes "-" ++ (whole ++ (codes "." ++ fraction))) (negative_sent mode whole fraction w f)
+fragment_part mode (double_fragment text h) k = part_of mode text (double_sent mode h)
 fragment_part mode (identifier_fragment text h) k = part_of mode text (identifier_sent mode h k)
 fragment_part mode (keyword_fragment text h) k = words_part mode text (keyword_bytes false text h)
 fragment_part mode (list_fragment n m first more a b) k =
@@ -179,6 +201,7 @@ fragment_sent mode mark_fragment k w = mark_text mode
 fragment_sent mode (literal_fragment literal h) k w = literal_sent mode h k
 fragment_sent mode (decimal_fragment whole fraction d f) k w = decimal_sent mode whole fraction d f
 fragment_sent mode (negative_decimal_fragment whole fraction d f) k w = negative_sent mode whole fraction d f
+fragment_sent mode (double_fragment text h) k w = double_sent mode h
 fragment_sent mode (identifier_fragment text h) k w = identifier_sent mode h k
 fragment_sent mode (keyword_fragment text h) k w = absurd (keyword_begins text h w)
 fragment_sent mode (list_fragment n m first more a b) k w =

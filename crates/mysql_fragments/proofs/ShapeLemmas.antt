@@ -11,8 +11,10 @@ use Rattle.mysql_named_params.specs.Bytes.{dash, point}
 use Rattle.mysql_binding.proofs.CauseLemmas.{or_none}
 use Rattle.mysql_fragments.specs.FragmentErrors.{first_fault_from}
 use Rattle.mysql_fragments.specs.FragmentFaults.{character_count, digit_count, ends_in_space, escapes_end, fault_of, is_decimal, is_keyword, is_number_from, item_fault, items_fault, list_fault, name_fault, names_fault, names_fault_from, number_fault, row_fault, rows_fault, rows_fault_from}
-use Rattle.mysql_fragments.specs.FragmentShape.{IsIdentifier, one_name, more_names, IsFragment, AreFragments, mark_fragment, literal_fragment, decimal_fragment, negative_decimal_fragment, identifier_fragment, keyword_fragment, list_fragment, row_fragment}
+use Rattle.mysql_fragments.specs.FragmentShape.{IsIdentifier, one_name, more_names, IsFragment, AreFragments, mark_fragment, literal_fragment, decimal_fragment, negative_decimal_fragment, double_fragment, identifier_fragment, keyword_fragment, list_fragment, row_fragment}
 use Rattle.mysql_fragments.specs.FragmentText.{joined, identifier_text, item_text, item_values, items_text, row_text, fragment_text, fragment_values, all_values, mark_number}
+use Rattle.mysql_float_literal.specs.DoubleText.{double_text}
+use Rattle.mysql_float_literal.proofs.DoubleValueLemmas.{double_shaped}
 use Rattle.mysql_fragments.proofs.SplicedFragmentLemmas.{total}
 use Rattle.mysql_fragments.specs.declared.fragment.Item.{Item}
 use Rattle.mysql_fragments.specs.declared.fragment.Item.TheVariants as item
@@ -122,9 +124,10 @@ joined_shape mode text values x (y ∷ ys) h =
     subst (λ n. IsFragment mode n (joined (codes ", ") (map text (x ∷ y ∷ ys)))) (sym (length-append (values x) (flat_map values (y ∷ ys))))
     (list_fragment (length (values x)) (length (flat_map values (y ∷ ys))) (text x) (joined (codes ", ") (map text (y ∷ ys))) h.0 (joined_shape mode text values y ys h.1))
 
-item_shape : (mode : Bool) (row index : ℕ) (x : Item) → item_fault row index x ≡ None → IsFragment mode (length (item_values x)) (item_text x)
+pub item_shape : (mode : Bool) (row index : ℕ) (x : Item) → item_fault row index x ≡ None → IsFragment mode (length (item_values x)) (item_text x)
 item_shape mode row index (item.Value value) h = mark_fragment
 item_shape mode row index (item.Decimal text) h = number_shape mode row index text.items h
+item_shape mode row index (item.Double double) h = double_fragment (double_text double) (double_shaped double)
 
 item_shapes : (mode : Bool) (row index : ℕ) (items : List Item) → items_fault row index items ≡ None → AllShaped mode item_text item_values items
 unfolding AllShaped
@@ -195,6 +198,7 @@ pub fragment_shape : (mode : Bool) (fragment : Fragment) → fault_of fragment �
     IsFragment mode (mark_number fragment) (fragment_text fragment)
 fragment_shape mode (one.Value value) h = mark_fragment
 fragment_shape mode (one.Decimal text) h = number_shape mode 0 0 text.items h
+fragment_shape mode (one.Double double) h = double_fragment (double_text double) (double_shaped double)
 fragment_shape mode (one.List items) h = go items.items h
   where
     go : (items : List Item) → list_fault items ≡ None → IsFragment mode (length (flat_map item_values items)) (items_text items)

@@ -21,7 +21,8 @@ use Rattle.mysql_binding.proofs.PieceLemmas.{joined_text_count}
 use Rattle.mysql_binding.proofs.SpliceLemmas.{AtPlaces, Each, HoldsAlone, IsSpliced, IsSettled, alone, as_many_lists, first_stays, isolated_splice, spliced_portable, spliced_text}
 use Rattle.mysql_binding.proofs.SplicedOnServerLemmas.{spliced_on, spliced_read}
 use Rattle.mysql_fragments.specs.FragmentShape.{IsFragment, AreFragments}
-use Rattle.mysql_fragments.proofs.FragmentLemmas.{IsFragmentList, StandAlone, fragment_list_of, last-append}
+use Rattle.mysql_fragments.proofs.FragmentLemmas.{fragment_list_of}
+use Rattle.mysql_fragments.proofs.FragmentListLemmas.{IsFragmentList, StandAlone, last-append}
 use Rattle.mysql_fragments.proofs.SentFragmentLemmas.{fragment_sent}
 use Rattle.mysql_fragments.specs.SentFragments.{BeginNoWords}
 use Rattle.mysql_sql_text.specs.InLine.{AreInLine}

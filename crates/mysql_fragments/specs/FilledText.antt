@@ -4,6 +4,7 @@
 use Rattle.std.specs.Prelude.{◌≡◌, ◌==◌, ℕ, Bool, true, List, [], map, ◌++◌, if◌then◌else◌, codes, None, Ok}
 use Rattle.std.specs.Global.{Vec}
 use Rattle.mysql_values.specs.declared.value.Value.{Value}
+use Rattle.mysql_float_literal.specs.DoubleText.{double_text}
 use Rattle.mysql_named_params.specs.Tokens.{Token}
 use Rattle.mysql_named_params.specs.Places.{names}
 use Rattle.mysql_params_core.specs.Given.{positional}
@@ -28,6 +29,7 @@ separator_before separator i = if i == 0 then [] else separator
 abbrev pub filled_item : (Value → List ℕ) → Item → List ℕ
 filled_item write (item.Value value) = write value
 filled_item write (item.Decimal number) = number.items
+filled_item write (item.Double double) = double_text double
 
 -- items with commas between them
 abbrev pub filled_items : (Value → List ℕ) → List Item → List ℕ
@@ -41,6 +43,7 @@ filled_row write row = codes "(" ++ (filled_items write row.items ++ codes ")")
 abbrev pub filled_text : (Value → List ℕ) → Fragment → List ℕ
 filled_text write (one.Value value) = write value
 filled_text write (one.Decimal number) = number.items
+filled_text write (one.Double double) = double_text double
 filled_text write (one.List items) = filled_items write items.items
 filled_text write (one.Rows rows) = joined (codes ", ") (map (filled_row write) rows.items)
 filled_text write (one.Identifier name) = identifier_text name.items

@@ -51,6 +51,7 @@ not_alone_cause ts = option_map (λ found. not_alone found.0 found.1) (first_not
 abbrev pub is_float_item : Item → Bool
 is_float_item (item.Value value) = is_float value
 is_float_item (item.Decimal number) = false
+is_float_item (item.Double double) = false
 
 -- a value of the fragment is a float
 abbrev pub has_float : Fragment → Bool

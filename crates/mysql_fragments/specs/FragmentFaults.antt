@@ -49,6 +49,7 @@ number_fault row index text =
 -- the fault of this item of this row
 abbrev pub item_fault : ℕ → ℕ → Item → Option FragmentFault
 item_fault row index (item.Value value) = None
+item_fault row index (item.Double double) = None
 item_fault row index (item.Decimal text) = number_fault row index text.items
 
 -- the first fault of the items of this row from this index on
@@ -144,6 +145,7 @@ is_keyword = is_keyword_from false
 -- the first fault of a fragment
 abbrev pub fault_of : Fragment → Option FragmentFault
 fault_of (one.Value value) = None
+fault_of (one.Double double) = None
 fault_of (one.Decimal text) = number_fault 0 0 text.items
 fault_of (one.List items) = list_fault items.items
 fault_of (one.Rows rows) = rows_fault rows.items

@@ -1,7 +1,8 @@
 -- The shape of what is put in a place of a query, with the number of its marks: a mark, a literal,
--- an exact number, an identifier, a keyword, or several of these in a list or a row.
+-- an exact number, a double, an identifier, a keyword, or several of these in a list or a row.
 use Rattle.std.specs.Prelude.{◌+◌, ℕ, Bool, IsTrue, IsFalse, List, [], ◌∷◌, ◌++◌, codes, ⊤}
 use Rattle.mysql_sql_text.specs.LiteralShape.{AreDigits, IsLiteral}
+use Rattle.mysql_float_literal.specs.DoubleShape.{IsDouble}
 use Rattle.mysql_fragments.specs.FragmentFaults.{escapes_end, is_keyword}
 use Rattle.mysql_fragments.specs.FragmentText.{identifier_text}
 
@@ -23,6 +24,8 @@ pub data IsFragment (mode : Bool) : ℕ → List ℕ → Type 0 where
   -- .. with a sign
   negative_decimal_fragment : (whole fraction : List ℕ) → AreDigits whole → AreDigits fraction →
       IsFragment mode 0 (codes "-" ++ (whole ++ (codes "." ++ fraction)))
+  -- a double: a number with an exponent
+  double_fragment : (text : List ℕ) → IsDouble text → IsFragment mode 0 text
   -- an identifier
   identifier_fragment : (text : List ℕ) → IsIdentifier text → IsFragment mode 0 text
   -- a keyword

@@ -5,6 +5,7 @@ use Rattle.std.specs.Prelude.{◌==◌, ℕ, List, [], ◌∷◌, ◌++◌, if�
 use Rattle.std.specs.List.{flat_map}
 use Rattle.std.specs.Global.{Vec}
 use Rattle.mysql_values.specs.declared.value.Value.{Value}
+use Rattle.mysql_float_literal.specs.DoubleText.{double_text}
 use Rattle.mysql_named_params.specs.Bytes.{backquote}
 use Rattle.mysql_fragments.specs.declared.fragment.Item.{Item}
 use Rattle.mysql_fragments.specs.declared.fragment.Item.TheVariants as item
@@ -33,6 +34,7 @@ identifier_text name = codes "`" ++ (doubled name ++ codes "`")
 abbrev pub item_text : Item → List ℕ
 item_text (item.Value value) = codes "?"
 item_text (item.Decimal number) = number.items
+item_text (item.Double double) = double_text double
 
 -- items with commas between them
 abbrev pub items_text : List Item → List ℕ
@@ -46,6 +48,7 @@ row_text row = codes "(" ++ (items_text row.items ++ codes ")")
 abbrev pub fragment_text : Fragment → List ℕ
 fragment_text (one.Value value) = codes "?"
 fragment_text (one.Decimal number) = number.items
+fragment_text (one.Double double) = double_text double
 fragment_text (one.List items) = items_text items.items
 fragment_text (one.Rows rows) = joined (codes ", ") (map row_text rows.items)
 fragment_text (one.Identifier name) = identifier_text name.items
@@ -57,11 +60,13 @@ fragment_text (one.Keyword keyword) = keyword.word.items
 abbrev pub item_values : Item → List Value
 item_values (item.Value value) = value ∷ []
 item_values (item.Decimal number) = []
+item_values (item.Double double) = []
 
 -- the values of a fragment, in the order of their marks
 abbrev pub fragment_values : Fragment → List Value
 fragment_values (one.Value value) = value ∷ []
 fragment_values (one.Decimal number) = []
+fragment_values (one.Double double) = []
 fragment_values (one.List items) = flat_map item_values items.items
 fragment_values (one.Rows rows) = flat_map (λ row. flat_map item_values row.items) rows.items
 fragment_values (one.Identifier name) = []

@@ -32,6 +32,7 @@ pub(crate) fn append_filled<F: LiteralForm>(
         Fragment::List(items) => append_items(text, at, items.as_slice(), form),
         Fragment::Rows(rows) => append_rows(text, at, rows.as_slice(), form),
         Fragment::Decimal(number) => append_piece(text, at, number.as_slice()),
+        Fragment::Double(double) => append_piece(text, at, double.as_bytes()),
         Fragment::Identifier(name) => append_identifier(text, at, name.as_slice()),
         Fragment::Qualified(names) => append_names(text, at, names.as_slice()),
         Fragment::Keyword(word) => append_piece(text, at, word.as_bytes()),
@@ -52,6 +53,7 @@ fn append_item<F: LiteralForm>(text: &mut [u8], at: usize, item: &Item, form: &F
     match item {
         Item::Value(value) => put_literal(text, at, value.borrowed(), form),
         Item::Decimal(number) => append_piece(text, at, number.as_slice()),
+        Item::Double(double) => append_piece(text, at, double.as_bytes()),
     }
 }
 

@@ -12,7 +12,7 @@ impl Fragment {
         ensures { result ≡ fault_of self.now }
     {
         match self {
-            Fragment::Value(_) => None,
+            Fragment::Value(_) | Fragment::Double(_) => None,
             Fragment::Decimal(text) => number_fault(text.as_slice(), 0, 0),
             Fragment::List(items) => list_fault(items.as_slice()),
             Fragment::Rows(rows) => rows_fault(rows.as_slice()),
@@ -51,7 +51,7 @@ fn item_fault(item: &Item, row: usize, index: usize) -> Option<FragmentFault>
     ensures { result ≡ item_fault row index item.now }
 {
     match item {
-        Item::Value(_) => None,
+        Item::Value(_) | Item::Double(_) => None,
         Item::Decimal(text) => number_fault(text.as_slice(), row, index),
     }
 }

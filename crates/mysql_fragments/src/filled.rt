@@ -89,6 +89,7 @@ fn push_filled<F: LiteralForm>(
         Fragment::List(items) => push_filled_items(text, items.as_slice(), form),
         Fragment::Rows(rows) => push_filled_rows(text, rows.as_slice(), form),
         Fragment::Decimal(number) => text.extend_from_slice(number.as_slice()),
+        Fragment::Double(double) => text.extend_from_slice(double.as_bytes()),
         Fragment::Identifier(name) => push_identifier(text, name.as_slice()),
         Fragment::Qualified(names) => push_names(text, names.as_slice()),
         Fragment::Keyword(word) => text.extend_from_slice(word.as_bytes()),
@@ -109,6 +110,7 @@ fn push_filled_item<F: LiteralForm>(
     match item {
         Item::Value(value) => push_literal(text, value, form),
         Item::Decimal(number) => text.extend_from_slice(number.as_slice()),
+        Item::Double(double) => text.extend_from_slice(double.as_bytes()),
     }
 }
 

@@ -1,6 +1,7 @@
 //! What stands in a place of a query.
 ghost use Rattle.std.specs.Prelude.{◌≡◌, IfOk};
 
+use mysql_float_literal::Double;
 use mysql_values::value::Value;
 use std::alloc::{AllocError, Global};
 use std::collections::HashMap;
@@ -12,6 +13,8 @@ pub enum Item {
     Value(Value),
     /// An exact number, as [`Fragment::Decimal`].
     Decimal(Vec<u8>),
+    /// A double, as [`Fragment::Double`].
+    Double(Double),
 }
 
 /// What is put in a place of a query.
@@ -22,6 +25,8 @@ pub enum Fragment {
     /// An exact number as it is written, as `-1.50`: at most one `-`, then at most 65 digits with
     /// at most one point between them. It is written bare, so that a server compares it exactly.
     Decimal(Vec<u8>),
+    /// A double as a number with an exponent, as `1.5e0`, which a server reads as this double.
+    Double(Double),
     /// Items with `, ` between them, as for `IN (?)`.
     List(Vec<Item>),
     /// Rows of items in brackets with `, ` between them, as for `VALUES ?`, all of one length.

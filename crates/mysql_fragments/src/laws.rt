@@ -5,9 +5,9 @@ ghost use Rattle.std.specs.Str.Parse.{digits_value};
 ghost use Rattle.mysql_values.specs.declared.value.Value.{Value};
 ghost use Rattle.mysql_sql_text.specs.LiteralEnd.{BeginsWithout};
 ghost use Rattle.mysql_sql_text.specs.LiteralShape.{AreDigits};
-ghost use Rattle.mysql_named_params.specs.Tokens.{Token, IsTokens};
+ghost use Rattle.mysql_named_params.specs.Tokens.{Token, AreTokensBefore, IsTokens, Plain};
 ghost use Rattle.mysql_named_params.specs.Places.{names};
-ghost use Rattle.mysql_named_params.specs.Portable.{AreReadAlike, IsPortable, IsReadAs};
+ghost use Rattle.mysql_named_params.specs.Portable.{AreReadAlike, AreReadAlikeBefore, IsPortable, IsReadAs};
 ghost use Rattle.mysql_named_params.specs.Quiet.{IsHonest, DecidesWithin};
 ghost use Rattle.mysql_named_params.specs.Server.{Server, IsReadOn};
 ghost use Rattle.mysql_named_params.specs.Client.{Client, IsReadBy, HoldNoOpener};
@@ -22,6 +22,7 @@ ghost use Rattle.mysql_binding.specs.Isolation.{IsBoundText};
 ghost use Rattle.mysql_binding.specs.Pieces.{pieces, joined_text};
 ghost use Rattle.mysql_binding.specs.Replaced.{AreTokensOf, with_literal_tokens};
 ghost use Rattle.mysql_binding.specs.StandsAlone.{first_not_alone, may_stand_after, none_or_first};
+ghost use Rattle.mysql_float_literal.specs.DoubleShape.{IsDouble};
 ghost use Rattle.mysql_fragments.specs.BorrowedFragments.{AreSaid, HaveFewCells};
 ghost use Rattle.mysql_fragments.specs.Expanded.{IsBoundFragments};
 ghost use Rattle.mysql_fragments.specs.FragmentErrors as fragments;
@@ -247,13 +248,14 @@ pub fn fragments_read_back()
 {}
 
 /// The text that is bound to a query with fragments is its pieces with a text for each fragment
-/// between them. In it each identifier and each exact number that is a fragment, followed by the
-/// text after it, reads as itself and leaves exactly that text, and each keyword is its bytes.
+/// between them. In it each identifier, exact number and double, followed by the text after it,
+/// reads as itself and leaves exactly that text, also within a list or rows. Each value is its
+/// literal, and each keyword is its bytes.
 pub fn fragments_read_in_place()
     ensures { (mode : Bool) (ts : List Token) (given : GivenFragments) (text : List ℕ) →
         (b : IsBoundFragments mode ts given text) → (texts : List (List ℕ))
         × (joined_text (pieces ts) texts ≡ Some text)
-        × ReadAsThemselves (pieces ts) b.expanded.fragments texts }
+        × ReadAsThemselves mode (pieces ts) b.expanded.fragments texts }
 {}
 
 /// If the fragments for the places are all values, then each text that is bound to them is bound to
@@ -271,4 +273,13 @@ pub fn values_bind_as_text()
         fragments_for given (names ts) ≡ Ok (map (λ value. fragment.Value value) values) →
         lookup params (names ts) ≡ Ok values → fragments.first_cause true ts given
         ≡ option_map same_cause (bound.first_cause ts params) }
+{}
+
+/// Each byte of a double's number is a token of its own, a plain byte, in both modes and before
+/// every text (`tokens`), and every honest server reads it so (`alike`).
+pub fn doubles_are_plain()
+    ensures tokens { (mode : Bool) (text rest : List ℕ) → IsDouble text →
+        AreTokensBefore mode rest (map Plain text) }
+    ensures alike { (text rest : List ℕ) → IsDouble text →
+        AreReadAlikeBefore rest (map Plain text) }
 {}

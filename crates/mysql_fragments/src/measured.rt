@@ -32,6 +32,7 @@ pub(crate) fn with_fragment<F: LiteralForm>(
         Fragment::List(items) => with_items(len, items.as_slice(), form),
         Fragment::Rows(rows) => with_rows(len, rows.as_slice(), form),
         Fragment::Decimal(number) => with_more(len, number.len() as u128),
+        Fragment::Double(double) => with_more(len, double.as_bytes().len() as u128),
         Fragment::Identifier(name) => with_identifier(len, name.as_slice()),
         Fragment::Qualified(names) => with_names(len, names.as_slice()),
         Fragment::Keyword(word) => with_more(len, word.as_bytes().len() as u128),
@@ -50,6 +51,7 @@ fn with_item<F: LiteralForm>(len: usize, item: &Item, form: &F) -> Option<usize>
     match item {
         Item::Value(value) => with_literal(len, value.borrowed(), form),
         Item::Decimal(number) => with_more(len, number.len() as u128),
+        Item::Double(double) => with_more(len, double.as_bytes().len() as u128),
     }
 }
 

@@ -23,6 +23,7 @@ pub fn push_fragment(text: &mut Vec<u8>, fragment: &Fragment) -> Result<(), Allo
             Ok(())
         }
         Fragment::Decimal(number) => text.extend_from_slice(number.as_slice()),
+        Fragment::Double(double) => text.extend_from_slice(double.as_bytes()),
         Fragment::List(items) => push_items(text, items.as_slice()),
         Fragment::Rows(rows) => push_rows(text, rows.as_slice()),
         Fragment::Identifier(name) => push_identifier(text, name.as_slice()),
@@ -42,6 +43,7 @@ fn push_item(text: &mut Vec<u8>, item: &Item) -> Result<(), AllocError>
             Ok(())
         }
         Item::Decimal(number) => text.extend_from_slice(number.as_slice()),
+        Item::Double(double) => text.extend_from_slice(double.as_bytes()),
     }
 }
 
@@ -121,6 +123,7 @@ pub(crate) fn push_values(values: &mut Vec<Value>, fragment: &Fragment) -> Resul
         Fragment::List(items) => push_item_values(values, items.as_slice()),
         Fragment::Rows(rows) => push_row_values(values, rows.as_slice()),
         Fragment::Decimal(_)
+        | Fragment::Double(_)
         | Fragment::Identifier(_)
         | Fragment::Qualified(_)
         | Fragment::Keyword(_) => Ok(()),
@@ -148,7 +151,7 @@ fn push_item_value(values: &mut Vec<Value>, item: &Item) -> Result<(), AllocErro
             values.push(value.clone()?)?;
             Ok(())
         }
-        Item::Decimal(_) => Ok(()),
+        Item::Decimal(_) | Item::Double(_) => Ok(()),
     }
 }
 
@@ -172,6 +175,7 @@ pub(crate) fn has_float(fragment: &Fragment) -> bool
         Fragment::List(items) => has_float_item(items.as_slice()),
         Fragment::Rows(rows) => has_float_row(rows.as_slice()),
         Fragment::Decimal(_)
+        | Fragment::Double(_)
         | Fragment::Identifier(_)
         | Fragment::Qualified(_)
         | Fragment::Keyword(_) => false,
@@ -198,7 +202,7 @@ fn is_float_item(item: &Item) -> bool
 {
     match item {
         Item::Value(value) => is_float(value),
-        Item::Decimal(_) => false,
+        Item::Decimal(_) | Item::Double(_) => false,
     }
 }
 

@@ -1,8 +1,8 @@
 //! Texts that are bound to fragments. The wanted texts are written by the rules of the MySQL
 //! Reference Manual, "Schema Object Names", "Numeric Literals" and "Comparison Functions and
 //! Operators".
-use crate::shared::Plain::{Decimal, Identifier, Keyword, List, Qualified, Rows};
-use crate::shared::PlainItem::{Decimal as Number, Int, Null};
+use crate::shared::Plain::{Decimal, Double, Identifier, Keyword, List, Qualified, Rows};
+use crate::shared::PlainItem::{Decimal as Number, Double as Binary, Int, Null};
 use crate::shared::{Plain, bound, fragment};
 use mysql_fragments::{Fragment, Fragments, bind_fragments, expanded_for_literals, expanded_query};
 use mysql_values::value::Value;
@@ -29,6 +29,22 @@ const TEXTS: &[(&[u8], Plain, &[u8])] = &[
     ),
     // 65 digits, which a server keeps.
     (b"?", Decimal(&[b'9'; 65]), &[b'9'; 65]),
+    // 1.5, -5e-324, the nearest double to 0.1, 2^53: the digits are those of Python's `repr`.
+    (b"a=?", Double(0x3ff8_0000_0000_0000), b"a=1.5e0"),
+    (b"1-?;", Double(0x8000_0000_0000_0001), b"1--5e-324;"),
+    (
+        b"a IN (?)",
+        List(&[Binary(0x3fb9_9999_9999_999a), Number(b"-1.50"), Null]),
+        b"a IN (0.1e0, -1.50, NULL)",
+    ),
+    (
+        b"VALUES ?",
+        Rows(&[
+            &[Int(1), Binary(0x4340_0000_0000_0000)],
+            &[Int(3), Binary(0x8000_0000_0000_0000)],
+        ]),
+        b"VALUES (1, 9007199254740992.0e0), (3, -0.0e0)",
+    ),
     (
         b"SELECT ? FROM t",
         Identifier(b"a`b"),

@@ -15,3 +15,5 @@ mod refused;
 mod room;
 #[cfg(test)]
 mod shared;
+#[cfg(test)]
+mod sizes;

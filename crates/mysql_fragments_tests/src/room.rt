@@ -1,6 +1,7 @@
 //! Texts that are bound to borrowed fragments, in a room. The wanted texts are written by the rules
 //! of the MySQL Reference Manual, "VALUES Statement", "Comparison Functions and Operators" and
 //! "String Literals".
+use crate::shared::{Plain, PlainItem, fragment};
 use mysql_fragments::{
     Fragment, FragmentFault, FragmentRef, FragmentsError, RowsRef, TextInRoom,
     bind_borrowed_fragments_into,
@@ -64,6 +65,26 @@ fn rows_in_a_room_of_their_length(rt: HostRuntime) {
             written(&told, &room, b"VALUES (1, 'it''s'), (-2, NULL);")
         }
         Err(_) => false,
+    };
+    assert!(rt; same);
+}
+
+// The doubles are 1.5 and 5e-324.
+#[test]
+fn doubles_in_a_room_of_their_length(rt: HostRuntime) {
+    let list = fragment(
+        rt.alloc(),
+        Plain::List(&[PlainItem::Double(1), PlainItem::Null]),
+    );
+    let alone = fragment(rt.alloc(), Plain::Double(0x3ff8_0000_0000_0000));
+    let mut room = [b'*'; 30];
+    let same = match (list, alone) {
+        (Ok(list), Ok(alone)) => {
+            let fragments = &[FragmentRef::Owned(&list), FragmentRef::Owned(&alone)];
+            let told = bind_borrowed_fragments_into(b"a IN (?) OR b=?", fragments, true, &mut room);
+            written(&told, &room, b"a IN (5e-324, NULL) OR b=1.5e0")
+        }
+        _ => false,
     };
     assert!(rt; same);
 }

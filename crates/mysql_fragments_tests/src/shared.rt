@@ -1,4 +1,5 @@
 //! Fragments as plain data, and what they give.
+use mysql_float_literal::Double;
 use mysql_fragments::{Fragment, Fragments, FragmentsError, Item, Keyword, bind_fragments};
 use mysql_values::value::Value;
 use std::alloc::{AllocError, Global};
@@ -10,12 +11,16 @@ pub(crate) enum PlainItem {
     Int(i64),
     Float(u32),
     Decimal(&'static [u8]),
+    // The bits of a double.
+    Double(u64),
 }
 
 /// A fragment as plain data.
 #[derive(Clone, Copy)]
 pub(crate) enum Plain {
     Decimal(&'static [u8]),
+    // The bits of a double.
+    Double(u64),
     List(&'static [PlainItem]),
     Rows(&'static [&'static [PlainItem]]),
     Identifier(&'static [u8]),
@@ -29,6 +34,10 @@ fn item(alloc: Global, plain: PlainItem) -> Result<Item, AllocError> {
         PlainItem::Int(number) => Ok(Item::Value(Value::Int(number))),
         PlainItem::Float(bits) => Ok(Item::Value(Value::Float(bits))),
         PlainItem::Decimal(text) => Ok(Item::Decimal(Vec::from_slice(alloc, text)?)),
+        PlainItem::Double(bits) => match Double::from_bits(bits) {
+            Some(double) => Ok(Item::Double(double)),
+            None => Ok(Item::Value(Value::Double(bits))),
+        },
     }
 }
 
@@ -60,6 +69,10 @@ fn names(alloc: Global, plain: &[&[u8]]) -> Result<Vec<Vec<u8>>, AllocError> {
 pub(crate) fn fragment(alloc: Global, plain: Plain) -> Result<Fragment, AllocError> {
     match plain {
         Plain::Decimal(text) => Ok(Fragment::Decimal(Vec::from_slice(alloc, text)?)),
+        Plain::Double(bits) => match Double::from_bits(bits) {
+            Some(double) => Ok(Fragment::Double(double)),
+            None => Ok(Fragment::Value(Value::Double(bits))),
+        },
         Plain::List(plain) => Ok(Fragment::List(items(alloc, plain)?)),
         Plain::Rows(plain) => Ok(Fragment::Rows(rows(alloc, plain)?)),
         Plain::Identifier(name) => Ok(Fragment::Identifier(Vec::from_slice(alloc, name)?)),

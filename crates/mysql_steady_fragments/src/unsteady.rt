@@ -57,6 +57,7 @@ fn is_steady_fragment(fragment: &Fragment) -> bool
     match fragment {
         Fragment::Value(_) => true,
         Fragment::Decimal(number) => is_steady_text(number.as_slice()),
+        Fragment::Double(double) => is_steady_text(double.as_bytes()),
         Fragment::List(items) => are_steady_items(items.as_slice()),
         Fragment::Rows(rows) => are_steady_rows(rows.as_slice()),
         Fragment::Identifier(name) => is_steady_text(name.as_slice()),
@@ -79,6 +80,7 @@ fn is_steady_item(item: &Item) -> bool
     match item {
         Item::Value(_) => true,
         Item::Decimal(number) => is_steady_text(number.as_slice()),
+        Item::Double(double) => is_steady_text(double.as_bytes()),
     }
 }
 

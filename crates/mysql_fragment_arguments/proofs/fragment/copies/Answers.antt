@@ -1,4 +1,4 @@
-use Rattle.std.proofs.Common.{◌≡◌, ◌++◌, ◌∷◌, [], ap, sym, ◌∙◌, take}
+use Rattle.std.proofs.Common.{◌++◌, ◌∷◌, [], ap, sym, ◌∙◌, take}
 use Rattle.std.proofs.lemmas.List.{map-append}
 use Rattle.mysql_params_core.specs.Names.{names_of}
 use Rattle.mysql_params_core.specs.Referents.{referents}
