@@ -1,2 +1,3 @@
 pub mod ContentMapLemmas
 pub mod WalkLemmas
+mod NanLemmas

@@ -1,7 +1,10 @@
 -- What arguments say as items, as rows and as fragments, or the duration that is too long for a
 -- value. A type of a caller's own names what it says.
-use Rattle.std.specs.Prelude.{List, [], ◌∷◌, ◌++◌, Result, Ok, Err, fold}
+use Rattle.std.specs.Prelude.{List, [], ◌∷◌, ◌++◌, Result, Ok, Err, fold, if◌then◌else◌, to_bits}
+use Rattle.std.specs.Float.{binary64, float_is_finite}
+use Rattle.std.specs.Float.Ieee.{Float}
 use Rattle.std.specs.declared.time.Duration.{Duration}
+use Rattle.mysql_value_core.specs.declared.value.Value.TheVariants.{Double}
 use Rattle.mysql_fragment_arguments.specs.FragmentContent.{ItemContent, value_item, number_item, double_item, FragmentContent, value, number, double}
 
 -- an item, or the duration that is too long for its value
@@ -31,6 +34,11 @@ with_one (Err duration) one = Err duration
 -- all that is said, in order, or the first duration that is too long
 abbrev pub all_said : {X : Type 0} → List (Result X Duration) → Result (List X) Duration
 all_said each = fold with_one (Ok []) each
+
+-- a double; a NaN and an infinity as values, since they have no number
+abbrev pub said_double : Float → ItemContent
+said_double x =
+    if float_is_finite x then double_item x else value_item (Double (to_bits binary64 x))
 
 -- an item that stands alone
 abbrev pub alone : ItemContent → FragmentContent

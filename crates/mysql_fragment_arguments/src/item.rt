@@ -1,15 +1,17 @@
 //! Items of lists and rows.
-ghost use Rattle.std.specs.Prelude.{Ok, ⊤};
+ghost use Rattle.std.specs.Prelude.{◌≡◌, Ok, to_bits, ⊤};
+ghost use Rattle.std.specs.Float.{binary64};
 ghost use Rattle.mysql_values.specs.Answer.{IsAnswer};
 ghost use Rattle.mysql_values.specs.ValueOf.{too_long_duration};
 ghost use Rattle.mysql_fragment_arguments.specs.FragmentContent.{item_content, number_item, value_item};
-ghost use Rattle.mysql_fragment_arguments.specs.Arguments.{SaidItem, made_of};
+ghost use Rattle.mysql_fragment_arguments.specs.Arguments.{SaidItem, made_of, said_double};
 
 use mysql_fragments::Item;
+use mysql_values::value::Value;
 use mysql_values::value::convert::{ToValue, ToValueError};
 use std::alloc::Global;
 
-/// What makes an item of a list or a row: what has a value, or a [`Decimal`].
+/// What makes an item of a list or a row: what has a value, a [`Decimal`] or a [`DoubleOf`].
 pub trait ToItem {
     // what the item says, or the duration that is too long for its value
     ghost said_item: { Self → SaidItem };
@@ -45,5 +47,49 @@ impl<'a> ToItem for Decimal<'a> {
 
     fn to_item(&self, alloc: Global) -> Result<Item, ToValueError> {
         Ok(Item::Decimal(Vec::from_slice(alloc, self.0)?))
+    }
+}
+
+/// The double of an `f64` or an `f32`, as a number with an exponent:
+/// [`Item::Double`](mysql_fragments::Item::Double). A float is widened to the double of the same
+/// value. A NaN and an infinity have no number: they are values, which are refused as `Float` where
+/// they are bound.
+#[derive(Clone, Copy)]
+pub struct DoubleOf<T>(pub T);
+
+impl ToItem for DoubleOf<f64> {
+    ghost said_item = { λ double. Ok (said_double double.0) };
+
+    fn to_item(&self, _alloc: Global) -> Result<Item, ToValueError> {
+        Ok(double_item(self.0))
+    }
+}
+
+impl ToItem for DoubleOf<f32> {
+    ghost said_item = { λ float. Ok (said_double float.0) };
+
+    fn to_item(&self, _alloc: Global) -> Result<Item, ToValueError> {
+        Ok(double_item(f64::from(self.0)))
+    }
+}
+
+// The item of a double.
+fn double_item(double: f64) -> Item
+    ensures { item_content result ≡ said_double double }
+{
+    match mysql_float_literal::Double::new(double) {
+        Some(number) => Item::Double(number),
+        None => Item::Value(Value::Double(bits_of(double))),
+    }
+}
+
+// The bits of a double: those of a NaN are always the same.
+fn bits_of(double: f64) -> u64
+    ensures { result ≡ to_bits binary64 double }
+{
+    if double.is_nan() {
+        0x7ff8_0000_0000_0000
+    } else {
+        double.to_bits()
     }
 }

@@ -13,7 +13,7 @@ mod rows;
 mod tuples;
 
 pub use fragment::{Identifier, Qualified, ToFragment, Word};
-pub use item::{Decimal, ToItem};
+pub use item::{Decimal, DoubleOf, ToItem};
 pub use list::ListOf;
 pub use pairs::ToFragments;
 pub use rows::{RowsOf, ToRow};

@@ -1,7 +1,9 @@
 //! Fragments that arguments make. The wanted texts are written by the rules of the MySQL Reference
 //! Manual, "Schema Object Names", "Numeric Literals" and "Row Subqueries".
-use mysql_fragment_arguments::{Decimal, Identifier, ListOf, Qualified, RowsOf, ToFragments, Word};
-use mysql_fragments::bind_fragments;
+use mysql_fragment_arguments::{
+    Decimal, DoubleOf, Identifier, ListOf, Qualified, RowsOf, ToFragments, Word,
+};
+use mysql_fragments::{FragmentsError, bind_fragments};
 use mysql_params_core::params::ToParamsError;
 use mysql_values::value::convert::ToValueError;
 use std::alloc::Global;
@@ -97,6 +99,56 @@ fn eight_of_each(rt: HostRuntime) {
         b"1,2,3,4,5,6,7,(1, 2, 3, 4, 5, 6, 7, 8)",
     );
     assert!(rt; same);
+}
+
+// A float is written as the double of its value: 0.1 as one of 32 bits isn't the double 0.1.
+#[test]
+fn doubles_and_floats(rt: HostRuntime) {
+    let list = [DoubleOf(0.5), DoubleOf(-0.0)];
+    let rows = [(1u8, DoubleOf(1e300)), (2, DoubleOf(0.1))];
+    let arguments = (
+        ("a", DoubleOf(-1.5e-7)),
+        ("b", DoubleOf(0.1f32)),
+        ("c", ListOf(list.as_slice())),
+        ("d", RowsOf(rows.as_slice())),
+    );
+    let same = arguments_give(
+        rt.alloc(),
+        b":a, :b, (:c), :d",
+        &arguments,
+        b"-1.5e-7, 0.10000000149011612e0, (0.5e0, -0.0e0), (1, 1e300), (2, 0.1e0)",
+    );
+    assert!(rt; same);
+}
+
+// Whether arguments are refused for a float in this place.
+fn is_float<A: ToFragments>(alloc: Global, arguments: &A, wanted: usize) -> bool {
+    match arguments.to_fragments(alloc) {
+        Ok(fragments) => match bind_fragments(alloc, b":a, :b", &fragments) {
+            Err(FragmentsError::Float { place }) => place == wanted,
+            _ => false,
+        },
+        Err(_) => false,
+    }
+}
+
+#[test]
+fn doubles_without_a_number_are_refused(rt: HostRuntime) {
+    let list = [DoubleOf(1.5), DoubleOf(f64::NAN)];
+    let infinite = is_float(rt.alloc(), &(("a", DoubleOf(f64::INFINITY)), ("b", 1u8)), 0);
+    assert!(rt; infinite);
+    let listed = is_float(
+        rt.alloc(),
+        &(("a", DoubleOf(1.5)), ("b", ListOf(list.as_slice()))),
+        1,
+    );
+    assert!(rt; listed);
+    let float = is_float(
+        rt.alloc(),
+        &(("a", DoubleOf(1.5)), ("b", DoubleOf(f32::NEG_INFINITY))),
+        1,
+    );
+    assert!(rt; float);
 }
 
 // Whether arguments are refused for this name, which is that of two.
