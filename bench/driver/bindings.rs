@@ -260,7 +260,11 @@ fn append_text(random: &mut Random, form: &mut Vec<u8>) -> Value {
 }
 
 fn append_float(random: &mut Random, form: &mut Vec<u8>) -> Value {
-    let bits = random.number();
+    let mut bits = random.number();
+    if random.one_in(4) {
+        // An infinity or a NaN, of 64 and of 32 bits.
+        bits |= 0x7ff0_0000_7f80_0000;
+    }
     if random.one_in(2) {
         append_type(random, form, &[form::DOUBLE], false);
         form.extend_from_slice(&bits.to_le_bytes());

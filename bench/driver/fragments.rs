@@ -1,8 +1,8 @@
-//! A list of a hundred thousand numbers, and as many rows of three values, in one place.
+//! A list of a hundred thousand numbers, one of doubles, and as many rows of three values, in one place.
 
 use crate::archive;
 use crate::time::{Input, Side};
-use plain::form::{append_head, append_string, BLOB, LONGLONG, NULL};
+use plain::form::{append_head, append_string, BLOB, DOUBLE, LONGLONG, NULL};
 use plain::fragments::Fragment;
 use plain::room::DONE;
 use plain::value::Value;
@@ -22,6 +22,7 @@ pub const FRAGMENTS: [&str; 4] =
 /// What a caller has.
 enum Things {
     Numbers(Vec<i64>),
+    Doubles(Vec<f64>),
     /// A number, a text, and a number that may be missing.
     Rows(Vec<(i64, Vec<u8>, Option<i64>)>),
 }
@@ -39,6 +40,11 @@ pub fn inputs() -> Vec<FragmentInput> {
             name: "a list of 100000 numbers",
             query: b"SELECT * FROM t WHERE id IN (?)",
             things: Things::Numbers((0..COUNT as i64).map(|at| 1000 * at).collect()),
+        },
+        FragmentInput {
+            name: "a list of 100000 doubles",
+            query: b"SELECT * FROM t WHERE x IN (?)",
+            things: Things::Doubles((0..COUNT).map(|at| (at as f64).sqrt() - 100.0).collect()),
         },
         FragmentInput {
             name: "100000 rows of three values",
@@ -66,6 +72,14 @@ fn form_of(things: &Things) -> Vec<u8> {
             append_count(&mut form, numbers.len());
             numbers.iter().for_each(|number| append_number(&mut form, *number));
         }
+        Things::Doubles(doubles) => {
+            append_head(&mut form, b"", LIST, false);
+            append_count(&mut form, doubles.len());
+            for double in doubles {
+                form.extend_from_slice(&[DOUBLE, 0]);
+                form.extend_from_slice(&double.to_bits().to_le_bytes());
+            }
+        }
         Things::Rows(rows) => {
             append_head(&mut form, b"", ROWS, false);
             append_count(&mut form, rows.len());
@@ -88,6 +102,9 @@ fn fragment_of(things: &Things) -> Fragment {
     match things {
         Things::Numbers(numbers) => {
             Fragment::List(numbers.iter().map(|number| Value::Int(*number)).collect())
+        }
+        Things::Doubles(doubles) => {
+            Fragment::List(doubles.iter().map(|double| Value::Double(double.to_bits())).collect())
         }
         Things::Rows(rows) => {
             let row = |(number, text, missing): &(i64, Vec<u8>, Option<i64>)| {

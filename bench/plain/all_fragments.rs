@@ -8,7 +8,7 @@ use crate::portable::first_unportable;
 use crate::query::next_place;
 use crate::room::{FAULT, Report, UNSTEADY_FRAGMENT, bind_answer, fill_text, form_answer};
 use crate::search::Search;
-use crate::value::{Value, append_literal, append_steady_literal};
+use crate::value::{Value, append_double, append_literal, append_steady_literal, finite_double};
 
 pub const DECIMAL: u8 = 128;
 pub const LIST: u8 = 129;
@@ -286,8 +286,12 @@ fn items(fragment: &Fragment) -> Vec<&Item> {
     }
 }
 
+/// Whether a value is a NaN or an infinity.
 fn has_float(fragment: &Fragment) -> bool {
-    let is_float = |item: &&Item| matches!(item, Item::Value(Value::Float(_) | Value::Double(_)));
+    let is_float = |item: &&Item| match item {
+        Item::Value(value @ (Value::Float(_) | Value::Double(_))) => finite_double(value).is_none(),
+        _ => false,
+    };
     items(fragment).iter().any(is_float)
 }
 
@@ -360,7 +364,10 @@ fn written(
     let item = |item: &Item| match item {
         Item::Value(value) => {
             let mut text = Vec::new();
-            assert!(append(&mut text, value), "a float");
+            match finite_double(value) {
+                Some(double) => append_double(&mut text, double),
+                None => assert!(append(&mut text, value), "a float"),
+            }
             text
         }
         Item::Decimal(text) => text.clone(),

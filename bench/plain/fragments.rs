@@ -6,7 +6,7 @@ use crate::form::{FormError, Rest};
 use crate::query::next_place;
 use crate::room::{DONE, Report, fill_text};
 use crate::search::Search;
-use crate::value::{Value, append_literal, literal_room};
+use crate::value::{Value, append_double, append_literal, finite_double, literal_room};
 
 const LIST: u64 = 129;
 const ROWS: u64 = 130;
@@ -18,7 +18,7 @@ pub enum Fragment {
 }
 
 /// The text, unless there isn't one mark that stands alone, something is empty, the rows differ in
-/// width, or a value is a float.
+/// width, or a value is a NaN or an infinity.
 #[inline(always)]
 pub fn bind<S: Search>(query: &[u8], fragment: &Fragment) -> Option<Vec<u8>> {
     let (start, end) = next_place::<S>(query, 0)?;
@@ -61,7 +61,10 @@ fn append_items<S: Search>(text: &mut Vec<u8>, items: &[Value]) -> Option<()> {
         if at > 0 {
             text.extend_from_slice(b", ");
         }
-        append_literal::<S>(text, item).then_some(())?;
+        match finite_double(item) {
+            Some(double) => append_double(text, double),
+            None => append_literal::<S>(text, item).then_some(())?,
+        }
     }
     Some(())
 }

@@ -2,6 +2,7 @@
 
 use crate::search::Search;
 use std::collections::HashMap;
+use std::io::Write;
 
 #[derive(Clone, Debug, PartialEq)]
 pub enum Value {
@@ -73,6 +74,30 @@ pub fn append_literal<S: Search>(text: &mut Vec<u8>, value: &Value) -> bool {
         Value::Time(..) => append_time(text, value),
     }
     true
+}
+
+/// The double of the value of a float or a double, if it is finite.
+pub fn finite_double(value: &Value) -> Option<f64> {
+    let double = match value {
+        Value::Float(bits) => f32::from_bits(*bits).into(),
+        Value::Double(bits) => f64::from_bits(*bits),
+        _ => return None,
+    };
+    double.is_finite().then_some(double)
+}
+
+/// Appends the number of a finite double: the fewest digits that read as it, and an exponent. From 0.00001 to 10^16 the
+/// exponent is 0.
+pub fn append_double(text: &mut Vec<u8>, double: f64) {
+    let size = double.abs();
+    let written = if size == 0.0 || (1e-4..1e16).contains(&size) {
+        write!(text, "{double:?}e0")
+    } else if (1e-5..1e-4).contains(&size) {
+        write!(text, "{double}e0")
+    } else {
+        write!(text, "{double:e}")
+    };
+    written.expect("a vector takes what is written")
 }
 
 /// Appends the steady literal of a value; a float has none.

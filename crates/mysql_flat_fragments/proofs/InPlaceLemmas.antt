@@ -19,9 +19,10 @@ use Rattle.mysql_fragments.specs.declared.fragment.Fragment.{Fragment}
 use Rattle.mysql_fragments.specs.declared.fragment.Fragment.TheVariants as one
 use Rattle.mysql_fragments.specs.declared.fragment_ref.FragmentRef.TheVariants as borrowed
 use Rattle.mysql_fragments.proofs.SaidExistLemmas.{one_said}
+use Rattle.mysql_flat_fragments.specs.FiniteDouble.{fragment_of_value}
 use Rattle.mysql_flat_fragments.specs.FlatFragments.{map_form, read_all, read_fragment_of, read_items}
 use Rattle.mysql_flat_fragments.specs.FormInPlace.{IsKeptAs, cell_content, rows_content}
-use Rattle.mysql_flat_fragments.specs.FragmentContent.{content_of, item_content, items_content, list, rows, value}
+use Rattle.mysql_flat_fragments.specs.FragmentContent.{content_of, item_content, items_content, list, rows}
 use Rattle.mysql_flat_fragments.specs.declared.in_place.FragmentInPlace.TheVariants as kept
 use Rattle.mysql_flat_fragments.specs.declared.rows_in_place.RowsInPlace.{RowsInPlace}
 
@@ -95,7 +96,7 @@ one_chunk_more width (suc count) xs more e w =
 -- a number that is none of this library's own types is that of a value
 module _ (place position flags : ℕ) (bytes : List ℕ) where
   pub value_typed : (n : ℕ) → (n < 128) ⊎ (133 < n) → read_fragment_of place position n flags bytes
-      ≡ map_form value (read_of_type place position n (column_type n) (is_unsigned_parameter flags) bytes)
+      ≡ map_form fragment_of_value (read_of_type place position n (column_type n) (is_unsigned_parameter flags) bytes)
   value_typed n apart =
       rw (ne_eqb n 128 (other 128 (omega arith) (omega arith)))
       (rw (ne_eqb n 129 (other 129 (omega arith) (omega arith)))
@@ -125,7 +126,7 @@ module _ (place position flags : ℕ) (bytes : List ℕ) where
       IsExpectedRefusal (read_fragment_of place position n flags bytes) ⊤ refusal
   value_refused n refusal apart h =
       refusal_expected_too (read_of_type place position n (column_type n) (is_unsigned_parameter flags) bytes) (read_fragment_of place position n flags bytes) ⊤ ⊤ refusal
-      (λ why e. value_typed n apart ∙ ap (map_form value) e) (λ t. t) h
+      (λ why e. value_typed n apart ∙ ap (map_form fragment_of_value) e) (λ t. t) h
 
 -- rows that are lent are the same rows
 pub rows_lent : (r : RowsInPlace) (b : RowsRef) → b.cells.now ≡ r.cells.items → b.width ≡ r.width →

@@ -1,7 +1,8 @@
 -- The flat form of fragments. Parameters stand one after another up to the end of the form, as in
 -- the flat form of parameters (FlatForm.antt): each as its name, a length-encoded string (of no
 -- bytes: by position); a byte, the number of a type; a byte of flags; and what a parameter of this
--- type has. A column type has its value in binary form, as there. Six numbers are types of this
+-- type has. A column type has its value in binary form, as there; a finite float or double is a
+-- double here, which is written as a number. Six numbers are types of this
 -- library's own, for what isn't one value: no column type has a number from 21 to 241
 -- (ColumnNumbers.antt), and these stand in between, since the protocol took new ones at both ends.
 -- Their flags say nothing. A count is four bytes, least first ("Protocol::FixedLengthInteger"), so
@@ -13,7 +14,8 @@ use Rattle.mysql_flat_params.specs.ColumnNumbers.{column_type, is_unsigned_param
 use Rattle.mysql_flat_params.specs.FlatForm.{FormRefusal, FormReading, form_end, mixed_form, repeated_name, in_parameter, read_name, read_of_type}
 use Rattle.mysql_fragments.specs.GivenFragments.{GivenFragments, named, positional}
 use Rattle.mysql_fragments.specs.declared.fragment.Fragment.{Fragment}
-use Rattle.mysql_flat_fragments.specs.FragmentContent.{ItemContent, value_item, number_item, FragmentContent, value, number, list, rows, identifier, qualified, keyword, content_of}
+use Rattle.mysql_flat_fragments.specs.FiniteDouble.{item_of_value, fragment_of_value}
+use Rattle.mysql_flat_fragments.specs.FragmentContent.{ItemContent, number_item, FragmentContent, number, list, rows, identifier, qualified, keyword, content_of}
 use Rattle.mysql_flat_fragments.specs.Keywords.{listed_keyword}
 
 -- ---- the types of this library's own
@@ -72,11 +74,11 @@ abbrev pub read_all : {X : Type 0} → (place position : ℕ) → (List ℕ → 
 read_all place position read_one bytes =
     and_then_form (read_count place position bytes) (λ count rest. read_each read_one count [] rest)
 
--- an item after the number of its type and its flags: an exact number, or a value
+-- an item after the number of its type and its flags: an exact number, a double or a value
 abbrev pub read_item_of : (place position number flags : ℕ) → List ℕ → FormReading ItemContent
 read_item_of place position type flags bytes =
     if type == number_type then map_form number_item (read_name place position bytes)
-    else map_form value_item
+    else map_form item_of_value
     (read_of_type place position type (column_type type) (is_unsigned_parameter flags) bytes)
 
 -- an item of a list or a row
@@ -106,7 +108,7 @@ read_fragment_of place position type flags bytes =
     then map_form qualified (read_all place position (read_name place position) bytes)
     else if type == keyword_type
     then map_form keyword (read_keyword place position bytes)
-    else map_form value
+    else map_form fragment_of_value
     (read_of_type place position type (column_type type) (is_unsigned_parameter flags) bytes)
 
 -- a fragment, with its type and its flags

@@ -1,4 +1,5 @@
 pub mod FragmentContent
+pub mod FiniteDouble
 pub mod Keywords
 pub mod FlatFragments
 pub mod FormInPlace

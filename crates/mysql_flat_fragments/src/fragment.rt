@@ -1,18 +1,22 @@
 //! One fragment.
-ghost use Rattle.std.specs.Prelude.{⊤};
+ghost use Rattle.std.specs.Prelude.{◌≡◌, IfOk, ⊤};
 ghost use Rattle.mysql_wire_part.specs.Answer.{IsAnswer};
 ghost use Rattle.mysql_wire_part.specs.ParseBuf.{left};
+ghost use Rattle.mysql_values.specs.BorrowedValue.{owned};
 ghost use Rattle.mysql_flat_params.specs.FormErrors.{form_refusal};
+ghost use Rattle.mysql_flat_fragments.specs.FiniteDouble.{fragment_of_value};
 ghost use Rattle.mysql_flat_fragments.specs.FlatFragments.{read_fragment, read_fragment_of, read_keyword};
 ghost use Rattle.mysql_flat_fragments.specs.FragmentContent.{content_of};
 
+use crate::double::double_in;
 use crate::items::{NUMBER, eat_items, eat_rows};
 use crate::keywords::listed_keyword;
-use crate::parts::{Spot, eat_name, eat_names, eat_text, eat_value};
+use crate::parts::{Spot, eat_name, eat_names, eat_text, eat_value_ref};
 use mysql_flat_params::FormError;
 use mysql_fragments::{Fragment, Keyword};
+use mysql_values::value::ValueRef;
 use mysql_wire_part::ParseBuf;
-use std::alloc::Global;
+use std::alloc::{AllocError, Global};
 
 // The numbers of the other types of this library's own.
 pub(crate) const LIST: u8 = 129;
@@ -70,7 +74,25 @@ fn eat_fragment_of(
     } else if number == KEYWORD {
         Ok(Fragment::Keyword(eat_keyword(alloc, spot, rest)?))
     } else {
-        Ok(Fragment::Value(eat_value(alloc, spot, number, flags, rest)?))
+        let value = eat_value_ref(spot, number, flags, rest)?;
+        match fragment_of(alloc, value) {
+            Ok(fragment) => Ok(fragment),
+            Err(error) => Err(FormError::Memory(error)),
+        }
+    }
+}
+
+// The fragment that a value says.
+fn fragment_of(alloc: Global, value: ValueRef<'_>) -> Result<Fragment, AllocError>
+    ensures { IfOk result (λ fragment.
+        content_of fragment ≡ fragment_of_value (owned value.entry)) }
+{
+    match double_in(value) {
+        Some(double) => Ok(Fragment::Double(double)),
+        None => match value.to_value(alloc) {
+            Ok(value) => Ok(Fragment::Value(value)),
+            Err(error) => Err(error),
+        },
     }
 }
 

@@ -7,10 +7,12 @@ ghost use Rattle.mysql_values.specs.BorrowedValue.{owned};
 ghost use Rattle.mysql_flat_params.specs.FormErrors.{form_refusal};
 ghost use Rattle.mysql_fragments.specs.BorrowedFragments.{Says};
 ghost use Rattle.mysql_fragments.specs.declared.fragment.Fragment as said_fragment;
+ghost use Rattle.mysql_flat_fragments.specs.FiniteDouble.{fragment_of_value};
 ghost use Rattle.mysql_flat_fragments.specs.FlatFragments.{read_all, read_each, read_fragment, read_fragment_of, read_item, read_items};
 ghost use Rattle.mysql_flat_fragments.specs.FragmentContent.{content_of, value_item};
 ghost use Rattle.mysql_flat_fragments.specs.FormInPlace.{IsKeptAs, cell_content, rows_content};
 
+use crate::double::double_in;
 use crate::fragment::{KEYWORD, LIST, ROWS, eat_fragment};
 use crate::items::NUMBER;
 use crate::parts::{Spot, eat_value_ref};
@@ -31,8 +33,8 @@ pub(crate) enum FragmentInPlace<'f> {
     Value(ValueRef<'f>),
     List(Vec<ValueRef<'f>>),
     Rows(RowsInPlace<'f>),
-    /// A fragment of another kind, a list or rows with an exact number in them, no rows, and rows
-    /// that are empty or of two lengths.
+    /// A fragment of another kind, a list or rows with an exact number or a double in them, no
+    /// rows, and rows that are empty or of two lengths.
     Copied(Fragment),
 }
 
@@ -75,7 +77,7 @@ pub(crate) fn eat_in_place<'f>(
         return match eat_value_ref(spot, number, flags, &mut ahead) {
             Ok(value) => {
                 *rest = ahead;
-                Ok(FragmentInPlace::Value(value))
+                Ok(kept_value(value))
             }
             Err(error) => Err(error),
         };
@@ -90,6 +92,17 @@ pub(crate) fn eat_in_place<'f>(
             Err(error) => Err(error),
         },
         Err(error) => Err(FormError::Memory(error)),
+    }
+}
+
+// A value that is no item, kept: of a finite double its number.
+fn kept_value(value: ValueRef<'_>) -> FragmentInPlace<'_>
+    ensures { (said : said_fragment.Fragment) × IsKeptAs result said
+        × (content_of said ≡ fragment_of_value (owned value.entry)) }
+{
+    match double_in(value) {
+        Some(double) => FragmentInPlace::Copied(Fragment::Double(double)),
+        None => FragmentInPlace::Value(value),
     }
 }
 
@@ -239,7 +252,7 @@ fn eat_values<'f>(
     Ok(true)
 }
 
-// The item at the front, if it is a value that is read.
+// The item at the front, if it is a value that is read, and no finite double.
 fn eat_value_item<'f>(spot: Spot, rest: &mut ParseBuf<'f>) -> Option<ValueRef<'f>>
     ensures { IfSome result (λ value. read_item spot.place spot.position (left rest.old)
         ≡ Ok (value_item (owned value), left rest.new)) }
@@ -253,5 +266,9 @@ fn eat_value_item<'f>(spot: Spot, rest: &mut ParseBuf<'f>) -> Option<ValueRef<'f
         return None;
     }
     *rest = ParseBuf(bytes);
-    eat_value_ref(spot, number, flags, rest).ok()
+    let value = eat_value_ref(spot, number, flags, rest).ok()?;
+    match double_in(value) {
+        Some(_) => None,
+        None => Some(value),
+    }
 }

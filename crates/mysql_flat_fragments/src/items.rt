@@ -1,14 +1,18 @@
 //! Lists and rows.
-ghost use Rattle.std.specs.Prelude.{⊤, map};
+ghost use Rattle.std.specs.Prelude.{◌≡◌, IfOk, ⊤, map};
 ghost use Rattle.mysql_wire_part.specs.Answer.{IsAnswer};
 ghost use Rattle.mysql_wire_part.specs.ParseBuf.{left};
+ghost use Rattle.mysql_values.specs.BorrowedValue.{owned};
 ghost use Rattle.mysql_flat_params.specs.FormErrors.{form_refusal};
+ghost use Rattle.mysql_flat_fragments.specs.FiniteDouble.{item_of_value};
 ghost use Rattle.mysql_flat_fragments.specs.FlatFragments.{read_all, read_item, read_item_of, read_items};
 ghost use Rattle.mysql_flat_fragments.specs.FragmentContent.{item_content, items_content};
 
-use crate::parts::{Spot, eat_count, eat_text, eat_value};
+use crate::double::double_in;
+use crate::parts::{Spot, eat_count, eat_text, eat_value_ref};
 use mysql_flat_params::FormError;
 use mysql_fragments::Item;
+use mysql_values::value::ValueRef;
 use mysql_wire_part::ParseBuf;
 use std::alloc::{AllocError, Global};
 
@@ -100,9 +104,23 @@ fn eat_item_of(
             Err(error) => Err(error),
         }
     } else {
-        match eat_value(alloc, spot, number, flags, rest) {
+        let value = eat_value_ref(spot, number, flags, rest)?;
+        match item_of(alloc, value) {
+            Ok(item) => Ok(item),
+            Err(error) => Err(FormError::Memory(error)),
+        }
+    }
+}
+
+// The item that a value says.
+fn item_of(alloc: Global, value: ValueRef<'_>) -> Result<Item, AllocError>
+    ensures { IfOk result (λ item. item_content item ≡ item_of_value (owned value.entry)) }
+{
+    match double_in(value) {
+        Some(double) => Ok(Item::Double(double)),
+        None => match value.to_value(alloc) {
             Ok(value) => Ok(Item::Value(value)),
             Err(error) => Err(error),
-        }
+        },
     }
 }

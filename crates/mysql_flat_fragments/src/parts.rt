@@ -11,7 +11,7 @@ ghost use Rattle.mysql_flat_params.specs.FormErrors.{form_refusal};
 ghost use Rattle.mysql_flat_fragments.specs.FlatFragments.{read_all, read_count};
 
 use mysql_flat_params::{FormError, column_type};
-use mysql_values::value::{Value, ValueRef, read_binary_value};
+use mysql_values::value::{ValueRef, read_binary_value};
 use mysql_wire_part::{ColumnFlags, Flags, ParseBuf, WireError};
 use std::alloc::{AllocError, Global};
 
@@ -94,25 +94,6 @@ pub(crate) fn eat_names(
         count -= 1;
     }
     Ok(names)
-}
-
-/// A copy of the value of a parameter whose type has this number, after its flags.
-pub(crate) fn eat_value(
-    alloc: Global,
-    spot: Spot,
-    number: u8,
-    flags: u8,
-    rest: &mut ParseBuf<'_>,
-) -> Result<Value, FormError>
-    ensures { IsAnswer (λ value. (value, left rest.new)) form_refusal
-        (read_of_type spot.place spot.position number (column_type number)
-        (is_unsigned_parameter flags) (left rest.old)) ⊤ result }
-{
-    let value = eat_value_ref(spot, number, flags, rest)?;
-    match value.to_value(alloc) {
-        Ok(value) => Ok(value),
-        Err(error) => Err(FormError::Memory(error)),
-    }
 }
 
 /// The value of a parameter whose type has this number, after its flags.

@@ -24,6 +24,12 @@ const TEXTS: &[(&[u8], &[u8], &[u8])] = &[
         b"\0\x81\0\x04\0\0\0\x01\0\x07\x80\0\x05-1.50\xfd\0\x04it's\xfd\0\x01\xff",
         b"a IN (7, -1.50, _utf8mb4'it''s', 0xFF)",
     ),
+    // A list of the doubles 1.5 and -0.
+    (
+        b"a IN (?)",
+        b"\0\x81\0\x02\0\0\0\x05\0\0\0\0\0\0\0\xf8\x3f\x05\0\0\0\0\0\0\0\0\x80",
+        b"a IN (1.5e0, -0.0e0)",
+    ),
     // By name: a row with a backslash and the letter e with an acute, and a name with a backquote.
     (
         b":t VALUES :r",

@@ -12,6 +12,19 @@ const TEXTS: &[(&[u8], &[u8], &[u8])] = &[
     (b"a = ?", b"\0\x01\0\x07", b"a = 7"),
     // An exact number.
     (b"a = ?", b"\0\x80\0\x05-1.50", b"a = -1.50"),
+    // The doubles 1.5 and -0, the float that is nearest to 0.1, and 1.5 with 7 in a list.
+    (b"a = ?", b"\0\x05\0\0\0\0\0\0\0\xf8\x3f", b"a = 1.5e0"),
+    (b"a = ?", b"\0\x05\0\0\0\0\0\0\0\0\x80", b"a = -0.0e0"),
+    (
+        b"a = ?",
+        b"\0\x04\0\xcd\xcc\xcc\x3d",
+        b"a = 0.10000000149011612e0",
+    ),
+    (
+        b"a IN (?)",
+        b"\0\x81\0\x02\0\0\0\x01\0\x07\x05\0\0\0\0\0\0\0\xf8\x3f",
+        b"a IN (7, 1.5e0)",
+    ),
     // A list of 7, -1.50 and NULL.
     (
         b"a IN (?)",
@@ -29,6 +42,12 @@ const TEXTS: &[(&[u8], &[u8], &[u8])] = &[
         b"VALUES ?",
         b"\0\x82\0\x01\0\0\0\x02\0\0\0\x80\0\x030.5\x06\0",
         b"VALUES (0.5, NULL)",
+    ),
+    // Two rows of the double 5e-324.
+    (
+        b"VALUES ?",
+        b"\0\x82\0\x02\0\0\0\x01\0\0\0\x05\0\x01\0\0\0\0\0\0\0\x01\0\0\0\x05\0\x01\0\0\0\0\0\0\0",
+        b"VALUES (5e-324), (5e-324)",
     ),
     // Two rows of a number and a text (VAR_STRING).
     (
@@ -191,11 +210,16 @@ const REFUSED: &[(&[u8], &[u8], FragmentsOutcome)] = &[
             fault: FragmentFault::RowLength { row: 1 },
         },
     ),
-    // A list of the double 0.
+    // A list of a NaN, and after NULL an infinity of 32 bits.
     (
         b"a IN (?)",
-        b"\0\x81\0\x01\0\0\0\x05\0\0\0\0\0\0\0\0\0",
+        b"\0\x81\0\x01\0\0\0\x05\0\0\0\0\0\0\0\xf8\x7f",
         FragmentsOutcome::AsValues(Outcome::Float { place: 0 }),
+    ),
+    (
+        b"a = ? AND b = ?",
+        b"\0\x06\0\0\x04\0\0\0\x80\x7f",
+        FragmentsOutcome::AsValues(Outcome::Float { place: 1 }),
     ),
     // The other kind of parameters, and both kinds of places.
     (

@@ -3,7 +3,7 @@ ghost use Rattle.std.specs.Prelude.{◌≤◌, take, IsTrue};
 ghost use Rattle.mysql_float_literal.specs.DoubleTest.{is_double};
 ghost use Rattle.mysql_float_literal.specs.ReadDouble.{reads_finite};
 
-use crate::literal::{finite_of, put_finite};
+use crate::literal::{finite_float_of, finite_of, put_finite};
 
 /// A finite double with the number that is written of it: digits and an exponent, as `1.5e0`, by
 /// which servers read it as a double. It allocates nothing.
@@ -18,7 +18,7 @@ pub struct Double {
 
 impl Double {
     ghost use Rattle.std.specs.Prelude.{◌≡◌, ◌↔◌, IfSome, IsNone, Some, IsFalse, from_bits, length};
-    ghost use Rattle.std.specs.Float.{binary64, float_is_finite};
+    ghost use Rattle.std.specs.Float.{binary32, binary64, float_is_finite};
     ghost use Rattle.std.specs.Float.Parse.{parse_float};
     ghost use Rattle.mysql_float_literal.specs.DoubleShape.{IsDouble};
     ghost use Rattle.mysql_float_literal.specs.DoubleText.{double_text, double_value};
@@ -42,6 +42,18 @@ impl Double {
         ensures same { IfSome result (λ made. double_value made ≡ from_bits binary64 bits) }
     {
         match finite_of(bits) {
+            Some(double) => Some(Double::of_finite(double)),
+            None => None,
+        }
+    }
+
+    /// The number of the `f32` with these bits, as a double of the same value; `None` for a NaN and
+    /// an infinity.
+    pub fn from_float_bits(bits: u32) -> Option<Double>
+        ensures none { IsNone result ↔ IsFalse (float_is_finite (from_bits binary32 bits)) }
+        ensures same { IfSome result (λ made. double_value made ≡ from_bits binary32 bits) }
+    {
+        match finite_float_of(bits) {
             Some(double) => Some(Double::of_finite(double)),
             None => None,
         }

@@ -2,7 +2,7 @@
 ghost use Rattle.std.specs.Prelude.{◌≡◌, ◌==◌, ◌≤◌, ◌↔◌, ◌+◌, ◌++◌, take, codes, IfSome, IsNone, Some, IsFalse, IsTrue, from_bits};
 ghost use Rattle.std.specs.List.{list_any};
 ghost use Rattle.std.specs.Str.{byte};
-ghost use Rattle.std.specs.Float.{binary64, float_is_finite};
+ghost use Rattle.std.specs.Float.{binary32, binary64, float_is_finite};
 ghost use Rattle.std.specs.Float.Parse.{parse_float};
 ghost use Rattle.mysql_float_literal.specs.DoubleShape.{IsDouble};
 
@@ -17,7 +17,27 @@ pub(crate) fn finite_of(bits: u64) -> Option<f64>
     if bits & 0x7fff_ffff_ffff_ffff > 0x7ff0_0000_0000_0000 {
         return None;
     }
-    let double = f64::from_bits(bits);
+    if_finite(f64::from_bits(bits))
+}
+
+/// The float with these bits as the double of the same value, if it is finite.
+pub(crate) fn finite_float_of(bits: u32) -> Option<f64>
+    ensures none { IsNone result ↔ IsFalse (float_is_finite (from_bits binary32 bits)) }
+    ensures same { IfSome result (λ double. double ≡ from_bits binary32 bits) }
+    ensures finite { IfSome result (λ double. IsTrue (float_is_finite double)) }
+{
+    if bits & 0x7fff_ffff > 0x7f80_0000 {
+        return None;
+    }
+    if_finite(f64::from(f32::from_bits(bits)))
+}
+
+// The double, if it is finite.
+fn if_finite(double: f64) -> Option<f64>
+    ensures none { IsNone result ↔ IsFalse (float_is_finite double) }
+    ensures same { IfSome result (λ found. found ≡ double) }
+    ensures finite { IfSome result (λ found. IsTrue (float_is_finite found)) }
+{
     if double.is_finite() {
         Some(double)
     } else {

@@ -121,7 +121,7 @@ const BOUND: &[(&str, (BoundRow, bool))] = cases! {
     "bind_fragments_into of a place that does not stand alone" =>
         (b"x:t", NAME_ALONE, Err(NOT_ALONE), Asked), false;
     "bind_fragments_into of a float" =>
-        (b"?", b"\0\x04\0\0\0\x80\x3F", Err(FragmentsOutcome::AsValues(Told::Float {
+        (b"?", b"\0\x04\0\0\0\x80\x7F", Err(FragmentsOutcome::AsValues(Told::Float {
             place: 0
         })), Asked), false;
     "bind_fragments_into of an empty list" =>

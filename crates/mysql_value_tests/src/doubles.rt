@@ -56,3 +56,32 @@ fn floats_are_widened(rt: HostRuntime) {
     let widened = Double::new(f64::from(0.1f32)).expect(&rt, "no number");
     same_in(&rt, widened.as_bytes(), b"0.10000000149011612e0", &"0.1");
 }
+
+// The bits of floats, and the numbers of the doubles of the same values. The digits are those of
+// Python's `repr`, and the bits those of its `struct`.
+const NUMBERS_OF_FLOATS: &[(u32, &[u8])] = &[
+    (0x8000_0000, b"-0.0e0"),
+    (0x3dcc_cccd, b"0.10000000149011612e0"),
+    (0xc049_0fdb, b"-3.1415927410125732e0"),
+    (1, b"1.401298464324817e-45"),
+    (0x7f7f_ffff, b"3.4028234663852886e38"),
+];
+
+#[test]
+fn numbers_of_floats(rt: HostRuntime) {
+    for (bits, number) in NUMBERS_OF_FLOATS {
+        let double = Double::from_float_bits(*bits).expect(&rt, "no number");
+        same_in(&rt, double.as_bytes(), *number, bits);
+    }
+}
+
+#[test]
+fn other_floats_have_none(rt: HostRuntime) {
+    let found = (
+        Double::from_float_bits(0x7f80_0000).is_none(),
+        Double::from_float_bits(0xff80_0000).is_none(),
+        Double::from_float_bits(0x7f80_0001).is_none(),
+        Double::from_float_bits(0xffc0_0000).is_none(),
+    );
+    same_in(&rt, found, (true, true, true, true), &"no numbers");
+}

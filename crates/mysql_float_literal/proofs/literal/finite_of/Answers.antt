@@ -7,5 +7,5 @@ pub returns-then-bits-gt9218868437227405312-clause-none :
 returns-then-bits-gt9218868437227405312-clause-none c =
     let none = nan_above c.args.bits c.if-bits-gt9218868437227405312.true in (λ e. none, λ e. refl)
 
-pub float_from_bits-double : goal.float_from_bits-double
-float_from_bits-double c = number_below c.args.bits c.if-bits-gt9218868437227405312.false
+pub float_from_bits-bits : goal.float_from_bits-bits
+float_from_bits-bits c = number_below c.args.bits c.if-bits-gt9218868437227405312.false
