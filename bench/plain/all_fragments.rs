@@ -365,7 +365,7 @@ fn written(
         Item::Value(value) => {
             let mut text = Vec::new();
             match finite_double(value) {
-                Some(double) => append_double(&mut text, double),
+                Some(double) => append_number(&mut text, double),
                 None => assert!(append(&mut text, value), "a float"),
             }
             text
@@ -394,6 +394,28 @@ fn written(
     }
     text.extend_from_slice(&query[copied..]);
     text
+}
+
+/// Appends the number of a finite double, as `append_double` does; of two numbers that are as near to it the one whose last
+/// digit is even, where that takes the other.
+fn append_number(text: &mut Vec<u8>, double: f64) {
+    let shortest = format!("{double:e}");
+    let count = shortest.split('e').next().map_or(0, |front| front.bytes().filter(u8::is_ascii_digit).count());
+    let even = format!("{double:.*e}", count - 1);
+    if even == shortest {
+        return append_double(text, double);
+    }
+    assert_eq!(even.parse(), Ok(double), "another double");
+    let mut written = Vec::new();
+    append_double(&mut written, double);
+    let digits = |text: &[u8]| -> Vec<u8> { text.iter().copied().filter(u8::is_ascii_digit).collect() };
+    let (mut last, exact) = (digits(shortest.as_bytes()), digits(even.as_bytes()));
+    last.truncate(count);
+    // Only the last digit differs, and it is the last one before the exponent.
+    assert_eq!(last[..count - 1], exact[..count - 1]);
+    let end = written.iter().position(|byte| *byte == b'e').expect("an exponent");
+    written[end - 1] = exact[count - 1];
+    text.extend(written);
 }
 
 /// A name in backquotes, each in it doubled.
