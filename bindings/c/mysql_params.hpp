@@ -92,12 +92,18 @@ inline constexpr bool is_character = std::is_same_v<T, char> || std::is_same_v<T
 template <typename T>
 inline constexpr bool is_number = std::is_integral_v<T> && !is_character<T> && sizeof(T) <= 8;
 
+/* Whether a double has each value of the type. */
+template <typename T> inline constexpr bool is_double = std::is_same_v<T, double> || std::is_same_v<T, float>;
+
 } // namespace detail
 
-/* A value for a place, made of a whole number, a bool (1 or 0), a text or bytes, nullptr or an empty std::optional (NULL),
- * a date or a time. It borrows its bytes: use it within the call that takes it. Write nullptr and not the macro NULL, which
- * may be bound as the number 0. A floating-point number or a character doesn't compile; for a decimal give its text, and
- * write CAST(:p AS DECIMAL(20,2)) in the query. */
+/* A value for a place, made of a whole number, a bool (1 or 0), a float or a double, a text or bytes, nullptr or an empty
+ * std::optional (NULL), a date or a time. It borrows its bytes: use it within the call that takes it. Write nullptr and not
+ * the macro NULL, which may be bound as the number 0. A long double or a character doesn't compile.
+ *
+ * bind_fragments and bind_fragments_anywhere write a float or a double as a number that a server reads as this DOUBLE,
+ * 1.5e0, and refuse a NaN and an infinity as MYSQL_PARAMS_FLOAT: give nullptr. The other calls refuse each so. For an exact
+ * number there is append_decimal. */
 class Value {
 public:
     Value(std::nullptr_t) noexcept {}
@@ -109,7 +115,12 @@ public:
         else
             held_ = static_cast<std::uint64_t>(number);
     }
-    template <typename T, std::enable_if_t<std::is_floating_point_v<T> || detail::is_character<T>, int> = 0>
+    template <typename T, std::enable_if_t<detail::is_double<T>, int> = 0>
+    Value(T number) noexcept : held_(static_cast<double>(number))
+    {
+    }
+    template <typename T, std::enable_if_t<(std::is_floating_point_v<T> && !detail::is_double<T>) || detail::is_character<T>,
+                                           int> = 0>
     Value(T) = delete;
     Value(std::string_view text) noexcept : held_(text) {}
     Value(const std::string &text) noexcept : held_(std::string_view(text)) {}
@@ -132,7 +143,8 @@ private:
     {
         throw std::invalid_argument("mysql_params: a text is a null pointer: nullptr itself is NULL");
     }
-    std::variant<std::monostate, std::int64_t, std::uint64_t, std::string_view, mysql_params_date, mysql_params_time>
+    std::variant<std::monostate, std::int64_t, std::uint64_t, double, std::string_view, mysql_params_date,
+                 mysql_params_time>
         held_;
 };
 
@@ -235,6 +247,8 @@ private:
                     return mysql_params_append_int(&form_, name, held);
                 else if constexpr (std::is_same_v<T, std::uint64_t>)
                     return mysql_params_append_uint(&form_, name, held);
+                else if constexpr (std::is_same_v<T, double>)
+                    return mysql_params_append_double(&form_, name, held);
                 else if constexpr (std::is_same_v<T, std::string_view>)
                     return mysql_params_append_bytes(&form_, name, held.data(), held.size());
                 else if constexpr (std::is_same_v<T, mysql_params_date>)
@@ -437,7 +451,7 @@ inline std::string bind(std::string_view query, const Form &form = {}, Mode mode
                                 detail::Bind{query, flat, mode == Mode::no_backslash_escapes});
 }
 
-/* The same of a form that has lists, rows, exact numbers, identifiers or keywords too. Throws Error. */
+/* The same of a form that has doubles, lists, rows, exact numbers, identifiers or keywords too. Throws Error. */
 inline std::string bind_fragments(std::string_view query, const Form &form, Mode mode = Mode::backslash_escapes)
 {
     const mysql_params_form &flat = form.get();

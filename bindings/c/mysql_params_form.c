@@ -12,6 +12,7 @@
 
 /* Numbers of column types in the protocol. */
 enum {
+    TYPE_FLOAT = 4,
     TYPE_DOUBLE = 5,
     TYPE_NULL = 6,
     TYPE_LONGLONG = 8,
@@ -211,6 +212,15 @@ bool mysql_params_append_double(mysql_params_form *form, const char *name, doubl
     memcpy(&bits, &number, sizeof bits);
     fill_number(value, 8, bits);
     return append_parameter(form, name, TYPE_DOUBLE, 0, value, 8, NULL, 0);
+}
+
+bool mysql_params_append_float(mysql_params_form *form, const char *name, float number)
+{
+    uint32_t bits;
+    uint8_t value[4];
+    memcpy(&bits, &number, sizeof bits);
+    fill_number(value, 4, bits);
+    return append_parameter(form, name, TYPE_FLOAT, 0, value, 4, NULL, 0);
 }
 
 /* Appends a parameter whose value is a text that a zero byte ends. */

@@ -93,10 +93,14 @@ bool mysql_params_append_date(mysql_params_form *form, const char *name, mysql_p
 /* Appends a span of time. */
 bool mysql_params_append_time(mysql_params_form *form, const char *name, mysql_params_time time);
 
-/* Appends a floating-point number. Binding refuses it as MYSQL_PARAMS_FLOAT if the query has a place for it. For a
- * decimal append its text, and write CAST(:p AS DECIMAL(20,2)) in the query: a text in arithmetic is computed as a
- * double. */
+/* Appends a floating-point number. mysql_params_bind_fragments and mysql_params_bind_fragments_anywhere write a finite one as a
+ * number with an exponent, 1.5e0, which a server reads as this DOUBLE. They refuse a NaN and an infinity as
+ * MYSQL_PARAMS_FLOAT if the query has a place for it, and all other calls refuse each number so. For an exact number append
+ * its digits, by mysql_params_append_decimal. */
 bool mysql_params_append_double(mysql_params_form *form, const char *name, double number);
+
+/* The same of a float, which is written as the double of its value: 0.1f as 0.10000000149011612e0. */
+bool mysql_params_append_float(mysql_params_form *form, const char *name, float number);
 
 /* The functions below append what mysql_params_bind_fragments and mysql_params_bind_fragments_anywhere alone take. Each
  * returns as those above. */

@@ -5,6 +5,7 @@
  * and where the archive, which is not instrumented, copies by the C library. */
 #include "cases.h"
 
+#include <math.h>
 #include <stdio.h>
 #include <stdlib.h>
 #include <string.h>
@@ -705,6 +706,73 @@ static void texts_that_are_refused(void)
     mysql_params_form_free(&form);
 }
 
+/* Whether the calls that bind values refuse the last of two named parameters as a float, and write nothing. */
+static bool refused_as_float(const uint8_t *query, size_t query_len, const mysql_params_form *form)
+{
+    uint8_t room[64];
+    mysql_params_report reports[4] = {{0}};
+    mysql_params_rows done = {0};
+    mysql_params_form rows = mysql_params_form_growing();
+    memset(room, UNTOUCHED, sizeof room);
+    mysql_params_append_row(&rows, form);
+    const int32_t numbers[] = {
+        mysql_params_bind(query, query_len, form->room, form->len, false, room, sizeof room, &reports[0]),
+        mysql_params_bind_anywhere(query, query_len, form->room, form->len, room, sizeof room, &reports[1]),
+        mysql_params_bind_in_both_modes(query, query_len, form->room, form->len, room, sizeof room, &reports[2]),
+        mysql_params_bind_rows(query, query_len, rows.room, rows.len, false, room, sizeof room, &done, &reports[3]),
+    };
+    mysql_params_form_free(&rows);
+    bool refused = is_untouched(room, 0, sizeof room);
+    for (size_t i = 0; i < 4; i++)
+        refused = refused && numbers[i] == MYSQL_PARAMS_FLOAT && reports[i].place == 1;
+    return refused;
+}
+
+/* What the calls that bind fragments write of floats; a NaN and an infinity have no number. All other calls refuse each. */
+static void floats(void)
+{
+    static const uint8_t query[] = ":id; :x";
+    static const struct {
+        bool is_float;
+        double number;
+        const char *text;
+    } wanted[] = {
+        {false, 1.5, "7; 1.5e0"},
+        {false, -0.0, "7; -0.0e0"},
+        {false, 5e-324, "7; 5e-324"},
+        {false, 0.1, "7; 0.1e0"},
+        {true, 0.1, "7; 0.10000000149011612e0"},
+        {true, -3.5, "7; -3.5e0"},
+        {false, NAN, NULL},
+        {false, -INFINITY, NULL},
+        {true, INFINITY, NULL},
+    };
+    for (size_t i = 0; i < sizeof wanted / sizeof wanted[0]; i++) {
+        test_case it = {0};
+        it.line = (int)i;
+        mysql_params_form form = mysql_params_form_growing();
+        mysql_params_append_int(&form, "id", 7);
+        if (wanted[i].is_float)
+            mysql_params_append_float(&form, "x", (float)wanted[i].number);
+        else
+            mysql_params_append_double(&form, "x", wanted[i].number);
+        for (int anywhere = 0; anywhere < 2; anywhere++) {
+            char *text = NULL;
+            mysql_params_report report = {0};
+            int32_t number =
+                anywhere ? mysql_params_bind_fragments_anywhere_form(query, sizeof query - 1, &form, &text, &report) :
+                           mysql_params_bind_fragments_form(query, sizeof query - 1, &form, true, &text, &report);
+            if (wanted[i].text == NULL)
+                expect(number == MYSQL_PARAMS_FLOAT && report.place == 1 && text == NULL, &it, "it isn't finite");
+            else
+                expect(number == MYSQL_PARAMS_DONE && strcmp(text, wanted[i].text) == 0, &it, "another text is wanted");
+            free(text);
+        }
+        expect(refused_as_float(query, sizeof query - 1, &form), &it, "a call that binds values binds a float");
+        mysql_params_form_free(&form);
+    }
+}
+
 /* Appends a list of numbers, and rows of one item each. */
 static bool append_lists(mysql_params_form *form, int64_t count)
 {
@@ -1069,6 +1137,7 @@ int main(int count, char **words)
     all &= passed("table_of_fragments", table_of_fragments);
     all &= passed("table_of_steady_fragments", table_of_steady_fragments);
     all &= passed("forms_of_lists", forms_of_lists);
+    all &= passed("floats", floats);
     all &= passed("names_of_queries", names_of_queries);
     all &= passed("rows_of_queries", rows_of_queries);
     all &= passed("rows_of_templates", rows_of_templates);

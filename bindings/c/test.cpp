@@ -44,7 +44,8 @@ template <typename Call> static std::string thrown(Call call)
     return "nothing";
 }
 
-static_assert(!std::is_constructible_v<Value, double> && !std::is_constructible_v<Value, float>);
+static_assert(std::is_constructible_v<Value, double> && std::is_constructible_v<Value, float>);
+static_assert(!std::is_constructible_v<Value, long double>);
 static_assert(!std::is_constructible_v<Value, char> && !std::is_constructible_v<Value, void *>);
 static_assert(!std::is_constructible_v<Value, wchar_t> && !std::is_constructible_v<Value, decltype(u8'a')>);
 static_assert(!std::is_constructible_v<Value, char16_t> && !std::is_constructible_v<Value, char32_t>);
@@ -153,7 +154,45 @@ static void fragments()
     same(thrown([] { mysql_params::Form().append_identifier("t", "a\0b"s); }), "invalid argument");
 }
 
-/* The same for any server. */
+/* What a call of rows throws: the row, how many texts stand before it, and the message. */
+template <typename Call> static std::string row_thrown(Call call)
+{
+    try {
+        call();
+    } catch (const RowError &error) {
+        return std::to_string(error.row()) + " " + std::to_string(error.texts().size()) + " " + error.what();
+    }
+    return "nothing";
+}
+
+/* Floats, by the calls that bind fragments; the others refuse each. The digits are those of Python's repr. */
+static void floats()
+{
+    using mysql_params::bind_fragments;
+    using mysql_params::bind_fragments_anywhere;
+    same(bind_fragments("?, ?, ?", {1.5, -0.0, 0.1F}), "1.5e0, -0.0e0, 0.10000000149011612e0");
+    same(bind_fragments_anywhere(":a, :b", {{"a", 5e-324}, {"b", std::optional<double>()}}), "5e-324, NULL");
+    mysql_params::Form form;
+    form.append_list(nullptr, std::vector<float>{0.5F, 2.0F});
+    form.append_rows(nullptr, std::vector<std::vector<Value>>{{1, 1e16}, {2, nullptr}});
+    same(bind_fragments_anywhere("IN (?) VALUES ?", form), "IN (0.5e0, 2.0e0) VALUES (1, 1e16), (2, NULL)");
+    for (const double number : {std::numeric_limits<double>::infinity(), std::numeric_limits<double>::quiet_NaN()}) {
+        const std::string refused = "14 Float at place 1";
+        same(thrown([&] { bind_fragments("?, ?", {0.5, number}); }), refused);
+        same(thrown([&] { bind_fragments_anywhere("?, ?", {0.5, -number}); }), refused);
+        mysql_params::Form list;
+        list.append(1).append_list(nullptr, std::vector<double>{0.5, number});
+        same(thrown([&] { bind_fragments("?, ?", list); }), refused);
+    }
+    same(thrown([] { bind(":a, :b", {{"a", 1}, {"b", 1.5}}); }), "14 Float at place 1");
+    same(thrown([] { Template("?").bind({1.5F}); }), "14 Float at place 0");
+    std::vector<Form> rows(1);
+    rows[0].append(1);
+    rows.push_back({1.5});
+    same(row_thrown([&] { mysql_params::bind_rows("?", rows); }), "1 1 row 1: Float at place 0");
+}
+
+/* Fragments in steady texts. */
 static void steady_fragments()
 {
     using mysql_params::bind_fragments_anywhere;
@@ -169,17 +208,6 @@ static void steady_fragments()
         expect(error.number() == MYSQL_PARAMS_UNSTEADY_FRAGMENT && error.report().place == 1, "it isn't steady");
         same(error.what(), "Fragment at place 1 has a name with a backslash or a byte that is not ASCII");
     }
-}
-
-/* What a call of rows throws: the row, how many texts stand before it, and the message. */
-template <typename Call> static std::string row_thrown(Call call)
-{
-    try {
-        call();
-    } catch (const RowError &error) {
-        return std::to_string(error.row()) + " " + std::to_string(error.texts().size()) + " " + error.what();
-    }
-    return "nothing";
 }
 
 static void rows()
@@ -256,6 +284,7 @@ int main()
     all &= passed("refusals", refusals);
     all &= passed("queries", queries);
     all &= passed("fragments", fragments);
+    all &= passed("floats", floats);
     all &= passed("steady_fragments", steady_fragments);
     all &= passed("rows", rows);
     all &= passed("templates", templates);
