@@ -204,8 +204,10 @@ static bool append_value(mysql_params_form *form, const char *name, const char *
         return mysql_params_append_int(form, name, strtoll(value + 2, NULL, 10));
     if (begins(value, "u:"))
         return mysql_params_append_uint(form, name, strtoull(value + 2, NULL, 10));
-    if (strcmp(value, "float") == 0 || strcmp(value, "double") == 0)
-        return mysql_params_append_double(form, name, 0.0);
+    if (begins(value, "float:"))
+        return mysql_params_append_float(form, name, strtof(value + 6, NULL));
+    if (begins(value, "double:"))
+        return mysql_params_append_double(form, name, strtod(value + 7, NULL));
     if (begins(value, "date:"))
         return append_date(form, name, value);
     if (begins(value, "time:"))

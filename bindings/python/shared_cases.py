@@ -4,6 +4,7 @@ import datetime
 import decimal
 import pathlib
 import re
+import struct
 
 import mysql_params
 
@@ -92,7 +93,11 @@ def value_of(text):
         days, hours, minutes, seconds, microseconds = map(int, fields)
         time = datetime.timedelta(days, seconds, microseconds, hours=hours, minutes=minutes)
         return -time if sign == "-" else time
-    return {"null": None, "float": 0.0, "double": 0.0}[kind]
+    if kind == "float":
+        return struct.unpack("<f", struct.pack("<f", float(rest)))[0]
+    if kind == "double":
+        return float(rest)
+    return {"null": None}[kind]
 
 
 class Case:

@@ -11,6 +11,7 @@ from test_mysql_params import Result
 from test_sending import NONE, Connection, Connector, MySQLCursorPrepared, PyMySQL
 
 INSERT, ROWS = "INSERT INTO t VALUES (?, ?)", "INSERT INTO t VALUES ?"
+NAN = float("nan")
 MOMENT = datetime.datetime(2019, 11, 27, 23, 30, tzinfo=datetime.timezone.utc)
 
 
@@ -49,10 +50,12 @@ class Test(unittest.TestCase):
             (n for n in (3, 4)),
             [Identifier("a`"), [1, 2]],
             (MOMENT, datetime.date(2019, 1, 2)),
+            (0.25, "a"),
+            [[1, -0.5], 1e16],
         ]
         executemany(connection.cursor(), "SELECT ?, ?", rows, zone=datetime.timezone.utc)
         texts = [b"1, 'a'", b"0.10, 1180591620717411303424", b"0xFF, NULL", b"3, 4", b"`a```, 1, 2"]
-        texts.append(b"'2019-11-27 23:30:00', '2019-01-02'")
+        texts += [b"'2019-11-27 23:30:00', '2019-01-02'", b"0.25e0, 'a'", b"1, -0.5e0, 1e16"]
         self.assertEqual(connection.sent, [b"SELECT " + text for text in texts])
         connection = PyMySQL(NONE)
         executemany(connection.cursor(), ":a", [{"a": "\\'"}, {b"a": "x", "b": 2}])
@@ -71,7 +74,8 @@ class Test(unittest.TestCase):
         good = [(i, "a") for i in range(20_000)]
         for kind, row in (
             (mysql_params.MarkCountError, (1,)),
-            (mysql_params.FloatError, (1, 1.5)),
+            (mysql_params.FloatError, (1, NAN)),
+            (mysql_params.FloatError, (0.5, NAN)),
             (mysql_params.FragmentError, (1, [])),
             (TypeError, (1, {2})),
             (OverflowError, (1, 10**65)),
@@ -83,8 +87,10 @@ class Test(unittest.TestCase):
                     # A later row is worse, and the first that is refused is told.
                     found = self.refused(kind, executemany, INSERT, [*good[:at], row, *good[:3], 7])
                     self.assertEqual(found.row, at)
-        found = self.refused(mysql_params.FloatError, executemany, INSERT, [(1, 2), (1, 1.5), (1, {2})])
-        self.assertEqual((found.row, str(found)), (1, "row 1: Float at place 1; give a Decimal, or a text"))
+        to_do = "give None for NaN and infinities, else a text"
+        for row in ((1, NAN), (0.5, -NAN), ([0.5], [1, NAN])):
+            found = self.refused(mysql_params.FloatError, executemany, INSERT, [(0.5, 2), row, (1, {2})])
+            self.assertEqual((found.row, str(found)), (1, f"row 1: Float at place 1; {to_do}"))
 
     def test_a_row_that_is_too_long(self):
         for packet, row in ((34, None), (33, 1), (32, 0)):
@@ -119,6 +125,8 @@ class Test(unittest.TestCase):
             ([(decimal.Decimal("0.10"), 2**70)], b"(0.10, 1180591620717411303424)"),
             ([(MOMENT,), (b"\xff",)], b"('2019-11-27 23:30:00'), (0xFF)"),
             ([Short([1, 2])], b"(1, 2)"),
+            ([(1, 0.1), [-0.0, None], (1e16, "a")], b"(1, 0.1e0), (-0.0e0, NULL), (1e16, 'a')"),
+            ([(decimal.Decimal("0.5"), 0.5), (2**70, 5e-324)], b"(0.5, 0.5e0), (1180591620717411303424, 5e-324)"),
         ):
             for query in (ROWS, "INSERT INTO t VALUES :rows", b"INSERT INTO t VALUES ?"):
                 connection = PyMySQL()
@@ -151,6 +159,7 @@ class Test(unittest.TestCase):
         for value in (
             *("'" * 50, "\\" * 50, "\0" * 50, b"\xff" * 50, "", None, -(1 << 63), (1 << 64) - 1, 10**65 - 1, 1 - 10**65),
             *(datetime.datetime.max, datetime.timedelta.min, datetime.time.max, decimal.Decimal("-0." + "1" * 64)),
+            *(-1.2345678901234567e-308, -0.00012345678901234567, -1234567890123456.7, 5.0),
         ):
             length = len(mysql_params.bind("(?), ", [value]))
             for packet in range(length + 20, 6 * length + 200, 7):
@@ -174,13 +183,13 @@ class Test(unittest.TestCase):
                     found = self.refused(mysql_params.FragmentError, execute_rows, "VALUES :r", rows, packet)
                     self.assertEqual((found.fault, found.in_row, found.name), (fault, at, "r"))
         self.assertEqual(self.refused(mysql_params.FragmentError, execute_rows, ROWS, [()]).fault, Fault.EMPTY_ROW)
-        for kind, row in ((TypeError, (1, {2})), (OverflowError, (1, 10**65)), (mysql_params.FloatError, (1, 0.5))):
+        for kind, row in ((TypeError, (1, {2})), (OverflowError, (1, 10**65)), (mysql_params.FloatError, (0.5, NAN))):
             for at in (0, 1, 2_999):
                 with self.subTest(kind=kind.__name__, at=at):
                     found = self.refused(kind, execute_rows, ROWS, [*good[:at], row, (1, {2})], packet)
                     self.assertEqual(found.row, at)
         # The first that is refused is told.
-        found = self.refused(mysql_params.FloatError, execute_rows, ROWS, [(1, 2), (1, 0.5), (1,), (1, {2})])
+        found = self.refused(mysql_params.FloatError, execute_rows, ROWS, [(0.5, 2), (1, NAN), (1,), (1, {2})])
         self.assertEqual(found.row, 1)
         for row in ("ab", b"ab", {1: 2}, {1}, 7, None):
             found = self.refused(TypeError, execute_rows, ROWS, [(1, 2), row])

@@ -25,6 +25,8 @@ from shared_cases import CASES, CONSTRUCTS, FIELDS, NUMBERS, cases, text_of
 UNTOUCHED = 0xA5
 """What a byte of the room holds before a call."""
 
+NAN = float("nan")
+
 
 def literal_without_backslashes(byte):
     """Return the literal of one byte without backslash escapes: there only a quote isn't itself."""
@@ -251,13 +253,14 @@ class Test(unittest.TestCase):
         for value in values:
             for row in ([value], (value, None), [1, value, "x"]):
                 form = _form.form_of(row)
-                self.assertEqual(_archive.next_string(_form.row_form(row), 0), (form, len(_form.row_form(row))))
+                self.assertEqual(_form.row_form(row), (form, isinstance(value, float)))
+                self.assertEqual(_archive.next_string(_form.as_row(form), 0), (form, len(_form.as_row(form))))
             for name in ("n", "n" * 250, "n" * 251, "\u20ac"):
                 named = _form.string_form(name.encode()) + _form.form_of([value])[1:]
                 self.assertEqual(_form.form_of({name: value}), named)
                 self.assertEqual(_form.form_of(collections.UserDict({name: value})), named)
-        self.assertEqual(_form.row_form({"a": None}), b"\4\1a\6\0")
-        self.assertEqual(_form.row_form(None), b"\0")
+        self.assertEqual(_form.row_form({"a": None}), (b"\1a\6\0", False))
+        self.assertEqual(_form.row_form(None), (b"", False))
 
     def test_forms_of_rows_together(self):
         columns = (
@@ -273,7 +276,7 @@ class Test(unittest.TestCase):
                 if any(len(_form.form_of(row)) > 250 for row in rows):
                     self.assertIsNone(_rows.rows_form(rows))
                 else:
-                    self.assertEqual(_rows.rows_form(rows), b"".join(map(_form.row_form, rows)))
+                    self.assertEqual(_rows.rows_form(rows), b"".join(_form.as_row(_form.row_form(row)[0]) for row in rows))
         for others in ([], [(1,), (1, 2)], [(1,), {"a": 1}], [{1}], ["x"], [None], [(0.5,)], [(1 << 63,)], [("\ud800",)]):
             with self.subTest(rows=others):
                 self.assertIsNone(_rows.rows_form(others))
@@ -318,8 +321,36 @@ class Test(unittest.TestCase):
             bind_rows("?", [(1,)] * 1000 + [()] + [(1,)] * 1000)
         self.assertEqual((raised.exception.row, raised.exception.texts), (1000, [b"1"] * 1000))
         with self.assertRaises(mysql_params.FloatError) as raised:
-            bind_rows(":a", [{"a": 1}, {"a": 0.5}])
+            bind_rows(":a", [{"a": 1}, {"a": NAN}])
         self.assertEqual((raised.exception.name, raised.exception.row), ("a", 1))
+
+    def test_rows_with_floats(self):
+        rows = [(row, row / 8 if row % 3 else None, "it's") for row in range(2000)]
+        texts = [bind("(?, ?, ?)", row) for row in rows]
+        self.assertEqual(texts[3:5], [b"(3, NULL, 'it\\'s')", b"(4, 0.5e0, 'it\\'s')"])
+        for given in (rows, iter(rows)):
+            self.assertTrue(bind_rows("(?, ?, ?)", given) == texts)
+        self.assertTrue(bind_rows("(:a, :b, :c)", [dict(zip("abc", row)) for row in rows]) == texts)
+        self.assertTrue(Template("(?, ?, ?)").bind_rows(rows) == texts)
+        self.assertEqual(bind_rows("'\\', ?", [(0.5,), ("\\",)], True), [b"'\\', 0.5e0", b"'\\', '\\'"])
+
+    def test_rows_beside_floats_that_are_refused(self):
+        good, texts = [(1,), (0.5,), ("x",)] * 300, [b"1", b"0.5e0", b"'x'"] * 300
+        for kind, row in (
+            (mysql_params.FloatError, (NAN,)),
+            (mysql_params.MarkCountError, ()),
+            (mysql_params.MarkCountError, (0.5, 1)),
+            (TypeError, (0.5, {1})),
+            (TypeError, (decimal.Decimal(1),)),
+            (TypeError, ([0.5],)),
+        ):
+            for at in (0, 1, 2, 899):
+                # The first that is refused is told, whatever is wrong with later ones.
+                rows = [*good[:at], row, (NAN,), (0.5, 0.5), {1}]
+                for given in (rows, iter(rows)):
+                    with self.subTest(row=row, at=at), self.assertRaises(kind) as raised:
+                        bind_rows("?", given)
+                    self.assertEqual((raised.exception.row, raised.exception.texts), (at, texts[:at]))
 
     def test_names_of_queries(self):
         for case in cases("names.txt"):
@@ -612,13 +643,13 @@ class Test(unittest.TestCase):
 
     def test_what_errors_tell_beside_their_fields(self):
         with self.assertRaises(mysql_params.FloatError) as raised:
-            bind(":a, :b", {"a": 1, "b": 1.5})
+            bind(":a, :b", {"a": 1, "b": NAN})
         self.assertEqual((raised.exception.place, raised.exception.name), (1, "b"))
         with self.assertRaises(mysql_params.FloatError) as raised:
-            bind("?", [1.5])
+            bind("?", [NAN])
         self.assertIsNone(raised.exception.name)
         with self.assertRaises(mysql_params.FloatError) as raised:
-            bind("'a\\', :a, '", {"a": 1.5}, no_backslash_escape=True)
+            bind("'a\\', :a, '", {"a": NAN}, no_backslash_escape=True)
         self.assertEqual(raised.exception.name, "a")
         for query, params, word in (
             (":userId", {"userId": 1}, b"userId"),

@@ -276,6 +276,9 @@ class Test(unittest.TestCase):
     def test_fragments(self):
         sent = self.send(PyMySQL(), "SELECT ? IN (?)", [mysql_params.Identifier("a"), [1, 2]])
         self.assertEqual(sent, b"SELECT `a` IN (1, 2)")
+        self.assertEqual(self.send(PyMySQL(), "SELECT :a", {"a": 0.1}), b"SELECT 0.1e0")
+        with self.assertRaises(mysql_params.FloatError):
+            self.send(PyMySQL(), "SELECT :a", {"a": float("inf")})
 
     def test_zones(self):
         moment = datetime.datetime(2019, 11, 27, 23, 30, tzinfo=datetime.timezone.utc)

@@ -127,13 +127,72 @@ class Test(unittest.TestCase):
             (numpy.bool_(True), b"1"),
             (numpy.bool_(False), b"0"),
             (numpy.str_("a'"), b"'a\\''"),
+            (numpy.float64(0.1), b"0.1e0"),
+            (numpy.float32(0.1), b"0.10000000149011612e0"),
+            (numpy.float16(1.5), b"1.5e0"),
         ):
             with self.subTest(value=repr(value)):
                 self.assertEqual(bind("?", [value]), wanted)
+                self.assertEqual(bind("?", [[value]]), wanted)
         self.assertEqual(bind("?, ?", numpy.array([1, 2])), b"1, 2")
-        for value in (numpy.float64(1.5), numpy.float32(1.5), numpy.datetime64("2019-11-27"), numpy.array([1])):
-            with self.subTest(value=repr(value)), self.assertRaises((TypeError, mysql_params.FloatError)):
+        self.assertEqual(bind("?, ?", numpy.array([0.5, 2], numpy.float32)), b"0.5e0, 2.0e0")
+        for value in (numpy.longdouble(1.5), numpy.datetime64("2019-11-27"), numpy.array([1])):
+            with self.subTest(value=repr(value)), self.assertRaises(TypeError):
                 bind("?", [value])
+        for value in (numpy.float64("nan"), numpy.float32("inf"), numpy.float16("-inf")):
+            with self.subTest(value=repr(value)), self.assertRaises(mysql_params.FloatError):
+                bind("?", [value])
+
+    def test_floats(self):
+        class Number(float):
+            def __float__(self):
+                return 7.0
+
+            def __repr__(self):
+                return "7"
+
+        # The digits are those of repr, and a number without an exponent gets the exponent 0.
+        for value, wanted in (
+            (1.5, b"1.5e0"),
+            (-0.0, b"-0.0e0"),
+            (0.1, b"0.1e0"),
+            (0.1 + 0.2, b"0.30000000000000004e0"),
+            (1e16, b"1e16"),
+            (float(2**53), b"9007199254740992.0e0"),
+            (5e-324, b"5e-324"),
+            (sys.float_info.min, b"2.2250738585072014e-308"),
+            (-sys.float_info.max, b"-1.7976931348623157e308"),
+            (Number(2.5), b"2.5e0"),
+            (enum.Enum("Half", {"ONE": 0.5}).ONE, b"0.5e0"),
+        ):
+            for call in (bind, mysql_params.bind_anywhere, lambda query, given: mysql_params.Template(query).bind(given)):
+                with self.subTest(value=value, call=call):
+                    self.assertEqual(call("?", [value]), wanted)
+                    self.assertEqual(call(":a, :b", {"a": value, "b": 1}), wanted + b", 1")
+                    self.assertEqual(call("? IN (?)", [value, [1, value]]), wanted + b" IN (1, " + wanted + b")")
+                    self.assertEqual(call("VALUES ?", [[(1, value)]]), b"VALUES (1, " + wanted + b")")
+            self.assertEqual(mysql_params.bind_rows("?", [[value]]), [wanted])
+            # The call that takes values alone refuses it.
+            with self.assertRaises(mysql_params.FloatError):
+                mysql_params.bind_in_both_modes("?", [value])
+        # A value for no place says nothing.
+        self.assertEqual(bind(":a", {"a": "it's", "b": 0.5}), b"'it\\'s'")
+
+    def test_floats_without_a_number(self):
+        to_do = "; give None for NaN and infinities, else a text"
+        for value in (float("nan"), float("inf"), float("-inf")):
+            for call in (bind, mysql_params.bind_anywhere, lambda query, given: mysql_params.Template(query).bind(given)):
+                for given in (value, [0.5, value], ["a", value], [(0.5, 1), (2, value)]):
+                    with self.subTest(given=given), self.assertRaises(mysql_params.FloatError) as raised:
+                        call(":a, :b", {"a": 0.5, "b": given})
+                    self.assertEqual((raised.exception.place, raised.exception.name), (1, "b"))
+                    self.assertEqual(str(raised.exception), "Float at place 1: the value of `:b`" + to_do)
+                    with self.assertRaises(mysql_params.FloatError) as raised:
+                        call("?", [given])
+                    self.assertEqual((raised.exception.place, raised.exception.name), (0, None))
+                    self.assertEqual(str(raised.exception), "Float at place 0" + to_do)
+                # It is refused only if the query has a place for it.
+                self.assertEqual(call(":a", {"a": 0.5, "b": value}), b"0.5e0")
 
     def test_decimals_are_exact_unless_told(self):
         exact = (("0.01", b"0.01"), ("1E+3", b"1000"), ("-1.50", b"-1.50"), ("-0", b"-0"))
@@ -238,9 +297,10 @@ class Test(unittest.TestCase):
         register(Color, lambda color: color.name)
         self.assertEqual(bind("?", [Color.RED]), b"'RED'")
         # Its result is judged as any value.
-        register(Point, lambda point: 1.5)
+        register(Point, lambda point: float(point.x))
+        self.assertEqual(bind("?", [Point(1.5)]), b"1.5e0")
         with self.assertRaises(mysql_params.FloatError):
-            bind("?", [Point(1)])
+            bind("?", [Point("nan")])
         register(Point, lambda point: [1])
         self.assertEqual(bind(":a", {"a": Point(1)}), b"1")
         register(Point, lambda point: point)

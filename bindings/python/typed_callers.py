@@ -76,6 +76,9 @@ def fragments(idents: list[int], prices: list[tuple[int, decimal.Decimal]], colu
     bind("id IN (?)", [idents])
     bind("id IN (:ids)", {"ids": idents})
     bind("id IN (?) AND price < ?", [(1, 2), decimal.Decimal("9.99")])
+    measures: list[tuple[int, float]] = [(1, 0.5)]
+    bind("x IN (?) OR (i, x) IN (?)", [[0.5, 1], measures])
+    bind_rows("(?, ?)", measures)
     bind("VALUES ?", [prices])
     bind_anywhere("VALUES ?", [prices])
     bind("VALUES ?", [[[1, "a"], [2, None]]])
@@ -96,7 +99,7 @@ def sent(cursor: Any, connection: Any, day: datetime.datetime) -> None:
     """Send by drivers, and register types."""
     mysql_params.register(decimal.Decimal, mysql_params.decimal_text)
     mysql_params.register(Color, lambda color: color.name)
-    values: dict[str, Value] = {"c": Color.RED, "u": uuid.uuid4(), "t": datetime.time(12)}
+    values: dict[str, Value] = {"c": Color.RED, "u": uuid.uuid4(), "t": datetime.time(12), "x": 0.5}
     bind("?, ?", (number for number in (1, 2)))
     bind("?, ?", {"a": 1, "b": 2}.values())
     bind("?", [day], zone=datetime.timezone.utc)

@@ -130,8 +130,9 @@ Value = Union[
 ]
 """What a value may be, beside those of types that are registered, and the whole numbers and truth values of numpy.
 
-A float has no literal, and is refused if the query has a place for it. An Enum is bound as its value, a UUID as its
-text, a time of day as the span since midnight.
+A NaN and an infinity are refused if the query has a place for them, by bind_in_both_modes each float. A float16 and a
+float32 of numpy are as the float of the same value. An Enum is bound as its value, a UUID as its text, a time of day as
+the span since midnight.
 """
 
 Params = Union[
@@ -216,6 +217,9 @@ def bind(
     flag it is for one that has it. Ask on the connection that the text goes to: SELECT @@sql_mode. If the two differ,
     a value can leave its literal. The flag is True or False: anything else, also the sql_mode itself, is a TypeError.
 
+    A float is written with an exponent (``1.5e0``), by which a server reads it as this DOUBLE and computes in doubles. A
+    NaN or an infinity is a FloatError: give None for NULL.
+
     A place takes more than one value: a list or a tuple of values for IN (``a IN (?)``), a list of lists or tuples of
     values as rows (``VALUES ?``), a Decimal, which is written bare so that it is compared and computed exactly, as is an int
     of more than 64 bits, an Identifier, and a Keyword. Items may be such numbers. A str, bytes or a set is no list.
@@ -281,8 +285,8 @@ def bind_in_both_modes(
     It is a text for MySQL and MariaDB. The connection's character set has to be that of the query's bytes, utf8mb4 for a
     str. No string of the query may hold a backslash, nor a text in ``"``; and the query has to be portable.
 
-    Each place takes one value. It raises what bind_anywhere raises of a value, with BackslashError in place of
-    UnsteadyError, and OverflowError for a whole number of more than 64 bits.
+    Each place takes one value, which is no float. It raises what bind_anywhere raises of a value, with BackslashError in
+    place of UnsteadyError, FloatError for each float, and OverflowError for a whole number of more than 64 bits.
 
     >>> bind_in_both_modes("SELECT * FROM b\u00fccher WHERE t = ?", ["\u00e9"]).decode()
     'SELECT * FROM b\xfccher WHERE t = _utf8mb4 0xC3A9'
@@ -299,10 +303,11 @@ def bind_form_in_both_modes(query: Union[str, bytes], form: bytes) -> bytes:
 def bind_rows(query: Union[str, bytes], rows: Iterable[Params], no_backslash_escape: bool = False) -> list[bytes]:
     """Return the text of each row: what bind returns for the query and the row's parameters.
 
-    The query is parsed once for many rows, which are taken in batches. Ask first_unportable of it before.
+    The query is parsed once for many rows, which are taken in batches; a row with a float is bound by itself. Ask
+    first_unportable of it before. Each place takes one value.
 
-    >>> bind_rows("INSERT INTO t VALUES (?, ?)", [(1, "it's"), (2, None)])
-    [b"INSERT INTO t VALUES (1, 'it\\\\'s')", b'INSERT INTO t VALUES (2, NULL)']
+    >>> bind_rows("INSERT INTO t VALUES (?, ?)", [(1, "it's"), (2, None), (3, 0.25)])
+    [b"INSERT INTO t VALUES (1, 'it\\\\'s')", b'INSERT INTO t VALUES (2, NULL)', b'INSERT INTO t VALUES (3, 0.25e0)']
 
     For the first row that is refused raise what bind raises for it, with two attributes more: `row`, the number of the
     row from 0, and `texts`, the texts of the rows before it. An Error's message begins with the row.

@@ -8,7 +8,7 @@ import os
 import pathlib
 import threading
 from collections import OrderedDict
-from collections.abc import Iterable
+from collections.abc import Callable, Iterable
 from typing import Optional, Union
 
 from . import _form
@@ -281,11 +281,9 @@ def with_table(query: object, mode: object) -> tuple[bytes, Optional[Table]]:
 def bound(
     query: bytes, table: Optional[Table], form: bytes, mode: Union[bool, Anywhere], fragments: bool = False
 ) -> bytes:
-    """Return the text of a query and its table, if there is one.
-
-    The first room is a guess: a literal of bytes has at most twice their number, and quotes.
-    """
-    return whole_answer(query, form, mode, len(query) + 2 * len(form) + 64, fragments, table)
+    """Return the text of a query and its table, if there is one. The first room is a guess."""
+    literals = _form.longest_literals(form) if fragments else 2 * len(form)
+    return whole_answer(query, form, mode, len(query) + literals + 64, fragments, table)
 
 
 def construct_of(number: int) -> Construct:
@@ -348,8 +346,11 @@ ROWS = 512
 class Binder:
     """Rows that are bound to a query, batch after batch."""
 
-    def __init__(self, query: bytes, mode: bool) -> None:
-        self.query, self.mode = query, flag(mode)
+    def __init__(
+        self, query: bytes, mode: bool, form_of: Callable[[object], tuple[bytes, bool]] = _form.row_form
+    ) -> None:
+        """Take what makes the flat form of a row's parameters, and says whether it is for the calls that bind fragments."""
+        self.query, self.mode, self.form_of = query, flag(mode), form_of
         self.texts: list[bytes] = []
         self.room = bytearray()
         self.most = 1 + BATCH // (len(query) + 1)
@@ -385,26 +386,33 @@ class Binder:
 
     def bind_batch(self, forms: list[bytes], size: int) -> None:
         """Append the texts of rows whose forms have this size."""
-        self.bind(b"".join(forms), self.guess(size, len(forms)))
+        if forms:
+            self.bind(b"".join(forms), self.guess(size, len(forms)))
 
     def bind_each(self, rows: Iterable[object]) -> None:
-        """Append the texts of rows whose forms are made one after another, or raise for the first that is refused."""
+        """Append the texts of rows whose forms are made one after another, or raise for the first that is refused.
+
+        The call for many rows binds values alone, so a row that is for the calls that bind fragments is bound by itself.
+        """
         forms: list[bytes] = []
         size = 0
-        row_form = _form.row_form
+        form_of, as_row = self.form_of, _form.as_row
         for params in rows:
             try:
-                form = row_form(params)
+                form, fragments = form_of(params)
             except (TypeError, ValueError, OverflowError) as fault:
                 self.bind_batch(forms, size)  # It may refuse an earlier row.
                 setattr(fault, "row", len(self.texts))
                 setattr(fault, "texts", self.texts)
                 raise
-            forms.append(form)
-            size += len(form)
-            if size >= BATCH or len(forms) >= self.most:
+            if not fragments:
+                forms.append(as_row(form))
+                size += len(form)
+            if fragments or size >= BATCH or len(forms) >= self.most:
                 self.bind_batch(forms, size)
                 forms, size = [], 0
+            if fragments:
+                self.texts.append(bound(self.query, None, form, self.mode, True))
         self.bind_batch(forms, size)
 
     def bind_all(self, rows: Iterable[object]) -> None:

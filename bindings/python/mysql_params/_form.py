@@ -4,6 +4,7 @@ from __future__ import annotations
 
 import datetime
 import decimal
+import math
 import struct
 from collections.abc import Iterable, Mapping
 from typing import Any, Callable, Optional, Union
@@ -182,23 +183,43 @@ def form_by(params: object, value_of: Callable[[object, Union[bytes, int]], byte
 
 def form_of(params: object, zone: Optional[datetime.tzinfo] = None) -> bytes:
     """Return the flat form of parameters that are values; the zone is as for value_form."""
-    zone = zone_of(zone)
-    return form_by(params, lambda value, which: value_form(value, which, zone))
+    return form_by(params, Written(zone_of(zone)).form)
+
+
+class Written:
+    """Parameters that are written, and whether one of them is for the calls that bind fragments, as a finite float is."""
+
+    def __init__(self, zone: Optional[datetime.tzinfo]) -> None:
+        self.zone, self.fragments = zone, False
+
+    def form(self, value: object, which: Union[bytes, int]) -> bytes:
+        """Return type, flags and value of a value."""
+        form = value_form(value, which, self.zone)
+        if form[0] == _DOUBLE and math.isfinite(struct.unpack_from("<d", form, 2)[0]):
+            self.fragments = True
+        return form
 
 
 # Heads of parameters by position, up to their values, or up to the length of a string.
 INT_HEAD = bytes([0, _LONGLONG, 0])
+_DOUBLE_HEAD = bytes([0, _DOUBLE, 0])
 TEXT_HEAD = bytes([0, _VAR_STRING, 0])
 _TEXT_HEADS = [TEXT_HEAD + bytes([length]) for length in range(251)]
 NULL_FORM = bytes([0, _NULL, 0])
 _LENGTHS = [bytes([length]) for length in range(251)]
 
 _pack_int = struct.Struct("<3sq").pack
+_pack_double = struct.Struct("<3sd").pack
 
 
 def _quick_int(number: int) -> bytes:
     """Return the flat form of a whole number by position; it is a struct.error if that has more than 64 bits."""
     return _pack_int(INT_HEAD, number)
+
+
+def _quick_double(number: float) -> bytes:
+    """Return the flat form of a float by position."""
+    return _pack_double(_DOUBLE_HEAD, number)
 
 
 def _quick_text(text: str) -> bytes:
@@ -226,6 +247,9 @@ QUICK: dict[type, Callable[[Any], bytes]] = {
 }
 """Of types themselves, not of their subclasses: what most rows are of."""
 
+_QUICK_ITEMS: dict[type, Callable[[Any], bytes]] = {**QUICK, float: _quick_double}
+"""The same of items, which are bound by the calls that bind fragments: only these write a float."""
+
 
 def _quick_name(name: object) -> bytes:
     """Return a name as a length-encoded string; it is a KeyError if it is no str or empty, an IndexError if it is long."""
@@ -251,9 +275,18 @@ def quick_form(params: object) -> Optional[bytes]:
 def quick_items(values: Iterable[object]) -> Optional[bytes]:
     """Return the flat form of values as items; None unless they are what most rows are of."""
     try:
-        return b"".join([QUICK[type(value)](value)[1:] for value in values])  # The first byte is of a name.
+        return b"".join([_QUICK_ITEMS[type(value)](value)[1:] for value in values])  # The first byte is of a name.
     except (KeyError, IndexError, UnicodeEncodeError, struct.error):
         return None
+
+
+def row_form(params: object) -> tuple[bytes, bool]:
+    """Return the flat form of a row's parameters, which are values, and whether one of them is a finite float."""
+    form = quick_form(params)
+    if form is not None:
+        return form, False
+    written = Written(None)
+    return form_by(params, written.form), written.fragments
 
 
 def as_row(form: bytes) -> bytes:
@@ -261,7 +294,13 @@ def as_row(form: bytes) -> bytes:
     return _LENGTHS[len(form)] + form if len(form) < 251 else string_form(form)
 
 
-def row_form(params: object) -> bytes:
-    """Return the flat form of a row's parameters, as a length-encoded string."""
-    form = quick_form(params)
-    return as_row(form_of(params) if form is None else form)
+# How many bytes more than twice those of its form the number of a double has, which is up to 27 bytes long.
+_MORE_OF_DOUBLE = 7
+
+
+def longest_literals(form: bytes) -> int:
+    """Return how long what is written of a form's values, for one mode, is at most.
+
+    A literal has at most twice the bytes of its form. What looks like the head of a double counts as one.
+    """
+    return 2 * len(form) + min(_MORE_OF_DOUBLE * form.count(_DOUBLE_HEAD[1:]), len(form))

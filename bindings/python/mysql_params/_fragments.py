@@ -1,4 +1,7 @@
-"""What stands in a place beside one value: lists, rows, exact numbers, identifiers and keywords."""
+"""What stands in a place beside one value: lists, rows, exact numbers, identifiers and keywords.
+
+A finite float is a value here, which the same calls write.
+"""
 
 from __future__ import annotations
 
@@ -190,11 +193,8 @@ def fragment_form(value: object, which: Union[bytes, int], zone: Optional[dateti
     return None
 
 
-class _Fragments:
-    """Parameters that are written, and whether one of them is no single value."""
-
-    def __init__(self, zone: Optional[datetime.tzinfo]) -> None:
-        self.zone, self.any = zone, False
+class _Written(_form.Written):
+    """The same of parameters that may be more than values."""
 
     def form(self, value: object, which: Union[bytes, int]) -> bytes:
         """Return type, flags and the rest of what stands in a place."""
@@ -204,12 +204,12 @@ class _Fragments:
             if issubclass(type(value), Iterable) and not issubclass(type(value), _NO_LISTS):
                 kind = type(value).__name__
                 raise TypeError(f"{_form.place(which)} is a {kind}, which is no list: give list(..) of it")
-            return _form.value_form(value, which, self.zone)
-        self.any = True
+            return super().form(value, which)
+        self.fragments = True
         return made
 
 
 def fragments_form_of(params: object, zone: Optional[datetime.tzinfo] = None) -> tuple[bytes, bool]:
-    """Return the flat form of parameters, and whether one of them is no single value. The zone is as for bind."""
-    fragments = _Fragments(zone_of(zone))
-    return _form.form_by(params, fragments.form), fragments.any
+    """Return the flat form of parameters, and whether one is for the calls that bind fragments. The zone is as for bind."""
+    written = _Written(zone_of(zone))
+    return _form.form_by(params, written.form), written.fragments

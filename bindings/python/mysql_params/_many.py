@@ -13,49 +13,16 @@ from ._values import zone_of
 from .errors import Error, FloatError, FragmentError, MarkCountError
 
 
-class _Binder(_archive.Binder):
-    """Texts of rows: those of values alone are bound by calls for many rows, others by themselves."""
-
-    def __init__(self, query: bytes, mode: bool, zone: Optional[datetime.tzinfo]) -> None:
-        super().__init__(query, mode)
-        self.zone = zone
-        self.forms: list[bytes] = []
-        self.size = 0
-
-    def bind_gathered(self) -> None:
-        """Append the texts of the rows that wait for it."""
-        forms, size = self.forms, self.size
-        self.forms, self.size = [], 0
-        self.bind_batch(forms, size)
-
-    def add(self, params: object) -> None:
-        """Have the text of a row appended, now or later."""
-        form, fragments = _form.quick_form(params), False
-        if form is None:
-            try:
-                form, fragments = fragments_form_of(params, self.zone)
-            except (TypeError, ValueError, OverflowError) as fault:
-                self.bind_gathered()  # It may refuse an earlier row.
-                setattr(fault, "row", len(self.texts))
-                raise
-        if fragments:
-            self.bind_gathered()
-            guess = len(self.query) + 2 * len(form) + 64
-            self.texts.append(_archive.whole_answer(self.query, form, self.mode, guess, True))
-            return
-        self.forms.append(_form.as_row(form))
-        self.size += len(form)
-        if self.size >= _archive.BATCH or len(self.forms) >= self.most:
-            self.bind_gathered()
-
-
 def _texts(query: bytes, told: Told, rows: Iterable[object], zone: Optional[datetime.tzinfo]) -> list[bytes]:
     """Return the text of each row. What a row is refused for tells its number."""
-    binder = _Binder(query, told.no_backslash_escape, zone)
+
+    def form_of(params: object) -> tuple[bytes, bool]:
+        form = _form.quick_form(params)
+        return fragments_form_of(params, zone) if form is None else (form, False)
+
+    binder = _archive.Binder(query, told.no_backslash_escape, form_of)
     try:
-        for params in rows:
-            binder.add(params)
-        binder.bind_gathered()
+        binder.bind_each(rows)
     except Error as fault:
         fault.row = len(binder.texts)
         raise
@@ -98,8 +65,8 @@ def executemany(
 _LONGEST_TEXT = 1 << 24
 """How long a text of many rows may get, if the server would take a longer one."""
 
-# A literal with its comma has at most twice the bytes of its form and two more. A row has brackets and a comma too, for which
-# the four bytes of its count do.
+# What a literal has beside it: a comma and a space. A row has brackets and a comma too, for which the four bytes of its count
+# do.
 _BESIDE_LITERAL = 2
 
 
@@ -128,7 +95,7 @@ class _Gatherer:
     def bound(self, forms: list[bytes]) -> bytes:
         """Return the text of rows."""
         form = _form.string_form(self.name) + rows_form(forms)
-        return _archive.whole_answer(self.query, form, self.mode, len(self.query) + 2 * len(form) + 64, True)
+        return _archive.bound(self.query, None, form, self.mode, True)
 
     def refuse(self, fault: Error, forms: list[bytes], number: int) -> NoReturn:
         """Raise what refuses these rows, of which the first has this number, with the number of the row that it is about."""
@@ -167,7 +134,7 @@ class _Gatherer:
             raise
         first = self.first = self.first or form
         width = int.from_bytes(form[:4], "little")
-        size = 2 * len(form) + _BESIDE_LITERAL * width
+        size = _form.longest_literals(form) + _BESIDE_LITERAL * width
         if form[:4] != first[:4]:
             self.bind_gathered()
             try:

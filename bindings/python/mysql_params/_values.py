@@ -118,6 +118,8 @@ def _other(value: object) -> object:
         return operator.index(value)  # type: ignore[arg-type]
     if kind.__module__ == "numpy" and kind.__name__ in ("bool_", "bool"):
         return bool(value)
+    if kind.__module__ == "numpy" and kind.__name__ in ("float16", "float32"):
+        return float(value)  # type: ignore[arg-type]  # It has the same value. A float64 is a float.
     return value
 
 

@@ -223,10 +223,10 @@ class NotAloneError(_WordError):
 
 
 class FloatError(Error):
-    """The value for the place `place` is a floating-point number, which has no literal.
+    """The value for the place `place` is a NaN or an infinity, which no number says: give None for NULL.
 
-    Give a Decimal, or by the calls that take values alone its text, and write ``CAST(:p AS DECIMAL(20,2))`` in the query: a
-    text in arithmetic is computed as a double. Of a finite float that is to stay one give ``repr(value)``.
+    bind_in_both_modes and the calls of a flat form write no float, also no finite one: give ``repr(value)``, a text with
+    which a server computes as the same double.
     """
 
     number = 14
@@ -238,7 +238,7 @@ class FloatError(Error):
 
     def _more(self) -> str:
         which = "" if self.name is None else f": the value of `:{self.name}`"
-        return f"{which}; give a Decimal, or a text"
+        return f"{which}; give None for NaN and infinities, else a text"
 
 
 class UnsteadyError(Error):

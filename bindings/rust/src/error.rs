@@ -96,9 +96,9 @@ pub enum Error {
         /// The word that begins with the name of the place, if it has one and the word is longer.
         word: Option<Vec<u8>>,
     },
-    /// The value for a place is a floating-point number, which has no literal. Give
-    /// [`Fragment::Decimal`](crate::Fragment::Decimal), or where a place takes one value a text, and write
-    /// `CAST(:p AS DECIMAL(20,2))` in the query: a text in arithmetic is computed as a double.
+    /// The value for a place is a floating-point number. [`bind_fragments`](crate::bind_fragments) and
+    /// [`bind_fragments_anywhere`](crate::bind_fragments_anywhere) refuse a NaN and an infinity so, alone or in a list or
+    /// rows: give `NULL`, as `None` makes. The other calls refuse each: give its text.
     Float {
         /// Number of the place.
         place: usize,
@@ -288,7 +288,7 @@ impl fmt::Display for Error {
                 if let Some(name) = name {
                     write!(f, ": the value of `:{name}`")?;
                 }
-                write!(f, "; give a Decimal, or a text")
+                write!(f, "; give None for NaN and infinities, else a text")
             }
             Error::Unsteady { position } => write!(
                 f,

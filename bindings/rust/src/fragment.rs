@@ -18,7 +18,7 @@ pub enum Item<'a> {
 /// What stands in a place of a query. It borrows its bytes.
 ///
 /// Numbers, texts, dates and what else makes a [`Value`] make a fragment by `into()`, a `Vec` of them a list, and a `Vec`
-/// of tuples of them rows.
+/// of tuples of them rows. A finite `f32` or `f64` is written as a number, `1.5e0`: see [`Value::Double`].
 #[derive(Clone, Debug, PartialEq)]
 pub enum Fragment<'a> {
     /// A value.

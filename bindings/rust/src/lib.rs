@@ -215,8 +215,8 @@ pub fn bind_in(
     bind_form_in(query, &form::form_of(params)?, no_backslash_escape)
 }
 
-/// The query with what is given in its places, also lists, rows, exact numbers, identifiers and keywords: the text to
-/// send. Values are written as by [`bind`], and the connection and [`first_unportable`] are as there.
+/// The query with what is given in its places, also floats, lists, rows, exact numbers, identifiers and keywords: the text
+/// to send. All other values are written as by [`bind`], and the connection and [`first_unportable`] are as there.
 ///
 /// ```
 /// use mysql_params::{Fragment, Fragments, bind_fragments};
@@ -225,15 +225,16 @@ pub fn bind_in(
 /// let text = bind_fragments(b"id IN (:ids) ORDER BY id :order", &Fragments::Named(&given))?;
 /// assert_eq!(text, b"id IN (1, 2, 3) ORDER BY id DESC");
 ///
-/// let given = [Fragment::Identifier("t"), vec![(1, "a"), (2, "b")].into()];
+/// let given = [Fragment::Identifier("t"), vec![(1, 0.5), (2, -3.0)].into()];
 /// let text = bind_fragments(b"INSERT INTO ? VALUES ?", &Fragments::Positional(&given))?;
-/// assert_eq!(text, b"INSERT INTO `t` VALUES (1, 'a'), (2, 'b')");
+/// assert_eq!(text, b"INSERT INTO `t` VALUES (1, 0.5e0), (2, -3.0e0)");
 /// # Ok::<(), mysql_params::Error>(())
 /// ```
 ///
 /// # Errors
 ///
-/// Those of [`bind`], and after them [`Error::Fault`], as for an empty list or rows of two lengths.
+/// Those of [`bind`], of which [`Error::Float`] comes only for a NaN or an infinity; after them [`Error::Fault`], as for an
+/// empty list or rows of two lengths.
 pub fn bind_fragments(query: &[u8], fragments: &Fragments<'_>) -> Result<Vec<u8>, Error> {
     bind_fragments_in(query, fragments, false)
 }
@@ -289,7 +290,8 @@ pub fn bind_anywhere(query: &[u8], params: &Params<'_>) -> Result<Vec<u8>, Error
 ///
 /// # Errors
 ///
-/// The first that holds: those of [`bind_anywhere`]; [`Error::Fault`]; [`Error::UnsteadyFragment`].
+/// The first that holds: those of [`bind_anywhere`], of which [`Error::Float`] comes only for a NaN or an infinity;
+/// [`Error::Fault`]; [`Error::UnsteadyFragment`].
 pub fn bind_fragments_anywhere(query: &[u8], fragments: &Fragments<'_>) -> Result<Vec<u8>, Error> {
     let form = &form::form_of_fragments(fragments)?;
     let guess = bound_guess(query, form);

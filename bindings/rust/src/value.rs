@@ -11,10 +11,11 @@ pub enum Value<'a> {
     Int(i64),
     /// An unsigned whole number.
     UInt(u64),
-    /// A number of single precision. It has no literal: binding refuses it as [`Error::Float`](crate::Error::Float),
-    /// which says what to write for a decimal.
+    /// A number of single precision. It is bound as the double of the same value: `0.1f32` as `0.10000000149011612e0`.
     Float(f32),
-    /// A number of double precision. It has no literal: binding refuses it as [`Error::Float`](crate::Error::Float).
+    /// A number of double precision. [`bind_fragments`](crate::bind_fragments) and
+    /// [`bind_fragments_anywhere`](crate::bind_fragments_anywhere) write a finite one with an exponent, `1.5e0`, by which a
+    /// server reads it as this DOUBLE. The other calls refuse each as [`Error::Float`](crate::Error::Float).
     Double(f64),
     /// A date with its time of day.
     Date(Date),

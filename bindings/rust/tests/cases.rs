@@ -145,8 +145,8 @@ fn value(text: &str) -> Owned {
         "null" => Value::Null,
         "i" => Value::Int(number(rest)),
         "u" => Value::UInt(number(rest)),
-        "float" => Value::Float(0.0),
-        "double" => Value::Double(0.0),
+        "float" => Value::Float(number(rest)),
+        "double" => Value::Double(number(rest)),
         "date" => date(rest),
         "time" => time(rest),
         _ => panic!("{text} is no value"),
@@ -420,6 +420,14 @@ fn fragments_of_types() {
         ),
         (vec![(Item::Decimal("1"),)].into(), "(1)"),
         (Fragment::Decimal("-1.50"), "-1.50"),
+        (1.5f64.into(), "1.5e0"),
+        (0.1f32.into(), "0.10000000149011612e0"),
+        (Some(-0.0).into(), "-0.0e0"),
+        (vec![0.5, 1e16].into(), "0.5e0, 1e16"),
+        (
+            vec![(1, 0.5f32, Some(2.0)), (2, 5.0, None)].into(),
+            "(1, 0.5e0, 2.0e0), (2, 5.0e0, NULL)",
+        ),
         // The ends of the types, as the standard library's documentation has them.
         (i128::MIN.into(), "-170141183460469231731687303715884105728"),
         (u128::MAX.into(), "340282366920938463463374607431768211455"),
@@ -453,6 +461,43 @@ fn fragments_of_types() {
         bind_fragments(b":a", &unnamed),
         Err(Error::EmptyName { parameter: 0 })
     );
+}
+
+/// A NaN and an infinity are refused in every place; the calls that bind values refuse each float.
+#[test]
+fn floats() {
+    let error = Error::Float {
+        place: 1,
+        name: None,
+    };
+    for number in [f64::NAN, f64::INFINITY, f64::NEG_INFINITY] {
+        for fragment in [
+            number.into(),
+            (number as f32).into(),
+            vec![0.5, number].into(),
+            vec![(1, 0.5), (2, number)].into(),
+        ] {
+            let given = [0.5.into(), fragment];
+            let given = Fragments::Positional(&given);
+            assert_eq!(bind_fragments(b"?, ?", &given), Err(error.clone()));
+            let text = bind_fragments_anywhere(b"?, ?", &given);
+            assert_eq!(text, Err(error.clone()));
+        }
+    }
+    for float in [Value::Float(1.5), Value::Double(1.5)] {
+        let given = [1.into(), float];
+        let params = Params::Positional(&given);
+        for text in [
+            bind(b"?, ?", &params),
+            bind_anywhere(b"?, ?", &params),
+            bind_in_both_modes(b"?, ?", &params),
+            Template::new(b"?, ?").expect("a template").bind(&params),
+        ] {
+            assert_eq!(text, Err(error.clone()), "{float:?}");
+        }
+        let found = bind_rows(b"?, ?", [params]).expect_err("a float");
+        assert_eq!((found.row, found.error), (0, error.clone()));
+    }
 }
 
 /// Values by position, or by name: what is in a row.
