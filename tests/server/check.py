@@ -15,6 +15,7 @@ import beside
 import client
 import drivers
 import exported
+import floats
 import fragments
 import leaks
 import limits
@@ -50,6 +51,7 @@ def main(path: str, mysql_query: str, mysql_bind: str, folder: str) -> int:
     rows.run(tests, path, folder)
     drivers.run(tests, path)
     fragments.run(tests, path)
+    floats.run(tests, path)
     client.run(tests, path, folder)
     sent.run(tests, folder, is_mysql)
     pipes.run(tests, folder, is_mysql)

@@ -92,12 +92,12 @@ def types(session):
     mysql_params.register(decimal.Decimal, mysql_params.decimal_text)
     price = decimal.Decimal("9007199254740993.01")
     names = uuid.UUID("12345678123456781234567812345678")
-    query = "SELECT :color, :two, :id, CAST(:p AS DECIMAL(20,2)), TIME_TO_SEC(:t), CAST(:m AS DATETIME(6)), :none, :yes"
+    query = "SELECT :color, :two, :id, CAST(:p AS DECIMAL(20,2)), TIME_TO_SEC(:t), CAST(:m AS DATETIME(6)), :none, :yes, :x"
     params = {"color": COLOR.RED, "two": COLOR.TWO, "id": names, "p": price, "t": datetime.time(1, 2, 3)}
-    params.update(m=MOMENT, none=None, yes=True)
+    params.update(m=MOMENT, none=None, yes=True, x=0.1)
     (row,) = session.rows(query, params, zone=datetime.timezone(datetime.timedelta(hours=1)))
     moment = datetime.datetime(2019, 11, 28, 0, 30, 0, 5)
-    same(tuple(row[:4]) + (int(row[4]),) + tuple(row[5:]), ("r'ed", 2, str(names), price, 3723, moment, None, 1))
+    same(tuple(row[:4]) + (int(row[4]),) + tuple(row[5:]), ("r'ed", 2, str(names), price, 3723, moment, None, 1, 0.1))
 
 
 def modes(session):
@@ -203,7 +203,7 @@ def many(session):
             inserts = session.inserts()
             same(call(cursor, f"INSERT INTO strings.many VALUES {place}", iter(rows)), last)
             same(session.inserts() - inserts, texts)
-            for wrong, kind in (({1}, TypeError), (1.5, mysql_params.FloatError), ([], (TypeError, mysql_params.Error))):
+            for wrong, kind in (({1}, TypeError), (float("nan"), mysql_params.FloatError), ([], (TypeError, mysql_params.Error))):
                 refused(kind, call, cursor, f"INSERT INTO strings.many VALUES {place}", [*rows, (0, "", wrong)])
             cursor.close()
             same(session.run("SELECT i, v, p FROM strings.many ORDER BY i"), wanted)

@@ -327,6 +327,9 @@ def _kinds() -> dict:
         "a number": [decimal.Decimal(text) for text in ("2.5", "9.75", "123456789.5", "1" * 30 + ".5")],
         "a negative number": [decimal.Decimal(text) for text in ("-2.5", "-9.75", "-123456789.5", "-" + "1" * 30 + ".5")],
         "numbers": [[decimal.Decimal(text), 2**70 + i] for i, text in enumerate(("2.5", "9.75", "1" * 30 + ".5"))],
+        "a double": [2.5, 1e16, 0.1, 123456.75, 1e-7],
+        "a negative double": [-2.5, -1e16, -0.1, -1e-7],
+        "doubles": [[2.5, 1e16], [1e16, 0.1], [1e-7, 2.5]],
     }
     return kinds
 

@@ -98,7 +98,7 @@ _ACCOUNTS = {
 
 # How the server compares a value with a literal, if not by the bytes of both.
 _COMPARED = {"whole": b"c <=> ?", "date": b"c <=> ?", "time": b"c <=> ?", "text": b"HEX(CAST(c AS CHAR)) <=> HEX(?)",
-             "bits": b"HEX(CAST(c AS BINARY)) <=> HEX(?)"}
+             "bits": b"HEX(CAST(c AS BINARY)) <=> HEX(?)", "float": b"c <=> ?", "double": b"c <=> ?"}
 
 
 class Case(NamedTuple):
@@ -251,7 +251,7 @@ def _form(kind: int, unsigned: bool, value: bytes) -> bytes:
 
 
 def _by_archive(connection: Connection, cases: list) -> str:
-    """Each value in binary form is bound as it stands, and is the column's to the server; floats are refused."""
+    """Each value in binary form is bound as it stands, and is the column's to the server; a float only as a fragment."""
     count = 0
     for case in cases:
         result = connection.binary(case.query)
@@ -264,9 +264,10 @@ def _by_archive(connection: Connection, cases: list) -> str:
             query = b"SELECT %s FROM (%s LIMIT %d, 1) AS z" % (compared, case.query, i)
             if case.kind in ("float", "double") and not is_null:
                 _refused_as_float(query, form, case.name)
-                continue
-            answer = connection.query(mysql_params.bind_form(query, form)).rows()
-            same(answer, [[b"1"]], (case.name, case.sources[i]))
+                text = mysql_params.bind(query, struct.unpack("<f" if case.kind == "float" else "<d", packet[2:]))
+            else:
+                text = mysql_params.bind_form(query, form)
+            same(connection.query(text).rows(), [[b"1"]], (case.name, case.sources[i]))
     return f"{count} values"
 
 

@@ -31,6 +31,7 @@ _STRINGS = [
     b"' , 7 -- ", b"\\' , 7 -- ", b"\xbf' , 7 -- ", "😀' , 7 -- ".encode(), b") , (7 -- ", b"\xff",
 ]  # fmt: skip
 _NUMBERS = ["0", "-0.50", "1.10", "9" * 65, "-" + "9" * 35 + "." + "9" * 30]
+_DOUBLES = [0.0, 0.1, -1.5, 1e16, 5e-324, -1.7976931348623157e308]
 _HOSTILE = [
     b"a", b"' , 7 -- ", b"\\' , 7 -- ", "é' , 7 -- ".encode(), b"*/ , 7 -- ", b"\n, 7 # ", b'" , 7 # ', b"` , 7 # ",
     b") , 7 -- ",
@@ -114,15 +115,17 @@ def _items(connection: Connection) -> str:
 
 
 def _exact_numbers(connection: Connection) -> str:
-    """A number is read to its last digit."""
+    """A number is read to its last digit, and a double as itself."""
     given = [decimal.Decimal(number) for number in _NUMBERS]
     query = "SELECT " + ", ".join(["?"] * len(given)) + ", ? IN (?)"
     text = mysql_params.bind_anywhere(query, [*given, given[-1], given])
+    doubles = mysql_params.bind_anywhere("SELECT ?", [_DOUBLES])
     sets = character_sets(connection)
     for setting in _settings(connection, sets):
         (row,) = connection.query(text).rows()
         same([decimal.Decimal(cell.decode()) for cell in row[:-1]], given, setting)
         same(row[-1], b"1", setting)
+        same(list(map(float, connection.query(doubles).rows()[0])), _DOUBLES, setting)
     return f"{len(given)} numbers, {len(sets)} character sets, {len(_MODES)} modes"
 
 
@@ -170,6 +173,7 @@ def _kinds() -> dict:
         "two rows": [[pair, pair[::-1]] for pair in pairs],
         "a name": [Identifier(name) for name in names],
         "a number": [decimal.Decimal(text) for text in ("2.5", "9.75", "123456789.5", "1" * 30 + ".5")],
+        "a double": [2.5, 1e16, 0.1, 1e-7],
     }
 
 
