@@ -4,7 +4,9 @@ use Rattle.std.specs.Prelude.{ℕ, Bool, true, false, List, [], ◌∷◌, map, 
 use Rattle.std.specs.List.{list_any}
 use Rattle.std.specs.Option.{option_or}
 use Rattle.std.specs.Str.{is_utf8}
+use Rattle.std.specs.Float.Ieee.{Float}
 use Rattle.json.specs.Json.{Json, null, boolean, number, string, array, object, Items, no_items, item, document}
+use Rattle.mysql_float_literal.specs.DoubleText.{double_value}
 use Rattle.mysql_values.specs.declared.value.Value.{Value}
 use Rattle.mysql_values.specs.declared.value.Value.TheVariants as value
 use Rattle.mysql_fragments.specs.declared.fragment.Item.{Item}
@@ -25,8 +27,8 @@ pub data ItemContent : Type 0 where
   value_item : Value → ItemContent
   -- the text of an exact number
   exact_number : List ℕ → ItemContent
-  -- a double, which no type gives
-  other_item : ItemContent
+  -- a double
+  double_number : Float → ItemContent
 
 -- what stands in the place of a name
 pub data Content : Type 0 where
@@ -34,24 +36,26 @@ pub data Content : Type 0 where
   value_content : Value → Content
   -- the text of an exact number
   number_content : List ℕ → Content
+  -- a double
+  double_content : Float → Content
   -- the name of a table or a column
   name_content : List ℕ → Content
   -- items
   list_content : List ItemContent → Content
-  -- a double, rows, a qualified name or a keyword, which no type gives
+  -- rows, a qualified name or a keyword, which no type gives
   other_content : Content
 
 -- what an item says
 abbrev pub item_said : Item → ItemContent
 item_said (one_item.Value v) = value_item v
 item_said (one_item.Decimal text) = exact_number text.items
-item_said (one_item.Double finite) = other_item
+item_said (one_item.Double double) = double_number (double_value double)
 
 -- what a fragment says
 abbrev pub said : Fragment → Content
 said (one.Value v) = value_content v
 said (one.Decimal text) = number_content text.items
-said (one.Double finite) = other_content
+said (one.Double double) = double_content (double_value double)
 said (one.List items) = list_content (map item_said items.items)
 said (one.Identifier name) = name_content name.items
 said (one.Rows rows) = other_content
