@@ -13,7 +13,7 @@ _mysql_bind() {
     --literals) mapfile -t COMPREPLY < <(compgen -W 'steady plain' -- "$cur") && return ;;
     --mode) mapfile -t COMPREPLY < <(compgen -W 'backslash no-backslash' -- "$cur") && return ;;
     --errors) mapfile -t COMPREPLY < <(compgen -W 'text json github' -- "$cur") && return ;;
-    --decimals) mapfile -t COMPREPLY < <(compgen -W 'exact text' -- "$cur") && return ;;
+    --decimals) mapfile -t COMPREPLY < <(compgen -W 'exact double text' -- "$cur") && return ;;
     --env) mapfile -t COMPREPLY < <(compgen -v -- "$cur") && return ;;
     esac
     case $command,$cur in

@@ -119,6 +119,7 @@ INPUTS = {
         "names, plain literals": bound(*PLAIN),
         "names without a mode's check": bound("--allow-unportable"),
         "names of exact numbers": bound(value=lambda n: b"a%d:decimal=1\0" % n),
+        "names of doubles": bound(value=lambda n: b"a%d:double=0.1\0" % n),
         "names of identifiers": bound(value=lambda n: b"a%d:identifier=x\0" % n),
         "names of lists": bound(value=lambda n: b"a%d:list=[1]\0" % n),
         "names from JSON": of_json(),
@@ -131,6 +132,9 @@ INPUTS = {
         "joined names": bound(unit=b"x:a%d, "),
         "a name that a client would change": changed_name,
         "one long text": lambda size: Input(["bind", "--file", "a=text"], b"SELECT :a\n", {"text": repeated(b"it's ", size)}),
+        # The first digits are of the number halfway between 2^53 and the next double.
+        "one long double": lambda size: Input(["bind", "--file", "a:double=text"], b"SELECT :a\n",
+                                              {"text": b"9007199254740993." + repeated(b"0", size) + b"1"}),
     },
     "names": {
         "one name": lambda size: Input(["names"], listed(size, b":a, ")),

@@ -19,7 +19,7 @@ ODD = "x\x1b[31m\r\n\x7f\u009b\u2028\u202ex"
 HOSTILE = f"{SECRET}{ODD}{SECRET}"
 # No type except `bytes` takes them.
 BYTES = SECRET.encode() + b"\xff`\\"
-TYPES = ["int", "uint", "bool", "hex", "base64", "decimal", "list", "identifier"]
+TYPES = ["int", "uint", "bool", "hex", "base64", "decimal", "double", "list", "identifier"]
 FORMS = ["text", "json", "github"]
 CONTROL = re.compile("[\0-\x1f\x7f-\x9f\u061c\u200e\u200f\u2028-\u202e\u2066-\u2069]")
 

@@ -29,9 +29,10 @@ Types:
          dropped (a secret in a file)        bool   true or false: 1 or 0
   bytes  any bytes                           hex    bytes, in hexadecimal
   decimal     an exact number, as -1.50      base64 bytes, in base64
+  double      the double nearest to a decimal number, as 1.5 or -1.5e-7
   identifier  the name of a table or column, written in backquotes
   list        a JSON array, as [1, 2], for IN (:ids): texts, whole and exact
-              numbers, true, false and null
+              numbers, doubles (with an exponent), true, false and null
 
 Rows (rows). The first line of CSV and TSV has the names. Each statement ends
 with `;` on a line of its own. The values above are the same in each row:
@@ -59,8 +60,10 @@ What is refused, unless you say otherwise:
       --allow-unportable     a query that servers or clients read in different ways,
                              and a bound text that a client would change
       --allow-unused         a value for a name that the query has not
-      --decimals=exact|text  a JSON number that is no whole one of 64 bits: bind it
-                             as an exact number, or as its own text
+      --decimals=exact|double|text
+                             a JSON number that is no whole one of 64 bits: bind it
+                             as an exact number, as the nearest double, or as its
+                             own text
 
 Output:
   -o, --output=PATH    write PATH, whole or not at all, in place of standard

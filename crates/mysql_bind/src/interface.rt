@@ -9,7 +9,7 @@ static MODES: [&str; 2] = ["backslash", "no-backslash"];
 
 static FORMS: [&str; 3] = ["text", "json", "github"];
 
-static DECIMALS: [&str; 2] = ["exact", "text"];
+static DECIMALS: [&str; 3] = ["exact", "double", "text"];
 
 // An option that may be given many times.
 fn many<'a>(alloc: Global, name: &'a str) -> Arg<'a> {

@@ -3,7 +3,7 @@ use crate::complaint::{Complaint, bad_file};
 use crate::values::Values;
 use clap::ArgMatches;
 use json::{Error as JsonError, Scratch, Value as Json, Writer, is_number};
-use mysql_bind_core::{ValueType, typed_value};
+use mysql_bind_core::{ValueType, typed_fragment, typed_value};
 use std::alloc::{AllocError, Global};
 
 /// How a JSON number that is no whole one of 64 bits is taken.
@@ -15,6 +15,8 @@ pub enum Decimals {
     Text,
     /// As an exact number.
     Exact,
+    /// As the nearest double.
+    Double,
 }
 
 impl Decimals {
@@ -22,6 +24,7 @@ impl Decimals {
     pub fn of(matches: &ArgMatches<'_>) -> Decimals {
         match matches.get_str("decimals") {
             Some("exact") => Decimals::Exact,
+            Some("double") => Decimals::Double,
             Some(_) => Decimals::Text,
             None => Decimals::Refused,
         }
@@ -37,6 +40,40 @@ fn number_type(alloc: Global, text: &str, decimals: Decimals) -> Result<ValueTyp
         Decimals::Refused => Ok(ValueType::Number),
         Decimals::Text => Ok(ValueType::Text),
         Decimals::Exact => Ok(ValueType::Decimal),
+        Decimals::Double => Ok(ValueType::Double),
+    }
+}
+
+// Whether a number has an exponent.
+fn has_exponent(text: &str) -> bool {
+    text.bytes().any(|byte| byte == b'e' || byte == b'E')
+}
+
+// Writes a number of a list. A double has an exponent there, by which the list takes it as one.
+fn write_number(
+    writer: &mut Writer,
+    alloc: Global,
+    text: &str,
+    decimals: Decimals,
+) -> Result<(), AllocError> {
+    let value_type = number_type(alloc, text, decimals)?;
+    if value_type == ValueType::Double && !has_exponent(text) {
+        let double = format!(in alloc; "{text}e0")?;
+        return write_number_text(writer, value_type, double.as_str());
+    }
+    write_number_text(writer, value_type, text)
+}
+
+// Writes the text of a number, as a text if it is taken so.
+fn write_number_text(
+    writer: &mut Writer,
+    value_type: ValueType,
+    text: &str,
+) -> Result<(), AllocError> {
+    if value_type == ValueType::Text || !is_number(text) {
+        writer.string(text)
+    } else {
+        writer.number(text)
     }
 }
 
@@ -51,14 +88,7 @@ fn write_item(
         Json::Null => writer.null()?,
         Json::Bool(truth) => writer.boolean(*truth)?,
         Json::String(text) => writer.string(text)?,
-        Json::Number(text) => {
-            let value_type = number_type(alloc, text, decimals)?;
-            if value_type == ValueType::Text || !is_number(text) {
-                writer.string(text)?;
-            } else {
-                writer.number(text)?;
-            }
-        }
+        Json::Number(text) => write_number(writer, alloc, text, decimals)?,
         Json::Array(_) | Json::Object(_) => return Ok(false),
     }
     Ok(true)
@@ -82,22 +112,21 @@ fn list_text(
     Ok(Some(writer.into_inner()))
 }
 
-// Whether an item is a number that is refused.
-fn has_refused_number(
+// The type of the first item that is a number and not what its type takes.
+fn refused_number(
     alloc: Global,
     items: &[Json<'_>],
     decimals: Decimals,
-) -> Result<bool, AllocError> {
+) -> Result<Option<ValueType>, AllocError> {
     for json in items {
         if let Json::Number(text) = json {
-            if decimals == Decimals::Refused
-                && typed_value(alloc, ValueType::Number, text.as_bytes())?.is_none()
-            {
-                return Ok(true);
+            let value_type = number_type(alloc, text, decimals)?;
+            if typed_fragment(alloc, value_type, text.as_bytes())?.is_none() {
+                return Ok(Some(value_type));
             }
         }
     }
-    Ok(false)
+    Ok(None)
 }
 
 // The type and the bytes of a member; none of an object, or of a list with another or an object.
@@ -113,10 +142,10 @@ fn member_parts(
         Json::Number(text) => (number_type(alloc, text, decimals)?, *text),
         Json::String(text) => (ValueType::Text, *text),
         Json::Array(items) => {
-            if has_refused_number(alloc, items.as_slice(), decimals)? {
-                // Its text has no value, as that of a number alone.
+            if let Some(value_type) = refused_number(alloc, items.as_slice(), decimals)? {
+                // A sign is no number, so that the list is refused as that number alone is.
                 let bytes = Vec::from_slice(alloc, b"-")?;
-                return Ok(Some((ValueType::Number, bytes)));
+                return Ok(Some((value_type, bytes)));
             }
             return match list_text(alloc, items.as_slice(), decimals)? {
                 Some(bytes) => Ok(Some((ValueType::List, bytes))),

@@ -48,8 +48,8 @@ impl Values {
 }
 
 /// The words of types.
-pub static TYPES: &str = "text, line, bytes, int, uint, bool, hex, base64, decimal, identifier \
-     and list";
+pub static TYPES: &str = "text, line, bytes, int, uint, bool, hex, base64, decimal, double, \
+     identifier and list";
 
 /// The type of a word.
 pub fn type_of(word: &str) -> Option<ValueType> {
@@ -63,6 +63,7 @@ pub fn type_of(word: &str) -> Option<ValueType> {
         "hex" => Some(ValueType::Hex),
         "base64" => Some(ValueType::Base64),
         "decimal" => Some(ValueType::Decimal),
+        "double" => Some(ValueType::Double),
         "identifier" => Some(ValueType::Identifier),
         "list" => Some(ValueType::List),
         _ => None,
@@ -77,12 +78,13 @@ pub fn wrong_value(value_type: ValueType) -> &'static str {
         ValueType::Int => "is no whole number from -2^63 to 2^63-1",
         ValueType::Uint => "is no whole number from 0 to 2^64-1",
         ValueType::Number =>
-            "is no whole number of 64 bits: write it as a string, or give --decimals=exact or \
-             --decimals=text",
+            "is no whole number of 64 bits: write it as a string, or give --decimals=exact, \
+             --decimals=double or --decimals=text",
         ValueType::Bool => "is neither true nor false",
         ValueType::Hex => "is not pairs of hexadecimal digits",
         ValueType::Base64 => "is no base64 with padding",
         ValueType::Decimal => "is no exact number of at most 65 digits, such as -1.50",
+        ValueType::Double => "is no decimal number in the range of a double, such as -1.5e-7",
         ValueType::Identifier =>
             "is no name of 1 to 64 characters of UTF-8 without a byte 0, a space at its end, and a \
              backslash there or before a backquote",

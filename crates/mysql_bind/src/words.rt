@@ -145,8 +145,8 @@ fn usage_text(kind: ErrorKind) -> &'static str {
             "the first word is one of bind, rows, names and check (mysql_bind --help)",
         ErrorKind::InvalidValue =>
             "an option has a word that it doesn't take, or none: --literals takes steady or plain, \
-             --mode backslash or no-backslash, --errors text, json or github, --decimals exact \
-             or text (mysql_bind --help)",
+             --mode backslash or no-backslash, --errors text, json or github, --decimals exact, \
+             double or text (mysql_bind --help)",
         ErrorKind::ArgumentConflict =>
             "an option that is taken once is given twice (mysql_bind --help)",
         ErrorKind::TooManyValues => "a flag takes no value (mysql_bind --help)",

@@ -16,7 +16,7 @@ use Rattle.mysql_bind_core.specs.declared.failure.Failure.{Failure}
 use Rattle.mysql_bind_core.specs.declared.failure.Failure.TheVariants as failure
 use Rattle.mysql_bind_core.specs.declared.request.Request.{Request}
 use Rattle.mysql_bind_core.specs.declared.value_type.ValueType.{ValueType}
-use Rattle.mysql_bind_core.specs.declared.value_type.ValueType.TheVariants.{Null, Text, Line, Bytes, Int, Uint, Number, Bool as Truth, Hex, Base64, Decimal, Identifier, List as ListType}
+use Rattle.mysql_bind_core.specs.declared.value_type.ValueType.TheVariants.{Null, Text, Line, Bytes, Int, Uint, Number, Bool as Truth, Hex, Base64, Decimal, Double, Identifier, List as ListType}
 
 -- ---- assignments that say the same
 
@@ -121,6 +121,7 @@ valued Truth bytes v e = refl
 valued Hex bytes v e = refl
 valued Base64 bytes v e = refl
 valued Decimal bytes v e = absurd cc
+valued Double bytes v e = absurd cc
 valued Identifier bytes v e = absurd cc
 valued ListType bytes v e = absurd cc
 

@@ -67,7 +67,8 @@ pub record IsValuesText (request : Request) (query : List ℕ) (assignments : Li
   pub bound : OnTokens (mode_of request.literals) query (λ ts.
       IsTextFor request.literals request.portability query ts given text)
 
--- the text that is written for assignments of which one is an exact number, a name or a list
+-- the text that is written for assignments of which one is an exact number, a double, a name or a
+-- list
 pub record IsFragmentsText (request : Request) (query : List ℕ) (assignments : List Assignment)
     (text : List ℕ) : Type 0 where
   -- there are fragments that say exactly what the bytes of the assignments say, by their names,

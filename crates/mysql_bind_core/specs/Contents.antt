@@ -1,10 +1,12 @@
--- What the bytes of a source put in the place of a name: a value, or an exact number, a name of a
--- table or a column, or a list, which is a JSON array.
-use Rattle.std.specs.Prelude.{ℕ, Bool, true, false, List, [], ◌∷◌, map, if◌then◌else◌, Option, Some, None, option_map, option_and_then, pos, is_none}
+-- What the bytes of a source put in the place of a name: a value, or an exact number, a double, a
+-- name of a table or a column, or a list, which is a JSON array.
+use Rattle.std.specs.Prelude.{◌==◌, ◌||◌, ℕ, Bool, true, false, List, [], ◌∷◌, map, if◌then◌else◌, Option, Some, None, option_map, option_and_then, pos, is_none}
 use Rattle.std.specs.List.{list_any}
 use Rattle.std.specs.Option.{option_or}
-use Rattle.std.specs.Str.{is_utf8}
+use Rattle.std.specs.Str.{byte, is_utf8}
+use Rattle.std.specs.Float.{binary64, float_is_finite}
 use Rattle.std.specs.Float.Ieee.{Float}
+use Rattle.std.specs.Float.Parse.{parse_float}
 use Rattle.json.specs.Json.{Json, null, boolean, number, string, array, object, Items, no_items, item, document}
 use Rattle.mysql_float_literal.specs.DoubleText.{double_value}
 use Rattle.mysql_values.specs.declared.value.Value.{Value}
@@ -17,7 +19,7 @@ use Rattle.mysql_fragments.specs.FragmentFaults.{number_fault, name_fault}
 use Rattle.mysql_bind_core.specs.ValueTypes.{typed_value, number_value}
 use Rattle.mysql_bind_core.specs.declared.assignment.Assignment.{Assignment}
 use Rattle.mysql_bind_core.specs.declared.value_type.ValueType.{ValueType}
-use Rattle.mysql_bind_core.specs.declared.value_type.ValueType.TheVariants.{Decimal, Identifier, List as ListType}
+use Rattle.mysql_bind_core.specs.declared.value_type.ValueType.TheVariants.{Decimal, Double, Identifier, List as ListType}
 
 -- ---- what fragments say, without where their bytes stand in memory
 
@@ -72,6 +74,15 @@ is_number text = is_none (number_fault 0 0 text)
 abbrev pub number_of : List ℕ → Option Content
 number_of text = if is_number text then Some (number_content text) else None
 
+-- the double that all of the text reads as, the nearest one to its decimal number, if it is finite
+abbrev pub finite_double : List ℕ → Option Float
+finite_double text =
+    option_and_then (λ x. if float_is_finite x then Some x else None) (parse_float binary64 text)
+
+-- a double
+abbrev pub double_of : List ℕ → Option Content
+double_of text = option_map double_content (finite_double text)
+
 -- a name that servers take, in UTF-8
 abbrev pub name_of : List ℕ → Option Content
 name_of bytes =
@@ -82,9 +93,19 @@ name_of bytes =
 abbrev pub exact_item : List ℕ → Option ItemContent
 exact_item text = if is_number text then Some (exact_number text) else None
 
--- the item of a number: a whole one of 64 bits, or else an exact one
+-- a double as an item
+abbrev pub double_item : List ℕ → Option ItemContent
+double_item text = option_map double_number (finite_double text)
+
+-- an `e` stands in the text
+abbrev pub has_exponent : List ℕ → Bool
+has_exponent text = list_any (λ b. b == byte "e" || b == byte "E") text
+
+-- the item of a number: with an exponent a double, else a whole one of 64 bits or an exact one
 abbrev pub number_item : List ℕ → Option ItemContent
-number_item text = option_or (option_map value_item (number_value text)) (exact_item text)
+number_item text =
+    if has_exponent text then double_item text
+    else option_or (option_map value_item (number_value text)) (exact_item text)
 
 -- the item of a JSON value
 abbrev pub item_of : Json → Option ItemContent
@@ -124,6 +145,7 @@ list_in bytes = if is_utf8 bytes then list_of_json (document bytes) else None
 -- what the bytes say as this type; none if they say nothing
 abbrev pub content : ValueType → List ℕ → Option Content
 content Decimal bytes = number_of bytes
+content Double bytes = double_of bytes
 content Identifier bytes = name_of bytes
 content ListType bytes = list_in bytes
 content value_type bytes = option_map value_content (typed_value value_type bytes)
@@ -133,6 +155,7 @@ content value_type bytes = option_map value_content (typed_value value_type byte
 -- the type gives values
 abbrev pub is_value_type : ValueType → Bool
 is_value_type Decimal = false
+is_value_type Double = false
 is_value_type Identifier = false
 is_value_type ListType = false
 is_value_type value_type = true

@@ -1,5 +1,5 @@
 -- What the bytes of a source mean as a value of a type. Dates and times are texts: their literal is
--- that of the text. Exact numbers, names and lists are no values (Contents.antt).
+-- that of the text. Exact numbers, doubles, names and lists are no values (Contents.antt).
 use Rattle.std.specs.Prelude.{◌-◌, ℕ, Bool, true, false, List, [], ◌∷◌, codes, length, take, if◌then◌else◌, nat_eq, Option, Some, None, option_map, Result, Ok, Err, pos, unsigned_abs}
 use Rattle.std.specs.List.{list_any, ends_with}
 use Rattle.std.specs.Option.{option_or}
@@ -13,7 +13,7 @@ use Rattle.mysql_values.specs.Intermediate.{committed}
 use Rattle.mysql_values.specs.Value.{IsBytes}
 use Rattle.mysql_values.specs.WholeNumber.{whole_conversion}
 use Rattle.mysql_bind_core.specs.declared.value_type.ValueType.{ValueType}
-use Rattle.mysql_bind_core.specs.declared.value_type.ValueType.TheVariants.{Null, Text, Line, Bytes, Int, Uint, Number, Bool as Truth, Hex, Base64, Decimal, Identifier, List as ListType}
+use Rattle.mysql_bind_core.specs.declared.value_type.ValueType.TheVariants.{Null, Text, Line, Bytes, Int, Uint, Number, Bool as Truth, Hex, Base64, Decimal, Double, Identifier, List as ListType}
 
 -- a newline
 abbrev pub newline : ℕ
@@ -85,6 +85,7 @@ typed_value Truth bytes = truth_value bytes
 typed_value Hex bytes = hex_value bytes
 typed_value Base64 bytes = base64_value bytes
 typed_value Decimal bytes = None
+typed_value Double bytes = None
 typed_value Identifier bytes = None
 typed_value ListType bytes = None
 

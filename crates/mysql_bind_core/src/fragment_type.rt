@@ -2,11 +2,13 @@
 ghost use Rattle.std.specs.Prelude.{◌≡◌, IfOk, Some, map, option_map};
 ghost use Rattle.json.specs.Json.{document};
 ghost use Rattle.json.specs.Value.{value_view};
-ghost use Rattle.mysql_bind_core.specs.Contents.{all_of, content, is_value_type, item_of, item_said, list_in, list_of_json, name_of, number_item, number_of, said};
+ghost use Rattle.mysql_float_literal.specs.DoubleText.{double_value};
+ghost use Rattle.mysql_bind_core.specs.Contents.{all_of, content, double_item, double_of, finite_double, has_exponent, is_value_type, item_of, item_said, list_in, list_of_json, name_of, number_item, number_of, said};
 
 use crate::lent_value::lent_number;
 use crate::value_type::{ValueType, copied, is_utf8, typed_value};
 use json::{Error as JsonError, Scratch, Value as Json};
+use mysql_float_literal::Double;
 use mysql_fragments::{Fragment, Item};
 use mysql_values::bytes::Bytes;
 use mysql_values::value::Value;
@@ -23,6 +25,7 @@ pub fn typed_fragment(
 {
     match value_type {
         ValueType::Decimal => number_of(alloc, bytes),
+        ValueType::Double => Ok(double_of(bytes)),
         ValueType::Identifier => name_of(alloc, bytes),
         ValueType::List => list_in(alloc, bytes),
         value_type => match typed_value(alloc, value_type, bytes)? {
@@ -38,7 +41,7 @@ pub(crate) fn is_value_type(value_type: ValueType) -> bool
 {
     !matches!(
         value_type,
-        ValueType::Decimal | ValueType::Identifier | ValueType::List
+        ValueType::Decimal | ValueType::Double | ValueType::Identifier | ValueType::List
     )
 }
 
@@ -51,6 +54,26 @@ fn number_of(alloc: Global, text: &[u8]) -> Result<Option<Fragment>, AllocError>
         Ok(Some(number))
     } else {
         Ok(None)
+    }
+}
+
+// The double nearest to a decimal number, if it is finite: `inf` and `nan` are none.
+fn finite_double(text: &[u8]) -> Option<Double>
+    ensures { option_map double_value result ≡ finite_double text.now }
+{
+    match fast_float::parse::<f64, _>(text) {
+        Ok(double) => Double::new(double),
+        Err(_) => None,
+    }
+}
+
+// A double.
+fn double_of(text: &[u8]) -> Option<Fragment>
+    ensures { option_map said result ≡ double_of text.now }
+{
+    match finite_double(text) {
+        Some(double) => Some(Fragment::Double(double)),
+        None => None,
     }
 }
 
@@ -140,10 +163,31 @@ fn item_of(alloc: Global, json: &Json<'_>) -> Result<Option<Item>, AllocError>
     }
 }
 
-// The item of a number: a whole one of 64 bits, or else an exact one.
+// A double as an item.
+fn double_item(text: &[u8]) -> Option<Item>
+    ensures { option_map item_said result ≡ double_item text.now }
+{
+    match finite_double(text) {
+        Some(double) => Some(Item::Double(double)),
+        None => None,
+    }
+}
+
+// Whether an `e` stands in the text.
+fn has_exponent(text: &[u8]) -> bool
+    ensures { result ≡ has_exponent text.now }
+{
+    text.iter().any(|byte| *byte == b'e' || *byte == b'E')
+}
+
+// The item of a number: with an exponent a double, else a whole one of 64 bits, or else an exact
+// one.
 fn number_item(alloc: Global, text: &[u8]) -> Result<Option<Item>, AllocError>
     ensures { IfOk result (λ found. option_map item_said found ≡ number_item text.now) }
 {
+    if has_exponent(text) {
+        return Ok(double_item(text));
+    }
     if let Some(value) = copied(alloc, lent_number(text))? {
         return Ok(Some(Item::Value(value)));
     }

@@ -1,4 +1,5 @@
-//! The text of a query and of assignments of which one is an exact number, a name or a list.
+//! The text of a query and of assignments of which one is an exact number, a double, a name or a
+//! list.
 ghost use Rattle.std.specs.Prelude.{◌≡◌, ◌≢◌, false, IfOk, IfErr};
 ghost use Rattle.mysql_named_params.specs.Tokens.{OnTokens};
 ghost use Rattle.mysql_fragments.specs.GivenFragments.{given_fragments};

@@ -24,6 +24,7 @@ pub(crate) fn lent_value(value_type: ValueType, bytes: &[u8]) -> Option<ValueRef
         ValueType::Hex
         | ValueType::Base64
         | ValueType::Decimal
+        | ValueType::Double
         | ValueType::Identifier
         | ValueType::List => None,
     }

@@ -39,16 +39,20 @@ pub enum ValueType {
     /// As an exact number, which is written as it is: at most one `-`, then at most 65 digits with
     /// at most one point between them. It is no value.
     Decimal,
+    /// As the double nearest to a decimal number, at a tie the even one: at most one sign, digits
+    /// with at most one point, and at most an exponent after `e` or `E`. It has to be finite, and
+    /// is no value.
+    Double,
     /// As the name of a table or a column, in UTF-8, which is written in backquotes. It is no
     /// value.
     Identifier,
-    /// As a list: a JSON array of null, truth values, texts, whole numbers of 64 bits and exact
-    /// numbers. It is no value.
+    /// As a list: a JSON array of null, truth values, texts, whole numbers of 64 bits, exact
+    /// numbers, and doubles, which have an exponent. It is no value.
     List,
 }
 
-/// The value of the bytes, if they have one of this type. An exact number, a name and a list are
-/// no values: [`typed_fragment`](crate::typed_fragment) has them.
+/// The value of the bytes, if they have one of this type. An exact number, a double, a name and a
+/// list are no values: [`typed_fragment`](crate::typed_fragment) has them.
 pub fn typed_value(
     alloc: Global,
     value_type: ValueType,
@@ -68,7 +72,9 @@ pub fn typed_value(
         ValueType::Bool => Ok(truth_value(bytes)),
         ValueType::Hex => hex_value(alloc, bytes),
         ValueType::Base64 => base64_value(alloc, bytes),
-        ValueType::Decimal | ValueType::Identifier | ValueType::List => Ok(None),
+        ValueType::Decimal | ValueType::Double | ValueType::Identifier | ValueType::List => Ok(
+            None,
+        ),
     }
 }
 

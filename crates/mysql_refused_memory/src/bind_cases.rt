@@ -5,7 +5,8 @@ use crate::bind_inputs::{
 };
 use crate::outcome::{Case, Outcome, cases, row};
 use mysql_bind_core::ValueType::{
-    Base64, Bool, Bytes, Decimal, Hex, Identifier, Int, Line, List, Null, Number, Text, Uint,
+    Base64, Bool, Bytes, Decimal, Double, Hex, Identifier, Int, Line, List, Null, Number, Text,
+    Uint,
 };
 use mysql_bind_core::{Request, write_bound};
 use std::alloc::Global;
@@ -64,6 +65,10 @@ const WRITTEN: &[(&str, Row)] = cases! {
         b"a IN (:a)", LIST, PLAIN, Ok(b"a IN (7, 2.5, 'it\\'s', NULL)");
     "write_bound of an exact number" =>
         b"a = :a", &[(b"a", Decimal, b"-1.50")], STEADY, Ok(b"a = -1.50");
+    "write_bound of a double" =>
+        b"a = :a", &[(b"a", Double, b"-1.50")], STEADY, Ok(b"a = -1.5e0");
+    "write_bound of a list with a double" =>
+        b"a IN (:a)", &[(b"a", List, b"[1.5E-7, 1]")], STEADY, Ok(b"a IN (1.5e-7, 1)");
     "write_bound of an open query" => b"':a", NUMBER, STEADY, Err("Open { at: 0 }");
     "write_bound of an unsteady query" => b"'\\\\':a", NUMBER, STEADY, Err("Unsteady { at: 1 }");
     "write_bound of a query that is not portable" =>
