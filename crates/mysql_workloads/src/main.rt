@@ -1,11 +1,13 @@
 //! The jobs that users wait for, by the public calls, on inputs that are made of a seed.
 //!
 //! The words are a job, a seed and a size, as `rows_in 7 100`; the job `all` runs each. It prints a
-//! digest of all results of a job, which depends on nothing but the words.
+//! digest of all results of a job, which depends on nothing but the words. The word `borrowed` in
+//! place of a job compares so many random cases by the calls for borrowed and for owned values.
 #![tactic(auto)]
 
 mod awkward;
 mod batches;
+mod borrowed;
 mod digest;
 mod pools;
 mod random;
@@ -61,27 +63,33 @@ fn print_job(rt: &HostRuntime, name: &str, seed: u64, size: usize) -> io::Result
     }
 }
 
-// Does what the words say.
-fn answer(rt: &HostRuntime) -> io::Result<()> {
+// Does what the words say. It gives whether nothing was found that must not be.
+fn answer(rt: &HostRuntime) -> io::Result<bool> {
     let mut words = env::args(rt)?.skip(1);
     let (Some(name), Some(seed), Some(size)) = (words.next(), words.next(), words.next()) else {
-        return println!(rt; "usage: JOB SEED SIZE");
+        println!(rt; "usage: JOB SEED SIZE, or borrowed SEED COUNT")?;
+        return Ok(true);
     };
     let (Ok(seed), Ok(size)) = (seed.as_str().parse::<u32>(), size.as_str().parse::<usize>()) else {
-        return println!(rt; "SEED and SIZE are numbers");
+        println!(rt; "SEED and SIZE are numbers")?;
+        return Ok(true);
     };
+    if name.as_str() == "borrowed" {
+        return Ok(borrowed::print(rt, u64::from(seed), size));
+    }
     for job in JOBS {
         if name.as_str() == job || name.as_str() == "all" {
             print_job(rt, job, u64::from(seed), size)?;
         }
     }
-    Ok(())
+    Ok(true)
 }
 
-// Ends with the status 0, unless a line can't be printed.
+// Ends with the status 0, unless a line can't be printed, or a comparison failed.
 fn main(rt: HostRuntime) -> ExitCode {
     match answer(&rt) {
-        Ok(()) => ExitCode::SUCCESS,
+        Ok(true) => ExitCode::SUCCESS,
+        Ok(false) => ExitCode::FAILURE,
         Err(_) => ExitCode::FAILURE,
     }
 }

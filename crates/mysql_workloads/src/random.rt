@@ -25,6 +25,18 @@ impl Random {
         scaled(self.next() >> 32, limit)
     }
 
+    /// The next byte.
+    pub fn byte(&mut self) -> u8 {
+        let [byte, ..] = self.next().to_le_bytes();
+        byte
+    }
+
+    /// The next number of 32 bits.
+    pub fn word(&mut self) -> u32 {
+        let [a, b, c, d, ..] = self.next().to_le_bytes();
+        u32::from_le_bytes([a, b, c, d])
+    }
+
     /// The next number of up to 19 digits, each length about as often.
     pub fn positive(&mut self) -> i64 {
         let number = self.next();
