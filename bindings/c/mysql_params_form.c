@@ -205,22 +205,26 @@ bool mysql_params_append_time(mysql_params_form *form, const char *name, mysql_p
     return append_parameter(form, name, TYPE_TIME, 0, value, 13, NULL, 0);
 }
 
+/* Appends a floating-point number whose bits take `size` bytes, 8 at most. */
+static bool append_bits(mysql_params_form *form, const char *name, uint8_t type, uint64_t bits, size_t size)
+{
+    uint8_t value[8];
+    fill_number(value, size, bits);
+    return append_parameter(form, name, type, 0, value, size, NULL, 0);
+}
+
 bool mysql_params_append_double(mysql_params_form *form, const char *name, double number)
 {
     uint64_t bits;
-    uint8_t value[8];
     memcpy(&bits, &number, sizeof bits);
-    fill_number(value, 8, bits);
-    return append_parameter(form, name, TYPE_DOUBLE, 0, value, 8, NULL, 0);
+    return append_bits(form, name, TYPE_DOUBLE, bits, sizeof bits);
 }
 
 bool mysql_params_append_float(mysql_params_form *form, const char *name, float number)
 {
     uint32_t bits;
-    uint8_t value[4];
     memcpy(&bits, &number, sizeof bits);
-    fill_number(value, 4, bits);
-    return append_parameter(form, name, TYPE_FLOAT, 0, value, 4, NULL, 0);
+    return append_bits(form, name, TYPE_FLOAT, bits, sizeof bits);
 }
 
 /* Appends a parameter whose value is a text that a zero byte ends. */
