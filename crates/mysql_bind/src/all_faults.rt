@@ -4,7 +4,7 @@ use crate::query_file::{JOINED, MARK, PlacesInOrder, QueryFile, UNSTEADY, compla
 use crate::rewritten::in_single_quotes;
 use crate::values::Values;
 use mysql_bind_core::{Failure, Request};
-use mysql_binding::place_survey;
+use mysql_binding::SurveyedQuery;
 use mysql_named_params::client::first_unportable_in_client;
 use mysql_named_params::places::first_place;
 use mysql_named_params::portable::{Construct, Unportable};
@@ -70,7 +70,7 @@ pub fn add_joined(
 
 // Whether the first name of a text, behind which at most one byte stands, doesn't stand alone.
 fn is_joined(text: &[u8], mode: bool) -> bool {
-    let (survey, _) = place_survey(text, &mut [], mode);
+    let survey = SurveyedQuery::new(text, mode, &mut []).survey;
     matches!(survey.not_alone, Some((0, _)))
 }
 

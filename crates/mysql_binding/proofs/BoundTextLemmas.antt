@@ -1,5 +1,5 @@
 -- The pieces of a query with the literals of values between them keep what is promised.
-use Rattle.std.specs.Prelude.{Result, Ok, Err, IfOk, option_map, IsSomeAnd}
+use Rattle.std.specs.Prelude.{Result, Ok, Err, IfErr, IfOk, option_map, IsSomeAnd}
 use Rattle.std.specs.Option.{option_or}
 use Rattle.std.proofs.Common.{◌≡◌, ◌⊎◌, inl, inr, Bool, ℕ, ◌<◌, List, [], ◌∷◌, length, map, refl, sym, ap, ◌∙◌, arith, Option, Some, None}
 use Rattle.mysql_values.specs.declared.value.Value.{Value}
@@ -20,7 +20,7 @@ use Rattle.mysql_binding.specs.Survey.{IsSurvey}
 use Rattle.mysql_binding.specs.LiteralForm.{Literals, LiteralFacts, AreWrittenAs, IsPlainLiteral}
 use Rattle.mysql_binding.specs.MeasuredText.{IsLookedUp}
 use Rattle.mysql_binding.specs.WrittenText.{IsGivenText, IsWrittenText}
-use Rattle.mysql_binding.specs.BindErrors.{IsCauseOrMemory, cause_of}
+use Rattle.mysql_binding.specs.BindErrors.{IsCauseOrMemory, IsLookupError, cause_of}
 use Rattle.mysql_binding.specs.Isolation.{IsBoundText}
 use Rattle.mysql_binding.specs.Replaced.{AreLiterals, with_literal_tokens}
 use Rattle.mysql_binding.specs.BoundAgain.{IsSameBoundAgain, IsSameByPosition}
@@ -130,6 +130,15 @@ refused_lookup mode query given count ns error unmixed listed r =
     on_map mode query (λ ts. ((count ≡ length (names ts)) × (mixed_cause ts ≡ None)) × (ns ≡ names ts)) (λ ts. IsCauseOrMemory (first_cause ts given) error)
     (λ ts is h. inr (refused_params r.0, ap (λ x. option_or x (cause_after_lookup ts (lookup given (names ts)))) h.0.1 ∙ ap (cause_after_lookup ts) (ap (lookup given) (sym h.1) ∙ r.1), r.2))
     (on_both mode query _ (λ ts. ns ≡ names ts) unmixed listed)
+
+-- an error of a lookup of the names that are listed
+pub lookup_told : {A : Type 0} (mode : Bool) (query : List ℕ) (given : Given) (count : ℕ) (ns : List (List ℕ)) (r : Result A BindError) →
+    OnTokens mode query (λ ts. (count ≡ length (names ts)) × (mixed_cause ts ≡ None)) →
+    OnTokens mode query (λ ts. ns ≡ names ts) → IfErr r (IsLookupError given ns) →
+    IfErr r (λ error. OnTokens mode query (λ ts. IsCauseOrMemory (first_cause ts given) error))
+lookup_told mode query given count ns (Ok a) unmixed listed told = tt
+lookup_told mode query given count ns (Err error) unmixed listed (inl memory) = (unmixed.0, unmixed.1, inl memory)
+lookup_told mode query given count ns (Err error) unmixed listed (inr r) = refused_lookup mode query given count ns error unmixed listed r
 
 pub looked_up_names : (mode : Bool) (query : List ℕ) (given : Given) (ns : List (List ℕ)) (values : List Value) →
     OnTokens mode query (λ ts. ns ≡ names ts) → lookup given ns ≡ Ok values →

@@ -25,6 +25,10 @@ found_value (Some w) v why e = cc
 value_in_map : (m : ValueMap) (n : List ℕ) (v : Value) → lookup (named m) (n ∷ []) ≡ Ok (v ∷ []) → get m n ≡ Some v
 value_in_map m n v e = found_value (get m n) v _ e
 
+-- what a map gives for a name by itself
+pub looked_up_in_map : (m : ValueMap) (n : List ℕ) (v : ValueRef) → option_map owned (Some v) ≡ get m n → lookup (named m) (n ∷ []) ≡ Ok (owned v ∷ [])
+looked_up_in_map m n v e = rw (sym e) refl
+
 values_in_map : (m : ValueMap) (ns : List (List ℕ)) (vs : List Value) → AreLookedUp (named m) ns vs → map (get m) ns ≡ map (λ x. Some x) vs
 values_in_map m [] [] e = refl
 values_in_map m [] (v ∷ vs) e = cc

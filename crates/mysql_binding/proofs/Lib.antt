@@ -16,6 +16,7 @@ pub mod TextLengthLemmas
 pub mod SurveyLemmas
 pub mod CauseLemmas
 pub mod FoundPlacesLemmas
+pub mod SurveyedQueryLemmas
 pub mod NameListLemmas
 pub mod FoundValueLemmas
 pub mod WrittenTextLemmas

@@ -1,5 +1,5 @@
 -- The text that is written from what was measured, and its length.
-use Rattle.std.specs.Prelude.{Bool, option_map, ◌^◌}
+use Rattle.std.specs.Prelude.{Bool, Ok, Err, IfErr, IfOk, Result, option_map, ◌^◌}
 use Rattle.mysql_value_core.specs.declared.value.borrowed.ValueRef.{ValueRef}
 use Rattle.std.specs.List.{All, sum, sum_by}
 use Rattle.std.proofs.Common.{◌≡◌, ℕ, ◌+◌, ◌<◌, ◌≤◌, List, [], ◌∷◌, ◌++◌, length, take, drop, take_all, length-append, map, Option, Some, None, refl, sym, ap, ◌∙◌, subst, arith}
@@ -14,13 +14,16 @@ use Rattle.mysql_named_params.specs.Tokens.{Token, OnTokens, bytes_of, Name, Mar
 use Rattle.mysql_named_params.specs.Places.{place_count}
 use Rattle.mysql_params_core.specs.Given.{Given}
 use Rattle.mysql_values.specs.BorrowedValue.{owned_values}
-use Rattle.mysql_binding.specs.FirstCause.{float_value, first_float_from, first_float}
+use Rattle.mysql_binding.specs.AppendedText.{AreFound}
+use Rattle.mysql_binding.specs.BindErrors.{IsCauseOrMemory}
+use Rattle.mysql_binding.specs.FirstCause.{first_cause, float_value, first_float_from, first_float}
 use Rattle.mysql_binding.specs.LiteralForm.{Literals, LiteralFacts, LackFloats, AreWrittenAs, literal_len, written_literal}
 use Rattle.mysql_binding.specs.MeasuredText.{HasGivenLength, IsLookedUp, IsMeasured, IsOfFields}
 use Rattle.mysql_binding.specs.Survey.{IsSurvey}
 use Rattle.mysql_binding.specs.TextInRoom.{IsTextInRoom}
 use Rattle.mysql_binding.specs.TextLength.{pieces_len}
 use Rattle.mysql_binding.specs.WrittenText.{IsGivenText, IsWrittenText}
+use Rattle.mysql_binding.specs.declared.bind_error.BindError.{BindError}
 use Rattle.mysql_binding.specs.declared.binding.measured.MeasuredText.{MeasuredText}
 use Rattle.mysql_binding.specs.declared.binding.room.TextInRoom.TheVariants.{Written}
 use Rattle.mysql_binding.specs.declared.binding.survey.Survey.{Survey}
@@ -157,3 +160,19 @@ pub front_text : (mode : Bool) (literal : Literals) (IsKnown : LiteralFacts) (qu
 front_text mode literal IsKnown query given len text room fits long o =
     let front : take len (text ++ drop len room) ≡ text = take-append-le len text (drop len room) (omega (arith, long)) ∙ take_all len text (omega (arith, long)) in
     (o.0, o.1, (fits, subst (IsGivenText literal IsKnown o.0 given) (sym front) o.2, drop-append-drop len room text len (omega arith) long))
+
+-- ---- values that are found, as `measured_values` tells of them
+
+pub measured_found : {E : Type 0} (mode : Bool) (query : List ℕ) (literal : Literals) (given : Given) (survey : Survey) (vs : List Value) (r : Result MeasuredText E) →
+    IfOk r (λ measured. (mode : Bool) (query : List ℕ) (given : Given) → OnTokens mode query (IsSurvey survey) → OnTokens mode query (AreFound given vs) → OnTokens mode query (λ ts. IsMeasured literal ts given measured)) →
+    OnTokens mode query (IsSurvey survey) → OnTokens mode query (AreFound given vs) →
+    OnTokens mode query (λ ts. IfOk r (IsMeasured literal ts given))
+measured_found mode query literal given survey vs (Ok measured) told surveyed found = told mode query given surveyed found
+measured_found mode query literal given survey vs (Err e) told surveyed found = (surveyed.0, surveyed.1, tt)
+
+pub measured_refused : {A : Type 0} (mode : Bool) (query : List ℕ) (given : Given) (survey : Survey) (vs : List Value) (r : Result A BindError) →
+    IfErr r (λ error. (mode : Bool) (query : List ℕ) (given : Given) → OnTokens mode query (IsSurvey survey) → OnTokens mode query (AreFound given vs) → OnTokens mode query (λ ts. IsCauseOrMemory (first_cause ts given) error)) →
+    OnTokens mode query (IsSurvey survey) → OnTokens mode query (AreFound given vs) →
+    OnTokens mode query (λ ts. IfErr r (IsCauseOrMemory (first_cause ts given)))
+measured_refused mode query given survey vs (Ok a) told surveyed found = (surveyed.0, surveyed.1, tt)
+measured_refused mode query given survey vs (Err e) told surveyed found = told mode query given surveyed found

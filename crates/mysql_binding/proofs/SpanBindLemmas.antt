@@ -1,6 +1,6 @@
 -- What is bound by the spans of a query's places is what is bound to the query.
-use Rattle.std.specs.Prelude.{Bool, Option, None, Ok, Err}
-use Rattle.std.proofs.Common.{◌≡◌, ◌⊎◌, inl, inr, ℕ, zero, suc, ◌<◌, false, List, [], ◌∷◌, length, take, take_all, Some, refl, sym, ap, ◌∙◌, arith}
+use Rattle.std.specs.Prelude.{Bool, Option, None, Ok, Err, IfOk, Result}
+use Rattle.std.proofs.Common.{◌≡◌, ◌⊎◌, inl, inr, ℕ, zero, suc, ◌<◌, false, List, [], ◌∷◌, length, map, take, take_all, Some, refl, sym, ap, ◌∙◌, arith}
 use Rattle.std.proofs.lemmas.List.{nil_from_length}
 use Rattle.mysql_values.specs.declared.value.Value.{Value}
 use Rattle.mysql_named_params.specs.Tokens.{OnTokens}
@@ -8,11 +8,12 @@ use Rattle.mysql_named_params.specs.Places.{names, marks, place_count}
 use Rattle.mysql_params_core.specs.Given.{Given}
 use Rattle.mysql_params_core.specs.Lookup.{LookupRefusal, lookup}
 use Rattle.mysql_values.specs.BorrowedValue.{owned_values}
-use Rattle.mysql_binding.specs.BindErrors.{IsCauseOrMemory, cause_of}
-use Rattle.mysql_binding.specs.FirstCause.{Cause, first_cause, mark_count_differs, refused_params}
-use Rattle.mysql_binding.specs.LiteralForm.{Literals, LiteralFacts}
-use Rattle.mysql_binding.specs.MeasuredText.{IsMeasured}
-use Rattle.mysql_binding.specs.PlaceSpans.{AreSpansOf, FitIn, FitSurvey, IsLookupError, IsTextAt, after_span, names_at}
+use Rattle.mysql_binding.specs.AppendedText.{AreFound}
+use Rattle.mysql_binding.specs.BindErrors.{IsLookupError, IsCauseOrMemory, cause_of}
+use Rattle.mysql_binding.specs.FirstCause.{Cause, first_cause, first_float, mark_count_differs, refused_params}
+use Rattle.mysql_binding.specs.LiteralForm.{Literals, LiteralFacts, literal_len}
+use Rattle.mysql_binding.specs.MeasuredText.{IsMeasured, IsOfSurvey}
+use Rattle.mysql_binding.specs.PlaceSpans.{AreSpansOf, FitIn, FitSurvey, IsReady, IsTextAt, after_span, names_at}
 use Rattle.mysql_binding.specs.Survey.{IsSurvey}
 use Rattle.mysql_binding.specs.WrittenText.{IsGivenText, IsWrittenText}
 use Rattle.mysql_binding.specs.declared.bind_error.BindError.{BindError}
@@ -25,6 +26,7 @@ use Rattle.mysql_binding.proofs.BoundTextLemmas.{looked_up_names, refused_lookup
 use Rattle.mysql_binding.proofs.CauseLemmas.{lookup_each, mixed_none_of, same_counts, unmixed}
 use Rattle.mysql_binding.proofs.MeasuredTextLemmas.{fill_places, filled_text}
 use Rattle.mysql_binding.proofs.PieceLemmas.{joined_text-pieces_from}
+use Rattle.mysql_binding.proofs.SurveyedQueryLemmas.{found_on, survey_of, unmixed_query}
 use Rattle.mysql_binding.proofs.SpanLemmas.{own_survey, own_names_are, own_text_is}
 use Rattle.mysql_binding.proofs.ValueLiteralLemmas.{as_many_texts}
 
@@ -79,6 +81,19 @@ refused_names given ns error refusal (inr r) is =
     let same_why : r.0 ≡ refusal = cc in
     r.1 ∙ ap (λ why. Err why) same_why
 
+-- what is measured is ready for the spans
+pub ready_spans : {E : Type 0} (literal : Literals) (survey : Survey) (spans : List PlaceSpan) (query : List ℕ) (given : Given) (values : List Value) →
+    FitSurvey survey spans query → (0 < survey.names × 0 < survey.marks → ⊥) →
+    lookup given (names_at (take survey.names spans) query) ≡ Ok values →
+    (r : Result MeasuredText E) → IfOk r (IsOfSurvey literal survey values) → IfOk r (IsReady literal spans query)
+ready_spans literal survey spans query given values fit never looked (Err e) o = tt
+ready_spans literal survey spans query given values fit never looked (Ok measured) o = record {
+  each = ap length o.values_are ∙ value_for_each_span survey spans query given values fit never looked o.as_many_marks;
+  no_float = ap first_float o.values_are ∙ o.no_float;
+  lens_are = o.lens_are ∙ ap (map (literal_len literal)) (sym o.values_are);
+  len_is = omega (arith, o.len_is, fit.outside);
+}
+
 -- ---- the spans of a query
 
 module _ (survey : Survey) (spans : List PlaceSpan) (mode : Bool) (query : List ℕ) (own : AreSpansOf survey spans mode query) where
@@ -108,6 +123,11 @@ module _ (survey : Survey) (spans : List PlaceSpan) (mode : Bool) (query : List 
     pub own_looked_up : (given : Given) (values : List Value) → lookup given (names_at (take survey.names spans) query) ≡ Ok values →
         OnTokens mode query (λ ts. lookup given (names ts) ≡ Ok values)
     own_looked_up given values looked = looked_up_names mode query given (names_at (take survey.names spans) query) values own_listed looked
+
+    pub own_found : (given : Given) (values : List Value) → lookup given (names_at (take survey.names spans) query) ≡ Ok values →
+        OnTokens mode query (AreFound given values)
+    own_found given values looked =
+        found_on mode query given values (unmixed_query mode query survey (survey_of mode query survey own_surveyed) never) (own_looked_up given values looked)
 
   -- the text in the room is that of the query
   pub own_given_text : (literal : Literals) (IsKnown : LiteralFacts) (given : Given) (measured : MeasuredText) (text : List ℕ) →

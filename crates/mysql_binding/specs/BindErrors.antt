@@ -1,6 +1,8 @@
 -- The cause that each error of binding stands for.
-use Rattle.std.specs.Prelude.{◌≡◌, ◌⊎◌, Option, Some, None, option_map, alloc_error}
+use Rattle.std.specs.Prelude.{◌≡◌, ◌⊎◌, ℕ, List, Option, Some, None, Err, option_map, alloc_error}
 use Rattle.mysql_params_core.specs.Errors.{lookup_refusal, AreEqualParamsErrors}
+use Rattle.mysql_params_core.specs.Given.{Given}
+use Rattle.mysql_params_core.specs.Lookup.{LookupRefusal, lookup}
 use Rattle.mysql_binding.specs.FirstCause.{Cause, mixed_query, refused_params, mark_count, not_alone, float_value}
 use Rattle.mysql_binding.specs.declared.bind_error.BindError.{BindError}
 use Rattle.mysql_binding.specs.declared.bind_error.BindError.TheVariants.{Mixed, Params, MarkCount, NotAlone, Float, Memory}
@@ -19,6 +21,12 @@ cause_of (Memory error) = None
 abbrev pub IsCauseOrMemory : Option Cause → BindError → Type 0
 IsCauseOrMemory cause error = (error ≡ Memory alloc_error)
     ⊎ ((why : Cause) × (cause ≡ Some why) × (cause_of error ≡ Some why))
+
+-- why values of these names were not found
+abbrev pub IsLookupError : Given → List (List ℕ) → BindError → Type 0
+IsLookupError given names error = (error ≡ Memory alloc_error)
+    ⊎ ((refusal : LookupRefusal) × (lookup given names ≡ Err refusal)
+    × (cause_of error ≡ Some (refused_params refusal)))
 
 -- the same variant, and the same fields
 abbrev pub AreEqualBindErrors : BindError → BindError → Type 0

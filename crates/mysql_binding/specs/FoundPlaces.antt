@@ -1,7 +1,7 @@
--- The places of a query, each as it is found after the one before it: for the invariant of
--- `ParsedQuery`, and for `place_survey` and `bind_surveyed`, which are lent to the crate above.
-use Rattle.std.specs.Prelude.{◌≡◌, ◌+◌, ◌++◌, ℕ, List, [], ◌∷◌, length}
-use Rattle.mysql_named_params.specs.Tokens.{Token, bytes_of, Name, Mark}
+-- The places of a query, each as it is found after the one before it: for the invariants of
+-- `ParsedQuery` and of `SurveyedQuery`, which is lent to the crates above.
+use Rattle.std.specs.Prelude.{◌≡◌, ◌+◌, ◌++◌, ℕ, Bool, List, [], ◌∷◌, length, take}
+use Rattle.mysql_named_params.specs.Tokens.{Token, IsTokens, bytes_of, Name, Mark}
 use Rattle.mysql_named_params.specs.declared.places.FoundPlace.{FoundPlace}
 use Rattle.mysql_named_params.specs.declared.places.PlaceKind.TheVariants as kind
 
@@ -23,3 +23,8 @@ found_places = found_from 0
 -- the places of a query begin with these
 abbrev pub BeginWithPlaces : List FoundPlace → List Token → Type 0
 BeginWithPlaces places ts = (more : List FoundPlace) × (places ++ more ≡ found_places ts)
+
+-- the places are the first of the query in the mode, as many as they are
+abbrev pub AreFirstPlaces : Bool → List ℕ → List FoundPlace → Type 0
+AreFirstPlaces mode query places = (ts : List Token) → IsTokens mode query ts →
+    places ≡ take (length places) (found_places ts)

@@ -7,6 +7,7 @@ pub mod FirstCause
 pub mod TextLength
 pub mod FoundPlaces
 pub mod Survey
+pub mod SurveyedQuery
 pub mod ParsedQuery
 pub mod SameQuery
 pub mod ValueLiterals

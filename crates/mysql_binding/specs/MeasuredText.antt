@@ -1,6 +1,6 @@
 -- What a text is written from, and its length: for `measured_text` and `fill_measured`, which are
 -- lent to the crates above.
-use Rattle.std.specs.Prelude.{◌≡◌, ◌+◌, ◌<◌, ◌^◌, ℕ, List, map, None, Ok}
+use Rattle.std.specs.Prelude.{◌≡◌, ◌+◌, ◌<◌, ◌^◌, false, ℕ, List, length, map, None, Ok}
 use Rattle.std.specs.List.{All, sum}
 use Rattle.mysql_values.specs.declared.value.Value.{Value}
 use Rattle.mysql_values.specs.Value.{FieldsInRange}
@@ -9,12 +9,13 @@ use Rattle.mysql_named_params.specs.Places.{names}
 use Rattle.mysql_params_core.specs.Given.{Given}
 use Rattle.mysql_params_core.specs.Lookup.{lookup}
 use Rattle.mysql_values.specs.BorrowedValue.{owned_values}
-use Rattle.mysql_binding.specs.FirstCause.{mixed_cause, later_cause}
+use Rattle.mysql_binding.specs.FirstCause.{mark_count_differs, first_float, mixed_cause, later_cause}
 use Rattle.mysql_binding.specs.LiteralForm.{Literals, LiteralFacts, literal_len}
 use Rattle.mysql_binding.specs.TextLength.{pieces_len}
 use Rattle.mysql_binding.specs.TextInRoom.{HasTextOf}
 use Rattle.mysql_binding.specs.WrittenText.{IsGivenText}
 use Rattle.mysql_binding.specs.declared.binding.measured.MeasuredText.{MeasuredText}
+use Rattle.mysql_binding.specs.declared.binding.survey.Survey.{Survey}
 
 -- the values were looked up, and there is no cause to refuse
 abbrev pub IsLookedUp : List Token → Given → List Value → Type 0
@@ -32,6 +33,16 @@ pub record IsMeasured (literal : Literals) (ts : List Token) (given : Given)
       ≡ map (literal_len literal) (owned_values measured.values.items)
   pub len_is : measured.len ≡ pieces_len ts + sum measured.lens.items
   pub fits : measured.len < 2 ^ 63
+
+-- the values can be those of a query with this survey, and none is a float; the lengths are those
+-- of their literals and of the text
+pub record IsOfSurvey (literal : Literals) (survey : Survey) (values : List Value)
+    (measured : MeasuredText) : Type 0 where
+  pub values_are : owned_values measured.values.items ≡ values
+  pub as_many_marks : mark_count_differs survey.names survey.marks (length values) ≡ false
+  pub no_float : first_float values ≡ None
+  pub lens_are : measured.lens.items ≡ map (literal_len literal) values
+  pub len_is : measured.len ≡ survey.piece_bytes + sum measured.lens.items
 
 -- what is known of a literal before it is written: that its value has fields of their types
 abbrev pub IsOfFields : LiteralFacts

@@ -1,6 +1,6 @@
 -- Where the places of a query stand, as plain numbers that a caller keeps: for `place_spans` and
 -- `bind_spans_into`, which are lent to the crate above.
-use Rattle.std.specs.Prelude.{◌≡◌, ◌⊎◌, ◌+◌, ◌++◌, ◌<◌, ◌≤◌, ℕ, Bool, List, [], ◌∷◌, length, map, take, drop, None, Some, Err, alloc_error, ⊤}
+use Rattle.std.specs.Prelude.{◌≡◌, ◌+◌, ◌++◌, ◌<◌, ◌≤◌, ℕ, Bool, List, [], ◌∷◌, length, map, take, drop, None, Some, Err, ⊤}
 use Rattle.std.specs.List.{sum}
 use Rattle.mysql_values.specs.declared.value.Value.{Value}
 use Rattle.mysql_named_params.specs.Tokens.{OnTokens}
@@ -15,7 +15,6 @@ use Rattle.mysql_binding.specs.LiteralForm.{Literals, LiteralFacts, AreWrittenAs
 use Rattle.mysql_binding.specs.Survey.{IsSurvey}
 use Rattle.mysql_binding.specs.TextInRoom.{IsTextInRoom}
 use Rattle.mysql_binding.specs.declared.bind_error.BindError.{BindError}
-use Rattle.mysql_binding.specs.declared.bind_error.BindError.TheVariants.{Memory}
 use Rattle.mysql_binding.specs.declared.binding.measured.MeasuredText.{MeasuredText}
 use Rattle.mysql_binding.specs.declared.binding.room.TextInRoom.{TextInRoom}
 use Rattle.mysql_binding.specs.declared.binding.spans.PlaceSpan.{PlaceSpan}
@@ -63,12 +62,6 @@ pub record FitSurvey (survey : Survey) (spans : List PlaceSpan) (query : List �
   pub fit : FitIn spans query
   pub outside : survey.piece_bytes ≡ outside_len spans query
   pub count : survey.names + survey.marks ≡ length spans
-
--- why values of these names were not found
-abbrev pub IsLookupError : Given → List (List ℕ) → BindError → Type 0
-IsLookupError given names error = (error ≡ Memory alloc_error)
-    ⊎ ((refusal : LookupRefusal) × (lookup given names ≡ Err refusal)
-    × (cause_of error ≡ Some (refused_params refusal)))
 
 -- if the error refuses what is given, it does so for what stands in the first places, as many as
 -- the survey has names

@@ -1,7 +1,7 @@
--- What is known of the places of a query before values are looked up: for `place_survey` and
--- `bind_surveyed`, which are lent to the crate above.
-use Rattle.std.specs.Prelude.{◌≡◌, List, length}
-use Rattle.mysql_named_params.specs.Tokens.{Token}
+-- What is known of the places of a query before values are looked up: for the invariants of
+-- `ParsedQuery` and of `SurveyedQuery`, which is lent to the crates above.
+use Rattle.std.specs.Prelude.{◌≡◌, ℕ, Bool, List, length}
+use Rattle.mysql_named_params.specs.Tokens.{Token, IsTokens}
 use Rattle.mysql_named_params.specs.Places.{names, marks}
 use Rattle.mysql_binding.specs.StandsAlone.{first_not_alone}
 use Rattle.mysql_binding.specs.TextLength.{pieces_len}
@@ -13,3 +13,7 @@ abbrev pub IsSurvey : Survey → List Token → Type 0
 IsSurvey survey ts =
     (survey.names ≡ length (names ts)) × (survey.marks ≡ marks ts)
     × (survey.not_alone ≡ first_not_alone ts) × (survey.piece_bytes ≡ pieces_len ts)
+
+-- the survey is that of the query in the mode
+abbrev pub IsSurveyOf : Bool → List ℕ → Survey → Type 0
+IsSurveyOf mode query survey = (ts : List Token) → IsTokens mode query ts → IsSurvey survey ts

@@ -40,3 +40,14 @@ pub enum BindError {
     #[error("out of memory")]
     Memory(AllocError),
 }
+
+impl From<AllocError> for BindError {
+    ghost use Rattle.std.specs.Prelude.{◌≡◌, alloc_error};
+    ghost use Rattle.mysql_binding.specs.declared.bind_error.BindError.TheVariants.{Memory};
+
+    ghost from_gives = { λ _ error. error ≡ Memory alloc_error };
+
+    fn from(error: AllocError) -> BindError {
+        BindError::Memory(error)
+    }
+}

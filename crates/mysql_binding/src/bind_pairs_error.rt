@@ -20,3 +20,14 @@ pub enum BindPairsError {
     #[error(transparent)]
     Bind(BindError),
 }
+
+impl From<BindError> for BindPairsError {
+    ghost use Rattle.std.specs.Prelude.{◌≡◌};
+    ghost use Rattle.mysql_binding.specs.declared.bind_pairs_error.BindPairsError.TheVariants.{Bind};
+
+    ghost from_gives = { λ refusal error. error ≡ Bind refusal };
+
+    fn from(error: BindError) -> BindPairsError {
+        BindPairsError::Bind(error)
+    }
+}

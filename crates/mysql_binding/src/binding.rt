@@ -7,15 +7,16 @@ ghost use Rattle.mysql_params_core.specs.Errors.{lookup_refusal};
 ghost use Rattle.mysql_params_core.specs.Given.{Given, given};
 ghost use Rattle.mysql_params_core.specs.GivenBorrowed.{given_by_borrowed};
 ghost use Rattle.mysql_params_core.specs.Lookup.{LookupRefusal, lookup};
+ghost use Rattle.mysql_params_core.specs.Referents.{referents};
 ghost use Rattle.mysql_values.specs.BorrowedValue.{owned_values};
 ghost use Rattle.mysql_binding.specs.AppendedText.{AreFound};
-ghost use Rattle.mysql_binding.specs.BindErrors.{IsCauseOrMemory, cause_of};
+ghost use Rattle.mysql_binding.specs.BindErrors.{IsCauseOrMemory, IsLookupError, cause_of};
 ghost use Rattle.mysql_binding.specs.BoundAgain.{IsSameBoundAgain, IsSameByPosition};
 ghost use Rattle.mysql_binding.specs.FirstCause.{mark_count_differs, first_cause, first_float, later_cause, mixed_cause, refused_params};
-ghost use Rattle.mysql_binding.specs.FoundPlaces.{BeginWithPlaces};
 ghost use Rattle.mysql_binding.specs.Isolation.{IsBoundText};
-ghost use Rattle.mysql_binding.specs.MeasuredText.{IsMeasured};
+ghost use Rattle.mysql_binding.specs.MeasuredText.{IsMeasured, IsOfSurvey};
 ghost use Rattle.mysql_binding.specs.Survey.{IsSurvey};
+ghost use Rattle.mysql_binding.specs.SurveyedQuery.{OnSurveyed};
 ghost use Rattle.mysql_binding.specs.WrittenText.{IsGivenText};
 
 mod form;
@@ -29,13 +30,13 @@ mod room;
 mod spans;
 mod stands_alone;
 mod survey;
+mod surveyed;
 mod text;
 mod values;
 
 use crate::bind_error::BindError;
 pub use crate::binding::form::{LiteralForm, PlainForm};
-use crate::binding::found::all_places;
-pub use crate::binding::found::place_after;
+pub use crate::binding::found::{all_places, place_after};
 use crate::binding::literals::first_float;
 pub use crate::binding::literals::{literal_len, push_literal, put_literal};
 pub use crate::binding::measured::MeasuredText;
@@ -43,9 +44,10 @@ use crate::binding::measured::with_lengths;
 use crate::binding::names::query_names;
 pub use crate::binding::pairs::{bind_pairs, bind_pairs_into, bind_values, bind_values_into};
 pub use crate::binding::parsed_query::{ParsedQuery, append_parsed};
-pub use crate::binding::room::{TextInRoom, bind_borrowed_into};
+pub use crate::binding::room::{TextInRoom, bind_surveyed_into};
 pub use crate::binding::spans::{PlaceSpan, bind_spans_into, can_be_spans, place_spans};
-pub use crate::binding::survey::{Survey, place_survey};
+pub use crate::binding::survey::Survey;
+pub use crate::binding::surveyed::SurveyedQuery;
 use crate::binding::text::written_text;
 pub use crate::binding::text::{append_piece, fill_measured};
 use crate::binding::values::found_values;
@@ -165,180 +167,105 @@ pub fn bind_borrowed_as<F: LiteralForm>(
         HasName ts × HasMark ts → IsErrOf result BindError.Mixed) }
 {
     let mut first = [NO_PLACE; KEPT_PLACES];
-    let (survey, kept) = place_survey(query, &mut first, no_backslash_escape);
-    let known = &first[..kept];
-    if survey.names > kept && survey.marks == 0 {
-        return bind_many_names(
-            alloc,
-            query,
-            survey,
-            known,
-            params,
-            no_backslash_escape,
-            form,
-        );
+    let surveyed = SurveyedQuery::new(query, no_backslash_escape, &mut first);
+    let survey = surveyed.survey;
+    if survey.names > surveyed.known.len() && survey.marks == 0 {
+        return bind_many_names(alloc, &surveyed, params, form);
     }
-    bind_surveyed_as(
-        alloc,
-        query,
-        survey,
-        known,
-        params,
-        no_backslash_escape,
-        form,
-    )
+    bind_surveyed_as(alloc, &surveyed, params, form)
 }
 
 // The text of a query with more names than are kept, and no marks. Its places are found once more
 // and kept, 24 bytes each, so that the walks for its names and for its text look for none.
 fn bind_many_names<F: LiteralForm>(
     alloc: Global,
-    query: &[u8],
-    survey: Survey,
-    known: &[FoundPlace],
+    surveyed: &SurveyedQuery<'_>,
     params: BorrowedParams<'_, '_>,
-    no_backslash_escape: bool,
     form: &F,
 ) -> Result<Vec<u8>, BindError>
-    requires survey { OnTokens no_backslash_escape query.now (IsSurvey survey) }
-    requires known { OnTokens no_backslash_escape query.now (BeginWithPlaces known.now) }
-    requires no_marks { survey.marks ≡ 0 }
-    ensures text { OnTokens no_backslash_escape query.now (λ ts. IfOk result (λ text.
+    requires no_marks { surveyed.now.survey.marks ≡ 0 }
+    ensures text { OnSurveyed surveyed.now (λ ts. IfOk result (λ text.
         IsGivenText (F.literal form.now) (F.IsKnown form.now) ts (given_by_borrowed params.entry)
         text.items)) }
-    ensures refused { OnTokens no_backslash_escape query.now (λ ts. IfErr result
+    ensures refused { OnSurveyed surveyed.now (λ ts. IfErr result
         (IsCauseOrMemory (first_cause ts (given_by_borrowed params.entry)))) }
-    ensures mixed { OnTokens no_backslash_escape query.now (λ ts.
+    ensures mixed { OnSurveyed surveyed.now (λ ts.
         HasName ts × HasMark ts → IsErrOf result BindError.Mixed) }
 {
-    let places = match all_places(alloc, query, known, survey.names, no_backslash_escape) {
-        Ok(places) => places,
-        Err(error) => return Err(BindError::Memory(error)),
-    };
-    bind_surveyed_as(
-        alloc,
-        query,
-        survey,
-        places.as_slice(),
-        params,
-        no_backslash_escape,
-        form,
-    )
+    let places = all_places(alloc, surveyed)?;
+    let surveyed = surveyed.with_places(places.as_slice());
+    bind_surveyed_as(alloc, &surveyed, params, form)
 }
 
-/// The text of a query with this survey and these first places: the body of [`bind_text_in`] and of
-/// [`ParsedQuery::bind`], lent to the crate above, which keeps a survey in another form. It refuses
-/// what these refuse.
+/// The text of a query that is surveyed: the body of [`bind_text_in`] and of
+/// [`ParsedQuery::bind`], lent to the crates above. It refuses what these refuse.
 pub fn bind_surveyed(
     alloc: Global,
-    query: &[u8],
-    survey: Survey,
-    known: &[FoundPlace],
+    surveyed: &SurveyedQuery<'_>,
     params: BorrowedParams<'_, '_>,
-    no_backslash_escape: bool,
 ) -> Result<Vec<u8>, BindError>
-    requires survey { OnTokens no_backslash_escape query.now (IsSurvey survey) }
-    requires known { OnTokens no_backslash_escape query.now (BeginWithPlaces known.now) }
-    ensures bound { OnTokens no_backslash_escape query.now (λ ts. IfOk result (λ text.
-        IsBoundText no_backslash_escape ts (given_by_borrowed params.entry) text.items)) }
-    ensures refused { OnTokens no_backslash_escape query.now (λ ts. IfErr result
+    ensures bound { OnSurveyed surveyed.now (λ ts. IfOk result (λ text.
+        IsBoundText surveyed.now.no_backslash_escape ts (given_by_borrowed params.entry)
+        text.items)) }
+    ensures refused { OnSurveyed surveyed.now (λ ts. IfErr result
         (IsCauseOrMemory (first_cause ts (given_by_borrowed params.entry)))) }
-    ensures bound_again { IfOk result (λ text. IsSameBoundAgain no_backslash_escape text.items) }
-    ensures by_position { OnTokens no_backslash_escape query.now (λ ts. IfOk result (λ text.
-        IsSameByPosition no_backslash_escape ts (given_by_borrowed params.entry) text.items)) }
-    ensures mixed { OnTokens no_backslash_escape query.now (λ ts.
+    ensures bound_again { IfOk result (λ text.
+        IsSameBoundAgain surveyed.now.no_backslash_escape text.items) }
+    ensures by_position { OnSurveyed surveyed.now (λ ts. IfOk result (λ text.
+        IsSameByPosition surveyed.now.no_backslash_escape ts (given_by_borrowed params.entry)
+        text.items)) }
+    ensures mixed { OnSurveyed surveyed.now (λ ts.
         HasName ts × HasMark ts → IsErrOf result BindError.Mixed) }
 {
     let form = PlainForm {
-        no_backslash_escape,
+        no_backslash_escape: surveyed.no_backslash_escape,
     };
-    bind_surveyed_as(
-        alloc,
-        query,
-        survey,
-        known,
-        params,
-        no_backslash_escape,
-        &form,
-    )
+    bind_surveyed_as(alloc, surveyed, params, &form)
 }
 
-/// [`bind_surveyed`] with the literals of the values in any form, lent to the crate above. It
+/// [`bind_surveyed`] with the literals of the values in any form, lent to the crates above. It
 /// refuses what that refuses.
 pub fn bind_surveyed_as<F: LiteralForm>(
     alloc: Global,
-    query: &[u8],
-    survey: Survey,
-    known: &[FoundPlace],
+    surveyed: &SurveyedQuery<'_>,
     params: BorrowedParams<'_, '_>,
-    no_backslash_escape: bool,
     form: &F,
 ) -> Result<Vec<u8>, BindError>
-    requires survey { OnTokens no_backslash_escape query.now (IsSurvey survey) }
-    requires known { OnTokens no_backslash_escape query.now (BeginWithPlaces known.now) }
-    ensures text { OnTokens no_backslash_escape query.now (λ ts. IfOk result (λ text.
+    ensures text { OnSurveyed surveyed.now (λ ts. IfOk result (λ text.
         IsGivenText (F.literal form.now) (F.IsKnown form.now) ts (given_by_borrowed params.entry)
         text.items)) }
-    ensures refused { OnTokens no_backslash_escape query.now (λ ts. IfErr result
+    ensures refused { OnSurveyed surveyed.now (λ ts. IfErr result
         (IsCauseOrMemory (first_cause ts (given_by_borrowed params.entry)))) }
-    ensures mixed { OnTokens no_backslash_escape query.now (λ ts.
+    ensures mixed { OnSurveyed surveyed.now (λ ts.
         HasName ts × HasMark ts → IsErrOf result BindError.Mixed) }
 {
-    let measured = measured_text(
-        alloc,
-        query,
-        survey,
-        known,
-        params,
-        no_backslash_escape,
-        form,
-    )?;
-    match written_text(alloc, query, known, &measured, no_backslash_escape, form) {
-        Ok(text) => Ok(text),
-        Err(error) => Err(BindError::Memory(error)),
-    }
+    let measured = measured_text(alloc, surveyed, params, form)?;
+    Ok(written_text(alloc, surveyed, &measured, form)?)
 }
 
-/// What the text of a query with this survey and these first places is written from, and how long
-/// it will be: what [`bind_surveyed_as`] does before there is room for the text, lent to the crates
-/// above. It refuses what that refuses; out of memory also comes if the text would be longer than
+/// What the text of a query that is surveyed is written from, and how long it will be: what
+/// [`bind_surveyed_as`] does before there is room for the text, lent to the crates above. It
+/// refuses what that refuses; out of memory also comes if the text would be longer than
 /// `isize::MAX` bytes.
 pub fn measured_text<'p, F: LiteralForm>(
     alloc: Global,
-    query: &[u8],
-    survey: Survey,
-    known: &[FoundPlace],
+    surveyed: &SurveyedQuery<'_>,
     params: BorrowedParams<'p, '_>,
-    no_backslash_escape: bool,
     form: &F,
 ) -> Result<MeasuredText<'p>, BindError>
-    requires survey { OnTokens no_backslash_escape query.now (IsSurvey survey) }
-    requires known { OnTokens no_backslash_escape query.now (BeginWithPlaces known.now) }
-    ensures measured { OnTokens no_backslash_escape query.now (λ ts. IfOk result
+    ensures measured { OnSurveyed surveyed.now (λ ts. IfOk result
         (IsMeasured (F.literal form.now) ts (given_by_borrowed params.entry))) }
-    ensures refused { OnTokens no_backslash_escape query.now (λ ts. IfErr result
+    ensures refused { OnSurveyed surveyed.now (λ ts. IfErr result
         (IsCauseOrMemory (first_cause ts (given_by_borrowed params.entry)))) }
-    ensures mixed { OnTokens no_backslash_escape query.now (λ ts.
+    ensures mixed { OnSurveyed surveyed.now (λ ts.
         HasName ts × HasMark ts → IsErrOf result BindError.Mixed) }
 {
+    let survey = surveyed.survey;
     if survey.names > 0 && survey.marks > 0 {
         return Err(BindError::Mixed);
     }
-    let values = values_of_places(
-        alloc,
-        query,
-        known,
-        survey.names,
-        params,
-        no_backslash_escape,
-    )?;
-    if let Some(error) = later_error(survey, values.as_slice()) {
-        return Err(error);
-    }
-    match with_lengths(alloc, survey.piece_bytes, values, form) {
-        Ok(measured) => Ok(measured),
-        Err(error) => Err(BindError::Memory(error)),
-    }
+    let values = values_of_places(alloc, surveyed, params)?;
+    measured_values(alloc, survey, values, form)
 }
 
 /// The same of values that are looked up, given to the places of a query with this survey. Lent to
@@ -357,67 +284,66 @@ pub fn measured_values<'p, F: LiteralForm>(
         OnTokens mode query (IsSurvey survey) →
         OnTokens mode query (AreFound given (owned_values values.entry.items)) →
         OnTokens mode query (λ ts. IsCauseOrMemory (first_cause ts given) error)) }
+    ensures in_survey { IfOk result
+        (IsOfSurvey (F.literal form.now) survey (owned_values values.entry.items)) }
+    ensures no_lookup { IfErr result (λ error. (refusal : LookupRefusal) →
+        cause_of error ≡ Some (refused_params refusal) → ⊥) }
 {
     if let Some(error) = later_error(survey, values.as_slice()) {
         return Err(error);
     }
-    match with_lengths(alloc, survey.piece_bytes, values, form) {
-        Ok(measured) => Ok(measured),
-        Err(error) => Err(BindError::Memory(error)),
-    }
+    Ok(with_lengths(alloc, survey.piece_bytes, values, form)?)
 }
 
-// The values, borrowed, that are given to the places of a query with this many names, and no marks
-// beside them.
+// The values, borrowed, that are given to the places of a query without both names and marks.
 fn values_of_places<'p>(
     alloc: Global,
-    query: &[u8],
-    known: &[FoundPlace],
-    name_count: usize,
+    surveyed: &SurveyedQuery<'_>,
     params: BorrowedParams<'p, '_>,
-    no_backslash_escape: bool,
 ) -> Result<Vec<ValueRef<'p>>, BindError>
-    requires known { OnTokens no_backslash_escape query.now (BeginWithPlaces known.now) }
-    requires names { OnTokens no_backslash_escape query.now (λ ts.
-        (name_count ≡ length (names ts)) × (mixed_cause ts ≡ None)) }
-    ensures values { IfOk result (λ values. OnTokens no_backslash_escape query.now (λ ts.
+    requires unmixed { OnSurveyed surveyed.now (λ ts. mixed_cause ts ≡ None) }
+    ensures values { IfOk result (λ values. OnSurveyed surveyed.now (λ ts.
         lookup (given_by_borrowed params.entry) (names ts) ≡ Ok (owned_values values.items))) }
-    ensures refused { IfErr result (λ error. OnTokens no_backslash_escape query.now (λ ts.
+    ensures refused { IfErr result (λ error. OnSurveyed surveyed.now (λ ts.
         IsCauseOrMemory (first_cause ts (given_by_borrowed params.entry)) error)) }
 {
-    if name_count > 0 {
-        match found_values(alloc, query, known, name_count, params, no_backslash_escape) {
-            Ok(Some(values)) => return Ok(values),
-            Ok(None) => {}
-            Err(error) => return Err(BindError::Memory(error)),
+    if surveyed.survey.names > 0 {
+        if let Some(values) = found_values(alloc, surveyed, params)? {
+            return Ok(values);
         }
     }
-    values_of_list(alloc, query, known, name_count, params, no_backslash_escape)
+    values_of_list(alloc, surveyed, params)
 }
 
 // The same by a list of the names, which tells a name without a value. The list is dropped before
 // the text is written.
 fn values_of_list<'p>(
     alloc: Global,
-    query: &[u8],
-    known: &[FoundPlace],
-    name_count: usize,
+    surveyed: &SurveyedQuery<'_>,
     params: BorrowedParams<'p, '_>,
-    no_backslash_escape: bool,
 ) -> Result<Vec<ValueRef<'p>>, BindError>
-    requires known { OnTokens no_backslash_escape query.now (BeginWithPlaces known.now) }
-    requires names { OnTokens no_backslash_escape query.now (λ ts.
-        (name_count ≡ length (names ts)) × (mixed_cause ts ≡ None)) }
-    ensures values { IfOk result (λ values. OnTokens no_backslash_escape query.now (λ ts.
+    requires unmixed { OnSurveyed surveyed.now (λ ts. mixed_cause ts ≡ None) }
+    ensures values { IfOk result (λ values. OnSurveyed surveyed.now (λ ts.
         lookup (given_by_borrowed params.entry) (names ts) ≡ Ok (owned_values values.items))) }
-    ensures refused { IfErr result (λ error. OnTokens no_backslash_escape query.now (λ ts.
+    ensures refused { IfErr result (λ error. OnSurveyed surveyed.now (λ ts.
         IsCauseOrMemory (first_cause ts (given_by_borrowed params.entry)) error)) }
 {
-    let names = match query_names(alloc, query, known, name_count, no_backslash_escape) {
-        Ok(names) => names,
-        Err(error) => return Err(BindError::Memory(error)),
-    };
-    match place_values(alloc, params, names.as_slice()) {
+    let names = query_names(alloc, surveyed)?;
+    looked_up_values(alloc, params, names.as_slice())
+}
+
+// What is given to these names. Each is looked up, and the first that is missing is told.
+fn looked_up_values<'p>(
+    alloc: Global,
+    params: BorrowedParams<'p, '_>,
+    names: &[&[u8]],
+) -> Result<Vec<ValueRef<'p>>, BindError>
+    ensures values { IfOk result (λ values. lookup (given_by_borrowed params.entry)
+        (referents names.now) ≡ Ok (owned_values values.items)) }
+    ensures refused { IfErr result
+        (IsLookupError (given_by_borrowed params.entry) (referents names.now)) }
+{
+    match place_values(alloc, params, names) {
         Ok(values) => Ok(values),
         Err(error) => Err(bind_error_of(error)),
     }

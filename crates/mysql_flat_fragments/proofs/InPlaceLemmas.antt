@@ -4,7 +4,7 @@ use Rattle.std.specs.Borrow.{Bor}
 use Rattle.std.specs.Global.{Vec}
 use Rattle.std.specs.Simd.{first_chunks}
 use Rattle.std.proofs.Common.{◌≡◌, ◌≢◌, ◌⊎◌, inl, inr, ℕ, zero, suc, ◌+◌, ◌*◌, ◌<◌, ◌≤◌, List, [], ◌∷◌, ◌++◌, map, length, take, drop, refl, sym, ap, ◌∙◌, arith, ne_eqb}
-use Rattle.std.proofs.lemmas.List.{length-map, length-drop}
+use Rattle.std.proofs.lemmas.List.{length-drop}
 use Rattle.std.proofs.lemmas.Nat.{same_from_place}
 use Rattle.std.proofs.lemmas.Simd.{map-map}
 use Rattle.mysql_wire_part.specs.Answer.{IsExpectedRefusal}
@@ -16,7 +16,6 @@ use Rattle.mysql_fragments.specs.BorrowedFragments.{cell_item, cell_rows}
 use Rattle.mysql_fragments.specs.declared.rows_ref.RowsRef.{RowsRef}
 use Rattle.mysql_fragments.specs.declared.fragment.Item.{Item}
 use Rattle.mysql_fragments.specs.declared.fragment.Fragment.{Fragment}
-use Rattle.mysql_fragments.specs.declared.fragment.Fragment.TheVariants as one
 use Rattle.mysql_fragments.specs.declared.fragment_ref.FragmentRef.TheVariants as borrowed
 use Rattle.mysql_fragments.proofs.SaidExistLemmas.{one_said}
 use Rattle.mysql_flat_fragments.specs.FiniteDouble.{fragment_of_value}

@@ -7,7 +7,6 @@ use Rattle.mysql_named_params.specs.Tokens.{Token, OnTokens}
 use Rattle.mysql_named_params.specs.Places.{has_both, names}
 use Rattle.mysql_named_params.proofs.TokenListLemmas.{one_token_list}
 use Rattle.std.proofs.lemmas.List.{map-append}
-use Rattle.mysql_params_core.specs.Referents.{referents}
 use Rattle.mysql_fragments.specs.BorrowedFragments.{AreSaid, Says}
 use Rattle.mysql_binding.specs.FirstCause as bound_cause
 use Rattle.mysql_binding.specs.Survey.{IsSurvey}

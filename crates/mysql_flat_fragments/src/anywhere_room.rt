@@ -14,7 +14,7 @@ use crate::form_in_place::{FormInPlace, form_in_place};
 use crate::into_room::{form_outcome, fragments_outcome, text_outcome};
 use crate::outcome::FragmentsOutcome;
 use crate::placed::placed_fragments;
-use mysql_binding::{KEPT_PLACES, NO_PLACE, TextInRoom, place_survey};
+use mysql_binding::{KEPT_PLACES, NO_PLACE, SurveyedQuery, TextInRoom};
 use mysql_flat_params::{Outcome, construct_number};
 use mysql_fragments::{FragmentsError, bind_placed_into, placed_error};
 use mysql_named_params::portable::first_unportable;
@@ -99,20 +99,19 @@ fn bind_kept_steady(
     ensures unchanged { OnErr result (room.new ≡ room.old) }
 {
     let mut first = [NO_PLACE; KEPT_PLACES];
-    let (survey, found) = place_survey(query, &mut first, false);
-    let known = &first[..found];
-    let placed = match placed_fragments(alloc, query, (survey, known), kept, false) {
+    let surveyed = SurveyedQuery::new(query, false, &mut first);
+    let placed = match placed_fragments(alloc, &surveyed, kept) {
         Ok(placed) => placed,
         Err(error) => return Err(SteadyFragmentsError::Fragments(error)),
     };
     let placed = placed.as_slice();
-    if let Some(error) = placed_error(survey, placed) {
+    if let Some(error) = placed_error(surveyed.survey, placed) {
         return Err(SteadyFragmentsError::Fragments(error));
     }
     if let Some(place) = first_unsteady_fragment(placed) {
         return Err(SteadyFragmentsError::UnsteadyFragment { place });
     }
-    match bind_placed_into(query, survey, known, placed, false, &SteadyForm, room) {
+    match bind_placed_into(&surveyed, placed, &SteadyForm, room) {
         Some(text) => Ok(text),
         None => Err(SteadyFragmentsError::Fragments(FragmentsError::Memory(AllocError))),
     }

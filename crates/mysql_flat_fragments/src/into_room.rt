@@ -20,7 +20,7 @@ ghost use Rattle.mysql_flat_fragments.specs.FragmentsOutcomes.{HasNoAnswer, IfDo
 use crate::form_in_place::{FormInPlace, form_in_place};
 use crate::outcome::FragmentsOutcome;
 use crate::placed::placed_fragments;
-use mysql_binding::{KEPT_PLACES, NO_PLACE, PlainForm, TextInRoom, place_survey};
+use mysql_binding::{KEPT_PLACES, NO_PLACE, PlainForm, SurveyedQuery, TextInRoom};
 use mysql_flat_params::{FormError, Outcome, name_place};
 use mysql_fragments::{FragmentsError, bind_placed_into, placed_error};
 use mysql_params_core::params::ParamsConfusionError;
@@ -90,28 +90,16 @@ fn bind_kept(
     ensures unchanged { OnErr result (room.new ≡ room.old) }
 {
     let mut first = [NO_PLACE; KEPT_PLACES];
-    let (survey, found) = place_survey(query, &mut first, no_backslash_escape);
-    let known = &first[..found];
-    let placed = match placed_fragments(alloc, query, (survey, known), kept, no_backslash_escape) {
-        Ok(placed) => placed,
-        Err(error) => return Err(error),
-    };
+    let surveyed = SurveyedQuery::new(query, no_backslash_escape, &mut first);
+    let placed = placed_fragments(alloc, &surveyed, kept)?;
     let placed = placed.as_slice();
-    if let Some(error) = placed_error(survey, placed) {
+    if let Some(error) = placed_error(surveyed.survey, placed) {
         return Err(error);
     }
     let form = PlainForm {
         no_backslash_escape,
     };
-    match bind_placed_into(
-        query,
-        survey,
-        known,
-        placed,
-        no_backslash_escape,
-        &form,
-        room,
-    ) {
+    match bind_placed_into(&surveyed, placed, &form, room) {
         Some(text) => Ok(text),
         None => Err(FragmentsError::Memory(AllocError)),
     }

@@ -1,9 +1,8 @@
 //! The fragments of a form for the places of a query.
 ghost use Rattle.std.specs.Prelude.{◌≡◌, List, None, Ok, IfErr, IfOk, IsErrOf, length, true};
-ghost use Rattle.mysql_named_params.specs.Tokens.{OnTokens};
 ghost use Rattle.mysql_named_params.specs.Places.{HasMark, HasName, names};
-ghost use Rattle.mysql_binding.specs.FoundPlaces.{BeginWithPlaces};
 ghost use Rattle.mysql_binding.specs.Survey.{IsSurvey};
+ghost use Rattle.mysql_binding.specs.SurveyedQuery.{OnSurveyed};
 ghost use Rattle.mysql_fragments.specs.BorrowedFragments.{AreSaid};
 ghost use Rattle.mysql_fragments.specs.FragmentErrors.{IsCauseOrMemory, IsMissingOrMemory, IsPlaceRefusal, first_cause, mixed_cause};
 ghost use Rattle.mysql_fragments.specs.GivenFragments.{FragmentMap, GivenFragments, fragments_at, fragments_for};
@@ -12,35 +11,29 @@ ghost use Rattle.mysql_flat_fragments.specs.FormInPlace.{AreKeptAs, IsGivenAs, I
 
 use crate::form_in_place::FormInPlace;
 use crate::in_place::FragmentInPlace;
-use mysql_binding::{Survey, place_after};
+use mysql_binding::{Survey, SurveyedQuery, place_after};
 use mysql_fragments::{FragmentRef, FragmentsError};
-use mysql_named_params::places::FoundPlace;
 use mysql_params_core::params::{MissingNamedParameterError, ParamsConfusionError};
 use std::alloc::{AllocError, Global};
 use std::collections::BTreeMap;
 
-/// The fragments of a form for the places of a query with this survey, borrowed. The first places
-/// may be known.
+/// The fragments of a form for the places of a query, borrowed.
 pub(crate) fn placed_fragments<'p>(
     alloc: Global,
-    query: &[u8],
-    found: (Survey, &[FoundPlace]),
+    surveyed: &SurveyedQuery<'_>,
     kept: &'p FormInPlace<'_>,
-    no_backslash_escape: bool,
 ) -> Result<Vec<FragmentRef<'p>>, FragmentsError>
-    requires survey { OnTokens no_backslash_escape query.now (IsSurvey found.0) }
-    requires known { OnTokens no_backslash_escape query.now (BeginWithPlaces found.1.now) }
     ensures placed { (given : GivenFragments) → IsGivenAs kept.now given →
-        OnTokens no_backslash_escape query.now (λ ts. IfOk result (λ list.
+        OnSurveyed surveyed.now (λ ts. IfOk result (λ list.
         (mixed_cause ts ≡ None) × (said : List said_fragment.Fragment)
         × (fragments_for given (names ts) ≡ Ok said) × AreSaid list.items said)) }
     ensures refused { (given : GivenFragments) → IsGivenAs kept.now given →
-        OnTokens no_backslash_escape query.now (λ ts. IfErr result
+        OnSurveyed surveyed.now (λ ts. IfErr result
         (IsCauseOrMemory (first_cause true ts given))) }
-    ensures mixed { OnTokens no_backslash_escape query.now (λ ts. HasName ts × HasMark ts →
+    ensures mixed { OnSurveyed surveyed.now (λ ts. HasName ts × HasMark ts →
         IsErrOf result FragmentsError.Mixed) }
 {
-    let (survey, known) = found;
+    let survey = survey_of(surveyed);
     if survey.names > 0 && survey.marks > 0 {
         return Err(FragmentsError::Mixed);
     }
@@ -51,10 +44,7 @@ pub(crate) fn placed_fragments<'p>(
                     ParamsConfusionError::PositionalParamsForNamedQuery,
                 ));
             }
-            match lent_fragments(alloc, list.as_slice()) {
-                Ok(list) => Ok(list),
-                Err(error) => Err(FragmentsError::Memory(error)),
-            }
+            Ok(lent_fragments(alloc, list.as_slice())?)
         }
         FormInPlace::Named(entries) => {
             if survey.names == 0 {
@@ -62,15 +52,17 @@ pub(crate) fn placed_fragments<'p>(
                     ParamsConfusionError::NamedParamsForPositionalQuery,
                 ));
             }
-            named_fragments(
-                alloc,
-                query,
-                (survey.names, known),
-                entries,
-                no_backslash_escape,
-            )
+            named_fragments(alloc, surveyed, entries)
         }
     }
+}
+
+// What is known of the places of the query.
+fn survey_of(surveyed: &SurveyedQuery<'_>) -> Survey
+    ensures same { result ≡ surveyed.now.survey }
+    ensures survey { OnSurveyed surveyed.now (IsSurvey result) }
+{
+    surveyed.survey
 }
 
 // The fragments, borrowed, in order.
@@ -83,42 +75,32 @@ fn lent_fragments<'p>(
 {
     let mut list = Vec::with_capacity(alloc, kept.len())?;
     for fragment in kept {
-        match list.push(fragment.lent()) {
-            Ok(()) => {}
-            Err(_) => return Err(AllocError),
-        }
+        list.push(fragment.lent())?;
     }
     Ok(list)
 }
 
-// The fragments of the names of a query that has so many of them, and no marks beside them. The
-// first places may be known.
+// The fragments of the names of a query without both names and marks.
 fn named_fragments<'p>(
     alloc: Global,
-    query: &[u8],
-    found: (usize, &[FoundPlace]),
+    surveyed: &SurveyedQuery<'_>,
     entries: &'p BTreeMap<&[u8], FragmentInPlace<'_>>,
-    no_backslash_escape: bool,
 ) -> Result<Vec<FragmentRef<'p>>, FragmentsError>
-    requires names { OnTokens no_backslash_escape query.now (λ ts.
-        (found.0 ≡ length (names ts)) × (mixed_cause ts ≡ None)) }
-    requires known { OnTokens no_backslash_escape query.now (BeginWithPlaces found.1.now) }
+    requires unmixed { OnSurveyed surveyed.now (λ ts. mixed_cause ts ≡ None) }
     ensures placed { (fragments : FragmentMap) → IsMapKeptAs entries.now.entries fragments →
-        OnTokens no_backslash_escape query.now (λ ts. IfOk result (λ list.
+        OnSurveyed surveyed.now (λ ts. IfOk result (λ list.
         (said : List said_fragment.Fragment)
         × (fragments_at fragments (names ts) ≡ Ok said) × AreSaid list.items said)) }
     ensures refused { (fragments : FragmentMap) → IsMapKeptAs entries.now.entries fragments →
-        OnTokens no_backslash_escape query.now (λ ts. IfErr result
+        OnSurveyed surveyed.now (λ ts. IfErr result
         (IsPlaceRefusal (fragments_at fragments (names ts)))) }
 {
-    let (count, known) = found;
-    let mut list = match Vec::with_capacity(alloc, count) {
-        Ok(list) => list,
-        Err(error) => return Err(FragmentsError::Memory(error)),
-    };
-    let mut rest = query;
+    let mode = surveyed.no_backslash_escape;
+    let count = surveyed.survey.names;
+    let mut list = Vec::with_capacity(alloc, count)?;
+    let mut rest = surveyed.query;
     while list.len() < count {
-        let Some(found) = place_after(known, list.len(), rest, no_backslash_escape) else {
+        let Some(found) = place_after(surveyed.known, list.len(), rest, mode) else {
             unreachable!()
         };
         let (_, place, after) = found.cut(rest);

@@ -23,7 +23,9 @@ use crate::form_error::FormError;
 use crate::form_names::NamesInPlace;
 use crate::missing_place::name_place;
 use crate::outcome::Outcome;
-use mysql_binding::{BindError, PlainForm, TextInRoom, bind_borrowed_into};
+use mysql_binding::{
+    BindError, KEPT_PLACES, NO_PLACE, PlainForm, SurveyedQuery, TextInRoom, bind_surveyed_into,
+};
 use mysql_params_core::params::{BorrowedParams, NamedPairs, ParamsConfusionError, ParamsError};
 use std::alloc::Global;
 
@@ -92,9 +94,11 @@ fn bind_params(
     let form = PlainForm {
         no_backslash_escape,
     };
+    let mut first = [NO_PLACE; KEPT_PLACES];
+    let surveyed = SurveyedQuery::new(query, no_backslash_escape, &mut first);
     let pairs = named_pairs(&params);
     let borrowed = borrowed_params(&params, &pairs);
-    bind_borrowed_into(alloc, query, borrowed, no_backslash_escape, &form, room)
+    bind_surveyed_into(alloc, &surveyed, borrowed, &form, room)
 }
 
 // What is told of a text in a room.

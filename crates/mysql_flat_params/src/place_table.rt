@@ -21,8 +21,8 @@ use crate::into_room::{
 };
 use crate::outcome::{NO_FIELDS, Outcome, Report};
 use mysql_binding::{
-    BindError, PlaceSpan, PlainForm, Survey, TextInRoom, bind_spans_into, can_be_spans,
-    place_spans, place_survey,
+    BindError, KEPT_PLACES, NO_PLACE, PlaceSpan, PlainForm, Survey, SurveyedQuery, TextInRoom,
+    bind_spans_into, can_be_spans, place_spans,
 };
 use std::alloc::Global;
 
@@ -96,7 +96,9 @@ pub fn table_into(
     ensures unchanged { outcomes.UnlessDone result
         ((head.new ≡ head.old) × (room.new ≡ room.old)) }
 {
-    let (survey, _) = place_survey(query, &mut [], no_backslash_escape);
+    let mut first = [NO_PLACE; KEPT_PLACES];
+    let surveyed = SurveyedQuery::new(query, no_backslash_escape, &mut first);
+    let survey = surveyed.survey;
     let len = survey.names + survey.marks;
     if len == 0 {
         *head = head_of(survey);
@@ -105,7 +107,7 @@ pub fn table_into(
     if room.len() < len {
         return Outcome::Room { len };
     }
-    match place_spans(alloc, query, no_backslash_escape, &mut room[..len]) {
+    match place_spans(alloc, &surveyed, &mut room[..len]) {
         Ok(()) => {
             *head = head_of(survey);
             Outcome::Done { len }

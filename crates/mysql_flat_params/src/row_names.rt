@@ -4,19 +4,16 @@ ghost use Rattle.std.specs.Prelude.{◌≡◌, ◌≢◌, ◌<◌, ℕ, List, []
 ghost use Rattle.std.specs.FinMap.{get};
 ghost use Rattle.mysql_value_core.specs.declared.value.Value.TheVariants.{UInt};
 ghost use Rattle.mysql_wire_part.specs.ParseBuf.{left};
-ghost use Rattle.mysql_named_params.specs.Tokens.{OnTokens};
 ghost use Rattle.mysql_named_params.specs.Places.{names};
 ghost use Rattle.mysql_values.specs.BorrowedValue.{owned};
 ghost use Rattle.mysql_params_core.specs.GivenBorrowed.{pair_map};
 ghost use Rattle.mysql_binding.specs.FirstCause.{mixed_cause};
-ghost use Rattle.mysql_binding.specs.FoundPlaces.{BeginWithPlaces};
-ghost use Rattle.mysql_binding.specs.Survey.{IsSurvey};
+ghost use Rattle.mysql_binding.specs.SurveyedQuery.{OnSurveyed};
 ghost use Rattle.mysql_flat_params.specs.RowNames.{AreAtPlaces, AreFoundNames, AreOwnNames, AreValuesAt, IsFormOfPairs, IsReadUnder, names_of_pairs, values_of_pairs};
 
 use crate::form::{Spot, eat_name, eat_value};
 use crate::form_names::{FEW_NAMES, insert_sorted, sorted_names};
-use mysql_binding::{Survey, place_after};
-use mysql_named_params::places::FoundPlace;
+use mysql_binding::{SurveyedQuery, place_after};
 use mysql_params_core::params::{NamedPairs, NamedValues, has_name};
 use mysql_values::value::ValueRef;
 use mysql_wire_part::ParseBuf;
@@ -46,29 +43,17 @@ impl<'f> FoundNames<'f> {
     /// form, for a query without names or with marks beside them, and if memory is refused.
     fn of_form(
         alloc: Global,
-        query: &[u8],
-        survey: Survey,
-        known: &[FoundPlace],
+        surveyed: &SurveyedQuery<'_>,
         form: &'f [u8],
-        no_backslash_escape: bool,
     ) -> Option<FoundNames<'f>>
-        requires survey { OnTokens no_backslash_escape query.now (IsSurvey survey) }
-        requires known { OnTokens no_backslash_escape query.now (BeginWithPlaces known.now) }
-        ensures { IfSome result (AreFoundNames no_backslash_escape query.now) }
+        ensures { IfSome result (AreFoundNames
+            surveyed.now.no_backslash_escape surveyed.now.query.now) }
     {
-        if survey.names == 0 || survey.marks > 0 {
+        if surveyed.survey.names == 0 || surveyed.survey.marks > 0 {
             return None;
         }
         let (pairs, sorted) = numbered_names(alloc, form)?;
-        let places = numbers_of_places(
-            alloc,
-            query,
-            known,
-            survey.names,
-            no_backslash_escape,
-            pairs.as_slice(),
-            &sorted,
-        )?;
+        let places = numbers_of_places(alloc, surveyed, pairs.as_slice(), &sorted)?;
         Some(FoundNames { pairs, places })
     }
 
@@ -157,43 +142,37 @@ impl<'f> RowMemory<'f> {
     pub(crate) fn names_of(
         &mut self,
         alloc: Global,
-        query: &[u8],
-        survey: Survey,
-        known: &[FoundPlace],
+        surveyed: &SurveyedQuery<'_>,
         form: &'f [u8],
-        no_backslash_escape: bool,
     ) -> Option<FoundNames<'f>>
-        requires survey { OnTokens no_backslash_escape query.now (IsSurvey survey) }
-        requires known { OnTokens no_backslash_escape query.now (BeginWithPlaces known.now) }
-        requires found { IfSome self.old.found (AreFoundNames no_backslash_escape query.now) }
-        ensures names { IfSome result (λ found. AreFoundNames no_backslash_escape query.now found
+        requires found { IfSome self.old.found (AreFoundNames
+            surveyed.now.no_backslash_escape surveyed.now.query.now) }
+        ensures names { IfSome result (λ found. AreFoundNames
+            surveyed.now.no_backslash_escape surveyed.now.query.now found
             × IsFormOfPairs form.now found.pairs.items) }
-        ensures found { IfSome self.new.found (AreFoundNames no_backslash_escape query.now) }
+        ensures found { IfSome self.new.found (AreFoundNames
+            surveyed.now.no_backslash_escape surveyed.now.query.now) }
     {
         let Some(mut found) = self.found.take() else {
-            return self.new_names(alloc, query, survey, known, form, no_backslash_escape);
+            return self.new_names(alloc, surveyed, form);
         };
         if found.read_values(form) {
             self.tries = self.tries.saturating_add(1);
             return Some(found);
         }
         self.found = Some(found);
-        self.new_names(alloc, query, survey, known, form, no_backslash_escape)
+        self.new_names(alloc, surveyed, form)
     }
 
     // The same, found now.
     fn new_names(
         &mut self,
         alloc: Global,
-        query: &[u8],
-        survey: Survey,
-        known: &[FoundPlace],
+        surveyed: &SurveyedQuery<'_>,
         form: &'f [u8],
-        no_backslash_escape: bool,
     ) -> Option<FoundNames<'f>>
-        requires survey { OnTokens no_backslash_escape query.now (IsSurvey survey) }
-        requires known { OnTokens no_backslash_escape query.now (BeginWithPlaces known.now) }
-        ensures names { IfSome result (λ found. AreFoundNames no_backslash_escape query.now found
+        ensures names { IfSome result (λ found. AreFoundNames
+            surveyed.now.no_backslash_escape surveyed.now.query.now found
             × IsFormOfPairs form.now found.pairs.items) }
         ensures kept { self.new.found ≡ self.old.found }
     {
@@ -201,16 +180,7 @@ impl<'f> RowMemory<'f> {
             return None;
         }
         self.tries -= 1;
-        let Some(mut names) = FoundNames::of_form(
-            alloc,
-            query,
-            survey,
-            known,
-            form,
-            no_backslash_escape,
-        ) else {
-            return None;
-        };
+        let mut names = FoundNames::of_form(alloc, surveyed, form)?;
         if names.read_values(form) {
             Some(names)
         } else {
@@ -376,29 +346,26 @@ fn next_name<'f>(rest: &mut ParseBuf<'f>) -> Option<&'f [u8]>
     }
 }
 
-// For each place of a query, which has so many names and no marks, the index of its name. None if
-// a name has none, or if memory is refused.
+// For each name of a query without both names and marks, the index of its pair. None if a name has
+// none, or if memory is refused.
 fn numbers_of_places(
     alloc: Global,
-    query: &[u8],
-    known: &[FoundPlace],
-    count: usize,
-    no_backslash_escape: bool,
+    surveyed: &SurveyedQuery<'_>,
     pairs: &[(&[u8], ValueRef<'_>)],
     sorted: &SortedNames<'_>,
 ) -> Option<Vec<usize>>
-    requires known { OnTokens no_backslash_escape query.now (BeginWithPlaces known.now) }
-    requires names { OnTokens no_backslash_escape query.now (λ ts.
-        (count ≡ length (names ts)) × (mixed_cause ts ≡ None)) }
-    ensures { IfSome result (λ places. OnTokens no_backslash_escape query.now (λ ts.
+    requires unmixed { OnSurveyed surveyed.now (λ ts. mixed_cause ts ≡ None) }
+    ensures { IfSome result (λ places. OnSurveyed surveyed.now (λ ts.
         AreAtPlaces (names_of_pairs pairs.now) places.items (names ts))) }
 {
+    let mode = surveyed.no_backslash_escape;
+    let count = surveyed.survey.names;
     let Ok(mut places) = Vec::with_capacity(alloc, count) else {
         return None;
     };
-    let mut rest = query;
+    let mut rest = surveyed.query;
     while places.len() < count {
-        let Some(found) = place_after(known, places.len(), rest, no_backslash_escape) else {
+        let Some(found) = place_after(surveyed.known, places.len(), rest, mode) else {
             unreachable!()
         };
         let (_, place, after) = found.cut(rest);

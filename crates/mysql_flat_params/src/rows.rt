@@ -2,12 +2,10 @@
 ghost use Rattle.std.specs.Prelude.{◌≡◌, ◌+◌, ◌≤◌, ◌<◌, length, take, drop, ℕ, List, Ok, IfSome};
 ghost use Rattle.mysql_wire_part.specs.Lenenc.{length_spelling};
 ghost use Rattle.mysql_wire_part.specs.ParseBuf.{read_refusal};
-ghost use Rattle.mysql_named_params.specs.Tokens.{OnTokens};
-ghost use Rattle.mysql_binding.specs.FoundPlaces.{BeginWithPlaces};
 ghost use Rattle.mysql_values.specs.Literal.{literal_of};
 ghost use Rattle.mysql_params_core.specs.Given.{Given};
 ghost use Rattle.mysql_binding.specs.MeasuredText.{IsMeasured};
-ghost use Rattle.mysql_binding.specs.Survey.{IsSurvey};
+ghost use Rattle.mysql_binding.specs.SurveyedQuery.{OnSurveyed};
 ghost use Rattle.mysql_flat_params.specs.BoundRows.{AreBoundRows, IsRowsOutcome, unread_row};
 ghost use Rattle.mysql_flat_params.specs.FlatForm.{IsFormReading};
 ghost use Rattle.mysql_flat_params.specs.FormParams.{given_in_place};
@@ -22,9 +20,9 @@ use crate::outcome::Outcome;
 use crate::row_names::{FoundNames, RowMemory};
 use byteorder::{ByteOrder, LittleEndian};
 use mysql_binding::{
-    MeasuredText, PlainForm, Survey, fill_measured, measured_text, measured_values, place_survey,
+    KEPT_PLACES, MeasuredText, NO_PLACE, PlainForm, SurveyedQuery, all_places, fill_measured,
+    measured_text, measured_values,
 };
-use mysql_named_params::places::{FoundPlace, PlaceKind};
 use mysql_values::value::ValueRef;
 use mysql_wire_part::{ParseBuf, WireError};
 use std::alloc::Global;
@@ -41,16 +39,6 @@ pub struct Rows {
     /// The bytes of the room that their texts took: the text of the next row goes there.
     pub written: usize,
 }
-
-// The number of places that are kept on the stack: a query with no more of them is walked once.
-const KEPT_PLACES: usize = 16;
-
-// What stands in an array before a place is kept.
-const NO_PLACE: FoundPlace = FoundPlace {
-    before: 0,
-    kind: PlaceKind::Mark,
-    len: 0,
-};
 
 // Before the first row.
 const NO_ROWS: Rows = Rows {
@@ -91,54 +79,27 @@ pub fn bind_rows_into(
         return (NO_ROWS, Outcome::Done { len: 0 });
     }
     let mut first = [NO_PLACE; KEPT_PLACES];
-    let (survey, kept) = place_survey(query, &mut first, no_backslash_escape);
-    let count = survey.names + survey.marks;
-    if count <= KEPT_PLACES {
-        let known = &first[..kept];
-        return bind_rows(
-            alloc,
-            query,
-            survey,
-            known,
-            forms,
-            no_backslash_escape,
-            room,
-        );
+    let surveyed = SurveyedQuery::new(query, no_backslash_escape, &mut first);
+    if surveyed.survey.names + surveyed.survey.marks <= KEPT_PLACES {
+        return bind_rows(alloc, &surveyed, forms, room);
     }
-    match vec![in alloc; NO_PLACE; count] {
-        Ok(places) => {
-            let mut places = places;
-            let (survey, kept) = place_survey(query, places.as_mut_slice(), no_backslash_escape);
-            let known = &places.as_slice()[..kept];
-            bind_rows(
-                alloc,
-                query,
-                survey,
-                known,
-                forms,
-                no_backslash_escape,
-                room,
-            )
-        }
+    match all_places(alloc, &surveyed) {
+        Ok(places) => bind_rows(alloc, &surveyed.with_places(places.as_slice()), forms, room),
         Err(_) => (NO_ROWS, Outcome::OutOfMemory),
     }
 }
 
-// Binds row after row to a query with this survey and these first places.
+// Binds row after row to a query that is surveyed.
 fn bind_rows(
     alloc: Global,
-    query: &[u8],
-    survey: Survey,
-    known: &[FoundPlace],
+    surveyed: &SurveyedQuery<'_>,
     forms: &[u8],
-    no_backslash_escape: bool,
     room: &mut [u8],
 ) -> (Rows, Outcome)
-    requires survey { OnTokens no_backslash_escape query.now (IsSurvey survey) }
-    requires known { OnTokens no_backslash_escape query.now (BeginWithPlaces known.now) }
-    ensures rows { AreBoundRows no_backslash_escape query.now forms.now result.0.count
+    ensures rows { AreBoundRows surveyed.now.no_backslash_escape surveyed.now.query.now
+        forms.now result.0.count
         (take result.0.written room.new) (drop result.0.read forms.now) }
-    ensures outcome { IsRowsOutcome no_backslash_escape query.now
+    ensures outcome { IsRowsOutcome surveyed.now.no_backslash_escape surveyed.now.query.now
         (drop result.0.read forms.now) result.1 }
     ensures read { result.0.read ≤ length forms.now }
     ensures done { IfDone result.1 (λ len. len ≡ result.0.written) }
@@ -153,11 +114,8 @@ fn bind_rows(
     while read < forms.len() {
         let (outcome, taken) = bind_row(
             alloc,
-            query,
-            survey,
-            known,
+            surveyed,
             &forms[read..],
-            no_backslash_escape,
             &mut memory,
             &mut room[written..],
         );
@@ -189,21 +147,19 @@ fn bind_rows(
 // front of the room. The number is that of the form's bytes as a string, if the text is written.
 fn bind_row<'f>(
     alloc: Global,
-    query: &[u8],
-    survey: Survey,
-    known: &[FoundPlace],
+    surveyed: &SurveyedQuery<'_>,
     forms: &'f [u8],
-    no_backslash_escape: bool,
     memory: &mut RowMemory<'f>,
     room: &mut [u8],
 ) -> (Outcome, usize)
-    requires survey { OnTokens no_backslash_escape query.now (IsSurvey survey) }
-    requires known { OnTokens no_backslash_escape query.now (BeginWithPlaces known.now) }
-    requires found { IfSome memory.old.found (AreFoundNames no_backslash_escape query.now) }
+    requires found { IfSome memory.old.found (AreFoundNames
+        surveyed.now.no_backslash_escape surveyed.now.query.now) }
     requires some { 0 < length forms.now }
-    ensures row { IsRowInRoom no_backslash_escape query.now forms.now room.old room.new
+    ensures row { IsRowInRoom surveyed.now.no_backslash_escape surveyed.now.query.now forms.now
+        room.old room.new
         result.1 result.0 }
-    ensures found { IfSome memory.new.found (AreFoundNames no_backslash_escape query.now) }
+    ensures found { IfSome memory.new.found (AreFoundNames
+        surveyed.now.no_backslash_escape surveyed.now.query.now) }
 {
     let mut rest = ParseBuf(forms);
     let form = match rest.eat_lenenc_str() {
@@ -213,91 +169,62 @@ fn bind_row<'f>(
     // After the last row no names are looked for.
     let tries = if rest.is_empty() { 0 } else { memory.tries };
     memory.tries = tries;
-    let outcome = bind_form(
-        alloc,
-        query,
-        survey,
-        known,
-        form,
-        no_backslash_escape,
-        memory,
-        room,
-    );
+    let outcome = bind_form(alloc, surveyed, form, memory, room);
     (outcome, forms.len() - rest.len())
 }
 
 // Binds what a form says, and writes the text to the front of the room, as a length-encoded string.
 fn bind_form<'f>(
     alloc: Global,
-    query: &[u8],
-    survey: Survey,
-    known: &[FoundPlace],
+    surveyed: &SurveyedQuery<'_>,
     form: &'f [u8],
-    no_backslash_escape: bool,
     memory: &mut RowMemory<'f>,
     room: &mut [u8],
 ) -> Outcome
-    requires survey { OnTokens no_backslash_escape query.now (IsSurvey survey) }
-    requires known { OnTokens no_backslash_escape query.now (BeginWithPlaces known.now) }
-    requires found { IfSome memory.old.found (AreFoundNames no_backslash_escape query.now) }
-    ensures form { IsFormInRoom no_backslash_escape query.now form.now room.old room.new result }
-    ensures found { IfSome memory.new.found (AreFoundNames no_backslash_escape query.now) }
+    requires found { IfSome memory.old.found (AreFoundNames
+        surveyed.now.no_backslash_escape surveyed.now.query.now) }
+    ensures form { IsFormInRoom surveyed.now.no_backslash_escape surveyed.now.query.now form.now
+        room.old room.new result }
+    ensures found { IfSome memory.new.found (AreFoundNames
+        surveyed.now.no_backslash_escape surveyed.now.query.now) }
 {
-    let Some(found) = memory.names_of(alloc, query, survey, known, form, no_backslash_escape) else {
-        return bind_other(
-            alloc,
-            query,
-            survey,
-            known,
-            form,
-            no_backslash_escape,
-            &mut memory.spare,
-            room,
-        );
+    let Some(found) = memory.names_of(alloc, surveyed, form) else {
+        return bind_other(alloc, surveyed, form, &mut memory.spare, room);
     };
-    bind_found(
-        alloc,
-        query,
-        survey,
-        known,
-        found,
-        no_backslash_escape,
-        memory,
-        room,
-    )
+    bind_found(alloc, surveyed, found, memory, room)
 }
 
 // Binds the values of a form whose names are found.
 fn bind_found<'f>(
     alloc: Global,
-    query: &[u8],
-    survey: Survey,
-    known: &[FoundPlace],
+    surveyed: &SurveyedQuery<'_>,
     found: FoundNames<'f>,
-    no_backslash_escape: bool,
     memory: &mut RowMemory<'f>,
     room: &mut [u8],
 ) -> Outcome
-    requires survey { OnTokens no_backslash_escape query.now (IsSurvey survey) }
-    requires known { OnTokens no_backslash_escape query.now (BeginWithPlaces known.now) }
-    requires found { AreFoundNames no_backslash_escape query.now found }
-    requires kept { IfSome memory.old.found (AreFoundNames no_backslash_escape query.now) }
+    requires found { AreFoundNames surveyed.now.no_backslash_escape surveyed.now.query.now found }
+    requires kept { IfSome memory.old.found (AreFoundNames
+        surveyed.now.no_backslash_escape surveyed.now.query.now) }
     ensures form { (form : List ℕ) → IsFormOfPairs form found.entry.pairs.items →
-        IsFormInRoom no_backslash_escape query.now form room.old room.new result }
-    ensures found { IfSome memory.new.found (AreFoundNames no_backslash_escape query.now) }
+        IsFormInRoom surveyed.now.no_backslash_escape surveyed.now.query.now form
+        room.old room.new result }
+    ensures found { IfSome memory.new.found (AreFoundNames
+        surveyed.now.no_backslash_escape surveyed.now.query.now) }
 {
     let spare = mem::replace(&mut memory.spare, Vec::new(alloc));
     let Some(values) = found.place_values(spare) else {
         return Outcome::OutOfMemory;
     };
     let literals = PlainForm {
-        no_backslash_escape,
+        no_backslash_escape: surveyed.no_backslash_escape,
     };
-    let measured = match measured_values(alloc, survey, values, &literals) {
+    let measured = match measured_values(alloc, surveyed.survey, values, &literals) {
         Ok(measured) => measured,
-        Err(error) => return bind_outcome(query, error, no_backslash_escape),
+        Err(error) => {
+            return bind_outcome(surveyed.query, error, surveyed.no_backslash_escape);
+        }
     };
-    let outcome = fill_string(query, known, &measured, no_backslash_escape, room);
+    let outcome = fill_string(surveyed, &measured, room);
     memory.spare = measured.values;
     memory.found = Some(found);
     outcome
@@ -306,32 +233,20 @@ fn bind_found<'f>(
 // Binds what any form says. The spare list lends its memory, and has it again afterwards.
 fn bind_other<'f>(
     alloc: Global,
-    query: &[u8],
-    survey: Survey,
-    known: &[FoundPlace],
+    surveyed: &SurveyedQuery<'_>,
     form: &'f [u8],
-    no_backslash_escape: bool,
     spare: &mut Vec<ValueRef<'f>>,
     room: &mut [u8],
 ) -> Outcome
-    requires survey { OnTokens no_backslash_escape query.now (IsSurvey survey) }
-    requires known { OnTokens no_backslash_escape query.now (BeginWithPlaces known.now) }
-    ensures { IsFormInRoom no_backslash_escape query.now form.now room.old room.new result }
+    ensures { IsFormInRoom surveyed.now.no_backslash_escape surveyed.now.query.now form.now
+        room.old room.new result }
 {
     let lent = mem::replace(spare, Vec::new(alloc));
     let params = match form_params::<NamesInPlace>(alloc, form, lent) {
         Ok(params) => params,
         Err(error) => return form_outcome(error),
     };
-    let outcome = bind_read(
-        alloc,
-        query,
-        survey,
-        known,
-        &params,
-        no_backslash_escape,
-        room,
-    );
+    let outcome = bind_read(alloc, surveyed, &params, room);
     *spare = spare_values(alloc, params);
     outcome
 }
@@ -348,51 +263,37 @@ fn spare_values<'f>(alloc: Global, params: ParamsInPlace<'f>) -> Vec<ValueRef<'f
 // The same with what a form says.
 fn bind_read(
     alloc: Global,
-    query: &[u8],
-    survey: Survey,
-    known: &[FoundPlace],
+    surveyed: &SurveyedQuery<'_>,
     params: &ParamsInPlace<'_>,
-    no_backslash_escape: bool,
     room: &mut [u8],
 ) -> Outcome
-    requires survey { OnTokens no_backslash_escape query.now (IsSurvey survey) }
-    requires known { OnTokens no_backslash_escape query.now (BeginWithPlaces known.now) }
     ensures { (form : List ℕ) → IsFormReading form (Ok (given_in_place params.now)) →
-        IsFormInRoom no_backslash_escape query.now form room.old room.new result }
+        IsFormInRoom surveyed.now.no_backslash_escape surveyed.now.query.now form
+        room.old room.new result }
 {
     let pairs = named_pairs(params);
     let plain = PlainForm {
-        no_backslash_escape,
+        no_backslash_escape: surveyed.no_backslash_escape,
     };
-    match measured_text(
-        alloc,
-        query,
-        survey,
-        known,
-        borrowed_params(params, &pairs),
-        no_backslash_escape,
-        &plain,
-    ) {
-        Ok(measured) => fill_string(query, known, &measured, no_backslash_escape, room),
-        Err(error) => bind_outcome(query, error, no_backslash_escape),
+    match measured_text(alloc, surveyed, borrowed_params(params, &pairs), &plain) {
+        Ok(measured) => fill_string(surveyed, &measured, room),
+        Err(error) => bind_outcome(surveyed.query, error, surveyed.no_backslash_escape),
     }
 }
 
 // Writes the text of a query that is measured, as a length-encoded string, to the front of the
 // room, if the room is long enough.
 fn fill_string(
-    query: &[u8],
-    known: &[FoundPlace],
+    surveyed: &SurveyedQuery<'_>,
     measured: &MeasuredText<'_>,
-    no_backslash_escape: bool,
     room: &mut [u8],
 ) -> Outcome
-    requires known { OnTokens no_backslash_escape query.now (BeginWithPlaces known.now) }
-    requires measured { (given : Given) × OnTokens no_backslash_escape query.now (λ ts.
-        IsMeasured (literal_of no_backslash_escape) ts given measured.now) }
-    ensures { (given : Given) → OnTokens no_backslash_escape query.now (λ ts.
-        IsMeasured (literal_of no_backslash_escape) ts given measured.now) →
-        IsStringInRoom no_backslash_escape query.now given room.old room.new result }
+    requires measured { (given : Given) × OnSurveyed surveyed.now (λ ts.
+        IsMeasured (literal_of surveyed.now.no_backslash_escape) ts given measured.now) }
+    ensures { (given : Given) → OnSurveyed surveyed.now (λ ts.
+        IsMeasured (literal_of surveyed.now.no_backslash_escape) ts given measured.now) →
+        IsStringInRoom surveyed.now.no_backslash_escape surveyed.now.query.now given
+        room.old room.new result }
 {
     let (lead, count) = length_lead(measured.len as u64);
     let len = count + measured.len;
@@ -402,10 +303,9 @@ fn fill_string(
     let (front, back) = room.split_at_mut(count);
     front.copy_from_slice(&lead[..count]);
     let form = PlainForm {
-        no_backslash_escape,
+        no_backslash_escape: surveyed.no_backslash_escape,
     };
-    let text = &mut back[..measured.len];
-    fill_measured(query, known, measured, no_backslash_escape, &form, text);
+    fill_measured(surveyed, measured, &form, &mut back[..measured.len]);
     Outcome::Done { len }
 }
 

@@ -26,7 +26,9 @@ use crate::into_room::{
 };
 use crate::outcome::Outcome;
 use crate::unportable::construct_number;
-use mysql_binding::{BindError, TextInRoom, bind_borrowed_into};
+use mysql_binding::{
+    BindError, KEPT_PLACES, NO_PLACE, SurveyedQuery, TextInRoom, bind_surveyed_into,
+};
 use mysql_named_params::portable::first_unportable;
 use mysql_named_params::steady::first_unsteady;
 use mysql_steady_text::SteadyForm;
@@ -216,13 +218,9 @@ fn bind_params_steady(
         HasName ts × HasMark ts → IsErrOf result BindError.Mixed) }
     ensures unchanged { OnErr result (room.new ≡ room.old) }
 {
+    let mut first = [NO_PLACE; KEPT_PLACES];
+    let surveyed = SurveyedQuery::new(query, true, &mut first);
     let pairs = named_pairs(&params);
-    bind_borrowed_into(
-        alloc,
-        query,
-        borrowed_params(&params, &pairs),
-        true,
-        &SteadyForm,
-        room,
-    )
+    let borrowed = borrowed_params(&params, &pairs);
+    bind_surveyed_into(alloc, &surveyed, borrowed, &SteadyForm, room)
 }

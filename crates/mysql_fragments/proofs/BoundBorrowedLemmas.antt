@@ -1,5 +1,5 @@
 -- The text that is bound to borrowed fragments, and why there is none.
-use Rattle.std.specs.Prelude.{Bool, Ok, Err, Option, Some, None, option_map, alloc_error}
+use Rattle.std.specs.Prelude.{Bool, IsErrOf, Ok, Err, Option, Result, Some, None, option_map, alloc_error}
 use Rattle.std.specs.List.{flat_map}
 use Rattle.std.specs.Option.{option_or}
 use Rattle.std.proofs.Common.{◌≡◌, ◌<◌, ℕ, true, List, [], ◌∷◌, length, map, arith, inl, inr, refl, sym, ap, subst}
@@ -24,7 +24,7 @@ use Rattle.mysql_fragments.specs.GivenFragments.{confused, fragments_for, positi
 use Rattle.mysql_fragments.specs.declared.fragment.Fragment.{Fragment}
 use Rattle.mysql_fragments.specs.declared.fragment_ref.FragmentRef.{FragmentRef}
 use Rattle.mysql_fragments.specs.declared.fragments_error.FragmentsError.{FragmentsError}
-use Rattle.mysql_fragments.specs.declared.fragments_error.FragmentsError.TheVariants.{Memory}
+use Rattle.mysql_fragments.specs.declared.fragments_error.FragmentsError.TheVariants.{Memory, Mixed}
 use Rattle.mysql_fragments.proofs.CauseLemmas.{first_by, first_refused, mixed_none, mixed_some}
 use Rattle.mysql_fragments.proofs.FilledLemmas.{bound_on, filled_on}
 use Rattle.mysql_fragments.proofs.SaidLemmas.{said_all_values, said_texts}
@@ -108,3 +108,24 @@ module _ (mode : Bool) (query : List ℕ) (survey : Survey) (o : OnTokens mode q
     too_long_in_room t =
         let same : t.0 ≡ o.0 = one_token_list mode query t.0 o.0 t.1 o.1 in
         (o.0, o.1, inl (no_cause _ (none o.0 said s o.2), subst (λ ts. IsTooLong (literal_of mode) ts said) same t.2, refl))
+
+-- ---- names and marks in one query
+
+pub mixed_told : {A : Type 0} (mode : Bool) (query : List ℕ) (survey : Survey) → OnTokens mode query (IsSurvey survey) → (error : FragmentsError) →
+    (0 < survey.names → 0 < survey.marks → Some error ≡ Some Mixed) →
+    OnTokens mode query (λ ts. HasName ts × HasMark ts → IsErrOf {T = A} (Err error) Mixed)
+mixed_told {A = A} mode query survey o error told = (o.0, o.1, λ both. same (told (omega (arith, both.0, o.2.0)) (omega (arith, both.1, o.2.1))))
+  where
+    same : Some error ≡ Some Mixed → IsErrOf {T = A} (Err error) Mixed
+    same e =
+        let it : error ≡ Mixed = cc in
+        ap (λ x. Err x) it
+
+-- where nothing is told of a query, it has not both
+pub never_mixed : {A : Type 0} (mode : Bool) (query : List ℕ) (survey : Survey) → OnTokens mode query (IsSurvey survey) → (r : Result A FragmentsError) →
+    (0 < survey.names → 0 < survey.marks → None ≡ Some Mixed) →
+    OnTokens mode query (λ ts. HasName ts × HasMark ts → IsErrOf r Mixed)
+never_mixed mode query survey o r told = (o.0, o.1, λ both. never (told (omega (arith, both.0, o.2.0)) (omega (arith, both.1, o.2.1))))
+  where
+    never : {X : Type 0} → ◌≡◌ {A = Option FragmentsError} None (Some Mixed) → X
+    never e = cc

@@ -16,7 +16,7 @@ use crate::filled_refs::filled_borrowed;
 use crate::fragment_ref::FragmentRef;
 use crate::fragments_error::FragmentsError;
 use crate::placed_refs::{bind_placed_into, placed_error};
-use mysql_binding::{KEPT_PLACES, NO_PLACE, PlainForm, Survey, TextInRoom, place_survey};
+use mysql_binding::{KEPT_PLACES, NO_PLACE, PlainForm, Survey, SurveyedQuery, TextInRoom};
 use mysql_params_core::params::ParamsConfusionError;
 use std::alloc::{AllocError, Global};
 
@@ -49,26 +49,14 @@ pub fn bind_borrowed_fragments(
         HasName ts × HasMark ts → IsErrOf result FragmentsError.Mixed) }
 {
     let mut first = [NO_PLACE; KEPT_PLACES];
-    let (survey, kept) = place_survey(query, &mut first, no_backslash_escape);
-    if let Some(error) = borrowed_error(survey, fragments) {
+    let surveyed = SurveyedQuery::new(query, no_backslash_escape, &mut first);
+    if let Some(error) = borrowed_error(surveyed.survey, fragments) {
         return Err(error);
     }
     let form = PlainForm {
         no_backslash_escape,
     };
-    let known = &first[..kept];
-    match filled_borrowed(
-        alloc,
-        query,
-        survey,
-        known,
-        fragments,
-        no_backslash_escape,
-        &form,
-    ) {
-        Ok(text) => Ok(text),
-        Err(error) => Err(FragmentsError::Memory(error)),
-    }
+    Ok(filled_borrowed(alloc, &surveyed, fragments, &form)?)
 }
 
 /// [`bind_borrowed_fragments`] into a room: the text is written to its front, or its length is told
@@ -96,23 +84,14 @@ pub fn bind_borrowed_fragments_into(
     ensures unchanged { OnErr result (room.new ≡ room.old) }
 {
     let mut first = [NO_PLACE; KEPT_PLACES];
-    let (survey, kept) = place_survey(query, &mut first, no_backslash_escape);
-    if let Some(error) = borrowed_error(survey, fragments) {
+    let surveyed = SurveyedQuery::new(query, no_backslash_escape, &mut first);
+    if let Some(error) = borrowed_error(surveyed.survey, fragments) {
         return Err(error);
     }
     let form = PlainForm {
         no_backslash_escape,
     };
-    let known = &first[..kept];
-    match bind_placed_into(
-        query,
-        survey,
-        known,
-        fragments,
-        no_backslash_escape,
-        &form,
-        room,
-    ) {
+    match bind_placed_into(&surveyed, fragments, &form, room) {
         Some(text) => Ok(text),
         None => Err(FragmentsError::Memory(AllocError)),
     }

@@ -7,6 +7,7 @@ ghost use Rattle.mysql_params_core.specs.Referents.{referents};
 ghost use Rattle.mysql_binding.specs.FirstCause.{mark_count_differs};
 ghost use Rattle.mysql_binding.specs.Pieces.{pieces, joined_text};
 ghost use Rattle.mysql_binding.specs.Survey.{IsSurvey};
+ghost use Rattle.mysql_binding.specs.SurveyedQuery.{OnSurveyed};
 ghost use Rattle.mysql_fragments.specs.Expanded.{IsBoundFragments, IsExpandedQuery};
 ghost use Rattle.mysql_fragments.specs.FilledText.{ArePlaced};
 ghost use Rattle.mysql_fragments.specs.FragmentErrors.{IsCauseOrMemory, cause_of, first_cause, first_fault_from, first_float_from, later_cause, literal_float};
@@ -18,7 +19,7 @@ use crate::fragment::{Fragment, Fragments};
 use crate::fragments_error::{FragmentFault, FragmentsError};
 use crate::places::fragments_of_places;
 use crate::written::{has_float, push_fragment, push_values};
-use mysql_binding::{PlainForm, Survey, place_survey};
+use mysql_binding::{PlainForm, Survey, SurveyedQuery};
 use mysql_named_params::places::first_place;
 use mysql_values::value::Value;
 use std::alloc::{AllocError, Global};
@@ -209,42 +210,35 @@ pub fn placed_fragments<'f>(
     ensures mixed { OnTokens no_backslash_escape query.now (λ ts.
         HasName ts × HasMark ts → IsErrOf result FragmentsError.Mixed) }
 {
-    let (survey, _) = place_survey(query, &mut [], no_backslash_escape);
-    placed_surveyed(
-        alloc,
-        query,
-        survey,
-        fragments,
-        no_backslash_escape,
-        as_literals,
-    )
+    let surveyed = SurveyedQuery::new(query, no_backslash_escape, &mut []);
+    placed_surveyed(alloc, &surveyed, fragments, as_literals)
 }
 
-// The same for a query with this survey.
+// The same for a query that is surveyed.
 fn placed_surveyed<'f>(
     alloc: Global,
-    query: &[u8],
-    survey: Survey,
+    surveyed: &SurveyedQuery<'_>,
     fragments: &'f Fragments,
-    no_backslash_escape: bool,
     as_literals: bool,
 ) -> Result<Vec<&'f Fragment>, FragmentsError>
-    requires { OnTokens no_backslash_escape query.now (IsSurvey survey) }
-    ensures placed { OnTokens no_backslash_escape query.now (λ ts. IfOk result (λ list.
+    ensures placed { OnSurveyed surveyed.now (λ ts. IfOk result (λ list.
         ArePlaced as_literals ts (given_fragments fragments.now) (referents list.items))) }
-    ensures refused { OnTokens no_backslash_escape query.now (λ ts. IfErr result
+    ensures refused { OnSurveyed surveyed.now (λ ts. IfErr result
         (IsCauseOrMemory (first_cause as_literals ts (given_fragments fragments.now)))) }
-    ensures mixed { OnTokens no_backslash_escape query.now (λ ts.
+    ensures mixed { OnSurveyed surveyed.now (λ ts.
         HasName ts × HasMark ts → IsErrOf result FragmentsError.Mixed) }
 {
+    let survey = surveyed.survey;
     if survey.names > 0 && survey.marks > 0 {
         return Err(FragmentsError::Mixed);
     }
-    let names = survey.names;
-    let list = match fragments_of_places(alloc, query, names, fragments, no_backslash_escape) {
-        Ok(list) => list,
-        Err(error) => return Err(error),
-    };
+    let list = fragments_of_places(
+        alloc,
+        surveyed.query,
+        survey.names,
+        fragments,
+        surveyed.no_backslash_escape,
+    )?;
     match later_error(survey, list.as_slice(), as_literals) {
         Some(error) => Err(error),
         None => Ok(list),

@@ -2,13 +2,11 @@
 //! once into a slice of exactly their length.
 ghost use Rattle.std.specs.Prelude.{◌≡◌, ◌+◌, ◌++◌, ◌≤◌, Some, IfOk, codes, length, map, take};
 ghost use Rattle.std.specs.List.{flat_map, sum_by};
-ghost use Rattle.mysql_named_params.specs.Tokens.{OnTokens};
 ghost use Rattle.mysql_named_params.specs.Places.{place_count};
-ghost use Rattle.mysql_binding.specs.FoundPlaces.{BeginWithPlaces};
 ghost use Rattle.mysql_binding.specs.LiteralForm.{written_literal};
 ghost use Rattle.mysql_binding.specs.Pieces.{pieces, joined_text};
 ghost use Rattle.mysql_binding.specs.PushedLiteral.{AreKnownUnlessFloats};
-ghost use Rattle.mysql_binding.specs.Survey.{IsSurvey};
+ghost use Rattle.mysql_binding.specs.SurveyedQuery.{OnSurveyed};
 ghost use Rattle.mysql_binding.specs.TextLength.{pieces_len};
 ghost use Rattle.mysql_fragments.specs.BorrowedFragments.{cell_rows};
 ghost use Rattle.mysql_fragments.specs.BorrowedText.{borrowed_text, borrowed_values, cell_row_text, cell_values, cells_text};
@@ -19,72 +17,56 @@ use crate::borrowed::borrowed_len;
 use crate::fragment_ref::FragmentRef;
 use crate::names::append_separator;
 use crate::rows_ref::RowsRef;
-use mysql_binding::{LiteralForm, Survey, append_piece, place_after, put_literal};
-use mysql_named_params::places::FoundPlace;
+use mysql_binding::{LiteralForm, SurveyedQuery, append_piece, place_after, put_literal};
 use mysql_values::value::ValueRef;
 use std::alloc::{AllocError, Global};
 
-/// The query of this survey with the texts of borrowed fragments in its places, of which there are
-/// as many. The first places of the query may be known.
+/// The query with the texts of borrowed fragments in its places, of which there are as many.
 pub(crate) fn filled_borrowed<F: LiteralForm>(
     alloc: Global,
-    query: &[u8],
-    survey: Survey,
-    known: &[FoundPlace],
+    surveyed: &SurveyedQuery<'_>,
     fragments: &[FragmentRef<'_>],
-    no_backslash_escape: bool,
     form: &F,
 ) -> Result<Vec<u8>, AllocError>
-    requires survey { OnTokens no_backslash_escape query.now (IsSurvey survey) }
-    requires known { OnTokens no_backslash_escape query.now (BeginWithPlaces known.now) }
-    requires places { survey.names + survey.marks ≡ length fragments.now }
-    ensures text { IfOk result (λ text. OnTokens no_backslash_escape query.now (λ ts.
+    requires places { surveyed.now.survey.names + surveyed.now.survey.marks ≡ length fragments.now }
+    ensures text { IfOk result (λ text. OnSurveyed surveyed.now (λ ts.
         joined_text (pieces ts) (map (borrowed_text (written_literal (F.literal form.now)))
         fragments.now) ≡ Some text.items)) }
     ensures known { IfOk result (λ text. AreKnownUnlessFloats (F.literal form.now)
         (F.IsKnown form.now) (flat_map borrowed_values fragments.now)) }
 {
-    let Some(len) = borrowed_len(survey.piece_bytes, fragments, form) else {
+    let Some(len) = borrowed_len(surveyed.survey.piece_bytes, fragments, form) else {
         return Err(AllocError);
     };
     let mut text = vec![in alloc; 0u8; len]?;
-    fill_borrowed(
-        query,
-        known,
-        fragments,
-        no_backslash_escape,
-        form,
-        text.as_mut_slice(),
-    );
+    fill_borrowed(surveyed, fragments, form, text.as_mut_slice());
     Ok(text)
 }
 
 /// Fills the text with the pieces of the query and, between them, those of borrowed fragments. It
-/// has exactly their length. The first places of the query may be known.
+/// has exactly their length.
 pub(crate) fn fill_borrowed<F: LiteralForm>(
-    query: &[u8],
-    known: &[FoundPlace],
+    surveyed: &SurveyedQuery<'_>,
     fragments: &[FragmentRef<'_>],
-    no_backslash_escape: bool,
     form: &F,
     text: &mut [u8],
 )
-    requires known { OnTokens no_backslash_escape query.now (BeginWithPlaces known.now) }
-    requires places { OnTokens no_backslash_escape query.now (λ ts.
+    requires places { OnSurveyed surveyed.now (λ ts.
         length fragments.now ≡ place_count ts) }
-    requires room { OnTokens no_backslash_escape query.now (λ ts. length text.old
+    requires room { OnSurveyed surveyed.now (λ ts. length text.old
         ≡ pieces_len ts + sum_by length (map (borrowed_text (written_literal (F.literal form.now)))
         fragments.now)) }
-    ensures text { OnTokens no_backslash_escape query.now (λ ts. joined_text (pieces ts)
+    ensures text { OnSurveyed surveyed.now (λ ts. joined_text (pieces ts)
         (map (borrowed_text (written_literal (F.literal form.now))) fragments.now)
         ≡ Some text.new) }
     ensures known { AreKnownUnlessFloats (F.literal form.now) (F.IsKnown form.now)
         (flat_map borrowed_values fragments.now) }
 {
-    let mut rest = query;
+    let mode = surveyed.no_backslash_escape;
+    let mut rest = surveyed.query;
     let mut at = 0;
     for (i, fragment) in fragments.iter().enumerate() {
-        let Some(found) = place_after(known, i, rest, no_backslash_escape) else {
+        let Some(found) = place_after(surveyed.known, i, rest, mode) else {
             unreachable!()
         };
         let (piece, _, after) = found.cut(rest);

@@ -2,10 +2,10 @@
 //! room that the caller lends. Both are lent to the crates above, which find the fragments of names
 //! themselves. Nothing is allocated.
 ghost use Rattle.std.specs.Prelude.{◌≡◌, ◌+◌, false, true, List, None, Some, IfSome, length, option_map};
-ghost use Rattle.mysql_named_params.specs.Tokens.{OnTokens, Token};
+ghost use Rattle.mysql_named_params.specs.Tokens.{Token};
 ghost use Rattle.mysql_binding.specs.FirstCause.{mark_count_differs};
-ghost use Rattle.mysql_binding.specs.FoundPlaces.{BeginWithPlaces};
 ghost use Rattle.mysql_binding.specs.Survey.{IsSurvey};
+ghost use Rattle.mysql_binding.specs.SurveyedQuery.{OnSurveyed};
 ghost use Rattle.mysql_binding.specs.TextInRoom.{IsTextInRoom};
 ghost use Rattle.mysql_fragments.specs.BorrowedFragments.{AreSaid};
 ghost use Rattle.mysql_fragments.specs.FilledText.{ArePlaced, IsFilledQuery};
@@ -19,8 +19,7 @@ use crate::expanded::mark_count_differs;
 use crate::filled_refs::fill_borrowed;
 use crate::fragment_ref::FragmentRef;
 use crate::fragments_error::FragmentsError;
-use mysql_binding::{LiteralForm, Survey, TextInRoom};
-use mysql_named_params::places::FoundPlace;
+use mysql_binding::{LiteralForm, Survey, SurveyedQuery, TextInRoom};
 
 /// The first of the causes after the fragments for the places are known: the marks, the places, the
 /// floats, the faults. Names and marks in one query, names without a fragment and fragments of the
@@ -50,45 +49,34 @@ pub fn placed_error(survey: Survey, placed: &[FragmentRef<'_>]) -> Option<Fragme
     }
 }
 
-/// The text of a query with this survey and these first places, its places having these fragments
-/// and the literals being in any form: it is written to the front of the room, or its length is
-/// told if the room is shorter. None if it would be longer than `isize::MAX` bytes; then the room
-/// is unchanged too.
+/// The text of a query whose places have these fragments, with the literals in any form: it is
+/// written to the front of the room, or its length is told if the room is shorter. None if it would
+/// be longer than `isize::MAX` bytes; then the room is unchanged too.
 pub fn bind_placed_into<F: LiteralForm>(
-    query: &[u8],
-    survey: Survey,
-    known: &[FoundPlace],
+    surveyed: &SurveyedQuery<'_>,
     placed: &[FragmentRef<'_>],
-    no_backslash_escape: bool,
     form: &F,
     room: &mut [u8],
 ) -> Option<TextInRoom>
-    requires survey { OnTokens no_backslash_escape query.now (IsSurvey survey) }
-    requires known { OnTokens no_backslash_escape query.now (BeginWithPlaces known.now) }
-    requires places { survey.names + survey.marks ≡ length placed.now }
+    requires places { surveyed.now.survey.names + surveyed.now.survey.marks
+        ≡ length placed.now }
     ensures text { (given : GivenFragments) (said : List said_fragment.Fragment) →
         AreSaid placed.now said →
-        OnTokens no_backslash_escape query.now (λ ts. ArePlaced true ts given said) →
-        OnTokens no_backslash_escape query.now (λ ts. IfSome result (IsTextInRoom
-        (IsFilledQuery (F.literal form.now) (F.IsKnown form.now) no_backslash_escape ts given)
-        (HasFilledLength (F.literal form.now) no_backslash_escape ts given)
+        OnSurveyed surveyed.now (λ ts. ArePlaced true ts given said) →
+        OnSurveyed surveyed.now (λ ts. IfSome result (IsTextInRoom
+        (IsFilledQuery (F.literal form.now) (F.IsKnown form.now) surveyed.now.no_backslash_escape
+        ts given)
+        (HasFilledLength (F.literal form.now) surveyed.now.no_backslash_escape ts given)
         room.old room.new)) }
     ensures too_long { result ≡ None → (said : List said_fragment.Fragment) →
-        AreSaid placed.now said → OnTokens no_backslash_escape query.now (λ ts.
+        AreSaid placed.now said → OnSurveyed surveyed.now (λ ts.
         IsTooLong (F.literal form.now) ts said) }
     ensures unchanged { result ≡ None → room.new ≡ room.old }
 {
-    let len = borrowed_len(survey.piece_bytes, placed, form)?;
+    let len = borrowed_len(surveyed.survey.piece_bytes, placed, form)?;
     if room.len() < len {
         return Some(TextInRoom::TooShort { len });
     }
-    fill_borrowed(
-        query,
-        known,
-        placed,
-        no_backslash_escape,
-        form,
-        &mut room[..len],
-    );
+    fill_borrowed(surveyed, placed, form, &mut room[..len]);
     Some(TextInRoom::Written { len })
 }

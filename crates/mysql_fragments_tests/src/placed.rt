@@ -1,6 +1,6 @@
 //! Fragments for the places of a query with names, in order. The wanted texts are written by the
 //! rules of the MySQL Reference Manual, "Comparison Functions and Operators" and "String Literals".
-use mysql_binding::{NO_PLACE, PlainForm, Survey, place_survey};
+use mysql_binding::{NO_PLACE, PlainForm, Survey, SurveyedQuery};
 use mysql_fragments::{
     FragmentFault, FragmentRef, FragmentsError, TextInRoom, bind_placed_into, placed_error,
 };
@@ -16,15 +16,15 @@ const TEXT: ValueRef<'static> = ValueRef::Bytes(b"it's");
 const WANTED: &[u8] = b"a IN (1, NULL) OR b = 'it''s'";
 
 fn told_of(room: &mut [u8], first: &mut [FoundPlace]) -> Option<TextInRoom> {
-    let (survey, kept) = place_survey(QUERY, first, true);
-    if survey.names != 2 || survey.marks != 0 {
+    let surveyed = SurveyedQuery::new(QUERY, true, first);
+    if surveyed.survey.names != 2 || surveyed.survey.marks != 0 {
         return None;
     }
     let form = PlainForm {
         no_backslash_escape: true,
     };
     let placed = &[FragmentRef::List(LIST), FragmentRef::Value(TEXT)];
-    bind_placed_into(QUERY, survey, &first[..kept], placed, true, &form, room)
+    bind_placed_into(&surveyed, placed, &form, room)
 }
 
 fn is_written(first: &mut [FoundPlace]) -> bool {
@@ -50,8 +50,7 @@ fn names_in_a_room_that_is_too_short(rt: HostRuntime) {
 }
 
 fn survey(query: &[u8]) -> Survey {
-    let (survey, _) = place_survey(query, &mut [], true);
-    survey
+    SurveyedQuery::new(query, true, &mut []).survey
 }
 
 #[test]

@@ -6,5 +6,4 @@ pub mod Names
 pub mod FirstAbsent
 pub mod Lookup
 pub mod Made
-pub mod ManyPairs
 pub mod Errors

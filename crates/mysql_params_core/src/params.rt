@@ -14,7 +14,7 @@ mod sorted_pairs;
 mod to_params;
 mod tuples;
 
-pub use borrowed::{BorrowedParams, place_values, value_of};
+pub use borrowed::{BorrowedParams, place_values};
 pub use entries::{NameMap, NamedPairs, NamedValues, has_name};
 pub use errors::{
     IntoPositionalError, MissingNamedParameterError, ParamsConfusionError, ParamsError,

@@ -3,7 +3,7 @@ use crate::shared::{Given, answer_of, names, params, same, same_in, values};
 use mysql_params::params::{
     IntoPositionalError, MissingNamedParameterError, Params, ParamsConfusionError, ParamsError,
 };
-use mysql_params_core::params::{BorrowedParams, NameMap, NamedPairs, place_values, value_of};
+use mysql_params_core::params::{BorrowedParams, NameMap, NamedPairs, NamedValues, place_values};
 use mysql_values::value::{Value, ValueRef};
 use std::alloc::{AllocError, Global};
 use std::collections::BTreeMap;
@@ -207,18 +207,19 @@ fn values_of_borrowed_pairs(rt: HostRuntime) {
 
 #[test]
 fn value_of_one_name(rt: HostRuntime) {
-    let params = params(&rt, rt.alloc(), Given::Named(b"ab"));
-    let lent = params.borrowed();
-    assert!(rt; value_of(lent, b"b") == Some(ValueRef::UInt(2)));
-    assert!(rt; value_of(lent, b"c") == None);
+    let Params::Named(entries) = params(&rt, rt.alloc(), Given::Named(b"ab")) else {
+        panic!(rt; "no names")
+    };
+    assert!(rt; entries.value_of(b"b") == Some(ValueRef::UInt(2)));
+    assert!(rt; entries.value_of(b"c") == None);
 }
 
 #[test]
 fn value_of_one_pair(rt: HostRuntime) {
     let pairs = NamedPairs(PAIRS);
-    let lent = BorrowedParams::Pairs(&pairs);
-    assert!(rt; value_of(lent, b"a") == Some(ValueRef::UInt(1)));
-    assert!(rt; value_of(lent, b"ab") == None);
+    assert!(rt; pairs.are_few());
+    assert!(rt; pairs.value_of(b"a") == Some(ValueRef::UInt(1)));
+    assert!(rt; pairs.value_of(b"ab") == None);
 }
 
 // Fifty names twice each, in the same order: more pairs than are found by walks.
@@ -230,6 +231,7 @@ fn values_of_many_pairs(rt: HostRuntime) {
         answer_of(&rt, pairs.push((&LETTERS[at..at + 3], ValueRef::UInt(i))));
     }
     let pairs = NamedPairs(pairs.as_slice());
+    assert!(rt; !pairs.are_few());
     same(
         &rt,
         answer_of(&rt, pairs.first_redefined(rt.alloc())),

@@ -82,7 +82,7 @@ module _ (count counter : ℕ) (bytes rest : List ℕ) (before : List Value)
     | inr cell ↦ cell
   ]
 
-  -- a cell that takes memory is one of a row that does
+  -- a cell that allocates is one of a row that does
   pub cell_refused : ((counter ≡ 0) × (rest ≡ bytes)) ⊎ ReadsACell count bytes
       → {X Y : Type 0} (seen : X → Value × List ℕ) (seen' : Y → List Value × List ℕ)
       (e : WireError) (result : Result Y WireError) → IsErrAnd result (λ e'. e' ≡ e)

@@ -4,7 +4,9 @@ ghost use Rattle.mysql_named_params.specs.FirstPlace.{IsFirstPlace};
 ghost use Rattle.mysql_named_params.specs.Places.{place_count};
 ghost use Rattle.mysql_named_params.specs.Tokens.{OnTokens};
 ghost use Rattle.mysql_binding.specs.FoundPlaces.{BeginWithPlaces, found_places};
+ghost use Rattle.mysql_binding.specs.SurveyedQuery.{OnSurveyed};
 
+use crate::binding::surveyed::SurveyedQuery;
 use mysql_named_params::places::{FoundPlace, first_place};
 use std::alloc::{AllocError, Global};
 
@@ -35,24 +37,21 @@ pub fn place_after(
     }
 }
 
-/// All places of a query that has `count` of them. The first may be known.
-pub(super) fn all_places(
+/// All places of a query. It is lent to the crate above.
+pub fn all_places(
     alloc: Global,
-    query: &[u8],
-    known: &[FoundPlace],
-    count: usize,
-    no_backslash_escape: bool,
+    surveyed: &SurveyedQuery<'_>,
 ) -> Result<Vec<FoundPlace>, AllocError>
-    requires known { OnTokens no_backslash_escape query.now (BeginWithPlaces known.now) }
-    requires count { OnTokens no_backslash_escape query.now (λ ts. count ≡ place_count ts) }
-    ensures places { IfOk result (λ places. OnTokens no_backslash_escape query.now (λ ts.
+    ensures places { IfOk result (λ places. OnSurveyed surveyed.now (λ ts.
         places.items ≡ found_places ts)) }
-    ensures memory { OnErr result (count ≢ 0) }
+    ensures memory { OnErr result (surveyed.now.survey.names + surveyed.now.survey.marks ≢ 0) }
 {
+    let mode = surveyed.no_backslash_escape;
+    let count = surveyed.survey.names + surveyed.survey.marks;
     let mut places = Vec::with_capacity(alloc, count)?;
-    let mut rest = query;
+    let mut rest = surveyed.query;
     while places.len() < count {
-        let Some(found) = place_after(known, places.len(), rest, no_backslash_escape) else {
+        let Some(found) = place_after(surveyed.known, places.len(), rest, mode) else {
             unreachable!()
         };
         let (_, _, after) = found.cut(rest);

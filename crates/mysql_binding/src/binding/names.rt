@@ -1,35 +1,30 @@
 //! The names of a query, as slices of it.
-ghost use Rattle.std.specs.Prelude.{◌≡◌, ◌≢◌, None, IfOk, OnErr, length};
-ghost use Rattle.mysql_named_params.specs.Tokens.{OnTokens};
+ghost use Rattle.std.specs.Prelude.{◌≡◌, ◌≢◌, None, IfOk, OnErr};
 ghost use Rattle.mysql_named_params.specs.Places.{names};
 ghost use Rattle.mysql_params_core.specs.Referents.{referents};
 ghost use Rattle.mysql_binding.specs.FirstCause.{mixed_cause};
-ghost use Rattle.mysql_binding.specs.FoundPlaces.{BeginWithPlaces};
+ghost use Rattle.mysql_binding.specs.SurveyedQuery.{OnSurveyed};
 
 use crate::binding::found::place_after;
-use mysql_named_params::places::FoundPlace;
+use crate::binding::surveyed::SurveyedQuery;
 use std::alloc::{AllocError, Global};
 
-/// The names of a query that has `count` of them, and no marks beside them: slices of the query.
-/// Its first places may be known.
+/// The names of a query without both names and marks: slices of the query.
 pub(super) fn query_names<'q>(
     alloc: Global,
-    query: &'q [u8],
-    known: &[FoundPlace],
-    count: usize,
-    no_backslash_escape: bool,
+    surveyed: &SurveyedQuery<'q>,
 ) -> Result<Vec<&'q [u8]>, AllocError>
-    requires known { OnTokens no_backslash_escape query.now (BeginWithPlaces known.now) }
-    requires names { OnTokens no_backslash_escape query.now (λ ts.
-        (count ≡ length (names ts)) × (mixed_cause ts ≡ None)) }
-    ensures names { IfOk result (λ list. OnTokens no_backslash_escape query.now (λ ts.
+    requires unmixed { OnSurveyed surveyed.now (λ ts. mixed_cause ts ≡ None) }
+    ensures names { IfOk result (λ list. OnSurveyed surveyed.now (λ ts.
         referents list.items ≡ names ts)) }
-    ensures memory { OnErr result (count ≢ 0) }
+    ensures memory { OnErr result (surveyed.now.survey.names ≢ 0) }
 {
+    let mode = surveyed.no_backslash_escape;
+    let count = surveyed.survey.names;
     let mut list = Vec::with_capacity(alloc, count)?;
-    let mut rest = query;
+    let mut rest = surveyed.query;
     while list.len() < count {
-        let Some(found) = place_after(known, list.len(), rest, no_backslash_escape) else {
+        let Some(found) = place_after(surveyed.known, list.len(), rest, mode) else {
             unreachable!()
         };
         let (_, place, after) = found.cut(rest);

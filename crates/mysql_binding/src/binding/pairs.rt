@@ -15,9 +15,10 @@ ghost use Rattle.mysql_binding.specs.TextInRoom.{HasTextOf, IsTextInRoom};
 
 use crate::bind_error::BindError;
 use crate::bind_pairs_error::BindPairsError;
-use crate::binding::bind_borrowed_in;
 use crate::binding::form::PlainForm;
-use crate::binding::room::{TextInRoom, bind_borrowed_into};
+use crate::binding::room::{TextInRoom, bind_surveyed_into};
+use crate::binding::surveyed::SurveyedQuery;
+use crate::binding::{KEPT_PLACES, NO_PLACE, bind_borrowed_in};
 use mysql_params_core::params::{BorrowedParams, NamedPairs};
 use mysql_values::value::ValueRef;
 use std::alloc::Global;
@@ -53,10 +54,7 @@ pub fn bind_pairs(
         return Err(error);
     }
     let params = BorrowedParams::Pairs(&named);
-    match bind_borrowed_in(alloc, query, params, no_backslash_escape) {
-        Ok(text) => Ok(text),
-        Err(error) => Err(BindPairsError::Bind(error)),
-    }
+    Ok(bind_borrowed_in(alloc, query, params, no_backslash_escape)?)
 }
 
 /// [`bind_text_in`](crate::bind_text_in) of borrowed values by position: no value is copied. It
@@ -114,11 +112,10 @@ pub fn bind_pairs_into(
     let form = PlainForm {
         no_backslash_escape,
     };
+    let mut first = [NO_PLACE; KEPT_PLACES];
+    let surveyed = SurveyedQuery::new(query, no_backslash_escape, &mut first);
     let params = BorrowedParams::Pairs(&named);
-    match bind_borrowed_into(alloc, query, params, no_backslash_escape, &form, room) {
-        Ok(told) => Ok(told),
-        Err(error) => Err(BindPairsError::Bind(error)),
-    }
+    Ok(bind_surveyed_into(alloc, &surveyed, params, &form, room)?)
 }
 
 /// [`bind_values`] into a room: the text is written to its front, without a vector for it, or its
@@ -144,8 +141,10 @@ pub fn bind_values_into(
     let form = PlainForm {
         no_backslash_escape,
     };
+    let mut first = [NO_PLACE; KEPT_PLACES];
+    let surveyed = SurveyedQuery::new(query, no_backslash_escape, &mut first);
     let params = BorrowedParams::Values(values);
-    bind_borrowed_into(alloc, query, params, no_backslash_escape, &form, room)
+    bind_surveyed_into(alloc, &surveyed, params, &form, room)
 }
 
 /// Why the pairs make no parameters, or memory is refused for more than 64 of them; none if they

@@ -24,7 +24,8 @@ use crate::bind_error::BindError;
 use crate::binding::form::LiteralForm;
 use crate::binding::found::all_places;
 use crate::binding::names::query_names;
-use crate::binding::survey::{Survey, place_survey};
+use crate::binding::survey::Survey;
+use crate::binding::surveyed::SurveyedQuery;
 use crate::binding::text::append_measured;
 use crate::binding::{KEPT_PLACES, NO_PLACE, bind_surveyed, measured_values};
 use mysql_named_params::named_params::{MixedParamsError, NamedParamsError};
@@ -148,14 +149,7 @@ impl<'q> ParsedQuery<'q> {
         ensures mixed { OnTokens self.now.mode self.now.query (λ ts.
             HasName ts × HasMark ts → IsErrOf result BindError.Mixed) }
     {
-        bind_surveyed(
-            alloc,
-            self.query.as_slice(),
-            self.survey,
-            self.places.as_slice(),
-            params.borrowed(),
-            self.no_backslash_escape,
-        )
+        bind_surveyed(alloc, &self.surveyed(), params.borrowed())
     }
 
     /// The query that was parsed.
@@ -189,16 +183,7 @@ impl<'q> ParsedQuery<'q> {
         if self.survey.names > 0 && self.survey.marks > 0 {
             return Err(NamedParamsError::Mixed(MixedParamsError));
         }
-        match query_names(
-            alloc,
-            self.query.as_slice(),
-            self.places.as_slice(),
-            self.survey.names,
-            self.no_backslash_escape,
-        ) {
-            Ok(names) => Ok(names),
-            Err(error) => Err(NamedParamsError::Memory(error)),
-        }
+        query_names(alloc, &self.surveyed()).map_err(NamedParamsError::Memory)
     }
 
     /// The number of the query's marks.
@@ -217,6 +202,19 @@ impl<'q> ParsedQuery<'q> {
             (result ≡ None) ↔ IsPortable ts) }
     {
         first_unportable(self.query.as_slice(), self.no_backslash_escape)
+    }
+
+    // The query with its survey and its places.
+    pub(super) fn surveyed(&self) -> SurveyedQuery<'_>
+        ensures query { result.query.now ≡ self.now.query }
+        ensures mode { result.no_backslash_escape ≡ self.now.mode }
+    {
+        SurveyedQuery {
+            query: self.query.as_slice(),
+            no_backslash_escape: self.no_backslash_escape,
+            survey: self.survey,
+            known: self.places.as_slice(),
+        }
     }
 }
 
@@ -260,18 +258,9 @@ pub fn append_parsed<F: LiteralForm>(
         IsCauseOrMemory (first_cause ts given) error)) }
     ensures kept { OnErr result (text.new.items ≡ text.old.items) }
 {
-    let measured = measured_values(alloc, query.survey, values, form)?;
-    match append_measured(
-        query.query.as_slice(),
-        query.places.as_slice(),
-        &measured,
-        query.no_backslash_escape,
-        form,
-        text,
-    ) {
-        Ok(()) => Ok(()),
-        Err(error) => Err(BindError::Memory(error)),
-    }
+    let surveyed = query.surveyed();
+    let measured = measured_values(alloc, surveyed.survey, values, form)?;
+    Ok(append_measured(&surveyed, &measured, form, text)?)
 }
 
 // The survey and the places of a query.
@@ -286,13 +275,7 @@ fn survey_and_places(
         place_count ts ≢ 0)) }
 {
     let mut first = [NO_PLACE; KEPT_PLACES];
-    let (survey, kept) = place_survey(query, &mut first, no_backslash_escape);
-    let places = all_places(
-        alloc,
-        query,
-        &first[..kept],
-        survey.names + survey.marks,
-        no_backslash_escape,
-    )?;
-    Ok((survey, places))
+    let surveyed = SurveyedQuery::new(query, no_backslash_escape, &mut first);
+    let places = all_places(alloc, &surveyed)?;
+    Ok((surveyed.survey, places))
 }

@@ -2,16 +2,18 @@
 //! without a walk of the query.
 ghost use Rattle.std.specs.Prelude.{◌≡◌, ◌↔◌, ◌+◌, ◌<◌, ◌≤◌, Bool, None, Ok, length, map, take, drop, IfErr, IfOk, IfSome, IsErrOf, IsTrue, OnErr, OnOk};
 ghost use Rattle.mysql_named_params.specs.Tokens.{OnTokens};
-ghost use Rattle.mysql_named_params.specs.Places.{HasMark, HasName, place_count};
+ghost use Rattle.mysql_named_params.specs.Places.{HasMark, HasName};
+ghost use Rattle.mysql_params_core.specs.Given.{named};
 ghost use Rattle.mysql_params_core.specs.GivenBorrowed.{given_by_borrowed};
 ghost use Rattle.mysql_params_core.specs.Lookup.{lookup};
 ghost use Rattle.mysql_params_core.specs.Referents.{referents};
 ghost use Rattle.mysql_values.specs.BorrowedValue.{owned_values};
-ghost use Rattle.mysql_binding.specs.BindErrors.{IsCauseOrMemory};
+ghost use Rattle.mysql_binding.specs.BindErrors.{IsCauseOrMemory, IsLookupError};
 ghost use Rattle.mysql_binding.specs.FirstCause.{first_cause};
 ghost use Rattle.mysql_binding.specs.FoundPlaces.{found_places};
 ghost use Rattle.mysql_binding.specs.MeasuredText.{HasGivenLength, IsMeasured};
-ghost use Rattle.mysql_binding.specs.PlaceSpans.{AreSpansOf, FitIn, FitSurvey, IsLookupError, IsReady, IsTextAt, RefusesNamesAt, StaysInRoom, after_span, names_at, outside_len, span_of};
+ghost use Rattle.mysql_binding.specs.PlaceSpans.{AreSpansOf, FitIn, FitSurvey, IsReady, IsTextAt, RefusesNamesAt, StaysInRoom, after_span, names_at, outside_len, span_of};
+ghost use Rattle.mysql_binding.specs.SurveyedQuery.{OnSurveyed};
 ghost use Rattle.mysql_binding.specs.TextInRoom.{IsTextInRoom};
 ghost use Rattle.mysql_binding.specs.WrittenText.{IsGivenText};
 
@@ -19,13 +21,14 @@ use crate::bind_error::BindError;
 use crate::binding::form::LiteralForm;
 use crate::binding::found::all_places;
 use crate::binding::literals::append_literal;
-use crate::binding::measured::{MeasuredText, with_lengths};
+use crate::binding::measured::MeasuredText;
 use crate::binding::room::TextInRoom;
 use crate::binding::survey::Survey;
+use crate::binding::surveyed::SurveyedQuery;
 use crate::binding::text::append_piece;
-use crate::binding::{bind_error_of, later_error};
+use crate::binding::{looked_up_values, measured_values};
 use mysql_named_params::places::FoundPlace;
-use mysql_params_core::params::{BorrowedParams, place_values, value_of};
+use mysql_params_core::params::{BorrowedParams, NamedValues};
 use mysql_values::value::ValueRef;
 use std::alloc::{AllocError, Global};
 
@@ -57,17 +60,15 @@ impl PlaceSpan {
 /// is lent to the crate above. If memory is refused, the room is as before.
 pub fn place_spans(
     alloc: Global,
-    query: &[u8],
-    no_backslash_escape: bool,
+    surveyed: &SurveyedQuery<'_>,
     room: &mut [PlaceSpan],
 ) -> Result<(), AllocError>
-    requires { OnTokens no_backslash_escape query.now (λ ts.
-        length room.old ≡ place_count ts) }
-    ensures spans { OnOk result (OnTokens no_backslash_escape query.now (λ ts.
+    requires { length room.old ≡ surveyed.now.survey.names + surveyed.now.survey.marks }
+    ensures spans { OnOk result (OnSurveyed surveyed.now (λ ts.
         room.new ≡ map span_of (found_places ts))) }
     ensures unchanged { OnErr result (room.new ≡ room.old) }
 {
-    let places = all_places(alloc, query, &[], room.len(), no_backslash_escape)?;
+    let places = all_places(alloc, surveyed)?;
     write_spans(places.as_slice(), room);
     Ok(())
 }
@@ -158,10 +159,7 @@ pub fn bind_spans_into<F: LiteralForm>(
     ensures in_room { IfOk result (StaysInRoom room.old room.new) }
     ensures unchanged { OnErr result (room.new ≡ room.old) }
 {
-    let measured = match measured_spans(alloc, query, survey, spans, params, form) {
-        Ok(measured) => measured,
-        Err(error) => return Err(error),
-    };
+    let measured = measured_spans(alloc, query, survey, spans, params, form)?;
     let len = measured.len;
     if room.len() < len {
         return Ok(TextInRoom::TooShort { len });
@@ -195,17 +193,8 @@ fn measured_spans<'p, F: LiteralForm>(
     if survey.names > 0 && survey.marks > 0 {
         return Err(BindError::Mixed);
     }
-    let values = match values_at(alloc, query, &spans[..survey.names], params) {
-        Ok(values) => values,
-        Err(error) => return Err(error),
-    };
-    if let Some(error) = later_error(survey, values.as_slice()) {
-        return Err(error);
-    }
-    match with_lengths(alloc, survey.piece_bytes, values, form) {
-        Ok(measured) => Ok(measured),
-        Err(error) => Err(BindError::Memory(error)),
-    }
+    let values = values_at(alloc, query, &spans[..survey.names], params)?;
+    measured_values(alloc, survey, values, form)
 }
 
 // The values, borrowed, that are given to the names at these places.
@@ -222,10 +211,8 @@ fn values_at<'p>(
         (IsLookupError (given_by_borrowed params.entry) (names_at spans.now query.now)) }
 {
     if !spans.is_empty() {
-        match found_at(alloc, query, spans, params) {
-            Ok(Some(values)) => return Ok(values),
-            Ok(None) => {}
-            Err(error) => return Err(BindError::Memory(error)),
+        if let Some(values) = found_at(alloc, query, spans, params)? {
+            return Ok(values);
         }
     }
     values_of_list(alloc, query, spans, params)
@@ -244,11 +231,40 @@ fn found_at<'p>(
     ensures { IfOk result (λ found. IfSome found (λ values. lookup (given_by_borrowed params.entry)
         (names_at spans.now query.now) ≡ Ok (owned_values values.items))) }
 {
+    match params {
+        BorrowedParams::Named(entries) => values_in_at(alloc, query, spans, entries),
+        BorrowedParams::Sorted(entries) => values_in_at(alloc, query, spans, entries),
+        BorrowedParams::SortedPairs(entries) => values_in_at(alloc, query, spans, entries),
+        BorrowedParams::Pairs(pairs) => {
+            if pairs.are_few() {
+                values_in_at(alloc, query, spans, pairs)
+            } else {
+                Ok(None)
+            }
+        }
+        _ => Ok(None),
+    }
+}
+
+// The same of a map. There is a loop for each kind of map: the kind is chosen once, and not for
+// each name.
+fn values_in_at<'p, M: NamedValues>(
+    alloc: Global,
+    query: &[u8],
+    spans: &[PlaceSpan],
+    entries: &'p M,
+) -> Result<Option<Vec<ValueRef<'p>>>, AllocError>
+    requires fit { FitIn spans.now query.now }
+    requires some { 0 < length spans.now }
+    ensures { IfOk result (λ found. IfSome found (λ values.
+        lookup (named (M.values entries.now)) (names_at spans.now query.now)
+        ≡ Ok (owned_values values.items))) }
+{
     let mut values = Vec::with_capacity(alloc, spans.len())?;
     let mut rest = query;
     for span in spans {
         let (_, place, after) = span.cut(rest);
-        let Some(value) = value_of(params, &place[1..]) else {
+        let Some(value) = entries.value_of(&place[1..]) else {
             return Ok(None);
         };
         values.push(value)?;
@@ -270,14 +286,8 @@ fn values_of_list<'p>(
     ensures refused { IfErr result
         (IsLookupError (given_by_borrowed params.entry) (names_at spans.now query.now)) }
 {
-    let names = match span_names(alloc, query, spans) {
-        Ok(names) => names,
-        Err(error) => return Err(BindError::Memory(error)),
-    };
-    match place_values(alloc, params, names.as_slice()) {
-        Ok(values) => Ok(values),
-        Err(error) => Err(bind_error_of(error)),
-    }
+    let names = span_names(alloc, query, spans)?;
+    looked_up_values(alloc, params, names.as_slice())
 }
 
 // What stands at these places, without its first byte: slices of the query.

@@ -1,15 +1,14 @@
 //! The values of the names of a query, borrowed and not copied, from parameters that are borrowed.
-ghost use Rattle.std.specs.Prelude.{◌≡◌, ◌<◌, ◌⊎◌, [], ◌∷◌, IfOk, IfSome, IsErr, IsErrOf, None, Ok, OnErr, alloc_error, length, ⊤};
+ghost use Rattle.std.specs.Prelude.{◌≡◌, ◌<◌, IfOk, IsErrOf, OnErr, alloc_error, length, ⊤};
 ghost use Rattle.mysql_wire_part.specs.Answer.{IsAnswer};
 ghost use Rattle.mysql_params_core.specs.Errors.{lookup_refusal};
 ghost use Rattle.mysql_params_core.specs.Given.{ValueMap, given, named};
 ghost use Rattle.mysql_params_core.specs.GivenBorrowed.{given_by_borrowed};
 ghost use Rattle.mysql_params_core.specs.Lookup.{lookup, PlaceValuesTakeMemory};
-ghost use Rattle.mysql_params_core.specs.ManyPairs.{AreManyPairs};
 ghost use Rattle.mysql_params_core.specs.Referents.{referents};
 ghost use Rattle.mysql_values.specs.BorrowedValue.{owned, owned_values};
 
-use crate::params::entries::{FEW_PAIRS, NamedPairs, NamedValues};
+use crate::params::entries::{NamedPairs, NamedValues};
 use crate::params::lookup::{missing_params_error, reported_name};
 use crate::params::sorted_pairs::sorted_place_values;
 use crate::params::{Params, ParamsConfusionError, ParamsError};
@@ -88,7 +87,7 @@ pub fn place_values<'p>(
         }
         BorrowedParams::Named(entries) => named_place_values(alloc, entries, names),
         BorrowedParams::Pairs(pairs) => {
-            if pairs.0.len() <= FEW_PAIRS {
+            if pairs.are_few() {
                 named_place_values(alloc, pairs, names)
             } else {
                 sorted_place_values(alloc, pairs.0, names)
@@ -96,32 +95,6 @@ pub fn place_values<'p>(
         }
         BorrowedParams::Sorted(entries) => named_place_values(alloc, entries, names),
         BorrowedParams::SortedPairs(entries) => named_place_values(alloc, entries, names),
-    }
-}
-
-/// The value of a name, borrowed, where it is found without memory. The crates above bind by this;
-/// no user needs it.
-///
-/// It is none if a lookup of the name refuses it. It is none of more than 64 pairs, which aren't
-/// walked for one name.
-pub fn value_of<'p>(params: BorrowedParams<'p, '_>, name: &[u8]) -> Option<ValueRef<'p>>
-    ensures found { IfSome result (λ value. lookup (given_by_borrowed params.entry) (name.now ∷ [])
-        ≡ Ok (owned value ∷ [])) }
-    ensures none { result ≡ None → IsErr (lookup (given_by_borrowed params.entry)
-        (name.now ∷ [])) ⊎ AreManyPairs params.entry }
-{
-    match params {
-        BorrowedParams::Named(entries) => entries.value_of(name),
-        BorrowedParams::Sorted(entries) => entries.value_of(name),
-        BorrowedParams::SortedPairs(entries) => entries.value_of(name),
-        BorrowedParams::Pairs(pairs) => {
-            if pairs.0.len() <= FEW_PAIRS {
-                pairs.value_of(name)
-            } else {
-                None
-            }
-        }
-        BorrowedParams::Empty | BorrowedParams::Positional(_) | BorrowedParams::Values(_) => None,
     }
 }
 

@@ -1,5 +1,5 @@
 //! The entries of named parameters.
-ghost use Rattle.std.specs.Prelude.{◌≡◌, ◌<◌, Ok, IfOk, MatchOption, OnErr, OnOk, length, map, option_map};
+ghost use Rattle.std.specs.Prelude.{◌≡◌, ◌<◌, ◌≤◌, ◌↔◌, Ok, IfOk, IsTrue, MatchOption, OnErr, OnOk, length, map, option_map};
 ghost use Rattle.std.specs.FinMap.{contains_key, empty, get, insert};
 ghost use Rattle.mysql_params_core.specs.Given.{ValueMap, named, value_map};
 ghost use Rattle.mysql_params_core.specs.GivenBorrowed.{pair_map};
@@ -104,9 +104,17 @@ impl NamedValues for NamedPairs<'_> {
 }
 
 /// Up to so many pairs are told apart, and found, sooner by walks than in a sorted map.
-pub(super) const FEW_PAIRS: usize = 64;
+const FEW_PAIRS: usize = 64;
 
 impl<'p> NamedPairs<'p> {
+    /// Whether a name is looked up by a walk over the pairs, which allocates nothing: whether there
+    /// are at most 64. The crates above ask this; no user needs it.
+    pub fn are_few(&self) -> bool
+        ensures { IsTrue result ↔ (length self.now.0.now ≤ few_pairs) }
+    {
+        self.0.len() <= FEW_PAIRS
+    }
+
     /// The index of the first pair whose name is that of an earlier one. If there is none, the
     /// pairs give what [`Params::from_pairs`](crate::params::Params::from_pairs) makes of them; it
     /// refuses them otherwise, with that name. Only more than 64 pairs ask for memory: a sorted map
@@ -117,7 +125,7 @@ impl<'p> NamedPairs<'p> {
             (IsFirstRedefined self.now.0.now)) }
         ensures memory { OnErr result (few_pairs < length self.now.0.now) }
     {
-        if self.0.len() <= FEW_PAIRS {
+        if self.are_few() {
             Ok(self.first_redefined_by_walks())
         } else {
             first_redefined_sorted(alloc, self.0)

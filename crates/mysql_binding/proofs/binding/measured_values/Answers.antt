@@ -3,11 +3,11 @@ use Rattle.mysql_binding.proofs.AppendedTextLemmas.{found_looked_up, found_refus
 use Rattle.mysql_binding.proofs.MeasuredTextLemmas.{is_measured}
 use Rattle.mysql_binding.proofs.binding.measured_values.Goals as goal
 
-pub returns-in-Ok-clause-measured : goal.returns-in-Ok-clause-measured
-returns-in-Ok-clause-measured g c mode query given surveyed found =
-    is_measured mode (g.F.LiteralForm.literal c.args.form.now) query given c.args.survey c.args.values.items c.in-Ok.measured surveyed
+pub returns-clause-measured : goal.returns-clause-measured
+returns-clause-measured g c mode query given surveyed found =
+    is_measured mode (g.F.LiteralForm.literal c.args.form.now) query given c.args.survey c.args.values.items c.in_ok-with_lengths.field-0 surveyed
     (found_looked_up mode query given c.args.survey (owned_values c.args.values.items) surveyed found (rw c.as_slice.ensures.value at c.in_default.ensures.cause))
-    c.in-Ok.ensures.values c.in-Ok.ensures.in_range c.in-Ok.ensures.lens c.in-Ok.ensures.len c.in-Ok.ensures.fits
+    c.in_ok-with_lengths.ensures.values c.in_ok-with_lengths.ensures.in_range c.in_ok-with_lengths.ensures.lens c.in_ok-with_lengths.ensures.len c.in_ok-with_lengths.ensures.fits
 
 pub returns-in-Some-clause-refused : goal.returns-in-Some-clause-refused
 returns-in-Some-clause-refused g c mode query given surveyed found =

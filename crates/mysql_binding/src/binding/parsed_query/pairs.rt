@@ -50,10 +50,7 @@ impl<'q> ParsedQuery<'q> {
         if let Some(error) = pairs_refusal(alloc, &named) {
             return Err(error);
         }
-        match self.bind_borrowed(alloc, BorrowedParams::Pairs(&named)) {
-            Ok(text) => Ok(text),
-            Err(error) => Err(BindPairsError::Bind(error)),
-        }
+        Ok(bind_surveyed(alloc, &self.surveyed(), BorrowedParams::Pairs(&named))?)
     }
 
     /// [`bind`](ParsedQuery::bind) of borrowed values by position, exactly as
@@ -73,7 +70,7 @@ impl<'q> ParsedQuery<'q> {
         ensures mixed { OnTokens self.now.mode self.now.query (λ ts.
             HasName ts × HasMark ts → IsErrOf result BindError.Mixed) }
     {
-        self.bind_borrowed(alloc, BorrowedParams::Values(values))
+        bind_surveyed(alloc, &self.surveyed(), BorrowedParams::Values(values))
     }
 
     /// [`bind_pairs`](ParsedQuery::bind_pairs) to the end of another text. The bound text takes no
@@ -96,10 +93,7 @@ impl<'q> ParsedQuery<'q> {
         if let Some(error) = pairs_refusal(alloc, &named) {
             return Err(error);
         }
-        match self.append_borrowed(alloc, BorrowedParams::Pairs(&named), text) {
-            Ok(()) => Ok(()),
-            Err(error) => Err(BindPairsError::Bind(error)),
-        }
+        Ok(self.append_borrowed(alloc, BorrowedParams::Pairs(&named), text)?)
     }
 
     /// [`bind_values`](ParsedQuery::bind_values) to the end of another text. The bound text takes
@@ -121,33 +115,7 @@ impl<'q> ParsedQuery<'q> {
         self.append_borrowed(alloc, BorrowedParams::Values(values), text)
     }
 
-    // The text of the query with borrowed parameters.
-    pub(super) fn bind_borrowed(
-        &self,
-        alloc: Global,
-        params: BorrowedParams<'_, '_>,
-    ) -> Result<Vec<u8>, BindError>
-        ensures bound { OnTokens self.now.mode self.now.query (λ ts. IfOk result (λ text.
-            IsBoundText self.now.mode ts (given_by_borrowed params.entry) text.items)) }
-        ensures refused { OnTokens self.now.mode self.now.query (λ ts. IfErr result
-            (IsCauseOrMemory (first_cause ts (given_by_borrowed params.entry)))) }
-        ensures bound_again { IfOk result (λ text. IsSameBoundAgain self.now.mode text.items) }
-        ensures by_position { OnTokens self.now.mode self.now.query (λ ts. IfOk result (λ text.
-            IsSameByPosition self.now.mode ts (given_by_borrowed params.entry) text.items)) }
-        ensures mixed { OnTokens self.now.mode self.now.query (λ ts.
-            HasName ts × HasMark ts → IsErrOf result BindError.Mixed) }
-    {
-        bind_surveyed(
-            alloc,
-            self.query.as_slice(),
-            self.survey,
-            self.places.as_slice(),
-            params,
-            self.no_backslash_escape,
-        )
-    }
-
-    // The same to the end of another text.
+    // The text of the query with borrowed parameters, to the end of another text.
     fn append_borrowed(
         &self,
         alloc: Global,
@@ -162,16 +130,11 @@ impl<'q> ParsedQuery<'q> {
             HasName ts × HasMark ts → IsErrOf result BindError.Mixed) }
         ensures kept { OnErr result (text.new.items ≡ text.old.items) }
     {
-        let query = self.query.as_slice();
-        let places = self.places.as_slice();
-        let mode = self.no_backslash_escape;
+        let surveyed = self.surveyed();
         let form = PlainForm {
-            no_backslash_escape: mode,
+            no_backslash_escape: surveyed.no_backslash_escape,
         };
-        let measured = measured_text(alloc, query, self.survey, places, params, mode, &form)?;
-        match append_measured(query, places, &measured, mode, &form, text) {
-            Ok(()) => Ok(()),
-            Err(error) => Err(BindError::Memory(error)),
-        }
+        let measured = measured_text(alloc, &surveyed, params, &form)?;
+        Ok(append_measured(&surveyed, &measured, &form, text)?)
     }
 }

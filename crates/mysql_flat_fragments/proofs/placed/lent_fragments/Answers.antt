@@ -10,7 +10,7 @@ loop-fragment-preserved c = λ said all.
     let i = c.loop-fragment.fragment-index in
     let (one, one_more, kept) = kept_at_index c.args.kept.now said i c.fragment-item.result all c.loop-fragment-test.true in
     let more : take (i + 1) said ≡ take i said ++ one ∷ [] = rw add-one one_more in
-    subst (λ list. AreSaid list (take (i + 1) said)) (sym c.in-Ok.ensures.items)
+    subst (λ list. AreSaid list (take (i + 1) said)) (sym c.in_ok-push.ensures.items)
     (subst (AreSaid (c.loop-fragment.list.items ++ c.lent.result ∷ [])) (sym more)
     (said_more c.loop-fragment.list.items (take i said) c.lent.result one (c.loop-fragment.invariant said all)
     (c.lent.ensures one (subst (λ f. IsKeptAs f one) (sym {A = FragmentInPlace} c.fragment-item.is) kept))))

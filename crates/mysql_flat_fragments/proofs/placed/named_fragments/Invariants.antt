@@ -5,11 +5,11 @@ use Rattle.mysql_binding.proofs.NameListLemmas.{ListedSoFar}
 use Rattle.mysql_flat_fragments.proofs.PlacedLemmas.{IsFoundSoFar}
 use Rattle.mysql_flat_fragments.proofs.placed.named_fragments.Given as goal
 
-abbrev pub invariant-loop-known : goal.invariant-loop-known
-invariant-loop-known l =
-    ((names : List (List ℕ)) × ListedSoFar l.no_backslash_escape l.query l.rest l.count names
+abbrev pub invariant-loop-rest : goal.invariant-loop-rest
+invariant-loop-rest l =
+    ((names : List (List ℕ)) × ListedSoFar l.surveyed.no_backslash_escape l.surveyed.query.now l.rest l.count names
     × (length names ≡ length l.list.items) × IsFoundSoFar l.entries.entries names l.list.items)
-    × OnTokens l.no_backslash_escape l.rest (BeginWithPlaces (drop (length l.list.items) l.known))
+    × OnTokens l.surveyed.no_backslash_escape l.rest (BeginWithPlaces (drop (length l.list.items) l.surveyed.known.now))
 
-abbrev pub decreases-loop-known : goal.decreases-loop-known
-decreases-loop-known l = l.count - length l.list.items
+abbrev pub decreases-loop-rest : goal.decreases-loop-rest
+decreases-loop-rest l = l.count - length l.list.items

@@ -25,7 +25,7 @@ use std::time::Duration;
 /// `converted` is what a value becomes. `conversion` of [`FromValue`](super::FromValue) is the
 /// intermediate, before it is committed.
 ///
-/// A `String` and a `Vec<u8>` take memory, and refused memory is another answer than a value that
+/// A `String` and a `Vec<u8>` allocate, and refused memory is another answer than a value that
 /// doesn't convert. They are made by [`copied_text`] and [`copied_bytes`], so no call makes an
 /// `Option<String>`.
 pub trait FromValueRef<'v>: Sized {

@@ -6,8 +6,8 @@ use Rattle.mysql_binding.proofs.binding.found.all_places.Given as goal
 
 abbrev pub invariant-loop-rest : goal.invariant-loop-rest
 invariant-loop-rest l =
-    CollectedSoFar l.no_backslash_escape l.query l.rest l.count l.places.items
-    × OnTokens l.no_backslash_escape l.rest (BeginWithPlaces (drop (length l.places.items) l.known))
+    CollectedSoFar l.surveyed.no_backslash_escape l.surveyed.query.now l.rest l.count l.places.items
+    × OnTokens l.surveyed.no_backslash_escape l.rest (BeginWithPlaces (drop (length l.places.items) l.surveyed.known.now))
 
 abbrev pub decreases-loop-rest : goal.decreases-loop-rest
 decreases-loop-rest l = l.count - length l.places.items

@@ -7,8 +7,8 @@ use Rattle.mysql_binding.proofs.binding.names.query_names.Given as goal
 
 abbrev pub invariant-loop-rest : goal.invariant-loop-rest
 invariant-loop-rest l =
-    ListedSoFar l.no_backslash_escape l.query l.rest l.count (referents l.list.items)
-    × OnTokens l.no_backslash_escape l.rest (BeginWithPlaces (drop (length l.list.items) l.known))
+    ListedSoFar l.surveyed.no_backslash_escape l.surveyed.query.now l.rest l.count (referents l.list.items)
+    × OnTokens l.surveyed.no_backslash_escape l.rest (BeginWithPlaces (drop (length l.list.items) l.surveyed.known.now))
 
 abbrev pub decreases-loop-rest : goal.decreases-loop-rest
 decreases-loop-rest l = l.count - length l.list.items

@@ -1,52 +1,49 @@
-use Rattle.std.proofs.Common.{◌<◌, arith, length, map, refl, ap, sym, ◌∙◌}
-use Rattle.mysql_binding.specs.FirstCause.{first_float}
-use Rattle.mysql_binding.specs.LiteralForm.{literal_len}
+use Rattle.std.proofs.Common.{arith}
 use Rattle.mysql_params_core.specs.GivenBorrowed.{given_by_borrowed}
 use Rattle.mysql_values.specs.BorrowedValue.{owned_values}
-use Rattle.mysql_binding.proofs.BoundTextLemmas.{refused_later, looked_up}
-use Rattle.mysql_binding.proofs.MeasuredTextLemmas.{is_measured}
-use Rattle.mysql_binding.proofs.SpanBindLemmas.{fit_front, own_surveyed, own_lookup_refused, own_looked_up, refused_names, value_for_each_span}
+use Rattle.mysql_binding.specs.BindErrors.{IsCauseOrMemory}
+use Rattle.mysql_binding.specs.FirstCause.{first_cause}
+use Rattle.mysql_binding.specs.PlaceSpans.{RefusesNamesAt}
+use Rattle.mysql_binding.proofs.AppendedTextLemmas.{handed_on}
+use Rattle.mysql_binding.proofs.MeasuredTextLemmas.{measured_found, measured_refused}
+use Rattle.mysql_binding.proofs.SpanBindLemmas.{fit_front, own_found, own_lookup_refused, own_surveyed, ready_spans, refused_names}
 use Rattle.mysql_binding.proofs.binding.spans.measured_spans.Goals.{else-survey-gt0-via-then-survey-gt0+else-survey-gt0-2, else-survey-gt0-via-else-survey-gt0}
 use Rattle.mysql_binding.proofs.binding.spans.measured_spans.Goals as goal
 
 pub values_at-requires : goal.values_at-requires
 values_at-requires g c = record { fit = fit_front c.args.spans.now c.args.survey.names c.args.query.now c.requires.fit.fit }
 
-pub returns-in-Err-clause-refused : goal.returns-in-Err-clause-refused
-returns-in-Err-clause-refused g c = λ mode own.
-    own_lookup_refused c.args.survey c.args.spans.now mode c.args.query.now own
-    (λ both. elim c.else-survey-gt0.branch [ else-survey-gt0-via-then-survey-gt0+else-survey-gt0-2 w ↦ omega (arith, both.1, w.if-survey-gt0-2.false) | else-survey-gt0-via-else-survey-gt0 w ↦ omega (arith, both.0, w.if-survey-gt0.false) ])
-    (given_by_borrowed c.args.params) c.in-Err.error c.in-Err.ensures.refused
+pub returns-in_err-values-clause-refused : goal.returns-in_err-values-clause-refused
+returns-in_err-values-clause-refused g c = λ mode own.
+    let given = given_by_borrowed c.args.params in
+    let o = own_lookup_refused c.args.survey c.args.spans.now mode c.args.query.now own
+    (λ both. elim c.else-survey-gt0.branch as (λ _. ⊥) [ else-survey-gt0-via-then-survey-gt0+else-survey-gt0-2 w ↦ omega (arith, both.1, w.if-survey-gt0-2.false) | else-survey-gt0-via-else-survey-gt0 w ↦ omega (arith, both.0, w.if-survey-gt0.false) ])
+    given c.in_err-values.field-0.0 c.in_err-values.ensures.refused in
+    (o.0, o.1, handed_on (IsCauseOrMemory (first_cause o.0 given)) c.from_residual.result c.in_err-values.field-0.0 c.from_residual.ensures.1 o.2)
 
-pub returns-in-Err-clause-lookup : goal.returns-in-Err-clause-lookup
-returns-in-Err-clause-lookup g c = λ refusal is. refused_names _ _ c.in-Err.error refusal c.in-Err.ensures.refused is
+pub returns-in_err-values-clause-lookup : goal.returns-in_err-values-clause-lookup
+returns-in_err-values-clause-lookup g c =
+    handed_on (RefusesNamesAt c.args.survey c.args.spans.now c.args.query.now (given_by_borrowed c.args.params)) c.from_residual.result c.in_err-values.field-0.0 c.from_residual.ensures.1
+    (λ refusal is. refused_names _ _ c.in_err-values.field-0.0 refusal c.in_err-values.ensures.refused is)
 
-pub returns-in-Some-clause-refused : goal.returns-in-Some-clause-refused
-returns-in-Some-clause-refused g c = λ mode own.
-    let never = λ (both : 0 < c.args.survey.names × 0 < c.args.survey.marks). elim c.else-survey-gt0.branch as (λ _. ⊥) [ else-survey-gt0-via-then-survey-gt0+else-survey-gt0-2 w ↦ omega (arith, both.1, w.if-survey-gt0-2.false) | else-survey-gt0-via-else-survey-gt0 w ↦ omega (arith, both.0, w.if-survey-gt0.false) ] in
-    refused_later mode c.args.query.now (given_by_borrowed c.args.params) c.args.survey (owned_values c.in-Ok.values.items)
-    (own_surveyed c.args.survey c.args.spans.now mode c.args.query.now own) never
-    (own_looked_up c.args.survey c.args.spans.now mode c.args.query.now own never (given_by_borrowed c.args.params) (owned_values c.in-Ok.values.items) c.in-Ok.ensures.values)
-    c.in-Some.error (rw c.as_slice.ensures.value at c.in-Some.ensures.cause)
+pub returns-clause-measured : goal.returns-clause-measured
+returns-clause-measured g c = λ mode own.
+    measured_found mode c.args.query.now (g.F.LiteralForm.literal c.args.form.now) (given_by_borrowed c.args.params) c.args.survey (owned_values c.in_ok-values.values.items) c.measured_values.result
+    c.measured_values.ensures.measured (own_surveyed c.args.survey c.args.spans.now mode c.args.query.now own)
+    (own_found c.args.survey c.args.spans.now mode c.args.query.now own
+    (λ both. elim c.else-survey-gt0.branch as (λ _. ⊥) [ else-survey-gt0-via-then-survey-gt0+else-survey-gt0-2 w ↦ omega (arith, both.1, w.if-survey-gt0-2.false) | else-survey-gt0-via-else-survey-gt0 w ↦ omega (arith, both.0, w.if-survey-gt0.false) ])
+    (given_by_borrowed c.args.params) (owned_values c.in_ok-values.values.items) c.in_ok-values.ensures.values)
 
-pub returns-in-Ok-with_lengths-clause-ready : goal.returns-in-Ok-with_lengths-clause-ready
-returns-in-Ok-with_lengths-clause-ready g c =
-    let never = λ (both : 0 < c.args.survey.names × 0 < c.args.survey.marks). elim c.else-survey-gt0.branch as (λ _. ⊥) [ else-survey-gt0-via-then-survey-gt0+else-survey-gt0-2 w ↦ omega (arith, both.1, w.if-survey-gt0-2.false) | else-survey-gt0-via-else-survey-gt0 w ↦ omega (arith, both.0, w.if-survey-gt0.false) ] in
-    let later = rw c.as_slice.ensures.value at (c.in_default.ensures.none refl) in
-    record {
-      each = ap (λ vs. length (owned_values vs)) c.in-Ok-with_lengths.ensures.values ∙ value_for_each_span c.args.survey c.args.spans.now c.args.query.now (given_by_borrowed c.args.params) (owned_values c.in-Ok.values.items) c.requires.fit never c.in-Ok.ensures.values later.0;
-      no_float = ap (λ vs. first_float (owned_values vs)) c.in-Ok-with_lengths.ensures.values ∙ later.1;
-      lens_are = c.in-Ok-with_lengths.ensures.lens ∙ ap (λ vs. map (literal_len (g.F.LiteralForm.literal c.args.form.now)) (owned_values vs)) (sym c.in-Ok-with_lengths.ensures.values);
-      len_is = omega (arith, c.in-Ok-with_lengths.ensures.len, c.requires.fit.outside);
-    }
+pub returns-clause-refused : goal.returns-clause-refused
+returns-clause-refused g c = λ mode own.
+    measured_refused mode c.args.query.now (given_by_borrowed c.args.params) c.args.survey (owned_values c.in_ok-values.values.items) c.measured_values.result
+    c.measured_values.ensures.refused (own_surveyed c.args.survey c.args.spans.now mode c.args.query.now own)
+    (own_found c.args.survey c.args.spans.now mode c.args.query.now own
+    (λ both. elim c.else-survey-gt0.branch as (λ _. ⊥) [ else-survey-gt0-via-then-survey-gt0+else-survey-gt0-2 w ↦ omega (arith, both.1, w.if-survey-gt0-2.false) | else-survey-gt0-via-else-survey-gt0 w ↦ omega (arith, both.0, w.if-survey-gt0.false) ])
+    (given_by_borrowed c.args.params) (owned_values c.in_ok-values.values.items) c.in_ok-values.ensures.values)
 
-pub returns-in-Ok-with_lengths-clause-measured : goal.returns-in-Ok-with_lengths-clause-measured
-returns-in-Ok-with_lengths-clause-measured g c = λ mode own.
-    let never = λ (both : 0 < c.args.survey.names × 0 < c.args.survey.marks). elim c.else-survey-gt0.branch as (λ _. ⊥) [ else-survey-gt0-via-then-survey-gt0+else-survey-gt0-2 w ↦ omega (arith, both.1, w.if-survey-gt0-2.false) | else-survey-gt0-via-else-survey-gt0 w ↦ omega (arith, both.0, w.if-survey-gt0.false) ] in
-    let surveyed = own_surveyed c.args.survey c.args.spans.now mode c.args.query.now own in
-    is_measured mode (g.F.LiteralForm.literal c.args.form.now) c.args.query.now (given_by_borrowed c.args.params) c.args.survey c.in-Ok.values.items c.in-Ok-with_lengths.measured
-    surveyed
-    (looked_up mode c.args.query.now (given_by_borrowed c.args.params) c.args.survey (owned_values c.in-Ok.values.items) surveyed never
-    (own_looked_up c.args.survey c.args.spans.now mode c.args.query.now own never (given_by_borrowed c.args.params) (owned_values c.in-Ok.values.items) c.in-Ok.ensures.values)
-    (rw c.as_slice.ensures.value at c.in_default.ensures.cause))
-    c.in-Ok-with_lengths.ensures.values c.in-Ok-with_lengths.ensures.in_range c.in-Ok-with_lengths.ensures.lens c.in-Ok-with_lengths.ensures.len c.in-Ok-with_lengths.ensures.fits
+pub returns-clause-ready : goal.returns-clause-ready
+returns-clause-ready g c =
+    ready_spans (g.F.LiteralForm.literal c.args.form.now) c.args.survey c.args.spans.now c.args.query.now (given_by_borrowed c.args.params) (owned_values c.in_ok-values.values.items) c.requires.fit
+    (λ both. elim c.else-survey-gt0.branch as (λ _. ⊥) [ else-survey-gt0-via-then-survey-gt0+else-survey-gt0-2 w ↦ omega (arith, both.1, w.if-survey-gt0-2.false) | else-survey-gt0-via-else-survey-gt0 w ↦ omega (arith, both.0, w.if-survey-gt0.false) ])
+    c.in_ok-values.ensures.values c.measured_values.result c.measured_values.ensures.in_survey

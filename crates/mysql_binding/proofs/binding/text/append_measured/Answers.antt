@@ -9,6 +9,6 @@ returns-clause-appended g c =
     let end = c.in-Some.ensures.1 in (
       f.0,
       appended_bytes c.args.text.now.items c.resize.new.self.items c.fill_after.new.text f.0 _ _ _ _ c.resize.new.self.len c.in-Some.end (omega (arith, len))
-          (c.fill_after.ensures.next ∙ (sym end ∙ sym len)) (omega arith) c.as_mut_slice-text.ensures.value (omega (arith, end)) c.in_ok-resize.ensures.items f.1,
+          (c.fill_after.ensures.next ∙ (sym end ∙ sym len)) (omega arith) c.as_mut_slice.ensures.value (omega (arith, end)) c.in_ok-resize.ensures.items f.1,
       f.2,
     )

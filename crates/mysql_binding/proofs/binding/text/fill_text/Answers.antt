@@ -4,6 +4,7 @@ use Rattle.mysql_binding.specs.FoundPlaces.{BeginWithPlaces}
 use Rattle.mysql_binding.proofs.FoundPlacesLemmas.{rest_after}
 use Rattle.mysql_binding.proofs.WrittenTextLemmas.{written_none}
 use Rattle.mysql_binding.proofs.FilledTextLemmas.{item_is, fill_place_left, fill_no_float, fill_len, piece_fits, literal_fits, filled_more, last_fits, filled_all}
+use Rattle.mysql_binding.proofs.SurveyedQueryLemmas.{begin_with}
 use Rattle.mysql_binding.proofs.binding.text.fill_text.Goals as goal
 
 pub loop-i-init : goal.loop-i-init
@@ -12,7 +13,7 @@ loop-i-init g c = (
     so_far = written_none _ _ _ _ _ _ _ _ c.requires.places c.requires.no_float c.requires.lens c.requires.room refl;
     in_range = omega arith;
   },
-  c.requires.known,
+  begin_with _ _ _ c.args.surveyed.now.first,
 )
 
 pub unreachable-requires : goal.unreachable-requires
@@ -45,7 +46,7 @@ loop-i-preserved g c = (
       (fill_len _ _ _ _ _ _ _ _ _ c.loop-i.invariant.0 c.loop-i-test.true _ (item_is c.args.values.now c.args.values.now c.loop-i.i NULL c.loop-i-test.true refl) _ c.requires.lens)
       c.append_literal-at.ensures.next (search rules) c.append_literal-at.ensures.literal c.append_literal-at.ensures.known
       c.append_literal-at.ensures.front,
-  rest_after c.args.no_backslash_escape c.loop-i.rest.now _ (c.in-Some.found.before + c.in-Some.found.len) (BeginWithPlaces (drop (c.loop-i.i + 1) c.args.known.now)) c.cut.ensures.after c.in-Some.ensures.next,
+  rest_after c.args.surveyed.now.no_backslash_escape c.loop-i.rest.now _ (c.in-Some.found.before + c.in-Some.found.len) (BeginWithPlaces (drop (c.loop-i.i + 1) c.args.surveyed.now.known.now)) c.cut.ensures.after c.in-Some.ensures.next,
 )
 
 pub append_piece-requires : goal.append_piece-requires

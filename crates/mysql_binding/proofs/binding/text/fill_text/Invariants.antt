@@ -6,5 +6,5 @@ use Rattle.mysql_binding.proofs.binding.text.fill_text.Given as goal
 
 abbrev pub invariant-loop-i : goal.invariant-loop-i
 invariant-loop-i g l =
-    FilledSoFar l.no_backslash_escape (g.F.LiteralForm.literal l.form) (g.F.LiteralForm.IsKnown l.form) l.query l.rest l.values l.i l.text l.at
-    × OnTokens l.no_backslash_escape l.rest (BeginWithPlaces (drop l.i l.known))
+    FilledSoFar l.surveyed.no_backslash_escape (g.F.LiteralForm.literal l.form) (g.F.LiteralForm.IsKnown l.form) l.surveyed.query.now l.rest l.values l.i l.text l.at
+    × OnTokens l.surveyed.no_backslash_escape l.rest (BeginWithPlaces (drop l.i l.surveyed.known.now))

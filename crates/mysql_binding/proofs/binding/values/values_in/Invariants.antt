@@ -1,18 +1,18 @@
 use Rattle.std.proofs.Common.{ℕ, List, length, ◌-◌, drop}
 use Rattle.mysql_named_params.specs.Tokens.{OnTokens}
-use Rattle.mysql_params_core.specs.GivenBorrowed.{given_by_borrowed}
+use Rattle.mysql_params_core.specs.Given.{named}
 use Rattle.mysql_values.specs.BorrowedValue.{owned_values}
 use Rattle.mysql_binding.specs.FoundPlaces.{BeginWithPlaces}
 use Rattle.mysql_binding.proofs.FoundValueLemmas.{AreLookedUp}
 use Rattle.mysql_binding.proofs.NameListLemmas.{ListedSoFar}
-use Rattle.mysql_binding.proofs.binding.values.found_values.Given as goal
+use Rattle.mysql_binding.proofs.binding.values.values_in.Given as goal
 
 -- the names so far, which no list has in memory, and their values
 abbrev pub invariant-loop-rest : goal.invariant-loop-rest
-invariant-loop-rest l =
-    ((list : List (List ℕ)) × ListedSoFar l.no_backslash_escape l.query l.rest l.count list
-    × AreLookedUp (given_by_borrowed l.params) list (owned_values l.values.items))
-    × OnTokens l.no_backslash_escape l.rest (BeginWithPlaces (drop (length l.values.items) l.known))
+invariant-loop-rest g l =
+    ((list : List (List ℕ)) × ListedSoFar l.surveyed.no_backslash_escape l.surveyed.query.now l.rest l.count list
+    × AreLookedUp (named (g.M.NamedValues.values l.entries)) list (owned_values l.values.items))
+    × OnTokens l.surveyed.no_backslash_escape l.rest (BeginWithPlaces (drop (length l.values.items) l.surveyed.known.now))
 
 abbrev pub decreases-loop-rest : goal.decreases-loop-rest
-decreases-loop-rest l = l.count - length l.values.items
+decreases-loop-rest g l = l.count - length l.values.items
