@@ -13,11 +13,13 @@ use Rattle.mysql_binding.specs.BindErrors.{IsLookupError, IsCauseOrMemory, cause
 use Rattle.mysql_binding.specs.FirstCause.{Cause, first_cause, first_float, mark_count_differs, refused_params}
 use Rattle.mysql_binding.specs.LiteralForm.{Literals, LiteralFacts, literal_len}
 use Rattle.mysql_binding.specs.MeasuredText.{IsMeasured, IsOfSurvey}
-use Rattle.mysql_binding.specs.PlaceSpans.{AreSpansOf, FitIn, FitSurvey, IsReady, IsTextAt, after_span, names_at}
+use Rattle.mysql_binding.specs.PlaceSpans.{AreSpansOf, FitIn, IsReady, IsTextAt, after_span, names_at}
+use Rattle.mysql_binding.specs.SpannedQuery.{spanned_names}
 use Rattle.mysql_binding.specs.Survey.{IsSurvey}
 use Rattle.mysql_binding.specs.WrittenText.{IsGivenText, IsWrittenText}
 use Rattle.mysql_binding.specs.declared.bind_error.BindError.{BindError}
 use Rattle.mysql_binding.specs.declared.binding.measured.MeasuredText.{MeasuredText}
+use Rattle.mysql_binding.specs.declared.binding.spanned.SpannedQuery.{SpannedQuery}
 use Rattle.mysql_binding.specs.declared.binding.spans.PlaceSpan.{PlaceSpan}
 use Rattle.mysql_binding.specs.declared.binding.survey.Survey.{Survey}
 use Rattle.mysql_named_params.proofs.TokenListLemmas.{one_token_list}
@@ -50,23 +52,23 @@ values_of_names given [] values some looked = absurd (omega (arith, some))
 values_of_names given (n ∷ ns) values some looked = lookup_each given n ns values looked
 
 -- there is a value for each place
-pub value_for_each_span : (survey : Survey) (spans : List PlaceSpan) (query : List ℕ) (given : Given) (values : List Value) →
-    FitSurvey survey spans query → (0 < survey.names × 0 < survey.marks → ⊥) →
-    lookup given (names_at (take survey.names spans) query) ≡ Ok values →
-    mark_count_differs survey.names survey.marks (length values) ≡ false → length values ≡ length spans
-value_for_each_span survey spans query given values fit never looked counted = by survey.names refl
+pub value_for_each_span : (spanned : SpannedQuery) (given : Given) (values : List Value) →
+    (0 < spanned.survey.names × 0 < spanned.survey.marks → ⊥) →
+    lookup given (spanned_names spanned) ≡ Ok values →
+    mark_count_differs spanned.survey.names spanned.survey.marks (length values) ≡ false → length values ≡ length spanned.spans.now
+value_for_each_span spanned given values never looked counted = by spanned.survey.names refl
   where
-    by : (n : ℕ) → survey.names ≡ n → length values ≡ length spans
+    by : (n : ℕ) → spanned.survey.names ≡ n → length values ≡ length spanned.spans.now
     by zero e =
-        let same : survey.marks ≡ length values = same_counts survey.marks (length values) (ap (λ n. mark_count_differs n survey.marks (length values)) (sym e) ∙ counted) in
-        omega (arith, same, fit.count, e)
+        let same : spanned.survey.marks ≡ length values = same_counts spanned.survey.marks (length values) (ap (λ n. mark_count_differs n spanned.survey.marks (length values)) (sym e) ∙ counted) in
+        omega (arith, same, spanned.count, e)
     by (suc n) e =
-        let no_marks : survey.marks ≡ 0 = none survey.marks refl in
-        let all : take survey.names spans ≡ spans = take_all survey.names spans (omega (arith, fit.count, no_marks)) in
-        let count : length (names_at (take survey.names spans) query) ≡ length spans = names_at-len (take survey.names spans) query ∙ ap length all in
-        values_of_names given (names_at (take survey.names spans) query) values (omega (arith, count, fit.count, e)) looked ∙ count
+        let no_marks : spanned.survey.marks ≡ 0 = none spanned.survey.marks refl in
+        let all : take spanned.survey.names spanned.spans.now ≡ spanned.spans.now = take_all spanned.survey.names spanned.spans.now (omega (arith, spanned.count, no_marks)) in
+        let count : length (names_at (take spanned.survey.names spanned.spans.now) spanned.query.now) ≡ length spanned.spans.now = names_at-len (take spanned.survey.names spanned.spans.now) spanned.query.now ∙ ap length all in
+        values_of_names given (names_at (take spanned.survey.names spanned.spans.now) spanned.query.now) values (omega (arith, count, spanned.count, e)) looked ∙ count
       where
-        none : (k : ℕ) → survey.marks ≡ k → survey.marks ≡ 0
+        none : (k : ℕ) → spanned.survey.marks ≡ k → spanned.survey.marks ≡ 0
         none zero m = m
         none (suc k) m = absurd (never (omega (arith, e), omega (arith, m)))
 
@@ -82,16 +84,16 @@ refused_names given ns error refusal (inr r) is =
     r.1 ∙ ap (λ why. Err why) same_why
 
 -- what is measured is ready for the spans
-pub ready_spans : {E : Type 0} (literal : Literals) (survey : Survey) (spans : List PlaceSpan) (query : List ℕ) (given : Given) (values : List Value) →
-    FitSurvey survey spans query → (0 < survey.names × 0 < survey.marks → ⊥) →
-    lookup given (names_at (take survey.names spans) query) ≡ Ok values →
-    (r : Result MeasuredText E) → IfOk r (IsOfSurvey literal survey values) → IfOk r (IsReady literal spans query)
-ready_spans literal survey spans query given values fit never looked (Err e) o = tt
-ready_spans literal survey spans query given values fit never looked (Ok measured) o = record {
-  each = ap length o.values_are ∙ value_for_each_span survey spans query given values fit never looked o.as_many_marks;
+pub ready_spans : {E : Type 0} (literal : Literals) (spanned : SpannedQuery) (given : Given) (values : List Value) →
+    (0 < spanned.survey.names × 0 < spanned.survey.marks → ⊥) →
+    lookup given (spanned_names spanned) ≡ Ok values →
+    (r : Result MeasuredText E) → IfOk r (IsOfSurvey literal spanned.survey values) → IfOk r (IsReady literal spanned.spans.now spanned.query.now)
+ready_spans literal spanned given values never looked (Err e) o = tt
+ready_spans literal spanned given values never looked (Ok measured) o = record {
+  each = ap length o.values_are ∙ value_for_each_span spanned given values never looked o.as_many_marks;
   no_float = ap first_float o.values_are ∙ o.no_float;
   lens_are = o.lens_are ∙ ap (map (literal_len literal)) (sym o.values_are);
-  len_is = omega (arith, o.len_is, fit.outside);
+  len_is = omega (arith, o.len_is, spanned.outside);
 }
 
 -- ---- the spans of a query

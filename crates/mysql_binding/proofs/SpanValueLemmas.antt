@@ -1,13 +1,14 @@
 -- Values that are looked up at spans, one after another.
 use Rattle.std.proofs.Common.{◌≡◌, ◌+◌, ◌<◌, ◌≤◌, ℕ, List, [], ◌∷◌, ◌++◌, length, take, drop, get_or, refl, sym, ap, ◌∙◌, subst, arith, append_assoc, append-nil}
 use Rattle.std.specs.Prelude.{Ok}
-use Rattle.std.proofs.lemmas.List.{drop_all, take_rest}
+use Rattle.std.proofs.lemmas.List.{drop_all, length-take-le, take_rest}
 use Rattle.mysql_value_core.specs.declared.value.borrowed.ValueRef.{ValueRef}
 use Rattle.mysql_values.specs.BorrowedValue.{owned, owned_values}
 use Rattle.mysql_named_params.proofs.TokenEndLemmas.{slice_from}
 use Rattle.mysql_params_core.specs.Given.{Given}
 use Rattle.mysql_params_core.specs.Lookup.{lookup}
 use Rattle.mysql_binding.specs.PlaceSpans.{FitIn, after_span, names_at}
+use Rattle.mysql_binding.specs.declared.binding.spanned.SpannedQuery.{SpannedQuery}
 use Rattle.mysql_binding.specs.declared.binding.spans.PlaceSpan.{PlaceSpan}
 use Rattle.mysql_binding.proofs.FoundValueLemmas.{AreLookedUp, looked_up_all, looked_up_more, looked_up_none}
 use Rattle.mysql_binding.proofs.SpanLemmas.{spans_from}
@@ -62,3 +63,9 @@ found_at_all given query rest spans i vs s all some =
     let whole : s.list ≡ names_at spans query =
     sym (append-nil s.list) ∙ (ap (λ x. s.list ++ names_at x rest) (sym (drop_all i spans all)) ∙ s.names_are) in
     ap (lookup given) (sym whole) ∙ looked_up_all given s.list (owned_values vs) (omega (arith, ap length whole, names_at_length spans query, some)) s.looked_up
+
+-- a query with names has spans of names
+pub some_name_spans : (spanned : SpannedQuery) (spans : List PlaceSpan) → spans ≡ take spanned.survey.names spanned.spans.now →
+    0 < spanned.survey.names → 0 < length spans
+some_name_spans spanned spans are some =
+    omega (arith, some, ap length are, length-take-le spanned.survey.names spanned.spans.now (omega (arith, spanned.count)))

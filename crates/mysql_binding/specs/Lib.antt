@@ -19,6 +19,7 @@ pub mod TextInRoom
 pub mod BindErrors
 pub mod MeasuredText
 pub mod PlaceSpans
+pub mod SpannedQuery
 pub mod Isolation
 pub mod BoundAgain
 pub mod BoundPairs

@@ -1,20 +1,17 @@
 -- Where the places of a query stand, as plain numbers that a caller keeps: for `place_spans` and
--- `bind_spans_into`, which are lent to the crate above.
-use Rattle.std.specs.Prelude.{◌≡◌, ◌+◌, ◌++◌, ◌<◌, ◌≤◌, ℕ, Bool, List, [], ◌∷◌, length, map, take, drop, None, Some, Err, ⊤}
+-- `SpannedQuery`, which are lent to the crate above.
+use Rattle.std.specs.Prelude.{◌≡◌, ◌+◌, ◌++◌, ◌<◌, ◌≤◌, ℕ, Bool, List, [], ◌∷◌, length, map, take, drop, None, ⊤}
+use Rattle.std.specs.Coded.{Unit-prop, le_prop}
 use Rattle.std.specs.List.{sum}
 use Rattle.mysql_values.specs.declared.value.Value.{Value}
 use Rattle.mysql_named_params.specs.Tokens.{OnTokens}
 use Rattle.mysql_named_params.specs.declared.places.FoundPlace.{FoundPlace}
-use Rattle.mysql_params_core.specs.Given.{Given}
-use Rattle.mysql_params_core.specs.Lookup.{LookupRefusal, lookup}
 use Rattle.mysql_values.specs.BorrowedValue.{owned_values}
-use Rattle.mysql_binding.specs.BindErrors.{cause_of}
-use Rattle.mysql_binding.specs.FirstCause.{first_float, refused_params}
+use Rattle.mysql_binding.specs.FirstCause.{first_float}
 use Rattle.mysql_binding.specs.FoundPlaces.{found_places}
 use Rattle.mysql_binding.specs.LiteralForm.{Literals, LiteralFacts, AreWrittenAs, literal_len}
 use Rattle.mysql_binding.specs.Survey.{IsSurvey}
 use Rattle.mysql_binding.specs.TextInRoom.{IsTextInRoom}
-use Rattle.mysql_binding.specs.declared.bind_error.BindError.{BindError}
 use Rattle.mysql_binding.specs.declared.binding.measured.MeasuredText.{MeasuredText}
 use Rattle.mysql_binding.specs.declared.binding.room.TextInRoom.{TextInRoom}
 use Rattle.mysql_binding.specs.declared.binding.spans.PlaceSpan.{PlaceSpan}
@@ -39,6 +36,15 @@ FitIn [] bytes = ⊤
 FitIn (span ∷ spans) bytes = (0 < span.len) × (span.before + span.len ≤ length bytes)
     × FitIn spans (after_span span bytes)
 
+-- this can be shown in one way
+pub FitIn-prop : (spans : List PlaceSpan) (bytes : List ℕ) → IsProp (FitIn spans bytes)
+FitIn-prop [] bytes = Unit-prop
+FitIn-prop (span ∷ spans) bytes = λ x y i. (
+  le_prop x.0 y.0 i,
+  le_prop x.1 y.1 i,
+  FitIn-prop spans (after_span span bytes) x.2 y.2 i,
+)
+
 -- how many of these bytes stand outside of the places
 abbrev pub outside_len : List PlaceSpan → List ℕ → ℕ
 outside_len [] bytes = length bytes
@@ -62,13 +68,6 @@ pub record FitSurvey (survey : Survey) (spans : List PlaceSpan) (query : List �
   pub fit : FitIn spans query
   pub outside : survey.piece_bytes ≡ outside_len spans query
   pub count : survey.names + survey.marks ≡ length spans
-
--- if the error refuses what is given, it does so for what stands in the first places, as many as
--- the survey has names
-abbrev pub RefusesNamesAt : Survey → List PlaceSpan → (query : List ℕ) → Given → BindError → Type 0
-RefusesNamesAt survey spans query given error = (refusal : LookupRefusal) →
-    cause_of error ≡ Some (refused_params refusal) →
-    lookup given (names_at (take survey.names spans) query) ≡ Err refusal
 
 -- there is a value for each place and none is a float, and the lengths are those of their literals
 -- and of the text

@@ -3,19 +3,21 @@ use Rattle.std.specs.Prelude.{Bool, IsTrue, Ok, Err, Result}
 use Rattle.std.proofs.Common.{◌≡◌, false, ℕ, ◌+◌, ◌≤◌, List, [], ◌++◌, length, map, take, take_all, drop, sym, ap, ◌∙◌, subst, arith}
 use Rattle.std.proofs.lemmas.List.{length-take-le, length-map, nil_from_length, take-append-le}
 use Rattle.std.proofs.lemmas.Slice.{drop-append-drop}
-use Rattle.mysql_named_params.specs.Tokens.{OnTokens}
+use Rattle.mysql_named_params.specs.Tokens.{OnTokens, Token}
 use Rattle.mysql_named_params.specs.Places.{place_count}
 use Rattle.mysql_named_params.proofs.TokenRowLemmas.{place_count-sum}
 use Rattle.mysql_params_core.specs.Given.{Given}
-use Rattle.mysql_params_core.specs.Lookup.{lookup, missing}
+use Rattle.mysql_params_core.specs.Lookup.{missing}
 use Rattle.mysql_binding.specs.FoundPlaces.{found_places}
 use Rattle.mysql_binding.specs.Isolation.{IsBoundText}
-use Rattle.mysql_binding.specs.PlaceSpans.{AreSpansOf, FitSurvey, RefusesNamesAt, names_at, span_of}
+use Rattle.mysql_binding.specs.PlaceSpans.{AreSpansOf, FitSurvey, span_of}
+use Rattle.mysql_binding.specs.SpannedQuery.{HasOwnSpans, RefusesNames}
 use Rattle.mysql_binding.specs.Survey.{IsSurvey}
 use Rattle.mysql_binding.specs.TextInRoom.{HasTextOf, IsTextInRoom}
 use Rattle.mysql_binding.specs.declared.bind_error.BindError.{BindError}
 use Rattle.mysql_binding.specs.declared.binding.room.TextInRoom.{TextInRoom}
 use Rattle.mysql_binding.specs.declared.binding.room.TextInRoom.TheVariants.{Written, TooShort}
+use Rattle.mysql_binding.specs.declared.binding.spanned.SpannedQuery.{SpannedQuery}
 use Rattle.mysql_binding.specs.declared.binding.spans.PlaceSpan.{PlaceSpan}
 use Rattle.mysql_binding.specs.declared.binding.survey.Survey.{Survey}
 use Rattle.mysql_binding.proofs.CauseLemmas.{on_both}
@@ -23,8 +25,9 @@ use Rattle.mysql_binding.proofs.FoundPlacesLemmas.{found_count}
 use Rattle.mysql_flat_params.specs.FlatForm.{IsFormReading}
 use Rattle.mysql_flat_params.specs.IntoRoom.{IsBindOutcome, IsBoundForm, MissesOtherName}
 use Rattle.mysql_flat_params.specs.Outcomes.{IfDone, text_outcome}
-use Rattle.mysql_flat_params.specs.PlaceTable.{IsTableOf, MissesOtherPlace, survey_of}
+use Rattle.mysql_flat_params.specs.PlaceTable.{CanHaveTable, HasOwnTable, IsTableOf, MissesOtherPlace, survey_of}
 use Rattle.mysql_flat_params.specs.declared.place_table.TableHead.{TableHead}
+use Rattle.mysql_flat_params.specs.declared.place_table.Template.{Template}
 
 -- ---- the table that is made
 
@@ -58,26 +61,43 @@ module _ (mode : Bool) (query : List ℕ) (survey : Survey) (o : OnTokens mode q
 -- ---- what is told
 
 -- by its head, the table is that of the survey
-pub own_table : (head : TableHead) (survey : Survey) (places : List PlaceSpan) (mode : Bool) (query : List ℕ) → survey ≡ survey_of head →
-    IsTableOf head places mode query → AreSpansOf survey places mode query
-own_table head survey places mode query is own = subst (λ s. AreSpansOf s places mode query) (sym is) own
+pub own_table : (template : Template) (survey : Survey) → survey ≡ survey_of template.head → HasOwnTable template →
+    AreSpansOf survey template.places.now template.no_backslash_escape template.query.now
+own_table template survey is own = subst (λ s. AreSpansOf s template.places.now template.no_backslash_escape template.query.now) (sym is) own
 
--- a table that the query can have isn't one that it can't have
-pub never_unfit : {X : Type 0} (head : TableHead) (survey : Survey) (places : List PlaceSpan) (query : List ℕ) → survey ≡ survey_of head →
-    FitSurvey survey places query → (FitSurvey (survey_of head) places query → ⊥) → X
-never_unfit head survey places query is fit unfit = absurd (unfit (subst (λ s. FitSurvey s places query) is fit))
+-- a table that the query can have, by its head
+pub can_have : (template : Template) (survey : Survey) → survey ≡ survey_of template.head → CanHaveTable template →
+    FitSurvey survey template.places.now template.query.now
+can_have template survey is can = subst (λ s. FitSurvey s template.places.now template.query.now) (sym is) can
 
--- what a refused lookup misses
-pub misses_other : (head : TableHead) (survey : Survey) (places : List PlaceSpan) (mode : Bool) (query form : List ℕ) (given : Given) (error : BindError) →
-    survey ≡ survey_of head → IsFormReading form (Ok given) → RefusesNamesAt survey places query given error →
-    MissesOtherName mode query error → MissesOtherPlace head places mode query form
-misses_other head survey places mode query form given error is reads refused (name, cause, other) = (
-  given,
-  name,
-  reads,
-  subst (λ (s : Survey). lookup given (names_at (take s.names places) query) ≡ Err (missing name)) is (refused (missing name) cause),
-  other,
-)
+-- the query with what the template says of its places
+pub record IsOfTemplate (template : Template) (spanned : SpannedQuery) : Type 0 where
+  pub query : spanned.query.now ≡ template.query.now
+  pub survey : spanned.survey ≡ survey_of template.head
+  pub spans : spanned.spans.now ≡ template.places.now
+
+module _ (template : Template) (spanned : SpannedQuery) (is : IsOfTemplate template spanned) where
+  -- a table that the query can have isn't one that it can't have
+  pub never_unfit : {X : Type 0} → (CanHaveTable template → ⊥) → X
+  never_unfit unfit = absurd (unfit (rw (sym is.query, sym is.survey, sym is.spans) (record { fit = spanned.fit; outside = spanned.outside; count = spanned.count })))
+
+  -- its tokens are those of the template's query
+  pub of_query : {mode : Bool} (P : List Token → Type 0) → OnTokens mode spanned.query.now P → OnTokens mode template.query.now P
+  of_query {mode = mode} P o = subst (λ q. OnTokens mode q P) is.query o
+
+  pub own_spans : HasOwnTable template → HasOwnSpans spanned template.no_backslash_escape
+  own_spans own = rw (is.query, is.survey, is.spans) own
+
+  -- what a refused lookup misses
+  pub misses_other : (form : List ℕ) (given : Given) (error : BindError) → IsFormReading form (Ok given) → RefusesNames spanned given error →
+      MissesOtherName template.no_backslash_escape template.query.now error → MissesOtherPlace template form
+  misses_other form given error reads refused (name, cause, other) = (
+    given,
+    name,
+    reads,
+    rw (sym is.query, ap (λ s. s.names) (sym is.survey), sym is.spans) (refused (missing name) cause),
+    other,
+  )
 
 -- no test is true and false
 pub never_true : {X : Type 0} → IsTrue false → X
@@ -92,6 +112,10 @@ never_refused {T = T} {E = E} a e h = absurd (apart h)
   where
     apart : ◌≡◌ {A = Result T E} (Ok a) (Err e) → ⊥
     apart h = cc
+
+-- a refusal has one error
+pub one_refusal : {T E : Type 0} → (e f : E) → ◌≡◌ {A = Result T E} (Err e) (Err f) → e ≡ f
+one_refusal e f h = cc
 
 module _ (mode : Bool) (query form : List ℕ) (given : Given) (old new : List ℕ) (reads : IsFormReading form (Ok given)) (same : length new ≡ length old) where
   -- the text in the room

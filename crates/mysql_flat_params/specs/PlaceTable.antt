@@ -5,7 +5,7 @@ use Rattle.mysql_named_params.specs.Tokens.{OnTokens}
 use Rattle.mysql_named_params.specs.Places.{names, place_count}
 use Rattle.mysql_params_core.specs.Given.{Given}
 use Rattle.mysql_params_core.specs.Lookup.{lookup, missing}
-use Rattle.mysql_binding.specs.PlaceSpans.{AreSpansOf, names_at}
+use Rattle.mysql_binding.specs.PlaceSpans.{AreSpansOf, FitSurvey, names_at}
 use Rattle.mysql_binding.specs.declared.binding.spans.PlaceSpan.{PlaceSpan}
 use Rattle.mysql_binding.specs.declared.binding.survey.Survey.{Survey}
 use Rattle.mysql_flat_params.specs.FlatForm.{IsFormReading}
@@ -17,6 +17,7 @@ use Rattle.mysql_flat_params.specs.declared.outcome.Outcome.TheVariants.{Done, O
 use Rattle.mysql_flat_params.specs.declared.outcome.Report.{Report}
 use Rattle.mysql_flat_params.specs.declared.place_table.TableHead.{TableHead}
 use Rattle.mysql_flat_params.specs.declared.place_table.TableOutcome.{TableOutcome}
+use Rattle.mysql_flat_params.specs.declared.place_table.Template.{Template}
 use Rattle.mysql_flat_params.specs.declared.place_table.TableOutcome.TheVariants.{AsQuery, OtherTable}
 
 -- what the head of a table says of the places
@@ -31,6 +32,15 @@ survey_of head = record {
 -- head and places are the table of the query in the mode
 abbrev pub IsTableOf : TableHead → List PlaceSpan → Bool → List ℕ → Type 0
 IsTableOf head places = AreSpansOf (survey_of head) places
+
+-- the table is that of the query in its mode
+abbrev pub HasOwnTable : Template → Type 0
+HasOwnTable template =
+    IsTableOf template.head template.places.now template.no_backslash_escape template.query.now
+
+-- by its numbers the table is one that the query can have
+abbrev pub CanHaveTable : Template → Type 0
+CanHaveTable template = FitSurvey (survey_of template.head) template.places.now template.query.now
 
 -- the table of the query in the mode is made: its head, and its places at the front of the room,
 -- behind which nothing is changed
@@ -56,12 +66,13 @@ IsTableBindOutcome mode query form OtherTable = ⊥
 
 -- The form says parameters, of which one is missing for what stands in the first places, as many as
 -- there are names by the head. It is missing for a name that the query doesn't have in the mode.
-abbrev pub MissesOtherPlace : TableHead → List PlaceSpan → (mode : Bool) (query form : List ℕ)
-    → Type 0
-MissesOtherPlace head places mode query form = (given : Given) × (name : List ℕ)
+abbrev pub MissesOtherPlace : Template → (form : List ℕ) → Type 0
+MissesOtherPlace template form = (given : Given) × (name : List ℕ)
     × IsFormReading form (Ok given)
-    × (lookup given (names_at (take head.names places) query) ≡ Err (missing name))
-    × OnTokens mode query (λ ts. Contains (names ts) name → ⊥)
+    × (lookup given (names_at (take template.head.names template.places.now) template.query.now)
+    ≡ Err (missing name))
+    × OnTokens template.no_backslash_escape template.query.now (λ ts.
+    Contains (names ts) name → ⊥)
 
 -- the number of an outcome: those of binding to a query, and one more
 abbrev pub number_of : TableOutcome → ℕ

@@ -6,13 +6,14 @@ ghost use Rattle.mysql_params_core.specs.Given.{Given};
 ghost use Rattle.mysql_binding.specs.BindErrors.{IsCauseOrMemory};
 ghost use Rattle.mysql_binding.specs.FirstCause.{first_cause};
 ghost use Rattle.mysql_binding.specs.Isolation.{IsBoundText};
-ghost use Rattle.mysql_binding.specs.PlaceSpans.{AreSpansOf, FitSurvey, RefusesNamesAt, StaysInRoom};
+ghost use Rattle.mysql_binding.specs.PlaceSpans.{StaysInRoom};
+ghost use Rattle.mysql_binding.specs.SpannedQuery.{HasOwnSpans, RefusesNames};
 ghost use Rattle.mysql_binding.specs.TextInRoom.{HasTextOf, IsTextInRoom};
 ghost use Rattle.mysql_flat_params.specs.FlatForm.{HasFirstParameter, IsFormReading};
 ghost use Rattle.mysql_flat_params.specs.FormParams.{given_in_place};
 ghost use Rattle.mysql_flat_params.specs.IntoRoom.{IfMixed, IsBoundForm, MissesOtherName};
 ghost use Rattle.mysql_flat_params.specs.Outcomes as outcomes;
-ghost use Rattle.mysql_flat_params.specs.PlaceTable.{IfDone, IfTooLong, IsMadeTable, IsTableBindOutcome, IsTableOf, IsTableOutcome, MissesOtherPlace, UnlessDone, number_of, report_of, survey_of};
+ghost use Rattle.mysql_flat_params.specs.PlaceTable.{CanHaveTable, HasOwnTable, IfDone, IfTooLong, IsMadeTable, IsTableBindOutcome, IsTableOutcome, MissesOtherPlace, UnlessDone, number_of, report_of, survey_of};
 
 use crate::form::form_params;
 use crate::form_names::NamesInPlace;
@@ -21,8 +22,8 @@ use crate::into_room::{
 };
 use crate::outcome::{NO_FIELDS, Outcome, Report};
 use mysql_binding::{
-    BindError, KEPT_PLACES, NO_PLACE, PlaceSpan, PlainForm, Survey, SurveyedQuery, TextInRoom,
-    bind_spans_into, can_be_spans, place_spans,
+    BindError, KEPT_PLACES, NO_PLACE, PlaceSpan, PlainForm, SpannedQuery, Survey, SurveyedQuery,
+    TextInRoom, bind_spans_into, place_spans,
 };
 use std::alloc::Global;
 
@@ -42,6 +43,20 @@ pub struct TableHead {
     pub position: usize,
     /// The number of bytes of the query outside of its places.
     pub piece_bytes: usize,
+}
+
+/// A query that was parsed once, to be bound many times: with its mode, and its table as the caller
+/// kept it.
+#[derive(Clone, Copy, Debug)]
+pub struct Template<'q> {
+    /// The query.
+    pub query: &'q [u8],
+    /// The mode in which the query is read.
+    pub no_backslash_escape: bool,
+    /// The head of the table.
+    pub head: TableHead,
+    /// The places of the table.
+    pub places: &'q [PlaceSpan],
 }
 
 /// What became of a call that binds by a table. After each except `Done` the room is as it was.
@@ -163,31 +178,28 @@ fn survey_of(head: TableHead) -> Survey
 /// Nothing is written behind the text, and after every outcome except `Done` the room is as before.
 pub fn bind_by_table_into(
     alloc: Global,
-    query: &[u8],
-    head: TableHead,
-    places: &[PlaceSpan],
+    template: &Template<'_>,
     form: &[u8],
-    no_backslash_escape: bool,
     room: &mut [u8],
 ) -> TableOutcome
-    ensures outcome { IsTableOf head places.now no_backslash_escape query.now →
-        IsTableBindOutcome no_backslash_escape query.now form.now result }
-    ensures written { IsTableOf head places.now no_backslash_escape query.now →
-        IfDone result (λ len.
-        IsBoundForm no_backslash_escape query.now form.now (take len room.new)) }
+    ensures outcome { HasOwnTable template.now →
+        IsTableBindOutcome template.now.no_backslash_escape template.now.query.now form.now
+        result }
+    ensures written { HasOwnTable template.now → IfDone result (λ len.
+        IsBoundForm template.now.no_backslash_escape template.now.query.now form.now
+        (take len room.new)) }
 
     // A table that the query can't have by its numbers is told before the form is read.
-    ensures unfit { (FitSurvey (survey_of head) places.now query.now → ⊥) →
-        result ≡ TableOutcome.OtherTable }
+    ensures unfit { (CanHaveTable template.now → ⊥) → result ≡ TableOutcome.OtherTable }
 
     // One that it can have is told only if what is missing is no name of the query.
-    ensures other { result ≡ TableOutcome.OtherTable →
-        FitSurvey (survey_of head) places.now query.now →
-        MissesOtherPlace head places.now no_backslash_escape query.now form.now }
+    ensures other { result ≡ TableOutcome.OtherTable → CanHaveTable template.now →
+        MissesOtherPlace template.now form.now }
 
     // The empty form over a query with a name and a mark is refused without allocating.
-    ensures mixed { IsTableOf head places.now no_backslash_escape query.now → form.now ≡ [] →
-        IfMixed no_backslash_escape query.now (result ≡ TableOutcome.AsQuery Outcome.Mixed) }
+    ensures mixed { HasOwnTable template.now → form.now ≡ [] →
+        IfMixed template.now.no_backslash_escape template.now.query.now
+        (result ≡ TableOutcome.AsQuery Outcome.Mixed) }
 
     // A form that is refused for its first parameter is refused without allocating.
     ensures memory { result ≡ TableOutcome.AsQuery Outcome.OutOfMemory →
@@ -197,52 +209,41 @@ pub fn bind_by_table_into(
     ensures too_long { IfTooLong result (λ len. length room.old < len) }
     ensures unchanged { UnlessDone result (room.new ≡ room.old) }
 {
-    let survey = survey_of(head);
-    if !can_be_spans(query, survey, places) {
+    let survey = survey_of(template.head);
+    let Some(spanned) = SpannedQuery::try_new(template.query, survey, template.places) else {
         return TableOutcome::OtherTable;
-    }
+    };
     let params = match form_params::<NamesInPlace>(alloc, form, Vec::new(alloc)) {
         Ok(params) => params,
         Err(error) => return TableOutcome::AsQuery(form_outcome(error)),
     };
-    match bind_places(
-        alloc,
-        query,
-        survey,
-        places,
-        params,
-        no_backslash_escape,
-        room,
-    ) {
+    let mode = template.no_backslash_escape;
+    match bind_places(alloc, &spanned, params, mode, room) {
         Ok(text) => TableOutcome::AsQuery(text_outcome(text)),
-        Err(error) => table_outcome(query, error, no_backslash_escape),
+        Err(error) => table_outcome(template.query, error, mode),
     }
 }
 
 // The text of a query with what a form says, at the front of the room.
 fn bind_places(
     alloc: Global,
-    query: &[u8],
-    survey: Survey,
-    places: &[PlaceSpan],
+    spanned: &SpannedQuery<'_>,
     params: ParamsInPlace<'_>,
     no_backslash_escape: bool,
     room: &mut [u8],
 ) -> Result<TextInRoom, BindError>
-    requires fit { FitSurvey survey places.now query.now }
-    ensures bound { AreSpansOf survey places.now no_backslash_escape query.now →
-        OnTokens no_backslash_escape query.now (λ ts. IfOk result (IsTextInRoom
+    ensures bound { HasOwnSpans spanned.now no_backslash_escape →
+        OnTokens no_backslash_escape spanned.now.query.now (λ ts. IfOk result (IsTextInRoom
         (IsBoundText no_backslash_escape ts (given_in_place params.entry))
         (HasTextOf (IsBoundText no_backslash_escape ts (given_in_place params.entry)))
         room.old room.new)) }
-    ensures refused { AreSpansOf survey places.now no_backslash_escape query.now →
-        OnTokens no_backslash_escape query.now (λ ts. IfErr result
+    ensures refused { HasOwnSpans spanned.now no_backslash_escape →
+        OnTokens no_backslash_escape spanned.now.query.now (λ ts. IfErr result
         (IsCauseOrMemory (first_cause ts (given_in_place params.entry)))) }
-    ensures mixed { AreSpansOf survey places.now no_backslash_escape query.now →
-        OnTokens no_backslash_escape query.now (λ ts.
+    ensures mixed { HasOwnSpans spanned.now no_backslash_escape →
+        OnTokens no_backslash_escape spanned.now.query.now (λ ts.
         HasName ts × HasMark ts → IsErrOf result BindError.Mixed) }
-    ensures lookup { IfErr result
-        (RefusesNamesAt survey places.now query.now (given_in_place params.entry)) }
+    ensures lookup { IfErr result (RefusesNames spanned.now (given_in_place params.entry)) }
     ensures in_room { IfOk result (StaysInRoom room.old room.new) }
     ensures unchanged { OnErr result (room.new ≡ room.old) }
 {
@@ -251,7 +252,7 @@ fn bind_places(
     };
     let pairs = named_pairs(&params);
     let borrowed = borrowed_params(&params, &pairs);
-    bind_spans_into(alloc, query, survey, places, borrowed, &form, room)
+    bind_spans_into(alloc, spanned, borrowed, &form, room)
 }
 
 // A refusal of binding by a table; if it misses a name that the query doesn't have, the table is

@@ -1,7 +1,7 @@
 //! Forms, and what binding over them answers in a room.
 use mysql_flat_params::{
-    Outcome, PlaceSpan, TableHead, TableOutcome, bind_by_table_into, bind_into, names_into,
-    table_into,
+    Outcome, PlaceSpan, TableHead, TableOutcome, Template, bind_by_table_into, bind_into,
+    names_into, table_into,
 };
 use std::alloc::Global;
 use std::fmt::Debug;
@@ -77,8 +77,13 @@ fn by_table(alloc: Global, mode: bool, query: &[u8], form: &[u8]) -> (TableOutco
     let mut places = [NO_PLACE; 64];
     match table_into(alloc, query, mode, &mut head, &mut places) {
         Outcome::Done { len } => {
-            let table = &places[..len];
-            let told = bind_by_table_into(alloc, query, head, table, form, mode, &mut room);
+            let template = Template {
+                query,
+                no_backslash_escape: mode,
+                head,
+                places: &places[..len],
+            };
+            let told = bind_by_table_into(alloc, &template, form, &mut room);
             (told, room)
         }
         outcome => (TableOutcome::AsQuery(outcome), room),

@@ -3,7 +3,7 @@ use crate::shared::{
     FORM, NO_HEAD, NO_PLACE, QUERY, TEXT, WITH_BACKSLASHES, WITHOUT_BACKSLASHES, same_in, wrote,
 };
 use mysql_flat_params::{
-    Outcome, PlaceSpan, TableHead, TableOutcome, bind_by_table_into, table_into,
+    Outcome, PlaceSpan, TableHead, TableOutcome, Template, bind_by_table_into, table_into,
 };
 use std::alloc::Global;
 use std::process::Abort;
@@ -79,15 +79,13 @@ fn table_in_each_mode(rt: HostRuntime) {
 // What is bound to QUERY by this table.
 fn bound_by(rt: &impl Abort, alloc: Global, head: TableHead, places: &[PlaceSpan]) -> TableOutcome {
     let mut room = [b'#'; 64];
-    let outcome = bind_by_table_into(
-        alloc,
-        QUERY,
+    let template = Template {
+        query: QUERY,
+        no_backslash_escape: WITH_BACKSLASHES,
         head,
         places,
-        FORM,
-        WITH_BACKSLASHES,
-        &mut room,
-    );
+    };
+    let outcome = bind_by_table_into(alloc, &template, FORM, &mut room);
     match outcome {
         TableOutcome::AsQuery(told) => wrote(rt, told, &room, TEXT, &(head, places)),
         TableOutcome::OtherTable => same_in(rt, room, [b'#'; 64], &(head, places)),

@@ -34,7 +34,7 @@ ghost use Rattle.mysql_named_params.specs.Tokens.{OnTokens};
 
 use mysql_flat_fragments::{bind_fragments_anywhere_into, bind_fragments_into};
 use mysql_flat_params::{
-    PlaceSpan, Report, Rows, TableHead, bind_anywhere_into, bind_by_table_into,
+    PlaceSpan, Report, Rows, TableHead, Template, bind_anywhere_into, bind_by_table_into,
     bind_in_both_modes_into, bind_into, bind_rows_into, names_into, report_first_unportable,
     report_first_unportable_in_client, table_into,
 };
@@ -299,7 +299,13 @@ pub extern "C" fn mysql_params_bind_template(
     ensures too_long { result ≡ pos 2 → length room.old < report.new.len }
     ensures unchanged { result ≢ pos 0 → room.new ≡ room.old }
 {
-    let outcome = bind_by_table_into(alloc, query, *head, places, form, no_backslash_escape, room);
+    let template = Template {
+        query,
+        no_backslash_escape,
+        head: *head,
+        places,
+    };
+    let outcome = bind_by_table_into(alloc, &template, form, room);
     *report = outcome.report();
     outcome.number()
 }

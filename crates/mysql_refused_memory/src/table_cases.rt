@@ -2,7 +2,7 @@
 use crate::outcome::Memory::{Asked, Never};
 use crate::outcome::{Case, Memory, Outcome, cases, row};
 use mysql_flat_params::{
-    Outcome as Told, PlaceSpan, TableHead, TableOutcome, bind_by_table_into, table_into,
+    Outcome as Told, PlaceSpan, TableHead, TableOutcome, Template, bind_by_table_into, table_into,
 };
 use std::alloc::Global;
 
@@ -97,7 +97,13 @@ const BOUND: &[(&str, BoundRow)] = cases! {
 
 fn bound(alloc: Global, (head, places, form, wanted, memory): BoundRow) -> Outcome {
     let mut room = *ROOM;
-    let told = bind_by_table_into(alloc, b":a,:b", head, places, form, false, &mut room);
+    let template = Template {
+        query: b":a,:b",
+        no_backslash_escape: false,
+        head,
+        places,
+    };
+    let told = bind_by_table_into(alloc, &template, form, &mut room);
     let is_untouched = room == *ROOM;
     let outcome = match (told, wanted) {
         (TableOutcome::AsQuery(Told::OutOfMemory), _) => Outcome::Memory.if_holds(is_untouched),

@@ -1,6 +1,6 @@
 //! Where the places of a query stand, as plain numbers that a caller keeps, and binding by them
 //! without a walk of the query.
-ghost use Rattle.std.specs.Prelude.{◌≡◌, ◌↔◌, ◌+◌, ◌<◌, ◌≤◌, Bool, None, Ok, length, map, take, drop, IfErr, IfOk, IfSome, IsErrOf, IsTrue, OnErr, OnOk};
+ghost use Rattle.std.specs.Prelude.{◌≡◌, ◌+◌, ◌<◌, ◌≤◌, Bool, Ok, length, map, take, drop, IfErr, IfOk, IfSome, IsErrOf, OnErr, OnOk};
 ghost use Rattle.mysql_named_params.specs.Tokens.{OnTokens};
 ghost use Rattle.mysql_named_params.specs.Places.{HasMark, HasName};
 ghost use Rattle.mysql_params_core.specs.Given.{named};
@@ -12,7 +12,8 @@ ghost use Rattle.mysql_binding.specs.BindErrors.{IsCauseOrMemory, IsLookupError}
 ghost use Rattle.mysql_binding.specs.FirstCause.{first_cause};
 ghost use Rattle.mysql_binding.specs.FoundPlaces.{found_places};
 ghost use Rattle.mysql_binding.specs.MeasuredText.{HasGivenLength, IsMeasured};
-ghost use Rattle.mysql_binding.specs.PlaceSpans.{AreSpansOf, FitIn, FitSurvey, IsReady, IsTextAt, RefusesNamesAt, StaysInRoom, after_span, names_at, outside_len, span_of};
+ghost use Rattle.mysql_binding.specs.PlaceSpans.{IsReady, IsTextAt, StaysInRoom, after_span, span_of};
+ghost use Rattle.mysql_binding.specs.SpannedQuery.{HasOwnSpans, RefusesNames, spanned_names};
 ghost use Rattle.mysql_binding.specs.SurveyedQuery.{OnSurveyed};
 ghost use Rattle.mysql_binding.specs.TextInRoom.{IsTextInRoom};
 ghost use Rattle.mysql_binding.specs.WrittenText.{IsGivenText};
@@ -23,7 +24,7 @@ use crate::binding::found::all_places;
 use crate::binding::literals::append_literal;
 use crate::binding::measured::MeasuredText;
 use crate::binding::room::TextInRoom;
-use crate::binding::survey::Survey;
+use crate::binding::spanned::SpannedQuery;
 use crate::binding::surveyed::SurveyedQuery;
 use crate::binding::text::append_piece;
 use crate::binding::{looked_up_values, measured_values};
@@ -86,158 +87,109 @@ fn write_spans(places: &[FoundPlace], room: &mut [PlaceSpan])
     }
 }
 
-/// Whether a query of these bytes can have this survey and these spans: each place has bytes, they
-/// stand one after another within the query, and the survey has their number and the number of the
-/// bytes outside of them. It is lent to the crate above. No byte of the query is looked at.
-pub fn can_be_spans(query: &[u8], survey: Survey, spans: &[PlaceSpan]) -> bool
-    ensures fit { IsTrue result ↔ FitSurvey survey spans.now query.now }
-    ensures own { (mode : Bool) → AreSpansOf survey spans.now mode query.now → IsTrue result }
-{
-    fit_survey(query, survey, spans)
-}
-
-// Whether they fit.
-fn fit_survey(query: &[u8], survey: Survey, spans: &[PlaceSpan]) -> bool
-    ensures { IsTrue result ↔ FitSurvey survey spans.now query.now }
-{
-    let Some(len) = outside_len(query, spans) else {
-        return false;
-    };
-    len == survey.piece_bytes
-        && survey.names <= spans.len()
-        && survey.marks == spans.len() - survey.names
-}
-
-// How many bytes of the text stand outside of the spans, if each has bytes and they stand one after
-// another within the text.
-fn outside_len(text: &[u8], spans: &[PlaceSpan]) -> Option<usize>
-    ensures fit { IfSome result (λ len.
-        FitIn spans.now text.now × (len ≡ outside_len spans.now text.now)) }
-    ensures none { result ≡ None → FitIn spans.now text.now → ⊥ }
-{
-    let mut len = 0;
-    let mut rest = text;
-    for span in spans {
-        if span.len == 0 || span.before > rest.len() || span.len > rest.len() - span.before {
-            return None;
-        }
-        len += span.before;
-        rest = &rest[span.before + span.len..];
-    }
-    Some(len + rest.len())
-}
-
-/// [`bind_borrowed_into`](crate::bind_borrowed_into) by what is known of a query, lent to the crate
-/// above: the text, or the refusal, of the query in the mode that has this survey and these spans.
-/// No byte of the query is looked at; only those outside of its places are copied.
+/// [`bind_surveyed_into`](crate::bind_surveyed_into) by the spans of a query's places, lent to the
+/// crate above: the text, or the refusal, of the query in the mode that has this survey and these
+/// spans. No byte of the query is looked at; only those outside of its places are copied.
 ///
-/// With another survey, or other spans, that a query of this length can have, any text or refusal
-/// may come, but nothing is written behind the text, and after a refusal the room is as before.
-/// A missing name, or values of the other kind, are told only for the names at these spans.
+/// With a survey, or spans, that aren't the query's, any text or refusal may come, but nothing is
+/// written behind the text, and after a refusal the room is as before. A missing name, or values of
+/// the other kind, are told only for the names at these spans.
 pub fn bind_spans_into<F: LiteralForm>(
     alloc: Global,
-    query: &[u8],
-    survey: Survey,
-    spans: &[PlaceSpan],
+    spanned: &SpannedQuery<'_>,
     params: BorrowedParams<'_, '_>,
     form: &F,
     room: &mut [u8],
 ) -> Result<TextInRoom, BindError>
-    requires fit { FitSurvey survey spans.now query.now }
-    ensures text { (mode : Bool) → AreSpansOf survey spans.now mode query.now →
-        OnTokens mode query.now (λ ts. IfOk result (IsTextInRoom
+    ensures text { (mode : Bool) → HasOwnSpans spanned.now mode →
+        OnTokens mode spanned.now.query.now (λ ts. IfOk result (IsTextInRoom
         (IsGivenText (F.literal form.now) (F.IsKnown form.now) ts (given_by_borrowed params.entry))
         (HasGivenLength (F.literal form.now) ts (given_by_borrowed params.entry))
         room.old room.new)) }
-    ensures refused { (mode : Bool) → AreSpansOf survey spans.now mode query.now →
-        OnTokens mode query.now (λ ts. IfErr result
+    ensures refused { (mode : Bool) → HasOwnSpans spanned.now mode →
+        OnTokens mode spanned.now.query.now (λ ts. IfErr result
         (IsCauseOrMemory (first_cause ts (given_by_borrowed params.entry)))) }
-    ensures mixed { (mode : Bool) → AreSpansOf survey spans.now mode query.now →
-        OnTokens mode query.now (λ ts. HasName ts × HasMark ts → IsErrOf result BindError.Mixed) }
-    ensures lookup { IfErr result
-        (RefusesNamesAt survey spans.now query.now (given_by_borrowed params.entry)) }
+    ensures mixed { (mode : Bool) → HasOwnSpans spanned.now mode →
+        OnTokens mode spanned.now.query.now (λ ts.
+        HasName ts × HasMark ts → IsErrOf result BindError.Mixed) }
+    ensures lookup { IfErr result (RefusesNames spanned.now (given_by_borrowed params.entry)) }
     ensures in_room { IfOk result (StaysInRoom room.old room.new) }
     ensures unchanged { OnErr result (room.new ≡ room.old) }
 {
-    let measured = measured_spans(alloc, query, survey, spans, params, form)?;
+    let measured = measured_spans(alloc, spanned, params, form)?;
     let len = measured.len;
     if room.len() < len {
         return Ok(TextInRoom::TooShort { len });
     }
-    fill_spans(query, spans, &measured, form, &mut room[..len]);
+    fill_spans(spanned, &measured, form, &mut room[..len]);
     Ok(TextInRoom::Written { len })
 }
 
 // What the text is written from, and how long it will be.
 fn measured_spans<'p, F: LiteralForm>(
     alloc: Global,
-    query: &[u8],
-    survey: Survey,
-    spans: &[PlaceSpan],
+    spanned: &SpannedQuery<'_>,
     params: BorrowedParams<'p, '_>,
     form: &F,
 ) -> Result<MeasuredText<'p>, BindError>
-    requires fit { FitSurvey survey spans.now query.now }
-    ensures ready { IfOk result (IsReady (F.literal form.now) spans.now query.now) }
-    ensures measured { (mode : Bool) → AreSpansOf survey spans.now mode query.now →
-        OnTokens mode query.now (λ ts. IfOk result
+    ensures ready { IfOk result
+        (IsReady (F.literal form.now) spanned.now.spans.now spanned.now.query.now) }
+    ensures measured { (mode : Bool) → HasOwnSpans spanned.now mode →
+        OnTokens mode spanned.now.query.now (λ ts. IfOk result
         (IsMeasured (F.literal form.now) ts (given_by_borrowed params.entry))) }
-    ensures refused { (mode : Bool) → AreSpansOf survey spans.now mode query.now →
-        OnTokens mode query.now (λ ts. IfErr result
+    ensures refused { (mode : Bool) → HasOwnSpans spanned.now mode →
+        OnTokens mode spanned.now.query.now (λ ts. IfErr result
         (IsCauseOrMemory (first_cause ts (given_by_borrowed params.entry)))) }
-    ensures mixed { (mode : Bool) → AreSpansOf survey spans.now mode query.now →
-        OnTokens mode query.now (λ ts. HasName ts × HasMark ts → IsErrOf result BindError.Mixed) }
-    ensures lookup { IfErr result
-        (RefusesNamesAt survey spans.now query.now (given_by_borrowed params.entry)) }
+    ensures mixed { (mode : Bool) → HasOwnSpans spanned.now mode →
+        OnTokens mode spanned.now.query.now (λ ts.
+        HasName ts × HasMark ts → IsErrOf result BindError.Mixed) }
+    ensures lookup { IfErr result (RefusesNames spanned.now (given_by_borrowed params.entry)) }
 {
+    let survey = spanned.survey;
     if survey.names > 0 && survey.marks > 0 {
         return Err(BindError::Mixed);
     }
-    let values = values_at(alloc, query, &spans[..survey.names], params)?;
+    let values = values_at(alloc, spanned, params)?;
     measured_values(alloc, survey, values, form)
 }
 
-// The values, borrowed, that are given to the names at these places.
+// The values, borrowed, that are given to the names of a query without both names and marks.
 fn values_at<'p>(
     alloc: Global,
-    query: &[u8],
-    spans: &[PlaceSpan],
+    spanned: &SpannedQuery<'_>,
     params: BorrowedParams<'p, '_>,
 ) -> Result<Vec<ValueRef<'p>>, BindError>
-    requires fit { FitIn spans.now query.now }
     ensures values { IfOk result (λ values. lookup (given_by_borrowed params.entry)
-        (names_at spans.now query.now) ≡ Ok (owned_values values.items)) }
+        (spanned_names spanned.now) ≡ Ok (owned_values values.items)) }
     ensures refused { IfErr result
-        (IsLookupError (given_by_borrowed params.entry) (names_at spans.now query.now)) }
+        (IsLookupError (given_by_borrowed params.entry) (spanned_names spanned.now)) }
 {
-    if !spans.is_empty() {
-        if let Some(values) = found_at(alloc, query, spans, params)? {
+    if spanned.survey.names > 0 {
+        if let Some(values) = found_at(alloc, spanned, params)? {
             return Ok(values);
         }
     }
-    values_of_list(alloc, query, spans, params)
+    values_of_list(alloc, spanned, params)
 }
 
-// The same of places, one at least, if each value is found without memory. No list of the names is
+// The same of a query with names, if each value is found without memory. No list of the names is
 // made.
 fn found_at<'p>(
     alloc: Global,
-    query: &[u8],
-    spans: &[PlaceSpan],
+    spanned: &SpannedQuery<'_>,
     params: BorrowedParams<'p, '_>,
 ) -> Result<Option<Vec<ValueRef<'p>>>, AllocError>
-    requires fit { FitIn spans.now query.now }
-    requires some { 0 < length spans.now }
+    requires some { 0 < spanned.now.survey.names }
     ensures { IfOk result (λ found. IfSome found (λ values. lookup (given_by_borrowed params.entry)
-        (names_at spans.now query.now) ≡ Ok (owned_values values.items))) }
+        (spanned_names spanned.now) ≡ Ok (owned_values values.items))) }
 {
     match params {
-        BorrowedParams::Named(entries) => values_in_at(alloc, query, spans, entries),
-        BorrowedParams::Sorted(entries) => values_in_at(alloc, query, spans, entries),
-        BorrowedParams::SortedPairs(entries) => values_in_at(alloc, query, spans, entries),
+        BorrowedParams::Named(entries) => values_in_at(alloc, spanned, entries),
+        BorrowedParams::Sorted(entries) => values_in_at(alloc, spanned, entries),
+        BorrowedParams::SortedPairs(entries) => values_in_at(alloc, spanned, entries),
         BorrowedParams::Pairs(pairs) => {
             if pairs.are_few() {
-                values_in_at(alloc, query, spans, pairs)
+                values_in_at(alloc, spanned, pairs)
             } else {
                 Ok(None)
             }
@@ -250,18 +202,17 @@ fn found_at<'p>(
 // each name.
 fn values_in_at<'p, M: NamedValues>(
     alloc: Global,
-    query: &[u8],
-    spans: &[PlaceSpan],
+    spanned: &SpannedQuery<'_>,
     entries: &'p M,
 ) -> Result<Option<Vec<ValueRef<'p>>>, AllocError>
-    requires fit { FitIn spans.now query.now }
-    requires some { 0 < length spans.now }
+    requires some { 0 < spanned.now.survey.names }
     ensures { IfOk result (λ found. IfSome found (λ values.
-        lookup (named (M.values entries.now)) (names_at spans.now query.now)
+        lookup (named (M.values entries.now)) (spanned_names spanned.now)
         ≡ Ok (owned_values values.items))) }
 {
+    let spans = spanned.name_spans();
     let mut values = Vec::with_capacity(alloc, spans.len())?;
-    let mut rest = query;
+    let mut rest = spanned.query;
     for span in spans {
         let (_, place, after) = span.cut(rest);
         let Some(value) = entries.value_of(&place[1..]) else {
@@ -276,31 +227,26 @@ fn values_in_at<'p, M: NamedValues>(
 // The same by a list of the names, which tells a name without a value.
 fn values_of_list<'p>(
     alloc: Global,
-    query: &[u8],
-    spans: &[PlaceSpan],
+    spanned: &SpannedQuery<'_>,
     params: BorrowedParams<'p, '_>,
 ) -> Result<Vec<ValueRef<'p>>, BindError>
-    requires fit { FitIn spans.now query.now }
     ensures values { IfOk result (λ values. lookup (given_by_borrowed params.entry)
-        (names_at spans.now query.now) ≡ Ok (owned_values values.items)) }
+        (spanned_names spanned.now) ≡ Ok (owned_values values.items)) }
     ensures refused { IfErr result
-        (IsLookupError (given_by_borrowed params.entry) (names_at spans.now query.now)) }
+        (IsLookupError (given_by_borrowed params.entry) (spanned_names spanned.now)) }
 {
-    let names = span_names(alloc, query, spans)?;
+    let names = span_names(alloc, spanned)?;
     looked_up_values(alloc, params, names.as_slice())
 }
 
-// What stands at these places, without its first byte: slices of the query.
-fn span_names<'q>(
-    alloc: Global,
-    query: &'q [u8],
-    spans: &[PlaceSpan],
-) -> Result<Vec<&'q [u8]>, AllocError>
-    requires fit { FitIn spans.now query.now }
-    ensures { IfOk result (λ list. referents list.items ≡ names_at spans.now query.now) }
+// What stands at the first places, as many as there are names, without its first byte: slices of
+// the query.
+fn span_names<'q>(alloc: Global, spanned: &SpannedQuery<'q>) -> Result<Vec<&'q [u8]>, AllocError>
+    ensures { IfOk result (λ list. referents list.items ≡ spanned_names spanned.now) }
 {
+    let spans = spanned.name_spans();
     let mut list = Vec::with_capacity(alloc, spans.len())?;
-    let mut rest = query;
+    let mut rest = spanned.query;
     for span in spans {
         let (_, place, after) = span.cut(rest);
         list.push(&place[1..])?;
@@ -311,20 +257,20 @@ fn span_names<'q>(
 
 // Fills the room with the text of a query that is measured, whose places stand there.
 fn fill_spans<F: LiteralForm>(
-    query: &[u8],
-    spans: &[PlaceSpan],
+    spanned: &SpannedQuery<'_>,
     measured: &MeasuredText<'_>,
     form: &F,
     room: &mut [u8],
 )
-    requires fit { FitIn spans.now query.now }
-    requires ready { IsReady (F.literal form.now) spans.now query.now measured.now }
+    requires ready { IsReady (F.literal form.now) spanned.now.spans.now spanned.now.query.now
+        measured.now }
     requires room { length room.old ≡ measured.now.len }
-    ensures { IsTextAt (F.literal form.now) (F.IsKnown form.now) spans.now query.now
-        (owned_values measured.now.values.items) room.new }
+    ensures { IsTextAt (F.literal form.now) (F.IsKnown form.now) spanned.now.spans.now
+        spanned.now.query.now (owned_values measured.now.values.items) room.new }
 {
+    let spans = spanned.spans;
     let lens = measured.lens.as_slice();
-    let mut rest = query;
+    let mut rest = spanned.query;
     let mut at = 0;
     for (i, value) in measured.values.iter().enumerate() {
         let (piece, _, after) = spans[i].cut(rest);

@@ -16,9 +16,9 @@ returns-then-room-len-clause-text g c = λ mode own.
 
 pub returns-clause-text : goal.returns-clause-text
 returns-clause-text g c = λ mode own.
-    front_text mode (g.F.LiteralForm.literal c.args.form.now) (g.F.LiteralForm.IsKnown c.args.form.now) c.args.query.now (given_by_borrowed c.args.params) c.in_ok-measured.measured.len
+    front_text mode (g.F.LiteralForm.literal c.args.form.now) (g.F.LiteralForm.IsKnown c.args.form.now) c.args.spanned.now.query.now (given_by_borrowed c.args.params) c.in_ok-measured.measured.len
     c.fill_spans.new.room c.args.room.now (omega (arith, c.if-room-len.false)) (omega (arith, c.fill_spans.auto.room, c.if-room-len.false, length-take-le c.in_ok-measured.measured.len c.args.room.now (omega (arith, c.if-room-len.false))))
-    (own_given_text c.args.survey c.args.spans.now mode c.args.query.now own (g.F.LiteralForm.literal c.args.form.now) (g.F.LiteralForm.IsKnown c.args.form.now) (given_by_borrowed c.args.params) c.in_ok-measured.measured c.fill_spans.new.room (c.in_ok-measured.ensures.measured mode own) c.fill_spans.ensures)
+    (own_given_text c.args.spanned.now.survey c.args.spanned.now.spans.now mode c.args.spanned.now.query.now own (g.F.LiteralForm.literal c.args.form.now) (g.F.LiteralForm.IsKnown c.args.form.now) (given_by_borrowed c.args.params) c.in_ok-measured.measured c.fill_spans.new.room (c.in_ok-measured.ensures.measured mode own) c.fill_spans.ensures)
 
 -- what is measured isn't refused
 never : {T E X : Type 0} → (a : T) (e : E) → ◌≡◌ {A = Result T E} (Ok a) (Err e) → X

@@ -1,0 +1,24 @@
+-- What contracts say of a query whose places are given by plain numbers, which is lent to the crate
+-- above.
+use Rattle.std.specs.Prelude.{◌≡◌, Bool, List, ℕ, take, Some, Err}
+use Rattle.mysql_params_core.specs.Given.{Given}
+use Rattle.mysql_params_core.specs.Lookup.{LookupRefusal, lookup}
+use Rattle.mysql_binding.specs.BindErrors.{cause_of}
+use Rattle.mysql_binding.specs.FirstCause.{refused_params}
+use Rattle.mysql_binding.specs.PlaceSpans.{AreSpansOf, names_at}
+use Rattle.mysql_binding.specs.declared.bind_error.BindError.{BindError}
+use Rattle.mysql_binding.specs.declared.binding.spanned.SpannedQuery.{SpannedQuery}
+
+-- the survey and the spans are those of the query in the mode
+abbrev pub HasOwnSpans : SpannedQuery → Bool → Type 0
+HasOwnSpans spanned mode = AreSpansOf spanned.survey spanned.spans.now mode spanned.query.now
+
+-- what stands in the first places, as many as the survey has names, each without its first byte
+abbrev pub spanned_names : SpannedQuery → List (List ℕ)
+spanned_names spanned = names_at (take spanned.survey.names spanned.spans.now) spanned.query.now
+
+-- if the error refuses what is given, it does so for these names
+abbrev pub RefusesNames : SpannedQuery → Given → BindError → Type 0
+RefusesNames spanned given error = (refusal : LookupRefusal) →
+    cause_of error ≡ Some (refused_params refusal) →
+    lookup given (spanned_names spanned) ≡ Err refusal
