@@ -1,6 +1,8 @@
 -- Places that are known, and those that are left after one.
 use Rattle.std.specs.Prelude.{Bool}
-use Rattle.std.proofs.Common.{◌≡◌, ℕ, ◌+◌, ◌<◌, ◌≤◌, List, [], ◌∷◌, ◌++◌, length, length-append, drop, get_or, Some, refl, sym, ap, ◌∙◌, subst, arith, add-one, drop-cons, drop-drop, append_assoc, append-nil, length-drop, take, set, length-set}
+use Rattle.std.proofs.Common.{◌≡◌, ◌⊎◌, inl, inr, ℕ, ◌+◌, ◌<◌, ◌≤◌, List, [], ◌∷◌, ◌++◌, length, length-append, drop, get_or, Some, refl, sym, ap, ◌∙◌, subst, arith, add-one, drop-cons, drop-drop, append_assoc, append-nil, length-drop, take, take_all, set, length-set}
+use Rattle.std.proofs.Math.Nat.{eq-or-lt_of_le}
+use Rattle.std.proofs.Math.Seq.{take-append_seam}
 use Rattle.std.proofs.lemmas.List.{drop_all, length-take-le, nil_from_length, take_more_set}
 use Rattle.mysql_named_params.specs.Tokens.{Token, IsTokens, OnTokens, bytes_of, text_of, Name, Mark}
 use Rattle.mysql_named_params.specs.Places.{place_count}
@@ -219,9 +221,25 @@ module _ (mode : Bool) (query rest : List ℕ) (at kept : ℕ) (first : List Fou
         in_range = omega (arith, room, length-set first kept found);
       }
 
+-- once no place is left, those that are kept are the first, as many as there is room for
 pub kept_all : (mode : Bool) (query : List ℕ) (at kept : ℕ) (first : List FoundPlace) → KeptSoFar mode query at kept first →
-    OnTokens mode query (BeginWithPlaces (take kept first))
-kept_all mode query at kept first s = (s.all, s.tokens, (s.more, s.kept_are))
+    (rest : List ℕ) → rest ≡ drop at query → OnTokens mode rest (λ us. place_count us ≡ 0) →
+    OnTokens mode query (λ ts. take kept first ≡ take (length first) (found_places ts))
+kept_all mode query at kept first s rest rest_is o = (s.all, s.tokens, by (eq-or-lt_of_le s.in_range))
+  where
+    kept_len : length (take kept first) ≡ kept
+    kept_len = length-take-le kept first s.in_range
+
+    none_left : found_places s.left ≡ []
+    none_left =
+        let same : o.0 ≡ s.left = one_token_list mode (drop at query) o.0 s.left (subst (λ x. IsTokens mode x o.0) rest_is o.1) s.rest_tokens in
+        nil_from_length (found_places s.left) (omega (arith, found_count 0 s.left, ap place_count same, o.2))
+
+    by : (kept ≡ length first) ⊎ (kept < length first) → take kept first ≡ take (length first) (found_places s.all)
+    by (inl full) = sym (take-append_seam (take kept first) s.more) ∙ (ap (λ n. take n (take kept first ++ s.more)) (kept_len ∙ full) ∙ ap (take (length first)) s.kept_are)
+    by (inr room) =
+        let all : take kept first ≡ found_places s.all = sym (append-nil (take kept first)) ∙ (ap (λ x. take kept first ++ x) (sym (s.next room ∙ none_left)) ∙ s.kept_are) in
+        all ∙ sym (take_all (length first) (found_places s.all) (omega (arith, ap length all, kept_len, room)))
 
 -- all places of a query
 pub all_begin : (mode : Bool) (query : List ℕ) (places : List FoundPlace) →

@@ -49,6 +49,11 @@ module _ (mode : Bool) (query : List ℕ) where
       let all = found_places t.0 in
       (t.0, t.1, (drop (length places) all, ap (λ x. x ++ drop (length places) all) (first t.0 t.1) ∙ take-append-drop (length places) all))
 
+  -- so are as many of its first as there is room for
+  pub taken_are_first : (places : List FoundPlace) (n : ℕ) → OnTokens mode query (λ ts. places ≡ take n (found_places ts)) → AreFirstPlaces mode query places
+  taken_are_first places n o =
+      first_places_of places (o.0, o.1, (drop n (found_places o.0), ap (λ x. x ++ drop n (found_places o.0)) o.2 ∙ take-append-drop n (found_places o.0)))
+
   -- all places of the query are its first
   pub all_are_first : (places : List FoundPlace) → OnTokens mode query (λ ts. places ≡ found_places ts) → AreFirstPlaces mode query places
   all_are_first places o = first_places_of places (all_begin mode query places o)

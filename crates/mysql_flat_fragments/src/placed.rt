@@ -1,7 +1,6 @@
 //! The fragments of a form for the places of a query.
 ghost use Rattle.std.specs.Prelude.{◌≡◌, List, None, Ok, IfErr, IfOk, IsErrOf, length, true};
 ghost use Rattle.mysql_named_params.specs.Places.{HasMark, HasName, names};
-ghost use Rattle.mysql_binding.specs.Survey.{IsSurvey};
 ghost use Rattle.mysql_binding.specs.SurveyedQuery.{OnSurveyed};
 ghost use Rattle.mysql_fragments.specs.BorrowedFragments.{AreSaid};
 ghost use Rattle.mysql_fragments.specs.FragmentErrors.{IsCauseOrMemory, IsMissingOrMemory, IsPlaceRefusal, first_cause, mixed_cause};
@@ -11,7 +10,7 @@ ghost use Rattle.mysql_flat_fragments.specs.FormInPlace.{AreKeptAs, IsGivenAs, I
 
 use crate::form_in_place::FormInPlace;
 use crate::in_place::FragmentInPlace;
-use mysql_binding::{Survey, SurveyedQuery, place_after};
+use mysql_binding::{SurveyedQuery, place_after};
 use mysql_fragments::{FragmentRef, FragmentsError};
 use mysql_params_core::params::{MissingNamedParameterError, ParamsConfusionError};
 use std::alloc::{AllocError, Global};
@@ -33,7 +32,7 @@ pub(crate) fn placed_fragments<'p>(
     ensures mixed { OnSurveyed surveyed.now (λ ts. HasName ts × HasMark ts →
         IsErrOf result FragmentsError.Mixed) }
 {
-    let survey = survey_of(surveyed);
+    let survey = surveyed.survey();
     if survey.names > 0 && survey.marks > 0 {
         return Err(FragmentsError::Mixed);
     }
@@ -55,14 +54,6 @@ pub(crate) fn placed_fragments<'p>(
             named_fragments(alloc, surveyed, entries)
         }
     }
-}
-
-// What is known of the places of the query.
-fn survey_of(surveyed: &SurveyedQuery<'_>) -> Survey
-    ensures same { result ≡ surveyed.now.survey }
-    ensures survey { OnSurveyed surveyed.now (IsSurvey result) }
-{
-    surveyed.survey
 }
 
 // The fragments, borrowed, in order.

@@ -2,7 +2,7 @@
 //! allocates nothing.
 ghost use Rattle.std.specs.Prelude.{◌≡◌, ◌+◌, ◌≤◌, None, Some, length, take, drop, if◌then◌else◌};
 ghost use Rattle.mysql_named_params.specs.Tokens.{OnTokens};
-ghost use Rattle.mysql_binding.specs.FoundPlaces.{BeginWithPlaces};
+ghost use Rattle.mysql_binding.specs.FoundPlaces.{found_places};
 ghost use Rattle.mysql_binding.specs.StandsAlone.{stands_alone};
 ghost use Rattle.mysql_binding.specs.Survey.{IsSurvey};
 
@@ -30,8 +30,8 @@ pub fn place_survey(
 ) -> (Survey, usize)
     ensures survey { OnTokens no_backslash_escape query.now (IsSurvey result.0) }
     ensures in_query { result.0.names + result.0.marks ≤ length query.now }
-    ensures kept { OnTokens no_backslash_escape query.now
-        (BeginWithPlaces (take result.1 first.new)) }
+    ensures kept { OnTokens no_backslash_escape query.now (λ ts.
+        take result.1 first.new ≡ take (length first.new) (found_places ts)) }
     ensures in_room { result.1 ≤ length first.new }
 {
     let mut names = 0;

@@ -1,8 +1,8 @@
 //! Queries that are surveyed, each in one walk.
-ghost use Rattle.std.specs.Prelude.{◌≡◌, ◌+◌, ◌≤◌, length};
+ghost use Rattle.std.specs.Prelude.{◌≡◌, ◌+◌, ◌≤◌, length, take};
 ghost use Rattle.mysql_named_params.specs.Tokens.{OnTokens};
-ghost use Rattle.mysql_binding.specs.FoundPlaces.{AreFirstPlaces};
-ghost use Rattle.mysql_binding.specs.Survey.{IsSurveyOf};
+ghost use Rattle.mysql_binding.specs.FoundPlaces.{AreFirstPlaces, found_places};
+ghost use Rattle.mysql_binding.specs.Survey.{IsSurvey, IsSurveyOf};
 
 use crate::binding::survey::{Survey, place_survey};
 use mysql_named_params::places::FoundPlace;
@@ -33,6 +33,8 @@ impl<'q> SurveyedQuery<'q> {
     ) -> SurveyedQuery<'q>
         ensures query { result.query.now ≡ query.now }
         ensures mode { result.no_backslash_escape ≡ no_backslash_escape }
+        ensures known { OnTokens no_backslash_escape query.now (λ ts.
+            result.known.now ≡ take (length room.old) (found_places ts)) }
     {
         let (survey, kept) = place_survey(query, room, no_backslash_escape);
         SurveyedQuery {
@@ -41,6 +43,15 @@ impl<'q> SurveyedQuery<'q> {
             survey,
             known: &room[..kept],
         }
+    }
+
+    /// What the walk found out of its places.
+    pub fn survey(&self) -> Survey
+        ensures same { result ≡ self.now.survey }
+        ensures survey { OnTokens self.now.no_backslash_escape self.now.query.now
+            (IsSurvey result) }
+    {
+        self.survey
     }
 
     /// The same query, with these as its first places.

@@ -12,7 +12,7 @@ use Rattle.mysql_flat_fragments.proofs.placed.placed_fragments.Goals as goal
 
 pub returns-then-survey-gt0-3-clause-refused : goal.returns-then-survey-gt0-3-clause-refused
 returns-then-survey-gt0-3-clause-refused c = λ given g.
-    let o = c.survey_of-survey.ensures.survey in
+    let o = c.survey-survey.ensures.survey in
     let (said, is, all) = subst (λ k. IsGivenAs k given) c.in-Positional.is g in (
       o.0,
       o.1,
@@ -27,7 +27,7 @@ returns-then-survey-gt0-3-clause-refused c = λ given g.
 
 pub returns-then-survey-eq0-clause-refused : goal.returns-then-survey-eq0-clause-refused
 returns-then-survey-eq0-clause-refused c = λ given g.
-    let o = c.survey_of-survey.ensures.survey in
+    let o = c.survey-survey.ensures.survey in
     let (fragments, is, all) = subst (λ k. IsGivenAs k given) c.in-Named.is g in (
       o.0,
       o.1,
@@ -42,25 +42,25 @@ returns-then-survey-eq0-clause-refused c = λ given g.
 
 pub returns-else-survey-eq0-clause-placed : goal.returns-else-survey-eq0-clause-placed
 returns-else-survey-eq0-clause-placed c = λ given g.
-    let o = c.survey_of-survey.ensures.survey in
+    let o = c.survey-survey.ensures.survey in
     let (fragments, is, all) = subst (λ k. IsGivenAs k given) c.in-Named.is g in
-    named_placed _ _ given fragments is c.survey_of-survey.result.names c.if-survey-eq0.false
-    (unmixed_on true _ _ given c.survey_of-survey.result o
+    named_placed _ _ given fragments is c.survey-survey.result.names c.if-survey-eq0.false
+    (unmixed_on true _ _ given c.survey-survey.result o
     (λ both. elim c.else-survey-gt0.branch [ else-survey-gt0-via-then-survey-gt0+else-survey-gt0-2 w ↦ omega (arith, both.1, w.if-survey-gt0-2.false) | else-survey-gt0-via-else-survey-gt0 w ↦ omega (arith, both.0, w.if-survey-gt0.false) ]))
     (λ list. list.items) c.named_fragments.result (c.named_fragments.ensures.placed fragments all)
 
 pub returns-else-survey-eq0-clause-refused : goal.returns-else-survey-eq0-clause-refused
 returns-else-survey-eq0-clause-refused c = λ given g.
-    let o = c.survey_of-survey.ensures.survey in
+    let o = c.survey-survey.ensures.survey in
     let (fragments, is, all) = subst (λ k. IsGivenAs k given) c.in-Named.is g in
-    let apart : 0 < c.survey_of-survey.result.names × 0 < c.survey_of-survey.result.marks → ⊥ =
+    let apart : 0 < c.survey-survey.result.names × 0 < c.survey-survey.result.marks → ⊥ =
     λ both. elim c.else-survey-gt0.branch [ else-survey-gt0-via-then-survey-gt0+else-survey-gt0-2 w ↦ omega (arith, both.1, w.if-survey-gt0-2.false) | else-survey-gt0-via-else-survey-gt0 w ↦ omega (arith, both.0, w.if-survey-gt0.false) ] in
-    cause_refusal c.named_fragments.result _ _ given c.survey_of-survey.result o apart
-    (named_refusal _ _ given fragments is c.survey_of-survey.result.names c.if-survey-eq0.false (unmixed_on true _ _ given c.survey_of-survey.result o apart)
+    cause_refusal c.named_fragments.result _ _ given c.survey-survey.result o apart
+    (named_refusal _ _ given fragments is c.survey-survey.result.names c.if-survey-eq0.false (unmixed_on true _ _ given c.survey-survey.result o apart)
     IsPlaceRefusal c.named_fragments.result (c.named_fragments.ensures.refused fragments all))
 
 pub named_fragments-requires : goal.named_fragments-requires
 named_fragments-requires c =
-    let o = unmixed_on true _ _ (positional []) c.survey_of-survey.result c.survey_of-survey.ensures.survey
+    let o = unmixed_on true _ _ (positional []) c.survey-survey.result c.survey-survey.ensures.survey
     (λ both. elim c.else-survey-gt0.branch [ else-survey-gt0-via-then-survey-gt0+else-survey-gt0-2 w ↦ omega (arith, both.1, w.if-survey-gt0-2.false) | else-survey-gt0-via-else-survey-gt0 w ↦ omega (arith, both.0, w.if-survey-gt0.false) ]) in
     record { unmixed = (o.0, o.1, o.2.1) }

@@ -38,6 +38,6 @@ returns c =
     record {
       survey = surveyed_all _ _ _ _ _ _ _ _ _ s refl (take_rest c.args.query.now c.loop-found.at) (o.0, o.1, o.2 refl);
       in_query = omega (arith, s.room, s.in_range);
-      kept = kept_all _ _ _ _ _ c.loop-found.invariant.1;
+      kept = kept_all _ _ _ _ _ c.loop-found.invariant.1 _ (take_rest c.args.query.now c.loop-found.at) (o.0, o.1, o.2 refl);
       in_room = c.loop-found.invariant.1.in_range;
     }

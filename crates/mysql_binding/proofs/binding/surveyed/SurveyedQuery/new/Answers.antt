@@ -1,9 +1,9 @@
-use Rattle.mysql_binding.proofs.SurveyedQueryLemmas.{first_places_of, survey_of}
+use Rattle.mysql_binding.proofs.SurveyedQueryLemmas.{taken_are_first, survey_of}
 use Rattle.mysql_binding.proofs.binding.surveyed.SurveyedQuery.new.Goals as goal
 
 pub invariant_of-result : goal.invariant_of-result
 invariant_of-result c = record {
   surveyed = survey_of _ _ _ c.place_survey-kept.ensures.survey;
   in_query = c.place_survey-kept.ensures.in_query;
-  first = first_places_of _ _ _ c.place_survey-kept.ensures.kept;
+  first = taken_are_first _ _ _ _ c.place_survey-kept.ensures.kept;
 }

@@ -1,5 +1,0 @@
-use Rattle.mysql_binding.proofs.SurveyedQueryLemmas.{on_survey}
-use Rattle.mysql_flat_fragments.proofs.placed.survey_of.Goals as goal
-
-pub returns-clause-survey : goal.returns-clause-survey
-returns-clause-survey c = on_survey _ _ _ c.args.surveyed.now.surveyed
