@@ -39,3 +39,6 @@ pub mod CalmClientLemmas
 pub mod RunLemmas
 pub mod TameLemmas
 pub mod ClientTextLemmas
+pub mod ClearLemmas
+pub mod ClearWalkLemmas
+pub mod ClearInClientLemmas

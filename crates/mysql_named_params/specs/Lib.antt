@@ -27,3 +27,4 @@ pub mod FoundInClient
 pub mod FirstUnportableInClient
 pub mod FrontInClient
 pub mod TameBytes
+pub mod Clear

@@ -121,7 +121,7 @@ fn without_accent(capital: u8) -> u8
 }
 
 // The lower-case letter for which a client takes the byte.
-fn letter_of(byte: u8) -> u8
+pub(crate) fn letter_of(byte: u8) -> u8
     ensures { result ≡ letter_of byte }
 {
     if byte < 192 {
@@ -134,7 +134,7 @@ fn letter_of(byte: u8) -> u8
 }
 
 // Whether the text begins with this word of lower-case letters.
-fn begins_word(word: &[u8], text: &[u8]) -> bool
+pub(crate) fn begins_word(word: &[u8], text: &[u8]) -> bool
     ensures value { result ≡ begins_word word.now text.now }
     ensures in_range { IsTrue result → length word.now ≤ length text.now }
 {
@@ -205,7 +205,7 @@ fn begins_comment(text: &[u8]) -> bool
 }
 
 // Whether a `-` and then this text are two signs directly before a comment.
-fn stand_before_comment(text: &[u8]) -> bool
+pub(crate) fn stand_before_comment(text: &[u8]) -> bool
     ensures { result ≡ stand_before_comment text.now }
 {
     match text {
@@ -296,7 +296,7 @@ fn is_word_of_mysql(letter: u8, rest: &[u8]) -> bool
 
 // Whether the letter and then this text begin with a word of one of the clients.
 #[tactic(auto, unfolding(crate::specs::FoundInClient::is_client_word))]
-fn is_client_word(letter: u8, rest: &[u8]) -> bool
+pub(crate) fn is_client_word(letter: u8, rest: &[u8]) -> bool
     ensures { result ≡ is_client_word letter rest.now }
 {
     is_word_of_mariadb(letter, rest) || is_word_of_mysql(letter, rest)

@@ -7,6 +7,7 @@
 #![tactic(auto)]
 
 mod calm_bytes;
+pub mod clear;
 pub mod client;
 mod ends;
 mod lanes;

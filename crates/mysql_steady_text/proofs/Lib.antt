@@ -7,6 +7,4 @@ pub mod SteadyTextLemmas
 pub mod SteadyAgainLemmas
 pub mod BackslashLemmas
 pub mod BothModesAnswerLemmas
-pub mod ClearLemmas
-pub mod ClearWalkLemmas
 pub mod QueryRefusalLemmas

@@ -6,14 +6,15 @@ use Rattle.mysql_named_params.specs.Portable.{IsPortable}
 use Rattle.mysql_named_params.specs.Steady.{first_unsteady, IsSteady}
 use Rattle.mysql_named_params.specs.Tokens.{Token, IsTokens}
 use Rattle.mysql_named_params.specs.declared.portable.Unportable.{Unportable}
+use Rattle.mysql_named_params.specs.Clear.{is_clear}
+use Rattle.mysql_named_params.proofs.ClearLemmas.{clear_query_is_steady, clear_has_none}
 use Rattle.mysql_named_params.proofs.SteadyLemmas.{none_unsteady}
 use Rattle.mysql_named_params.proofs.UnportableLemmas.{none_is_portable}
 use Rattle.mysql_binding.specs.FirstCause.{Cause}
-use Rattle.mysql_steady_text.specs.Clear.{is_clear, refusal_by, query_refusal}
+use Rattle.mysql_steady_text.specs.QueryRefusal.{refusal_by, query_refusal}
 use Rattle.mysql_steady_text.specs.SteadyTextErrors.{IsSteadyRefusal}
 use Rattle.mysql_steady_text.specs.declared.steady_text_error.SteadyTextError.{SteadyTextError}
 use Rattle.mysql_steady_text.specs.declared.steady_text_error.SteadyTextError.TheVariants as error
-use Rattle.mysql_steady_text.proofs.ClearLemmas.{clear_query_is_steady, clear_has_none}
 
 -- a clear query isn't refused
 pub clear_passes : (mode : Bool) (query : List ℕ) (ts : List Token) → IsTokens mode query ts → is_clear query ≡ true →

@@ -5,5 +5,5 @@ pub mod SteadyTextErrors
 pub mod FirstBackslash
 pub mod BothModesText
 pub mod BothModesErrors
-pub mod Clear
+pub mod QueryRefusal
 pub mod SteadyPairs

@@ -9,7 +9,6 @@
 mod both_modes;
 mod both_modes_error;
 mod both_modes_pairs_error;
-mod clear;
 pub mod first_backslash;
 pub mod laws;
 mod pairs;

@@ -1,10 +1,10 @@
 //! Why a query can't be bound for any server, whatever is given to it.
 ghost use Rattle.std.specs.Prelude.{◌≡◌, Bool};
 ghost use Rattle.mysql_named_params.specs.Tokens.{OnTokens};
-ghost use Rattle.mysql_steady_text.specs.Clear.{query_refusal};
+ghost use Rattle.mysql_steady_text.specs.QueryRefusal.{query_refusal};
 
-use crate::clear::is_clear;
 use crate::steady_text_error::SteadyTextError;
+use mysql_named_params::clear::is_clear;
 use mysql_named_params::portable::first_unportable;
 use mysql_named_params::steady::first_unsteady;
 

@@ -1,48 +1,73 @@
 //! A quick test for queries that are steady and portable: it looks at 16 bytes at once, and closer
-//! only at those that may begin or end a construct.
-ghost use Rattle.std.specs.Prelude.{◌≡◌, ◌==◌, ◌+◌, ◌<◌, ◌≤◌, false, length, take, drop, map, slice_index, IsTrue, IsFalse};
+//! only at those that may begin or end a construct. It is lent to the crates above; no user needs
+//! it.
+ghost use Rattle.std.specs.Prelude.{◌≡◌, ◌==◌, ◌+◌, ◌<◌, ◌≤◌, Bool, false, true, length, take, drop, map, slice_index, IsTrue, IsFalse};
 ghost use Rattle.std.specs.Simd.Lanes.{mask_l};
-ghost use Rattle.mysql_named_params.specs.Bytes.{begins, dash, is_start_byte, newline};
-ghost use Rattle.mysql_named_params.specs.Portable.{may_open_line};
-ghost use Rattle.mysql_named_params.specs.Server.{keeps_dashes};
-ghost use Rattle.mysql_steady_text.specs.Clear.{begins_special_block, byte_before, is_clear, is_clear_from, is_in_doubt, is_sign, is_sure, is_unsure, may_begin_tag, may_take_dashes, may_take_place};
+ghost use Rattle.mysql_named_params.specs.Bytes.{begins, dash, is_start_byte, newline, space};
+ghost use Rattle.mysql_named_params.specs.Clear.{begins_client_line, begins_opener_after, begins_special_block, byte_before, is_clear, is_clear_after, is_clear_from, is_clear_in_client, is_in_doubt, is_in_doubt_for, is_in_doubt_in_client, is_of_client, is_sign, is_sure, is_unsure, may_begin_tag, may_take_dashes, may_take_place};
+ghost use Rattle.mysql_named_params.specs.FirstUnportableInClient.{IsPortableInClient};
+ghost use Rattle.mysql_named_params.specs.Steady.{IsSteady};
+ghost use Rattle.mysql_named_params.specs.Tokens.{OnTokens};
 
+use crate::client::{begins_word, is_client_word, letter_of, stand_before_comment};
+use crate::portable::may_open_line;
 use std::simd::prelude::*;
 
 // The number of bytes that are passed at once.
 const LANES: usize = 16;
 
 /// Whether no byte of the text is in doubt. A clear query is steady and portable.
-pub(crate) fn is_clear(text: &[u8]) -> bool
+pub fn is_clear(text: &[u8]) -> bool
     ensures { result ≡ is_clear text.now }
+{
+    is_clear_for(text, false)
+}
+
+/// Whether no byte of the query is in doubt, also in a client. Such a query is steady and portable
+/// on servers and in the clients `mysql` and `mariadb`. Most that are so pass; a query that begins
+/// with a comment doesn't, nor one with a comment behind a `;`.
+pub fn is_clear_in_client(query: &[u8]) -> bool
+    ensures value { result ≡ is_clear_in_client query.now }
+    ensures steady { IsTrue result → IsSteady query.now }
+    ensures portable { IsTrue result → (mode : Bool) →
+        OnTokens mode query.now IsPortableInClient }
+{
+    !begins_client_line(query) && is_clear_for(query, true)
+}
+
+// Whether no byte of the text is in doubt on servers, nor in a client if the flag says so. Inline,
+// so that each flag has a loop of its own.
+#[inline(always)]
+fn is_clear_for(text: &[u8], client: bool) -> bool
+    ensures { result ≡ is_clear_after client space text.now }
 {
     let reach = text.len().saturating_sub(LANES - 1);
     let mut at = 0;
     'by_lanes: while at < reach {
-        if is_doubt_in_block(text, at) {
+        if is_doubt_in_block(text, at, client) {
             return false;
         }
         at += LANES;
     }
-    !is_doubt_within(text, at, text.len())
+    !is_doubt_within(text, at, client)
 }
 
 // Whether one of the 16 bytes from this one on is in doubt. Each bit of a mask is looked at once,
 // so that unsure bytes that stand close together cost no further comparison. Inline, as the body of
 // a loop.
 #[inline(always)]
-fn is_doubt_in_block(text: &[u8], from: usize) -> bool
+fn is_doubt_in_block(text: &[u8], from: usize, client: bool) -> bool
     requires { from + LANES ≤ length text.now }
-    ensures some { IsTrue result → is_clear_from text.now from ≡ false }
+    ensures some { IsTrue result → is_clear_from client text.now from ≡ false }
     ensures none { IsFalse result →
-        is_clear_from text.now (from + LANES) ≡ is_clear_from text.now from }
+        is_clear_from client text.now (from + LANES) ≡ is_clear_from client text.now from }
 {
     let mut at = from;
-    let mut unsure = unsure_of_block(text, from);
+    let mut unsure = unsure_of_block(text, from, client);
     'unsure: while unsure != 0 {
         let run = unsure.trailing_zeros() as usize;
         at += run;
-        if is_doubt_at(text, at) {
+        if is_doubt_at(text, at, client) {
             return true;
         }
         at += 1;
@@ -54,9 +79,9 @@ fn is_doubt_in_block(text: &[u8], from: usize) -> bool
 // One bit for each of the 16 bytes from this one on, the first byte's lowest: whether it isn't
 // sure.
 #[inline(always)]
-fn unsure_of_block(text: &[u8], at: usize) -> u64
+fn unsure_of_block(text: &[u8], at: usize, client: bool) -> u64
     requires { at + LANES ≤ length text.now }
-    ensures { result ≡ mask_l (map is_unsure (take LANES (drop at text.now))) }
+    ensures { result ≡ mask_l (map (is_unsure client) (take LANES (drop at text.now))) }
 {
     let bytes = u8x16::from_slice(&text[at..]);
     let unsteady = bytes.simd_ge(u8x16::splat(128)) | bytes.simd_eq(u8x16::splat(b'\\'));
@@ -65,28 +90,33 @@ fn unsure_of_block(text: &[u8], at: usize) -> u64
     let places = bytes.simd_eq(u8x16::splat(b':')) | bytes.simd_eq(u8x16::splat(b'?'));
     let returns = bytes.simd_eq(u8x16::splat(b'\r'));
     let others = ((unsteady | bracket_or_dollar) | (slash_or_dash | places)) | returns;
-    others.to_bitmask()
+    if !client {
+        return others.to_bitmask();
+    }
+    let zero_or_end = bytes.simd_eq(u8x16::splat(0)) | bytes.simd_eq(u8x16::splat(b';'));
+    let letters = bytes.simd_eq(u8x16::splat(b'd')) | bytes.simd_eq(u8x16::splat(b'D'));
+    (others | (zero_or_end | letters)).to_bitmask()
 }
 
 // Whether the byte at this index is in doubt.
-fn is_doubt_at(text: &[u8], at: usize) -> bool
+fn is_doubt_at(text: &[u8], at: usize, client: bool) -> bool
     requires { at < length text.now }
-    ensures { result ≡ is_in_doubt (byte_before text.now at) (slice_index text.now at)
-        (drop (at + 1) text.now) }
+    ensures { result ≡ is_in_doubt_for client (byte_before text.now at)
+        (slice_index text.now at) (drop (at + 1) text.now) }
 {
-    is_in_doubt(byte_before(text, at), text[at], &text[at + 1..])
+    let byte = text[at];
+    let rest = &text[at + 1..];
+    is_in_doubt(byte_before(text, at), byte, rest) || client && is_in_doubt_in_client(byte, rest)
 }
 
-// Whether a byte from the first index up to the second is in doubt.
-fn is_doubt_within(text: &[u8], from: usize, to: usize) -> bool
-    requires order { from ≤ to }
-    requires in_range { to ≤ length text.now }
-    ensures some { IsTrue result → is_clear_from text.now from ≡ false }
-    ensures none { IsFalse result →
-        is_clear_from text.now to ≡ is_clear_from text.now from }
+// Whether a byte from this index on is in doubt.
+fn is_doubt_within(text: &[u8], from: usize, client: bool) -> bool
+    requires { from ≤ length text.now }
+    ensures some { IsTrue result → is_clear_from client text.now from ≡ false }
+    ensures none { IsFalse result → is_clear_from client text.now from ≡ true }
 {
-    for at in from..to {
-        if !is_sure(text[at]) && is_doubt_at(text, at) {
+    for at in from..text.len() {
+        if is_unsure(text[at], client) && is_doubt_at(text, at, client) {
             return true;
         }
     }
@@ -156,23 +186,6 @@ fn begins_special_block(text: &[u8]) -> bool
     matches!(text, [b'*', b'!' | b'+', ..] | [b'*', b'M', b'!', ..])
 }
 
-// Whether a `-` and then this text open a comment on some servers alone.
-fn may_open_line(text: &[u8]) -> bool
-    ensures { result ≡ may_open_line text.now }
-{
-    match text {
-        [b'-', gap, ..] => !(*gap == b' ' || *gap == b'\n' || keeps_dashes(*gap)),
-        _ => false,
-    }
-}
-
-// Whether `--` before the byte is two plain bytes on each server.
-fn keeps_dashes(byte: u8) -> bool
-    ensures { result ≡ keeps_dashes byte }
-{
-    33 <= byte && byte <= 126 && byte != b'/'
-}
-
 // Whether a byte is a sign.
 fn is_sign(byte: u8) -> bool
     ensures { result ≡ is_sign byte }
@@ -209,6 +222,56 @@ fn begins_name(text: &[u8]) -> bool
         [first, ..] => first.is_ascii_lowercase() || *first == b'_',
         [] => false,
     }
+}
+
+// Whether the byte before this rest may begin a construct of a client, or a statement that does.
+fn is_in_doubt_in_client(byte: u8, rest: &[u8]) -> bool
+    ensures { result ≡ is_in_doubt_in_client byte rest.now }
+{
+    match byte {
+        0 => true,
+        b';' => begins_client_line(rest),
+        b'-' => stand_before_comment(rest),
+        b'/' => begins_opener_after(rest),
+        b'd' | b'D' => begins_word(b"elimiter", rest),
+        _ => false,
+    }
+}
+
+// Whether a `/` and then this text begin with `/*!`, `/*+` or `/*/`.
+fn begins_opener_after(rest: &[u8]) -> bool
+    ensures { result ≡ begins_opener_after rest.now }
+{
+    matches!(rest, [b'*', b'!' | b'+' | b'/', ..])
+}
+
+// Whether the text begins, after white space, with what may be a comment or a line that a client
+// drops, or with a word of a client.
+fn begins_client_line(text: &[u8]) -> bool
+    ensures { result ≡ begins_client_line text.now }
+{
+    let mut rest = text;
+    while let [byte, more @ ..] = rest {
+        if *byte > b' ' {
+            return matches!(*byte, b'#' | b'-' | b'/') || is_client_word(letter_of(*byte), more);
+        }
+        rest = more;
+    }
+    false
+}
+
+// Whether the byte isn't sure on servers, or else in a client.
+fn is_unsure(byte: u8, client: bool) -> bool
+    ensures { result ≡ is_unsure client byte }
+{
+    !is_sure(byte) || client && is_of_client(byte)
+}
+
+// Whether a construct of a client may begin with the byte, or a statement.
+fn is_of_client(byte: u8) -> bool
+    ensures { result ≡ is_of_client byte }
+{
+    byte == 0 || byte == b';' || byte == b'd' || byte == b'D'
 }
 
 // Whether no construct and no place begins with the byte, it ends no comment, and it is steady.

@@ -2,9 +2,9 @@
 use Rattle.std.proofs.Common.{nat_eq, get_or, refl, arith}
 use Rattle.std.specs.Str.{byte}
 use Rattle.std.proofs.lemmas.Bool.{agree_below_at}
-use Rattle.mysql_steady_text.specs.declared.clear.TheConstants.{SURE}
-use Rattle.mysql_steady_text.specs.Clear.{is_sure}
-use Rattle.mysql_steady_text.proofs.clear.is_sure.Goals as goal
+use Rattle.mysql_named_params.specs.declared.clear.TheConstants.{SURE}
+use Rattle.mysql_named_params.specs.Clear.{is_sure}
+use Rattle.mysql_named_params.proofs.clear.is_sure.Goals as goal
 
 pub returns : goal.returns
 returns c = agree_below_at (λ k. nat_eq (get_or SURE k 0) (byte "1")) is_sure 256 c.args.byte refl (omega arith)
