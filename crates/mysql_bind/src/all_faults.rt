@@ -1,12 +1,13 @@
 //! All that is wrong with a query, of the kind for which it is refused.
 use crate::complaint::{Complaint, Fault, add_fault};
-use crate::query_file::{JOINED, MARK, PlacesInOrder, QueryFile, UNSTEADY, complaint_of, marks_of};
+use crate::query_file::{
+    JOINED, MARK, PlacesInOrder, QueryFile, UNSTEADY, complaint_of, marks_of, places_of,
+};
 use crate::rewritten::in_single_quotes;
 use crate::values::Values;
-use mysql_bind_core::{Failure, Request};
+use mysql_bind_core::{Failure, Request, TakenQuery};
 use mysql_binding::SurveyedQuery;
 use mysql_named_params::client::first_unportable_in_client;
-use mysql_named_params::places::first_place;
 use mysql_named_params::portable::{Construct, Unportable};
 use mysql_named_params::steady::first_unsteady;
 use mysql_named_params::tokens::first_token;
@@ -44,26 +45,22 @@ pub fn add_joined(
     faults: &mut Vec<Fault>,
     alloc: Global,
     query: &QueryFile<'_>,
-    mode: bool,
+    taken: &TakenQuery<'_>,
 ) -> Result<(), AllocError> {
-    let text = query.bytes.as_slice();
-    let mut places = PlacesInOrder::new(query);
-    let mut rest = text;
-    // Each name has a byte.
-    for _ in 0..text.len() {
-        let Some(found) = first_place(rest, mode) else {
-            break;
-        };
-        let (before, _, after) = found.cut(rest);
-        let end = rest.len().saturating_sub(after.len());
-        if is_joined(&rest[..end.saturating_add(1).min(rest.len())], mode) {
-            let at = text
-                .len()
-                .saturating_sub(rest.len())
-                .saturating_add(before.len());
-            add_at(faults, alloc, &mut places, at, JOINED)?;
+    let parsed = taken.parsed();
+    let mode = parsed.no_backslash_escape();
+    if parsed.surveyed().survey.not_alone.is_none() {
+        return Ok(());
+    }
+    let text = parsed.query();
+    let mut in_order = PlacesInOrder::new(query);
+    let mut before = 0usize;
+    for place in places_of(alloc, parsed)? {
+        let end = place.end.saturating_add(1).min(text.len());
+        if is_joined(text.get(before..end).unwrap_or(b""), mode) {
+            add_at(faults, alloc, &mut in_order, place.at, JOINED)?;
         }
-        rest = after;
+        before = place.end;
     }
     Ok(())
 }

@@ -1,20 +1,12 @@
 //! What is said of a bound text that a client would change: by what stands in which place of the
 //! query, and why.
 use crate::matching::assignment_numbers;
+use crate::query_file::{PlaceAt, places_of};
 use mysql_bind_core::{Assignment, Failure, Portability, Request, ValueType, bound_text};
-use mysql_named_params::places::first_place;
+use mysql_binding::ParsedQuery;
 use mysql_named_params::portable::{Construct, Unportable};
 use mysql_values::show::Shown;
 use std::alloc::{AllocError, Global};
-
-// A place of the query, by its bytes.
-#[derive(Drop)]
-struct PlaceBytes {
-    // The index of its first byte.
-    at: usize,
-    // The index after its last one.
-    end: usize,
-}
 
 // A query, and what its text is made of.
 #[derive(Drop)]
@@ -44,29 +36,25 @@ impl Binding<'_> {
 
     // The place whose text holds this byte of the bound text. Each place is bound once, with what
     // stands between it and the place before it.
-    fn place_at(&self, alloc: Global, at: usize) -> Result<Option<PlaceBytes>, AllocError> {
+    fn place_at(&self, alloc: Global, at: usize) -> Result<Option<PlaceAt>, AllocError> {
         let mode = self.request.literals.no_backslash_escape();
         let numbers = assignment_numbers(alloc, self.assignments)?;
-        let mut rest = self.query;
+        let parsed = ParsedQuery::parse_in(alloc, self.query, mode)?;
+        let mut before = 0usize;
         let mut written = 0usize;
-        // Each place has a byte.
-        for _ in 0..self.query.len() {
-            let Some(found) = first_place(rest, mode) else {
-                break;
-            };
-            let (_, place, after) = found.cut(rest);
-            let piece = &rest[..rest.len().saturating_sub(after.len())];
-            if let Some(number) = numbers.get(place.get(1..).unwrap_or(b"")) {
+        for place in places_of(alloc, &parsed)? {
+            let piece = self.query.get(before..place.end).unwrap_or(b"");
+            let name = self
+                .query
+                .get(place.at.saturating_add(1)..place.end)
+                .unwrap_or(b"");
+            if let Some(number) = numbers.get(name) {
                 written = written.saturating_add(self.text_len(alloc, piece, *number)?);
             }
             if written > at {
-                let end = self.query.len().saturating_sub(after.len());
-                return Ok(Some(PlaceBytes {
-                    at: end.saturating_sub(place.len()),
-                    end,
-                }));
+                return Ok(Some(place));
             }
-            rest = after;
+            before = place.end;
         }
         Ok(None)
     }

@@ -9,8 +9,7 @@ use crate::rows::rows;
 use crate::sources::Sources;
 use crate::values::{Values, values_of};
 use clap::ArgMatches;
-use mysql_bind_core::{Failure, Request, bound_text, check_query, write_bound};
-use mysql_binding::ParsedQuery;
+use mysql_bind_core::{Failure, Request, TakenQuery};
 use mysql_named_params::named_params::NamedParamsError;
 use std::alloc::{AllocError, Global};
 use std::collections::BTreeSet;
@@ -40,44 +39,30 @@ fn refused(
     }
 }
 
-// Writes the query with its values bound.
+// Writes the query with its values bound, to standard output or to a file.
 fn bind(rt: &HostRuntime, matches: &ArgMatches<'_>) -> Result<(), Complaint> {
     let request = request_of(rt.alloc(), matches)?;
     let mut sources = Sources::new(rt.alloc());
     let query = read_query(&mut sources, rt, matches.get_str("query").unwrap_or("-"))?;
     let values = values_of(&mut sources, rt, matches)?;
-    if let Err(failure) = check_query(rt.alloc(), query.bytes.as_slice(), request) {
-        return Err(refused(rt, &query, &values, request, failure));
-    }
-    let values = matched_values(
-        rt.alloc(),
-        &query,
-        values,
-        request,
-        matches.get_flag("allow-unused"),
-    )?;
-    write_answer(rt, matches.get_str("output"), &query, &values, request)
-}
-
-// Writes the bound text to standard output or to a file.
-fn write_answer(
-    rt: &HostRuntime,
-    output: Option<&str>,
-    query: &QueryFile<'_>,
-    values: &Values,
-    request: Request,
-) -> Result<(), Complaint> {
-    let text = query.bytes.as_slice();
+    let taken = match TakenQuery::new(rt.alloc(), query.bytes.as_slice(), request) {
+        Ok(taken) => taken,
+        Err(failure) => return Err(refused(rt, &query, &values, request, failure)),
+    };
+    let allow_unused = matches.get_flag("allow-unused");
+    let values = matched_values(rt.alloc(), &query, &taken, values, allow_unused)?;
+    let output = matches.get_str("output");
     let assignments = values.assignments.as_slice();
-    match output {
-        Some(_) => match bound_text(rt.alloc(), text, assignments, request) {
-            Ok(bound) => write_text(rt, output, bound.as_slice()),
-            Err(failure) => Err(refused(rt, query, values, request, failure)),
+    let written = match output {
+        None => taken.write(rt.alloc(), assignments, &mut rt.stdout()),
+        Some(_) => match taken.text(rt.alloc(), assignments) {
+            Ok(text) => return write_text(rt, output, text.as_slice()),
+            Err(failure) => Err(failure),
         },
-        None => match write_bound(rt.alloc(), text, assignments, request, &mut rt.stdout()) {
-            Ok(()) => Ok(()),
-            Err(failure) => Err(refused(rt, query, values, request, failure)),
-        },
+    };
+    match written {
+        Ok(()) => Ok(()),
+        Err(failure) => Err(refused(rt, &query, &values, request, failure)),
     }
 }
 
@@ -99,27 +84,20 @@ fn names(rt: &HostRuntime, matches: &ArgMatches<'_>) -> Result<(), Complaint> {
     let request = request_of(rt.alloc(), matches)?;
     let mut sources = Sources::new(rt.alloc());
     let query = read_query(&mut sources, rt, matches.get_str("query").unwrap_or("-"))?;
-    if let Err(failure) = check_query(rt.alloc(), query.bytes.as_slice(), request) {
-        return Err(refused(rt, &query, &Values::new(rt.alloc()), request, failure));
-    }
+    let taken = match TakenQuery::new(rt.alloc(), query.bytes.as_slice(), request) {
+        Ok(taken) => taken,
+        Err(failure) => {
+            return Err(refused(rt, &query, &Values::new(rt.alloc()), request, failure));
+        }
+    };
     let end = if matches.get_flag("zero") { 0u8 } else { b'\n' };
-    let text = query_names_text(rt.alloc(), &query, request, end)?;
+    let text = query_names_text(rt.alloc(), &taken, end)?;
     write_text(rt, matches.get_str("output"), text.as_slice())
 }
 
 // The names of a query that is taken, each with the byte after it.
-fn query_names_text(
-    alloc: Global,
-    query: &QueryFile<'_>,
-    request: Request,
-    end: u8,
-) -> Result<Vec<u8>, Complaint> {
-    let parsed = ParsedQuery::parse_in(
-        alloc,
-        query.bytes.as_slice(),
-        request.literals.no_backslash_escape(),
-    )?;
-    match parsed.names(alloc) {
+fn query_names_text(alloc: Global, query: &TakenQuery<'_>, end: u8) -> Result<Vec<u8>, Complaint> {
+    match query.parsed().names(alloc) {
         Ok(names) => Ok(names_text(alloc, names.as_slice(), end)?),
         // A query that is taken has no marks.
         Err(NamedParamsError::Mixed(_)) => Ok(Vec::new(alloc)),
@@ -145,13 +123,8 @@ fn check_one(
         }
         Err(complaint) => return Err(complaint),
     };
-    match check_query(rt.alloc(), query.bytes.as_slice(), request) {
-        Ok(()) => add_joined(
-            faults,
-            rt.alloc(),
-            &query,
-            request.literals.no_backslash_escape(),
-        )?,
+    match TakenQuery::new(rt.alloc(), query.bytes.as_slice(), request) {
+        Ok(taken) => add_joined(faults, rt.alloc(), &query, &taken)?,
         Err(failure) => add_all_faults(faults, rt.alloc(), &query, request, failure)?,
     }
     Ok(true)

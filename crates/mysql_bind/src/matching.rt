@@ -1,9 +1,8 @@
 //! The names of a query without a value, and the values without a name in it.
 use crate::complaint::{Complaint, Fault, Place, add_fault};
-use crate::query_file::{PlacesInOrder, QueryFile};
+use crate::query_file::{PlacesInOrder, QueryFile, places_of};
 use crate::values::{Values, origin_at};
-use mysql_bind_core::{Assignment, Request};
-use mysql_named_params::places::first_place;
+use mysql_bind_core::{Assignment, TakenQuery};
 use mysql_values::show::Shown;
 use std::alloc::{AllocError, Global};
 use std::collections::{BTreeMap, BTreeSet};
@@ -87,28 +86,22 @@ pub fn assignment_numbers<'n>(
 }
 
 /// The first place of each name of the query.
-pub fn name_places(alloc: Global, text: &[u8], mode: bool) -> Result<Vec<NamePlace>, AllocError> {
+pub fn name_places(alloc: Global, query: &TakenQuery<'_>) -> Result<Vec<NamePlace>, AllocError> {
+    let parsed = query.parsed();
     let mut places: Vec<NamePlace> = Vec::new(alloc);
     let mut names = BTreeSet::new(alloc);
-    let mut rest = text;
-    // Each place has a byte.
-    for _ in 0..text.len() {
-        let Some(found) = first_place(rest, mode) else {
-            break;
-        };
-        let (before, place, after) = found.cut(rest);
-        let name = if place.is_empty() { place } else { &place[1..] };
+    for place in places_of(alloc, parsed)? {
+        let name = parsed
+            .query()
+            .get(place.at.saturating_add(1)..place.end)
+            .unwrap_or(b"");
         if is_new(&mut names, name)? {
-            let at = text
-                .len()
-                .saturating_sub(rest.len())
-                .saturating_add(before.len());
+            let at = place.at;
             let name = Vec::from_slice(alloc, name)?;
             if places.push(NamePlace { at, name }).is_err() {
                 return Err(AllocError);
             }
         }
-        rest = after;
     }
     Ok(places)
 }
@@ -206,12 +199,11 @@ pub fn used_values(
 pub fn matched_values(
     alloc: Global,
     query: &QueryFile<'_>,
+    taken: &TakenQuery<'_>,
     values: Values,
-    request: Request,
     allow_unused: bool,
 ) -> Result<Values, Complaint> {
-    let mode = request.literals.no_backslash_escape();
-    let places = name_places(alloc, query.bytes.as_slice(), mode)?;
+    let places = name_places(alloc, taken)?;
     let numbers = place_numbers(alloc, places.as_slice())?;
     let mut assigned = vec![in alloc; false; places.len()]?;
     note_values(

@@ -4,9 +4,9 @@ use crate::complaint::{Complaint, Place, one_fault};
 use crate::sources::{Sources, shown_path};
 use crate::values::{Values, wrong_values};
 use mysql_bind_core::{Failure, Request, line_and_column};
-use mysql_binding::BindError;
+use mysql_binding::{BindError, ParsedQuery};
 use mysql_fragments::FragmentsError;
-use mysql_named_params::places::first_place;
+use mysql_named_params::places::PlaceKind;
 use mysql_steady_fragments::SteadyFragmentsError;
 use mysql_steady_text::SteadyTextError;
 use mysql_values::show::Shown;
@@ -99,26 +99,38 @@ fn refused_at(
     Ok(Complaint::Refused(one_fault(alloc, place, what)?))
 }
 
+/// A place of a query.
+#[derive(Clone, Copy)]
+pub struct PlaceAt {
+    /// Whether it is a name or a mark.
+    pub kind: PlaceKind,
+    /// The index of its first byte.
+    pub at: usize,
+    /// The index behind its last one.
+    pub end: usize,
+}
+
+/// The places of a query, in their order.
+pub fn places_of(alloc: Global, query: &ParsedQuery<'_>) -> Result<Vec<PlaceAt>, AllocError> {
+    let mut places = Vec::new(alloc);
+    let mut end = 0usize;
+    for found in query.surveyed().known {
+        let at = end.saturating_add(found.before);
+        end = at.saturating_add(found.len);
+        let kind = found.kind;
+        places.push(PlaceAt { kind, at, end })?;
+    }
+    Ok(places)
+}
+
 /// The index of each mark of the query.
 pub fn marks_of(alloc: Global, text: &[u8], mode: bool) -> Result<Vec<usize>, AllocError> {
+    let parsed = ParsedQuery::parse_in(alloc, text, mode)?;
     let mut marks = Vec::new(alloc);
-    let mut rest = text;
-    // Each place has a byte.
-    for _ in 0..text.len() {
-        let Some(found) = first_place(rest, mode) else {
-            break;
-        };
-        let (before, place, after) = found.cut(rest);
-        if matches!(place, [b'?', ..]) {
-            let at = text
-                .len()
-                .saturating_sub(rest.len())
-                .saturating_add(before.len());
-            if marks.push(at).is_err() {
-                return Err(AllocError);
-            }
+    for place in places_of(alloc, &parsed)? {
+        if place.kind == PlaceKind::Mark {
+            marks.push(place.at)?;
         }
-        rest = after;
     }
     Ok(marks)
 }
@@ -213,7 +225,7 @@ fn steady_fragments_refused(
         SteadyFragmentsError::UnsteadyFragment { place } => refused_at(
             alloc,
             query,
-            place_index(query.bytes.as_slice(), place),
+            place_index(alloc, query.bytes.as_slice(), place)?,
             "the identifier for this name has a backslash or a byte that is not ASCII, which a \
              mode or a character set may read otherwise: give --literals=plain",
         ),
@@ -226,25 +238,12 @@ fn steady_fragments_refused(
 }
 
 // The index of the place of this number in a steady query.
-fn place_index(text: &[u8], number: usize) -> usize {
-    let mut rest = text;
-    let mut at = 0usize;
-    // Each place has a byte.
-    for n in 0..text.len() {
-        let Some(found) = first_place(rest, false) else {
-            break;
-        };
-        let (before, _, after) = found.cut(rest);
-        at = text
-            .len()
-            .saturating_sub(rest.len())
-            .saturating_add(before.len());
-        if n == number {
-            break;
-        }
-        rest = after;
+fn place_index(alloc: Global, text: &[u8], number: usize) -> Result<usize, AllocError> {
+    let parsed = ParsedQuery::parse_in(alloc, text, false)?;
+    match places_of(alloc, &parsed)?.get(number) {
+        Some(place) => Ok(place.at),
+        None => Ok(text.len()),
     }
-    at
 }
 
 /// What is said of a refusal.

@@ -3,7 +3,7 @@ use crate::columns::{Wanted, column_types};
 use crate::complaint::{Complaint, bad_word};
 use crate::json_members::Decimals;
 use crate::json_rows::add_objects;
-use crate::matching::{name_places, place_numbers};
+use crate::matching::{NamePlace, name_places, place_numbers};
 use crate::query_file::{QueryFile, complaint_of, read_query};
 use crate::records::add_records;
 use crate::requests::request_of;
@@ -12,7 +12,7 @@ use crate::sources::{Sources, shown_path};
 use crate::table_script::TableScript;
 use crate::values::{Values, values_of};
 use clap::ArgMatches;
-use mysql_bind_core::{Request, check_query};
+use mysql_bind_core::{Request, TakenQuery};
 use mysql_bind_rows::START;
 use mysql_records::RecordFormat;
 use std::alloc::{AllocError, Global};
@@ -84,11 +84,9 @@ fn wanted_of<'a>(
     matches: &ArgMatches<'_>,
     path: &str,
     query: QueryFile<'a>,
+    places: Vec<NamePlace>,
     fixed: Values,
-    request: Request,
 ) -> Result<Wanted<'a>, Complaint> {
-    let mode = request.literals.no_backslash_escape();
-    let places = name_places(alloc, query.bytes.as_slice(), mode)?;
     let numbers = place_numbers(alloc, places.as_slice())?;
     Ok(Wanted {
         query,
@@ -178,11 +176,15 @@ pub fn rows(rt: &HostRuntime, matches: &ArgMatches<'_>) -> Result<(), Complaint>
     let query = read_query(&mut sources, rt, matches.get_str("query").unwrap_or("-"))?;
     let fixed = values_of(&mut sources, rt, matches)?;
     let ended = ended_text(rt.alloc(), query.bytes.as_slice())?;
-    if let Err(failure) = check_query(rt.alloc(), ended.as_slice(), request) {
-        let values = Values::new(rt.alloc());
-        return Err(complaint_of(rt.alloc(), &query, &values, request, failure)?);
-    }
-    let wanted = wanted_of(rt.alloc(), matches, path, query, fixed, request)?;
+    // What ends the statement has no place, so the query has those that are found here.
+    let places = match TakenQuery::new(rt.alloc(), ended.as_slice(), request) {
+        Ok(taken) => name_places(rt.alloc(), &taken)?,
+        Err(failure) => {
+            let values = Values::new(rt.alloc());
+            return Err(complaint_of(rt.alloc(), &query, &values, request, failure)?);
+        }
+    };
+    let wanted = wanted_of(rt.alloc(), matches, path, query, places, fixed)?;
     let bytes = sources.read(rt, path)?;
     match form {
         Form::Records(format) => write_records(

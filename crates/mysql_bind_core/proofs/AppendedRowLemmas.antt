@@ -1,5 +1,5 @@
 -- The text of a row at the end of a script, as it is asked for.
-use Rattle.std.specs.Prelude.{Bool, true, false, Result, Ok, Err, IfOk, OnOk, OnErr, IsTrue, IsFalse, None}
+use Rattle.std.specs.Prelude.{Bool, true, false, Result, Ok, Err, IfOk, OnOk, OnErr, None}
 use Rattle.std.proofs.Common.{◌≡◌, ◌++◌, ℕ, List, refl, sym, ap, ◌∙◌, subst, arith}
 use Rattle.mysql_values.specs.declared.value.Value.{Value}
 use Rattle.mysql_values.specs.Literal.{literal_of}
@@ -23,6 +23,8 @@ use Rattle.mysql_bind_core.specs.Assignments.{given_of}
 use Rattle.mysql_bind_core.specs.Bound.{IsTaken, IsTextFor}
 use Rattle.mysql_bind_core.specs.FoundPairs.{IsTextAppended}
 use Rattle.mysql_bind_core.specs.Requests.{mode_of}
+use Rattle.mysql_bind_core.specs.declared.taken.appended.Attempt.{Attempt}
+use Rattle.mysql_bind_core.specs.declared.taken.appended.Attempt.TheVariants as attempt
 use Rattle.mysql_bind_core.specs.declared.request.Literals.TheVariants.{Steady, Plain}
 use Rattle.mysql_bind_core.specs.declared.request.Portability.{Portability}
 use Rattle.mysql_bind_core.specs.declared.request.Portability.TheVariants.{Portable, Any}
@@ -38,21 +40,22 @@ if_undone : {A E : Type 0} (r : Result A E) (P : Type 0) → OnErr r P → OnOk 
 if_undone (Ok a) P p n = absurd n
 if_undone (Err e) P p n = p
 
-pub done_bound : {A E F : Type 0} (d : Result Bool F) (r : Result A E) (P Q : Type 0) → IfOk d (λ done. IsTrue done → OnErr r ⊥) → OnOk r P → (P → Q) →
-    IfOk d (λ done. IsTrue done → Q)
+pub done_bound : {A E F : Type 0} (d : Result Attempt F) (r : Result A E) (P Q : Type 0) →
+    IfOk d (λ a. a ≡ attempt.Written → OnErr r ⊥) → OnOk r P → (P → Q) → IfOk d (λ a. a ≡ attempt.Written → Q)
 done_bound (Ok done) r P Q h p f = λ t. f (if_done r P p (h t))
 done_bound (Err e) r P Q h p f = tt
 
-pub undone_kept : {A E F : Type 0} (d : Result Bool F) (r : Result A E) (P : Type 0) → IfOk d (λ done. IsFalse done → OnOk r ⊥) → OnErr r P →
-    IfOk d (λ done. IsFalse done → P)
+pub undone_kept : {A E F : Type 0} (d : Result Attempt F) (r : Result A E) (P : Type 0) →
+    IfOk d (λ a. a ≡ attempt.Left → OnOk r ⊥) → OnErr r P → IfOk d (λ a. a ≡ attempt.Left → P)
 undone_kept (Ok done) r P h p = λ t. if_undone r P p (h t)
 undone_kept (Err e) r P h p = tt
 
-pub refused_kept : {A E F : Type 0} (d : Result Bool F) (r : Result A E) (P : Type 0) → OnErr d (OnOk r ⊥) → OnErr r P → OnErr d P
+pub refused_kept : {A E F : Type 0} (d : Result Attempt F) (r : Result A E) (P : Type 0) → OnErr d (OnOk r ⊥) → OnErr r P → OnErr d P
 refused_kept (Ok done) r P h p = tt
 refused_kept (Err e) r P h p = if_undone r P p h
 
-pub done_so : {F : Type 0} (d : Result Bool F) (P Q : Type 0) → (P → Q) → IfOk d (λ done. IsTrue done → P) → IfOk d (λ done. IsTrue done → Q)
+pub done_so : {F : Type 0} (d : Result Attempt F) (P Q : Type 0) → (P → Q) →
+    IfOk d (λ a. a ≡ attempt.Written → P) → IfOk d (λ a. a ≡ attempt.Written → Q)
 done_so (Ok done) P Q f h = λ t. f (h t)
 done_so (Err e) P Q f h = tt
 

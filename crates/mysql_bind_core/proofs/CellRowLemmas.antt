@@ -1,5 +1,5 @@
 -- The text of a row of cells at the end of a script.
-use Rattle.std.specs.Prelude.{Bool, Some, Result, Ok, Err, IfOk, OnOk, IsTrue, false}
+use Rattle.std.specs.Prelude.{Some, Result, Ok, Err, IfOk, OnOk, false}
 use Rattle.std.specs.List.{slice_get}
 use Rattle.std.proofs.Common.{◌≡◌, ◌++◌, ◌∙◌, ℕ, List, length, map, ap, sym}
 use Rattle.std.proofs.lemmas.List.{length-map}
@@ -15,6 +15,8 @@ use Rattle.mysql_bind_core.specs.declared.assignment.Assignment.{Assignment}
 use Rattle.mysql_bind_core.specs.declared.cell.Cell.{Cell}
 use Rattle.mysql_bind_core.specs.declared.cell.CellValue.{CellValue}
 use Rattle.mysql_bind_core.specs.declared.request.Request.{Request}
+use Rattle.mysql_bind_core.specs.declared.taken.appended.Attempt.{Attempt}
+use Rattle.mysql_bind_core.specs.declared.taken.appended.Attempt.TheVariants as attempt
 use Rattle.mysql_bind_core.proofs.AppendedRowLemmas.{AppendedFor, pairs_appended}
 use Rattle.mysql_bind_core.proofs.CellLemmas.{paired, row_pairs}
 use Rattle.mysql_bind_core.proofs.MatchedLemmas.{cells_found, found_values}
@@ -23,7 +25,7 @@ pub on_ok : {A E : Type 0} (r : Result A E) (P Q : Type 0) → (P → Q) → OnO
 on_ok (Ok a) P Q f p = f p
 on_ok (Err e) P Q f p = tt
 
-pub always : {F : Type 0} (d : Result Bool F) (Q : Type 0) → Q → IfOk d (λ done. IsTrue done → Q)
+pub always : {F : Type 0} (d : Result Attempt F) (Q : Type 0) → Q → IfOk d (λ a. a ≡ attempt.Written → Q)
 always (Ok done) Q q = λ t. q
 always (Err e) Q q = tt
 

@@ -5,9 +5,9 @@ pub mod EntryLemmas
 pub mod NewlineLemmas
 pub mod OpenStringLemmas
 pub mod QueryEndLemmas
-pub mod MarkLemmas
 pub mod FoundPairLemmas
 pub mod AppendedRowLemmas
+pub mod TakenQueryLemmas
 pub mod CellLemmas
 pub mod MatchedLemmas
 pub mod CellRowLemmas

@@ -1,6 +1,6 @@
 -- A query with its end: its tokens are those of the query's last token with the end, after the others.
 use Rattle.std.specs.Prelude.{Bool, nat_lt}
-use Rattle.std.proofs.Common.{◌≡◌, ◌≢◌, ◌⊎◌, ℕ, ◌+◌, ◌<◌, ◌≤◌, true, false, List, [], ◌∷◌, ◌++◌, length, get_or, take, drop, Option, Some, None, inl, inr, refl, sym, ap, ◌∙◌, subst, append-nil, append_assoc, take-append-drop, true≢false, arith, length-append, length-drop}
+use Rattle.std.proofs.Common.{◌≡◌, ◌≢◌, ◌⊎◌, ℕ, ◌+◌, ◌-◌, ◌<◌, ◌≤◌, true, false, List, [], ◌∷◌, ◌++◌, length, get_or, take, drop, Option, Some, None, inl, inr, refl, sym, ap, ◌∙◌, subst, append-nil, append_assoc, take-append-drop, true≢false, arith, length-append, length-drop}
 use Rattle.std.proofs.lemmas.Bool.{cases_Bool}
 use Rattle.std.proofs.lemmas.Bool.Decides.{nat_tests}
 use Rattle.std.proofs.lemmas.List.{take_rest, same_from_push, nil_from_length}
@@ -8,14 +8,18 @@ use Rattle.mysql_named_params.specs.Bytes.{asterisk, backquote, colon, dash, has
 use Rattle.mysql_named_params.specs.Tokens.{Token, IsToken, IsTokens, OnTokens, AreTokensBefore, IsStringTail, bytes_of, text_of, text_then, QuotedString, QuotedIdentifier, HashComment, DashComment, BlockComment, Name, Mark, Plain}
 use Rattle.mysql_named_params.specs.FirstToken.{IsFirstToken}
 use Rattle.mysql_named_params.specs.TokensOf.{len_up_to, string_len}
+use Rattle.mysql_named_params.specs.FirstPlace.{IsFirstPlace, place_kind}
+use Rattle.mysql_named_params.specs.declared.places.FoundPlace.{FoundPlace}
+use Rattle.mysql_named_params.specs.declared.places.PlaceKind.{PlaceKind}
 use Rattle.mysql_named_params.specs.declared.tokens.TokenKind.{TokenKind}
-use Rattle.mysql_named_params.proofs.CutLemmas.{BeginsWithTokens, cut_none, cut_more, tokens_then, first_within}
+use Rattle.mysql_named_params.proofs.CutLemmas.{BeginsWithTokens, cut_none, cut_more, tokens_then, first_within, token_length}
+use Rattle.mysql_named_params.proofs.FoundPlaceLemmas.{parted}
 use Rattle.mysql_named_params.proofs.FirstTokenLemmas.{rest_is}
 use Rattle.mysql_named_params.proofs.PlainLemmas.{plain_none}
 use Rattle.mysql_named_params.proofs.TokenEndLemmas.{slice_from, string_gives, up_to_gives}
 use Rattle.mysql_named_params.proofs.TokenEnds.{plain_at}
 use Rattle.mysql_named_params.proofs.TokenListLemmas.{one_token, some_byte}
-use Rattle.mysql_named_params.proofs.TokenRowLemmas.{text_then-text_of, text_of-append, AreTokensBefore-append}
+use Rattle.mysql_named_params.proofs.TokenRowLemmas.{text_then-append, text_then-text_of, text_of-append, AreTokensBefore-after, AreTokensBefore-append}
 use Rattle.mysql_bind_core.proofs.NewlineLemmas.{token_then_newline, plain_move, plain_newline}
 use Rattle.mysql_bind_core.specs.QueryEnd.{end, last_at, long_end, long_end_from}
 
@@ -379,3 +383,85 @@ other_closed mode text b rest e o no_quote no_backquote short = by_token w.token
 pub first_and_rest : (text : List ℕ) (b : ℕ) → 0 < length text → get_or text 0 0 ≡ b → text ≡ b ∷ slice_from 1 text
 first_and_rest [] b lt e = absurd (omega arith)
 first_and_rest (a ∷ text) b lt e = ap (λ x. x ∷ text) e ∙ ap (λ x. b ∷ x) (sym (rest_is a text))
+
+-- ---- places are passed
+
+-- the tokens before some of a text's tokens
+front_before : (mode : Bool) (xs ys : List Token) → AreTokensBefore mode [] (xs ++ ys) → AreTokensBefore mode (text_of ys) xs
+front_before mode [] ys h = tt
+front_before mode (x ∷ xs) ys h = (subst (IsToken mode x) (text_then-append xs ys []) h.0, front_before mode xs ys h.1)
+
+cut_before : (mode : Bool) (text : List ℕ) (xs ys : List Token) → IsTokens mode text (xs ++ ys) → BeginsWithTokens mode text (text_of ys) xs
+cut_before mode text xs ys is = record {
+  text = sym (text_then-append xs ys []) ∙ is.text;
+  each = front_before mode xs ys is.each;
+}
+
+cut_then : (mode : Bool) (query rest more : List ℕ) (ts us : List Token) → BeginsWithTokens mode query rest ts →
+    BeginsWithTokens mode rest more us → BeginsWithTokens mode query more (ts ++ us)
+cut_then mode query rest more ts us c r = record {
+  text = text_then-append ts us more ∙ (ap (λ x. text_then x ts) r.text ∙ c.text);
+  each = AreTokensBefore-append mode ts us more (subst (λ x. AreTokensBefore mode x ts) (sym r.text) c.each) r.each;
+}
+
+no_tokens : (ts : List Token) → text_of ts ≡ [] → ts ≡ []
+no_tokens [] n = refl
+no_tokens (t ∷ ts) n = absurd (some_byte t (text_of ts) n)
+
+some_bytes : (t : Token) (ts : List Token) → 0 < length (text_of (t ∷ ts))
+some_bytes t ts = omega (arith, token_length t, length-append (bytes_of t) (text_of ts))
+
+-- a place stays what it is before the end
+place_closed : (mode : Bool) (t : Token) (rest : List ℕ) (k : PlaceKind) → place_kind t ≡ Some k → IsToken mode t rest → (at : ℕ) →
+    OnTokens mode (bytes_of t ++ end) (λ us. None ≡ long_end_from at us)
+place_closed mode (Name name) rest k is h at = stays mode (bytes_of (Name name)) (Name name) refl (h.0, refl) at
+place_closed mode Mark rest k is h at = stays mode (bytes_of Mark) Mark refl tt at
+place_closed mode t rest k is h at = cc
+
+-- the query up to a token of the rest
+passed_front : (mode : Bool) (query rest : List ℕ) (p : PassedTo mode query rest) (front : List Token) (place : Token) (back : List Token) →
+    IsTokens mode rest (front ++ place ∷ back) → PassedTo mode query (text_of (place ∷ back))
+passed_front mode query rest p front place back is = record {
+  tokens = p.tokens ++ front;
+  cut = cut_then mode query rest (text_of (place ∷ back)) p.tokens front p.cut (cut_before mode rest front (place ∷ back) is);
+  some = λ h. some_bytes place back;
+  within = omega (arith, p.within, ap length (sym (text_of-append front (place ∷ back)) ∙ is.text), length-append (text_of front) (text_of (place ∷ back)));
+}
+
+-- a last token that is a place is closed
+last_place : (mode : Bool) (query : List ℕ) (place : Token) (k : PlaceKind) → place_kind place ≡ Some k → IsToken mode place [] →
+    PassedTo mode query (bytes_of place) → OnTokens mode (query ++ end) (λ us. None ≡ long_end us)
+last_place mode query place k is h q =
+    last_end mode query (bytes_of place) at None q (token_length place) within (place_closed mode place [] k is h at)
+  where
+    at : ℕ
+    at = length query - length (bytes_of place)
+
+    within : at + length (bytes_of place) ≡ length query
+    within = omega (arith, q.within)
+
+module _ (mode : Bool) (query rest after : List ℕ) (found : FoundPlace) (p : PassedTo mode query rest) (o : OnTokens mode rest (λ us. IsFirstPlace us found)) (e : after ≡ drop (found.before + found.len) rest) where
+  -- with the place, its text and what stands before it
+  pub passed_place : length after ≢ 0 → PassedTo mode query after
+  passed_place some =
+      let at = parted mode rest o.0 found o.1 o in
+      let split : o.0 ≡ (at.front ++ at.place ∷ []) ++ at.back = at.tokens_are ∙ sym (append_assoc at.front (at.place ∷ []) at.back) in
+      let is : IsTokens mode rest ((at.front ++ at.place ∷ []) ++ at.back) = subst (IsTokens mode rest) split o.1 in
+      let left : text_of at.back ≡ after = at.rest_tokens.text ∙ sym e in
+      record {
+        tokens = p.tokens ++ (at.front ++ at.place ∷ []);
+        cut = cut_then mode query rest after p.tokens (at.front ++ at.place ∷ []) p.cut
+            (subst (λ x. BeginsWithTokens mode rest x (at.front ++ at.place ∷ [])) left (cut_before mode rest (at.front ++ at.place ∷ []) at.back is));
+        some = λ h. omega (arith, some);
+        within = omega (arith, p.within, ap length e, length-drop (found.before + found.len) rest);
+      }
+
+  -- a place at the end is closed
+  pub ends_with_place : length after ≡ 0 → OnTokens mode (query ++ end) (λ us. None ≡ long_end us)
+  ends_with_place none =
+      let at = parted mode rest o.0 found o.1 o in
+      let is : IsTokens mode rest (at.front ++ at.place ∷ at.back) = subst (IsTokens mode rest) at.tokens_are o.1 in
+      let no_more : at.back ≡ [] = no_tokens at.back (at.rest_tokens.text ∙ (sym e ∙ nil_from_length after none)) in
+      let last : IsTokens mode rest (at.front ++ at.place ∷ []) = subst (λ x. IsTokens mode rest (at.front ++ at.place ∷ x)) no_more is in
+      last_place mode query at.place found.kind at.kind_is ((AreTokensBefore-after mode at.front (at.place ∷ []) [] last.each).0)
+      (subst (PassedTo mode query) (append-nil (bytes_of at.place)) (passed_front mode query rest p at.front at.place [] last))

@@ -9,6 +9,7 @@ pub mod Bound
 pub mod Refusals
 pub mod FoundPairs
 pub mod Cells
+pub mod TakenQuery
 pub mod MatchedQuery
 pub mod RowTexts
 pub mod Statements

@@ -8,8 +8,7 @@ use Rattle.mysql_named_params.specs.Tokens.{OnTokens}
 use Rattle.mysql_binding.specs.ParsedQuery.{QueryInMode}
 use Rattle.mysql_bind_core.specs.Bound.{IsTaken}
 use Rattle.mysql_bind_core.specs.Cells.{AreNumbersOf, are_distinct_names}
-use Rattle.mysql_bind_core.specs.Requests.{mode_of}
-use Rattle.mysql_bind_core.specs.declared.request.Request.{Request}
+use Rattle.mysql_bind_core.specs.TakenQuery.{RequestedQuery, in_its_mode}
 
 -- the places of a query have these numbers among columns with these names, of which no two are one
 pub record HaveNumbers (query : QueryInMode) (columns : List (List ℕ)) (numbers : List ℕ)
@@ -19,9 +18,8 @@ pub record HaveNumbers (query : QueryInMode) (columns : List (List ℕ)) (number
   pub distinct : are_distinct_names columns ≡ true
   pub are : OnTokens query.mode query.query (λ ts. AreNumbersOf columns (names ts) numbers)
 
--- the request takes the query in its mode, and its places have the numbers, if there are some
-pub record AreMatched (query : QueryInMode) (request : Request) (columns : List (List ℕ))
+-- the request takes the query, and its places have the numbers, if there are some
+pub record AreMatched (taken : RequestedQuery) (columns : List (List ℕ))
     (numbers : Option (Vec ℕ)) : Type 0 where
-  pub taken : IsTaken request query.query
-  pub mode : query.mode ≡ mode_of request.literals
-  pub numbered : IfSome numbers (λ found. HaveNumbers query columns found.items)
+  pub is_taken : IsTaken taken.request taken.query
+  pub numbered : IfSome numbers (λ found. HaveNumbers (in_its_mode taken) columns found.items)

@@ -6,10 +6,11 @@ ghost use Rattle.mysql_float_literal.specs.DoubleText.{double_value};
 ghost use Rattle.mysql_bind_core.specs.Contents.{all_of, content, double_item, double_of, finite_double, has_exponent, is_value_type, item_of, item_said, list_in, list_of_json, name_of, number_item, number_of, said};
 
 use crate::lent_value::lent_number;
-use crate::value_type::{ValueType, copied, is_utf8, typed_value};
+use crate::value_type::{ValueType, copied, typed_value};
 use json::{Error as JsonError, Scratch, Value as Json};
 use mysql_float_literal::Double;
 use mysql_fragments::{Fragment, Item};
+use mysql_sql_text::utf8::is_utf8;
 use mysql_values::bytes::Bytes;
 use mysql_values::value::Value;
 use std::alloc::{AllocError, Global};

@@ -4,7 +4,8 @@ ghost use Rattle.mysql_values.specs.BorrowedValue.{owned};
 ghost use Rattle.mysql_bind_core.specs.Cells.{lent_typed_value};
 ghost use Rattle.mysql_bind_core.specs.ValueTypes.{int_value, line_value, number_value, text_value, truth_value, uint_value};
 
-use crate::value_type::{ValueType, has_newline, is_utf8, line_of};
+use crate::value_type::{ValueType, has_newline, line_of};
+use mysql_sql_text::utf8::is_utf8;
 use mysql_values::value::ValueRef;
 use mysql_values::value::convert::FromValueRef;
 

@@ -5,30 +5,30 @@
 //! `specs/Refusals.antt` which refusal comes.
 #![tactic(auto)]
 
-mod appended;
 mod assignment;
 mod binding;
 mod cell;
+mod checked;
 mod entries;
 mod failure;
 mod fragment_type;
 mod fragments_text;
 pub mod laws;
 mod lent_value;
-mod marks;
 mod matched;
 mod positions;
 mod query_end;
 mod request;
+mod taken;
 mod value_type;
 
-pub use appended::append_taken;
 pub use assignment::Assignment;
-pub use binding::{bound_text, check_query, taken_text, write_bound};
+pub use binding::{bound_text, write_bound};
 pub use cell::Cell;
 pub use failure::Failure;
 pub use fragment_type::typed_fragment;
 pub use matched::{MatchedQuery, assignments_of};
 pub use positions::line_and_column;
 pub use request::{Literals, Portability, Request};
+pub use taken::{TakenQuery, check_query};
 pub use value_type::{ValueType, typed_value};

@@ -13,13 +13,13 @@ ghost use Rattle.mysql_bind_core.specs.Refusals.{IsQueryRefusal};
 ghost use Rattle.mysql_bind_core.specs.RowTexts.{IsAssignedRowText, IsRowRefusal, IsRowText};
 ghost use Rattle.mysql_bind_core.specs.declared.assignment.Assignment as declared;
 
-use crate::appended::{append_found, append_text};
 use crate::assignment::Assignment;
-use crate::binding::{check_query, found_in_text};
 use crate::cell::{Cell, CellValue, cell_values};
 use crate::failure::Failure;
 use crate::laws::values_are_sent;
 use crate::request::Request;
+use crate::taken::text::found_in_text;
+use crate::taken::{Attempt, TakenQuery};
 use mysql_binding::ParsedQuery;
 use mysql_params_core::params::NamedPairs;
 use mysql_values::value::ValueRef;
@@ -30,9 +30,8 @@ use std::marker::Model;
 /// A query that a request takes, and for each of its places the number of the column with its name.
 #[derive(Debug, Drop)]
 pub struct MatchedQuery<'q, 'c> {
-    query: ParsedQuery<'q>,
+    taken: TakenQuery<'q>,
     columns: &'q [&'c [u8]],
-    request: Request,
     // None if each row is bound as its assignments are: of a query without names, and of columns of
     // which two have one name or that leave out a name.
     numbers: Option<Vec<usize>>,
@@ -46,13 +45,13 @@ impl<'q, 'c> Model for MatchedQuery<'q, 'c> {
     ghost Value = { TableQuery };
 
     ghost view = { λ m. record {
-      query = m.query.query;
+      query = m.taken.query;
       columns = referents m.columns.now;
-      request = m.request;
+      request = m.taken.request;
     } };
 
     ghost invariant = { λ m.
-        AreMatched m.query m.request (referents m.columns.now) m.numbers };
+        AreMatched m.taken (referents m.columns.now) m.numbers };
 }
 
 impl<'q, 'c> MatchedQuery<'q, 'c> {
@@ -72,20 +71,14 @@ impl<'q, 'c> MatchedQuery<'q, 'c> {
         ensures taken { IfOk result (λ m. IsTaken request query.now) }
         ensures refused { IfErr result (IsQueryRefusal request query.now) }
     {
-        check_query(alloc, query, request)?;
-        let mode = request.literals.no_backslash_escape();
-        let parsed = match ParsedQuery::parse_in(alloc, query, mode) {
-            Ok(parsed) => parsed,
-            Err(error) => return Err(Failure::Memory(error)),
-        };
-        let numbers = match column_numbers(alloc, &parsed, columns) {
+        let taken = TakenQuery::new(alloc, query, request)?;
+        let numbers = match column_numbers(alloc, taken.parsed(), columns) {
             Ok(numbers) => numbers,
             Err(error) => return Err(Failure::Memory(error)),
         };
         Ok(MatchedQuery {
-            query: parsed,
+            taken,
             columns,
-            request,
             numbers,
         })
     }
@@ -111,8 +104,8 @@ impl<'q, 'c> MatchedQuery<'q, 'c> {
         ensures kept { OnErr result (script.new.items ≡ script.old.items) }
     {
         match self.append_values(alloc, cells, script) {
-            Ok(true) => Ok(()),
-            Ok(false) => self.append_assigned(alloc, cells, script),
+            Ok(Attempt::Written) => Ok(()),
+            Ok(Attempt::Left) => self.append_assigned(alloc, cells, script),
             Err(error) => Err(Failure::Memory(error)),
         }
     }
@@ -133,44 +126,40 @@ impl<'q, 'c> MatchedQuery<'q, 'c> {
             Ok(assignments) => assignments,
             Err(error) => return Err(Failure::Memory(error)),
         };
-        append_text(
-            alloc,
-            self.query.query(),
-            assignments.as_slice(),
-            self.request,
-            script,
-        )
+        self.taken
+            .append_text(alloc, assignments.as_slice(), script)
     }
 
-    // Writes the text, if each cell has a value and each place a column. Else it writes nothing and
-    // says so by `false`; so it does of a text that can't be written, and of one that a client
-    // would change.
+    // Writes the text, if each cell has a value and each place a column. It leaves a text that
+    // can't be written, and one that a client would change.
     fn append_values(
         &self,
         alloc: Global,
         cells: &[Cell<'_>],
         script: &mut Vec<u8>,
-    ) -> Result<bool, AllocError>
-        ensures bound { IfOk result (λ done. IsTrue done → (text : List ℕ)
+    ) -> Result<Attempt, AllocError>
+        ensures bound { IfOk result (λ attempt. attempt ≡ Attempt.Written → (text : List ℕ)
             × IsRowText self.now cells.now text
             × (script.new.items ≡ script.old.items ++ text)) }
-        ensures kept { IfOk result (λ done. IsFalse done →
+        ensures kept { IfOk result (λ attempt. attempt ≡ Attempt.Left →
             script.new.items ≡ script.old.items) }
         ensures refused { OnErr result (script.new.items ≡ script.old.items) }
     {
         let start = script.len();
-        if !self.append_cells(alloc, cells, script)? {
-            return Ok(false);
+        match self.append_cells(alloc, cells, script)? {
+            Attempt::Left => return Ok(Attempt::Left),
+            Attempt::Written => {}
         }
-        if !self.request.literals.no_backslash_escape() {
+        let request = self.taken.request();
+        if !request.literals.no_backslash_escape() {
             values_are_sent();
-            return Ok(true);
+            return Ok(Attempt::Written);
         }
-        if found_in_text(&script.as_slice()[start..], self.request).is_none() {
-            return Ok(true);
+        if found_in_text(&script.as_slice()[start..], request).is_none() {
+            return Ok(Attempt::Written);
         }
         script.truncate(start);
-        Ok(false)
+        Ok(Attempt::Left)
     }
 
     // The same, whether or not the text is portable. What is written has no fragment.
@@ -179,32 +168,32 @@ impl<'q, 'c> MatchedQuery<'q, 'c> {
         alloc: Global,
         cells: &[Cell<'_>],
         script: &mut Vec<u8>,
-    ) -> Result<bool, AllocError>
-        ensures taken { IfOk result (λ done. IsTaken self.now.request self.now.query) }
-        ensures bound { IfOk result (λ done. IsTrue done → (text : List ℕ)
+    ) -> Result<Attempt, AllocError>
+        ensures taken { IfOk result (λ attempt. IsTaken self.now.request self.now.query) }
+        ensures bound { IfOk result (λ attempt. attempt ≡ Attempt.Written → (text : List ℕ)
             × IsAssignedRowText self.now cells.now text
             × (script.new.items ≡ script.old.items ++ text)) }
-        ensures values { IfOk result (λ done. IsTrue done →
+        ensures values { IfOk result (λ attempt. attempt ≡ Attempt.Written →
             (assignments : List declared.Assignment) →
             AreAssigned self.now.columns cells.now assignments →
             has_fragment assignments ≡ false) }
-        ensures kept { IfOk result (λ done. IsFalse done →
+        ensures kept { IfOk result (λ attempt. attempt ≡ Attempt.Left →
             script.new.items ≡ script.old.items) }
         ensures refused { OnErr result (script.new.items ≡ script.old.items) }
     {
         if cells.len() != self.columns.len() {
-            return Ok(false);
+            return Ok(Attempt::Left);
         }
         let Some(numbers) = &self.numbers else {
-            return Ok(false);
+            return Ok(Attempt::Left);
         };
         let Some(values) = cell_values(alloc, cells)? else {
-            return Ok(false);
+            return Ok(Attempt::Left);
         };
         let Some(placed) = placed_values(alloc, numbers.as_slice(), values.as_slice())? else {
-            return Ok(false);
+            return Ok(Attempt::Left);
         };
-        append_found(alloc, &self.query, placed, self.request, script)
+        self.taken.append_found(alloc, placed, script)
     }
 }
 

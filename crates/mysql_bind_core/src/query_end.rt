@@ -5,18 +5,34 @@ ghost use Rattle.mysql_named_params.specs.Bytes.{is_string_quote};
 ghost use Rattle.mysql_named_params.specs.Tokens.{OnTokens, IsStringTail};
 ghost use Rattle.mysql_bind_core.specs.QueryEnd.{end, long_end, long_end_from};
 
+use mysql_binding::{SurveyedQuery, place_after};
 use mysql_named_params::tokens::first_token;
 
 // Where the query's last token begins, if it is open: a string, a quoted identifier or a block
-// comment without its end. The bytes of that token tell, so no memory is needed.
-pub(crate) fn open_end(query: &[u8], no_backslash_escape: bool) -> Option<usize>
-    ensures { OnTokens no_backslash_escape (query.now ++ end) (λ ts. result ≡ long_end ts) }
+// comment without its end. No place is open, so only what follows the last place that is known is
+// looked at. The bytes of the last token tell, so no memory is needed.
+pub(crate) fn open_end(surveyed: &SurveyedQuery<'_>) -> Option<usize>
+    ensures { OnTokens surveyed.now.no_backslash_escape (surveyed.now.query.now ++ end)
+        (λ ts. result ≡ long_end ts) }
 {
-    let mut rest = query;
-    while !rest.is_empty() {
-        let (_, len) = first_token(rest, no_backslash_escape);
+    let mode = surveyed.no_backslash_escape;
+    let mut rest = surveyed.query;
+    let mut passed = 0;
+    'places: while passed < surveyed.known.len() {
+        let Some(found) = place_after(surveyed.known, passed, rest, mode) else {
+            break;
+        };
+        let (_, _, after) = found.cut(rest);
+        if after.is_empty() {
+            return None;
+        }
+        rest = after;
+        passed += 1;
+    }
+    'tokens: while !rest.is_empty() {
+        let (_, len) = first_token(rest, mode);
         if len == rest.len() {
-            return open_from(query.len() - rest.len(), rest, no_backslash_escape);
+            return open_from(surveyed.query.len() - rest.len(), rest, mode);
         }
         rest = &rest[len..];
     }

@@ -1,6 +1,5 @@
 //! The values that the bytes of a source stand for.
 ghost use Rattle.std.specs.Prelude.{◌≡◌, true, IfOk, IsErr, OnErr, option_map};
-ghost use Rattle.std.specs.Str.{is_utf8};
 ghost use Rattle.mysql_values.specs.BorrowedValue.{owned};
 ghost use Rattle.mysql_bind_core.specs.ValueTypes.{IsSomeBytes, line_of, has_newline, takes_memory, typed_value, hex_value, base64_value, truth_value};
 
@@ -89,16 +88,6 @@ pub(crate) fn copied(
     match found {
         Some(value) => Ok(Some(value.to_value(alloc)?)),
         None => Ok(None),
-    }
-}
-
-// Whether the bytes are UTF-8.
-pub(crate) fn is_utf8(bytes: &[u8]) -> bool
-    ensures { result ≡ is_utf8 bytes.now }
-{
-    match std::str::from_utf8(bytes) {
-        Ok(_) => true,
-        Err(_) => false,
     }
 }
 

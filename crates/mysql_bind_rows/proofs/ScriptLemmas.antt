@@ -68,39 +68,17 @@ all_statements request query rows before after are = record {
   bytes = are.bytes;
 }
 
--- ---- the first row, and the second
-
-pub first_statement : (request : Request) (query : List ℕ) (rows : List Row) (row : Row) (old after text : List ℕ)
-    → 0 < length rows → row ≡ get_or rows 0 row → IsWritten request query row.assignments.items text → after ≡ old ++ statement text
-    → AreStatements request query (take 1 rows) old after
-first_statement request query rows row old after text some is written after_is =
-    statement_more request query rows 0 row old old after (statement text) text some is (no_statements request query old) written refl after_is
-
 -- so many rows are all of them
 pub of_all : (request : Request) (query : List ℕ) (rows : List Row) (number : ℕ) (old after : List ℕ)
     → number ≡ length rows → AreStatements request query (take number rows) old after → AreStatements request query rows old after
 of_all request query rows number old after all are =
     subst (λ rs. AreStatements request query rs old after) (ap (λ n. take n rows) all ∙ take-all rows) are
 
-pub first_row_refused : (request : Request) (query : List ℕ) (rows : List Row) (row : Row) (why : Failure)
-    → 0 < length rows → row ≡ get_or rows 0 row → IsRefusal request query row.assignments.items why → IsRefusedRow request query rows 0 why
-first_row_refused request query rows row why some is refused =
-    record { row = row; within = some; row_is = is; refused = refused; texts = []; before = tt }
-
--- if memory lacks before the second row, the first alone is written
-pub second_row_refused : (request : Request) (query : List ℕ) (rows : List Row) (number : ℕ) (why : Failure) (error : AllocError) (old after : List ℕ)
-    → 1 < length rows → number ≡ 1 → why ≡ Memory error → AreStatements request query (take 1 rows) old after → IsRefusedRow request query rows number why
-second_row_refused request query [] number why error old after some second is first = absurd (omega arith)
-second_row_refused request query (row ∷ []) number why error old after some second is first = absurd (omega arith)
-second_row_refused request query (row ∷ next ∷ rows) number why error old after some second is first =
-    subst (λ n. IsRefusedRow request query (row ∷ next ∷ rows) n why) (sym second)
-    (subst (λ w. IsRefusedRow request query (row ∷ next ∷ rows) 1 w) (sym is)
-    (record { row = next; within = some; row_is = refl; refused = of_query tt; texts = first.texts; before = first.written }))
-
-pub first_alone : (request : Request) (query : List ℕ) (rows : List Row) (number : ℕ) (old after : List ℕ)
-    → number ≡ 1 → AreStatements request query (take 1 rows) old after → AreStatements request query (take number rows) old after
-first_alone request query rows number old after second are =
-    subst (λ n. AreStatements request query (take n rows) old after) (sym second) are
+-- memory may lack before the first row
+pub out_of_memory : (request : Request) (query : List ℕ) (rows : List Row) (error : AllocError) → 0 < length rows → IsRefusedRow request query rows 0 (Memory error)
+out_of_memory request query [] error some = absurd (omega arith)
+out_of_memory request query (row ∷ rows) error some =
+    record { row = row; within = some; row_is = refl; refused = of_query tt; texts = []; before = tt }
 
 -- ---- what is told of an answer or a refusal
 

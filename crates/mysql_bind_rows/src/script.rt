@@ -7,7 +7,7 @@ ghost use Rattle.mysql_bind_rows.specs.Scripts.{AreStatements, IfMemory, IfQuery
 
 use crate::row::{Row, RowsFailure};
 use crate::rows::append_rows;
-use mysql_bind_core::{Request, check_query};
+use mysql_bind_core::{Request, TakenQuery};
 use mysql_program::readers_and_writers::write_whole;
 use std::alloc::{AllocError, Global};
 use std::io::Write;
@@ -44,8 +44,8 @@ pub fn script_of(
         IsScript request query.now rows.now transaction script.items) }
     ensures refused { IfErr result (IsRowsRefusal request query.now rows.now) }
 {
-    match check_query(alloc, query, request) {
-        Ok(()) => taken_script(alloc, query, rows, request, transaction),
+    match TakenQuery::new(alloc, query, request) {
+        Ok(taken) => taken_script(alloc, &taken, rows, transaction),
         Err(failure) => Err(RowsFailure::Query(failure)),
     }
 }
@@ -53,21 +53,20 @@ pub fn script_of(
 // The script of rows and a query that is taken.
 fn taken_script(
     alloc: Global,
-    query: &[u8],
+    query: &TakenQuery<'_>,
     rows: &[Row],
-    request: Request,
     transaction: bool,
 ) -> Result<Vec<u8>, RowsFailure>
-    requires { IsTaken request query.now }
+    requires { IsTaken query.now.request query.now.query }
     ensures written { IfOk result (λ script.
-        IsScript request query.now rows.now transaction script.items) }
-    ensures refused { IfErr result (IsRowsRefusal request query.now rows.now) }
+        IsScript query.now.request query.now.query rows.now transaction script.items) }
+    ensures refused { IfErr result (IsRowsRefusal query.now.request query.now.query rows.now) }
 {
     let mut script = Vec::new(alloc);
     if let Err(error) = append_if(&mut script, transaction, START) {
         return Err(RowsFailure::Memory(error));
     }
-    if let Err(refused) = append_rows(alloc, query, rows, request, &mut script) {
+    if let Err(refused) = append_rows(alloc, query, rows, &mut script) {
         return Err(RowsFailure::Row(refused));
     }
     if let Err(error) = append_if(&mut script, transaction, COMMIT) {
@@ -151,8 +150,8 @@ pub fn stream_rows<W: Write>(
         × AreStatements request query.now (take number rows.now) [] statements
         × AppendsPrefix (W.contents output.old) (W.contents output.new) statements }
 {
-    match check_query(alloc, query, request) {
-        Ok(()) => stream_taken(alloc, query, rows, request, output),
+    match TakenQuery::new(alloc, query, request) {
+        Ok(taken) => stream_taken(alloc, &taken, rows, output),
         Err(failure) => Err(RowsFailure::Query(failure)),
     }
 }
@@ -160,28 +159,29 @@ pub fn stream_rows<W: Write>(
 // Writes the statement of each row of a query that is taken.
 fn stream_taken<W: Write>(
     alloc: Global,
-    query: &[u8],
+    query: &TakenQuery<'_>,
     rows: &[Row],
-    request: Request,
     output: &mut W,
 ) -> Result<(), RowsFailure>
-    requires { IsTaken request query.now }
+    requires { IsTaken query.now.request query.now.query }
     ensures written { OnOk result ((statements : List ℕ)
-        × AreStatements request query.now rows.now [] statements
+        × AreStatements query.now.request query.now.query rows.now [] statements
         × Appends (W.contents output.old) (W.contents output.new) statements) }
     ensures refused { IfErr result (λ e. e ≢ RowsFailure.Write →
-        IsRowsRefusal request query.now rows.now e) }
+        IsRowsRefusal query.now.request query.now.query rows.now e) }
     ensures only { IfErr result (λ e. IfQuery e ⊥) }
     ensures memory { IfErr result (λ e. IfMemory e ⊥) }
     ensures before { IfErr result (λ e. IfRow e (λ number. (statements : List ℕ)
-        × AreStatements request query.now (take number rows.now) [] statements
+        × AreStatements query.now.request query.now.query (take number rows.now) []
+        statements
         × Appends (W.contents output.old) (W.contents output.new) statements)) }
     ensures begun { IsErrOf result RowsFailure.Write → (number : ℕ) × (statements : List ℕ)
-        × AreStatements request query.now (take number rows.now) [] statements
+        × AreStatements query.now.request query.now.query (take number rows.now) []
+        statements
         × AppendsPrefix (W.contents output.old) (W.contents output.new) statements }
 {
     let mut statements = Vec::new(alloc);
-    match append_rows(alloc, query, rows, request, &mut statements) {
+    match append_rows(alloc, query, rows, &mut statements) {
         Ok(()) => written(output, &statements),
         Err(refused) => match written(output, &statements) {
             Ok(()) => Err(RowsFailure::Row(refused)),

@@ -36,6 +36,4 @@ pub use fragment_ref::FragmentRef;
 pub use fragments_error::{FragmentFault, FragmentsError};
 pub use mysql_binding::TextInRoom;
 pub use placed_refs::{bind_placed_into, placed_error};
-pub use places::fragments_of_places;
 pub use rows_ref::RowsRef;
-pub use written::push_fragment;

@@ -14,8 +14,8 @@ use std::alloc::{AllocError, Global};
 use std::collections::HashMap;
 
 /// References to the fragments for the places of a query with this many names, and no marks beside
-/// them. It is public, though this crate alone calls it.
-pub fn fragments_of_places<'f>(
+/// them.
+pub(crate) fn fragments_of_places<'f>(
     alloc: Global,
     query: &[u8],
     name_count: usize,

@@ -11,8 +11,8 @@ use mysql_values::value::Value;
 use std::alloc::AllocError;
 
 /// Writes the text of a fragment with a mark for each value to the end. If memory is refused, a
-/// part of it may stand behind what stood before. It is public, though this crate alone calls it.
-pub fn push_fragment(text: &mut Vec<u8>, fragment: &Fragment) -> Result<(), AllocError>
+/// part of it may stand behind what stood before.
+pub(crate) fn push_fragment(text: &mut Vec<u8>, fragment: &Fragment) -> Result<(), AllocError>
     ensures text { IfOk result (λ done.
         text.new.items ≡ text.old.items ++ fragment_text fragment.now) }
     ensures kept { OnErr result (StartsWith text.new.items text.old.items) }

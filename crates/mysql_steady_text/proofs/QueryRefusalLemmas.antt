@@ -1,6 +1,6 @@
 -- The refusal of a query, whatever is given to it.
 use Rattle.std.specs.Prelude.{Bool}
-use Rattle.std.proofs.Common.{◌≡◌, ℕ, true, List, Option, Some, None, refl, ap, ◌∙◌}
+use Rattle.std.proofs.Common.{◌≡◌, ℕ, true, false, List, Option, Some, None, refl, ap, ◌∙◌}
 use Rattle.mysql_named_params.specs.FirstUnportable.{first_unportable}
 use Rattle.mysql_named_params.specs.Portable.{IsPortable}
 use Rattle.mysql_named_params.specs.Steady.{first_unsteady, IsSteady}
@@ -20,8 +20,8 @@ use Rattle.mysql_steady_text.specs.declared.steady_text_error.SteadyTextError.Th
 pub clear_passes : (mode : Bool) (query : List ℕ) (ts : List Token) → IsTokens mode query ts → is_clear query ≡ true →
     None ≡ query_refusal query ts
 clear_passes mode query ts is c =
-    let steady : first_unsteady query ≡ None = (none_unsteady query).1 (clear_query_is_steady query c) in
-    let portable : first_unportable ts ≡ None = clear_has_none mode query ts is c in
+    let steady : first_unsteady query ≡ None = (none_unsteady query).1 (clear_query_is_steady false query c) in
+    let portable : first_unportable ts ≡ None = clear_has_none false mode query ts is c in
     rw (steady, portable) refl
 
 pub unsteady_is_refused : (query : List ℕ) (ts : List Token) (at : ℕ) → first_unsteady query ≡ Some at →

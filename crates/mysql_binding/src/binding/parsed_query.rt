@@ -12,9 +12,11 @@ ghost use Rattle.mysql_binding.specs.AppendedText.{AreFound, IsAppended};
 ghost use Rattle.mysql_binding.specs.BindErrors.{IsCauseOrMemory};
 ghost use Rattle.mysql_binding.specs.BoundAgain.{IsSameBoundAgain, IsSameByPosition};
 ghost use Rattle.mysql_binding.specs.FirstCause.{first_cause};
+ghost use Rattle.mysql_binding.specs.FoundPlaces.{found_places};
 ghost use Rattle.mysql_binding.specs.Isolation.{IsBoundText};
 ghost use Rattle.mysql_binding.specs.ParsedQuery.{AreParsed, same_query};
 ghost use Rattle.mysql_binding.specs.SameQuery.{same_query_is_equivalence};
+ghost use Rattle.mysql_binding.specs.Survey.{IsSurvey};
 ghost use Rattle.mysql_params_core.specs.Referents.{referents};
 ghost use Rattle.mysql_values.specs.BorrowedValue.{owned_values};
 
@@ -204,10 +206,14 @@ impl<'q> ParsedQuery<'q> {
         first_unportable(self.query.as_slice(), self.no_backslash_escape)
     }
 
-    // The query with its survey and its places.
-    pub(super) fn surveyed(&self) -> SurveyedQuery<'_>
+    /// The query with its survey and all of its places. It is lent to the crates above; no user
+    /// needs it.
+    pub fn surveyed(&self) -> SurveyedQuery<'_>
         ensures query { result.query.now ≡ self.now.query }
         ensures mode { result.no_backslash_escape ≡ self.now.mode }
+        ensures places { OnTokens self.now.mode self.now.query (λ ts.
+            result.known.now ≡ found_places ts) }
+        ensures survey { OnTokens self.now.mode self.now.query (IsSurvey result.survey) }
     {
         SurveyedQuery {
             query: self.query.as_slice(),

@@ -1,19 +1,32 @@
-use Rattle.std.proofs.Common.{arith, rules}
-use Rattle.mysql_bind_core.proofs.QueryEndLemmas.{passed_none, passed_more, last_end, end_alone, first_is_whole}
+use Rattle.std.proofs.Common.{◌+◌, ℕ, List, arith, drop, rules, subst, sym}
+use Rattle.mysql_named_params.specs.Tokens.{OnTokens}
+use Rattle.mysql_binding.specs.FoundPlaces.{BeginWithPlaces}
+use Rattle.mysql_binding.proofs.SurveyedQueryLemmas.{begin_with}
+use Rattle.mysql_bind_core.proofs.QueryEndLemmas.{passed_none, passed_more, passed_place, ends_with_place, last_end, end_alone, first_is_whole}
 use Rattle.mysql_bind_core.proofs.query_end.open_end.Goals as goal
 
-pub loop-rest-init : goal.loop-rest-init
-loop-rest-init c = passed_none _ _
+pub places-init : goal.places-init
+places-init c = (passed_none _ _, begin_with _ _ _ c.args.surveyed.now.first)
 
 pub open_from-requires : goal.open_from-requires
 open_from-requires c = first_is_whole _ _ _ _ c.first_token-len.ensures c.if-len-rest.true
 
 pub returns-then-len-rest : goal.returns-then-len-rest
 returns-then-len-rest c =
-    last_end _ _ _ _ _ c.loop-rest.invariant (search rules) (omega (arith, c.loop-rest.invariant.within)) c.open_from.ensures
+    last_end _ _ _ _ _ c.tokens.invariant (search rules) (omega (arith, c.tokens.invariant.within)) c.open_from.ensures
 
-pub loop-rest-preserved : goal.loop-rest-preserved
-loop-rest-preserved c = passed_more _ _ _ _ _ c.loop-rest.invariant c.first_token-len.ensures c.if-len-rest.false
+pub tokens-preserved : goal.tokens-preserved
+tokens-preserved c = passed_more _ _ _ _ _ c.tokens.invariant c.first_token-len.ensures c.if-len-rest.false
 
 pub returns : goal.returns
-returns c = end_alone _ _ _ c.loop-rest.invariant (search rules)
+returns c = end_alone _ _ _ c.tokens.invariant (search rules)
+
+pub returns-then-is_empty : goal.returns-then-is_empty
+returns-then-is_empty c =
+    ends_with_place _ _ _ _ _ c.places.invariant.0 c.in-Some.ensures.place c.cut.ensures.after (search rules)
+
+pub places-preserved : goal.places-preserved
+places-preserved c = (
+  passed_place _ _ _ _ _ c.places.invariant.0 c.in-Some.ensures.place c.cut.ensures.after (search rules),
+  subst (λ (x : List ℕ). OnTokens c.args.surveyed.now.no_backslash_escape x (BeginWithPlaces (drop (c.places.passed + 1) c.args.surveyed.now.known.now))) (sym c.cut.ensures.after) c.in-Some.ensures.next,
+)

@@ -1,9 +1,19 @@
-use Rattle.std.proofs.Common.{length}
+use Rattle.std.proofs.Common.{◌-◌, drop, length}
+use Rattle.mysql_named_params.specs.Tokens.{OnTokens}
+use Rattle.mysql_binding.specs.FoundPlaces.{BeginWithPlaces}
 use Rattle.mysql_bind_core.proofs.QueryEndLemmas.{PassedTo}
 use Rattle.mysql_bind_core.proofs.query_end.open_end.Given as goal
 
-abbrev pub invariant-loop-rest : goal.invariant-loop-rest
-invariant-loop-rest l = PassedTo l.no_backslash_escape l.query l.rest
+abbrev pub invariant-places : goal.invariant-places
+invariant-places l =
+    PassedTo l.surveyed.no_backslash_escape l.surveyed.query.now l.rest
+    × OnTokens l.surveyed.no_backslash_escape l.rest (BeginWithPlaces (drop l.passed l.surveyed.known.now))
 
-abbrev pub decreases-loop-rest : goal.decreases-loop-rest
-decreases-loop-rest l = length l.rest
+abbrev pub decreases-places : goal.decreases-places
+decreases-places l = length l.surveyed.known.now - l.passed
+
+abbrev pub invariant-tokens : goal.invariant-tokens
+invariant-tokens l = PassedTo l.surveyed.no_backslash_escape l.surveyed.query.now l.rest
+
+abbrev pub decreases-tokens : goal.decreases-tokens
+decreases-tokens l = length l.rest

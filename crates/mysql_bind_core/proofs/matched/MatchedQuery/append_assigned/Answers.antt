@@ -16,7 +16,7 @@ returns-clause-bound c =
     subst (λ (v : TableQuery). AreAssigned v.columns c.args.cells.now made) c.self.view_is c.in-Ok.ensures in
     let bound : OnOk c.append_text.result ((x : List ℕ) × IsWritten q.request q.query made x × (c.append_text.new.script.items ≡ c.args.script.now.items ++ x)) =
     subst (λ (v : TableQuery). OnOk c.append_text.result ((x : List ℕ) × IsWritten v.request v.query made x × (c.append_text.new.script.items ≡ c.args.script.now.items ++ x)))
-    c.self.view_is (rw (c.query.ensures, c.as_slice.ensures.value) at c.append_text.ensures.bound) in
+    c.self.view_is (rw c.as_slice.ensures.value at c.append_text.ensures.bound) in
     on_ok c.append_text.result _ _
     (λ b. (b.0, λ assignments are. same_written q.request q.query made assignments (said ∙ sym are) b.0 b.1, b.2)) bound
 
@@ -28,5 +28,5 @@ returns-clause-refused c =
     subst (λ (v : TableQuery). AreAssigned v.columns c.args.cells.now made) c.self.view_is c.in-Ok.ensures in
     let refused : IfErr c.append_text.result (IsRefusal q.request q.query made) =
     subst (λ (v : TableQuery). IfErr c.append_text.result (IsRefusal v.request v.query made))
-    c.self.view_is (rw (c.query.ensures, c.as_slice.ensures.value) at c.append_text.ensures.refused) in
+    c.self.view_is (rw c.as_slice.ensures.value at c.append_text.ensures.refused) in
     if_err c.append_text.result _ _ (λ e r assignments are. same_refusal q.request q.query made assignments (said ∙ sym are) e r) refused

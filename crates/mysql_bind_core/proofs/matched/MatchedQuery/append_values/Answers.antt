@@ -10,13 +10,13 @@ pub returns-then-not-no_backslash_escape-clause-bound : goal.returns-then-not-no
 returns-then-not-no_backslash_escape-clause-bound c = λ done.
     let q = c.args.self.now in
     let told = c.in_ok-append_cells.ensures in
-    let bound = told.bound c.if-not-branch.false in
-    let mode = sym (c.if-not-no_backslash_escape.ensures ∙ ap (λ (v : TableQuery). mode_of v.request.literals) c.self.view_is) in (
+    let bound = told.bound c.in-Written.is in
+    let mode = sym (c.if-not-no_backslash_escape.ensures ∙ ap (λ r. mode_of r.literals) c.request-request.ensures.request ∙ ap (λ (v : TableQuery). mode_of v.request.literals) c.self.view_is) in (
       bound.0,
       λ assignments are. record {
         taken = told.taken;
         assigned = bound.1 assignments are;
-        portable_text = c.values_are_sent.ensures q.request q.query bound.0 assignments (told.values c.if-not-branch.false assignments are) mode told.taken (bound.1 assignments are);
+        portable_text = c.values_are_sent.ensures q.request q.query bound.0 assignments (told.values c.in-Written.is assignments are) mode told.taken (bound.1 assignments are);
       },
       bound.2,
     )
@@ -31,10 +31,10 @@ text_behind start old slice after text s a b =
 pub returns-then-is_none-clause-bound : goal.returns-then-is_none-clause-bound
 returns-then-is_none-clause-bound c = λ done.
     let told = c.in_ok-append_cells.ensures in
-    let bound = told.bound c.if-not-branch.false in
+    let bound = told.bound c.in-Written.is in
     let behind = text_behind c.len-start.result c.args.script.now.items c.as_slice.result.now c.append_cells.new.script.items bound.0 (c.len-start.ensures ∙ c.args.script.now.ok.0) c.as_slice.ensures.value bound.2 in
-    let found : IsPortableIfWanted c.self.inside.request bound.0 =
-    subst (IsPortableIfWanted c.self.inside.request) behind (c.found_in_text.ensures.none (absent_key c.found_in_text.result c.if-is_none.ensures)) in
+    let found : IsPortableIfWanted c.self.inside.taken.request bound.0 =
+    subst (IsPortableIfWanted c.self.inside.taken.request) behind (subst (λ r. IsPortableIfWanted r (take (length c.as_slice.result.now - c.len-start.result) (drop c.len-start.result c.as_slice.result.now))) c.request-request.ensures.request (c.found_in_text.ensures.none (absent_key c.found_in_text.result c.if-is_none.ensures))) in
     let portable : IsPortableIfWanted c.args.self.now.request bound.0 = subst (λ (v : TableQuery). IsPortableIfWanted v.request bound.0) c.self.view_is found in (
       bound.0,
       λ assignments are. record { taken = told.taken; assigned = bound.1 assignments are; portable_text = portable },

@@ -1,7 +1,0 @@
-use Rattle.std.proofs.Common.{◌≡◌, drop, map}
-use Rattle.mysql_program.specs.WordErrors.{seen_pair}
-use Rattle.mysql_bind_core.specs.FoundPairs.{are_distinct}
-use Rattle.mysql_bind_core.proofs.appended.are_distinct.Given as goal
-
-abbrev pub invariant-loop-i : goal.invariant-loop-i
-invariant-loop-i l = are_distinct (map seen_pair (drop l.i l.pairs)) ≡ are_distinct (map seen_pair l.pairs)

@@ -1,0 +1,32 @@
+use Rattle.std.specs.Prelude.{Option, Some, None}
+use Rattle.std.specs.Global.{Vec}
+use Rattle.std.specs.Option.{IfSome}
+use Rattle.std.proofs.Common.{◌≡◌, ◌<◌, ℕ, List, true, length, refl, subst, sym, arith}
+use Rattle.std.proofs.lemmas.List.{length-map}
+use Rattle.mysql_named_params.specs.Places.{names}
+use Rattle.mysql_named_params.specs.Tokens.{OnTokens}
+use Rattle.mysql_params_core.specs.Referents.{referents}
+use Rattle.mysql_binding.specs.ParsedQuery.{QueryInMode}
+use Rattle.mysql_bind_core.specs.Bound.{IsTaken}
+use Rattle.mysql_bind_core.specs.Cells.{AreNumbersOf, are_distinct_names}
+use Rattle.mysql_bind_core.specs.MatchedQuery.{HaveNumbers}
+use Rattle.mysql_bind_core.specs.TakenQuery.{RequestedQuery, in_its_mode}
+use Rattle.mysql_bind_core.proofs.matched.MatchedQuery.with_columns.Goals as goal
+
+have_numbers : (query : QueryInMode) (columns : List (List ℕ)) (count : ℕ) (numbers : Option (Vec ℕ)) → length columns ≡ count →
+    IfSome numbers (λ n. are_distinct_names columns ≡ true) → IfSome numbers (λ n. 0 < count) → IfSome numbers (λ n. 0 < length n.items) →
+    IfSome numbers (λ n. OnTokens query.mode query.query (λ ts. AreNumbersOf columns (names ts) n.items)) →
+    IfSome numbers (λ n. HaveNumbers query columns n.items)
+have_numbers query columns count None e distinct some asked are = tt
+have_numbers query columns count (Some n) e distinct some asked are = record { some = omega (arith, some, e); asked = asked; distinct = distinct; are = are }
+
+pub invariant_of-result : goal.invariant_of-result
+invariant_of-result c =
+    let taken = c.in_ok-taken.taken in
+    let parsed = c.parsed.result.now in
+    let same : parsed ≡ in_its_mode taken = rw (sym c.parsed.ensures.query, sym c.parsed.ensures.mode) refl in
+    record {
+      is_taken = subst (λ (w : RequestedQuery). IsTaken w.request w.query) (sym c.in_ok-taken.ensures.query) c.in_ok-taken.ensures.taken;
+      numbered = subst (λ (q : QueryInMode). IfSome c.in-Ok.numbers (λ n. HaveNumbers q (referents c.args.columns.now) n.items)) same
+          (have_numbers parsed (referents c.args.columns.now) (length c.args.columns.now) c.in-Ok.numbers (length-map c.args.columns.now (λ r. r.now)) c.in-Ok.ensures.distinct c.in-Ok.ensures.some c.in-Ok.ensures.asked c.in-Ok.ensures.numbers);
+    }

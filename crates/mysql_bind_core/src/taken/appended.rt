@@ -1,0 +1,300 @@
+//! The texts of many rows for one query, each written to the end of a script. What depends on the
+//! query alone, as its places and names, is found once before, and a value is looked for among the
+//! few of its row, without a map.
+ghost use Rattle.std.specs.Prelude.{◌≡◌, ◌++◌, ◌<◌, ℕ, false, true, List, length, map, option_map, IfOk, IfErr, IfSome, IsTrue, IsFalse, OnErr, OnOk};
+ghost use Rattle.mysql_named_params.specs.Tokens.{OnTokens};
+ghost use Rattle.mysql_named_params.specs.Places.{names};
+ghost use Rattle.mysql_params_core.specs.Given.{Given};
+ghost use Rattle.mysql_params_core.specs.Referents.{referents};
+ghost use Rattle.mysql_values.specs.BorrowedValue.{owned_values};
+ghost use Rattle.mysql_binding.specs.AppendedText.{AreFound};
+ghost use Rattle.mysql_program.specs.WordErrors.{seen_pair};
+ghost use Rattle.mysql_bind_core.specs.Assignments.{given_of, pairs_of};
+ghost use Rattle.mysql_bind_core.specs.Contents.{has_fragment};
+ghost use Rattle.mysql_bind_core.specs.Bound.{IsAssignedText, IsTextFor, IsValuesText, IsWritten};
+ghost use Rattle.mysql_bind_core.specs.FoundPairs.{AreValuesIn, IsTextAppended, are_distinct, value_in};
+ghost use Rattle.mysql_bind_core.specs.Refusals.{IsRefusal};
+ghost use Rattle.mysql_bind_core.specs.Requests.{mode_of};
+
+use crate::assignment::{Assignment, PairsError, pairs_of};
+use crate::entries::has_fragment;
+use crate::failure::Failure;
+use crate::laws::values_are_sent;
+use crate::request::Literals;
+use crate::taken::TakenQuery;
+use crate::taken::text::found_in_text;
+use mysql_binding::{BindError, PlainForm, append_parsed};
+use mysql_steady_text::SteadyForm;
+use mysql_values::value::{Value, ValueRef};
+use std::alloc::{AllocError, Global};
+
+// Among more pairs than these a value is looked for in a map.
+const FEW: usize = 16;
+
+/// What the short way to a row's text came to.
+#[derive(Debug, Clone, Copy)]
+pub(crate) enum Attempt {
+    /// The text stands at the end of the script.
+    Written,
+    /// Nothing was written: the row isn't one for this way, or its text is refused. The way by the
+    /// text of its assignments tells which.
+    Left,
+}
+
+impl<'q> TakenQuery<'q> {
+    /// Writes the text, as [`TakenQuery::text`] gives it, to the end of a script; if it refuses, the
+    /// script stays as it is. The names are those of the query, which are listed once for many
+    /// rows. Lent to the crate above.
+    pub fn append(
+        &self,
+        alloc: Global,
+        query_names: &[&[u8]],
+        assignments: &[Assignment],
+        script: &mut Vec<u8>,
+    ) -> Result<(), Failure>
+        requires { OnTokens (mode_of self.now.request.literals) self.now.query (λ ts.
+            referents query_names.now ≡ names ts) }
+        ensures bound { OnOk result ((text : List ℕ)
+            × IsWritten self.now.request self.now.query assignments.now text
+            × (script.new.items ≡ script.old.items ++ text)) }
+        ensures refused { IfErr result
+            (IsRefusal self.now.request self.now.query assignments.now) }
+        ensures kept { OnErr result (script.new.items ≡ script.old.items) }
+    {
+        match self.append_values(alloc, query_names, assignments, script) {
+            Ok(Attempt::Written) => Ok(()),
+            Ok(Attempt::Left) => self.append_text(alloc, assignments, script),
+            Err(error) => Err(Failure::Memory(error)),
+        }
+    }
+
+    // Writes the text to the end of the script by a vector of its own.
+    pub(crate) fn append_text(
+        &self,
+        alloc: Global,
+        assignments: &[Assignment],
+        script: &mut Vec<u8>,
+    ) -> Result<(), Failure>
+        ensures bound { OnOk result ((text : List ℕ)
+            × IsWritten self.now.request self.now.query assignments.now text
+            × (script.new.items ≡ script.old.items ++ text)) }
+        ensures refused { IfErr result
+            (IsRefusal self.now.request self.now.query assignments.now) }
+        ensures kept { OnErr result (script.new.items ≡ script.old.items) }
+    {
+        match self.text(alloc, assignments) {
+            Ok(text) => match script.extend_from_slice(text.as_slice()) {
+                Ok(()) => Ok(()),
+                Err(error) => Err(Failure::Memory(error)),
+            },
+            Err(failure) => Err(failure),
+        }
+    }
+
+    // Writes the text of a few values with names, each of which comes once. It leaves others, a
+    // text that can't be written, and one that a client would change.
+    fn append_values(
+        &self,
+        alloc: Global,
+        query_names: &[&[u8]],
+        assignments: &[Assignment],
+        script: &mut Vec<u8>,
+    ) -> Result<Attempt, AllocError>
+        requires { OnTokens (mode_of self.now.request.literals) self.now.query (λ ts.
+            referents query_names.now ≡ names ts) }
+        ensures bound { IfOk result (λ attempt. attempt ≡ Attempt.Written → (text : List ℕ)
+            × IsWritten self.now.request self.now.query assignments.now text
+            × (script.new.items ≡ script.old.items ++ text)) }
+        ensures kept { IfOk result (λ attempt. attempt ≡ Attempt.Left →
+            script.new.items ≡ script.old.items) }
+        ensures refused { OnErr result (script.new.items ≡ script.old.items) }
+    {
+        let start = script.len();
+        match self.append_assigned(alloc, query_names, assignments, script)? {
+            Attempt::Left => return Ok(Attempt::Left),
+            Attempt::Written => {}
+        }
+        if !self.request.literals.no_backslash_escape() {
+            values_are_sent();
+            return Ok(Attempt::Written);
+        }
+        if found_in_text(&script.as_slice()[start..], self.request).is_none() {
+            return Ok(Attempt::Written);
+        }
+        script.truncate(start);
+        Ok(Attempt::Left)
+    }
+
+    // The same, whether or not the text is portable. What is written has no fragment.
+    fn append_assigned(
+        &self,
+        alloc: Global,
+        query_names: &[&[u8]],
+        assignments: &[Assignment],
+        script: &mut Vec<u8>,
+    ) -> Result<Attempt, AllocError>
+        requires { OnTokens (mode_of self.now.request.literals) self.now.query (λ ts.
+            referents query_names.now ≡ names ts) }
+        ensures bound { IfOk result (λ attempt. attempt ≡ Attempt.Written → (text : List ℕ)
+            × IsAssignedText self.now.request self.now.query assignments.now text
+            × (script.new.items ≡ script.old.items ++ text)) }
+        ensures values { IfOk result (λ attempt. attempt ≡ Attempt.Written →
+            has_fragment assignments.now ≡ false) }
+        ensures kept { IfOk result (λ attempt. attempt ≡ Attempt.Left →
+            script.new.items ≡ script.old.items) }
+        ensures refused { OnErr result (script.new.items ≡ script.old.items) }
+    {
+        if !are_few_values(query_names, assignments) {
+            return Ok(Attempt::Left);
+        }
+        match pairs_of(alloc, assignments) {
+            Ok(pairs) => self.append_pairs(alloc, query_names, pairs.as_slice(), script),
+            Err(PairsError::NoValue) => Ok(Attempt::Left),
+            Err(PairsError::Memory(error)) => Err(error),
+        }
+    }
+
+    // The same of pairs of a name and a value.
+    fn append_pairs(
+        &self,
+        alloc: Global,
+        query_names: &[&[u8]],
+        pairs: &[(&[u8], Value)],
+        script: &mut Vec<u8>,
+    ) -> Result<Attempt, AllocError>
+        requires names { OnTokens (mode_of self.now.request.literals) self.now.query (λ ts.
+            referents query_names.now ≡ names ts) }
+        requires asked { 0 < length query_names.now }
+        ensures bound { IfOk result (λ attempt. attempt ≡ Attempt.Written →
+            IsTextAppended self.now.request self.now.query (map seen_pair pairs.now)
+            script.old.items script.new.items) }
+        ensures kept { IfOk result (λ attempt. attempt ≡ Attempt.Left →
+            script.new.items ≡ script.old.items) }
+        ensures refused { OnErr result (script.new.items ≡ script.old.items) }
+    {
+        if !are_some_and_distinct(pairs) {
+            return Ok(Attempt::Left);
+        }
+        // Called for what it ensures: the request takes the query, which so has no mark.
+        self.request();
+        match values_in(alloc, query_names, pairs) {
+            Ok(found) => match found {
+                Some(values) => self.append_found(alloc, values, script),
+                None => Ok(Attempt::Left),
+            },
+            Err(error) => Err(error),
+        }
+    }
+
+    // Writes the text of values that are found, unless it can't be written.
+    pub(crate) fn append_found(
+        &self,
+        alloc: Global,
+        values: Vec<ValueRef<'_>>,
+        script: &mut Vec<u8>,
+    ) -> Result<Attempt, AllocError>
+        requires { (given : Given) × OnTokens (mode_of self.now.request.literals) self.now.query
+            (AreFound given (owned_values values.items)) }
+        ensures bound { IfOk result (λ attempt. attempt ≡ Attempt.Written → (text : List ℕ)
+            × (script.new.items ≡ script.old.items ++ text) × ((given : Given) →
+            OnTokens (mode_of self.now.request.literals) self.now.query
+            (AreFound given (owned_values values.entry.items)) →
+            OnTokens (mode_of self.now.request.literals) self.now.query (λ ts.
+            IsTextFor self.now.request.literals self.now.request.portability self.now.query ts
+            given text))) }
+        ensures kept { IfOk result (λ attempt. attempt ≡ Attempt.Left →
+            script.new.items ≡ script.old.items) }
+        ensures refused { OnErr result (script.new.items ≡ script.old.items) }
+    {
+        match self.request.literals {
+            Literals::Plain {
+                no_backslash_escape,
+            } => {
+                let form = PlainForm {
+                    no_backslash_escape,
+                };
+                attempt_of(append_parsed(alloc, &self.parsed, values, &form, script))
+            }
+            Literals::Steady => attempt_of(append_parsed(
+                alloc,
+                &self.parsed,
+                values,
+                &SteadyForm,
+                script,
+            )),
+        }
+    }
+}
+
+// Whether a text was written; out of memory stays out of memory.
+fn attempt_of(written: Result<(), BindError>) -> Result<Attempt, AllocError>
+    ensures done { IfOk result (λ attempt. attempt ≡ Attempt.Written → OnErr written ⊥) }
+    ensures undone { IfOk result (λ attempt. attempt ≡ Attempt.Left → OnOk written ⊥) }
+    ensures refused { OnErr result (OnOk written ⊥) }
+{
+    match written {
+        Ok(()) => Ok(Attempt::Written),
+        Err(BindError::Memory(error)) => Err(error),
+        Err(_) => Ok(Attempt::Left),
+    }
+}
+
+// Whether a row has few values, and nothing else, for a query with names. It is asked before pairs
+// are made, which would be of no use otherwise.
+fn are_few_values(query_names: &[&[u8]], assignments: &[Assignment]) -> bool
+    ensures asked { IsTrue result → 0 < length query_names.now }
+    ensures values { IsTrue result → has_fragment assignments.now ≡ false }
+{
+    !query_names.is_empty() && assignments.len() <= FEW && !has_fragment(assignments)
+}
+
+// The values, borrowed, of the pairs with these names, if each name has one.
+fn values_in<'v>(
+    alloc: Global,
+    names: &[&[u8]],
+    pairs: &'v [(&[u8], Value)],
+) -> Result<Option<Vec<ValueRef<'v>>>, AllocError>
+    ensures { IfOk result (λ found. IfSome found (λ values.
+        AreValuesIn (map seen_pair pairs.now) (referents names.now) (owned_values values.items))) }
+{
+    let mut values = Vec::with_capacity(alloc, names.len())?;
+    for name in names {
+        match value_in(pairs, *name) {
+            Some(value) => values.push(value.borrowed())?,
+            None => return Ok(None),
+        }
+    }
+    Ok(Some(values))
+}
+
+// Whether there are pairs, and no name stands in two.
+fn are_some_and_distinct(pairs: &[(&[u8], Value)]) -> bool
+    ensures some { IsTrue result → 0 < length pairs.now }
+    ensures distinct { IsTrue result → are_distinct (map seen_pair pairs.now) ≡ true }
+{
+    !pairs.is_empty() && are_distinct(pairs)
+}
+
+// Whether no name stands in two pairs.
+fn are_distinct(pairs: &[(&[u8], Value)]) -> bool
+    ensures { result ≡ are_distinct (map seen_pair pairs.now) }
+{
+    for (i, pair) in pairs.iter().enumerate() {
+        if value_in(&pairs[i + 1..], pair.0).is_some() {
+            return false;
+        }
+    }
+    true
+}
+
+// The value of the first pair with this name.
+fn value_in<'v>(pairs: &'v [(&[u8], Value)], name: &[u8]) -> Option<&'v Value>
+    ensures { option_map (λ value. value.now) result ≡ value_in (map seen_pair pairs.now) name.now }
+{
+    for pair in pairs {
+        if name == pair.0 {
+            return Some(&pair.1);
+        }
+    }
+    None
+}
