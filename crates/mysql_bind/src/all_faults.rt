@@ -7,10 +7,10 @@ use crate::rewritten::in_single_quotes;
 use crate::values::Values;
 use mysql_bind_core::{Failure, Request, TakenQuery};
 use mysql_binding::SurveyedQuery;
-use mysql_named_params::client::first_unportable_in_client;
-use mysql_named_params::portable::{Construct, Unportable};
-use mysql_named_params::steady::first_unsteady;
 use mysql_named_params::tokens::first_token;
+use mysql_portable::client::first_unportable_in_client;
+use mysql_portable::portable::{Construct, Unportable};
+use mysql_portable::steady::first_unsteady;
 use std::alloc::{AllocError, Global};
 
 /// Adds what is wrong with a query that is refused for this: all unsteady bytes, all constructs, or

@@ -4,7 +4,7 @@ use crate::matching::assignment_numbers;
 use crate::query_file::{PlaceAt, places_of};
 use mysql_bind_core::{Assignment, Failure, Portability, Request, ValueType, bound_text};
 use mysql_binding::ParsedQuery;
-use mysql_named_params::portable::{Construct, Unportable};
+use mysql_portable::portable::{Construct, Unportable};
 use mysql_values::show::Shown;
 use std::alloc::{AllocError, Global};
 

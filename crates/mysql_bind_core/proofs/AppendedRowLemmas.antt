@@ -4,10 +4,10 @@ use Rattle.std.proofs.Common.{◌≡◌, ◌++◌, ℕ, List, refl, sym, ap, ◌
 use Rattle.mysql_values.specs.declared.value.Value.{Value}
 use Rattle.mysql_values.specs.Literal.{literal_of}
 use Rattle.mysql_named_params.specs.Tokens.{OnTokens}
-use Rattle.mysql_named_params.specs.Steady.{IsSteady}
-use Rattle.mysql_named_params.specs.FirstUnportableInClient.{IsPortableInClient}
-use Rattle.mysql_named_params.proofs.SteadyLemmas.{steady_other}
 use Rattle.mysql_named_params.proofs.TokenListLemmas.{one_token_list}
+use Rattle.mysql_portable.specs.Steady.{IsSteady}
+use Rattle.mysql_portable.specs.FirstUnportableInClient.{IsPortableInClient}
+use Rattle.mysql_portable.proofs.SteadyLemmas.{steady_other}
 use Rattle.mysql_params_core.specs.Given.{Given}
 use Rattle.mysql_binding.specs.AppendedText.{AreFound, IsAppended}
 use Rattle.mysql_binding.specs.FirstCause.{mixed_cause}

@@ -1,11 +1,11 @@
 -- What is known of a query that is taken, as contracts see it.
 use Rattle.std.proofs.Common.{◌≡◌, ◌∙◌, ℕ, Bool, List, None, refl, sym, ap, subst}
 use Rattle.mysql_values.specs.Literal.{literal_of}
-use Rattle.mysql_named_params.specs.FirstUnportableInClient.{IsPortableInClient}
 use Rattle.mysql_named_params.specs.Tokens.{Token, IsTokens, OnTokens}
-use Rattle.mysql_named_params.proofs.SteadyLemmas.{none_unsteady}
 use Rattle.mysql_named_params.proofs.TokenListLemmas.{one_token_list}
-use Rattle.mysql_named_params.proofs.UnportableLemmas.{portable_has_none}
+use Rattle.mysql_portable.specs.FirstUnportableInClient.{IsPortableInClient}
+use Rattle.mysql_portable.proofs.SteadyLemmas.{none_unsteady}
+use Rattle.mysql_portable.proofs.UnportableLemmas.{portable_has_none}
 use Rattle.mysql_params_core.specs.Given.{Given}
 use Rattle.mysql_binding.specs.BindErrors.{IsCauseOrMemory}
 use Rattle.mysql_binding.specs.FirstCause.{first_cause}

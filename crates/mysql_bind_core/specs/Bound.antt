@@ -4,8 +4,8 @@ use Rattle.std.specs.Prelude.{◌≡◌, ℕ, true, false, List, ◌++◌, map, 
 use Rattle.mysql_values.specs.declared.value.Value.{Value}
 use Rattle.mysql_named_params.specs.Tokens.{Token, OnTokens}
 use Rattle.mysql_named_params.specs.Places.{marks}
-use Rattle.mysql_named_params.specs.Steady.{IsSteady}
-use Rattle.mysql_named_params.specs.FirstUnportableInClient.{IsPortableInClient}
+use Rattle.mysql_portable.specs.Steady.{IsSteady}
+use Rattle.mysql_portable.specs.FirstUnportableInClient.{IsPortableInClient}
 use Rattle.mysql_params_core.specs.Given.{Given}
 use Rattle.mysql_binding.specs.Isolation.{IsBoundText}
 use Rattle.mysql_fragments.specs.GivenFragments.{FragmentMap, named}

@@ -1,7 +1,7 @@
 -- The tokens of a text by those of its query, and its statements by those of the query.
 use Rattle.std.specs.Prelude.{◌≡◌, ℕ, Bool, List, Some}
 use Rattle.mysql_named_params.specs.Tokens.{Token}
-use Rattle.mysql_named_params.specs.Statements.{statements}
+use Rattle.mysql_portable.specs.Statements.{statements}
 use Rattle.mysql_binding.specs.BoundStatements.{statements_with_literals}
 use Rattle.mysql_binding.specs.Pieces.{pieces, joined_text}
 use Rattle.mysql_binding.specs.Replaced.{AreTokensOf, with_literal_tokens}

@@ -8,9 +8,9 @@ use crate::failure::Failure;
 use crate::query_end::open_end;
 use crate::request::{Literals, Portability, Request};
 use mysql_binding::SurveyedQuery;
-use mysql_named_params::clear::is_clear_in_client;
-use mysql_named_params::client::first_unportable_in_client;
-use mysql_named_params::steady::first_unsteady;
+use mysql_portable::clear::is_clear_in_client;
+use mysql_portable::client::first_unportable_in_client;
+use mysql_portable::steady::first_unsteady;
 
 // Whether the request takes a query that is surveyed in its mode.
 pub(crate) fn check_surveyed(query: &SurveyedQuery<'_>, request: Request) -> Result<(), Failure>

@@ -1,9 +1,9 @@
 //! Laws of what is written. They do nothing: each is called for what it ensures.
 ghost use Rattle.std.specs.Prelude.{◌≡◌, ◌<◌, ◌^◌, ℕ, Bool, false, List, All, length};
 ghost use Rattle.mysql_named_params.specs.Tokens.{Token, OnTokens};
-ghost use Rattle.mysql_named_params.specs.Quiet.{DecidesWithin, IsHonest};
-ghost use Rattle.mysql_named_params.specs.Client.{Client, IsReadBy};
-ghost use Rattle.mysql_named_params.specs.Statements.{statements};
+ghost use Rattle.mysql_portable.specs.Quiet.{DecidesWithin, IsHonest};
+ghost use Rattle.mysql_portable.specs.Client.{Client, IsReadBy};
+ghost use Rattle.mysql_portable.specs.Statements.{statements};
 ghost use Rattle.mysql_bind_core.specs.Bound.{IsAssignedText, IsPortableIfWanted, IsTaken, IsWritten};
 ghost use Rattle.mysql_bind_core.specs.Cells.{AreAssigned};
 ghost use Rattle.mysql_bind_core.specs.Contents.{has_fragment};

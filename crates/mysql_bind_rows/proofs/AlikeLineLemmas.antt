@@ -5,10 +5,10 @@ use Rattle.std.specs.Str.{byte}
 use Rattle.std.proofs.lemmas.Bool.{and_from, and_parts, and_left, and_right, or_cases, or_right}
 use Rattle.mysql_named_params.specs.Bytes.{asterisk, colon, dash, exclamation_mark, newline, plus, question_mark, slash, is_start_byte, begins}
 use Rattle.mysql_named_params.specs.Tokens.{Token, text_of, text_then, QuotedString, HashComment, DashComment, BlockComment, Plain}
-use Rattle.mysql_named_params.specs.Server.{begins_place, begins_tag, begins_dashes, begins_exponent_dashes, begins_fraction, begins_own, begins_special}
-use Rattle.mysql_named_params.specs.Quiet.{stands_apart, closes, ends_version, is_version, is_loud, is_quiet, begins_quiet}
-use Rattle.mysql_named_params.specs.Portable.{may_open_line, differs_at, is_read_alike, AreReadAlike, AreReadAlikeBefore}
 use Rattle.mysql_named_params.proofs.TokenRowLemmas.{text_then-append}
+use Rattle.mysql_portable.specs.Server.{begins_place, begins_tag, begins_dashes, begins_exponent_dashes, begins_fraction, begins_own, begins_special}
+use Rattle.mysql_portable.specs.Quiet.{stands_apart, closes, ends_version, is_version, is_loud, is_quiet, begins_quiet}
+use Rattle.mysql_portable.specs.Portable.{may_open_line, differs_at, is_read_alike, AreReadAlike, AreReadAlikeBefore}
 use Rattle.mysql_bind_rows.specs.ScriptTokens.{AreLinesReadAlike, has_newline, script_tokens, semicolon, statement_tokens, then_newline, tokens_of_statements, with_newline, word_tokens}
 use Rattle.mysql_bind_rows.proofs.LineLemmas.{newline_then}
 

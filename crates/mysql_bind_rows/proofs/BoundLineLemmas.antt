@@ -3,12 +3,12 @@ use Rattle.std.specs.Prelude.{Bool}
 use Rattle.std.proofs.Common.{◌≡◌, ◌++◌, ℕ, true, false, List, [], ◌∷◌, map, refl, sym, subst}
 use Rattle.std.specs.List.{list_all}
 use Rattle.mysql_named_params.specs.Bytes.{newline, question_mark}
-use Rattle.mysql_named_params.specs.Steady.{holds_no_escape, HoldNoEscapes, is_steady}
 use Rattle.mysql_named_params.specs.Tokens.{Token, IsTokens, AreTokensBefore, text_then, QuotedString, QuotedIdentifier, HashComment, DashComment, BlockComment, Name, Mark, Plain}
-use Rattle.mysql_named_params.proofs.OtherModeLemmas.{tokens_before_other}
-use Rattle.mysql_named_params.proofs.SteadyLemmas.{steady_tokens}
 use Rattle.mysql_named_params.proofs.TokenEnds.{plain_at}
 use Rattle.mysql_named_params.proofs.TokenRowLemmas.{text_then-append, AreTokensBefore-after}
+use Rattle.mysql_portable.specs.Steady.{holds_no_escape, HoldNoEscapes, is_steady}
+use Rattle.mysql_portable.proofs.OtherModeLemmas.{tokens_before_other}
+use Rattle.mysql_portable.proofs.SteadyLemmas.{steady_tokens}
 use Rattle.mysql_params_core.specs.Given.{Given}
 use Rattle.mysql_binding.specs.Isolation.{IsBoundText}
 use Rattle.mysql_binding.specs.Replaced.{AreLiterals, AreTokensOf, with_literal_tokens}

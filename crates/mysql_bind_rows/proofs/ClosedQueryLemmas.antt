@@ -11,8 +11,8 @@ use Rattle.mysql_bind_rows.specs.ScriptTokens.{semicolon}
 use Rattle.mysql_bind_core.specs.QueryEnd.{end, last_at, long_end, long_end_from}
 use Rattle.mysql_bind_core.proofs.NewlineLemmas.{token_without_newline}
 use Rattle.mysql_bind_rows.proofs.LineLemmas.{line_end, EndClosed, ends_before}
-use Rattle.mysql_named_params.proofs.OtherModeLemmas.{all_parts}
 use Rattle.mysql_named_params.proofs.TokenListLemmas.{one_token_list, some_byte}
+use Rattle.mysql_portable.proofs.OtherModeLemmas.{all_parts}
 
 -- ---- two fronts of one text
 

@@ -4,9 +4,9 @@ use Rattle.std.proofs.Common.{◌≡◌, ◌+◌, ◌++◌, ◌==◌, ℕ, true,
 use Rattle.std.specs.Str.{byte}
 use Rattle.std.proofs.lemmas.Bool.{cases_Bool}
 use Rattle.mysql_named_params.specs.Bytes.{newline}
-use Rattle.mysql_named_params.specs.Statements.{in_first, statements}
 use Rattle.mysql_named_params.specs.Tokens.{Token, HashComment, DashComment, Plain}
-use Rattle.mysql_named_params.proofs.StatementLemmas.{length-in_first}
+use Rattle.mysql_portable.specs.Statements.{in_first, statements}
+use Rattle.mysql_portable.proofs.StatementLemmas.{length-in_first}
 use Rattle.mysql_bind_rows.specs.ScriptTokens.{count_of_statements, has_newline, script_tokens, semicolon, statement_tokens, then_newline, tokens_of_statements, with_newline, word_tokens}
 
 -- as many statements as these tokens have

@@ -6,11 +6,11 @@ use Rattle.std.proofs.Common.{◌≡◌, ◌++◌, ◌==◌, ◌||◌, ℕ, true
 use Rattle.std.proofs.lemmas.Bool.{cases_Bool}
 use Rattle.std.proofs.lemmas.List.Folds.{list_any-append}
 use Rattle.mysql_named_params.specs.Bytes.{dash, hash, newline}
-use Rattle.mysql_named_params.specs.Client.{HoldNoOpener}
-use Rattle.mysql_named_params.specs.FirstUnportableInClient.{AreSentAsTheyAre, AreSentAsTheyAreFrom, IsPortableInClient}
-use Rattle.mysql_named_params.specs.FoundInClient.{begins_statement, begins_line, found_in_client, is_client_word}
 use Rattle.mysql_named_params.specs.Tokens.{Token, OnTokens, text_of, QuotedString, QuotedIdentifier, HashComment, DashComment, BlockComment, Name, Mark, Plain}
 use Rattle.mysql_named_params.proofs.TokenListLemmas.{one_token_list}
+use Rattle.mysql_portable.specs.Client.{HoldNoOpener}
+use Rattle.mysql_portable.specs.FirstUnportableInClient.{AreSentAsTheyAre, AreSentAsTheyAreFrom, IsPortableInClient}
+use Rattle.mysql_portable.specs.FoundInClient.{begins_statement, begins_line, found_in_client, is_client_word}
 use Rattle.mysql_binding.specs.Replaced.{AreTokensOf}
 use Rattle.mysql_binding.proofs.SentLiteralLemmas.{AreSentBefore-append, line_after-append, statement_after-append}
 use Rattle.mysql_binding.proofs.SentTextLemmas.{AreSentBefore, found_moves, line_after, no_word_found, none_from, none_parts, statement_after, up_to_line}

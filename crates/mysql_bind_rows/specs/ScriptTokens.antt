@@ -3,11 +3,11 @@
 use Rattle.std.specs.Prelude.{◌≡◌, ◌==◌, ◌+◌, ◌++◌, ℕ, Bool, List, [], ◌∷◌, length, map, codes, if◌then◌else◌, ⊤}
 use Rattle.std.specs.List.{list_any}
 use Rattle.mysql_named_params.specs.Bytes.{newline}
-use Rattle.mysql_named_params.specs.Client.{HoldNoOpener}
-use Rattle.mysql_named_params.specs.FirstUnportableInClient.{AreSentAsTheyAre}
-use Rattle.mysql_named_params.specs.Portable.{AreReadAlike}
-use Rattle.mysql_named_params.specs.Statements.{statements}
 use Rattle.mysql_named_params.specs.Tokens.{Token, HashComment, DashComment, Plain}
+use Rattle.mysql_portable.specs.Client.{HoldNoOpener}
+use Rattle.mysql_portable.specs.FirstUnportableInClient.{AreSentAsTheyAre}
+use Rattle.mysql_portable.specs.Portable.{AreReadAlike}
+use Rattle.mysql_portable.specs.Statements.{statements}
 use Rattle.mysql_bind_core.specs.declared.request.Literals.{Literals}
 use Rattle.mysql_bind_core.specs.declared.request.Literals.TheVariants as literals
 
@@ -61,7 +61,7 @@ abbrev pub IsSentByClient : List Token → Type 0
 IsSentByClient ts = HoldNoOpener ts × AreSentAsTheyAre ts
 
 -- how many statements these texts have together, as clients cut them (Statements.antt of
--- mysql_named_params)
+-- mysql_portable)
 abbrev pub count_of_statements : List (List Token) → ℕ
 count_of_statements [] = 0
 count_of_statements (ts ∷ lists) = length (statements ts) + count_of_statements lists

@@ -1,8 +1,8 @@
 //! Laws of scripts. They do nothing: each is called for what it ensures.
 ghost use Rattle.std.specs.Prelude.{◌≡◌, ◌+◌, ◌++◌, ◌∷◌, ℕ, Bool, List, [], if◌then◌else◌, length};
-ghost use Rattle.mysql_named_params.specs.Portable.{AreReadAlike};
-ghost use Rattle.mysql_named_params.specs.Statements.{statements};
 ghost use Rattle.mysql_named_params.specs.Tokens.{Token, IsTokens, OnTokens};
+ghost use Rattle.mysql_portable.specs.Portable.{AreReadAlike};
+ghost use Rattle.mysql_portable.specs.Statements.{statements};
 ghost use Rattle.mysql_binding.specs.Replaced.{AreTokensOf};
 ghost use Rattle.mysql_bind_core.specs.Cells.{AreAssigned, TableQuery};
 ghost use Rattle.mysql_bind_core.specs.Requests.{mode_of};

@@ -3,9 +3,9 @@ use Rattle.std.specs.Prelude.{Bool}
 use Rattle.std.proofs.Common.{◌≡◌, ℕ, List, [], ◌∷◌, Some, sym, subst}
 use Rattle.mysql_named_params.specs.Bytes.{space}
 use Rattle.mysql_named_params.specs.Tokens.{Token, IsTokens}
-use Rattle.mysql_named_params.specs.Server.{Server, IsReadOn}
-use Rattle.mysql_named_params.specs.Portable.{AreReadAlikeBefore, IsReadAs}
-use Rattle.mysql_named_params.specs.Quiet.{IsHonest, DecidesWithin}
+use Rattle.mysql_portable.specs.Server.{Server, IsReadOn}
+use Rattle.mysql_portable.specs.Portable.{AreReadAlikeBefore, IsReadAs}
+use Rattle.mysql_portable.specs.Quiet.{IsHonest, DecidesWithin}
 use Rattle.mysql_binding.specs.Pieces.{pieces, joined_text}
 use Rattle.mysql_binding.specs.Replaced.{AreLiterals, AreTokensOf, with_literal_tokens}
 use Rattle.mysql_binding.specs.ReadOnServer.{AreReadOn}

@@ -6,7 +6,7 @@ use Rattle.mysql_sql_text.specs.InLine.{AreInLine}
 use Rattle.mysql_sql_text.proofs.InLineLemmas.{StandsInLine}
 use Rattle.mysql_named_params.specs.Bytes.{space}
 use Rattle.mysql_named_params.specs.Tokens.{Token, IsTokens}
-use Rattle.mysql_named_params.specs.FirstUnportableInClient.{AreSentAsTheyAre}
+use Rattle.mysql_portable.specs.FirstUnportableInClient.{AreSentAsTheyAre}
 use Rattle.mysql_params_core.specs.Given.{Given}
 use Rattle.mysql_binding.specs.Isolation.{IsBoundText}
 use Rattle.mysql_binding.specs.Replaced.{AreLiterals, AreTokensOf, with_literal_tokens}

@@ -11,9 +11,9 @@ use Rattle.mysql_named_params.specs.Tokens.{closed_string as closed_tail}
 use Rattle.mysql_named_params.proofs.TokenRowLemmas.{text_of-append, AreTokensBefore-append}
 use Rattle.mysql_named_params.specs.Tokens.{Token, text_of, AreTokensBefore, IsTokens, QuotedString, QuotedIdentifier, HashComment, DashComment, BlockComment, Name, Mark, Plain}
 use Rattle.mysql_named_params.specs.Places.{place_count}
-use Rattle.mysql_named_params.specs.Client.{HoldNoOpener}
-use Rattle.mysql_named_params.specs.Statements.{in_first, statements}
 use Rattle.mysql_named_params.proofs.TokenListLemmas.{one_token_list}
+use Rattle.mysql_portable.specs.Client.{HoldNoOpener}
+use Rattle.mysql_portable.specs.Statements.{in_first, statements}
 use Rattle.mysql_binding.specs.Replaced.{AreLiterals, AreTokensOf, with_literal_tokens}
 use Rattle.mysql_binding.specs.BoundStatements.{statements_with_literals}
 use Rattle.mysql_binding.proofs.LiteralTokenLemmas.{is_alphanumeric, other, plain_tokens, plain_text, plain_before, minus_plain, AreDigits-alphanumeric, AreHexadecimalPairs-alphanumeric}

@@ -14,11 +14,11 @@ use Rattle.mysql_named_params.specs.Bytes.{backquote, colon, dash, double_quote,
 use Rattle.mysql_named_params.specs.Tokens.{Token, IsToken, text_of, text_then, AreTokensBefore, QuotedString, Plain}
 use Rattle.mysql_named_params.specs.Tokens.{closed_string as closed_tail}
 use Rattle.mysql_named_params.specs.Places.{place_count}
-use Rattle.mysql_named_params.specs.Portable.{may_open_line}
-use Rattle.mysql_named_params.proofs.PortableLemmas.{is_alike_on_all}
 use Rattle.mysql_named_params.specs.TokensOf.{dash_comment}
 use Rattle.mysql_named_params.proofs.TokenRowLemmas.{text_then-append, text_of-append, AreTokensBefore-append, place_count-append}
 use Rattle.mysql_named_params.proofs.TokenEnds.{plain_at}
+use Rattle.mysql_portable.specs.Portable.{may_open_line}
+use Rattle.mysql_portable.proofs.PortableLemmas.{is_alike_on_all}
 use Rattle.mysql_binding.proofs.UpToSpliceLemmas.{joins_nothing, opens_nothing_after}
 
 -- a digit or a letter

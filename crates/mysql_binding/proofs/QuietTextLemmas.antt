@@ -6,10 +6,10 @@ use Rattle.std.specs.Str.{byte}
 use Rattle.std.proofs.lemmas.Bool.{and_parts, and_right, or_parts, or_cases, or_from, or_right, not-true, not-false, eqb-true}
 use Rattle.mysql_named_params.specs.Bytes.{asterisk, backquote, dash, hash, slash, is_string_quote, is_white_space, begins, IsUpTo, up_to_word, up_to_end}
 use Rattle.mysql_named_params.specs.Tokens.{Token, bytes_of, QuotedString, QuotedIdentifier, HashComment, DashComment, BlockComment, Name, Mark, Plain}
-use Rattle.mysql_named_params.specs.Server.{begins_special, begins_place, begins_own}
-use Rattle.mysql_named_params.specs.Portable.{differs_at, may_open_line, is_read_alike}
-use Rattle.mysql_named_params.specs.Quiet.{is_loud, is_for_client, stands_apart, closes, ends_version, is_version, is_quiet, IsQuietComment, begins_quiet}
-use Rattle.mysql_named_params.proofs.PortableLemmas.{second_false, false_if, is_alike_on_all}
+use Rattle.mysql_portable.specs.Server.{begins_special, begins_place, begins_own}
+use Rattle.mysql_portable.specs.Portable.{differs_at, may_open_line, is_read_alike}
+use Rattle.mysql_portable.specs.Quiet.{is_loud, is_for_client, stands_apart, closes, ends_version, is_version, is_quiet, IsQuietComment, begins_quiet}
+use Rattle.mysql_portable.proofs.PortableLemmas.{second_false, false_if, is_alike_on_all}
 use Rattle.mysql_binding.proofs.UpToSpliceLemmas.{SameUpToSplice, at_end, same, same-append, at_place, last_byte, portable_move, plain_move, same-end, place_byte}
 
 -- ---- a byte that is not loud stays one

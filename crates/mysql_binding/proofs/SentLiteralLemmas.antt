@@ -10,10 +10,10 @@ use Rattle.mysql_sql_text.specs.LiteralShape.{AreDigits, IsClosedString, closed_
 use Rattle.mysql_named_params.specs.Bytes.{asterisk, carriage_return, colon, dash, newline, question_mark, single_quote, slash, begins}
 use Rattle.mysql_named_params.specs.Tokens.{closed_string as closed_tail}
 use Rattle.mysql_named_params.specs.Tokens.{Token, IsTokens, text_of, text_then, AreTokensBefore, QuotedString, Plain}
-use Rattle.mysql_named_params.specs.FoundInClient.{begins_statement, begins_line, begins_no_word, letter_of, is_client_word, drops_line, stand_before_comment, ends_line, escapes_newline, begins_delimiter_line, found_in_quotes, found_word, found_in_client}
-use Rattle.mysql_named_params.proofs.OtherModeLemmas.{all_parts}
 use Rattle.mysql_named_params.proofs.TokenListLemmas.{one_token_list}
 use Rattle.mysql_named_params.proofs.TokenRowLemmas.{text_then-append, text_then-text_of, text_of-append, AreTokensBefore-append}
+use Rattle.mysql_portable.specs.FoundInClient.{begins_statement, begins_line, begins_no_word, letter_of, is_client_word, drops_line, stand_before_comment, ends_line, escapes_newline, begins_delimiter_line, found_in_quotes, found_word, found_in_client}
+use Rattle.mysql_portable.proofs.OtherModeLemmas.{all_parts}
 use Rattle.mysql_sql_text.specs.InLine.{is_in_line}
 use Rattle.mysql_binding.proofs.LiteralTokenLemmas.{is_alphanumeric, other, plain_tokens, plain_text, plain_before, minus_plain, AreDigits-alphanumeric, AreHexadecimalPairs-alphanumeric}
 use Rattle.mysql_binding.proofs.SentTextLemmas.{is_calm_first, begins_calmly, is_word_letter, no_word_found, AreSentBefore, statement_after, line_after, IsSentAt}

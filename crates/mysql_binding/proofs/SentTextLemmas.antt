@@ -10,12 +10,12 @@ use Rattle.std.proofs.lemmas.Bool.{and_parts, cases_Bool, eqb-true, false_from_n
 use Rattle.std.proofs.lemmas.Bool.Decides.{nat_tests}
 use Rattle.mysql_named_params.specs.Bytes.{asterisk, backquote, colon, dash, hash, newline, question_mark, single_quote, slash, underscore, is_start_byte, is_white_space, begins}
 use Rattle.mysql_named_params.specs.Tokens.{Token, IsName, AreTokensBefore, text_of, text_then, bytes_of, QuotedString, QuotedIdentifier, HashComment, DashComment, BlockComment, Name, Mark, Plain}
-use Rattle.mysql_named_params.specs.Server.{begins_place}
-use Rattle.mysql_named_params.specs.Client.{holds_opener}
-use Rattle.mysql_named_params.specs.FoundInClient.{begins_statement, begins_line, letter_of, begins_word, ends_word, begins_whole_word, is_word_of_mariadb, is_word_of_mysql, is_client_word, is_joined, closes_before_joined, drops_line, begins_comment_dashes, begins_comment, stand_before_comment, found_in_comment, found_word, found_at_byte, found_in_token, found_in_client}
-use Rattle.mysql_named_params.specs.FirstUnportableInClient.{AreSentAsTheyAreFrom}
-use Rattle.mysql_named_params.specs.declared.portable.Construct.{Construct}
 use Rattle.mysql_named_params.proofs.TokenRowLemmas.{text_then-append}
+use Rattle.mysql_portable.specs.Server.{begins_place}
+use Rattle.mysql_portable.specs.Client.{holds_opener}
+use Rattle.mysql_portable.specs.FoundInClient.{begins_statement, begins_line, letter_of, begins_word, ends_word, begins_whole_word, is_word_of_mariadb, is_word_of_mysql, is_client_word, is_joined, closes_before_joined, drops_line, begins_comment_dashes, begins_comment, stand_before_comment, found_in_comment, found_word, found_at_byte, found_in_token, found_in_client}
+use Rattle.mysql_portable.specs.FirstUnportableInClient.{AreSentAsTheyAreFrom}
+use Rattle.mysql_portable.specs.declared.portable.Construct.{Construct}
 use Rattle.mysql_binding.specs.Replaced.{with_literal_tokens}
 use Rattle.mysql_binding.specs.StandsAlone.{may_stand_before}
 use Rattle.mysql_binding.proofs.LiteralTokenLemmas.{is_alphanumeric, other}

@@ -20,10 +20,10 @@ use Rattle.std.proofs.lemmas.Bool.{and_parts}
 use Rattle.mysql_named_params.specs.Bytes.{colon, question_mark, space}
 use Rattle.mysql_named_params.specs.Tokens.{Token, IsTokens, IsName, AreTokensBefore, text_of, text_then, bytes_of, Name, Mark}
 use Rattle.mysql_named_params.specs.Places.{place_count}
-use Rattle.mysql_named_params.specs.Portable.{AreReadAlikeBefore}
-use Rattle.mysql_named_params.specs.Server.{begins_place}
-use Rattle.mysql_named_params.proofs.QuietLemmas.{wider_token}
 use Rattle.mysql_named_params.proofs.TokenRowLemmas.{text_then-append, text_then-text_of, AreTokensBefore-append, place_count-append}
+use Rattle.mysql_portable.specs.Portable.{AreReadAlikeBefore}
+use Rattle.mysql_portable.specs.Server.{begins_place}
+use Rattle.mysql_portable.proofs.QuietLemmas.{wider_token}
 use Rattle.mysql_binding.specs.Pieces.{pieces, joined_text}
 use Rattle.mysql_binding.specs.Replaced.{AreTokensOf, with_literal_tokens}
 use Rattle.mysql_binding.specs.StandsAlone.{may_stand_before, may_stand_after, none_or_first, none_or_last, stands_alone, first_not_alone, first_not_alone_from}

@@ -3,13 +3,13 @@
 use Rattle.std.specs.Prelude.{Bool}
 use Rattle.std.proofs.Common.{◌≡◌, ℕ, List, [], length, ap, ◌∙◌}
 use Rattle.mysql_named_params.specs.Tokens.{Token, IsTokens}
-use Rattle.mysql_named_params.specs.Client.{Client, IsReadBy, HoldNoOpener}
-use Rattle.mysql_named_params.specs.Portable.{AreReadAlikeBefore, IsReadAs}
-use Rattle.mysql_named_params.specs.Quiet.{IsHonest}
-use Rattle.mysql_named_params.specs.Server.{IsReadOn}
-use Rattle.mysql_named_params.specs.Statements.{statements}
-use Rattle.mysql_named_params.proofs.ClientLemmas.{reads_as_server, read_as_server}
-use Rattle.mysql_named_params.proofs.StatementLemmas.{read_statements}
+use Rattle.mysql_portable.specs.Client.{Client, IsReadBy, HoldNoOpener}
+use Rattle.mysql_portable.specs.Portable.{AreReadAlikeBefore, IsReadAs}
+use Rattle.mysql_portable.specs.Quiet.{IsHonest}
+use Rattle.mysql_portable.specs.Server.{IsReadOn}
+use Rattle.mysql_portable.specs.Statements.{statements}
+use Rattle.mysql_portable.proofs.ClientLemmas.{reads_as_server, read_as_server}
+use Rattle.mysql_portable.proofs.StatementLemmas.{read_statements}
 use Rattle.mysql_binding.specs.Replaced.{with_literal_tokens}
 use Rattle.mysql_binding.proofs.BoundStatementLemmas.{StayWithin, replaced_no_opener, replaced_statements, length-with_literals}
 use Rattle.mysql_binding.proofs.SpliceLemmas.{Each}

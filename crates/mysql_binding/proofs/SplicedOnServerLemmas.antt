@@ -8,14 +8,14 @@ use Rattle.std.proofs.Common.{◌≡◌, ◌++◌, ℕ, true, List, [], ◌∷�
 use Rattle.std.proofs.lemmas.Bool.{cases_Bool}
 use Rattle.mysql_named_params.specs.Bytes.{asterisk, dash, newline, slash, space, colon, question_mark}
 use Rattle.mysql_named_params.specs.Tokens.{Token, IsToken, IsTokens, bytes_of, text_of, text_then, AreTokensBefore, BlockComment, DashComment, Name, Mark, Plain}
-use Rattle.mysql_named_params.specs.Server.{Server, executed, comment, comment_of, block_on, IsBlockTail, usual_block, own_block, ended_tail, opens_line, IsTokenOn, AreTokensOn, IsReadOn}
-use Rattle.mysql_named_params.specs.Portable.{is_read_alike, AreReadAlikeBefore, IsReadAs, read_all, read_same, read_empty_comment, read_skipped, read_executed}
-use Rattle.mysql_named_params.specs.Quiet.{IsQuietComment, IsHonest, DecidesWithin, plain_then}
-use Rattle.mysql_named_params.proofs.PortableLemmas.{NoEmptyComment, token_on, special_more}
-use Rattle.mysql_named_params.proofs.ServerTokenLemmas.{comment_by}
-use Rattle.mysql_named_params.proofs.QuietLemmas.{AreQuiet, each_quiet, plain_text, row_on, read_text, block_ways, opener_on, star_on, usual_token, opens_text, whole_comment, quiet_kind, quiet_row, portable_read}
-use Rattle.mysql_named_params.proofs.SharpLemmas.{plain_none_on, after_row, after_row_on}
 use Rattle.mysql_named_params.proofs.TokenRowLemmas.{text_then-append, text_of-append}
+use Rattle.mysql_portable.specs.Server.{Server, executed, comment, comment_of, block_on, IsBlockTail, usual_block, own_block, ended_tail, opens_line, IsTokenOn, AreTokensOn, IsReadOn}
+use Rattle.mysql_portable.specs.Portable.{is_read_alike, AreReadAlikeBefore, IsReadAs, read_all, read_same, read_empty_comment, read_skipped, read_executed}
+use Rattle.mysql_portable.specs.Quiet.{IsQuietComment, IsHonest, DecidesWithin, plain_then}
+use Rattle.mysql_portable.proofs.PortableLemmas.{NoEmptyComment, token_on, special_more}
+use Rattle.mysql_portable.proofs.ServerTokenLemmas.{comment_by}
+use Rattle.mysql_portable.proofs.QuietLemmas.{AreQuiet, each_quiet, plain_text, row_on, read_text, block_ways, opener_on, star_on, usual_token, opens_text, whole_comment, quiet_kind, quiet_row, portable_read}
+use Rattle.mysql_portable.proofs.SharpLemmas.{plain_none_on, after_row, after_row_on}
 use Rattle.mysql_binding.specs.Replaced.{with_literal_tokens}
 use Rattle.mysql_binding.proofs.LiteralTokenLemmas.{AreSettledBefore, no_double}
 use Rattle.mysql_binding.proofs.QuietTextLemmas.{quiet_stays}

@@ -11,12 +11,12 @@ use Rattle.mysql_named_params.specs.Tokens.{Token, IsToken, bytes_of, QuotedStri
 use Rattle.mysql_named_params.specs.FirstToken.{opens_dash_comment, opens_block_comment}
 use Rattle.mysql_named_params.specs.TokensOf.{not_plain_at}
 use Rattle.mysql_named_params.specs.Places.{IsPlace}
-use Rattle.mysql_named_params.specs.Server.{keeps_dashes, is_tag_byte, begins_place, begins_tag, begins_dashes, begins_exponent_dashes, begins_fraction, begins_own}
-use Rattle.mysql_named_params.specs.Portable.{may_open_line, differs_at}
 use Rattle.mysql_named_params.proofs.PlainLemmas.{plain_none}
-use Rattle.mysql_named_params.proofs.PortableLemmas.{second_false, false_if, is_alike_on_all}
 use Rattle.mysql_named_params.proofs.RestLemmas.{is_gap, dash_none, none_dash, block_none, none_block, name_none, none_name, cond_none, some_none, string-alike, up_to-alike, block-alike}
 use Rattle.mysql_named_params.proofs.TokenEnds.{plain_at}
+use Rattle.mysql_portable.specs.Server.{keeps_dashes, is_tag_byte, begins_place, begins_tag, begins_dashes, begins_exponent_dashes, begins_fraction, begins_own}
+use Rattle.mysql_portable.specs.Portable.{may_open_line, differs_at}
+use Rattle.mysql_portable.proofs.PortableLemmas.{second_false, false_if, is_alike_on_all}
 
 -- the last of these bytes, or, if there are none, the byte before them
 abbrev pub last_byte : ℕ → List ℕ → ℕ

@@ -3,10 +3,10 @@ use Rattle.std.specs.Prelude.{Bool, false, true, Some, None, Ok}
 use Rattle.std.proofs.Common.{◌≡◌, ℕ, List, arith, length, refl, take}
 use Rattle.std.proofs.lemmas.List.{length-take-le}
 use Rattle.mysql_named_params.specs.Tokens.{Token, OnTokens}
-use Rattle.mysql_named_params.specs.FirstUnportable.{first_unportable}
-use Rattle.mysql_named_params.specs.Steady.{first_unsteady, IsSteady}
-use Rattle.mysql_named_params.specs.declared.portable.Unportable.{Unportable}
-use Rattle.mysql_named_params.proofs.SteadyLemmas.{none_unsteady, steady_other}
+use Rattle.mysql_portable.specs.FirstUnportable.{first_unportable}
+use Rattle.mysql_portable.specs.Steady.{first_unsteady, IsSteady}
+use Rattle.mysql_portable.specs.declared.portable.Unportable.{Unportable}
+use Rattle.mysql_portable.proofs.SteadyLemmas.{none_unsteady, steady_other}
 use Rattle.mysql_fragments.specs.FragmentErrors.{Cause, IsCauseOrMemory, first_cause}
 use Rattle.mysql_fragments.specs.GivenFragments.{GivenFragments}
 use Rattle.mysql_fragments.specs.declared.fragments_error.FragmentsError.{FragmentsError}

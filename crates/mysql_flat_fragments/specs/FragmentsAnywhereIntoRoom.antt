@@ -3,7 +3,7 @@
 use Rattle.std.specs.Prelude.{◌≡◌, ℕ, Bool, true, List, length, Some, None, Ok, Err, ⊤}
 use Rattle.mysql_named_params.specs.Tokens.{OnTokens}
 use Rattle.mysql_named_params.specs.Places.{names}
-use Rattle.mysql_named_params.specs.FirstUnportable.{first_unportable}
+use Rattle.mysql_portable.specs.FirstUnportable.{first_unportable}
 use Rattle.mysql_fragments.specs.FragmentErrors.{first_cause}
 use Rattle.mysql_fragments.specs.GivenFragments.{GivenFragments, fragments_for}
 use Rattle.mysql_steady_fragments.specs.SteadyFragments.{IsAnywhereFragments, IsSteadyFragments, unsteady_place}

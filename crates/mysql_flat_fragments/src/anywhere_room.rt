@@ -1,7 +1,7 @@
 //! The text for any server that is bound to fragments, in a room that the caller lends.
 ghost use Rattle.std.specs.Prelude.{◌≡◌, ◌≤◌, ◌<◌, Bool, List, ℕ, Ok, IfErr, IfOk, OnErr, length, take, drop};
 ghost use Rattle.mysql_named_params.specs.Tokens.{OnTokens};
-ghost use Rattle.mysql_named_params.specs.Steady.{IsSteady};
+ghost use Rattle.mysql_portable.specs.Steady.{IsSteady};
 ghost use Rattle.mysql_binding.specs.TextInRoom.{HasTextOf, IsTextInRoom};
 ghost use Rattle.mysql_fragments.specs.GivenFragments.{GivenFragments};
 ghost use Rattle.mysql_steady_fragments.specs.SteadyFragmentsErrors.{IsFragmentsRefusal};
@@ -17,8 +17,8 @@ use crate::placed::placed_fragments;
 use mysql_binding::{KEPT_PLACES, NO_PLACE, SurveyedQuery, TextInRoom};
 use mysql_flat_params::{Outcome, construct_number};
 use mysql_fragments::{FragmentsError, bind_placed_into, placed_error};
-use mysql_named_params::portable::first_unportable;
-use mysql_named_params::steady::first_unsteady;
+use mysql_portable::portable::first_unportable;
+use mysql_portable::steady::first_unsteady;
 use mysql_steady_fragments::{SteadyFragmentsError, first_unsteady_fragment};
 use mysql_steady_text::SteadyForm;
 use std::alloc::{AllocError, Global};
@@ -33,7 +33,7 @@ use std::alloc::{AllocError, Global};
 /// `bind_fragments_into`, and then `UnsteadyFragment`, for a fragment with a name that has a
 /// backslash or a byte from 128 on. Any outcome may be `OutOfMemory` instead. After every outcome
 /// except `Done` the room is as before.
-// A steady query has the same tokens in both modes (`mysql_named_params::laws::steady_texts`).
+// A steady query has the same tokens in both modes (`mysql_portable::laws::steady_texts`).
 pub fn bind_fragments_anywhere_into(
     alloc: Global,
     query: &[u8],

@@ -3,7 +3,9 @@ use Rattle.std.specs.Prelude.{Bool, true, Option, Some, None, Ok, option_map, �
 use Rattle.std.specs.Option.{option_or}
 use Rattle.std.proofs.Common.{◌≡◌, ℕ, List, sym, ◌∙◌, subst}
 use Rattle.mysql_named_params.specs.Tokens.{Token, OnTokens}
-use Rattle.mysql_named_params.specs.declared.portable.Unportable.{Unportable}
+use Rattle.mysql_portable.specs.declared.portable.Unportable.{Unportable}
+use Rattle.mysql_portable.specs.FirstUnportable.{first_unportable}
+use Rattle.mysql_portable.specs.Steady.{first_unsteady}
 use Rattle.mysql_params_core.specs.Given.{Given}
 use Rattle.mysql_binding.specs.FirstCause.{Cause, first_cause}
 use Rattle.mysql_steady_text.proofs.BothModesAnswerLemmas.{Agree, in_each_mode}
@@ -18,8 +20,6 @@ use Rattle.mysql_flat_params.specs.declared.steady_room.Steadiness.TheVariants.{
 use Rattle.mysql_flat_params.specs.declared.outcome.Outcome.{Outcome}
 use Rattle.mysql_flat_params.specs.declared.outcome.Outcome.TheVariants.{Done, OutOfMemory, Room, FormEnd, FormLengthLead, FormType, FormMixed, FormRepeated, Mixed, Missing, NamedForPositional, PositionalForNamed, MarkCount, NotAlone, Float, Unsteady, Backslash}
 use Rattle.mysql_flat_params.specs.declared.outcome.Outcome.TheVariants as variant
-use Rattle.mysql_named_params.specs.FirstUnportable.{first_unportable}
-use Rattle.mysql_named_params.specs.Steady.{first_unsteady}
 use Rattle.mysql_steady_text.specs.FirstBackslash.{first_backslash}
 
 -- ---- what is told of a query that is refused whatever is given to it

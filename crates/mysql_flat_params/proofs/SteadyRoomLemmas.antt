@@ -6,12 +6,12 @@ use Rattle.std.proofs.lemmas.List.{length-take-le}
 use Rattle.mysql_values.specs.declared.value.Value.{Value}
 use Rattle.mysql_values.specs.Value.{FieldsInRange}
 use Rattle.mysql_named_params.specs.Tokens.{Token, IsTokens, OnTokens}
-use Rattle.mysql_named_params.specs.FirstUnportable.{first_unportable}
-use Rattle.mysql_named_params.specs.Steady.{first_unsteady, IsSteady}
-use Rattle.mysql_named_params.specs.declared.portable.Unportable.{Unportable}
-use Rattle.mysql_named_params.proofs.SteadyLemmas.{none_unsteady, steady_other}
 use Rattle.mysql_named_params.proofs.TokensExistLemmas.{tokens_exist}
-use Rattle.mysql_named_params.proofs.UnportableLemmas.{none_is_portable}
+use Rattle.mysql_portable.specs.FirstUnportable.{first_unportable}
+use Rattle.mysql_portable.specs.Steady.{first_unsteady, IsSteady}
+use Rattle.mysql_portable.specs.declared.portable.Unportable.{Unportable}
+use Rattle.mysql_portable.proofs.SteadyLemmas.{none_unsteady, steady_other}
+use Rattle.mysql_portable.proofs.UnportableLemmas.{none_is_portable}
 use Rattle.mysql_params_core.specs.Given.{Given}
 use Rattle.mysql_binding.specs.MeasuredText.{HasGivenLength}
 use Rattle.mysql_binding.specs.TextInRoom.{HasTextOf, IsTextInRoom}

@@ -1,7 +1,7 @@
 -- The two calls that write steady literals, as one. This file serves private functions.
 use Rattle.std.specs.Prelude.{ℕ, List, Option, option_map}
 use Rattle.mysql_named_params.specs.Tokens.{Token}
-use Rattle.mysql_named_params.specs.Steady.{first_unsteady}
+use Rattle.mysql_portable.specs.Steady.{first_unsteady}
 use Rattle.mysql_params_core.specs.Given.{Given}
 use Rattle.mysql_steady_text.specs.FirstBackslash.{first_backslash}
 use Rattle.mysql_flat_params.specs.AnywhereIntoRoom.{IsBoundAnywhere}

@@ -1,8 +1,8 @@
 -- The report on the first construct for which a query isn't portable: a number and a position.
 use Rattle.std.specs.Prelude.{ℕ, Option, Some, None}
-use Rattle.mysql_named_params.specs.declared.portable.Construct.{Construct}
-use Rattle.mysql_named_params.specs.declared.portable.Construct.TheVariants.{ExecutableComment, Hint, MariaDbComment, Dashes, EscapedQuote, Bracket, DollarQuote, DashesAfterExponent, PlaceAfterExponent, OpenerInComment, JoiningComment, DashesBeforeComment, ClientCommand, DashInFront, Delimiter, ClientWord, EscapedNewline, ZeroByte, EscapedBackquote, ReturnInComment}
-use Rattle.mysql_named_params.specs.declared.portable.Unportable.{Unportable}
+use Rattle.mysql_portable.specs.declared.portable.Construct.{Construct}
+use Rattle.mysql_portable.specs.declared.portable.Construct.TheVariants.{ExecutableComment, Hint, MariaDbComment, Dashes, EscapedQuote, Bracket, DollarQuote, DashesAfterExponent, PlaceAfterExponent, OpenerInComment, JoiningComment, DashesBeforeComment, ClientCommand, DashInFront, Delimiter, ClientWord, EscapedNewline, ZeroByte, EscapedBackquote, ReturnInComment}
+use Rattle.mysql_portable.specs.declared.portable.Unportable.{Unportable}
 use Rattle.mysql_flat_params.specs.Outcomes.{no_fields}
 use Rattle.mysql_flat_params.specs.declared.outcome.Report.{Report}
 

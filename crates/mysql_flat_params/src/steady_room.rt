@@ -2,7 +2,7 @@
 ghost use Rattle.std.specs.Prelude.{◌≡◌, ◌⊎◌, ◌≤◌, ◌<◌, Bool, true, [], None, Some, Ok, length, take, drop, IfErr, IfOk, IfSome, IsErrOf, OnErr};
 ghost use Rattle.mysql_named_params.specs.Tokens.{OnTokens};
 ghost use Rattle.mysql_named_params.specs.Places.{HasMark, HasName};
-ghost use Rattle.mysql_named_params.specs.Steady.{HoldNoEscapes};
+ghost use Rattle.mysql_portable.specs.Steady.{HoldNoEscapes};
 ghost use Rattle.mysql_binding.specs.BindErrors.{IsCauseOrMemory};
 ghost use Rattle.mysql_binding.specs.FirstCause.{first_cause};
 ghost use Rattle.mysql_binding.specs.MeasuredText.{HasGivenLength};
@@ -29,8 +29,8 @@ use crate::unportable::construct_number;
 use mysql_binding::{
     BindError, KEPT_PLACES, NO_PLACE, SurveyedQuery, TextInRoom, bind_surveyed_into,
 };
-use mysql_named_params::portable::first_unportable;
-use mysql_named_params::steady::first_unsteady;
+use mysql_portable::portable::first_unportable;
+use mysql_portable::steady::first_unsteady;
 use mysql_steady_text::SteadyForm;
 use mysql_steady_text::first_backslash::first_backslash;
 use std::alloc::Global;
@@ -45,7 +45,7 @@ use std::alloc::Global;
 /// Over the empty form `Unsteady`, `Unportable` and `Mixed` come without allocating, and a form
 /// that is refused for its first parameter is refused without allocating too. Any other outcome may
 /// be `OutOfMemory` instead. After every outcome except `Done` the room is as before.
-// A steady query has the same tokens in both modes (`mysql_named_params::laws::steady_texts`).
+// A steady query has the same tokens in both modes (`mysql_portable::laws::steady_texts`).
 pub fn bind_anywhere_into(alloc: Global, query: &[u8], form: &[u8], room: &mut [u8]) -> Outcome
     ensures outcome { IsAnywhereOutcome query.now form.now result }
     ensures written { IfDone result (λ len.
@@ -78,7 +78,7 @@ pub fn bind_anywhere_into(alloc: Global, query: &[u8], form: &[u8], room: &mut [
 /// All is as for [`bind_anywhere_into`], except that `Backslash`, for a backslash in a string of
 /// the query, comes in place of `Unsteady`.
 // A query without a backslash in its strings has the same tokens in both modes
-// (`mysql_named_params::laws::modes_agree`).
+// (`mysql_portable::laws::modes_agree`).
 pub fn bind_in_both_modes_into(alloc: Global, query: &[u8], form: &[u8], room: &mut [u8]) -> Outcome
     ensures outcome { IsBothModesOutcome query.now form.now result }
     ensures written { IfDone result (λ len.

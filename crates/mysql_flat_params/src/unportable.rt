@@ -1,14 +1,14 @@
 //! The first construct for which a query isn't portable, as a number and a report.
 ghost use Rattle.std.specs.Prelude.{◌≡◌, ◌↔◌, pos, None};
-ghost use Rattle.mysql_named_params.specs.FirstUnportable.{first_unportable};
-ghost use Rattle.mysql_named_params.specs.FirstUnportableInClient.{first_unportable_in_client, IsPortableInClient};
-ghost use Rattle.mysql_named_params.specs.Portable.{IsPortable};
 ghost use Rattle.mysql_named_params.specs.Tokens.{OnTokens};
+ghost use Rattle.mysql_portable.specs.FirstUnportable.{first_unportable};
+ghost use Rattle.mysql_portable.specs.FirstUnportableInClient.{first_unportable_in_client, IsPortableInClient};
+ghost use Rattle.mysql_portable.specs.Portable.{IsPortable};
 ghost use Rattle.mysql_flat_params.specs.UnportableReport.{construct_number, unportable_number, unportable_report};
 
 use crate::outcome::{NO_FIELDS, Report};
-use mysql_named_params::client::first_unportable_in_client;
-use mysql_named_params::portable::{Construct, Unportable, first_unportable};
+use mysql_portable::client::first_unportable_in_client;
+use mysql_portable::portable::{Construct, Unportable, first_unportable};
 
 /// Finds the first construct for which a query isn't portable, as [`first_unportable`] does in a
 /// mode: returns its number, and writes its position to the report. It returns 0 if and only if the

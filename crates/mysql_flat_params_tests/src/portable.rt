@@ -3,7 +3,7 @@ use crate::shared::{WITH_BACKSLASHES, WITHOUT_BACKSLASHES, same_in};
 use mysql_flat_params::{
     Report, construct_number, report_first_unportable, report_first_unportable_in_client,
 };
-use mysql_named_params::portable::Construct;
+use mysql_portable::portable::Construct;
 
 /// Queries, and in either mode the number and the position of their first construct: none is 0.
 /// `bindings/cases/portable.txt` has more, which run through the archive.

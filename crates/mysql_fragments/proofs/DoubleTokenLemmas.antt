@@ -8,11 +8,11 @@ use Rattle.std.specs.Str.{byte}
 use Rattle.std.proofs.lemmas.Bool.{and_parts, and_from}
 use Rattle.mysql_sql_text.specs.LiteralShape.{AreDigits}
 use Rattle.mysql_named_params.specs.Bytes.{colon, dash, point, question_mark, plus}
-use Rattle.mysql_named_params.specs.Server.{begins_dashes, begins_exponent_dashes, begins_fraction}
-use Rattle.mysql_named_params.specs.Portable.{AreReadAlikeBefore}
 use Rattle.mysql_named_params.specs.Tokens.{AreTokensBefore, Token, text_of, text_then, Plain}
 use Rattle.mysql_named_params.proofs.TokenEnds.{plain_at}
 use Rattle.mysql_named_params.proofs.TokenRowLemmas.{text_then-text_of, text_of-append, AreTokensBefore-append, place_count-append}
+use Rattle.mysql_portable.specs.Server.{begins_dashes, begins_exponent_dashes, begins_fraction}
+use Rattle.mysql_portable.specs.Portable.{AreReadAlikeBefore}
 use Rattle.mysql_binding.proofs.LiteralTokenLemmas.{IsCutBefore, AreSettledBefore, AreSettledBefore-append, other, plain_tokens, plain_text, plain_places, plain_before, plain_settled, is_alphanumeric-plain, alphanumeric_portable, alphanumeric_single, AreDigits-alphanumeric, minus_plain, minus_portable, minus_single, digits_open_nothing, minus_opens_nothing}
 use Rattle.mysql_binding.proofs.BoundStatementLemmas.{StayWithin, StayWithin-append, plain_within}
 use Rattle.mysql_binding.proofs.UpToSpliceLemmas.{opens_nothing_after}

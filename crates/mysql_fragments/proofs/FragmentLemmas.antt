@@ -9,18 +9,18 @@ use Rattle.std.proofs.lemmas.Bool.Decides.{nat_tests}
 use Rattle.mysql_named_params.specs.Bytes.{backquote, colon, dash, point, space, underscore, is_start_byte, HoldsOnlyAtEnd, IsUpTo, up_to_word}
 use Rattle.mysql_named_params.specs.Tokens.{Token, IsToken, AreTokensBefore, text_of, text_then, QuotedIdentifier, Mark, Plain}
 use Rattle.mysql_named_params.specs.Places.{names, place_count}
-use Rattle.mysql_named_params.specs.Server.{escapes_backquote}
-use Rattle.mysql_named_params.proofs.PortableLemmas.{false_if, is_alike_on_all}
 use Rattle.mysql_named_params.proofs.TokenEnds.{plain_at}
 use Rattle.mysql_named_params.proofs.TokenRowLemmas.{text_then-append, text_then-text_of, text_of-append, AreTokensBefore-append, names-append, marks-append, place_count-append}
+use Rattle.mysql_portable.specs.Server.{escapes_backquote}
+use Rattle.mysql_portable.specs.FoundInClient.{found_in_client}
+use Rattle.mysql_portable.proofs.PortableLemmas.{false_if, is_alike_on_all}
+use Rattle.mysql_portable.proofs.OtherModeLemmas.{all_parts}
 use Rattle.mysql_binding.specs.StandsAlone.{may_stand_before, none_or_first}
 use Rattle.mysql_binding.proofs.BoundStatementLemmas.{StayWithin, StayWithin-append}
 use Rattle.mysql_binding.proofs.LiteralTokenLemmas.{AreSettledBefore, AreSettledBefore-append, no_double, plain_tokens, other, plain_text, plain_places, is_alphanumeric-plain, alphanumeric_portable, alphanumeric_single, is_alphanumeric}
 use Rattle.mysql_sql_text.specs.InLine.{is_in_line}
 use Rattle.mysql_binding.proofs.SentLiteralLemmas.{no_zero, quotes_found}
 use Rattle.mysql_binding.proofs.SentTextLemmas.{AreSentBefore, statement_after, line_after}
-use Rattle.mysql_named_params.proofs.OtherModeLemmas.{all_parts}
-use Rattle.mysql_named_params.specs.FoundInClient.{found_in_client}
 use Rattle.std.proofs.lemmas.List.Folds.{list_all-append}
 use Rattle.mysql_binding.proofs.UpToSpliceLemmas.{joins_nothing, opens_nothing_after}
 use Rattle.mysql_fragments.specs.FragmentFaults.{escapes_end, is_keyword, is_keyword_from}

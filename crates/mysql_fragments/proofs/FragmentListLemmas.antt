@@ -13,9 +13,9 @@ use Rattle.mysql_sql_text.specs.LiteralShape.{AreDigits, IsLiteral}
 use Rattle.mysql_named_params.specs.Bytes.{colon, dash, point, question_mark}
 use Rattle.mysql_named_params.specs.Tokens.{Token, AreTokensBefore, text_of, text_then, bytes_of, Name, Mark, Plain}
 use Rattle.mysql_named_params.specs.Places.{names, marks, place_count}
-use Rattle.mysql_named_params.specs.Server.{begins_fraction}
 use Rattle.mysql_named_params.proofs.TokenEnds.{plain_at}
 use Rattle.mysql_named_params.proofs.TokenRowLemmas.{text_then-text_of, text_of-append, AreTokensBefore-append, place_count-append, place_count-sum}
+use Rattle.mysql_portable.specs.Server.{begins_fraction}
 use Rattle.mysql_binding.specs.StandsAlone.{may_stand_before, may_stand_after, none_or_first, none_or_last, first_not_alone_from}
 use Rattle.mysql_binding.proofs.BoundStatementLemmas.{StayWithin, StayWithin-append, list_within as literal_within, plain_within, within}
 use Rattle.mysql_binding.proofs.ByteTestLemmas.{behind_ends}

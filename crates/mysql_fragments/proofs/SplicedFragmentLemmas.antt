@@ -6,11 +6,12 @@ use Rattle.std.specs.List.{list_all}
 use Rattle.mysql_named_params.specs.Bytes.{colon, is_name_byte, question_mark, space}
 use Rattle.mysql_named_params.specs.Tokens.{Token, IsToken, IsTokens, AreTokensBefore, text_of, bytes_of, Name, Mark}
 use Rattle.mysql_named_params.specs.Places.{names, marks, place_count}
-use Rattle.mysql_named_params.specs.Portable.{AreReadAlikeBefore, IsReadAs}
-use Rattle.mysql_named_params.specs.Quiet.{IsHonest, DecidesWithin}
-use Rattle.mysql_named_params.specs.Server.{Server, IsReadOn}
 use Rattle.mysql_named_params.proofs.TokenListLemmas.{one_token_list}
 use Rattle.mysql_named_params.proofs.TokenRowLemmas.{names-append, marks-append}
+use Rattle.mysql_portable.specs.Portable.{AreReadAlikeBefore, IsReadAs}
+use Rattle.mysql_portable.specs.Quiet.{IsHonest, DecidesWithin}
+use Rattle.mysql_portable.specs.Server.{Server, IsReadOn}
+use Rattle.mysql_portable.specs.FirstUnportableInClient.{AreSentAsTheyAre}
 use Rattle.mysql_binding.specs.Pieces.{pieces, joined_text}
 use Rattle.mysql_binding.specs.Replaced.{AreTokensOf, with_literal_tokens}
 use Rattle.mysql_binding.specs.StandsAlone.{may_stand_before, none_or_last, first_not_alone, first_not_alone_from}
@@ -28,7 +29,6 @@ use Rattle.mysql_fragments.specs.SentFragments.{BeginNoWords}
 use Rattle.mysql_sql_text.specs.InLine.{AreInLine}
 use Rattle.mysql_binding.proofs.SentLiteralLemmas.{sent_alone}
 use Rattle.mysql_binding.proofs.SentTextLemmas.{IsSentAt, spliced_sent}
-use Rattle.mysql_named_params.specs.FirstUnportableInClient.{AreSentAsTheyAre}
 
 -- the tokens of a fragment, read alone
 pub fragment_list : (mode : Bool) (n : ℕ) (text : List ℕ) (list : List Token) → IsFragment mode n text →

@@ -3,7 +3,7 @@
 use Rattle.std.specs.Prelude.{◌==◌, ◌&&◌, ◌||◌, nat_le, not, ℕ, Bool, true, IsTrue, List, [], ◌∷◌, ⊤}
 use Rattle.std.specs.Str.{byte}
 use Rattle.mysql_named_params.specs.Bytes.{underscore}
-use Rattle.mysql_named_params.specs.FoundInClient.{letter_of}
+use Rattle.mysql_portable.specs.FoundInClient.{letter_of}
 
 -- the text begins with no letter, as a client takes letters, and with no `_`: with no word
 abbrev pub begins_no_word_of_client : List ℕ → Bool

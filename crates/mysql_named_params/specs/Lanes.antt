@@ -1,5 +1,5 @@
--- Searches of some bytes at once. For private functions of `lanes.rt` and those that call them; no
--- public contract cites it.
+-- Searches of some bytes at once. For the functions of `lanes.rt`, which are lent to the crate
+-- above, and those that call them; no contract for a user cites it.
 use Rattle.std.specs.Prelude.{◌≡◌, ◌+◌, ◌<◌, ◌≤◌, ℕ, Bool, true, false, not, ◌==◌, ◌||◌, if◌then◌else◌, List, slice_index, Option, Some, None}
 use Rattle.std.specs.Int.{trailing_zeros, w64}
 

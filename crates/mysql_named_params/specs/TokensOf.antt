@@ -1,5 +1,6 @@
 -- The tokens of a query as a function (`laws::tokens_exist`), which computes for a constant query.
--- Only the contracts of fixed queries rest on it, and KnownServers.antt on `len_up_to`.
+-- Only the contracts of fixed queries rest on it, and KnownServers.antt of `mysql_portable` on
+-- `len_up_to`.
 use Rattle.std.specs.Prelude.{ℕ, suc, Bool, true, false, ◌==◌, ◌&&◌, if◌then◌else◌, List, [], ◌∷◌, length, take, drop, Option, Some, None, unwrap_or}
 use Rattle.mysql_sql_text.specs.StringUnits.{is_escape}
 use Rattle.mysql_named_params.specs.Bytes.{asterisk, backquote, colon, dash, hash, newline, question_mark, slash, is_start_byte, is_name_byte, is_string_quote}

@@ -42,8 +42,8 @@ impl FoundPlace {
     }
 }
 
-/// The first name or mark of a text. Only this function and
-/// [`first_unportable`](crate::portable::first_unportable) divide a text into its tokens.
+/// The first name or mark of a text. Only this function and the searches of `mysql_portable` divide
+/// a text into its tokens.
 pub fn first_place(text: &[u8], no_backslash_escape: bool) -> Option<FoundPlace>
     ensures place { OnTokens no_backslash_escape text.now (λ ts. IfSome result (IsFirstPlace ts)) }
     ensures none { OnTokens no_backslash_escape text.now (λ ts.

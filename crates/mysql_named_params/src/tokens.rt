@@ -19,15 +19,15 @@ pub enum TokenKind {
     Other,
 }
 
-/// Whether the byte is white space.
-pub(crate) fn is_white_space(byte: u8) -> bool
+/// Whether the byte is white space. It is lent to the crate above.
+pub fn is_white_space(byte: u8) -> bool
     ensures { result ≡ is_white_space byte }
 {
     byte.is_ascii_whitespace()
 }
 
-/// Whether the byte begins a name.
-pub(crate) fn is_start_byte(byte: u8) -> bool
+/// Whether the byte begins a name. It is lent to the crate above.
+pub fn is_start_byte(byte: u8) -> bool
     ensures { result ≡ is_start_byte byte }
 {
     byte.is_ascii_lowercase() || byte == b'_'

@@ -8,15 +8,18 @@ pub use mysql_binding::laws::{
     parsed_query_equality, position_of_first_not_alone,
 };
 pub use mysql_named_params::laws::{
-    client_is_a_server, grammar_is_a_server, known_servers, locality, mixed_error_equality,
-    modes_agree, named_params_error_equality, nameless_is_unchanged, one_list_on_a_server,
-    one_token_list, parsed_equality, portable_is_sharp, portable_reading, positions_of_places,
-    renaming_undone, same_places, same_statements, steady_texts, tokens_exist, unportable_equality,
+    locality, mixed_error_equality, named_params_error_equality, nameless_is_unchanged,
+    one_token_list, parsed_equality, positions_of_places, renaming_undone, tokens_exist,
 };
 pub use mysql_params_core::laws::{
     into_positional_error_equality, lookups_agree, missing_named_parameter_error_equality,
     params_confusion_error_equality, params_equality, params_error_equality, prefixes_are_found,
     to_params_error_equality,
+};
+pub use mysql_portable::laws::{
+    client_is_a_server, grammar_is_a_server, known_servers, modes_agree, one_list_on_a_server,
+    portable_is_sharp, portable_reading, same_places, same_statements, steady_texts,
+    unportable_equality,
 };
 pub use mysql_program::laws::run_error_equality;
 pub use mysql_steady_literal::laws::steady_literals;

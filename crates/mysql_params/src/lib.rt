@@ -24,9 +24,9 @@ pub use mysql_binding::{
     BindError, BindPairsError, ParsedQuery, TextInRoom, bind_pairs, bind_pairs_into, bind_text,
     bind_text_in, bind_values, bind_values_into,
 };
-pub use mysql_named_params::client::first_unportable_in_client;
-pub use mysql_named_params::portable::{Construct, Unportable, first_unportable};
-pub use mysql_named_params::steady::first_unsteady;
+pub use mysql_portable::client::first_unportable_in_client;
+pub use mysql_portable::portable::{Construct, Unportable, first_unportable};
+pub use mysql_portable::steady::first_unsteady;
 pub use mysql_program::{RunError, run, words_of};
 pub use mysql_steady_text::{
     BothModesError, BothModesPairsError, SteadyPairsError, SteadyTextError, bind_pairs_anywhere,

@@ -26,11 +26,11 @@ ghost use Rattle.mysql_flat_fragments.specs.FragmentsAnywhereIntoRoom as anywher
 ghost use Rattle.mysql_flat_fragments.specs.FragmentsIntoRoom as fragments;
 ghost use Rattle.mysql_flat_fragments.specs.FragmentsOutcomes as fragments_outcomes;
 ghost use Rattle.mysql_flat_params.specs.UnportableReport.{unportable_number, unportable_report};
-ghost use Rattle.mysql_named_params.specs.FirstUnportable.{first_unportable};
-ghost use Rattle.mysql_named_params.specs.FirstUnportableInClient.{first_unportable_in_client, IsPortableInClient};
 ghost use Rattle.mysql_named_params.specs.Places.{marks, HasMark, HasName};
-ghost use Rattle.mysql_named_params.specs.Portable.{IsPortable};
 ghost use Rattle.mysql_named_params.specs.Tokens.{OnTokens};
+ghost use Rattle.mysql_portable.specs.FirstUnportable.{first_unportable};
+ghost use Rattle.mysql_portable.specs.FirstUnportableInClient.{first_unportable_in_client, IsPortableInClient};
+ghost use Rattle.mysql_portable.specs.Portable.{IsPortable};
 
 use mysql_flat_fragments::{bind_fragments_anywhere_into, bind_fragments_into};
 use mysql_flat_params::{
@@ -382,7 +382,7 @@ pub extern "C" fn mysql_params_bind_fragments_anywhere(
 /// would join a number: [`report_first_unportable`].
 ///
 /// Returns 0 if and only if there is none: then the query is portable. Else it returns the
-/// number of the [`Construct`](mysql_named_params::portable::Construct), in the order of its
+/// number of the [`Construct`](mysql_portable::portable::Construct), in the order of its
 /// declaration 1 to 9, 19 or 20, and the report has its position in the query. All other fields of
 /// the report are 0. Nothing is allocated. The flag is true if the connection's `sql_mode` has
 /// `NO_BACKSLASH_ESCAPES`.
@@ -406,7 +406,7 @@ pub extern "C" fn mysql_params_first_unportable(
 /// keeps comments reads or sends something else: [`report_first_unportable_in_client`].
 ///
 /// Returns 0 if and only if there is none. Else it returns the number of the
-/// [`Construct`](mysql_named_params::portable::Construct), 1 to 20 in the order of its declaration,
+/// [`Construct`](mysql_portable::portable::Construct), 1 to 20 in the order of its declaration,
 /// and the report has its position in the query. All other fields of the report are 0. Nothing is
 /// allocated. The flag is true if the connection's `sql_mode` has `NO_BACKSLASH_ESCAPES`.
 #[unsafe(no_mangle)]

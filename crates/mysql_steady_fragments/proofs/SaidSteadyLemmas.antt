@@ -4,7 +4,7 @@ use Rattle.std.specs.Global.{Vec}
 use Rattle.std.specs.Prelude.{Bool, false, Some, None, ⊤, if◌then◌else◌}
 use Rattle.std.proofs.lemmas.List.{drop_all}
 use Rattle.std.proofs.Common.{◌≡◌, ◌<◌, ◌≤◌, ◌+◌, ℕ, zero, suc, true, List, [], ◌∷◌, length, map, drop, get_or, refl, sym, ap, ◌∙◌, arith, add-one}
-use Rattle.mysql_named_params.specs.Steady.{is_steady}
+use Rattle.mysql_portable.specs.Steady.{is_steady}
 use Rattle.mysql_values.specs.declared.value.ValueRef.{ValueRef}
 use Rattle.mysql_fragments.specs.BorrowedFragments.{AreSaid, Says, cell_item, cell_rows}
 use Rattle.mysql_fragments.specs.FragmentText.{fragment_text, item_text}

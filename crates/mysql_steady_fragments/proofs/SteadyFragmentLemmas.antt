@@ -8,14 +8,14 @@ use Rattle.std.proofs.lemmas.Bool.{and_from, cases_Bool}
 use Rattle.std.proofs.lemmas.List.Folds.{list_all-append}
 use Rattle.mysql_named_params.specs.Tokens.{Token, IsTokens, OnTokens, bytes_of, text_of, Name, Mark}
 use Rattle.mysql_named_params.specs.Places.{names, place_count}
-use Rattle.mysql_named_params.specs.Portable.{IsPortable, AreReadAlikeBefore}
-use Rattle.mysql_named_params.specs.Server.{IsReadOn}
-use Rattle.mysql_named_params.specs.Steady.{first_unsteady, is_steady, IsSteady}
-use Rattle.mysql_named_params.specs.declared.portable.Unportable.{Unportable}
-use Rattle.mysql_named_params.proofs.OtherModeLemmas.{all_parts}
-use Rattle.mysql_named_params.proofs.PlaceTextLemmas.{placeless_join_no_number}
-use Rattle.mysql_named_params.proofs.SteadyLemmas.{steady_other, steady_other_on, steady_seen}
 use Rattle.mysql_named_params.proofs.TokenListLemmas.{one_token_list}
+use Rattle.mysql_portable.specs.Portable.{IsPortable, AreReadAlikeBefore}
+use Rattle.mysql_portable.specs.Server.{IsReadOn}
+use Rattle.mysql_portable.specs.Steady.{first_unsteady, is_steady, IsSteady}
+use Rattle.mysql_portable.specs.declared.portable.Unportable.{Unportable}
+use Rattle.mysql_portable.proofs.OtherModeLemmas.{all_parts}
+use Rattle.mysql_portable.proofs.PlaceTextLemmas.{placeless_join_no_number}
+use Rattle.mysql_portable.proofs.SteadyLemmas.{steady_other, steady_other_on, steady_seen}
 use Rattle.mysql_params_core.specs.Given.{Given, positional}
 use Rattle.mysql_binding.specs.Replaced.{with_literal_tokens}
 use Rattle.mysql_binding.specs.StandsAlone.{first_not_alone}

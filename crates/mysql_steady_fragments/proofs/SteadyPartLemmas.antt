@@ -6,7 +6,7 @@ use Rattle.std.proofs.Common.{◌≡◌, ◌++◌, ◌==◌, ◌&&◌, ℕ, true
 use Rattle.std.proofs.lemmas.Bool.{cases_Bool}
 use Rattle.std.proofs.lemmas.List.Folds.{list_all-append}
 use Rattle.mysql_named_params.specs.Bytes.{backquote}
-use Rattle.mysql_named_params.specs.Steady.{is_steady}
+use Rattle.mysql_portable.specs.Steady.{is_steady}
 use Rattle.mysql_fragments.specs.FragmentText.{doubled, each_after, fragment_text, identifier_text, item_text, items_text, joined, row_text}
 use Rattle.mysql_fragments.specs.declared.fragment.Item.{Item}
 use Rattle.mysql_fragments.specs.declared.fragment.Fragment.TheVariants as one

@@ -4,9 +4,9 @@ use Rattle.std.proofs.Common.{◌≡◌, ℕ, true, List, None, Some, subst}
 use Rattle.mysql_values.specs.Value.{FieldsInRange}
 use Rattle.mysql_values.specs.declared.value.Value.{Value}
 use Rattle.mysql_named_params.specs.Tokens.{OnTokens}
-use Rattle.mysql_named_params.specs.Portable.{IsPortable}
-use Rattle.mysql_named_params.specs.FirstUnportable.{first_unportable}
-use Rattle.mysql_named_params.specs.Steady.{first_unsteady, IsSteady}
+use Rattle.mysql_portable.specs.Portable.{IsPortable}
+use Rattle.mysql_portable.specs.FirstUnportable.{first_unportable}
+use Rattle.mysql_portable.specs.Steady.{first_unsteady, IsSteady}
 use Rattle.mysql_params_core.specs.Given.{positional}
 use Rattle.mysql_binding.specs.Replaced.{with_literal_tokens}
 use Rattle.mysql_binding.specs.TextInRoom.{HasTextOf, IsTextInRoom}

@@ -6,11 +6,11 @@ use Rattle.std.specs.Prelude.{◌≡◌, ◌+◌, ℕ, Bool, true, List, [], ◌
 use Rattle.std.specs.List.{list_all}
 use Rattle.mysql_sql_text.specs.StringUnits.{with_backslashes}
 use Rattle.mysql_named_params.specs.Tokens.{Token, IsTokens}
-use Rattle.mysql_named_params.specs.Portable.{IsPortable, IsReadAs}
-use Rattle.mysql_named_params.specs.Server.{Server, IsReadOn}
-use Rattle.mysql_named_params.specs.Quiet.{IsHonest, DecidesWithin}
-use Rattle.mysql_named_params.specs.Steady.{is_steady, IsSteady}
-use Rattle.mysql_named_params.specs.CharacterSet.{CharacterSet, seen}
+use Rattle.mysql_portable.specs.Portable.{IsPortable, IsReadAs}
+use Rattle.mysql_portable.specs.Server.{Server, IsReadOn}
+use Rattle.mysql_portable.specs.Quiet.{IsHonest, DecidesWithin}
+use Rattle.mysql_portable.specs.Steady.{is_steady, IsSteady}
+use Rattle.mysql_portable.specs.CharacterSet.{CharacterSet, seen}
 use Rattle.mysql_params_core.specs.Given.{positional}
 use Rattle.mysql_binding.specs.Replaced.{with_literal_tokens}
 use Rattle.mysql_steady_text.specs.SteadyText.{IsSteadyText}

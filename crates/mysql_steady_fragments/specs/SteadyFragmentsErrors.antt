@@ -2,8 +2,8 @@
 use Rattle.std.specs.Prelude.{◌≡◌, ℕ, true, List, Option, Some, None}
 use Rattle.mysql_named_params.specs.Tokens.{Token}
 use Rattle.mysql_named_params.specs.Places.{names}
-use Rattle.mysql_named_params.specs.Steady.{first_unsteady}
-use Rattle.mysql_named_params.specs.declared.portable.Unportable.{Unportable}
+use Rattle.mysql_portable.specs.Steady.{first_unsteady}
+use Rattle.mysql_portable.specs.declared.portable.Unportable.{Unportable}
 use Rattle.mysql_fragments.specs.FragmentErrors.{first_cause, IsCauseOrMemory}
 use Rattle.mysql_fragments.specs.GivenFragments.{GivenFragments, fragments_for}
 use Rattle.mysql_steady_fragments.specs.SteadyFragments.{unsteady_place}

@@ -2,12 +2,12 @@
 ghost use Rattle.std.specs.Prelude.{◌≡◌, ℕ, Bool, List, length, map};
 ghost use Rattle.mysql_sql_text.specs.InLine.{AreInLine};
 ghost use Rattle.mysql_named_params.specs.Tokens.{Token, IsTokens};
-ghost use Rattle.mysql_named_params.specs.Portable.{AreReadAlike, IsReadAs};
-ghost use Rattle.mysql_named_params.specs.Quiet.{IsHonest, DecidesWithin};
-ghost use Rattle.mysql_named_params.specs.Client.{Client, IsReadBy, HoldNoOpener};
-ghost use Rattle.mysql_named_params.specs.FirstUnportableInClient.{IsPortableInClient};
-ghost use Rattle.mysql_named_params.specs.Statements.{statements};
-ghost use Rattle.mysql_named_params.specs.Steady.{IsSteady};
+ghost use Rattle.mysql_portable.specs.Portable.{AreReadAlike, IsReadAs};
+ghost use Rattle.mysql_portable.specs.Quiet.{IsHonest, DecidesWithin};
+ghost use Rattle.mysql_portable.specs.Client.{Client, IsReadBy, HoldNoOpener};
+ghost use Rattle.mysql_portable.specs.FirstUnportableInClient.{IsPortableInClient};
+ghost use Rattle.mysql_portable.specs.Statements.{statements};
+ghost use Rattle.mysql_portable.specs.Steady.{IsSteady};
 ghost use Rattle.mysql_binding.specs.BoundStatements.{statements_with_literals};
 ghost use Rattle.mysql_binding.specs.Replaced.{with_literal_tokens};
 ghost use Rattle.mysql_fragments.specs.FragmentText.{fragment_text};

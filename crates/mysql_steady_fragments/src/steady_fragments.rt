@@ -2,9 +2,9 @@
 ghost use Rattle.std.specs.Prelude.{◌≡◌, ℕ, Bool, None, Some, IfErr, IfOk, IsErrOf};
 ghost use Rattle.mysql_named_params.specs.Tokens.{OnTokens};
 ghost use Rattle.mysql_named_params.specs.Places.{HasName, HasMark};
-ghost use Rattle.mysql_named_params.specs.FirstUnportable.{first_unportable};
-ghost use Rattle.mysql_named_params.specs.Steady.{first_unsteady, IsSteady};
-ghost use Rattle.mysql_named_params.specs.declared.portable.Unportable as unportable;
+ghost use Rattle.mysql_portable.specs.FirstUnportable.{first_unportable};
+ghost use Rattle.mysql_portable.specs.Steady.{first_unsteady, IsSteady};
+ghost use Rattle.mysql_portable.specs.declared.portable.Unportable as unportable;
 ghost use Rattle.mysql_fragments.specs.GivenFragments.{given_fragments};
 ghost use Rattle.mysql_steady_fragments.specs.SteadyFragments.{IsAnywhereFragments, IsSteadyFragments};
 ghost use Rattle.mysql_steady_fragments.specs.SteadyFragmentsErrors.{IsFragmentsRefusal, IsSteadyRefusal};
@@ -12,8 +12,8 @@ ghost use Rattle.mysql_steady_fragments.specs.SteadyFragmentsErrors.{IsFragments
 use crate::steady_fragments_error::SteadyFragmentsError;
 use crate::unsteady::first_unsteady_place;
 use mysql_fragments::{Fragments, FragmentsError, filled_query, placed_fragments};
-use mysql_named_params::portable::first_unportable;
-use mysql_named_params::steady::first_unsteady;
+use mysql_portable::portable::first_unportable;
+use mysql_portable::steady::first_unsteady;
 use mysql_steady_text::SteadyForm;
 use std::alloc::Global;
 
@@ -26,7 +26,7 @@ use std::alloc::Global;
 ///
 /// The first of these causes refuses it: `Unsteady`, a backslash or a byte from 128 on anywhere in
 /// the query, also in a comment; `Unportable`, a construct that
-/// [`first_unportable`](mysql_named_params::portable::first_unportable) finds; `Fragments`, what
+/// [`first_unportable`](mysql_portable::portable::first_unportable) finds; `Fragments`, what
 /// [`bind_fragments`](mysql_fragments::bind_fragments) refuses, in its order; `UnsteadyFragment`, a
 /// fragment with a name that has a backslash or a byte from 128 on. Each place is one of the query.
 ///

@@ -1,6 +1,6 @@
 //! Why a query and fragments give no steady text.
 use mysql_fragments::FragmentsError;
-use mysql_named_params::portable::Unportable;
+use mysql_portable::portable::Unportable;
 use thiserror::Error;
 
 /// Why [`bind_fragments_anywhere`](crate::bind_fragments_anywhere) or

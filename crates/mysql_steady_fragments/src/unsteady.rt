@@ -1,7 +1,7 @@
 //! The first fragment whose text isn't steady.
 ghost use Rattle.std.specs.Prelude.{◌≡◌, List};
 ghost use Rattle.std.specs.List.{list_all};
-ghost use Rattle.mysql_named_params.specs.Steady.{is_steady};
+ghost use Rattle.mysql_portable.specs.Steady.{is_steady};
 ghost use Rattle.mysql_params_core.specs.Referents.{referents};
 ghost use Rattle.mysql_fragments.specs.BorrowedFragments.{AreSaid, Says};
 ghost use Rattle.mysql_fragments.specs.FragmentText.{fragment_text, item_text};
@@ -9,7 +9,7 @@ ghost use Rattle.mysql_fragments.specs.declared.fragment.Fragment as said_fragme
 ghost use Rattle.mysql_steady_fragments.specs.SteadyFragments.{first_unsteady_from};
 
 use mysql_fragments::{Fragment, FragmentRef, Item};
-use mysql_named_params::steady::first_unsteady;
+use mysql_portable::steady::first_unsteady;
 
 /// The place of the first fragment whose text isn't steady.
 pub(crate) fn first_unsteady_place(fragments: &[&Fragment]) -> Option<usize>

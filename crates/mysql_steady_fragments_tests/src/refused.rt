@@ -2,7 +2,7 @@
 use crate::shared::Plain::{Decimal, Float, Identifier, Qualified, Text};
 use crate::shared::{Plain, bound};
 use mysql_fragments::{FragmentFault, FragmentsError};
-use mysql_named_params::portable::{Construct, Unportable};
+use mysql_portable::portable::{Construct, Unportable};
 use mysql_steady_fragments::SteadyFragmentsError;
 use std::alloc::Global;
 

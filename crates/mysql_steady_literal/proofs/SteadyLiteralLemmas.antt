@@ -30,7 +30,7 @@ use Rattle.mysql_value_core.specs.declared.value.Value.TheVariants.{NULL, Bytes,
 use Rattle.mysql_value_core.specs.Value.{FieldsInRange}
 use Rattle.mysql_value_core.specs.Literal.{is_float}
 use Rattle.mysql_value_core.proofs.LiteralLemmas.{literal_shape, literal_reads}
-use Rattle.mysql_named_params.specs.Steady.{is_no_backslash, is_steady}
+use Rattle.mysql_portable.specs.Steady.{is_no_backslash, is_steady}
 use Rattle.mysql_steady_literal.specs.SteadyLiteral.{is_spelled_out, steady_bytes_literal, steady_literal_of}
 use Rattle.mysql_steady_literal.specs.SteadyShape.{IsSteadyLiteral, bare_literal, introduced_string, introduced_pairs}
 use Rattle.mysql_steady_literal.specs.ReadSteadyLiteral.{read_introduced, ReadsSteadyBefore, ReadsSteadyAs}

@@ -10,7 +10,7 @@ use Rattle.mysql_sql_text.specs.LiteralText.{escaped, hexadecimal, quoted}
 use Rattle.mysql_value_core.specs.declared.value.Value.{Value}
 use Rattle.mysql_value_core.specs.declared.value.Value.TheVariants.{Bytes}
 use Rattle.mysql_value_core.specs.Literal.{literal_of}
-use Rattle.mysql_named_params.specs.Steady.{is_no_backslash}
+use Rattle.mysql_portable.specs.Steady.{is_no_backslash}
 
 -- a byte that a steady string holds: the space or graphic ASCII, and no backslash
 abbrev pub is_spelled_out : ℕ → Bool

@@ -3,7 +3,7 @@ ghost use Rattle.std.specs.Prelude.{◌≡◌, IfSome, is_none};
 ghost use Rattle.mysql_sql_text.specs.InLine.{IsInLine};
 ghost use Rattle.mysql_value_core.specs.BorrowedValue.{owned};
 ghost use Rattle.mysql_value_core.specs.Literal.{is_float};
-ghost use Rattle.mysql_named_params.specs.Steady.{IsSteady};
+ghost use Rattle.mysql_portable.specs.Steady.{IsSteady};
 ghost use Rattle.mysql_steady_literal.specs.SteadyLiteral.{steady_literal_of};
 ghost use Rattle.mysql_steady_literal.specs.SteadyShape.{IsSteadyLiteral};
 ghost use Rattle.mysql_steady_literal.specs.ReadSteadyLiteral.{ReadsSteadyAs};

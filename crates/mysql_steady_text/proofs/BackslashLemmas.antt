@@ -13,16 +13,16 @@ use Rattle.std.proofs.Math.Seq.{take-append_seam}
 use Rattle.memchr.specs.Find.{IsFirstByte, is_byte}
 use Rattle.mysql_named_params.specs.Bytes.{begins, is_string_quote}
 use Rattle.mysql_named_params.specs.FirstToken.{IsFirstToken}
-use Rattle.mysql_named_params.specs.Steady.{is_no_backslash, holds_no_escape, HoldNoEscapes}
 use Rattle.mysql_named_params.specs.Tokens.{Token, bytes_of, text_of, IsToken, AreTokensBefore, OnTokens, QuotedString, QuotedIdentifier, HashComment, DashComment, BlockComment, Name, Mark, Plain}
 use Rattle.mysql_named_params.specs.declared.tokens.TokenKind.{TokenKind}
 use Rattle.mysql_named_params.proofs.CutLemmas.{BeginsWithTokens, cut_none, cut_more, all_tokens, tokens_then}
-use Rattle.mysql_named_params.proofs.OtherModeLemmas.{all_parts, token_other}
 use Rattle.mysql_named_params.proofs.ClosingQuoteLemmas.{fails}
 use Rattle.mysql_named_params.proofs.TokenEndLemmas.{slice_from}
 use Rattle.mysql_named_params.proofs.TokenListLemmas.{one_token, some_byte}
 use Rattle.mysql_named_params.proofs.TokenRowLemmas.{text_then-text_of}
 use Rattle.mysql_named_params.proofs.TokensExistLemmas.{tokens_exist}
+use Rattle.mysql_portable.specs.Steady.{is_no_backslash, holds_no_escape, HoldNoEscapes}
+use Rattle.mysql_portable.proofs.OtherModeLemmas.{all_parts, token_other}
 use Rattle.mysql_binding.proofs.CauseLemmas.{or_none}
 use Rattle.mysql_steady_text.specs.FirstBackslash.{is_backslash, backslash_in, first_backslash_from, first_backslash}
 

@@ -6,11 +6,11 @@ use Rattle.std.proofs.lemmas.List.{nil_from_length}
 use Rattle.mysql_values.specs.Content.{content_of}
 use Rattle.mysql_named_params.specs.Tokens.{Token, IsTokens}
 use Rattle.mysql_named_params.specs.Places.{names, marks, with_marks, place_count}
-use Rattle.mysql_named_params.specs.Steady.{HoldNoEscapes}
-use Rattle.mysql_named_params.proofs.OtherModeLemmas.{tokens_other}
 use Rattle.mysql_named_params.proofs.TokenRowLemmas.{place_count-sum}
 use Rattle.mysql_named_params.proofs.ReparsedLemmas.{IsTokens-with_marks, names-with_marks}
 use Rattle.mysql_named_params.proofs.TokenListLemmas.{one_token_list}
+use Rattle.mysql_portable.specs.Steady.{HoldNoEscapes}
+use Rattle.mysql_portable.proofs.OtherModeLemmas.{tokens_other}
 use Rattle.mysql_params_core.specs.Given.{Given, empty, positional}
 use Rattle.mysql_params_core.specs.Lookup.{lookup}
 use Rattle.mysql_binding.specs.Contents.{contents_between, AreReadInPlace}

@@ -2,11 +2,11 @@
 use Rattle.std.specs.Prelude.{Bool, Result, Ok, Err, IfOk}
 use Rattle.std.proofs.Common.{◌≡◌, ℕ, true, List, Option, None, sym, ◌∙◌}
 use Rattle.mysql_named_params.specs.Tokens.{Token, OnTokens}
-use Rattle.mysql_named_params.specs.FirstUnportable.{first_unportable}
-use Rattle.mysql_named_params.specs.Steady.{HoldNoEscapes}
-use Rattle.mysql_named_params.specs.declared.portable.Unportable.{Unportable}
-use Rattle.mysql_named_params.proofs.OtherModeLemmas.{tokens_other}
-use Rattle.mysql_named_params.proofs.UnportableLemmas.{none_is_portable}
+use Rattle.mysql_portable.specs.FirstUnportable.{first_unportable}
+use Rattle.mysql_portable.specs.Steady.{HoldNoEscapes}
+use Rattle.mysql_portable.specs.declared.portable.Unportable.{Unportable}
+use Rattle.mysql_portable.proofs.OtherModeLemmas.{tokens_other}
+use Rattle.mysql_portable.proofs.UnportableLemmas.{none_is_portable}
 use Rattle.mysql_params_core.specs.Given.{Given}
 use Rattle.mysql_binding.specs.WrittenText.{IsGivenText}
 use Rattle.mysql_binding.proofs.CauseLemmas.{on_both}

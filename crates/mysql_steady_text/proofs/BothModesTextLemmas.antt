@@ -8,14 +8,14 @@ use Rattle.mysql_values.specs.Content.{content_of}
 use Rattle.mysql_sql_text.specs.ReadLiteral.{Content}
 use Rattle.mysql_named_params.specs.Tokens.{Token, IsTokens, OnTokens, QuotedString, QuotedIdentifier, HashComment, DashComment, BlockComment, Name, Mark, Plain}
 use Rattle.mysql_named_params.specs.Places.{place_count}
-use Rattle.mysql_named_params.specs.Portable.{IsPortable, IsReadAs}
-use Rattle.mysql_named_params.specs.Quiet.{IsHonest, DecidesWithin}
-use Rattle.mysql_named_params.specs.Server.{Server, IsReadOn}
-use Rattle.mysql_named_params.specs.Steady.{is_steady, HoldNoEscapes}
-use Rattle.mysql_named_params.proofs.OtherModeLemmas.{tokens_other}
-use Rattle.mysql_named_params.proofs.PlaceTextLemmas.{placeless_join_no_number}
-use Rattle.mysql_named_params.proofs.SteadyLemmas.{steady_tokens}
 use Rattle.mysql_named_params.proofs.TokensExistLemmas.{tokens_exist}
+use Rattle.mysql_portable.specs.Portable.{IsPortable, IsReadAs}
+use Rattle.mysql_portable.specs.Quiet.{IsHonest, DecidesWithin}
+use Rattle.mysql_portable.specs.Server.{Server, IsReadOn}
+use Rattle.mysql_portable.specs.Steady.{is_steady, HoldNoEscapes}
+use Rattle.mysql_portable.proofs.OtherModeLemmas.{tokens_other}
+use Rattle.mysql_portable.proofs.PlaceTextLemmas.{placeless_join_no_number}
+use Rattle.mysql_portable.proofs.SteadyLemmas.{steady_tokens}
 use Rattle.mysql_params_core.specs.Given.{Given}
 use Rattle.mysql_binding.specs.LiteralForm.{AreWrittenAs}
 use Rattle.mysql_binding.specs.Pieces.{pieces, joined_text}

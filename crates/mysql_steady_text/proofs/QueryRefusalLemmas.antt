@@ -1,15 +1,15 @@
 -- The refusal of a query, whatever is given to it.
 use Rattle.std.specs.Prelude.{Bool}
 use Rattle.std.proofs.Common.{◌≡◌, ℕ, true, false, List, Option, Some, None, refl, ap, ◌∙◌}
-use Rattle.mysql_named_params.specs.FirstUnportable.{first_unportable}
-use Rattle.mysql_named_params.specs.Portable.{IsPortable}
-use Rattle.mysql_named_params.specs.Steady.{first_unsteady, IsSteady}
 use Rattle.mysql_named_params.specs.Tokens.{Token, IsTokens}
-use Rattle.mysql_named_params.specs.declared.portable.Unportable.{Unportable}
-use Rattle.mysql_named_params.specs.Clear.{is_clear}
-use Rattle.mysql_named_params.proofs.ClearLemmas.{clear_query_is_steady, clear_has_none}
-use Rattle.mysql_named_params.proofs.SteadyLemmas.{none_unsteady}
-use Rattle.mysql_named_params.proofs.UnportableLemmas.{none_is_portable}
+use Rattle.mysql_portable.specs.FirstUnportable.{first_unportable}
+use Rattle.mysql_portable.specs.Portable.{IsPortable}
+use Rattle.mysql_portable.specs.Steady.{first_unsteady, IsSteady}
+use Rattle.mysql_portable.specs.declared.portable.Unportable.{Unportable}
+use Rattle.mysql_portable.specs.Clear.{is_clear}
+use Rattle.mysql_portable.proofs.ClearLemmas.{clear_query_is_steady, clear_has_none}
+use Rattle.mysql_portable.proofs.SteadyLemmas.{none_unsteady}
+use Rattle.mysql_portable.proofs.UnportableLemmas.{none_is_portable}
 use Rattle.mysql_binding.specs.FirstCause.{Cause}
 use Rattle.mysql_steady_text.specs.QueryRefusal.{refusal_by, query_refusal}
 use Rattle.mysql_steady_text.specs.SteadyTextErrors.{IsSteadyRefusal}

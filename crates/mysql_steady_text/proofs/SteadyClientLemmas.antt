@@ -4,8 +4,8 @@ use Rattle.std.proofs.Common.{◌≡◌, ◌++◌, ℕ, true, List, [], ◌∷�
 use Rattle.mysql_sql_text.specs.LiteralShape.{hexadecimal_literal, quoted_literal}
 use Rattle.mysql_named_params.specs.Bytes.{space, underscore}
 use Rattle.mysql_named_params.specs.Tokens.{Token, Plain}
-use Rattle.mysql_named_params.proofs.SteadyLemmas.{steady_other}
 use Rattle.mysql_named_params.proofs.TokenEnds.{plain_at}
+use Rattle.mysql_portable.proofs.SteadyLemmas.{steady_other}
 use Rattle.mysql_params_core.specs.Given.{Given}
 use Rattle.mysql_binding.specs.Replaced.{AreTokensOf}
 use Rattle.mysql_binding.specs.StandsAlone.{first_not_alone}

@@ -8,13 +8,13 @@ use Rattle.mysql_sql_text.specs.InLine.{AreInLine, is_in_line}
 use Rattle.mysql_sql_text.specs.LiteralShape.{hexadecimal_literal}
 use Rattle.mysql_named_params.specs.Bytes.{space, underscore}
 use Rattle.mysql_named_params.specs.Tokens.{Token, IsTokens, Plain}
-use Rattle.mysql_named_params.specs.Client.{HoldNoOpener}
-use Rattle.mysql_named_params.specs.Portable.{AreReadAlikeBefore}
-use Rattle.mysql_named_params.specs.FoundInClient.{found_in_client, is_client_word}
-use Rattle.mysql_named_params.specs.FirstUnportableInClient.{AreSentAsTheyAre, IsPortableInClient}
-use Rattle.mysql_named_params.proofs.PlaceTextLemmas.{placeless_join_no_number}
-use Rattle.mysql_named_params.proofs.SteadyLemmas.{steady_other}
 use Rattle.mysql_named_params.proofs.TokenEnds.{plain_at}
+use Rattle.mysql_portable.specs.Client.{HoldNoOpener}
+use Rattle.mysql_portable.specs.Portable.{AreReadAlikeBefore}
+use Rattle.mysql_portable.specs.FoundInClient.{found_in_client, is_client_word}
+use Rattle.mysql_portable.specs.FirstUnportableInClient.{AreSentAsTheyAre, IsPortableInClient}
+use Rattle.mysql_portable.proofs.PlaceTextLemmas.{placeless_join_no_number}
+use Rattle.mysql_portable.proofs.SteadyLemmas.{steady_other}
 use Rattle.mysql_binding.specs.Pieces.{pieces, joined_text}
 use Rattle.mysql_binding.specs.Replaced.{AreTokensOf, with_literal_tokens}
 use Rattle.mysql_binding.specs.StandsAlone.{first_not_alone}

@@ -8,16 +8,16 @@ use Rattle.mysql_sql_text.specs.LiteralShape.{hexadecimal_literal, quoted_litera
 use Rattle.mysql_named_params.specs.Bytes.{colon, space, underscore}
 use Rattle.mysql_named_params.specs.Tokens.{Token, bytes_of, text_of, IsTokens, Plain, QuotedString, QuotedIdentifier, HashComment, DashComment, BlockComment, Name, Mark}
 use Rattle.mysql_named_params.specs.Places.{place_count}
-use Rattle.mysql_named_params.specs.Portable.{AreReadAlikeBefore, IsReadAs}
-use Rattle.mysql_named_params.specs.Server.{Server, IsReadOn}
-use Rattle.mysql_named_params.specs.Quiet.{IsHonest, DecidesWithin}
-use Rattle.mysql_named_params.specs.Steady.{is_steady}
-use Rattle.mysql_named_params.specs.CharacterSet.{CharacterSet, seen}
-use Rattle.mysql_named_params.proofs.OtherModeLemmas.{all_parts, tokens_before_other}
-use Rattle.mysql_named_params.proofs.SteadyLemmas.{steady_tokens, steady_other, steady_seen}
 use Rattle.mysql_named_params.proofs.TokenEnds.{plain_at}
 use Rattle.mysql_named_params.proofs.TokenListLemmas.{one_token_list}
 use Rattle.mysql_named_params.proofs.TokenRowLemmas.{text_then-text_of}
+use Rattle.mysql_portable.specs.Portable.{AreReadAlikeBefore, IsReadAs}
+use Rattle.mysql_portable.specs.Server.{Server, IsReadOn}
+use Rattle.mysql_portable.specs.Quiet.{IsHonest, DecidesWithin}
+use Rattle.mysql_portable.specs.Steady.{is_steady}
+use Rattle.mysql_portable.specs.CharacterSet.{CharacterSet, seen}
+use Rattle.mysql_portable.proofs.OtherModeLemmas.{all_parts, tokens_before_other}
+use Rattle.mysql_portable.proofs.SteadyLemmas.{steady_tokens, steady_other, steady_seen}
 use Rattle.mysql_binding.specs.Pieces.{pieces, joined_text}
 use Rattle.mysql_binding.specs.Replaced.{AreTokensOf, with_literal_tokens}
 use Rattle.mysql_binding.specs.StandsAlone.{may_stand_before, first_not_alone}

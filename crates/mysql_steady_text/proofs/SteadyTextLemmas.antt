@@ -3,11 +3,11 @@ use Rattle.std.specs.Prelude.{Bool, Result, Ok, Err, IfOk, IfErr}
 use Rattle.std.proofs.Common.{◌≡◌, ℕ, true, false, List, Option, None, sym, subst}
 use Rattle.std.specs.List.{list_all}
 use Rattle.mysql_named_params.specs.Tokens.{Token, IsTokens, OnTokens}
-use Rattle.mysql_named_params.specs.Portable.{IsPortable}
-use Rattle.mysql_named_params.specs.Server.{IsReadOn}
-use Rattle.mysql_named_params.specs.Steady.{first_unsteady, is_steady, IsSteady, HoldNoEscapes}
-use Rattle.mysql_named_params.specs.declared.portable.Unportable.{Unportable}
-use Rattle.mysql_named_params.proofs.SteadyLemmas.{steady_other, steady_seen, steady_tokens}
+use Rattle.mysql_portable.specs.Portable.{IsPortable}
+use Rattle.mysql_portable.specs.Server.{IsReadOn}
+use Rattle.mysql_portable.specs.Steady.{first_unsteady, is_steady, IsSteady, HoldNoEscapes}
+use Rattle.mysql_portable.specs.declared.portable.Unportable.{Unportable}
+use Rattle.mysql_portable.proofs.SteadyLemmas.{steady_other, steady_seen, steady_tokens}
 use Rattle.mysql_params_core.specs.Given.{Given}
 use Rattle.mysql_binding.specs.BindErrors.{IsCauseOrMemory}
 use Rattle.mysql_binding.specs.FirstCause.{first_cause}

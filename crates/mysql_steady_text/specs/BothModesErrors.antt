@@ -1,6 +1,6 @@
 -- What each error of binding to a text for both modes stands for.
 use Rattle.std.specs.Prelude.{◌≡◌, ℕ, Option, Some, None}
-use Rattle.mysql_named_params.specs.declared.portable.Unportable.{Unportable}
+use Rattle.mysql_portable.specs.declared.portable.Unportable.{Unportable}
 use Rattle.mysql_binding.specs.BindErrors.{IsCauseOrMemory, AreEqualBindErrors}
 use Rattle.mysql_binding.specs.FirstCause.{Cause}
 use Rattle.mysql_steady_text.specs.declared.both_modes_error.BothModesError.{BothModesError}

@@ -10,10 +10,10 @@ use Rattle.mysql_values.specs.Content.{content_of}
 use Rattle.mysql_sql_text.specs.ReadLiteral.{Content}
 use Rattle.mysql_named_params.specs.Tokens.{Token, IsTokens, OnTokens, text_of}
 use Rattle.mysql_named_params.specs.Places.{names, place_count, with_marks}
-use Rattle.mysql_named_params.specs.Portable.{IsPortable, IsReadAs}
-use Rattle.mysql_named_params.specs.Server.{Server, IsReadOn}
-use Rattle.mysql_named_params.specs.Quiet.{IsHonest, DecidesWithin}
-use Rattle.mysql_named_params.specs.Steady.{HoldNoEscapes}
+use Rattle.mysql_portable.specs.Portable.{IsPortable, IsReadAs}
+use Rattle.mysql_portable.specs.Server.{Server, IsReadOn}
+use Rattle.mysql_portable.specs.Quiet.{IsHonest, DecidesWithin}
+use Rattle.mysql_portable.specs.Steady.{HoldNoEscapes}
 use Rattle.mysql_params_core.specs.Given.{Given, empty, positional}
 use Rattle.mysql_params_core.specs.Lookup.{lookup}
 use Rattle.mysql_binding.specs.FirstCause.{first_cause}

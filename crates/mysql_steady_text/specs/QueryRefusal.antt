@@ -1,9 +1,9 @@
 -- Why a query can't be bound for any server, whatever is given to it.
 use Rattle.std.specs.Prelude.{ℕ, List, Option, Some, None, option_map}
-use Rattle.mysql_named_params.specs.FirstUnportable.{first_unportable}
-use Rattle.mysql_named_params.specs.Steady.{first_unsteady}
 use Rattle.mysql_named_params.specs.Tokens.{Token}
-use Rattle.mysql_named_params.specs.declared.portable.Unportable.{Unportable}
+use Rattle.mysql_portable.specs.FirstUnportable.{first_unportable}
+use Rattle.mysql_portable.specs.Steady.{first_unsteady}
+use Rattle.mysql_portable.specs.declared.portable.Unportable.{Unportable}
 use Rattle.mysql_steady_text.specs.declared.steady_text_error.SteadyTextError.{SteadyTextError}
 use Rattle.mysql_steady_text.specs.declared.steady_text_error.SteadyTextError.TheVariants as error
 

@@ -1,7 +1,7 @@
 -- Steady literals, one after another, and what is known of the steady literal of a value.
 use Rattle.std.specs.Prelude.{◌≡◌, ℕ, List, [], ◌∷◌, map, Some, ⊤}
 use Rattle.mysql_values.specs.declared.value.Value.{Value}
-use Rattle.mysql_named_params.specs.Steady.{IsSteady}
+use Rattle.mysql_portable.specs.Steady.{IsSteady}
 use Rattle.mysql_binding.specs.LiteralForm.{LiteralFacts}
 use Rattle.mysql_steady_literal.specs.ReadSteadyLiteral.{ReadsSteadyAs}
 use Rattle.mysql_steady_literal.specs.SteadyLiteral.{steady_literal_of}

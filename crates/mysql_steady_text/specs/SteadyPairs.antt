@@ -3,8 +3,8 @@ use Rattle.std.specs.Prelude.{◌≡◌, ◌<◌, ◌⊎◌, ℕ, Bool, List, Op
 use Rattle.std.specs.Borrow.{Bor}
 use Rattle.mysql_values.specs.declared.value.ValueRef.{ValueRef}
 use Rattle.mysql_named_params.specs.Tokens.{Token, OnTokens}
-use Rattle.mysql_named_params.specs.FirstUnportable.{first_unportable}
-use Rattle.mysql_named_params.specs.declared.portable.Unportable.{Unportable}
+use Rattle.mysql_portable.specs.FirstUnportable.{first_unportable}
+use Rattle.mysql_portable.specs.declared.portable.Unportable.{Unportable}
 use Rattle.mysql_params_core.specs.Made.{few_pairs, IsFirstRedefined}
 use Rattle.mysql_binding.specs.BoundPairs.{OfPairs}
 use Rattle.mysql_binding.specs.FirstCause.{first_cause}

@@ -9,11 +9,11 @@ use Rattle.mysql_values.specs.Content.{content_of}
 use Rattle.mysql_sql_text.specs.ReadLiteral.{Content}
 use Rattle.mysql_named_params.specs.Tokens.{Token, IsTokens}
 use Rattle.mysql_named_params.specs.Places.{names}
-use Rattle.mysql_named_params.specs.Portable.{IsPortable, IsReadAs}
-use Rattle.mysql_named_params.specs.Server.{Server, IsReadOn}
-use Rattle.mysql_named_params.specs.Quiet.{IsHonest, DecidesWithin}
-use Rattle.mysql_named_params.specs.Steady.{IsSteady}
-use Rattle.mysql_named_params.specs.CharacterSet.{CharacterSet, seen}
+use Rattle.mysql_portable.specs.Portable.{IsPortable, IsReadAs}
+use Rattle.mysql_portable.specs.Server.{Server, IsReadOn}
+use Rattle.mysql_portable.specs.Quiet.{IsHonest, DecidesWithin}
+use Rattle.mysql_portable.specs.Steady.{IsSteady}
+use Rattle.mysql_portable.specs.CharacterSet.{CharacterSet, seen}
 use Rattle.mysql_params_core.specs.Given.{Given}
 use Rattle.mysql_params_core.specs.Lookup.{lookup}
 use Rattle.mysql_binding.specs.FirstCause.{first_cause}

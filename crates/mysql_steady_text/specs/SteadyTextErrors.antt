@@ -1,7 +1,7 @@
 -- What each error of binding to a steady text stands for.
 use Rattle.std.specs.Prelude.{◌≡◌, ℕ, List, Option, Some, None}
-use Rattle.mysql_named_params.specs.Steady.{first_unsteady}
-use Rattle.mysql_named_params.specs.declared.portable.Unportable.{Unportable}
+use Rattle.mysql_portable.specs.Steady.{first_unsteady}
+use Rattle.mysql_portable.specs.declared.portable.Unportable.{Unportable}
 use Rattle.mysql_binding.specs.BindErrors.{IsCauseOrMemory, AreEqualBindErrors}
 use Rattle.mysql_binding.specs.FirstCause.{Cause}
 use Rattle.mysql_steady_text.specs.declared.steady_text_error.SteadyTextError.{SteadyTextError}

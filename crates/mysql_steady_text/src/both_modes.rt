@@ -2,9 +2,9 @@
 ghost use Rattle.std.specs.Prelude.{◌≡◌, ℕ, Bool, true, None, Some, IfErr, IfOk, IsErrOf};
 ghost use Rattle.mysql_named_params.specs.Tokens.{OnTokens};
 ghost use Rattle.mysql_named_params.specs.Places.{HasName, HasMark};
-ghost use Rattle.mysql_named_params.specs.FirstUnportable.{first_unportable};
-ghost use Rattle.mysql_named_params.specs.Steady.{HoldNoEscapes};
-ghost use Rattle.mysql_named_params.specs.declared.portable.Unportable as unportable;
+ghost use Rattle.mysql_portable.specs.FirstUnportable.{first_unportable};
+ghost use Rattle.mysql_portable.specs.Steady.{HoldNoEscapes};
+ghost use Rattle.mysql_portable.specs.declared.portable.Unportable as unportable;
 ghost use Rattle.mysql_params_core.specs.Given.{given};
 ghost use Rattle.mysql_params_core.specs.GivenBorrowed.{given_by_borrowed};
 ghost use Rattle.mysql_binding.specs.BindErrors.{IsCauseOrMemory};
@@ -17,8 +17,8 @@ use crate::both_modes_error::BothModesError;
 use crate::first_backslash::first_backslash;
 use crate::steady_form::SteadyForm;
 use mysql_binding::{BindError, bind_borrowed_as};
-use mysql_named_params::portable::first_unportable;
 use mysql_params_core::params::{BorrowedParams, Params};
+use mysql_portable::portable::first_unportable;
 use std::alloc::Global;
 
 /// [`bind_text_anywhere`](crate::bind_text_anywhere) for a query that may hold bytes from 128 on,
@@ -31,7 +31,7 @@ use std::alloc::Global;
 /// The first of these causes refuses it: `Backslash`, a backslash in a string of the query, as the
 /// grammar has it, so also in a text in `"`; elsewhere, as in an identifier in backquotes or a
 /// comment, it stays. `Unportable`, a construct that
-/// [`first_unportable`](mysql_named_params::portable::first_unportable) finds; `Bind`, what
+/// [`first_unportable`](mysql_portable::portable::first_unportable) finds; `Bind`, what
 /// [`bind_text`](mysql_binding::bind_text) refuses, in its order. The parameters are consumed, even
 /// if the call refuses.
 ///

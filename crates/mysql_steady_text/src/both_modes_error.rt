@@ -1,6 +1,6 @@
 //! Why a query and parameters give no text for both modes.
 use mysql_binding::BindError;
-use mysql_named_params::portable::Unportable;
+use mysql_portable::portable::Unportable;
 use thiserror::Error;
 
 /// Why [`bind_text_in_both_modes`](crate::bind_text_in_both_modes) gave no text: the first cause,

@@ -3,9 +3,9 @@
 ghost use Rattle.std.specs.Prelude.{◌≡◌, ℕ, Bool, List, None, Ok, Option, Some, map, IfErr, IfOk, IfSome, IsErrOf};
 ghost use Rattle.mysql_named_params.specs.Tokens.{OnTokens, Token};
 ghost use Rattle.mysql_named_params.specs.Places.{HasMark, HasName};
-ghost use Rattle.mysql_named_params.specs.FirstUnportable.{first_unportable};
-ghost use Rattle.mysql_named_params.specs.Steady.{first_unsteady, IsSteady};
-ghost use Rattle.mysql_named_params.specs.declared.portable.Unportable as unportable;
+ghost use Rattle.mysql_portable.specs.FirstUnportable.{first_unportable};
+ghost use Rattle.mysql_portable.specs.Steady.{first_unsteady, IsSteady};
+ghost use Rattle.mysql_portable.specs.declared.portable.Unportable as unportable;
 ghost use Rattle.mysql_params_core.specs.Given.{named, positional};
 ghost use Rattle.mysql_params_core.specs.GivenBorrowed.{pair_map};
 ghost use Rattle.mysql_params_core.specs.Made.{pairs_made, seen_pair};

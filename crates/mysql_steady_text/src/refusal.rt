@@ -4,9 +4,9 @@ ghost use Rattle.mysql_named_params.specs.Tokens.{OnTokens};
 ghost use Rattle.mysql_steady_text.specs.QueryRefusal.{query_refusal};
 
 use crate::steady_text_error::SteadyTextError;
-use mysql_named_params::clear::is_clear;
-use mysql_named_params::portable::first_unportable;
-use mysql_named_params::steady::first_unsteady;
+use mysql_portable::clear::is_clear;
+use mysql_portable::portable::first_unportable;
+use mysql_portable::steady::first_unsteady;
 
 /// The refusal of a query for which [`bind_text_anywhere`](crate::bind_text_anywhere) needn't look
 /// at parameters: `Unsteady`, or else `Unportable`; lent to the crates above. It allocates nothing.

@@ -2,9 +2,9 @@
 ghost use Rattle.std.specs.Prelude.{◌≡◌, ℕ, Bool, None, Some, IfErr, IfOk, IsErrOf};
 ghost use Rattle.mysql_named_params.specs.Tokens.{OnTokens};
 ghost use Rattle.mysql_named_params.specs.Places.{HasName, HasMark};
-ghost use Rattle.mysql_named_params.specs.FirstUnportable.{first_unportable};
-ghost use Rattle.mysql_named_params.specs.Steady.{first_unsteady, IsSteady};
-ghost use Rattle.mysql_named_params.specs.declared.portable.Unportable as unportable;
+ghost use Rattle.mysql_portable.specs.FirstUnportable.{first_unportable};
+ghost use Rattle.mysql_portable.specs.Steady.{first_unsteady, IsSteady};
+ghost use Rattle.mysql_portable.specs.declared.portable.Unportable as unportable;
 ghost use Rattle.mysql_params_core.specs.Given.{given};
 ghost use Rattle.mysql_params_core.specs.GivenBorrowed.{given_by_borrowed};
 ghost use Rattle.mysql_binding.specs.FirstCause.{first_cause};
@@ -16,8 +16,8 @@ use crate::refusal::query_refusal;
 use crate::steady_form::SteadyForm;
 use crate::steady_text_error::SteadyTextError;
 use mysql_binding::{BindError, bind_borrowed_as};
-use mysql_named_params::steady::first_unsteady;
 use mysql_params_core::params::{BorrowedParams, Params};
+use mysql_portable::steady::first_unsteady;
 use std::alloc::Global;
 
 /// The query with the steady literal of a value in the place of each name and mark: SQL text that
@@ -30,7 +30,7 @@ use std::alloc::Global;
 ///
 /// The first of these causes refuses it: `Unsteady`, a backslash or a byte from 128 on anywhere in
 /// the query, also in a comment; `Unportable`, a construct that
-/// [`first_unportable`](mysql_named_params::portable::first_unportable) finds; `Bind`, what
+/// [`first_unportable`](mysql_portable::portable::first_unportable) finds; `Bind`, what
 /// `bind_text` refuses, in its order. The parameters are consumed, even if the call refuses.
 ///
 /// MariaDB stores an expression of `DEFAULT`, `AS` or `CHECK` as text in which the introducer of a

@@ -1,6 +1,6 @@
 //! Why a query and parameters give no steady text.
 use mysql_binding::BindError;
-use mysql_named_params::portable::Unportable;
+use mysql_portable::portable::Unportable;
 use thiserror::Error;
 
 /// Why [`bind_text_anywhere`](crate::bind_text_anywhere) or

@@ -1,7 +1,7 @@
 use Rattle.std.proofs.Common.{◌≡◌, ℕ, true, false, List, subst, sym, ◌∙◌, true≢false}
 use Rattle.mysql_named_params.specs.Tokens.{Token, IsTokens, OnTokens}
-use Rattle.mysql_named_params.specs.FirstUnportableInClient.{IsPortableInClient}
 use Rattle.mysql_named_params.proofs.TokenListLemmas.{one_token_list}
+use Rattle.mysql_portable.specs.FirstUnportableInClient.{IsPortableInClient}
 use Rattle.mysql_params_core.specs.Given.{Given}
 use Rattle.mysql_binding.specs.Replaced.{with_literal_tokens}
 use Rattle.mysql_bind_core.specs.Bound.{IsAssignedText, IsPortableIfWanted, IsTaken, IsTextFor, of_fragments, of_values}

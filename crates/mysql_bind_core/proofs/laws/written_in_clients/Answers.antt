@@ -1,11 +1,11 @@
 use Rattle.std.proofs.Common.{◌≡◌, ℕ, Bool, false, List, length, refl, subst}
 use Rattle.mysql_named_params.specs.Tokens.{Token, IsTokens, OnTokens}
-use Rattle.mysql_named_params.specs.Client.{Client, IsReadBy}
-use Rattle.mysql_named_params.specs.FirstUnportableInClient.{IsPortableInClient}
-use Rattle.mysql_named_params.specs.Quiet.{DecidesWithin, IsHonest}
-use Rattle.mysql_named_params.specs.Statements.{statements}
-use Rattle.mysql_named_params.specs.Steady.{IsSteady}
 use Rattle.mysql_named_params.proofs.TokenListLemmas.{one_token_list}
+use Rattle.mysql_portable.specs.Client.{Client, IsReadBy}
+use Rattle.mysql_portable.specs.FirstUnportableInClient.{IsPortableInClient}
+use Rattle.mysql_portable.specs.Quiet.{DecidesWithin, IsHonest}
+use Rattle.mysql_portable.specs.Statements.{statements}
+use Rattle.mysql_portable.specs.Steady.{IsSteady}
 use Rattle.mysql_params_core.specs.Given.{Given}
 use Rattle.mysql_binding.specs.Replaced.{with_literal_tokens}
 use Rattle.mysql_fragments.specs.GivenFragments.{GivenFragments, named}

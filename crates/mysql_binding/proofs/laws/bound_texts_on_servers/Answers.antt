@@ -1,4 +1,4 @@
-use Rattle.mysql_named_params.proofs.PlaceTextLemmas.{placeless_join_no_number}
+use Rattle.mysql_portable.proofs.PlaceTextLemmas.{placeless_join_no_number}
 use Rattle.mysql_binding.proofs.BoundOnServerLemmas.{bound_portable, isolated_on, bound_read, literals_on}
 use Rattle.mysql_binding.proofs.ReplacedLemmas.{isolated_places}
 use Rattle.mysql_binding.proofs.laws.bound_texts_on_servers.Goals as goal

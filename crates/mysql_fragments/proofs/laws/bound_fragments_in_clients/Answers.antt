@@ -2,7 +2,7 @@ use Rattle.std.proofs.Common.{ap, length, ◌∙◌}
 use Rattle.mysql_binding.specs.BoundStatements.{statements_with_literals}
 use Rattle.mysql_binding.specs.Replaced.{with_literal_tokens}
 use Rattle.mysql_binding.proofs.BoundStatementLemmas.{replaced_statements, length-with_literals}
-use Rattle.mysql_named_params.specs.Statements.{statements}
+use Rattle.mysql_portable.specs.Statements.{statements}
 use Rattle.mysql_fragments.proofs.ExpandedLemmas.{expanded_alone}
 use Rattle.mysql_fragments.proofs.SplicedFragmentLemmas.{fragments_within}
 use Rattle.mysql_fragments.proofs.laws.bound_fragments_in_clients.Goals as goal

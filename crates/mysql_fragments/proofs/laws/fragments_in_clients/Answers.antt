@@ -1,4 +1,4 @@
-use Rattle.mysql_named_params.proofs.ClientLemmas.{read_as_server}
+use Rattle.mysql_portable.proofs.ClientLemmas.{read_as_server}
 use Rattle.mysql_binding.specs.Replaced.{with_literal_tokens}
 use Rattle.mysql_binding.proofs.BoundStatementLemmas.{replaced_no_opener, replaced_statements}
 use Rattle.mysql_binding.proofs.SplicedInClientLemmas.{spliced_count, spliced_on_reader, spliced_by_client}

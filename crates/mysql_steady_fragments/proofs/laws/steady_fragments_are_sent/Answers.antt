@@ -1,5 +1,5 @@
 use Rattle.std.proofs.Common.{false}
-use Rattle.mysql_named_params.proofs.SteadyLemmas.{steady_other}
+use Rattle.mysql_portable.proofs.SteadyLemmas.{steady_other}
 use Rattle.mysql_fragments.proofs.ExpandedLemmas.{expanded_alone}
 use Rattle.mysql_steady_fragments.proofs.laws.steady_fragments_are_sent.Goals as goal
 

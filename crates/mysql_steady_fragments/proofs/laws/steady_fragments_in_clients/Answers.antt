@@ -2,9 +2,9 @@ use Rattle.std.proofs.Common.{◌∙◌, false, ap, length}
 use Rattle.mysql_binding.specs.BoundStatements.{statements_with_literals}
 use Rattle.mysql_binding.specs.Replaced.{with_literal_tokens}
 use Rattle.mysql_binding.proofs.BoundStatementLemmas.{length-with_literals}
-use Rattle.mysql_named_params.specs.Statements.{statements}
-use Rattle.mysql_named_params.proofs.ClientLemmas.{reads_as_server, read_as_server}
-use Rattle.mysql_named_params.proofs.SteadyLemmas.{steady_other, steady_other_on}
+use Rattle.mysql_portable.specs.Statements.{statements}
+use Rattle.mysql_portable.proofs.ClientLemmas.{reads_as_server, read_as_server}
+use Rattle.mysql_portable.proofs.SteadyLemmas.{steady_other, steady_other_on}
 use Rattle.mysql_fragments.proofs.ExpandedLemmas.{expanded_alone}
 use Rattle.mysql_steady_fragments.proofs.laws.steady_fragments_in_clients.Goals as goal
 

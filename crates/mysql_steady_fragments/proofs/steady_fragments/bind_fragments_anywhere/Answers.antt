@@ -1,8 +1,8 @@
 use Rattle.std.specs.Prelude.{false}
 use Rattle.std.proofs.Common.{sym, ◌∙◌, rules}
-use Rattle.mysql_named_params.specs.FirstUnportable.{first_unportable}
-use Rattle.mysql_named_params.proofs.SteadyLemmas.{steady_other}
 use Rattle.mysql_named_params.proofs.TokensExistLemmas.{tokens_exist}
+use Rattle.mysql_portable.specs.FirstUnportable.{first_unportable}
+use Rattle.mysql_portable.proofs.SteadyLemmas.{steady_other}
 use Rattle.mysql_fragments.specs.GivenFragments.{given_fragments}
 use Rattle.mysql_steady_text.proofs.BothModesTextLemmas.{nothing_said}
 use Rattle.mysql_steady_fragments.proofs.SteadyFragmentLemmas.{anywhere_fragments, refused_fragments_answer}

@@ -1,6 +1,6 @@
 use Rattle.std.proofs.Common.{true, false, ap, ◌∙◌, rules}
-use Rattle.mysql_named_params.proofs.SteadyLemmas.{steady_other}
 use Rattle.mysql_named_params.proofs.TokensExistLemmas.{tokens_exist}
+use Rattle.mysql_portable.proofs.SteadyLemmas.{steady_other}
 use Rattle.mysql_params_core.specs.Referents.{referents}
 use Rattle.mysql_steady_text.proofs.BothModesTextLemmas.{nothing_said}
 use Rattle.mysql_steady_text.proofs.SteadyTextLemmas.{in_either}

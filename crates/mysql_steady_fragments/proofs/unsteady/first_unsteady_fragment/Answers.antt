@@ -1,6 +1,6 @@
 use Rattle.std.specs.List.{list_all}
 use Rattle.std.proofs.Common.{◌≡◌, get_or, subst}
-use Rattle.mysql_named_params.specs.Steady.{is_steady}
+use Rattle.mysql_portable.specs.Steady.{is_steady}
 use Rattle.mysql_fragments.specs.BorrowedFragments.{Says}
 use Rattle.mysql_fragments.specs.FragmentText.{fragment_text}
 use Rattle.mysql_fragments.specs.declared.fragment.Fragment.{Fragment}

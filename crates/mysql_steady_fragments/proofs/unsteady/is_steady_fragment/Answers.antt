@@ -1,6 +1,6 @@
 use Rattle.std.proofs.Common.{ap, sym, ◌∙◌}
 use Rattle.std.specs.List.{list_all}
-use Rattle.mysql_named_params.specs.Steady.{is_steady}
+use Rattle.mysql_portable.specs.Steady.{is_steady}
 use Rattle.mysql_fragments.specs.FragmentText.{fragment_text, item_text}
 use Rattle.mysql_steady_fragments.proofs.SteadyPartLemmas.{fragment_steady_list, fragment_steady_rows, fragment_steady_name, fragment_steady_names}
 use Rattle.mysql_steady_fragments.proofs.unsteady.is_steady_fragment.Goals as goal

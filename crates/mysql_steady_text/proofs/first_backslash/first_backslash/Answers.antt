@@ -1,5 +1,5 @@
 use Rattle.std.proofs.Common.{arith, rules}
-use Rattle.mysql_named_params.proofs.UnportableLemmas.{slice_within}
+use Rattle.mysql_portable.proofs.UnportableLemmas.{slice_within}
 use Rattle.mysql_steady_text.proofs.BackslashLemmas.{lacking, passed_found, passed_more, passed_whole}
 use Rattle.mysql_steady_text.proofs.first_backslash.first_backslash.Goals as goal
 

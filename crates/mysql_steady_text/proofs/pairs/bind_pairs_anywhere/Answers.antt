@@ -1,4 +1,4 @@
-use Rattle.mysql_named_params.specs.FirstUnportable.{first_unportable}
+use Rattle.mysql_portable.specs.FirstUnportable.{first_unportable}
 use Rattle.mysql_steady_text.proofs.pairs.bind_pairs_anywhere.Goals as goal
 
 pub returns-in-Ok-clause-unportable : goal.returns-in-Ok-clause-unportable

@@ -1,7 +1,7 @@
 use Rattle.std.specs.Prelude.{false}
 use Rattle.std.proofs.Common.{sym, ◌∙◌}
-use Rattle.mysql_named_params.proofs.SteadyLemmas.{steady_other}
 use Rattle.mysql_named_params.proofs.TokensExistLemmas.{tokens_exist}
+use Rattle.mysql_portable.proofs.SteadyLemmas.{steady_other}
 use Rattle.mysql_steady_text.proofs.QueryRefusalLemmas.{clear_passes, unsteady_is_refused, steady_is_refused}
 use Rattle.mysql_steady_text.proofs.refusal.query_refusal.Goals as goal
 

@@ -1,7 +1,7 @@
 use Rattle.std.specs.Prelude.{true, false}
 use Rattle.std.proofs.Common.{sym, ◌∙◌}
-use Rattle.mysql_named_params.specs.FirstUnportable.{first_unportable}
-use Rattle.mysql_named_params.proofs.SteadyLemmas.{none_unsteady}
+use Rattle.mysql_portable.specs.FirstUnportable.{first_unportable}
+use Rattle.mysql_portable.proofs.SteadyLemmas.{none_unsteady}
 use Rattle.mysql_params_core.specs.GivenBorrowed.{given_by_borrowed}
 use Rattle.mysql_steady_text.proofs.BothModesTextLemmas.{nothing_said}
 use Rattle.mysql_steady_text.proofs.QueryRefusalLemmas.{unsteady_is_refused, steady_is_refused, passed, passed_is_steady, passed_is_portable, refused_so}

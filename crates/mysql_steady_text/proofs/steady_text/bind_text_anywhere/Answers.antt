@@ -1,7 +1,7 @@
 use Rattle.std.proofs.Common.{subst}
 use Rattle.std.specs.Prelude.{Bool, IfErr, IfOk}
 use Rattle.mysql_named_params.specs.Tokens.{OnTokens}
-use Rattle.mysql_named_params.specs.FirstUnportable.{first_unportable}
+use Rattle.mysql_portable.specs.FirstUnportable.{first_unportable}
 use Rattle.mysql_params_core.specs.Given.{Given}
 use Rattle.mysql_binding.specs.FirstCause.{first_cause}
 use Rattle.mysql_steady_text.specs.SteadyAgain.{IsSteadyByPosition}

@@ -1,5 +1,0 @@
-use Rattle.mysql_named_params.proofs.GrammarLemmas as lemmas
-use Rattle.mysql_named_params.proofs.laws.grammar_is_a_server.Goals as goal
-
-pub returns : goal.returns
-returns c = record { reads = lemmas.grammar_reads; is_read = lemmas.read_by_grammar }

@@ -1,5 +1,0 @@
-use Rattle.mysql_named_params.proofs.OtherModeLemmas as lemmas
-use Rattle.mysql_named_params.proofs.laws.modes_agree.Goals as goal
-
-pub returns : goal.returns
-returns c = record { tokens = lemmas.tokens_other; servers = lemmas.read_other }

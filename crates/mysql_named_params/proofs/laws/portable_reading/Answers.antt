@@ -1,5 +1,0 @@
-use Rattle.mysql_named_params.proofs.QuietLemmas as lemmas
-use Rattle.mysql_named_params.proofs.laws.portable_reading.Goals as goal
-
-pub returns : goal.returns
-returns c = record { alike = lemmas.portable_read }

@@ -1,8 +1,0 @@
-use Rattle.mysql_named_params.proofs.QuietLemmas.{portable_read}
-use Rattle.mysql_named_params.proofs.StatementLemmas.{read_statements}
-use Rattle.mysql_named_params.proofs.laws.same_statements.Goals as goal
-
-pub returns : goal.returns
-returns c = record {
-  count = λ server mode query ts us honest h p u. read_statements (portable_read server mode query ts us honest h p u);
-}

@@ -1,6 +1,0 @@
-use Rattle.std.proofs.Common.{◌≡◌, drop}
-use Rattle.mysql_named_params.specs.Server.{escapes_backquote}
-use Rattle.mysql_named_params.proofs.portable.escapes_backquote.Given as goal
-
-abbrev pub invariant-loop-i : goal.invariant-loop-i
-invariant-loop-i l = escapes_backquote (drop l.i l.text) ≡ escapes_backquote l.text

@@ -1,0 +1,24 @@
+-- Bytes with which only plain tokens begin, and no construct of a server or of a client, and after
+-- which no line and no statement begins. For private functions of `calm_bytes.rt`, `portable.rt`
+-- and `client.rt`; no public contract cites it.
+use Rattle.std.specs.Prelude.{◌≡◌, ◌+◌, ◌<◌, ℕ, Bool, false, not, ◌&&◌, ◌||◌, ◌==◌, List, drop}
+use Rattle.std.specs.Str.{byte}
+use Rattle.mysql_named_params.specs.Bytes.{asterisk, bracket, dash, dollar, newline, plus, point}
+use Rattle.mysql_named_params.specs.PlainBytes.{is_always_plain}
+use Rattle.mysql_portable.specs.Portable.{begins_exponent}
+
+-- a calm byte: nothing begins or ends with it, except an exponent after a digit
+abbrev pub is_calm : ℕ → Bool
+is_calm b =
+    is_always_plain b
+    && not (b == bracket || b == dollar || b == point || b == plus || b == asterisk
+    || b == byte ";" || b == byte "\\" || b == newline || b == 0)
+
+-- the letter of an exponent, or its sign
+abbrev pub is_of_exponent : ℕ → Bool
+is_of_exponent b = (b == byte "e" || b == byte "E") || (b == plus || b == dash)
+
+-- none of the bytes up to this index stands directly before an exponent and a place
+abbrev pub StandBeforeNoExponent : List ℕ → ℕ → Type 0
+StandBeforeNoExponent text end =
+    (k : ℕ) → k < end → begins_exponent (drop (k + 1) text) ≡ false

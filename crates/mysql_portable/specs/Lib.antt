@@ -1,0 +1,16 @@
+pub mod Server
+pub mod Quiet
+pub mod KnownServers
+pub mod Portable
+pub mod FirstUnportable
+pub mod FrontConstruct
+pub mod CalmBytes
+pub mod Steady
+pub mod CharacterSet
+pub mod Client
+pub mod Statements
+pub mod FoundInClient
+pub mod FirstUnportableInClient
+pub mod FrontInClient
+pub mod TameBytes
+pub mod Clear

@@ -1,0 +1,124 @@
+//! Runs of calm bytes: with each only a plain token begins, and no construct of a server or of a
+//! client, except an exponent before a place and a word at the front of a client's line or
+//! statement. After none of them a line or a statement begins. The first bytes are passed by a
+//! table, since most runs are short, and longer ones 16 bytes at once.
+ghost use Rattle.std.specs.Prelude.{◌≡◌, ◌+◌, ◌≤◌, length};
+ghost use Rattle.mysql_named_params.specs.Bytes.{begins};
+ghost use Rattle.mysql_named_params.specs.Lanes.{EachPasses, IsFirstOther};
+ghost use Rattle.mysql_portable.specs.CalmBytes.{is_calm, is_of_exponent, StandBeforeNoExponent};
+
+use mysql_named_params::lanes::{LANES, first_set};
+use std::simd::prelude::*;
+
+// The number of bytes that are passed by the table.
+const NEAR: usize = 4;
+
+/// A number of bytes at the front of the text that are calm, and none of which stands before an
+/// exponent and a place. Inline, so that where there is none one look-up tells it, without a call.
+#[inline(always)]
+pub(crate) fn calm_len(text: &[u8]) -> usize
+    ensures in_range { result ≤ length text.now }
+    ensures calm { EachPasses is_calm text.now 0 result }
+    ensures no_exponent { StandBeforeNoExponent text.now result }
+{
+    match text {
+        [first, ..] if is_calm(*first) => calm_run_len(text),
+        _ => 0,
+    }
+}
+
+// `calm_len` of a run. It needs to look at no digit: an exponent has a sign, which is not calm, so
+// only a run that ends within one gives its last two bytes back. They may be a digit and `e`.
+fn calm_run_len(text: &[u8]) -> usize
+    ensures in_range { result ≤ length text.now }
+    ensures calm { EachPasses is_calm text.now 0 result }
+    ensures no_exponent { StandBeforeNoExponent text.now result }
+{
+    let end = calm_end(text);
+    if goes_on_exponent(&text[end..]) {
+        end.saturating_sub(2)
+    } else {
+        end
+    }
+}
+
+// Whether the text begins with the letter of an exponent or its sign.
+fn goes_on_exponent(text: &[u8]) -> bool
+    ensures { result ≡ begins is_of_exponent text.now }
+{
+    matches!(text, [b'e' | b'E' | b'+' | b'-', ..])
+}
+
+// An index up to which each byte of the text is calm. It is in fact the furthest such index.
+fn calm_end(text: &[u8]) -> usize
+    ensures in_range { result ≤ length text.now }
+    ensures calm { EachPasses is_calm text.now 0 result }
+{
+    let near = text.len().min(NEAR);
+    for at in 0..near {
+        if !is_calm(text[at]) {
+            return at;
+        }
+    }
+    far_calm_end(text, near)
+}
+
+// `calm_end`, if the bytes before this index are calm.
+fn far_calm_end(text: &[u8], from: usize) -> usize
+    requires in_range { from ≤ length text.now }
+    requires calm { EachPasses is_calm text.now 0 from }
+    ensures in_range { result ≤ length text.now }
+    ensures calm { EachPasses is_calm text.now 0 result }
+{
+    let reach = text.len().saturating_sub(LANES - 1);
+    let mut at = from;
+    'by_lanes: while at < reach {
+        match first_not_calm(text, at) {
+            Some(run) => return at + run,
+            None => at += LANES,
+        }
+    }
+    while at < text.len() && is_calm(text[at]) {
+        at += 1;
+    }
+    at
+}
+
+// How many of the 16 bytes from this one on stand before the first that isn't calm, if one isn't.
+// Two bytes that differ in their last bit alone are compared as one.
+#[inline(always)]
+fn first_not_calm(text: &[u8], at: usize) -> Option<usize>
+    requires { at + LANES ≤ length text.now }
+    ensures { IsFirstOther is_calm text.now at LANES result }
+{
+    let bytes = u8x16::from_slice(&text[at..]);
+    let pairs = bytes | u8x16::splat(1);
+    let quotes = pairs.simd_eq(u8x16::splat(b'#')) | bytes.simd_eq(u8x16::splat(b'\''));
+    let star_or_slash = pairs.simd_eq(u8x16::splat(b'+')) | pairs.simd_eq(u8x16::splat(b'/'));
+    let colon_or_dash = pairs.simd_eq(u8x16::splat(b';')) | bytes.simd_eq(u8x16::splat(b'-'));
+    let brackets = bytes.simd_eq(u8x16::splat(b'[')) | bytes.simd_eq(u8x16::splat(b'\\'));
+    let mark_or_dollar = bytes.simd_eq(u8x16::splat(b'?')) | bytes.simd_eq(u8x16::splat(b'$'));
+    let ends = bytes.simd_eq(u8x16::splat(b'\n')) | bytes.simd_eq(u8x16::splat(0));
+    let names = bytes.simd_eq(u8x16::splat(b'`')) | ends;
+    let signs = (quotes | star_or_slash) | (colon_or_dash | brackets);
+    let others = signs | (mark_or_dollar | names);
+    first_set(others.to_bitmask())
+}
+
+// Whether the byte is calm.
+fn is_calm(byte: u8) -> bool
+    ensures { result ≡ is_calm byte }
+{
+    CALM[byte as usize] == b'1'
+}
+
+// `1` for each calm byte, 32 bytes a line.
+static CALM: [u8; 256] = *b"\
+    01111111110111111111111111111111\
+    11000110110010001111111111001110\
+    11111111111111111111111111100111\
+    01111111111111111111111111111111\
+    11111111111111111111111111111111\
+    11111111111111111111111111111111\
+    11111111111111111111111111111111\
+    11111111111111111111111111111111";

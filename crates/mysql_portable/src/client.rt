@@ -1,0 +1,470 @@
+//! The first construct of a query for which it isn't portable on servers, or for which the client
+//! `mysql` or `mariadb` sends something else than the query.
+ghost use Rattle.std.specs.Prelude.{◌≡◌, ◌↔◌, ◌≤◌, ◌<◌, false, length, None, IsTrue};
+ghost use Rattle.mysql_named_params.specs.Tokens.{OnTokens};
+ghost use Rattle.mysql_named_params.specs.Lanes.{EachPasses};
+ghost use Rattle.mysql_portable.specs.CalmBytes.{is_calm, StandBeforeNoExponent};
+ghost use Rattle.mysql_portable.specs.Client.{begins_opener, begins_end, holds_opener};
+ghost use Rattle.mysql_portable.specs.FoundInClient.{begins_no_word, begins_delimiter_line, without_accent, letter_of, begins_word, ends_word, begins_whole_word, is_word_of_mariadb, is_word_of_mysql, is_client_word, is_joined, closes_before_joined, drops_line, begins_comment, stand_before_comment, ends_line, escapes_newline, found_in_quotes, found_in_comment, found_word, found_at_byte};
+ghost use Rattle.mysql_portable.specs.FirstUnportableInClient.{first_unportable_in_client, IsPortableInClient};
+ghost use Rattle.mysql_portable.specs.TameBytes.{IsTameText};
+ghost use Rattle.mysql_portable.specs.FrontInClient.{are_comment, statement_after, line_after, found_in_bytes, found_or_zero, found_in_front};
+
+use crate::calm_bytes::calm_len;
+use crate::jumps::{BEFORE_JUMP, end_without};
+use crate::portable::{Construct, Unportable, begins_place, begins_special, front_construct};
+use crate::tame_bytes::are_tame;
+use mysql_named_params::tokens::{first_token, is_white_space};
+
+// Whether the bytes of a token are those of a comment.
+fn are_comment(token: &[u8]) -> bool
+    ensures { result ≡ are_comment token.now }
+{
+    matches!(token, [b'#', ..] | [b'-' | b'/', _, ..])
+}
+
+// Whether no word begins with the byte.
+fn begins_no_word(byte: u8) -> bool
+    ensures { result ≡ begins_no_word byte }
+{
+    byte <= b' ' || 128 <= byte
+}
+
+// Whether a statement begins after this token, if the flag says so of the place before it.
+fn statement_after(before: bool, token: &[u8]) -> bool
+    ensures { result ≡ statement_after before token.now }
+{
+    match token {
+        [b';'] => true,
+        [b'#'] => before,
+        [byte] => begins_no_word(*byte) && before,
+        _ => are_comment(token) && before,
+    }
+}
+
+// Whether a line or a statement may begin after this token.
+fn line_after(before: bool, token: &[u8]) -> bool
+    ensures { result ≡ line_after before token.now }
+{
+    match token {
+        [b';' | b'\n' | b'/' | b'#'] => true,
+        [byte] => begins_no_word(*byte) && before,
+        _ => are_comment(token),
+    }
+}
+
+// Whether the text begins with `/*!`, `/*+` or `/*/`.
+fn begins_opener(text: &[u8]) -> bool
+    ensures { result ≡ begins_opener text.now }
+{
+    matches!(text, [b'/', b'*', b'!' | b'+' | b'/', ..])
+}
+
+// Whether the text begins with `*/`.
+fn begins_end(text: &[u8]) -> bool
+    ensures { result ≡ begins_end text.now }
+{
+    matches!(text, [b'*', b'/', ..])
+}
+
+// Whether one of these openers stands in the text of a comment.
+fn holds_opener(text: &[u8]) -> bool
+    ensures { result ≡ holds_opener text.now }
+{
+    let mut i = 0;
+    'stops: while i < text.len() {
+        i = end_without(text, i, b'/', b'*');
+        let near = i + BEFORE_JUMP.min(text.len() - i);
+        'near_bytes: while i < near {
+            let rest = &text[i..];
+            if begins_opener(rest) {
+                return true;
+            }
+            if begins_end(rest) {
+                return false;
+            }
+            i += 1;
+        }
+    }
+    false
+}
+
+// The lower-case letter for which a client takes a capital of latin1 with an accent.
+fn without_accent(capital: u8) -> u8
+    ensures { result ≡ without_accent capital }
+{
+    if capital < 196 {
+        b'a'
+    } else if capital < 199 {
+        capital
+    } else if capital == 199 {
+        b'c'
+    } else if capital < 204 {
+        b'e'
+    } else if capital < 208 {
+        b'i'
+    } else if capital == 208 {
+        b'd'
+    } else if capital == 209 {
+        b'n'
+    } else if capital < 214 {
+        b'o'
+    } else if capital < 217 {
+        capital
+    } else if capital < 220 {
+        b'u'
+    } else if capital < 222 {
+        b'y'
+    } else {
+        capital
+    }
+}
+
+// The lower-case letter for which a client takes the byte.
+pub(crate) fn letter_of(byte: u8) -> u8
+    ensures { result ≡ letter_of byte }
+{
+    if byte < 192 {
+        byte.to_ascii_lowercase()
+    } else if byte < 224 {
+        without_accent(byte)
+    } else {
+        without_accent(byte - 32)
+    }
+}
+
+// Whether the text begins with this word of lower-case letters.
+pub(crate) fn begins_word(word: &[u8], text: &[u8]) -> bool
+    ensures value { result ≡ begins_word word.now text.now }
+    ensures in_range { IsTrue result → length word.now ≤ length text.now }
+{
+    for i in 0..word.len() {
+        if text.len() <= i {
+            return false;
+        }
+        if letter_of(text[i]) != word[i] {
+            return false;
+        }
+    }
+    true
+}
+
+// Whether the text begins with the whole word.
+fn begins_whole_word(word: &[u8], text: &[u8]) -> bool
+    ensures { result ≡ begins_whole_word word.now text.now }
+{
+    begins_word(word, text) && ends_word(&text[word.len()..])
+}
+
+// Whether the text begins with nothing that would be part of a word.
+fn ends_word(text: &[u8]) -> bool
+    ensures { result ≡ ends_word text.now }
+{
+    match text {
+        [byte, ..] => *byte <= b' ' || *byte == b';',
+        [] => true,
+    }
+}
+
+// Whether the client joins the byte to what stands before a comment.
+fn is_joined(byte: u8) -> bool
+    ensures { result ≡ is_joined byte }
+{
+    128 <= byte || byte == b'\\'
+}
+
+// Whether a `*` and then this text close a comment before such a byte.
+fn closes_before_joined(text: &[u8]) -> bool
+    ensures { result ≡ closes_before_joined text.now }
+{
+    match text {
+        [b'/', byte, ..] => is_joined(*byte),
+        _ => false,
+    }
+}
+
+// Whether the client drops a line that begins with a `-` and then this text.
+fn drops_line(text: &[u8]) -> bool
+    ensures { result ≡ drops_line text.now }
+{
+    match text {
+        [b'-', ..] => true,
+        _ => begins_place(text),
+    }
+}
+
+// Whether the text begins with a comment.
+fn begins_comment(text: &[u8]) -> bool
+    ensures { result ≡ begins_comment text.now }
+{
+    match text {
+        [b'#', ..] | [b'/', b'*', ..] | [b'-', b'-'] => true,
+        [b'-', b'-', gap, ..] => is_white_space(*gap),
+        _ => false,
+    }
+}
+
+// Whether a `-` and then this text are two signs directly before a comment.
+pub(crate) fn stand_before_comment(text: &[u8]) -> bool
+    ensures { result ≡ stand_before_comment text.now }
+{
+    match text {
+        [b'-', rest @ ..] => begins_comment(rest),
+        _ => false,
+    }
+}
+
+// Whether the text begins with the end of a line.
+fn ends_line(text: &[u8]) -> bool
+    ensures { result ≡ ends_line text.now }
+{
+    matches!(text, [b'\n', ..] | [b'\r', b'\n', ..])
+}
+
+// Whether a backslash stands in the text at the end of a line.
+fn escapes_newline(text: &[u8]) -> bool
+    ensures { result ≡ escapes_newline text.now }
+{
+    let mut i = 0;
+    'stops: while i < text.len() {
+        i = end_without(text, i, b'\\', b'\\');
+        let near = i + BEFORE_JUMP.min(text.len() - i);
+        'near_bytes: while i < near {
+            if text[i] == b'\\' && ends_line(&text[i + 1..]) {
+                return true;
+            }
+            i += 1;
+        }
+    }
+    false
+}
+
+// Whether the letter and then this text begin with a word that MariaDB's client runs itself.
+fn is_word_of_mariadb(letter: u8, rest: &[u8]) -> bool
+    ensures { result ≡ is_word_of_mariadb letter rest.now }
+{
+    match letter {
+        b'c' => {
+            begins_whole_word(b"harset", rest)
+                || begins_whole_word(b"lear", rest)
+                || begins_whole_word(b"onnect", rest)
+                || begins_whole_word(b"osts", rest)
+        }
+        b'e' => {
+            begins_whole_word(b"dit", rest)
+                || begins_whole_word(b"go", rest)
+                || begins_whole_word(b"xit", rest)
+        }
+        b'g' => begins_whole_word(b"o", rest),
+        b'h' => begins_whole_word(b"elp", rest),
+        b'n' => {
+            begins_whole_word(b"opager", rest)
+                || begins_whole_word(b"otee", rest)
+                || begins_whole_word(b"owarning", rest)
+        }
+        b'p' => {
+            begins_whole_word(b"ager", rest)
+                || begins_whole_word(b"rint", rest)
+                || begins_whole_word(b"rompt", rest)
+        }
+        b'q' => begins_whole_word(b"uit", rest),
+        b'r' => begins_whole_word(b"ehash", rest),
+        b's' => {
+            begins_whole_word(b"andbox", rest)
+                || begins_whole_word(b"ource", rest)
+                || begins_whole_word(b"tatus", rest)
+                || begins_whole_word(b"ystem", rest)
+        }
+        b't' => begins_whole_word(b"ee", rest),
+        b'u' => begins_whole_word(b"se", rest),
+        b'w' => begins_whole_word(b"arnings", rest),
+        _ => false,
+    }
+}
+
+// Whether the letter and then this text begin with a word that MySQL's client alone runs itself.
+fn is_word_of_mysql(letter: u8, rest: &[u8]) -> bool
+    ensures { result ≡ is_word_of_mysql letter rest.now }
+{
+    match letter {
+        b'q' => begins_whole_word(b"uery_attributes", rest),
+        b'r' => begins_whole_word(b"esetconnection", rest),
+        b's' => begins_whole_word(b"sl_session_data_print", rest),
+        _ => false,
+    }
+}
+
+// Whether the letter and then this text begin with a word of one of the clients.
+#[tactic(auto, unfolding(crate::specs::FoundInClient::is_client_word))]
+pub(crate) fn is_client_word(letter: u8, rest: &[u8]) -> bool
+    ensures { result ≡ is_client_word letter rest.now }
+{
+    is_word_of_mariadb(letter, rest) || is_word_of_mysql(letter, rest)
+}
+
+// Whether a line of the text after the first begins with the word `delimiter`.
+fn begins_delimiter_line(text: &[u8]) -> bool
+    ensures { result ≡ begins_delimiter_line text.now }
+{
+    let mut i = 0;
+    'stops: while i < text.len() {
+        i = end_without(text, i, b'\n', b'\n');
+        let near = i + BEFORE_JUMP.min(text.len() - i);
+        'near_bytes: while i < near {
+            if text[i] == b'\n' && begins_word(b"delimiter", &text[i + 1..]) {
+                return true;
+            }
+            i += 1;
+        }
+    }
+    false
+}
+
+// What is found at a plain byte before this text.
+fn found_at_byte(statement: bool, line: bool, byte: u8, rest: &[u8]) -> Option<Construct>
+    ensures { result ≡ found_at_byte statement line byte rest.now }
+{
+    match byte {
+        b'\\' if !matches!(rest, [b'N', ..]) => Some(Construct::ClientCommand),
+        b'*' if closes_before_joined(rest) => Some(Construct::JoiningComment),
+        b'-' if statement && drops_line(rest) => Some(Construct::DashInFront),
+        b'-' if stand_before_comment(rest) => Some(Construct::DashesBeforeComment),
+        _ => found_word(statement, line, letter_of(byte), rest),
+    }
+}
+
+// What is found at this letter, of lower case, and then this text.
+fn found_word(statement: bool, line: bool, letter: u8, rest: &[u8]) -> Option<Construct>
+    ensures { result ≡ found_word statement line letter rest.now }
+{
+    if line && letter == b'd' && begins_word(b"elimiter", rest) {
+        return Some(Construct::Delimiter);
+    }
+    if statement && is_client_word(letter, rest) {
+        return Some(Construct::ClientWord);
+    }
+    None
+}
+
+// What is found in a token of these bytes, before this text.
+fn found_in_bytes(statement: bool, line: bool, token: &[u8], rest: &[u8]) -> Option<Construct>
+    ensures { result ≡ found_in_bytes statement line token.now rest.now }
+{
+    match token {
+        [byte] => found_at_byte(statement, line, *byte, rest),
+        [b'/', _, tail @ ..] => found_in_comment(tail, rest),
+        [b'\'' | b'"' | b'`', tail @ ..] => found_in_quotes(tail),
+        _ => None,
+    }
+}
+
+// What is found in a block comment before this text.
+fn found_in_comment(tail: &[u8], rest: &[u8]) -> Option<Construct>
+    ensures { result ≡ found_in_comment tail.now rest.now }
+{
+    if holds_opener(tail) {
+        return Some(Construct::OpenerInComment);
+    }
+    match rest {
+        [byte, ..] if is_joined(*byte) => Some(Construct::JoiningComment),
+        _ if begins_special(tail) && begins_delimiter_line(tail) => Some(Construct::Delimiter),
+        _ => None,
+    }
+}
+
+// What is found in a text in quotes or backquotes.
+fn found_in_quotes(tail: &[u8]) -> Option<Construct>
+    ensures { result ≡ found_in_quotes tail.now }
+{
+    if escapes_newline(tail) {
+        return Some(Construct::EscapedNewline);
+    }
+    if begins_delimiter_line(tail) {
+        return Some(Construct::Delimiter);
+    }
+    None
+}
+
+// Whether the token of this length at the front of the text is a text in quotes or backquotes of
+// tame bytes. Most are, and nothing is found in them.
+fn is_tame_text(text: &[u8], len: usize) -> bool
+    requires { len ≤ length text.now }
+    ensures { IsTrue result → IsTameText text.now len }
+{
+    matches!(text, [b'\'' | b'"' | b'`', ..]) && len > 1 && are_tame(text, len)
+}
+
+// What is found in the token at the front of the text, which has this length.
+fn found_in_front(statement: bool, line: bool, text: &[u8], len: usize) -> Option<Construct>
+    requires some { 0 < len }
+    requires in_range { len ≤ length text.now }
+    ensures { result ≡ found_in_front statement line text.now len }
+{
+    if let Some(found) = front_construct(text, len) {
+        return Some(found);
+    }
+    if is_tame_text(text, len) {
+        return None;
+    }
+    let (token, rest) = text.split_at(len);
+    if token.contains(&0) {
+        return Some(Construct::ZeroByte);
+    }
+    found_in_bytes(statement, line, token, rest)
+}
+
+// The number of calm bytes at the front of the text that are passed at once: none where a word of
+// the client may begin.
+fn passed_len(statement: bool, line: bool, text: &[u8]) -> usize
+    ensures in_range { result ≤ length text.now }
+    ensures calm { EachPasses is_calm text.now 0 result }
+    ensures no_exponent { StandBeforeNoExponent text.now result }
+    ensures no_word { 0 < result → (statement ≡ false) × (line ≡ false) }
+{
+    if statement || line { 0 } else { calm_len(text) }
+}
+
+/// The first construct of a query for which it isn't portable, as
+/// [`first_unportable`](crate::portable::first_unportable) has it, or for which the client `mysql`
+/// or `mariadb` sends something else than the query.
+///
+/// It is for a query whose bound text goes through such a client with `--comments`, as
+/// `.. | mysql --comments --default-character-set=utf8mb4`, without `--binary-mode` and `--force`.
+/// A program that sends the text itself needs only `first_unportable`.
+///
+/// If there is none, the client reads the query as a server does
+/// ([`client_is_a_server`](crate::laws::client_is_a_server)). As far as it only reads, it cuts each
+/// text that is bound to the query into as many statements as the query has: the laws
+/// `bound_texts_in_clients`, and those of steady texts and of fragments. Only tests show that it
+/// does nothing else with the query, as to take a line for a command.
+///
+/// It judges the bytes that it is given. A bound text with names or keywords, or with strings
+/// without backslash escapes, may hold a construct that its query doesn't have, and the client
+/// would change it: ask once more of such a text.
+pub fn first_unportable_in_client(query: &[u8], no_backslash_escape: bool) -> Option<Unportable>
+    ensures first { OnTokens no_backslash_escape query.now
+        (λ ts. result ≡ first_unportable_in_client ts) }
+    ensures none { OnTokens no_backslash_escape query.now
+        (λ ts. (result ≡ None) ↔ IsPortableInClient ts) }
+{
+    let mut rest = query;
+    let mut statement = true;
+    let mut line = true;
+    'tokens: loop {
+        rest = &rest[passed_len(statement, line, rest)..];
+        if rest.is_empty() {
+            return None;
+        }
+        let (_, len) = first_token(rest, no_backslash_escape);
+        if let Some(construct) = found_in_front(statement, line, rest, len) {
+            return Some(Unportable {
+                construct,
+                at: query.len() - rest.len(),
+            });
+        }
+        let token = &rest[..len];
+        statement = statement_after(statement, token);
+        line = line_after(line, token);
+        rest = &rest[len..];
+    }
+}
