@@ -20,7 +20,7 @@ use Rattle.mysql_params_core.specs.Lookup.{lookup}
 use Rattle.mysql_binding.specs.FirstCause.{first_cause}
 use Rattle.mysql_binding.specs.Pieces.{pieces, joined_text}
 use Rattle.mysql_binding.specs.declared.bind_error.BindError.TheVariants.{Memory}
-use Rattle.mysql_steady_literal.specs.SteadyLiteral.{steady_literal_of, steady_literal_text}
+use Rattle.mysql_steady_text.specs.SteadyLiteral.{steady_literal_of, steady_literal_text}
 use Rattle.mysql_steady_text.specs.SteadyText.{IsSteadyText, IsAnywhereText}
 use Rattle.mysql_steady_text.specs.SteadyTextErrors.{IsBindRefusal}
 use Rattle.mysql_steady_text.specs.declared.steady_text_error.SteadyTextError.{SteadyTextError}

@@ -10,7 +10,7 @@ use Rattle.mysql_portable.specs.FirstUnportable.{first_unportable}
 use Rattle.mysql_portable.specs.Steady.{IsSteady}
 use Rattle.mysql_params_core.specs.Made.{Made}
 use Rattle.mysql_binding.specs.Pieces.{pieces, joined_text}
-use Rattle.mysql_steady_literal.specs.SteadyLiteral.{steady_literal_text}
+use Rattle.mysql_steady_text.specs.SteadyLiteral.{steady_literal_text}
 use Rattle.mysql_fixed_query.specs.Bindable.{IsBindable, IsBindableByPosition}
 
 -- only memory refuses to bind the query to these pairs of a name and a thing, for any server

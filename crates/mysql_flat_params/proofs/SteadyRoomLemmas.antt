@@ -20,10 +20,10 @@ use Rattle.mysql_binding.specs.declared.binding.room.TextInRoom.{TextInRoom}
 use Rattle.mysql_binding.specs.declared.binding.room.TextInRoom.TheVariants.{Written, TooShort}
 use Rattle.mysql_binding.proofs.CauseLemmas.{on_both}
 use Rattle.mysql_binding.proofs.TextInRoomLemmas.{each_in_room, known_text}
-use Rattle.mysql_steady_literal.specs.SteadyLiteral.{steady_literal_of}
-use Rattle.mysql_steady_literal.specs.SteadyShape.{IsSteadyLiteral}
-use Rattle.mysql_steady_literal.specs.ReadSteadyLiteral.{ReadsSteadyAs}
-use Rattle.mysql_steady_literal.proofs.SteadyLiteralLemmas.{steady_shape, steady_bytes, steady_reads}
+use Rattle.mysql_steady_text.specs.SteadyLiteral.{steady_literal_of}
+use Rattle.mysql_steady_text.specs.SteadyShape.{IsSteadyLiteral}
+use Rattle.mysql_steady_text.specs.ReadSteadyLiteral.{ReadsSteadyAs}
+use Rattle.mysql_steady_text.proofs.SteadyLiteralLemmas.{steady_shape, steady_bytes, steady_reads}
 use Rattle.mysql_steady_text.specs.FirstBackslash.{first_backslash}
 use Rattle.mysql_steady_text.specs.SteadyLiterals.{IsSteadyFor}
 use Rattle.mysql_steady_text.specs.SteadyText.{IsSteadyText}

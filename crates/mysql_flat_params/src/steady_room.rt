@@ -8,7 +8,7 @@ ghost use Rattle.mysql_binding.specs.FirstCause.{first_cause};
 ghost use Rattle.mysql_binding.specs.MeasuredText.{HasGivenLength};
 ghost use Rattle.mysql_binding.specs.TextInRoom.{IsTextInRoom};
 ghost use Rattle.mysql_binding.specs.WrittenText.{IsGivenText};
-ghost use Rattle.mysql_steady_literal.specs.SteadyLiteral.{steady_literal_of};
+ghost use Rattle.mysql_steady_text.specs.SteadyLiteral.{steady_literal_of};
 ghost use Rattle.mysql_steady_text.specs.SteadyLiterals.{IsSteadyFor};
 ghost use Rattle.mysql_flat_params.specs.AnywhereIntoRoom.{IsAnywhereForm, IsAnywhereOutcome, anywhere_refusal};
 ghost use Rattle.mysql_flat_params.specs.BothModesIntoRoom.{IsBothModesForm, IsBothModesOutcome, both_modes_refusal};

@@ -35,9 +35,9 @@ pub use Rattle.mysql_binding.specs.ValueLiterals
 pub use Rattle.mysql_binding.specs.BindErrors
 pub use Rattle.mysql_binding.specs.BoundPairs
 pub use Rattle.mysql_binding.specs.Isolation
-pub use Rattle.mysql_steady_literal.specs.SteadyLiteral
-pub use Rattle.mysql_steady_literal.specs.SteadyShape
-pub use Rattle.mysql_steady_literal.specs.ReadSteadyLiteral
+pub use Rattle.mysql_steady_text.specs.SteadyLiteral
+pub use Rattle.mysql_steady_text.specs.SteadyShape
+pub use Rattle.mysql_steady_text.specs.ReadSteadyLiteral
 pub use Rattle.mysql_steady_text.specs.SteadyLiterals
 pub use Rattle.mysql_steady_text.specs.SteadyText
 pub use Rattle.mysql_steady_text.specs.SteadyAgain

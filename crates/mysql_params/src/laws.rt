@@ -22,10 +22,9 @@ pub use mysql_portable::laws::{
     unportable_equality,
 };
 pub use mysql_program::laws::run_error_equality;
-pub use mysql_steady_literal::laws::steady_literals;
 pub use mysql_steady_text::laws::{
     both_modes_error_equality, both_modes_pairs_error_equality, bound_steady_texts,
     bound_steady_texts_are_sent, bound_steady_texts_in_clients, bound_texts_in_both_modes,
-    steady_isolation, steady_pairs_error_equality, steady_text_error_equality,
+    steady_isolation, steady_literals, steady_pairs_error_equality, steady_text_error_equality,
     steady_texts_are_sent, steady_texts_in_clients, steady_texts_on_servers,
 };

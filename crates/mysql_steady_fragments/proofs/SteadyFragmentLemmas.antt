@@ -23,7 +23,7 @@ use Rattle.mysql_binding.proofs.BoundText.{bound}
 use Rattle.mysql_binding.proofs.CauseLemmas.{no_cause_parts, no_place_out, on_both, on_map}
 use Rattle.mysql_binding.proofs.PieceLemmas.{joined_text_count, joined_text_is}
 use Rattle.mysql_steady_text.specs.SteadyText.{IsSteadyText}
-use Rattle.mysql_steady_literal.specs.SteadyLiteral.{steady_literal_of}
+use Rattle.mysql_steady_text.specs.SteadyLiteral.{steady_literal_of}
 use Rattle.mysql_steady_text.specs.SteadyLiterals.{IsSteadyFor}
 use Rattle.mysql_steady_text.proofs.SteadyTextLemmas.{is_steady_text}
 use Rattle.mysql_steady_text.proofs.SteadySpliceLemmas.{steady_places, steady_portable, steady_on, steady_read}

@@ -17,10 +17,10 @@ use Rattle.mysql_fragments.specs.FragmentText.{all_values}
 use Rattle.mysql_fragments.specs.FragmentsInRoom.{HasFilledLength}
 use Rattle.mysql_fragments.specs.GivenFragments.{GivenFragments}
 use Rattle.mysql_fragments.specs.declared.fragment.Fragment.{Fragment}
-use Rattle.mysql_steady_literal.specs.SteadyLiteral.{steady_literal_of}
-use Rattle.mysql_steady_literal.specs.SteadyShape.{IsSteadyLiteral}
-use Rattle.mysql_steady_literal.specs.ReadSteadyLiteral.{ReadsSteadyAs}
-use Rattle.mysql_steady_literal.proofs.SteadyLiteralLemmas.{steady_shape, steady_bytes, steady_reads}
+use Rattle.mysql_steady_text.specs.SteadyLiteral.{steady_literal_of}
+use Rattle.mysql_steady_text.specs.SteadyShape.{IsSteadyLiteral}
+use Rattle.mysql_steady_text.specs.ReadSteadyLiteral.{ReadsSteadyAs}
+use Rattle.mysql_steady_text.proofs.SteadyLiteralLemmas.{steady_shape, steady_bytes, steady_reads}
 use Rattle.mysql_steady_text.specs.SteadyLiterals.{IsSteadyFor}
 use Rattle.mysql_steady_fragments.specs.SteadyFragments.{IsAnywhereFragments, IsSteadyFragments, first_unsteady_from}
 use Rattle.mysql_steady_fragments.specs.SteadyFragmentsErrors.{IsFragmentsRefusal, IsSteadyRefusal}

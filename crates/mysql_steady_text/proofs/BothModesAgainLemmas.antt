@@ -20,7 +20,7 @@ use Rattle.mysql_binding.proofs.BoundAgainLemmas.{pieces-with_marks, with_litera
 use Rattle.mysql_binding.proofs.CauseLemmas.{no_cause_left, no_cause_parts, no_cause_renamed, no_float_cause, no_place_out, value_each}
 use Rattle.mysql_binding.proofs.PieceLemmas.{bound_none, joined_text_count, joined_text-pieces_from}
 use Rattle.mysql_binding.proofs.SpliceLemmas.{as_many_lists}
-use Rattle.mysql_steady_literal.specs.ReadSteadyLiteral.{read_steady_literal}
+use Rattle.mysql_steady_text.specs.ReadSteadyLiteral.{read_steady_literal}
 use Rattle.mysql_steady_text.specs.BothModesText.{IsTextInBothModes, IsBoundAgainInBothModes, IsByPositionInBothModes}
 use Rattle.mysql_steady_text.proofs.SteadySpliceLemmas.{steady_places}
 use Rattle.mysql_steady_text.proofs.BothModesTextLemmas.{in_both_modes}

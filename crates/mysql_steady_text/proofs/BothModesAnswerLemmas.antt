@@ -10,7 +10,7 @@ use Rattle.mysql_portable.proofs.UnportableLemmas.{none_is_portable}
 use Rattle.mysql_params_core.specs.Given.{Given}
 use Rattle.mysql_binding.specs.WrittenText.{IsGivenText}
 use Rattle.mysql_binding.proofs.CauseLemmas.{on_both}
-use Rattle.mysql_steady_literal.specs.SteadyLiteral.{steady_literal_of}
+use Rattle.mysql_steady_text.specs.SteadyLiteral.{steady_literal_of}
 use Rattle.mysql_steady_text.specs.SteadyLiterals.{IsSteadyFor}
 use Rattle.mysql_steady_text.specs.BothModesText.{IsTextInBothModes, IsPortableInBothModes, IsByPositionInBothModes}
 use Rattle.mysql_steady_text.specs.FirstBackslash.{first_backslash}

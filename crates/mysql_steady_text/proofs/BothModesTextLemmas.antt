@@ -28,8 +28,8 @@ use Rattle.mysql_binding.proofs.ContentsLemmas as read
 use Rattle.mysql_binding.proofs.PieceLemmas.{joined_text_count, joined_text_is}
 use Rattle.mysql_binding.proofs.SpliceLemmas.{Each}
 use Rattle.mysql_binding.proofs.ValueLiteralLemmas.{mapped_literals}
-use Rattle.mysql_steady_literal.specs.ReadSteadyLiteral.{read_steady_literal, ReadsSteadyBefore}
-use Rattle.mysql_steady_literal.specs.SteadyLiteral.{steady_literal_of}
+use Rattle.mysql_steady_text.specs.ReadSteadyLiteral.{read_steady_literal, ReadsSteadyBefore}
+use Rattle.mysql_steady_text.specs.SteadyLiteral.{steady_literal_of}
 use Rattle.mysql_steady_text.specs.SteadyLiterals.{AreSteadyLiterals, IsSteadyFor}
 use Rattle.mysql_steady_text.specs.BothModesText.{IsTextInBothModes, IsPortableInBothModes}
 use Rattle.mysql_steady_text.proofs.SteadySpliceLemmas.{steady_lists, tokens_of_other, steady_isolated, steady_places, steady_portable, steady_on, steady_read}

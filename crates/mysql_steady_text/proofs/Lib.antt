@@ -8,3 +8,5 @@ pub mod SteadyAgainLemmas
 pub mod BackslashLemmas
 pub mod BothModesAnswerLemmas
 pub mod QueryRefusalLemmas
+pub mod SteadyLiteralLemmas
+pub mod FormLemmas

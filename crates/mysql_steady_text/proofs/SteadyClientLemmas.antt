@@ -12,7 +12,7 @@ use Rattle.mysql_binding.specs.StandsAlone.{first_not_alone}
 use Rattle.mysql_binding.proofs.CauseLemmas.{no_cause_parts, no_place_out}
 use Rattle.mysql_binding.proofs.BoundStatementLemmas.{StayWithin, WithinLiteral, both_within, list_within, plain_literal, within}
 use Rattle.mysql_binding.proofs.SpliceLemmas.{Each}
-use Rattle.mysql_steady_literal.specs.SteadyShape.{IsSteadyLiteral, bare_literal, introduced_string, introduced_pairs}
+use Rattle.mysql_steady_text.specs.SteadyShape.{IsSteadyLiteral, bare_literal, introduced_string, introduced_pairs}
 use Rattle.mysql_steady_text.specs.SteadyLiterals.{AreSteadyLiterals}
 use Rattle.mysql_steady_text.specs.SteadyText.{IsSteadyText}
 

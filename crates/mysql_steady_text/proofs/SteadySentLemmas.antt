@@ -23,7 +23,7 @@ use Rattle.mysql_binding.proofs.PieceLemmas.{joined_text_count}
 use Rattle.mysql_binding.proofs.SentLiteralLemmas.{and_none, SentPart, SentText, both_parts, front_and_part, literal_sent, part_of, quoted_text, run_part, sent_alone}
 use Rattle.mysql_binding.proofs.SentTextLemmas.{is_calm_first, IsSentAt, spliced_sent}
 use Rattle.mysql_binding.proofs.SpliceLemmas.{Each, HoldsAlone, alone, as_many_lists}
-use Rattle.mysql_steady_literal.specs.SteadyShape.{IsSteadyLiteral, bare_literal, introduced_string, introduced_pairs}
+use Rattle.mysql_steady_text.specs.SteadyShape.{IsSteadyLiteral, bare_literal, introduced_string, introduced_pairs}
 use Rattle.mysql_steady_text.specs.SteadyLiterals.{AreSteadyLiterals}
 use Rattle.mysql_steady_text.proofs.SteadyClientLemmas.{steady_literals_within}
 use Rattle.mysql_steady_text.proofs.SteadySpliceLemmas.{steady_isolated, steady_places, steady_portable}

@@ -27,7 +27,7 @@ use Rattle.mysql_binding.proofs.PieceLemmas.{joined_text_count, joined_text_is}
 use Rattle.mysql_binding.proofs.SpliceLemmas.{AtPlaces, Each, HoldsAlone, IsSpliced, IsSettled, IsPlaceless, alone, as_many_lists, isolated_splice, spliced_places, spliced_portable, spliced_text}
 use Rattle.mysql_binding.proofs.SplicedOnServerLemmas.{spliced_on, spliced_read}
 use Rattle.mysql_binding.proofs.UpToSpliceLemmas.{opens_nothing_after}
-use Rattle.mysql_steady_literal.specs.SteadyShape.{IsSteadyLiteral, bare_literal, introduced_string, introduced_pairs}
+use Rattle.mysql_steady_text.specs.SteadyShape.{IsSteadyLiteral, bare_literal, introduced_string, introduced_pairs}
 use Rattle.mysql_steady_text.specs.SteadyLiterals.{AreSteadyLiterals}
 
 -- ---- the tokens of a steady literal

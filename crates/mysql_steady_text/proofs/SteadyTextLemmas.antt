@@ -14,7 +14,7 @@ use Rattle.mysql_binding.specs.FirstCause.{first_cause}
 use Rattle.mysql_binding.specs.Replaced.{with_literal_tokens}
 use Rattle.mysql_binding.specs.WrittenText.{IsGivenText}
 use Rattle.mysql_binding.proofs.CauseLemmas.{on_both, on_map}
-use Rattle.mysql_steady_literal.specs.SteadyLiteral.{steady_literal_of}
+use Rattle.mysql_steady_text.specs.SteadyLiteral.{steady_literal_of}
 use Rattle.mysql_steady_text.specs.BothModesText.{IsTextInBothModes}
 use Rattle.mysql_steady_text.specs.SteadyLiterals.{IsSteadyFor}
 use Rattle.mysql_steady_text.specs.SteadyText.{IsSteadyText, IsAnywhereText}

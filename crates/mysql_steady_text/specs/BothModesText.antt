@@ -20,7 +20,7 @@ use Rattle.mysql_binding.specs.FirstCause.{first_cause}
 use Rattle.mysql_binding.specs.Pieces.{pieces, joined_text}
 use Rattle.mysql_binding.specs.Contents.{contents_between, AreReadInPlace}
 use Rattle.mysql_binding.specs.Replaced.{AreTokensOf, with_literal_tokens}
-use Rattle.mysql_steady_literal.specs.ReadSteadyLiteral.{read_steady_literal}
+use Rattle.mysql_steady_text.specs.ReadSteadyLiteral.{read_steady_literal}
 use Rattle.mysql_steady_text.specs.SteadyLiterals.{AreSteadyLiterals, AreSteadyLiteralsOf}
 
 -- the text, for both modes, of a query with these tokens and what is given to it

@@ -7,3 +7,6 @@ pub mod BothModesText
 pub mod BothModesErrors
 pub mod QueryRefusal
 pub mod SteadyPairs
+pub mod SteadyLiteral
+pub mod SteadyShape
+pub mod ReadSteadyLiteral

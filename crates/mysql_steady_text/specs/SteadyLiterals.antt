@@ -3,9 +3,9 @@ use Rattle.std.specs.Prelude.{◌≡◌, ℕ, List, [], ◌∷◌, map, Some, �
 use Rattle.mysql_values.specs.declared.value.Value.{Value}
 use Rattle.mysql_portable.specs.Steady.{IsSteady}
 use Rattle.mysql_binding.specs.LiteralForm.{LiteralFacts}
-use Rattle.mysql_steady_literal.specs.ReadSteadyLiteral.{ReadsSteadyAs}
-use Rattle.mysql_steady_literal.specs.SteadyLiteral.{steady_literal_of}
-use Rattle.mysql_steady_literal.specs.SteadyShape.{IsSteadyLiteral}
+use Rattle.mysql_steady_text.specs.ReadSteadyLiteral.{ReadsSteadyAs}
+use Rattle.mysql_steady_text.specs.SteadyLiteral.{steady_literal_of}
+use Rattle.mysql_steady_text.specs.SteadyShape.{IsSteadyLiteral}
 
 -- each of the texts has the shape of a steady literal, and is steady
 abbrev pub AreSteadyLiterals : List (List ℕ) → Type 0

@@ -24,10 +24,13 @@ ghost use Rattle.mysql_steady_text.specs.SteadyPairs.{AreEqualBothModesPairsErro
 ghost use Rattle.mysql_steady_text.specs.SteadyText.{IsSteadyText};
 ghost use Rattle.mysql_steady_text.specs.SteadyTextErrors.{AreEqualSteadyTextErrors};
 
+mod literals;
+
 use crate::both_modes_error::BothModesError;
 use crate::both_modes_pairs_error::BothModesPairsError;
 use crate::steady_pairs_error::SteadyPairsError;
 use crate::steady_text_error::SteadyTextError;
+pub use literals::{borrowed_steady_literals, steady_literals};
 
 /// Whatever texts of the shape of steady literals stand in the places of a query, if these stand
 /// alone, then in either mode the tokens are the query's, with those of each text in place of its

@@ -4,6 +4,9 @@
 //! [`bind_text_anywhere`] is the call for any server, and [`bind_text_in_any_mode`] for one.
 //! `specs/SteadyText.antt` says what they promise of the text. [`bind_text_in_both_modes`] takes
 //! bytes from 128 on, and then the character set has to be right (`specs/BothModesText.antt`).
+//!
+//! [`steady_literal`] has the length and the text of a steady literal, and
+//! `specs/SteadyLiteral.antt` says what it is.
 #![tactic(auto)]
 
 mod both_modes;
@@ -14,6 +17,7 @@ pub mod laws;
 mod pairs;
 mod refusal;
 mod steady_form;
+pub mod steady_literal;
 mod steady_pairs_error;
 mod steady_text;
 mod steady_text_error;

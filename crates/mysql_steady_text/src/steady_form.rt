@@ -1,14 +1,12 @@
 //! Steady literals as a form in which the literals of values are written.
 ghost use Rattle.std.specs.Prelude.{refl};
 ghost use Rattle.mysql_values.specs.declared.value.Value.TheVariants.{NULL, Bytes, Int, UInt, Float, Double, Date, Time};
-ghost use Rattle.mysql_steady_literal.specs.SteadyLiteral.{steady_literal_of};
+ghost use Rattle.mysql_steady_text.specs.SteadyLiteral.{steady_literal_of};
 ghost use Rattle.mysql_steady_text.specs.SteadyLiterals.{IsSteadyFor};
 
+use crate::laws::{borrowed_steady_literals, steady_literals};
+use crate::steady_literal::{borrowed_steady_len, put_borrowed_steady, put_steady, steady_len};
 use mysql_binding::LiteralForm;
-use mysql_steady_literal::laws::{borrowed_steady_literals, steady_literals};
-use mysql_steady_literal::steady_literal::{
-    borrowed_steady_len, put_borrowed_steady, put_steady, steady_len,
-};
 use mysql_values::value::{Value, ValueRef};
 
 /// Steady literals, lent to the crates above.

@@ -1,6 +1,6 @@
 //! Steady literals: how long they are, and how they fill a slice.
 use crate::shared::{Plain, same_in, value};
-use mysql_steady_literal::steady_literal::{put_steady, steady_len};
+use mysql_steady_text::steady_literal::{put_steady, steady_len};
 use mysql_values::value::Value;
 
 // Values, and their steady literals. MySQL 9.7 and MariaDB 11.8 read literals of bytes of these

@@ -7,7 +7,7 @@ use Rattle.mysql_binding.specs.FirstCause.{first_cause}
 use Rattle.mysql_binding.specs.MeasuredText.{HasGivenLength}
 use Rattle.mysql_binding.specs.TextInRoom.{IsTextInRoom}
 use Rattle.mysql_binding.specs.WrittenText.{IsGivenText}
-use Rattle.mysql_steady_literal.specs.SteadyLiteral.{steady_literal_of}
+use Rattle.mysql_steady_text.specs.SteadyLiteral.{steady_literal_of}
 use Rattle.mysql_steady_text.specs.SteadyLiterals.{IsSteadyFor}
 use Rattle.mysql_flat_params.proofs.steady_room.bind_params_steady.Goals as goal
 

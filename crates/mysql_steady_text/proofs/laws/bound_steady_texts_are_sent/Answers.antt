@@ -1,6 +1,6 @@
 use Rattle.mysql_binding.proofs.BoundSentLemmas.{written_in_line}
-use Rattle.mysql_steady_literal.specs.SteadyLiteral.{steady_literal_of}
-use Rattle.mysql_steady_literal.proofs.SteadyLiteralLemmas.{steady_in_line}
+use Rattle.mysql_steady_text.specs.SteadyLiteral.{steady_literal_of}
+use Rattle.mysql_steady_text.proofs.SteadyLiteralLemmas.{steady_in_line}
 use Rattle.mysql_steady_text.proofs.SteadyClientLemmas.{bound_alone}
 use Rattle.mysql_steady_text.proofs.laws.bound_steady_texts_are_sent.Goals as goal
 

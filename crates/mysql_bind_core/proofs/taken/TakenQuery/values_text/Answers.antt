@@ -6,7 +6,7 @@ use Rattle.mysql_binding.specs.LiteralForm.{IsPlainLiteral}
 use Rattle.mysql_binding.specs.SurveyedQuery.{OnSurveyed}
 use Rattle.mysql_binding.specs.WrittenText.{IsGivenText}
 use Rattle.mysql_params_core.specs.Given.{given}
-use Rattle.mysql_steady_literal.specs.SteadyLiteral.{steady_literal_of}
+use Rattle.mysql_steady_text.specs.SteadyLiteral.{steady_literal_of}
 use Rattle.mysql_steady_text.specs.SteadyLiterals.{IsSteadyFor}
 use Rattle.mysql_values.specs.Literal.{literal_of}
 use Rattle.mysql_bind_core.specs.Refusals.{of_text}

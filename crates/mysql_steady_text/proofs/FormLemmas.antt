@@ -7,7 +7,7 @@ use Rattle.std.proofs.lemmas.Bool.{cond-true, cond-false, false_from_ne_true}
 use Rattle.std.proofs.lemmas.Str.{IsUtf8-from_is_utf8, is_utf8-from_IsUtf8}
 use Rattle.mysql_sql_text.specs.LiteralText.{escaped, hexadecimal, quoted}
 use Rattle.mysql_sql_text.proofs.StringLemmas.{length-hexadecimal}
-use Rattle.mysql_steady_literal.specs.SteadyLiteral.{is_spelled_out, steady_bytes_literal}
+use Rattle.mysql_steady_text.specs.SteadyLiteral.{is_spelled_out, steady_bytes_literal}
 
 pub literal-string : (bytes : List ℕ) → list_all is_spelled_out bytes ≡ true →
     steady_bytes_literal bytes ≡ codes "_utf8mb4" ++ quoted (escaped true bytes)

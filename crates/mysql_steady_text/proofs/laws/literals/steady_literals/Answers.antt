@@ -1,7 +1,7 @@
 use Rattle.mysql_value_core.proofs.InLineLemmas.{if_in_line}
-use Rattle.mysql_steady_literal.specs.SteadyLiteral.{steady_literal_of}
-use Rattle.mysql_steady_literal.proofs.SteadyLiteralLemmas as lemmas
-use Rattle.mysql_steady_literal.proofs.laws.steady_literals.Goals as goal
+use Rattle.mysql_steady_text.specs.SteadyLiteral.{steady_literal_of}
+use Rattle.mysql_steady_text.proofs.SteadyLiteralLemmas as lemmas
+use Rattle.mysql_steady_text.proofs.laws.literals.steady_literals.Goals as goal
 
 pub returns : goal.returns
 returns c =

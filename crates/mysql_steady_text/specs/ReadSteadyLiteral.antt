@@ -6,8 +6,8 @@ use Rattle.std.specs.Prelude.{◌≡◌, ℕ, Bool, List, ◌++◌, codes, Optio
 use Rattle.std.specs.Option.{option_or}
 use Rattle.mysql_sql_text.specs.ReadLiteral.{Content, after, read_literal, read_string}
 use Rattle.mysql_sql_text.specs.LiteralEnd.{BeginsWithout, continues_literal}
-use Rattle.mysql_value_core.specs.declared.value.Value.{Value}
-use Rattle.mysql_value_core.specs.Content.{content_of}
+use Rattle.mysql_values.specs.declared.value.Value.{Value}
+use Rattle.mysql_values.specs.Content.{content_of}
 
 -- a string, or a space and a literal; without the space a digit would be more of the introducer
 abbrev pub read_after_introducer : Bool → List ℕ → Option (Content × List ℕ)

@@ -7,9 +7,9 @@ use Rattle.std.specs.List.{list_all}
 use Rattle.std.specs.Str.{is_utf8}
 use Rattle.mysql_sql_text.specs.StringUnits.{without_backslashes}
 use Rattle.mysql_sql_text.specs.LiteralText.{escaped, hexadecimal, quoted}
-use Rattle.mysql_value_core.specs.declared.value.Value.{Value}
-use Rattle.mysql_value_core.specs.declared.value.Value.TheVariants.{Bytes}
-use Rattle.mysql_value_core.specs.Literal.{literal_of}
+use Rattle.mysql_values.specs.declared.value.Value.{Value}
+use Rattle.mysql_values.specs.declared.value.Value.TheVariants.{Bytes}
+use Rattle.mysql_values.specs.Literal.{literal_of}
 use Rattle.mysql_portable.specs.Steady.{is_no_backslash}
 
 -- a byte that a steady string holds: the space or graphic ASCII, and no backslash

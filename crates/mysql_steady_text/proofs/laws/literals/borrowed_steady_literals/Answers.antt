@@ -1,6 +1,6 @@
-use Rattle.mysql_steady_literal.proofs.SteadyLiteralLemmas as lemmas
-use Rattle.mysql_value_core.specs.BorrowedValue.{owned}
-use Rattle.mysql_steady_literal.proofs.laws.borrowed_steady_literals.Goals as goal
+use Rattle.mysql_steady_text.proofs.SteadyLiteralLemmas as lemmas
+use Rattle.mysql_values.specs.BorrowedValue.{owned}
+use Rattle.mysql_steady_text.proofs.laws.literals.borrowed_steady_literals.Goals as goal
 
 pub returns : goal.returns
 returns c =

@@ -1,15 +1,15 @@
 //! The law of steady literals. It does nothing: it is called for what it ensures.
 ghost use Rattle.std.specs.Prelude.{◌≡◌, IfSome, is_none};
 ghost use Rattle.mysql_sql_text.specs.InLine.{IsInLine};
-ghost use Rattle.mysql_value_core.specs.BorrowedValue.{owned};
-ghost use Rattle.mysql_value_core.specs.Literal.{is_float};
+ghost use Rattle.mysql_values.specs.BorrowedValue.{owned};
+ghost use Rattle.mysql_values.specs.Literal.{is_float};
 ghost use Rattle.mysql_portable.specs.Steady.{IsSteady};
-ghost use Rattle.mysql_steady_literal.specs.SteadyLiteral.{steady_literal_of};
-ghost use Rattle.mysql_steady_literal.specs.SteadyShape.{IsSteadyLiteral};
-ghost use Rattle.mysql_steady_literal.specs.ReadSteadyLiteral.{ReadsSteadyAs};
+ghost use Rattle.mysql_steady_text.specs.SteadyLiteral.{steady_literal_of};
+ghost use Rattle.mysql_steady_text.specs.SteadyShape.{IsSteadyLiteral};
+ghost use Rattle.mysql_steady_text.specs.ReadSteadyLiteral.{ReadsSteadyAs};
 
-use mysql_value_core::laws::{borrowed_fields_in_range, fields_in_range};
-use mysql_value_core::value::{Value, ValueRef};
+use mysql_values::laws::{borrowed_fields_in_range, fields_in_range};
+use mysql_values::value::{Value, ValueRef};
 
 /// The steady literal of a value has the shape of steady literals, is steady, and reads in either
 /// mode as the content of the value. It has no newline and no byte 0. Exactly floats have none.

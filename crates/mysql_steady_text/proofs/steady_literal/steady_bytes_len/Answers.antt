@@ -1,6 +1,6 @@
 use Rattle.std.proofs.Common.{ap, sym, ◌∙◌, length, arith}
-use Rattle.mysql_steady_literal.proofs.FormLemmas.{literal-introduced, literal-bare, introduced_len, bare_len}
-use Rattle.mysql_steady_literal.proofs.steady_literal.steady_bytes_len.Goals as goal
+use Rattle.mysql_steady_text.proofs.FormLemmas.{literal-introduced, literal-bare, introduced_len, bare_len}
+use Rattle.mysql_steady_text.proofs.steady_literal.steady_bytes_len.Goals as goal
 
 pub returns-in-Ok : goal.returns-in-Ok
 returns-in-Ok c =

@@ -25,15 +25,15 @@ use Rattle.mysql_sql_text.proofs.ReadStringLemmas.{read_units-ordinary, read_uni
 use Rattle.mysql_sql_text.specs.InLine.{is_in_line}
 use Rattle.mysql_sql_text.proofs.InLineLemmas.{StandsInLine, both_in_line, date_in_line, decimal_in_line, doubled_in_line, hexadecimal_in_line, pairs_in_line, quoted_in_line, signed_in_line, time_in_line}
 use Rattle.mysql_value_core.proofs.InLineLemmas.{null_in_line}
-use Rattle.mysql_value_core.specs.declared.value.Value.{Value}
-use Rattle.mysql_value_core.specs.declared.value.Value.TheVariants.{NULL, Bytes, Int, UInt, Float, Double, Date, Time}
-use Rattle.mysql_value_core.specs.Value.{FieldsInRange}
-use Rattle.mysql_value_core.specs.Literal.{is_float}
+use Rattle.mysql_values.specs.declared.value.Value.{Value}
+use Rattle.mysql_values.specs.declared.value.Value.TheVariants.{NULL, Bytes, Int, UInt, Float, Double, Date, Time}
+use Rattle.mysql_values.specs.Value.{FieldsInRange}
+use Rattle.mysql_values.specs.Literal.{is_float}
 use Rattle.mysql_value_core.proofs.LiteralLemmas.{literal_shape, literal_reads}
 use Rattle.mysql_portable.specs.Steady.{is_no_backslash, is_steady}
-use Rattle.mysql_steady_literal.specs.SteadyLiteral.{is_spelled_out, steady_bytes_literal, steady_literal_of}
-use Rattle.mysql_steady_literal.specs.SteadyShape.{IsSteadyLiteral, bare_literal, introduced_string, introduced_pairs}
-use Rattle.mysql_steady_literal.specs.ReadSteadyLiteral.{read_introduced, ReadsSteadyBefore, ReadsSteadyAs}
+use Rattle.mysql_steady_text.specs.SteadyLiteral.{is_spelled_out, steady_bytes_literal, steady_literal_of}
+use Rattle.mysql_steady_text.specs.SteadyShape.{IsSteadyLiteral, bare_literal, introduced_string, introduced_pairs}
+use Rattle.mysql_steady_text.specs.ReadSteadyLiteral.{read_introduced, ReadsSteadyBefore, ReadsSteadyAs}
 
 -- bytes that a steady string doesn't hold are not empty
 some_byte : (bytes : List ℕ) → list_all is_spelled_out bytes ≡ false → 0 < length bytes

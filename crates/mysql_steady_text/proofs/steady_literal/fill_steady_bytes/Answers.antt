@@ -1,6 +1,6 @@
 use Rattle.std.proofs.Common.{ap, sym, ◌∙◌, length}
-use Rattle.mysql_steady_literal.proofs.FormLemmas.{literal-introduced, literal-bare, bare_len}
-use Rattle.mysql_steady_literal.proofs.steady_literal.fill_steady_bytes.Goals as goal
+use Rattle.mysql_steady_text.proofs.FormLemmas.{literal-introduced, literal-bare, bare_len}
+use Rattle.mysql_steady_text.proofs.steady_literal.fill_steady_bytes.Goals as goal
 
 pub fill_introduced_pairs-requires : goal.fill_introduced_pairs-requires
 fill_introduced_pairs-requires c =

@@ -2,15 +2,15 @@
 ghost use Rattle.std.specs.Prelude.{◌≡◌, ◌++◌, codes, length, Some, is_none, option_map};
 ghost use Rattle.std.specs.List.{list_all};
 ghost use Rattle.mysql_sql_text.specs.LiteralText.{hexadecimal};
-ghost use Rattle.mysql_value_core.specs.BorrowedValue.{owned};
-ghost use Rattle.mysql_value_core.specs.Literal.{is_float};
+ghost use Rattle.mysql_values.specs.BorrowedValue.{owned};
+ghost use Rattle.mysql_values.specs.Literal.{is_float};
 ghost use Rattle.mysql_portable.specs.Steady.{IsSteady};
-ghost use Rattle.mysql_steady_literal.specs.SteadyLiteral.{is_spelled_out, steady_bytes_literal, steady_literal_of};
-ghost use Rattle.mysql_steady_literal.specs.ReadSteadyLiteral.{ReadsSteadyAs};
+ghost use Rattle.mysql_steady_text.specs.SteadyLiteral.{is_spelled_out, steady_bytes_literal, steady_literal_of};
+ghost use Rattle.mysql_steady_text.specs.ReadSteadyLiteral.{ReadsSteadyAs};
 
 use crate::laws::{borrowed_steady_literals, steady_literals};
 use mysql_sql_text::strings::{fill_hexadecimal, fill_string, string_len};
-use mysql_value_core::value::{Value, ValueRef};
+use mysql_values::value::{Value, ValueRef};
 
 // What stands before a string, and before hexadecimal digits.
 const INTRODUCER: &[u8] = b"_utf8mb4";

@@ -1,2 +1,0 @@
-pub mod SteadyLiteralLemmas
-pub mod FormLemmas

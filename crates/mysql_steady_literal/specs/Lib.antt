@@ -1,3 +1,0 @@
-pub mod SteadyLiteral
-pub mod SteadyShape
-pub mod ReadSteadyLiteral
