@@ -6,7 +6,7 @@ use Rattle.mysql_named_params.specs.Tokens.{Token}
 use Rattle.mysql_fragments.specs.Expanded.{IsBoundFragments}
 use Rattle.mysql_fragments.specs.GivenFragments.{FragmentMap, GivenFragments}
 use Rattle.mysql_fragments.specs.declared.fragment.Fragment.{Fragment}
-use Rattle.mysql_steady_fragments.specs.SteadyFragments.{IsAnywhereFragments, IsSteadyFragments}
+use Rattle.mysql_fragments.specs.SteadyFragments.{IsAnywhereFragments, IsSteadyFragments}
 use Rattle.mysql_bind_core.specs.Contents.{Content, said}
 use Rattle.mysql_bind_core.specs.declared.request.Literals.{Literals}
 use Rattle.mysql_bind_core.specs.declared.request.Literals.TheVariants as literals

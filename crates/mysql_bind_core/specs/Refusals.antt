@@ -15,7 +15,7 @@ use Rattle.mysql_steady_text.specs.SteadyTextErrors.{IsSteadyRefusal}
 use Rattle.mysql_fragments.specs.FragmentErrors as fragments
 use Rattle.mysql_fragments.specs.GivenFragments.{FragmentMap, GivenFragments, named}
 use Rattle.mysql_fragments.specs.declared.fragment.Fragment.{Fragment}
-use Rattle.mysql_steady_fragments.specs.SteadyFragmentsErrors as steady
+use Rattle.mysql_fragments.specs.SteadyFragmentsErrors as steady
 use Rattle.mysql_bind_core.specs.Assignments.{given_of, pairs_of}
 use Rattle.mysql_bind_core.specs.Bound.{IsAssignedText, IsClosed, IsSteadyIfWanted, IsPortableIfWanted, IsTaken}
 use Rattle.mysql_bind_core.specs.Contents.{contents_of, has_fragment}

@@ -1,8 +1,7 @@
 //! Why nothing was written.
 use mysql_binding::BindError;
-use mysql_fragments::FragmentsError;
+use mysql_fragments::{FragmentsError, SteadyFragmentsError};
 use mysql_portable::portable::Unportable;
-use mysql_steady_fragments::SteadyFragmentsError;
 use mysql_steady_text::SteadyTextError;
 use std::alloc::AllocError;
 

@@ -12,8 +12,9 @@ use crate::assignment::Assignment;
 use crate::entries::assigned_fragments;
 use crate::failure::Failure;
 use crate::request::{Literals, Portability, Request};
-use mysql_fragments::{Fragments, bind_fragments_in};
-use mysql_steady_fragments::{bind_fragments_anywhere, bind_fragments_in_any_mode};
+use mysql_fragments::{
+    Fragments, bind_fragments_anywhere, bind_fragments_in, bind_fragments_in_any_mode,
+};
 use std::alloc::Global;
 
 // The text of fragments that assignments give.

@@ -15,8 +15,7 @@ ghost use Rattle.mysql_bind_core.specs.declared.request.Portability.TheVariants 
 ghost use Rattle.mysql_bind_core.specs.declared.request.Request.{Request};
 
 use mysql_binding::laws::{bound_texts_are_sent, bound_texts_in_clients};
-use mysql_fragments::laws::bound_fragments_in_clients;
-use mysql_steady_fragments::laws::steady_fragments_in_clients;
+use mysql_fragments::laws::{bound_fragments_in_clients, steady_fragments_in_clients};
 use mysql_steady_text::laws::{bound_steady_texts_are_sent, bound_steady_texts_in_clients};
 use std::alloc::Global;
 

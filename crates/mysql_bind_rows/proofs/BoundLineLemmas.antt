@@ -22,7 +22,7 @@ use Rattle.mysql_fragments.specs.FragmentShape.{AreFragments}
 use Rattle.mysql_fragments.specs.FragmentText.{fragment_text, mark_number}
 use Rattle.mysql_fragments.specs.GivenFragments.{GivenFragments}
 use Rattle.mysql_fragments.proofs.SplicedFragmentLemmas.{fragment_list}
-use Rattle.mysql_steady_fragments.specs.SteadyFragments.{IsSteadyFragments}
+use Rattle.mysql_fragments.specs.SteadyFragments.{IsSteadyFragments}
 use Rattle.mysql_bind_rows.specs.ScriptTokens.{semicolon}
 use Rattle.mysql_bind_rows.proofs.LineLemmas.{line_end, EndsAtLine, EndClosed, closed_before, closed_append, closed_rest, closed_kept}
 

@@ -10,7 +10,7 @@ use Rattle.mysql_portable.proofs.SteadyLemmas.{none_unsteady, steady_other}
 use Rattle.mysql_fragments.specs.FragmentErrors.{Cause, IsCauseOrMemory, first_cause}
 use Rattle.mysql_fragments.specs.GivenFragments.{GivenFragments}
 use Rattle.mysql_fragments.specs.declared.fragments_error.FragmentsError.{FragmentsError}
-use Rattle.mysql_steady_fragments.specs.declared.steady_fragments_error.SteadyFragmentsError.TheVariants as error
+use Rattle.mysql_fragments.specs.declared.steady_fragments_error.SteadyFragmentsError.TheVariants as error
 use Rattle.mysql_flat_params.specs.AnywhereIntoRoom.{anywhere_refusal}
 use Rattle.mysql_binding.specs.TextInRoom.{HasTextOf, IsTextInRoom}
 use Rattle.mysql_binding.specs.declared.binding.room.TextInRoom.{TextInRoom}

@@ -6,9 +6,9 @@ use Rattle.mysql_named_params.specs.Places.{names}
 use Rattle.mysql_portable.specs.FirstUnportable.{first_unportable}
 use Rattle.mysql_fragments.specs.FragmentErrors.{first_cause}
 use Rattle.mysql_fragments.specs.GivenFragments.{GivenFragments, fragments_for}
-use Rattle.mysql_steady_fragments.specs.SteadyFragments.{IsAnywhereFragments, IsSteadyFragments, unsteady_place}
-use Rattle.mysql_steady_fragments.specs.SteadyFragmentsErrors.{IsSteadyRefusal}
-use Rattle.mysql_steady_fragments.specs.declared.steady_fragments_error.SteadyFragmentsError.{SteadyFragmentsError}
+use Rattle.mysql_fragments.specs.SteadyFragments.{IsAnywhereFragments, IsSteadyFragments, unsteady_place}
+use Rattle.mysql_fragments.specs.SteadyFragmentsErrors.{IsSteadyRefusal}
+use Rattle.mysql_fragments.specs.declared.steady_fragments_error.SteadyFragmentsError.{SteadyFragmentsError}
 use Rattle.mysql_flat_params.specs.AnywhereIntoRoom.{anywhere_refusal}
 use Rattle.mysql_flat_params.specs.FlatForm.{form_end, length_lead, unread_type, mixed_form, repeated_name}
 use Rattle.mysql_flat_params.specs.declared.outcome.Outcome.{Outcome}

@@ -4,7 +4,7 @@ ghost use Rattle.mysql_named_params.specs.Tokens.{OnTokens};
 ghost use Rattle.mysql_portable.specs.Steady.{IsSteady};
 ghost use Rattle.mysql_binding.specs.TextInRoom.{HasTextOf, IsTextInRoom};
 ghost use Rattle.mysql_fragments.specs.GivenFragments.{GivenFragments};
-ghost use Rattle.mysql_steady_fragments.specs.SteadyFragmentsErrors.{IsFragmentsRefusal};
+ghost use Rattle.mysql_fragments.specs.SteadyFragmentsErrors.{IsFragmentsRefusal};
 ghost use Rattle.mysql_flat_fragments.specs.FlatFragments.{IsFormReading};
 ghost use Rattle.mysql_flat_fragments.specs.FormInPlace.{IsGivenAs};
 ghost use Rattle.mysql_flat_fragments.specs.FragmentsAnywhereIntoRoom.{IsAnywhereForm, IsAnywhereOutcome, IsAnywhereText, IsRefusedBy, IsSteadyBound};
@@ -16,15 +16,16 @@ use crate::outcome::FragmentsOutcome;
 use crate::placed::placed_fragments;
 use mysql_binding::{KEPT_PLACES, NO_PLACE, SurveyedQuery, TextInRoom};
 use mysql_flat_params::{Outcome, construct_number};
-use mysql_fragments::{FragmentsError, bind_placed_into, placed_error};
+use mysql_fragments::{
+    FragmentsError, SteadyFragmentsError, bind_placed_into, first_unsteady_fragment, placed_error,
+};
 use mysql_portable::portable::first_unportable;
 use mysql_portable::steady::first_unsteady;
-use mysql_steady_fragments::{SteadyFragmentsError, first_unsteady_fragment};
 use mysql_steady_text::SteadyForm;
 use std::alloc::{AllocError, Global};
 
 /// Binds into a query what a form says, as
-/// [`bind_fragments_anywhere`](mysql_steady_fragments::bind_fragments_anywhere) binds the form's
+/// [`bind_fragments_anywhere`](mysql_fragments::bind_fragments_anywhere) binds the form's
 /// fragments, and writes the text to the front of the room: SQL text that no `sql_mode` and no
 /// character set of a connection reads otherwise, on any server.
 ///

@@ -19,3 +19,7 @@ pub mod InPlaceLemmas
 pub mod SaidExistLemmas
 mod DoubleTokenLemmas
 mod FragmentListLemmas
+pub mod SteadyPartLemmas
+pub mod SteadyFragmentLemmas
+pub mod SaidSteadyLemmas
+pub mod SteadyRoomLemmas

@@ -13,3 +13,5 @@ pub mod RowShape
 pub mod BorrowedFragments
 pub mod BorrowedText
 pub mod FragmentsInRoom
+pub mod SteadyFragments
+pub mod SteadyFragmentsErrors

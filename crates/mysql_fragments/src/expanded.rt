@@ -195,8 +195,8 @@ fn expanded(
 
 /// References to the fragments for the places of a query, if none of the causes refuses them for
 /// which [`expanded_query_in`] does, and [`bind_fragments_in`] if the values are to be written as
-/// literals. Lent to the crate above.
-pub fn placed_fragments<'f>(
+/// literals.
+pub(crate) fn placed_fragments<'f>(
     alloc: Global,
     query: &[u8],
     fragments: &'f Fragments,

@@ -18,9 +18,8 @@ use mysql_binding::{LiteralForm, push_literal};
 use mysql_named_params::places::first_place;
 use std::alloc::{AllocError, Global};
 
-/// The query with these fragments in its places and the literals of their values in a form. Lent to
-/// the crate above.
-pub fn filled_query<F: LiteralForm>(
+/// The query with these fragments in its places and the literals of their values in a form.
+pub(crate) fn filled_query<F: LiteralForm>(
     alloc: Global,
     query: &[u8],
     fragments: &[&Fragment],

@@ -38,7 +38,10 @@ ghost use Rattle.mysql_fragments.specs.declared.fragment.Fragment as said_fragme
 ghost use Rattle.mysql_fragments.specs.declared.fragment.Fragment.TheVariants as fragment;
 ghost use Rattle.mysql_fragments.specs.declared.fragment_ref.FragmentRef as borrowed;
 
+mod steady;
+
 use mysql_binding::laws::{bound_texts_are_sent, bound_texts_in_clients, bound_texts_on_servers};
+pub use steady::{steady_fragments_are_sent, steady_fragments_in_clients};
 
 /// For borrowed fragments there are fragments that say the same, of any allocator, if no list and
 /// no rows have 2^63 cells or more. So what is said of all of these isn't said of none.

@@ -5,6 +5,10 @@
 //! values, as a prepared statement wants them. `specs/Expanded.antt` says what they promise.
 //! [`bind_borrowed_fragments`] copies nothing of what it binds, and
 //! [`bind_borrowed_fragments_into`] allocates nothing.
+//!
+//! [`bind_fragments_anywhere`] gives text that every server reads alike, in either mode and over
+//! every character set, and [`bind_fragments_in_any_mode`] does so for one server: values stand in
+//! steady literals. `specs/SteadyFragments.antt` says what they promise of it.
 #![tactic(auto)]
 
 mod appended;
@@ -23,17 +27,22 @@ mod names;
 mod placed_refs;
 mod places;
 mod rows_ref;
+mod steady_fragments;
+mod steady_fragments_error;
+mod unsteady;
 mod written;
 
 pub use bound_refs::{bind_borrowed_fragments, bind_borrowed_fragments_into};
 pub use expanded::{
     ExpandedQuery, bind_fragments, bind_fragments_in, expanded_for_literals, expanded_query,
-    expanded_query_in, placed_fragments,
+    expanded_query_in,
 };
-pub use filled::filled_query;
 pub use fragment::{Fragment, Fragments, Item, Keyword};
 pub use fragment_ref::FragmentRef;
 pub use fragments_error::{FragmentFault, FragmentsError};
 pub use mysql_binding::TextInRoom;
 pub use placed_refs::{bind_placed_into, placed_error};
 pub use rows_ref::RowsRef;
+pub use steady_fragments::{bind_fragments_anywhere, bind_fragments_in_any_mode};
+pub use steady_fragments_error::SteadyFragmentsError;
+pub use unsteady::first_unsteady_fragment;

@@ -17,3 +17,11 @@ mod room;
 mod shared;
 #[cfg(test)]
 mod sizes;
+#[cfg(test)]
+mod steady_borrowed;
+#[cfg(test)]
+mod steady_bound;
+#[cfg(test)]
+mod steady_refused;
+#[cfg(test)]
+mod steady_shared;

@@ -1,9 +1,8 @@
 //! Assignments and requests as plain data for tables, and what a writer has taken.
 use crate::outcome::{Outcome, judged};
 use mysql_bind_core::{Assignment, Failure, Literals, Portability, Request, ValueType};
-use mysql_fragments::FragmentsError;
+use mysql_fragments::{FragmentsError, SteadyFragmentsError};
 use mysql_params::{BindError, SteadyTextError};
-use mysql_steady_fragments::SteadyFragmentsError;
 use std::alloc::{AllocError, Global};
 
 /// What names are assigned, as plain data.

@@ -2,7 +2,7 @@ use Rattle.std.specs.Prelude.{false}
 use Rattle.std.proofs.Common.{sym, ◌∙◌}
 use Rattle.mysql_named_params.proofs.TokensExistLemmas.{tokens_exist}
 use Rattle.mysql_portable.proofs.SteadyLemmas.{steady_other}
-use Rattle.mysql_steady_fragments.proofs.SteadyRoomLemmas.{anywhere_in_room, refused_by}
+use Rattle.mysql_fragments.proofs.SteadyRoomLemmas.{anywhere_in_room, refused_by}
 use Rattle.mysql_flat_fragments.proofs.anywhere_room.bind_kept_anywhere.Goals as goal
 
 pub returns-in-Some-clause-refused : goal.returns-in-Some-clause-refused

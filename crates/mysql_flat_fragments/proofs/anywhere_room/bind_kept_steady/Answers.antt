@@ -4,10 +4,10 @@ use Rattle.mysql_named_params.proofs.TokensExistLemmas.{tokens_exist}
 use Rattle.mysql_binding.proofs.SurveyedQueryLemmas.{on_survey}
 use Rattle.mysql_steady_text.proofs.BothModesTextLemmas.{nothing_said}
 use Rattle.mysql_steady_text.proofs.SteadyTextLemmas.{in_either}
-use Rattle.mysql_steady_fragments.specs.SteadyFragmentsErrors.{IsFragmentsRefusal}
-use Rattle.mysql_steady_fragments.specs.declared.steady_fragments_error.SteadyFragmentsError.TheVariants.{Fragments, UnsteadyFragment}
-use Rattle.mysql_steady_fragments.proofs.SteadyFragmentLemmas.{place_told}
-use Rattle.mysql_steady_fragments.proofs.SteadyRoomLemmas.{steady_in_room}
+use Rattle.mysql_fragments.specs.SteadyFragmentsErrors.{IsFragmentsRefusal}
+use Rattle.mysql_fragments.specs.declared.steady_fragments_error.SteadyFragmentsError.TheVariants.{Fragments, UnsteadyFragment}
+use Rattle.mysql_fragments.proofs.SteadyFragmentLemmas.{place_told}
+use Rattle.mysql_fragments.proofs.SteadyRoomLemmas.{steady_in_room}
 use Rattle.mysql_binding.proofs.SurveyedQueryLemmas.{on_survey}
 use Rattle.mysql_flat_fragments.proofs.PlacedLemmas.{ArePlacedAs, as_many_placed, none_later, refused_later}
 use Rattle.mysql_flat_fragments.proofs.anywhere_room.bind_kept_steady.Goals as goal

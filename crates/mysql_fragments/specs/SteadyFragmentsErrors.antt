@@ -1,0 +1,32 @@
+-- What each error of binding fragments to a steady text stands for.
+use Rattle.std.specs.Prelude.{◌≡◌, ℕ, true, List, Option, Some, None}
+use Rattle.mysql_named_params.specs.Tokens.{Token}
+use Rattle.mysql_named_params.specs.Places.{names}
+use Rattle.mysql_portable.specs.Steady.{first_unsteady}
+use Rattle.mysql_portable.specs.declared.portable.Unportable.{Unportable}
+use Rattle.mysql_fragments.specs.FragmentErrors.{first_cause, IsCauseOrMemory}
+use Rattle.mysql_fragments.specs.GivenFragments.{GivenFragments, fragments_for}
+use Rattle.mysql_fragments.specs.SteadyFragments.{unsteady_place}
+use Rattle.mysql_fragments.specs.declared.steady_fragments_error.SteadyFragmentsError.{SteadyFragmentsError}
+use Rattle.mysql_fragments.specs.declared.steady_fragments_error.SteadyFragmentsError.TheVariants.{Unsteady, Fragments, UnsteadyFragment}
+use Rattle.mysql_fragments.specs.declared.steady_fragments_error.SteadyFragmentsError.TheVariants as error
+
+-- the error is one of fragments: their first cause, or out of memory; or there is none, and the
+-- fragment for this place is the first that isn't steady
+abbrev pub IsFragmentsRefusal : List Token → GivenFragments → SteadyFragmentsError → Type 0
+IsFragmentsRefusal ts given (Fragments error) = IsCauseOrMemory (first_cause true ts given) error
+IsFragmentsRefusal ts given (UnsteadyFragment place) = (first_cause true ts given ≡ None)
+    × (unsteady_place (fragments_for given (names ts)) ≡ Some place)
+IsFragmentsRefusal ts given error = ⊥
+
+-- The error is the first that holds of a query with this first construct that isn't portable, if it
+-- is looked for, and of the fragments that are given to it: its first byte that isn't steady; that
+-- construct; the first cause of fragments, or out of memory in place of it, of what follows or of a
+-- text; the first fragment that isn't steady.
+abbrev pub IsSteadyRefusal : List ℕ → Option Unportable → List Token → GivenFragments →
+    SteadyFragmentsError → Type 0
+IsSteadyRefusal query unportable ts given (Unsteady at) = first_unsteady query ≡ Some at
+IsSteadyRefusal query unportable ts given (error.Unportable found) =
+    (first_unsteady query ≡ None) × (unportable ≡ Some found)
+IsSteadyRefusal query unportable ts given error = (first_unsteady query ≡ None)
+    × (unportable ≡ None) × IsFragmentsRefusal ts given error

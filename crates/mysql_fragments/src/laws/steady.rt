@@ -1,0 +1,76 @@
+//! Laws of the definitions. They do nothing: each is called for what it ensures.
+ghost use Rattle.std.specs.Prelude.{◌≡◌, ℕ, Bool, List, length, map};
+ghost use Rattle.mysql_sql_text.specs.InLine.{AreInLine};
+ghost use Rattle.mysql_named_params.specs.Tokens.{Token, IsTokens};
+ghost use Rattle.mysql_portable.specs.Portable.{AreReadAlike, IsReadAs};
+ghost use Rattle.mysql_portable.specs.Quiet.{IsHonest, DecidesWithin};
+ghost use Rattle.mysql_portable.specs.Client.{Client, IsReadBy, HoldNoOpener};
+ghost use Rattle.mysql_portable.specs.FirstUnportableInClient.{IsPortableInClient};
+ghost use Rattle.mysql_portable.specs.Statements.{statements};
+ghost use Rattle.mysql_portable.specs.Steady.{IsSteady};
+ghost use Rattle.mysql_binding.specs.BoundStatements.{statements_with_literals};
+ghost use Rattle.mysql_binding.specs.Replaced.{with_literal_tokens};
+ghost use Rattle.mysql_fragments.specs.FragmentText.{fragment_text};
+ghost use Rattle.mysql_fragments.specs.GivenFragments.{GivenFragments};
+ghost use Rattle.mysql_fragments.specs.SentFragments.{BeginNoWords};
+ghost use Rattle.mysql_fragments.specs.SteadyFragments.{IsSteadyFragments};
+
+use crate::laws::{fragments_are_sent, fragments_in_clients, fragments_on_servers};
+use mysql_steady_text::laws::{bound_steady_texts_are_sent, bound_steady_texts_in_clients};
+
+/// A client that keeps comments cuts a text that is bound to a steady portable query with
+/// fragments, without `/*!`, `/*+` and `/*/` in a block comment, into as many statements as the
+/// query has, in either mode, whatever stands in the fragments and values (`count`). It reads the
+/// text as the grammar does, except for `--` before a newline and for what stands in quiet comments
+/// (`read`). If it decides about a quiet comment by the comment alone, it reads the tokens that it
+/// reads in the query, replaced (`tokens`); its statements are then those of the query, replaced
+/// (`statements`).
+pub fn steady_fragments_in_clients()
+    ensures no_opener { (text : List ℕ) (ts : List Token) (given : GivenFragments) →
+        (b : IsSteadyFragments ts given text) → HoldNoOpener ts →
+        HoldNoOpener (with_literal_tokens (with_literal_tokens ts b.expanded.lists)
+        b.bound.literal_tokens) }
+    ensures read { (client : Client) (mode : Bool) (query text : List ℕ) (ts vs : List Token)
+        (given : GivenFragments) → IsHonest client.reader → IsTokens mode query ts →
+        IsSteady query → (b : IsSteadyFragments ts given text) → AreReadAlike ts →
+        HoldNoOpener ts → IsReadBy client mode text vs →
+        IsReadAs (with_literal_tokens (with_literal_tokens ts b.expanded.lists)
+        b.bound.literal_tokens) vs }
+    ensures count { (client : Client) (mode : Bool) (query text : List ℕ) (ts vs : List Token)
+        (given : GivenFragments) → IsHonest client.reader → IsTokens mode query ts →
+        IsSteady query → IsSteadyFragments ts given text → AreReadAlike ts → HoldNoOpener ts →
+        IsReadBy client mode text vs → length (statements vs) ≡ length (statements ts) }
+    ensures tokens { (client : Client) (mode : Bool) (query text : List ℕ) (ts us : List Token)
+        (given : GivenFragments) → IsHonest client.reader → DecidesWithin client.reader →
+        IsTokens mode query ts → IsSteady query → (b : IsSteadyFragments ts given text) →
+        AreReadAlike ts → HoldNoOpener ts → IsReadBy client mode query us →
+        IsReadBy client mode text
+        (with_literal_tokens (with_literal_tokens us b.expanded.lists) b.bound.literal_tokens) }
+    ensures statements { (text : List ℕ) (ts us : List Token) (given : GivenFragments) →
+        (b : IsSteadyFragments ts given text) → statements
+        (with_literal_tokens (with_literal_tokens us b.expanded.lists) b.bound.literal_tokens)
+        ≡ statements_with_literals (statements_with_literals (statements us) b.expanded.lists)
+        b.bound.literal_tokens }
+{
+    fragments_on_servers();
+    fragments_in_clients();
+    bound_steady_texts_in_clients();
+}
+
+/// A steady text of a query that is portable in a client is portable in a client too, in either
+/// mode, if no fragment has a newline or a byte 0, as names may, and none begins with a letter, as
+/// keywords do.
+pub fn steady_fragments_are_sent()
+    ensures { (mode : Bool) (query text : List ℕ) (ts : List Token) (given : GivenFragments) →
+        IsTokens mode query ts → IsSteady query → IsPortableInClient ts →
+        (b : IsSteadyFragments ts given text) →
+        AreInLine (map fragment_text b.expanded.fragments) →
+        BeginNoWords (map fragment_text b.expanded.fragments) →
+        IsPortableInClient (with_literal_tokens (with_literal_tokens ts b.expanded.lists)
+        b.bound.literal_tokens) }
+{
+    fragments_on_servers();
+    fragments_in_clients();
+    fragments_are_sent();
+    bound_steady_texts_are_sent();
+}

@@ -1,0 +1,123 @@
+//! Queries with fragments in their places and values in steady literals.
+ghost use Rattle.std.specs.Prelude.{◌≡◌, ℕ, Bool, None, Some, IfErr, IfOk, IsErrOf};
+ghost use Rattle.mysql_named_params.specs.Tokens.{OnTokens};
+ghost use Rattle.mysql_named_params.specs.Places.{HasName, HasMark};
+ghost use Rattle.mysql_portable.specs.FirstUnportable.{first_unportable};
+ghost use Rattle.mysql_portable.specs.Steady.{first_unsteady, IsSteady};
+ghost use Rattle.mysql_portable.specs.declared.portable.Unportable as unportable;
+ghost use Rattle.mysql_fragments.specs.GivenFragments.{given_fragments};
+ghost use Rattle.mysql_fragments.specs.SteadyFragments.{IsAnywhereFragments, IsSteadyFragments};
+ghost use Rattle.mysql_fragments.specs.SteadyFragmentsErrors.{IsFragmentsRefusal, IsSteadyRefusal};
+
+use crate::expanded::placed_fragments;
+use crate::filled::filled_query;
+use crate::fragment::Fragments;
+use crate::fragments_error::FragmentsError;
+use crate::steady_fragments_error::SteadyFragmentsError;
+use crate::unsteady::first_unsteady_place;
+use mysql_portable::portable::first_unportable;
+use mysql_portable::steady::first_unsteady;
+use mysql_steady_text::SteadyForm;
+use std::alloc::Global;
+
+/// The query with a fragment in the place of each name and mark, its values as steady literals: SQL
+/// text that no `sql_mode` and no character set of a connection reads otherwise, on any server.
+///
+/// It is what [`bind_text_anywhere`](mysql_steady_text::bind_text_anywhere) gives for the query of
+/// [`expanded_query`](crate::expanded_query) and its values. So the text is ASCII without
+/// a backslash. Nothing else of the query changes.
+///
+/// The first of these causes refuses it: `Unsteady`, a backslash or a byte from 128 on anywhere in
+/// the query, also in a comment; `Unportable`, a construct that
+/// [`first_unportable`](mysql_portable::portable::first_unportable) finds; `Fragments`, what
+/// [`bind_fragments`](crate::bind_fragments) refuses, in its order; `UnsteadyFragment`, a
+/// fragment with a name that has a backslash or a byte from 128 on. Each place is one of the query.
+///
+/// MariaDB stores an expression of `DEFAULT`, `AS` or `CHECK` as text in which the introducer of a
+/// steady literal isn't kept right. For the expressions of tables use `bind_fragments`.
+///
+/// Out of memory may come in place of any text or cause after `Unportable`, except for a query with
+/// names and marks.
+// A query has one token list in each mode (`mysql_named_params::laws::one_token_list`), and a
+// steady one the same in both (`steady_texts`), so the clauses speak of the same `ts`.
+pub fn bind_fragments_anywhere(
+    alloc: Global,
+    query: &[u8],
+    fragments: &Fragments,
+) -> Result<Vec<u8>, SteadyFragmentsError>
+    ensures bound { (mode : Bool) → OnTokens mode query.now (λ ts. IfOk result (λ text.
+        IsAnywhereFragments query.now ts (given_fragments fragments.now) text.items)) }
+    ensures refused { (mode : Bool) → OnTokens mode query.now (λ ts. IfErr result
+        (IsSteadyRefusal query.now (first_unportable ts) ts (given_fragments fragments.now))) }
+
+    // These are refused without allocating.
+    ensures unsteady { (at : ℕ) → first_unsteady query.now ≡ Some at →
+        IsErrOf result (SteadyFragmentsError.Unsteady at) }
+    ensures unportable { (mode : Bool) → OnTokens mode query.now (λ ts. IsSteady query.now →
+        (found : unportable.Unportable) → first_unportable ts ≡ Some found →
+        IsErrOf result (SteadyFragmentsError.Unportable found)) }
+    ensures mixed { (mode : Bool) → OnTokens mode query.now (λ ts. IsSteady query.now →
+        first_unportable ts ≡ None → HasName ts × HasMark ts →
+        IsErrOf result (SteadyFragmentsError.Fragments FragmentsError.Mixed)) }
+{
+    if let Some(at) = first_unsteady(query) {
+        return Err(SteadyFragmentsError::Unsteady { at });
+    }
+    if let Some(found) = first_unportable(query, false) {
+        return Err(SteadyFragmentsError::Unportable(found));
+    }
+    bind_steady_fragments(alloc, query, fragments)
+}
+
+/// [`bind_fragments_anywhere`] for a query that is meant for one server: the text that no
+/// `sql_mode` and no character set reads otherwise. The query needn't be portable, so `Unportable`
+/// never comes; all else is as there.
+pub fn bind_fragments_in_any_mode(
+    alloc: Global,
+    query: &[u8],
+    fragments: &Fragments,
+) -> Result<Vec<u8>, SteadyFragmentsError>
+    ensures bound { (mode : Bool) → OnTokens mode query.now (λ ts. IfOk result (λ text.
+        IsSteadyFragments ts (given_fragments fragments.now) text.items)) }
+    ensures refused { (mode : Bool) → OnTokens mode query.now (λ ts. IfErr result
+        (IsSteadyRefusal query.now None ts (given_fragments fragments.now))) }
+
+    // These are refused without allocating.
+    ensures unsteady { (at : ℕ) → first_unsteady query.now ≡ Some at →
+        IsErrOf result (SteadyFragmentsError.Unsteady at) }
+    ensures mixed { (mode : Bool) → OnTokens mode query.now (λ ts. IsSteady query.now →
+        HasName ts × HasMark ts →
+        IsErrOf result (SteadyFragmentsError.Fragments FragmentsError.Mixed)) }
+{
+    match first_unsteady(query) {
+        Some(at) => Err(SteadyFragmentsError::Unsteady { at }),
+        None => bind_steady_fragments(alloc, query, fragments),
+    }
+}
+
+// The text of a steady query, which has the same tokens in both modes. The error is of fragments.
+fn bind_steady_fragments(
+    alloc: Global,
+    query: &[u8],
+    fragments: &Fragments,
+) -> Result<Vec<u8>, SteadyFragmentsError>
+    requires { IsSteady query.now }
+    ensures bound { (mode : Bool) → OnTokens mode query.now (λ ts. IfOk result (λ text.
+        IsSteadyFragments ts (given_fragments fragments.now) text.items)) }
+    ensures refused { (mode : Bool) → OnTokens mode query.now (λ ts. IfErr result
+        (IsFragmentsRefusal ts (given_fragments fragments.now))) }
+    ensures mixed { (mode : Bool) → OnTokens mode query.now (λ ts. HasName ts × HasMark ts →
+        IsErrOf result (SteadyFragmentsError.Fragments FragmentsError.Mixed)) }
+{
+    let list = match placed_fragments(alloc, query, fragments, false, true) {
+        Ok(list) => list,
+        Err(error) => return Err(SteadyFragmentsError::Fragments(error)),
+    };
+    if let Some(place) = first_unsteady_place(list.as_slice()) {
+        return Err(SteadyFragmentsError::UnsteadyFragment { place });
+    }
+    match filled_query(alloc, query, list.as_slice(), false, &SteadyForm) {
+        Ok(text) => Ok(text),
+        Err(error) => Err(SteadyFragmentsError::Fragments(FragmentsError::Memory(error))),
+    }
+}

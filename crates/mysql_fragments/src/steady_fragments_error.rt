@@ -1,0 +1,32 @@
+//! Why a query and fragments give no steady text.
+use crate::fragments_error::FragmentsError;
+use mysql_portable::portable::Unportable;
+use thiserror::Error;
+
+/// Why [`bind_fragments_anywhere`](crate::bind_fragments_anywhere) or
+/// [`bind_fragments_in_any_mode`](crate::bind_fragments_in_any_mode) gave no text: the first cause,
+/// in this order.
+#[derive(Debug, PartialEq, Drop, Error)]
+pub enum SteadyFragmentsError {
+    /// The query has a backslash or a byte from 128 on; the first is reported.
+    #[error("Backslash or byte that is not ASCII at byte {at} of the query")]
+    Unsteady {
+        /// Its index in the query.
+        at: usize,
+    },
+    /// The query isn't portable; the first construct is reported. It is never returned by
+    /// [`bind_fragments_in_any_mode`](crate::bind_fragments_in_any_mode).
+    #[error("Not portable at byte {} of the query: {}", .0.at, .0.construct)]
+    Unportable(Unportable),
+    /// What [`bind_fragments`](crate::bind_fragments) refuses, or out of memory.
+    #[error(transparent)]
+    Fragments(FragmentsError),
+    /// The fragment for a place has a name with a backslash or a byte from 128 on; the first such
+    /// fragment is reported.
+    #[error("Fragment at place {place} has a name with a backslash or a byte that is not ASCII")]
+    UnsteadyFragment {
+        /// The number of its place, from 0, as in
+        /// [`Fault`](crate::FragmentsError::Fault).
+        place: usize,
+    },
+}

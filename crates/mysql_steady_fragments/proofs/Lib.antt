@@ -1,4 +1,0 @@
-pub mod SteadyPartLemmas
-pub mod SteadyFragmentLemmas
-pub mod SaidSteadyLemmas
-pub mod SteadyRoomLemmas

@@ -1,2 +1,0 @@
-pub mod SteadyFragments
-pub mod SteadyFragmentsErrors
