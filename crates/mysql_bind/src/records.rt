@@ -7,8 +7,10 @@ use crate::script::STREAMED_ROWS;
 use crate::sources::unmarked;
 use crate::table_script::TableScript;
 use crate::values::Values;
-use mysql_bind_core::{Cell, Failure, MatchedQuery, Request, assignments_of, line_and_column};
-use mysql_bind_rows::{TableColumn, TableForm, TableRefusal, append_table, record_cells};
+use mysql_bind_core::{
+    Cell, Failure, MatchedQuery, Request, TableColumn, TableForm, TableRefusal, append_table,
+    assignments_of, line_and_column, record_cells,
+};
 use mysql_records::{Fault, FaultKind, LentField, RecordError, RecordFormat, first_record_into};
 use std::alloc::{AllocError, Global};
 

@@ -12,8 +12,7 @@ use crate::sources::{Sources, shown_path};
 use crate::table_script::TableScript;
 use crate::values::{Values, values_of};
 use clap::ArgMatches;
-use mysql_bind_core::{Request, TakenQuery};
-use mysql_bind_rows::START;
+use mysql_bind_core::{Request, START, TakenQuery};
 use mysql_records::RecordFormat;
 use std::alloc::{AllocError, Global};
 

@@ -5,9 +5,9 @@ use crate::output::write_text;
 use crate::query_file::complaint_of;
 use crate::refused_row::{RowAt, complaint_of_row};
 use crate::values::Values;
-use mysql_bind_core::{Assignment, Request};
-use mysql_bind_rows::{
-    COMMIT, RefusedRow, Row, RowsFailure, START, script_of, stream_rows, write_rows,
+use mysql_bind_core::{
+    Assignment, COMMIT, RefusedRow, Request, Row, RowsFailure, START, script_of, stream_rows,
+    write_rows,
 };
 use std::alloc::{AllocError, Global};
 

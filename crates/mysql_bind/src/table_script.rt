@@ -2,8 +2,7 @@
 use crate::columns::Wanted;
 use crate::complaint::Complaint;
 use crate::output::write_text;
-use mysql_bind_core::Request;
-use mysql_bind_rows::{COMMIT, START};
+use mysql_bind_core::{COMMIT, Request, START};
 
 /// The statements of the rows so far.
 #[derive(Drop)]

@@ -11,3 +11,12 @@ pub mod TakenQueryLemmas
 pub mod CellLemmas
 pub mod MatchedLemmas
 pub mod CellRowLemmas
+pub mod ScriptLemmas
+pub mod LineLemmas
+pub mod ClosedQueryLemmas
+pub mod BoundLineLemmas
+pub mod ScriptTokenLemmas
+pub mod ScriptCountLemmas
+pub mod AlikeLineLemmas
+pub mod ScriptSentLemmas
+pub mod TableLemmas

@@ -1,5 +1,4 @@
--- Values that are looked for among pairs, without a map: for `append_taken`, which is lent to the
--- crate above, and what it stands on.
+-- Values that are looked for among pairs, without a map: for private functions.
 use Rattle.std.specs.Prelude.{◌≡◌, ◌++◌, ◌&&◌, ℕ, Bool, true, List, [], ◌∷◌, nat_eq, if◌then◌else◌, Option, None, Some, is_none, map, Ok}
 use Rattle.std.specs.Cmp.Lexicographic.{pointwise}
 use Rattle.mysql_values.specs.declared.value.Value.{Value}

@@ -13,3 +13,6 @@ pub mod TakenQuery
 pub mod MatchedQuery
 pub mod RowTexts
 pub mod Statements
+pub mod Scripts
+pub mod ScriptTokens
+pub mod Tables

@@ -14,9 +14,14 @@ ghost use Rattle.mysql_bind_core.specs.declared.cell.Cell.{Cell};
 ghost use Rattle.mysql_bind_core.specs.declared.request.Portability.TheVariants as portability;
 ghost use Rattle.mysql_bind_core.specs.declared.request.Request.{Request};
 
+mod scripts;
+
 use mysql_binding::laws::{bound_texts_are_sent, bound_texts_in_clients};
 use mysql_fragments::laws::{bound_fragments_in_clients, steady_fragments_in_clients};
 use mysql_steady_text::laws::{bound_steady_texts_are_sent, bound_steady_texts_in_clients};
+pub use scripts::{
+    records_make_scripts, scripts_in_clients, tables_make_scripts, tokens_of_scripts,
+};
 use std::alloc::Global;
 
 /// Unless all queries are taken, a client that keeps comments cuts what is written into as many

@@ -3,6 +3,9 @@
 //!
 //! [`write_bound`] is the call; `specs/Bound.antt` says what it promises of the text, and
 //! `specs/Refusals.antt` which refusal comes.
+//!
+//! [`write_rows`] binds one query to row after row, and writes the script of them;
+//! `specs/Scripts.antt` says what it promises of the script.
 #![tactic(auto)]
 
 mod assignment;
@@ -19,6 +22,12 @@ mod matched;
 mod positions;
 mod query_end;
 mod request;
+mod row;
+mod rows;
+mod script;
+mod table;
+mod table_form;
+mod table_text;
 mod taken;
 mod value_type;
 
@@ -30,5 +39,11 @@ pub use fragment_type::typed_fragment;
 pub use matched::{MatchedQuery, assignments_of};
 pub use positions::line_and_column;
 pub use request::{Literals, Portability, Request};
+pub use row::{RefusedRow, Row, RowsFailure};
+pub use rows::append_rows;
+pub use script::{COMMIT, START, script_of, stream_rows, write_rows};
+pub use table::append_record;
+pub use table_form::{TableColumn, TableForm, TableRefusal};
+pub use table_text::{append_table, record_cells};
 pub use taken::{TakenQuery, check_query};
 pub use value_type::{ValueType, typed_value};

@@ -3,9 +3,8 @@ use crate::bind_inputs::{
     Assigned, PLAIN, PLAIN_WITHOUT_ESCAPES, ROOM, STEADY, assignments, is_memory, is_written,
 };
 use crate::outcome::{Case, Outcome, cases, judged, row};
-use mysql_bind_core::Request;
 use mysql_bind_core::ValueType::{Identifier, Int, Null, Text};
-use mysql_bind_rows::{Row, RowsFailure, stream_rows, write_rows};
+use mysql_bind_core::{Request, Row, RowsFailure, stream_rows, write_rows};
 use std::alloc::{AllocError, Global};
 
 /// How the call of this name went, if it stands here.

@@ -3,8 +3,9 @@
 use crate::bind_inputs::{PLAIN, PLAIN_WITHOUT_ESCAPES, STEADY, refused};
 use crate::outcome::{Case, Is, Outcome, cases, judged, row};
 use mysql_bind_core::ValueType::{self, Base64, Hex, Identifier, Int, Null, Text};
-use mysql_bind_core::{Assignment, Cell, Failure, MatchedQuery, Request, assignments_of};
-use mysql_bind_rows::append_record;
+use mysql_bind_core::{
+    Assignment, Cell, Failure, MatchedQuery, Request, append_record, assignments_of,
+};
 use std::alloc::{AllocError, Global};
 
 /// How the call of this name went, if it stands here.

@@ -2,8 +2,9 @@
 use crate::bind_inputs::{STEADY, is_memory};
 use crate::outcome::{Case, Memory, Outcome, cases, judged, row};
 use mysql_bind_core::ValueType::{Int, Text};
-use mysql_bind_core::{Cell, Failure, MatchedQuery};
-use mysql_bind_rows::{TableColumn, TableForm, TableRefusal, append_table};
+use mysql_bind_core::{
+    Cell, Failure, MatchedQuery, TableColumn, TableForm, TableRefusal, append_table,
+};
 use mysql_records::RecordFormat::{self, Csv, MysqlTsv};
 use std::alloc::Global;
 

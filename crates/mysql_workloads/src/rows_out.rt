@@ -2,8 +2,7 @@
 use crate::digest::Digest;
 use crate::pools::Pools;
 use crate::random::Random;
-use mysql_bind_core::{Assignment, Literals, Portability, Request, ValueType};
-use mysql_bind_rows::{Row, script_of};
+use mysql_bind_core::{Assignment, Literals, Portability, Request, Row, ValueType, script_of};
 use mysql_params::ParsedQuery;
 use mysql_params::params::{Params, ToPairs, ToParams, ToParamsError};
 use std::alloc::{AllocError, Global};

@@ -44,8 +44,8 @@ pub(crate) enum Attempt {
 impl<'q> TakenQuery<'q> {
     /// Writes the text, as [`TakenQuery::text`] gives it, to the end of a script; if it refuses, the
     /// script stays as it is. The names are those of the query, which are listed once for many
-    /// rows. Lent to the crate above.
-    pub fn append(
+    /// rows.
+    pub(crate) fn append(
         &self,
         alloc: Global,
         query_names: &[&[u8]],

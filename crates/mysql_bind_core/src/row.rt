@@ -1,0 +1,33 @@
+//! Rows, and why one or all of them are refused.
+use crate::assignment::Assignment;
+use crate::failure::Failure;
+use std::alloc::AllocError;
+
+/// What the names of a query are assigned in one statement.
+#[derive(Debug, Drop)]
+pub struct Row {
+    /// As [`bound_text`](crate::bound_text) takes them.
+    pub assignments: Vec<Assignment>,
+}
+
+/// A row without a statement. Those before it have one.
+#[derive(Debug, PartialEq, Drop)]
+pub struct RefusedRow {
+    /// The index of the row.
+    pub number: usize,
+    /// Why it has none. It is never `Write`.
+    pub failure: Failure,
+}
+
+/// Why not all rows are written.
+#[derive(Debug, PartialEq, Drop)]
+pub enum RowsFailure {
+    /// The request doesn't take the query.
+    Query(Failure),
+    /// This row is refused, the first one that is.
+    Row(RefusedRow),
+    /// A write failed, or took no byte. A prefix was written.
+    Write,
+    /// Out of memory. It may come in place of any other.
+    Memory(AllocError),
+}

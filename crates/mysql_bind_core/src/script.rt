@@ -1,0 +1,192 @@
+//! The whole script, in a transaction if one is asked for.
+ghost use Rattle.std.specs.Prelude.{◌≡◌, ◌≢◌, ◌++◌, ℕ, List, [], take, if◌then◌else◌, IfOk, IfErr, OnOk, IsErrOf};
+ghost use Rattle.std.specs.Io.KnownBytes.{Appends};
+ghost use Rattle.mysql_program.specs.ReadersAndWriters.{AppendsPrefix};
+ghost use Rattle.mysql_bind_core.specs.Bound.{IsTaken};
+ghost use Rattle.mysql_bind_core.specs.Scripts.{AreStatements, IfMemory, IfQuery, IfRow, IsRowsRefusal, IsScript};
+
+use crate::request::Request;
+use crate::row::{Row, RowsFailure};
+use crate::rows::append_rows;
+use crate::taken::TakenQuery;
+use mysql_program::readers_and_writers::write_whole;
+use std::alloc::{AllocError, Global};
+use std::io::Write;
+
+/// The statement that begins a transaction.
+pub const START: &[u8] = b"START TRANSACTION\n;\n";
+
+/// The statement that ends a transaction.
+pub const COMMIT: &[u8] = b"COMMIT\n;\n";
+
+// Appends the bytes, if they are wanted.
+fn append_if(script: &mut Vec<u8>, wanted: bool, bytes: &[u8]) -> Result<(), AllocError>
+    ensures { OnOk result (
+        script.new.items ≡ script.old.items ++ (if wanted then bytes.now else [])) }
+{
+    if wanted {
+        script.extend_from_slice(bytes)
+    } else {
+        Ok(())
+    }
+}
+
+/// The script of the rows, or the refusal, which is never `Write`: for each row its bound text and
+/// a line with `;`, in their order, between `START TRANSACTION` and `COMMIT` if a transaction is
+/// asked for.
+pub fn script_of(
+    alloc: Global,
+    query: &[u8],
+    rows: &[Row],
+    request: Request,
+    transaction: bool,
+) -> Result<Vec<u8>, RowsFailure>
+    ensures written { IfOk result (λ script.
+        IsScript request query.now rows.now transaction script.items) }
+    ensures refused { IfErr result (IsRowsRefusal request query.now rows.now) }
+{
+    match TakenQuery::new(alloc, query, request) {
+        Ok(taken) => taken_script(alloc, &taken, rows, transaction),
+        Err(failure) => Err(RowsFailure::Query(failure)),
+    }
+}
+
+// The script of rows and a query that is taken.
+fn taken_script(
+    alloc: Global,
+    query: &TakenQuery<'_>,
+    rows: &[Row],
+    transaction: bool,
+) -> Result<Vec<u8>, RowsFailure>
+    requires { IsTaken query.now.request query.now.query }
+    ensures written { IfOk result (λ script.
+        IsScript query.now.request query.now.query rows.now transaction script.items) }
+    ensures refused { IfErr result (IsRowsRefusal query.now.request query.now.query rows.now) }
+{
+    let mut script = Vec::new(alloc);
+    if let Err(error) = append_if(&mut script, transaction, START) {
+        return Err(RowsFailure::Memory(error));
+    }
+    if let Err(refused) = append_rows(alloc, query, rows, &mut script) {
+        return Err(RowsFailure::Row(refused));
+    }
+    if let Err(error) = append_if(&mut script, transaction, COMMIT) {
+        return Err(RowsFailure::Memory(error));
+    }
+    Ok(script)
+}
+
+/// Writes the script of the rows, as [`script_of`] gives it, or refuses.
+///
+/// All rows are bound before the first byte is written. With any refusal but `Write` nothing was
+/// written.
+pub fn write_rows<W: Write>(
+    alloc: Global,
+    query: &[u8],
+    rows: &[Row],
+    request: Request,
+    transaction: bool,
+    output: &mut W,
+) -> Result<(), RowsFailure>
+    ensures written { OnOk result ((script : List ℕ)
+        × IsScript request query.now rows.now transaction script
+        × Appends (W.contents output.old) (W.contents output.new) script) }
+    ensures refused { IfErr result (λ e. e ≢ RowsFailure.Write →
+        IsRowsRefusal request query.now rows.now e) }
+
+    // A refusal has written nothing.
+    ensures unwritten { IfErr result (λ e. e ≢ RowsFailure.Write → output.new ≡ output.old) }
+
+    // A failed write has written a prefix of what would have been written.
+    ensures begun { IsErrOf result RowsFailure.Write → (script : List ℕ)
+        × IsScript request query.now rows.now transaction script
+        × AppendsPrefix (W.contents output.old) (W.contents output.new) script }
+{
+    match script_of(alloc, query, rows, request, transaction) {
+        Ok(script) => written(output, &script),
+        Err(failure) => Err(failure),
+    }
+}
+
+// Writes the whole script.
+fn written<W: Write>(output: &mut W, script: &[u8]) -> Result<(), RowsFailure>
+    ensures ok { OnOk result (Appends (W.contents output.old) (W.contents output.new) script.now) }
+    ensures refused { IfErr result (λ e. e ≡ RowsFailure.Write) }
+    ensures begun { IsErrOf result RowsFailure.Write →
+        AppendsPrefix (W.contents output.old) (W.contents output.new) script.now }
+{
+    match write_whole(output, script) {
+        Ok(()) => Ok(()),
+        Err(_) => Err(RowsFailure::Write),
+    }
+}
+
+/// Writes the statement of each row, without a transaction's. A row that is refused leaves exactly
+/// the statements of those before it: of rows that are read piece by piece, each piece can be
+/// written before the next one is read. Out of memory is told as the refusal of a row.
+pub fn stream_rows<W: Write>(
+    alloc: Global,
+    query: &[u8],
+    rows: &[Row],
+    request: Request,
+    output: &mut W,
+) -> Result<(), RowsFailure>
+    ensures written { OnOk result ((statements : List ℕ)
+        × AreStatements request query.now rows.now [] statements
+        × Appends (W.contents output.old) (W.contents output.new) statements) }
+    ensures refused { IfErr result (λ e. e ≢ RowsFailure.Write →
+        IsRowsRefusal request query.now rows.now e) }
+
+    // A refused query has written nothing, a refused row the statements of those before it.
+    ensures unwritten { IfErr result (λ e. IfQuery e (output.new ≡ output.old)) }
+    ensures before { IfErr result (λ e. IfRow e (λ number. (statements : List ℕ)
+        × AreStatements request query.now (take number rows.now) [] statements
+        × Appends (W.contents output.old) (W.contents output.new) statements)) }
+
+    // Out of memory is told of the query or of a row, so the clauses above say what is written.
+    ensures memory { IfErr result (λ e. IfMemory e ⊥) }
+
+    // A failed write has written a prefix of the statements of all rows, or of those before one.
+    ensures begun { IsErrOf result RowsFailure.Write → (number : ℕ) × (statements : List ℕ)
+        × AreStatements request query.now (take number rows.now) [] statements
+        × AppendsPrefix (W.contents output.old) (W.contents output.new) statements }
+{
+    match TakenQuery::new(alloc, query, request) {
+        Ok(taken) => stream_taken(alloc, &taken, rows, output),
+        Err(failure) => Err(RowsFailure::Query(failure)),
+    }
+}
+
+// Writes the statement of each row of a query that is taken.
+fn stream_taken<W: Write>(
+    alloc: Global,
+    query: &TakenQuery<'_>,
+    rows: &[Row],
+    output: &mut W,
+) -> Result<(), RowsFailure>
+    requires { IsTaken query.now.request query.now.query }
+    ensures written { OnOk result ((statements : List ℕ)
+        × AreStatements query.now.request query.now.query rows.now [] statements
+        × Appends (W.contents output.old) (W.contents output.new) statements) }
+    ensures refused { IfErr result (λ e. e ≢ RowsFailure.Write →
+        IsRowsRefusal query.now.request query.now.query rows.now e) }
+    ensures only { IfErr result (λ e. IfQuery e ⊥) }
+    ensures memory { IfErr result (λ e. IfMemory e ⊥) }
+    ensures before { IfErr result (λ e. IfRow e (λ number. (statements : List ℕ)
+        × AreStatements query.now.request query.now.query (take number rows.now) []
+        statements
+        × Appends (W.contents output.old) (W.contents output.new) statements)) }
+    ensures begun { IsErrOf result RowsFailure.Write → (number : ℕ) × (statements : List ℕ)
+        × AreStatements query.now.request query.now.query (take number rows.now) []
+        statements
+        × AppendsPrefix (W.contents output.old) (W.contents output.new) statements }
+{
+    let mut statements = Vec::new(alloc);
+    match append_rows(alloc, query, rows, &mut statements) {
+        Ok(()) => written(output, &statements),
+        Err(refused) => match written(output, &statements) {
+            Ok(()) => Err(RowsFailure::Row(refused)),
+            Err(failure) => Err(failure),
+        },
+    }
+}

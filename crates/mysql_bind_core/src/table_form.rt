@@ -1,0 +1,52 @@
+//! How the records of a table become rows, and why one doesn't.
+use crate::cell::Cell;
+use crate::failure::Failure;
+use crate::value_type::ValueType;
+use mysql_records::{Fault, RecordFormat};
+use std::alloc::AllocError;
+
+/// A column of a table.
+#[derive(Debug, Clone, Copy)]
+pub struct TableColumn {
+    /// How the bytes of its fields are taken.
+    pub value_type: ValueType,
+    /// Whether its fields become cells.
+    pub used: bool,
+}
+
+/// How the records of a table become rows.
+#[derive(Debug, Clone, Copy)]
+pub struct TableForm<'a> {
+    /// The format of the records.
+    pub format: RecordFormat,
+    /// The columns: a record has as many fields.
+    pub columns: &'a [TableColumn],
+    /// The bytes of a field that is NULL, if some mean that.
+    pub null_text: Option<&'a [u8]>,
+    /// The cells that are the same in each row, behind those of its record.
+    pub fixed: &'a [Cell<'a>],
+}
+
+/// Why the first record without a statement has none. Those before it have one.
+#[derive(Debug, PartialEq, Drop)]
+pub enum TableRefusal {
+    /// The text isn't records: its first fault.
+    Record(Fault),
+    /// The record has another number of fields than there are columns.
+    Length {
+        /// The index at which the record begins.
+        at: usize,
+        /// How many fields it has.
+        fields: usize,
+    },
+    /// The row of the record is refused.
+    Row {
+        /// The index at which the record begins.
+        at: usize,
+        /// Why it has no statement. It is never `Write`.
+        failure: Failure,
+    },
+    /// Out of memory as a record was read. It may come in place of any other. While a row is bound,
+    /// `Row` tells it.
+    Memory(AllocError),
+}

@@ -1,0 +1,168 @@
+//! The statements of a table's records, from the bytes of the table.
+ghost use Rattle.std.specs.Prelude.{◌≡◌, ◌≢◌, ◌++◌, ◌<◌, ◌≤◌, ℕ, List, [], length, map, IfErr, IfNone, IfOk, IfSome, OnErr, OnOk};
+ghost use Rattle.mysql_records.specs.Records.{BeginsWithRecord};
+ghost use Rattle.mysql_records.specs.Seen.{lent_fields_seen, lent_seen};
+ghost use Rattle.mysql_bind_core.specs.Cells.{TableQuery};
+ghost use Rattle.mysql_bind_core.specs.Scripts.{statement};
+ghost use Rattle.mysql_bind_core.specs.Tables.{AreAppended, AreCellsOf, BeginsWithRecords, Fields, IsRecordRefusal, IsRecordText, IsRefusedAt, cell_said, column_said, field_said};
+
+use crate::cell::Cell;
+use crate::failure::Failure;
+use crate::matched::MatchedQuery;
+use crate::table::append_record;
+use crate::table_form::{TableColumn, TableForm, TableRefusal};
+use crate::value_type::ValueType;
+use mysql_records::{Fault, LentField, RecordError, first_record_into};
+use std::alloc::{AllocError, Global};
+
+/// Appends the statements of a table's records to a script, in the order of the records and at most
+/// so many, and gives the text behind them: it is empty if all records have one. The statement of a
+/// record is what [`append_record`] appends for its cells.
+///
+/// The first record that is refused leaves the statements of those before it. A refusal's indices
+/// are in `text`.
+pub fn append_table<'t>(
+    alloc: Global,
+    query: &MatchedQuery<'_, '_>,
+    form: &TableForm<'_>,
+    text: &'t [u8],
+    most: usize,
+    script: &mut Vec<u8>,
+) -> Result<&'t [u8], TableRefusal>
+    ensures appended { IfOk result (λ rest. (records : List Fields)
+        × AreAppended query.now form.now text.now records rest.now script.old.items script.new.items
+        × (length records ≤ most) × (rest.now ≢ [] → length records ≡ most)) }
+    ensures refused { IfErr result (λ e. (records : List Fields) × (rest : List ℕ)
+        × AreAppended query.now form.now text.now records rest script.old.items script.new.items
+        × (length records < most) × IsRefusedAt query.now form.now text.now rest e) }
+{
+    let mut fields = Vec::new(alloc);
+    let mut rest = text;
+    for _count in 0..most {
+        let found = match read_record(alloc, form, text, rest, &mut fields) {
+            Ok(found) => found,
+            Err(refusal) => return Err(refusal),
+        };
+        let Some(more) = found else {
+            return Ok(rest);
+        };
+        let at = text.len() - rest.len();
+        if fields.len() != form.columns.len() {
+            let fields = fields.len();
+            return Err(TableRefusal::Length { at, fields });
+        }
+        match append_fields(alloc, query, form, fields.as_slice(), script) {
+            Ok(()) => rest = more,
+            Err(failure) => return Err(TableRefusal::Row { at, failure }),
+        }
+    }
+    Ok(rest)
+}
+
+// The fields of the record at the front of the rest of a text, in place of those that the vector
+// has, and the text behind it; none if the rest is empty.
+fn read_record<'t>(
+    alloc: Global,
+    form: &TableForm<'_>,
+    text: &'t [u8],
+    rest: &'t [u8],
+    fields: &mut Vec<LentField<'t>>,
+) -> Result<Option<&'t [u8]>, TableRefusal>
+    requires { length rest.now ≤ length text.now }
+    ensures none { IfOk result (λ found. IfNone found (rest.now ≡ [])) }
+    ensures read { IfOk result (λ found. IfSome found (λ more. BeginsWithRecord form.now.format
+        rest.now (lent_fields_seen fields.new.items) more.now)) }
+    ensures refused { IfErr result (λ e. (query : TableQuery) (records : List Fields) →
+        BeginsWithRecords form.now.format text.now records rest.now →
+        IsRefusedAt query form.now text.now rest.now e) }
+{
+    match first_record_into(alloc, form.format, rest, fields) {
+        Ok(found) => Ok(found),
+        Err(error) => match error {
+            RecordError::Memory(error) => Err(TableRefusal::Memory(error)),
+            RecordError::Fault(fault) => {
+                let at = text.len() - rest.len() + fault.at;
+                let kind = fault.kind;
+                Err(TableRefusal::Record(Fault { at, kind }))
+            }
+        },
+    }
+}
+
+// Appends the statement of a record with these fields.
+fn append_fields(
+    alloc: Global,
+    query: &MatchedQuery<'_, '_>,
+    form: &TableForm<'_>,
+    fields: &[LentField<'_>],
+    script: &mut Vec<u8>,
+) -> Result<(), Failure>
+    ensures appended { OnOk result ((text : List ℕ)
+        × IsRecordText query.now form.now (lent_fields_seen fields.now) text
+        × (script.new.items ≡ script.old.items ++ statement text)) }
+    ensures refused { IfErr result (IsRecordRefusal query.now form.now
+        (lent_fields_seen fields.now)) }
+    ensures kept { OnErr result (script.new.items ≡ script.old.items) }
+{
+    match record_cells(alloc, form, fields) {
+        Ok(cells) => append_record(alloc, query, cells.as_slice(), script),
+        Err(error) => Err(Failure::Memory(error)),
+    }
+}
+
+/// The cells of a record with these fields, which lie where the fields do: of each column that is
+/// used, and behind those the ones that each row has. A field or a column that the other list has
+/// no partner for is left out.
+pub fn record_cells<'f>(
+    alloc: Global,
+    form: &TableForm<'f>,
+    fields: &'f [LentField<'_>],
+) -> Result<Vec<Cell<'f>>, AllocError>
+    ensures { IfOk result (λ cells.
+        AreCellsOf form.now (lent_fields_seen fields.now) cells.items) }
+{
+    let most = form.columns.len().saturating_add(form.fixed.len());
+    let mut cells = Vec::with_capacity(alloc, most)?;
+    for i in 0..form.columns.len().min(fields.len()) {
+        push_cell(&mut cells, form.null_text, form.columns[i], &fields[i])?;
+    }
+    cells.extend_from_slice(form.fixed)?;
+    Ok(cells)
+}
+
+// Adds the cell of a field to those of its record, if its column is used.
+fn push_cell<'f>(
+    cells: &mut Vec<Cell<'f>>,
+    null_text: Option<&[u8]>,
+    column: TableColumn,
+    field: &'f LentField<'_>,
+) -> Result<(), AllocError>
+    ensures { OnOk result (map cell_said cells.new.items ≡ map cell_said cells.old.items
+        ++ column_said null_text.entry column (lent_seen field.now)) }
+{
+    if column.used {
+        cells.push(cell_of(null_text, column.value_type, field))?;
+    }
+    Ok(())
+}
+
+// What a field is for a column of this type.
+fn cell_of<'f>(
+    null_text: Option<&[u8]>,
+    value_type: ValueType,
+    field: &'f LentField<'_>,
+) -> Cell<'f>
+    ensures { cell_said result ≡ field_said null_text.entry value_type (lent_seen field.now) }
+{
+    let Some(bytes) = field.bytes() else {
+        return Cell {
+            value_type: ValueType::Null,
+            bytes: b"",
+        };
+    };
+    let value_type = match null_text {
+        Some(text) if text == bytes => ValueType::Null,
+        _ => value_type,
+    };
+    Cell { value_type, bytes }
+}

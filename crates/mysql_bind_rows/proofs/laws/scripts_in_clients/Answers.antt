@@ -1,8 +1,0 @@
-use Rattle.mysql_bind_rows.proofs.ScriptSentLemmas.{script_in_client, statements_in_client}
-use Rattle.mysql_bind_rows.proofs.laws.scripts_in_clients.Goals as goal
-
-pub returns : goal.returns
-returns c = record {
-  script = λ request query rows transaction bytes e s. script_in_client request query e rows transaction bytes s;
-  statements = λ request query rows bytes e s. statements_in_client request query e rows bytes s;
-}

@@ -1,3 +1,0 @@
-pub mod Scripts
-pub mod ScriptTokens
-pub mod Tables
