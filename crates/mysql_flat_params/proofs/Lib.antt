@@ -14,3 +14,13 @@ pub mod SteadyRoomLemmas
 pub mod StringRoomLemmas
 pub mod RowsLemmas
 pub mod RowNamesLemmas
+pub mod ReadEachLemmas
+pub mod FragmentLeavesLemmas
+pub mod FragmentsFormLemmas
+pub mod FragmentMapLemmas
+pub mod KeywordLemmas
+pub mod FragmentsRoomLemmas
+pub mod FragmentsAnywhereLemmas
+pub mod FragmentInPlaceLemmas
+pub mod FragmentsInPlaceLemmas
+pub mod PlacedLemmas

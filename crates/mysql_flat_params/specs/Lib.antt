@@ -16,3 +16,12 @@ pub mod BoundRows
 pub mod RowInRoom
 pub mod UnportableReport
 pub mod RowNames
+pub mod FragmentContent
+pub mod FiniteDouble
+pub mod Keywords
+pub mod FlatFragments
+pub mod FormInPlace
+pub mod FragmentsFormErrors
+pub mod FragmentsOutcomes
+pub mod FragmentsIntoRoom
+pub mod FragmentsAnywhereIntoRoom

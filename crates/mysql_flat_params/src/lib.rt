@@ -9,27 +9,47 @@
 //! to many forms.
 //! [`report_first_unportable`] reports the first construct for which a query isn't portable, and
 //! [`report_first_unportable_in_client`] also what a client reads or sends otherwise.
-//! [`column_type`] and [`name_place`] are lent to the form of fragments.
+//!
+//! [`form_fragments`] reads the form of fragments: lists, rows, exact numbers, doubles, identifiers
+//! and keywords. [`bind_fragments_into`] and [`bind_fragments_anywhere_into`] bind what it says,
+//! and say by a [`FragmentsOutcome`] why they refuse.
 #![tactic(auto)]
 
 mod column_number;
+mod double;
 mod form;
 mod form_error;
 mod form_names;
+mod fragment;
+mod fragment_in_place;
+mod fragment_parts;
+mod fragments_anywhere_room;
+mod fragments_form;
+mod fragments_in_place;
+mod fragments_outcome;
+mod fragments_room;
 mod into_room;
+mod items;
+mod keywords;
 pub mod laws;
 mod missing_place;
 mod names_room;
 mod outcome;
 mod place_table;
+mod placed;
 mod row_names;
 mod rows;
+mod rows_in_place;
 mod steady_room;
 mod unportable;
 
 pub use column_number::column_type;
 pub use form::params_of_form;
 pub use form_error::FormError;
+pub use fragments_anywhere_room::bind_fragments_anywhere_into;
+pub use fragments_form::form_fragments;
+pub use fragments_outcome::FragmentsOutcome;
+pub use fragments_room::bind_fragments_into;
 pub use into_room::bind_into;
 pub use missing_place::name_place;
 pub use mysql_binding::PlaceSpan;

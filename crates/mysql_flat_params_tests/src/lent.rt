@@ -1,4 +1,4 @@
-//! What is lent to the form of fragments.
+//! What both forms use: types of numbers, and places of names.
 use crate::shared::{WITH_BACKSLASHES, WITHOUT_BACKSLASHES, same_in};
 use mysql_flat_params::{column_type, name_place};
 use mysql_wire_part::ColumnType;

@@ -8,6 +8,14 @@ mod both_modes;
 #[cfg(test)]
 mod forms;
 #[cfg(test)]
+mod fragment_forms;
+#[cfg(test)]
+mod fragments_anywhere;
+#[cfg(test)]
+mod fragments_bound;
+#[cfg(test)]
+mod fragments_shared;
+#[cfg(test)]
 mod hostile;
 #[cfg(test)]
 mod lent;

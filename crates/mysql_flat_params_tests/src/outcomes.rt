@@ -88,7 +88,7 @@ const OUTCOMES: &[(Outcome, i32, [usize; 6])] = &[
         16,
         [0, 0, 2, 0, 0, 6],
     ),
-    // 17 is a fragment that can't be written (`mysql_flat_fragments`).
+    // 17 is a fragment that can't be written (`mysql_flat_params`).
     (Outcome::Backslash { position: 2 }, 18, [0, 0, 2, 0, 0, 0]),
 ];
 

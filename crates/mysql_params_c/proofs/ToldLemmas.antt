@@ -3,9 +3,9 @@ use Rattle.std.proofs.Common.{◌≡◌, ℕ, pos, of_z, refl, to_z, w32}
 use Rattle.mysql_flat_params.specs.Outcomes.{IfDone, number_of, report_of}
 use Rattle.mysql_flat_params.specs.declared.outcome.Outcome.{Outcome}
 use Rattle.mysql_flat_params.specs.declared.outcome.Outcome.TheVariants.{Done, OutOfMemory, Room, FormEnd, FormLengthLead, FormType, FormMixed, FormRepeated, Mixed, Missing, NamedForPositional, PositionalForNamed, MarkCount, NotAlone, Float, Unsteady, Unportable, Backslash}
-use Rattle.mysql_flat_fragments.specs.FragmentsOutcomes as fragments
-use Rattle.mysql_flat_fragments.specs.declared.outcome.FragmentsOutcome.{FragmentsOutcome}
-use Rattle.mysql_flat_fragments.specs.declared.outcome.FragmentsOutcome.TheVariants.{AsValues, Fault, UnsteadyFragment}
+use Rattle.mysql_flat_params.specs.FragmentsOutcomes as fragments
+use Rattle.mysql_flat_params.specs.declared.fragments_outcome.FragmentsOutcome.{FragmentsOutcome}
+use Rattle.mysql_flat_params.specs.declared.fragments_outcome.FragmentsOutcome.TheVariants.{AsValues, Fault, UnsteadyFragment}
 use Rattle.mysql_flat_params.specs.PlaceTable as table
 use Rattle.mysql_flat_params.specs.declared.place_table.TableOutcome.{TableOutcome}
 use Rattle.mysql_flat_params.specs.declared.place_table.TableOutcome.TheVariants.{AsQuery, OtherTable}

@@ -22,9 +22,9 @@ ghost use Rattle.mysql_flat_params.specs.Outcomes.{IsTold, number_of};
 ghost use Rattle.mysql_flat_params.specs.PlaceTable as table;
 ghost use Rattle.mysql_flat_params.specs.PlaceTable.{IsMadeTable, IsTableBindOutcome, IsTableOf, IsTableOutcome};
 ghost use Rattle.mysql_flat_params.specs.declared.outcome.Outcome as outcome;
-ghost use Rattle.mysql_flat_fragments.specs.FragmentsAnywhereIntoRoom as anywhere_fragments;
-ghost use Rattle.mysql_flat_fragments.specs.FragmentsIntoRoom as fragments;
-ghost use Rattle.mysql_flat_fragments.specs.FragmentsOutcomes as fragments_outcomes;
+ghost use Rattle.mysql_flat_params.specs.FragmentsAnywhereIntoRoom as anywhere_fragments;
+ghost use Rattle.mysql_flat_params.specs.FragmentsIntoRoom as fragments;
+ghost use Rattle.mysql_flat_params.specs.FragmentsOutcomes as fragments_outcomes;
 ghost use Rattle.mysql_flat_params.specs.UnportableReport.{unportable_number, unportable_report};
 ghost use Rattle.mysql_named_params.specs.Places.{marks, HasMark, HasName};
 ghost use Rattle.mysql_named_params.specs.Tokens.{OnTokens};
@@ -32,11 +32,11 @@ ghost use Rattle.mysql_portable.specs.FirstUnportable.{first_unportable};
 ghost use Rattle.mysql_portable.specs.FirstUnportableInClient.{first_unportable_in_client, IsPortableInClient};
 ghost use Rattle.mysql_portable.specs.Portable.{IsPortable};
 
-use mysql_flat_fragments::{bind_fragments_anywhere_into, bind_fragments_into};
 use mysql_flat_params::{
     PlaceSpan, Report, Rows, TableHead, Template, bind_anywhere_into, bind_by_table_into,
-    bind_in_both_modes_into, bind_into, bind_rows_into, names_into, report_first_unportable,
-    report_first_unportable_in_client, table_into,
+    bind_fragments_anywhere_into, bind_fragments_into, bind_in_both_modes_into, bind_into,
+    bind_rows_into, names_into, report_first_unportable, report_first_unportable_in_client,
+    table_into,
 };
 use std::alloc::Global;
 
@@ -311,11 +311,11 @@ pub extern "C" fn mysql_params_bind_template(
 }
 
 /// Binds into the query the fragments that the form says, and writes the text to the front of the
-/// room: [`bind_fragments_into`](mysql_flat_fragments::bind_fragments_into).
+/// room: [`bind_fragments_into`](mysql_flat_params::bind_fragments_into).
 ///
 /// The form is that of [`mysql_params_bind`] with six types more, for an exact number, a list,
 /// rows, an identifier, a qualified one and a keyword
-/// ([`form_fragments`](mysql_flat_fragments::form_fragments)). It returns the numbers of
+/// ([`form_fragments`](mysql_flat_params::form_fragments)). It returns the numbers of
 /// [`mysql_params_bind`], and after those for a query 17 (`Fault`) for a fragment that can't be
 /// written: then the report has its place, in `byte` the number of the fault, in `position` the row
 /// and in `values` the item or the part of the name. Any other number may be 1 (`OutOfMemory`)
@@ -350,7 +350,7 @@ pub extern "C" fn mysql_params_bind_fragments(
 
 /// Binds into the query the fragments that the form says, and writes to the front of the room a
 /// text that no `sql_mode` and no character set of a connection reads otherwise, on any server:
-/// [`bind_fragments_anywhere_into`](mysql_flat_fragments::bind_fragments_anywhere_into).
+/// [`bind_fragments_anywhere_into`](mysql_flat_params::bind_fragments_anywhere_into).
 ///
 /// It returns the numbers of [`mysql_params_bind_fragments`], and after those for a form and before
 /// those for a query 15 (`Unsteady`) and 16 (`Unportable`) as [`mysql_params_bind_anywhere`], and

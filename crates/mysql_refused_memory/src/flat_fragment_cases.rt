@@ -6,10 +6,10 @@ use crate::fragment_inputs::PlainItem::{Decimal as Number, Value as Item};
 use crate::inputs::Plain::{Int, Null};
 use crate::outcome::Memory::{Asked, Never};
 use crate::outcome::{Case, Memory, Outcome, cases, judged, row};
-use mysql_flat_fragments::{
-    FragmentsOutcome, bind_fragments_anywhere_into, bind_fragments_into, form_fragments,
+use mysql_flat_params::{
+    FragmentsOutcome, Outcome as Told, bind_fragments_anywhere_into, bind_fragments_into,
+    form_fragments,
 };
-use mysql_flat_params::Outcome as Told;
 use mysql_fragments::FragmentFault;
 use std::alloc::Global;
 

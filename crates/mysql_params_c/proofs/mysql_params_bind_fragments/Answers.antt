@@ -1,5 +1,5 @@
 use Rattle.std.proofs.Common.{ap, of_z, sym, subst, take, to_z, w32, ◌∙◌}
-use Rattle.mysql_flat_fragments.specs.FragmentsIntoRoom.{IsBoundForm}
+use Rattle.mysql_flat_params.specs.FragmentsIntoRoom.{IsBoundForm}
 use Rattle.mysql_params_c.proofs.ToldLemmas.{fragments_written_told}
 use Rattle.mysql_params_c.proofs.mysql_params_bind_fragments.Goals as goal
 

@@ -1,9 +1,0 @@
-pub mod FragmentContent
-pub mod FiniteDouble
-pub mod Keywords
-pub mod FlatFragments
-pub mod FormInPlace
-pub mod FragmentsFormErrors
-pub mod FragmentsOutcomes
-pub mod FragmentsIntoRoom
-pub mod FragmentsAnywhereIntoRoom

@@ -1,0 +1,35 @@
+use Rattle.std.proofs.Common.{[], arith, refl, subst, sym}
+use Rattle.mysql_fragments.specs.GivenFragments.{positional}
+use Rattle.mysql_flat_params.proofs.FormLemmas.{not_empty}
+use Rattle.mysql_flat_params.specs.FormInPlace.{AreKeptAs}
+use Rattle.mysql_flat_params.proofs.FragmentsFormLemmas.{all_of_it, parameter_read, parameter_refused, whole_read}
+use Rattle.mysql_flat_params.proofs.fragments_in_place.form_in_place.Goals as goal
+
+pub loop-rest-init : goal.loop-rest-init
+loop-rest-init c = (
+  (positional [], ([], refl, subst (λ list. AreKeptAs list []) (sym c.new.ensures.items) tt), all_of_it c.args.form.now (positional []) refl),
+  omega arith,
+)
+
+pub returns-in-Err-clause-refused : goal.returns-in-Err-clause-refused
+returns-in-Err-clause-refused c =
+    let ((given, kept, leads), within) = c.loop-rest.invariant in
+    parameter_refused c.args.form.now _ given _ c.in-Err.error leads (not_empty _ c.loop-rest-test.ensures.empty.1) (c.in-Err.ensures.refused given kept)
+
+pub loop-rest-smaller : goal.loop-rest-smaller
+loop-rest-smaller c =
+    let ((given, kept, leads), within) = c.loop-rest.invariant in
+    let (said, says, read) = c.in-Ok.ensures.read given kept in
+    (parameter_read c.args.form.now _ given _ _ said _ _ leads (not_empty _ c.loop-rest-test.ensures.empty.1) read refl).1
+
+pub loop-rest-preserved : goal.loop-rest-preserved
+loop-rest-preserved c =
+    let ((given, kept, leads), within) = c.loop-rest.invariant in
+    let (said, says, read) = c.in-Ok.ensures.read given kept in
+    let next = parameter_read c.args.form.now _ given _ _ said _ _ leads (not_empty _ c.loop-rest-test.ensures.empty.1) read refl in
+    ((_, c.in-Ok-keep.ensures given said kept says, next.0), omega (arith, next.1, within))
+
+pub returns-clause-read : goal.returns-clause-read
+returns-clause-read c =
+    let ((given, kept, leads), within) = c.loop-rest.invariant in
+    (given, kept, whole_read c.args.form.now _ given _ leads (c.loop-rest-test.ensures.empty.0 refl))

@@ -1,0 +1,70 @@
+-- Private: what is kept of a form of fragments where it lies, and which fragments this says.
+use Rattle.std.specs.Prelude.{◌≡◌, ℕ, List, [], ◌∷◌, map, Option, Some, None, ⊤}
+use Rattle.std.specs.Borrow.{Bor}
+use Rattle.std.specs.FinMap.{get}
+use Rattle.std.specs.Global.{Vec}
+use Rattle.std.specs.Map.{lookup}
+use Rattle.std.specs.Ordering.{nat_cmp, is_eq}
+use Rattle.std.specs.Cmp.Lexicographic.{slice_cmp}
+use Rattle.std.specs.Simd.{first_chunks}
+use Rattle.mysql_value_core.specs.declared.value.borrowed.ValueRef.{ValueRef}
+use Rattle.mysql_values.specs.BorrowedValue.{owned}
+use Rattle.mysql_fragments.specs.BorrowedFragments.{cell_item}
+use Rattle.mysql_fragments.specs.GivenFragments.{FragmentMap, GivenFragments, named, positional}
+use Rattle.mysql_fragments.specs.declared.fragment.Item.{Item}
+use Rattle.mysql_fragments.specs.declared.fragment.Fragment.{Fragment}
+use Rattle.mysql_fragments.specs.declared.fragment.Fragment.TheVariants as one
+use Rattle.mysql_flat_params.specs.FragmentContent.{ItemContent, value_item}
+use Rattle.mysql_flat_params.specs.declared.fragment_in_place.FragmentInPlace.{FragmentInPlace}
+use Rattle.mysql_flat_params.specs.declared.fragment_in_place.FragmentInPlace.TheVariants as kept
+use Rattle.mysql_flat_params.specs.declared.rows_in_place.RowsInPlace.{RowsInPlace}
+use Rattle.mysql_flat_params.specs.declared.fragments_in_place.FormInPlace.{FormInPlace}
+use Rattle.mysql_flat_params.specs.declared.fragments_in_place.FormInPlace.TheVariants as whole
+
+-- what a value says as an item
+abbrev pub cell_content : ValueRef → ItemContent
+cell_content cell = value_item (owned cell)
+
+-- what cells say, row by row
+abbrev pub rows_content : RowsInPlace → List (List ItemContent)
+rows_content rows = map (map cell_content) (first_chunks rows.width rows.count rows.cells.items)
+
+-- the fragment is what is kept, or has the values that are kept
+abbrev pub IsKeptAs : FragmentInPlace → Fragment → Type 0
+IsKeptAs (kept.Value value) said = said ≡ one.Value (owned value)
+IsKeptAs (kept.List cells) said = (items : Vec Item) × (said ≡ one.List items)
+    × (items.items ≡ map cell_item cells.items)
+IsKeptAs (kept.Rows rows) said = (said_rows : Vec (Vec Item)) × (said ≡ one.Rows said_rows)
+    × (map (λ row. row.items) said_rows.items
+    ≡ map (map cell_item) (first_chunks rows.width rows.count rows.cells.items))
+IsKeptAs (kept.Copied fragment) said = said ≡ fragment
+
+-- as many fragments, and each is what is kept of it
+abbrev pub AreKeptAs : List FragmentInPlace → List Fragment → Type 0
+AreKeptAs [] [] = ⊤
+AreKeptAs [] (said ∷ more) = ⊥
+AreKeptAs (fragment ∷ fragments) [] = ⊥
+AreKeptAs (fragment ∷ fragments) (said ∷ more) = IsKeptAs fragment said × AreKeptAs fragments more
+
+-- there is no fragment, and none is kept; or the fragment is what is kept
+abbrev pub IsFoundAs : Option FragmentInPlace → Option Fragment → Type 0
+IsFoundAs None None = ⊤
+IsFoundAs None (Some said) = ⊥
+IsFoundAs (Some fragment) None = ⊥
+IsFoundAs (Some fragment) (Some said) = IsKeptAs fragment said
+
+-- what is kept under a name
+abbrev pub kept_at : List (Bor (List ℕ) × FragmentInPlace) → List ℕ → Option FragmentInPlace
+kept_at entries name = lookup (λ key. is_eq (slice_cmp nat_cmp name key.now)) entries
+
+-- each name has what is kept under it
+abbrev pub IsMapKeptAs : List (Bor (List ℕ) × FragmentInPlace) → FragmentMap → Type 0
+IsMapKeptAs entries fragments =
+    (name : List ℕ) → IsFoundAs (kept_at entries name) (get fragments name)
+
+-- this is given by what is kept
+abbrev pub IsGivenAs : FormInPlace → GivenFragments → Type 0
+IsGivenAs (whole.Positional list) given =
+    (said : List Fragment) × (given ≡ positional said) × AreKeptAs list.items said
+IsGivenAs (whole.Named entries) given =
+    (fragments : FragmentMap) × (given ≡ named fragments) × IsMapKeptAs entries.entries fragments

@@ -1,0 +1,160 @@
+//! The flat form of fragments, read where it lies.
+ghost use Rattle.std.specs.Prelude.{◌≡◌, ◌≤◌, [], Ok, IfErr, IfOk, IfSome, IsOk, OnOk, ⊤, is_some, length, option_and_then, true};
+ghost use Rattle.std.specs.FinMap.{contains_key, get};
+ghost use Rattle.mysql_wire_part.specs.Answer.{IsExpectedRefusal};
+ghost use Rattle.mysql_wire_part.specs.ParseBuf.{left};
+ghost use Rattle.mysql_flat_params.specs.FormErrors.{form_refusal};
+ghost use Rattle.mysql_fragments.specs.GivenFragments.{FragmentMap, GivenFragments};
+ghost use Rattle.mysql_fragments.specs.declared.fragment.Fragment as said_fragment;
+ghost use Rattle.mysql_flat_params.specs.FlatFragments.{IsFormReading, name_refusal, read_parameter, with_parameter};
+ghost use Rattle.mysql_flat_params.specs.FormInPlace.{IsGivenAs, IsKeptAs, IsMapKeptAs};
+ghost use Rattle.mysql_flat_params.specs.FragmentContent.{content_of};
+ghost use Rattle.mysql_flat_params.specs.FragmentsFormErrors.{IsFormRefusal};
+
+use crate::form_error::FormError;
+use crate::fragment_in_place::{FragmentInPlace, eat_in_place};
+use crate::fragment_parts::{Spot, eat_name};
+use mysql_wire_part::ParseBuf;
+use std::alloc::{AllocError, Global};
+use std::collections::BTreeMap;
+
+/// What a form says, kept where it lies. Names are in a sorted map, which no choice of names makes
+/// slow.
+#[derive(Drop)]
+pub(crate) enum FormInPlace<'f> {
+    Positional(Vec<FragmentInPlace<'f>>),
+    Named(BTreeMap<&'f [u8], FragmentInPlace<'f>>),
+}
+
+/// What a form says, as [`form_fragments`](crate::form_fragments) reads and refuses it.
+pub(crate) fn form_in_place<'f>(alloc: Global, form: &'f [u8]) -> Result<FormInPlace<'f>, FormError>
+    ensures read { IfOk result (λ kept. (given : GivenFragments) × IsGivenAs kept given
+        × IsFormReading form.now (Ok given)) }
+    ensures refused { IfErr result (IsFormRefusal form.now) }
+
+    // The empty form is read without allocating.
+    ensures empty { form.now ≡ [] → IsOk result }
+{
+    let mut kept = FormInPlace::Positional(Vec::new(alloc));
+    let mut rest = ParseBuf(form);
+    let mut place = 0;
+    while !rest.is_empty() {
+        let (name, fragment) = match eat_parameter(alloc, form.len(), place, &kept, &mut rest) {
+            Ok(read) => read,
+            Err(error) => return Err(error),
+        };
+        match keep(alloc, &mut kept, name, fragment) {
+            Ok(()) => {}
+            Err(error) => return Err(FormError::Memory(error)),
+        }
+        place += 1;
+    }
+    Ok(kept)
+}
+
+// The name and the fragment of the next parameter.
+fn eat_parameter<'f>(
+    alloc: Global,
+    total: usize,
+    place: usize,
+    kept: &FormInPlace<'f>,
+    rest: &mut ParseBuf<'f>,
+) -> Result<(&'f [u8], FragmentInPlace<'f>), FormError>
+    requires { length (left rest.old) ≤ total }
+    ensures read { (given : GivenFragments) → IsGivenAs kept.now given →
+        IfOk result (λ read. (said : said_fragment.Fragment) × IsKeptAs read.1 said
+        × (read_parameter total place given (left rest.old)
+        ≡ Ok ((read.0.now, content_of said), left rest.new))) }
+    ensures refused { (given : GivenFragments) → IsGivenAs kept.now given →
+        IfErr result (λ error. IsExpectedRefusal
+        (read_parameter total place given (left rest.old)) ⊤ (form_refusal error)) }
+{
+    let spot = Spot {
+        place,
+        position: total - rest.len(),
+    };
+    let name = eat_name(spot, rest)?;
+    let at = total - rest.len() - name.len();
+    if let Some(error) = name_error(spot, at, kept, name) {
+        return Err(error);
+    }
+    let fragment = eat_in_place(alloc, spot, rest)?;
+    Ok((name, fragment))
+}
+
+// Why a name, which stands at this index, is refused after what is kept.
+fn name_error(spot: Spot, at: usize, kept: &FormInPlace<'_>, name: &[u8]) -> Option<FormError>
+    ensures refusal { (given : GivenFragments) → IsGivenAs kept.now given →
+        option_and_then form_refusal result
+        ≡ name_refusal spot.place spot.position at given name.now }
+    ensures no_memory { IfSome result (λ error. is_some (form_refusal error) ≡ true) }
+{
+    let Spot { place, position } = spot;
+    match kept {
+        FormInPlace::Positional(list) => {
+            if list.is_empty() {
+                return None;
+            }
+            if name.is_empty() {
+                None
+            } else {
+                Some(FormError::Mixed { place, position })
+            }
+        }
+        FormInPlace::Named(entries) => {
+            if name.is_empty() {
+                Some(FormError::Mixed { place, position })
+            } else if has_name(entries, name) {
+                Some(FormError::Repeated {
+                    place,
+                    position: at,
+                    len: name.len(),
+                })
+            } else {
+                None
+            }
+        }
+    }
+}
+
+// Whether the name is in the map.
+fn has_name(entries: &BTreeMap<&[u8], FragmentInPlace<'_>>, name: &[u8]) -> bool
+    ensures { (fragments : FragmentMap) → IsMapKeptAs entries.now.entries fragments →
+        result ≡ contains_key fragments name.now }
+{
+    BTreeMap::get(entries, name).is_some()
+}
+
+// Keeps a fragment under its name, or behind those before it if it has none.
+fn keep<'f>(
+    alloc: Global,
+    kept: &mut FormInPlace<'f>,
+    name: &'f [u8],
+    fragment: FragmentInPlace<'f>,
+) -> Result<(), AllocError>
+    ensures { OnOk result ((given : GivenFragments) (said : said_fragment.Fragment) →
+        IsGivenAs kept.old given → IsKeptAs fragment.entry said →
+        IsGivenAs kept.new (with_parameter given name.now said)) }
+{
+    match kept {
+        FormInPlace::Named(entries) => match entries.insert(name, fragment) {
+            Ok(_) => Ok(()),
+            Err(_) => Err(AllocError),
+        },
+        FormInPlace::Positional(list) => {
+            if list.is_empty() && !name.is_empty() {
+                let mut entries = BTreeMap::new(alloc);
+                match entries.insert(name, fragment) {
+                    Ok(_) => {}
+                    Err(_) => return Err(AllocError),
+                }
+                *kept = FormInPlace::Named(entries);
+                return Ok(());
+            }
+            match list.push(fragment) {
+                Ok(()) => Ok(()),
+                Err(_) => Err(AllocError),
+            }
+        }
+    }
+}

@@ -1,0 +1,126 @@
+//! Lists and rows.
+ghost use Rattle.std.specs.Prelude.{◌≡◌, IfOk, ⊤, map};
+ghost use Rattle.mysql_wire_part.specs.Answer.{IsAnswer};
+ghost use Rattle.mysql_wire_part.specs.ParseBuf.{left};
+ghost use Rattle.mysql_values.specs.BorrowedValue.{owned};
+ghost use Rattle.mysql_flat_params.specs.FormErrors.{form_refusal};
+ghost use Rattle.mysql_flat_params.specs.FiniteDouble.{item_of_value};
+ghost use Rattle.mysql_flat_params.specs.FlatFragments.{read_all, read_item, read_item_of, read_items};
+ghost use Rattle.mysql_flat_params.specs.FragmentContent.{item_content, items_content};
+
+use crate::double::double_in;
+use crate::form_error::FormError;
+use crate::fragment_parts::{Spot, eat_count, eat_text, eat_value_ref};
+use mysql_fragments::Item;
+use mysql_values::value::ValueRef;
+use mysql_wire_part::ParseBuf;
+use std::alloc::{AllocError, Global};
+
+/// The number of the type of an exact number.
+pub(crate) const NUMBER: u8 = 128;
+
+/// The rows at the front.
+pub(crate) fn eat_rows(
+    alloc: Global,
+    spot: Spot,
+    rest: &mut ParseBuf<'_>,
+) -> Result<Vec<Vec<Item>>, FormError>
+    ensures { IsAnswer (λ rows. (map (λ row. items_content row.items) rows.items, left rest.new))
+        form_refusal (read_all spot.place spot.position (read_items spot.place spot.position)
+        (left rest.old)) ⊤ result }
+{
+    let mut count = eat_count(spot, rest)?;
+    let mut rows = Vec::new(alloc);
+    while count > 0 {
+        let row = match eat_items(alloc, spot, rest) {
+            Ok(row) => row,
+            Err(error) => return Err(error),
+        };
+        match rows.push(row) {
+            Ok(()) => {}
+            Err(_) => return Err(FormError::Memory(AllocError)),
+        }
+        count -= 1;
+    }
+    Ok(rows)
+}
+
+/// The items at the front.
+pub(crate) fn eat_items(
+    alloc: Global,
+    spot: Spot,
+    rest: &mut ParseBuf<'_>,
+) -> Result<Vec<Item>, FormError>
+    ensures { IsAnswer (λ items. (items_content items.items, left rest.new)) form_refusal
+        (read_items spot.place spot.position (left rest.old)) ⊤ result }
+{
+    let mut count = eat_count(spot, rest)?;
+    let mut items = Vec::new(alloc);
+    while count > 0 {
+        let item = match eat_item(alloc, spot, rest) {
+            Ok(item) => item,
+            Err(error) => return Err(error),
+        };
+        match items.push(item) {
+            Ok(()) => {}
+            Err(_) => return Err(FormError::Memory(AllocError)),
+        }
+        count -= 1;
+    }
+    Ok(items)
+}
+
+// The item at the front.
+fn eat_item(alloc: Global, spot: Spot, rest: &mut ParseBuf<'_>) -> Result<Item, FormError>
+    ensures { IsAnswer (λ item. (item_content item, left rest.new)) form_refusal
+        (read_item spot.place spot.position (left rest.old)) ⊤ result }
+{
+    let [number, flags, bytes @ ..] = rest.0 else {
+        return Err(FormError::End {
+            place: spot.place,
+            position: spot.position,
+        });
+    };
+    let number = *number;
+    let flags = *flags;
+    *rest = ParseBuf(bytes);
+    eat_item_of(alloc, spot, number, flags, rest)
+}
+
+// The item whose type has this number, after its flags.
+fn eat_item_of(
+    alloc: Global,
+    spot: Spot,
+    number: u8,
+    flags: u8,
+    rest: &mut ParseBuf<'_>,
+) -> Result<Item, FormError>
+    ensures { IsAnswer (λ item. (item_content item, left rest.new)) form_refusal
+        (read_item_of spot.place spot.position number flags (left rest.old)) ⊤ result }
+{
+    if number == NUMBER {
+        match eat_text(alloc, spot, rest) {
+            Ok(text) => Ok(Item::Decimal(text)),
+            Err(error) => Err(error),
+        }
+    } else {
+        let value = eat_value_ref(spot, number, flags, rest)?;
+        match item_of(alloc, value) {
+            Ok(item) => Ok(item),
+            Err(error) => Err(FormError::Memory(error)),
+        }
+    }
+}
+
+// The item that a value says.
+fn item_of(alloc: Global, value: ValueRef<'_>) -> Result<Item, AllocError>
+    ensures { IfOk result (λ item. item_content item ≡ item_of_value (owned value.entry)) }
+{
+    match double_in(value) {
+        Some(double) => Ok(Item::Double(double)),
+        None => match value.to_value(alloc) {
+            Ok(value) => Ok(Item::Value(value)),
+            Err(error) => Err(error),
+        },
+    }
+}

@@ -1,0 +1,33 @@
+//! What forms of fragments say: the texts of their fragments in queries. The forms are written by
+//! hand, by the heading of `FlatFragments.antt`.
+use crate::shared::{answer_of, same_in};
+use mysql_flat_params::form_fragments;
+use mysql_fragments::bind_fragments;
+
+/// A query, a form, and the text.
+const TEXTS: &[(&[u8], &[u8], &[u8])] = &[
+    (b"SELECT 1", b"", b"SELECT 1"),
+    // A list of 7, -1.50 and NULL, and the identifier `t`.
+    (
+        b"a IN (?) AND ?",
+        b"\0\x81\0\x03\0\0\0\x01\0\x07\x80\0\x05-1.50\x06\0\0\x83\0\x01t",
+        b"a IN (7, -1.50, NULL) AND `t`",
+    ),
+    // The identifier `t` for `t`, and the number -3 for `a`.
+    (b":a, :t", b"\x01t\x83\0\x01t\x01a\x01\0\xFD", b"-3, `t`"),
+];
+
+#[test]
+fn texts_of_forms(rt: HostRuntime) {
+    for (query, form, text) in TEXTS {
+        let fragments = answer_of(&rt, form_fragments(rt.alloc(), *form));
+        let bound = answer_of(&rt, bind_fragments(rt.alloc(), *query, &fragments));
+        same_in(&rt, bound.as_slice(), *text, query);
+    }
+}
+
+#[test]
+fn a_list_that_is_cut(rt: HostRuntime) {
+    let form = b"\0\x81\0\x02\0\0\0\x06\0".as_slice();
+    same_in(&rt, form_fragments(rt.alloc(), form).is_err(), true, &form);
+}
