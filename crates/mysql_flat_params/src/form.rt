@@ -322,8 +322,8 @@ pub(crate) fn eat_value<'f>(spot: Spot, rest: &mut ParseBuf<'f>) -> Result<Value
     }
 }
 
-// The flags of a column that say the same as the flags of a parameter.
-fn column_flags(flags: u8) -> ColumnFlags
+/// The flags of a column that say the same as the flags of a parameter.
+pub(crate) fn column_flags(flags: u8) -> ColumnFlags
     ensures { is_unsigned result ≡ is_unsigned_parameter flags }
 {
     if flags & UNSIGNED != 0 {
@@ -333,8 +333,8 @@ fn column_flags(flags: u8) -> ColumnFlags
     }
 }
 
-// Why a parameter whose type has this number can't be read.
-fn form_error(spot: Spot, number: u8, error: WireError) -> FormError
+/// Why a parameter whose type has this number can't be read.
+pub(crate) fn form_error(spot: Spot, number: u8, error: WireError) -> FormError
     ensures refusal { IfSome (read_refusal error) (λ refusal. form_refusal result
         ≡ Some (refused_in spot.place spot.position number refusal)) }
     ensures memory { read_refusal error ≡ None → result ≡ FormError.Memory alloc_error }

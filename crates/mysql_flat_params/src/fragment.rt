@@ -9,8 +9,9 @@ ghost use Rattle.mysql_flat_params.specs.FlatFragments.{read_fragment, read_frag
 ghost use Rattle.mysql_flat_params.specs.FragmentContent.{content_of};
 
 use crate::double::double_in;
+use crate::form::{Spot, eat_name};
 use crate::form_error::FormError;
-use crate::fragment_parts::{Spot, eat_name, eat_names, eat_text, eat_value_ref};
+use crate::fragment_parts::{eat_names, eat_text, eat_value_ref};
 use crate::items::{NUMBER, eat_items, eat_rows};
 use crate::keywords::listed_keyword;
 use mysql_fragments::{Fragment, Keyword};

@@ -13,9 +13,10 @@ ghost use Rattle.mysql_flat_params.specs.FragmentContent.{content_of, value_item
 ghost use Rattle.mysql_flat_params.specs.FormInPlace.{IsKeptAs, cell_content, rows_content};
 
 use crate::double::double_in;
+use crate::form::Spot;
 use crate::form_error::FormError;
 use crate::fragment::{KEYWORD, LIST, ROWS, eat_fragment};
-use crate::fragment_parts::{Spot, eat_value_ref};
+use crate::fragment_parts::eat_value_ref;
 use crate::items::NUMBER;
 use crate::rows_in_place::RowsInPlace;
 use mysql_fragments::{Fragment, FragmentRef};

@@ -1,45 +1,20 @@
 //! The parts of parameters: names, texts, counts and values.
-ghost use Rattle.std.specs.Prelude.{◌≡◌, ◌+◌, ◌<◌, None, Some, Ok, ⊤, IfErr, IfOk, IfSome, length, map, alloc_error};
+ghost use Rattle.std.specs.Prelude.{⊤};
 ghost use Rattle.mysql_wire_part.specs.Answer.{IsAnswer};
-ghost use Rattle.mysql_wire_part.specs.Column.{is_unsigned};
-ghost use Rattle.mysql_wire_part.specs.ParseBuf.{left, read_refusal};
+ghost use Rattle.mysql_wire_part.specs.ParseBuf.{left};
 ghost use Rattle.mysql_values.specs.BorrowedValue.{owned};
 ghost use Rattle.mysql_params_core.specs.Names.{names_of};
 ghost use Rattle.mysql_flat_params.specs.ColumnNumbers.{column_type, is_unsigned_parameter};
-ghost use Rattle.mysql_flat_params.specs.FlatForm.{read_name, read_of_type, refused_in};
+ghost use Rattle.mysql_flat_params.specs.FlatForm.{read_name, read_of_type};
 ghost use Rattle.mysql_flat_params.specs.FormErrors.{form_refusal};
 ghost use Rattle.mysql_flat_params.specs.FlatFragments.{read_all, read_count};
 
 use crate::column_number::column_type;
+use crate::form::{Spot, column_flags, eat_name, form_error};
 use crate::form_error::FormError;
 use mysql_values::value::{ValueRef, read_binary_value};
-use mysql_wire_part::{ColumnFlags, Flags, ParseBuf, WireError};
+use mysql_wire_part::ParseBuf;
 use std::alloc::{AllocError, Global};
-
-// The flag of a parameter whose whole numbers have no sign.
-const UNSIGNED: u8 = 128;
-
-/// Where a parameter stands in the form.
-#[derive(Clone, Copy)]
-pub(crate) struct Spot {
-    /// Its number, from 0.
-    pub place: usize,
-    /// The index of its first byte.
-    pub position: usize,
-}
-
-/// The name or text at the front.
-pub(crate) fn eat_name<'a>(spot: Spot, rest: &mut ParseBuf<'a>) -> Result<&'a [u8], FormError>
-    ensures name { IsAnswer (λ name. (name.now, left rest.new)) form_refusal
-        (read_name spot.place spot.position (left rest.old)) ⊥ result }
-    ensures within { IfOk result (λ name.
-        length name.now + length (left rest.new) < length (left rest.old)) }
-{
-    match rest.eat_lenenc_str() {
-        Ok(name) => Ok(name),
-        Err(error) => Err(form_error(spot, 0, error)),
-    }
-}
 
 /// A copy of the name or text at the front.
 pub(crate) fn eat_text(
@@ -118,39 +93,5 @@ pub(crate) fn eat_value_ref<'f>(
     match read_binary_value(column, column_flags(flags), rest) {
         Ok(value) => Ok(value),
         Err(error) => Err(form_error(spot, number, error)),
-    }
-}
-
-// The flags of a column that say the same as the flags of a parameter.
-fn column_flags(flags: u8) -> ColumnFlags
-    ensures { is_unsigned result ≡ is_unsigned_parameter flags }
-{
-    if flags & UNSIGNED != 0 {
-        ColumnFlags::UNSIGNED_FLAG
-    } else {
-        ColumnFlags::from_bits_retain(0)
-    }
-}
-
-// Why a parameter whose type has this number can't be read.
-fn form_error(spot: Spot, number: u8, error: WireError) -> FormError
-    ensures refusal { IfSome (read_refusal error) (λ refusal. form_refusal result
-        ≡ Some (refused_in spot.place spot.position number refusal)) }
-    ensures memory { read_refusal error ≡ None → result ≡ FormError.Memory alloc_error }
-{
-    let Spot { place, position } = spot;
-    match error {
-        WireError::UnexpectedEof => FormError::End { place, position },
-        WireError::BadLengthLead(lead) => FormError::LengthLead {
-            place,
-            position,
-            lead,
-        },
-        WireError::UnsupportedColumn(_) => FormError::UnsupportedType {
-            place,
-            position,
-            number,
-        },
-        WireError::Memory(error) => FormError::Memory(error),
     }
 }

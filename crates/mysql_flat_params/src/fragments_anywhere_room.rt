@@ -12,7 +12,8 @@ ghost use Rattle.mysql_flat_params.specs.FragmentsOutcomes.{HasNoAnswer, IfDone,
 
 use crate::fragments_in_place::{FormInPlace, form_in_place};
 use crate::fragments_outcome::FragmentsOutcome;
-use crate::fragments_room::{form_outcome, fragments_outcome, text_outcome};
+use crate::fragments_room::fragments_outcome;
+use crate::into_room::{form_outcome, text_outcome};
 use crate::outcome::Outcome;
 use crate::placed::placed_fragments;
 use crate::unportable::construct_number;

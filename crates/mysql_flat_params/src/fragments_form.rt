@@ -9,9 +9,9 @@ ghost use Rattle.mysql_flat_params.specs.FlatFragments.{IsFormReading, name_refu
 ghost use Rattle.mysql_flat_params.specs.FragmentContent.{content_of};
 ghost use Rattle.mysql_flat_params.specs.FragmentsFormErrors.{IsFormRefusal};
 
+use crate::form::{Spot, eat_name};
 use crate::form_error::FormError;
 use crate::fragment::eat_fragment;
-use crate::fragment_parts::{Spot, eat_name};
 use mysql_fragments::{Fragment, Fragments};
 use mysql_wire_part::ParseBuf;
 use std::alloc::{AllocError, Global};

@@ -11,9 +11,9 @@ ghost use Rattle.mysql_flat_params.specs.FormInPlace.{IsGivenAs, IsKeptAs, IsMap
 ghost use Rattle.mysql_flat_params.specs.FragmentContent.{content_of};
 ghost use Rattle.mysql_flat_params.specs.FragmentsFormErrors.{IsFormRefusal};
 
+use crate::form::{Spot, eat_name};
 use crate::form_error::FormError;
 use crate::fragment_in_place::{FragmentInPlace, eat_in_place};
-use crate::fragment_parts::{Spot, eat_name};
 use mysql_wire_part::ParseBuf;
 use std::alloc::{AllocError, Global};
 use std::collections::BTreeMap;

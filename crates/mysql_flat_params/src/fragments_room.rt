@@ -1,5 +1,5 @@
 //! The text that is bound to fragments, in a room that the caller lends.
-ghost use Rattle.std.specs.Prelude.{◌≡◌, ◌≤◌, ◌<◌, Bool, List, ℕ, [], Ok, IfErr, IfOk, IsErrOf, OnErr, length, take, drop, true};
+ghost use Rattle.std.specs.Prelude.{◌≡◌, ◌≤◌, ◌<◌, List, ℕ, [], Ok, IfErr, IfOk, IsErrOf, OnErr, length, take, drop, true};
 ghost use Rattle.std.specs.List.{Contains};
 ghost use Rattle.mysql_named_params.specs.Tokens.{OnTokens};
 ghost use Rattle.mysql_named_params.specs.Places.{HasMark, HasName, names};
@@ -8,18 +8,14 @@ ghost use Rattle.mysql_fragments.specs.Expanded.{IsBoundFragments};
 ghost use Rattle.mysql_fragments.specs.FragmentErrors.{IsCauseOrMemory, first_cause};
 ghost use Rattle.mysql_fragments.specs.GivenFragments.{GivenFragments};
 ghost use Rattle.mysql_flat_params.specs.IntoRoom.{IfMixed, IsMissingName};
-ghost use Rattle.mysql_flat_params.specs.Outcomes as values;
-ghost use Rattle.mysql_flat_params.specs.Outcomes.{text_outcome};
 ghost use Rattle.mysql_flat_params.specs.FlatFragments.{IsFormReading};
 ghost use Rattle.mysql_flat_params.specs.FormInPlace.{IsGivenAs};
-ghost use Rattle.mysql_flat_params.specs.FragmentsAnywhereIntoRoom.{IsAnywhereAsValues};
-ghost use Rattle.mysql_flat_params.specs.FragmentsFormErrors.{IsFormRefusal};
-ghost use Rattle.mysql_flat_params.specs.FragmentsIntoRoom.{IsBoundForm, IsFragmentsOutcome, IsOutcomeAsValues};
+ghost use Rattle.mysql_flat_params.specs.FragmentsIntoRoom.{IsBoundForm, IsFragmentsOutcome};
 ghost use Rattle.mysql_flat_params.specs.FragmentsOutcomes.{HasNoAnswer, IfDone, IfTooLong, UnlessDone};
 
-use crate::form_error::FormError;
 use crate::fragments_in_place::{FormInPlace, form_in_place};
 use crate::fragments_outcome::FragmentsOutcome;
+use crate::into_room::{form_outcome, text_outcome};
 use crate::missing_place::name_place;
 use crate::outcome::Outcome;
 use crate::placed::placed_fragments;
@@ -104,58 +100,6 @@ fn bind_kept(
     match bind_placed_into(&surveyed, placed, &form, room) {
         Some(text) => Ok(text),
         None => Err(FragmentsError::Memory(AllocError)),
-    }
-}
-
-/// What is told of a text in a room.
-pub(crate) fn text_outcome(text: TextInRoom) -> Outcome
-    ensures { result ≡ text_outcome text }
-{
-    match text {
-        TextInRoom::Written { len } => Outcome::Done { len },
-        TextInRoom::TooShort { len } => Outcome::Room { len },
-    }
-}
-
-/// A refusal of a form.
-pub(crate) fn form_outcome(error: FormError) -> Outcome
-    ensures outcome { (mode : Bool) (query form : List ℕ) → IsFormRefusal form error →
-        IsOutcomeAsValues mode query form result }
-    ensures anywhere { (query form : List ℕ) → IsFormRefusal form error →
-        IsAnywhereAsValues query form result }
-    ensures no_answer { values.HasNoAnswer result }
-{
-    match error {
-        FormError::End { place, position } => Outcome::FormEnd { place, position },
-        FormError::LengthLead {
-            place,
-            position,
-            lead,
-        } => Outcome::FormLengthLead {
-            place,
-            position,
-            lead,
-        },
-        FormError::UnsupportedType {
-            place,
-            position,
-            number,
-        } => Outcome::FormType {
-            place,
-            position,
-            number,
-        },
-        FormError::Mixed { place, position } => Outcome::FormMixed { place, position },
-        FormError::Repeated {
-            place,
-            position,
-            len,
-        } => Outcome::FormRepeated {
-            place,
-            position,
-            len,
-        },
-        FormError::Memory(_) => Outcome::OutOfMemory,
     }
 }
 

@@ -12,6 +12,9 @@ ghost use Rattle.mysql_binding.specs.TextInRoom.{HasTextOf, IsTextInRoom};
 ghost use Rattle.mysql_flat_params.specs.FlatForm.{HasFirstParameter, IsFormReading};
 ghost use Rattle.mysql_flat_params.specs.FormErrors.{IsFormRefusal};
 ghost use Rattle.mysql_flat_params.specs.FormParams.{given_in_place, pairs_in_place};
+ghost use Rattle.mysql_flat_params.specs.FragmentsAnywhereIntoRoom.{IsAnywhereAsValues};
+ghost use Rattle.mysql_flat_params.specs.FragmentsFormErrors as fragments;
+ghost use Rattle.mysql_flat_params.specs.FragmentsIntoRoom.{IsOutcomeAsValues};
 ghost use Rattle.mysql_flat_params.specs.IntoRoom.{IfMixed, IsBindOutcome, IsBoundForm, IsMissingName, MissesOtherName};
 ghost use Rattle.mysql_flat_params.specs.Outcomes.{HasNoAnswer, IfDone, IfTooLong, UnlessDone, text_outcome};
 ghost use Rattle.mysql_flat_params.specs.Steadiness.{IsBoundAs, refusal_as};
@@ -147,6 +150,10 @@ pub(crate) fn form_outcome(error: FormError) -> Outcome
     ensures steady { (which : steadiness.Steadiness) (query form : List ℕ) →
         IsFormRefusal form error →
         IsSteadyOutcome (IsBoundAs which query) (refusal_as which query) query form result }
+    ensures fragments { (mode : Bool) (query form : List ℕ) →
+        fragments.IsFormRefusal form error → IsOutcomeAsValues mode query form result }
+    ensures fragments_anywhere { (query form : List ℕ) → fragments.IsFormRefusal form error →
+        IsAnywhereAsValues query form result }
     ensures memory { result ≡ Outcome.OutOfMemory → error ≡ FormError.Memory alloc_error }
     ensures no_answer { HasNoAnswer result }
 {

@@ -9,8 +9,9 @@ ghost use Rattle.mysql_flat_params.specs.FlatFragments.{read_all, read_item, rea
 ghost use Rattle.mysql_flat_params.specs.FragmentContent.{item_content, items_content};
 
 use crate::double::double_in;
+use crate::form::Spot;
 use crate::form_error::FormError;
-use crate::fragment_parts::{Spot, eat_count, eat_text, eat_value_ref};
+use crate::fragment_parts::{eat_count, eat_text, eat_value_ref};
 use mysql_fragments::Item;
 use mysql_values::value::ValueRef;
 use mysql_wire_part::ParseBuf;

@@ -6,7 +6,7 @@ use Rattle.mysql_flat_params.proofs.fragments_anywhere_room.bind_fragments_anywh
 
 pub returns-in-Err-clause-outcome : goal.returns-in-Err-clause-outcome
 returns-in-Err-clause-outcome c =
-    c.form_outcome.ensures.anywhere c.args.query.now c.args.form.now c.in-Err.ensures.refused
+    c.form_outcome.ensures.fragments_anywhere c.args.query.now c.args.form.now c.in-Err.ensures.refused
 
 pub returns-in-Ok-bind_kept_anywhere-clause-outcome : goal.returns-in-Ok-bind_kept_anywhere-clause-outcome
 returns-in-Ok-bind_kept_anywhere-clause-outcome c =

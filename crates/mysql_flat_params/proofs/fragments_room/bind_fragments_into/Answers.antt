@@ -3,7 +3,7 @@ use Rattle.mysql_flat_params.proofs.fragments_room.bind_fragments_into.Goals as 
 
 pub returns-in-Err-clause-outcome : goal.returns-in-Err-clause-outcome
 returns-in-Err-clause-outcome c =
-    c.form_outcome.ensures.outcome c.args.no_backslash_escape c.args.query.now c.args.form.now c.in-Err.ensures.refused
+    c.form_outcome.ensures.fragments c.args.no_backslash_escape c.args.query.now c.args.form.now c.in-Err.ensures.refused
 
 pub returns-in-Ok-bind_kept-clause-outcome : goal.returns-in-Ok-bind_kept-clause-outcome
 returns-in-Ok-bind_kept-clause-outcome c =
