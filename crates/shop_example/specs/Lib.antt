@@ -5,3 +5,8 @@ pub mod Day
 pub mod OrderQuery
 pub mod PairQuery
 pub mod State
+pub mod Customer
+pub mod ArticleList
+pub mod ArticleSearch
+pub mod PriceRows
+pub mod SortedArticles

@@ -1,7 +1,7 @@
 use Rattle.std.proofs.Common.{◌≡◌, ◌++◌, ◌+◌, ◌∷◌, [], rules, subst, sym, take}
-use Rattle.shop_fragments.specs.PriceRows.{ArePriceRows}
-use Rattle.shop_fragments.proofs.PriceRowLemmas.{one_row_more}
-use Rattle.shop_fragments.proofs.price_rows.price_rows.Goals as goal
+use Rattle.shop_example.specs.PriceRows.{ArePriceRows}
+use Rattle.shop_example.proofs.PriceRowLemmas.{one_row_more}
+use Rattle.shop_example.proofs.price_rows.price_rows.Goals as goal
 
 pub loop-price-preserved : goal.loop-price-preserved
 loop-price-preserved c =

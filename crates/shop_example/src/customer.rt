@@ -1,6 +1,6 @@
 //! The query for a customer.
 ghost use Rattle.std.specs.Prelude.{◌≡◌, IfOk};
-ghost use Rattle.shop_fixed_query.specs.Customer.{customer_text};
+ghost use Rattle.shop_example.specs.Customer.{customer_text};
 
 use mysql_params::fixed_query::bind_named;
 use std::alloc::{AllocError, Global};

@@ -6,7 +6,7 @@ use Rattle.mysql_fragments.specs.GivenFragments.{GivenFragments, positional}
 use Rattle.mysql_fragments.specs.declared.fragment.Item.{Item}
 use Rattle.mysql_fragments.specs.declared.fragment.Item.TheVariants as item
 use Rattle.mysql_fragments.specs.declared.fragment.Fragment.TheVariants as one
-use Rattle.shop_fragments.specs.declared.price_rows.Price.{Price}
+use Rattle.shop_example.specs.declared.price_rows.Price.{Price}
 
 -- the statement, whose mark rows take
 abbrev pub prices_query : List ℕ

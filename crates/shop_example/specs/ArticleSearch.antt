@@ -3,8 +3,8 @@ use Rattle.std.specs.Prelude.{ℕ, List, [], ◌∷◌, codes, map, Ok}
 use Rattle.mysql_values.specs.declared.value.Value.TheVariants.{UInt}
 use Rattle.mysql_fragment_arguments.specs.FragmentContent.{value_item, list, number, identifier, keyword}
 use Rattle.mysql_fragment_arguments.specs.Arguments.{SaidFragment, all_said, made_of}
-use Rattle.shop_fragments.specs.declared.article_search.Direction.{Direction}
-use Rattle.shop_fragments.specs.declared.article_search.Direction.TheVariants.{Ascending, Descending}
+use Rattle.shop_example.specs.declared.article_search.Direction.{Direction}
+use Rattle.shop_example.specs.declared.article_search.Direction.TheVariants.{Ascending, Descending}
 
 -- the query, whose names take a list, an exact number, a column and a direction
 abbrev pub search_query : List ℕ

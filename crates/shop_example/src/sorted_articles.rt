@@ -4,7 +4,7 @@ ghost use Rattle.mysql_params.specs.Tokens.{OnTokens};
 ghost use Rattle.mysql_values.specs.StringUnits.{with_backslashes};
 ghost use Rattle.mysql_fragments.specs.Expanded.{IsBoundFragments};
 ghost use Rattle.mysql_fragments.specs.GivenFragments.{GivenFragments};
-ghost use Rattle.shop_fragments.specs.SortedArticles.{AreOrder, IsOrder, direction, sorted_query};
+ghost use Rattle.shop_example.specs.SortedArticles.{AreOrder, IsOrder, direction, sorted_query};
 
 use mysql_fragments::{Fragment, Fragments, FragmentsError, Keyword, bind_fragments};
 use std::alloc::{AllocError, Global};

@@ -3,8 +3,8 @@ use Rattle.std.proofs.Common.{◌≡◌, ◌+◌, ◌<◌, ◌++◌, ◌∷◌, 
 use Rattle.std.proofs.Math.Seq.{take-suc}
 use Rattle.std.specs.Global.{Vec}
 use Rattle.mysql_fragments.specs.declared.fragment.Item.{Item}
-use Rattle.shop_fragments.specs.PriceRows.{ArePriceRows, IsPriceRow}
-use Rattle.shop_fragments.specs.declared.price_rows.Price.{Price}
+use Rattle.shop_example.specs.PriceRows.{ArePriceRows, IsPriceRow}
+use Rattle.shop_example.specs.declared.price_rows.Price.{Price}
 
 -- the rows of prices, and the row of a price after them
 pub rows_and_row : (prices : List Price) (rows : List (Vec Item)) (price : Price) (row : Vec Item) →

@@ -7,7 +7,7 @@ ghost use Rattle.mysql_fragments.specs.GivenFragments.{given_fragments};
 ghost use Rattle.mysql_fragments.specs.declared.fragment.Fragments as declared;
 ghost use Rattle.mysql_fragment_arguments.specs.FragmentContent.{keyword};
 ghost use Rattle.mysql_fragment_arguments.specs.NamedContents.{contents_of, pairs_made};
-ghost use Rattle.shop_fragments.specs.ArticleSearch.{search_pairs, search_query, way};
+ghost use Rattle.shop_example.specs.ArticleSearch.{search_pairs, search_query, way};
 
 use mysql_fragment_arguments::{Decimal, Identifier, ListOf, ToFragment, ToFragments, Word};
 use mysql_fragments::{Fragment, FragmentsError, bind_fragments};

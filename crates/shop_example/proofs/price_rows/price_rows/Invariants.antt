@@ -1,6 +1,6 @@
 use Rattle.std.proofs.Common.{take}
-use Rattle.shop_fragments.specs.PriceRows.{ArePriceRows}
-use Rattle.shop_fragments.proofs.price_rows.price_rows.Given as goal
+use Rattle.shop_example.specs.PriceRows.{ArePriceRows}
+use Rattle.shop_example.proofs.price_rows.price_rows.Given as goal
 
 -- the rows are those of the prices that were gone through
 abbrev pub invariant-loop-price : goal.invariant-loop-price

@@ -1,4 +1,0 @@
-pub mod ArticleList
-pub mod ArticleSearch
-pub mod PriceRows
-pub mod SortedArticles
