@@ -1,5 +1,6 @@
 //! Names and marks of single queries.
-use crate::shared::{answer_of, same_in, says};
+use crate::query_shared::says;
+use crate::shared::{answer_of, same_in};
 use crate::spellings::{Spelling, WITH_BACKSLASHES};
 use mysql_params::named_params::{MixedParamsError, NamedParamsError, ParsedNamedParams};
 use std::alloc::{AllocError, Global};

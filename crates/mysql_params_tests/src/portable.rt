@@ -1,6 +1,7 @@
 //! The first construct of a query that servers read in different ways.
 use crate::queries::{COMMENTS, QUERIES, QUERIES_WITHOUT_BACKSLASHES};
-use crate::shared::{same_in, says};
+use crate::query_shared::says;
+use crate::shared::same_in;
 use mysql_params::{Construct, Unportable, first_unportable};
 use std::alloc::Global;
 use std::process::Abort;

@@ -1,27 +1,12 @@
 //! Readers and writers that give and take little and fail at a stated call, and what a run of the
 //! program over them leaves.
+use crate::shared::{answer_of, same_in};
 use mysql_params::{RunError, run};
 use std::alloc::Global;
 use std::fmt::Debug;
 use std::io;
 use std::io::{ErrorKind, Read, Write};
 use std::process::Abort;
-
-/// The two are the same. A call is cheaper to prove than the message, which names the case.
-pub(crate) fn same_in<T: Copy + Debug + PartialEq, C: Debug>(
-    rt: &impl Abort,
-    found: T,
-    wanted: T,
-    case: &C,
-) {
-    assert_eq!(rt; found, wanted, "of {case:?}");
-}
-
-/// The answer of a call. An error ends the test here, so that callers have none to meet: each `?`
-/// would let go of all that lives there.
-pub(crate) fn answer_of<T, E: Debug + Drop>(rt: &impl Abort, found: Result<T, E>) -> T {
-    found.expect(rt, "an error in place of an answer")
-}
 
 /// The words of a command line.
 pub(crate) fn words(rt: &impl Abort, alloc: Global, texts: &[&str]) -> Vec<String> {

@@ -1,6 +1,6 @@
 //! Both commands over readers and writers that give and take a byte a call, and fail at a stated
 //! call: how often they are called, and what was written.
-use crate::shared::{Fault, Faults, Told, leaves};
+use crate::program_shared::{Fault, Faults, Told, leaves};
 use std::alloc::Global;
 use std::process::Abort;
 

@@ -1,5 +1,6 @@
 //! The words of the program, of arguments that a test gives.
-use crate::shared::{answer_of, same_in, words};
+use crate::program_shared::words;
+use crate::shared::{answer_of, same_in};
 use mysql_params::words_of;
 use std::alloc::Global;
 use std::env::{Env, FillError};

@@ -27,7 +27,7 @@ fn string(text: &[u8], quote: u8, no_backslash_escape: bool) -> usize {
 }
 
 /// How many bytes of a name the text begins with.
-fn name_bytes(text: &[u8]) -> usize {
+fn bytes_of_name(text: &[u8]) -> usize {
     for (i, byte) in text.iter().enumerate() {
         if !matches!(*byte, b'a'..=b'z' | b'_' | b'0'..=b'9') {
             return i;
@@ -58,7 +58,7 @@ fn after_slash(text: &[u8]) -> usize {
 /// How many bytes the token of a `:` has after it.
 fn after_colon(text: &[u8]) -> usize {
     match text {
-        [b'a'..=b'z' | b'_', ..] => name_bytes(text),
+        [b'a'..=b'z' | b'_', ..] => bytes_of_name(text),
         _ => 0,
     }
 }
