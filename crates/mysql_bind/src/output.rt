@@ -1,6 +1,6 @@
 //! Where the text is written: standard output, or a file, which is there whole or not at all.
 use crate::complaint::{Complaint, failed_file};
-use mysql_program::readers_and_writers::write_whole;
+use mysql_io::readers_and_writers::write_whole;
 use std::alloc::{AllocError, Global};
 use std::fs;
 use std::fs::File;

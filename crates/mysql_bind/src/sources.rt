@@ -1,6 +1,6 @@
 //! What sources hold: files, descriptors and the environment.
 use crate::complaint::{Complaint, bad_file, failed_file};
-use mysql_program::readers_and_writers::{ReadError, read_whole};
+use mysql_io::readers_and_writers::{ReadError, read_whole};
 use std::alloc::{AllocError, Global};
 use std::env::{Env, FillError};
 use std::fs;

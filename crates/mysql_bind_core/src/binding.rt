@@ -1,7 +1,7 @@
 //! Binding and writing: the bound text of a query that is taken, or a refusal.
 ghost use Rattle.std.specs.Prelude.{◌≡◌, ◌≢◌, ℕ, List, IfOk, IfErr, OnOk, IsErrOf, alloc_error};
 ghost use Rattle.std.specs.Io.KnownBytes.{Appends};
-ghost use Rattle.mysql_program.specs.ReadersAndWriters.{AppendsPrefix};
+ghost use Rattle.mysql_io.specs.ReadersAndWriters.{AppendsPrefix};
 ghost use Rattle.mysql_bind_core.specs.Bound.{IsTaken, IsWritten};
 ghost use Rattle.mysql_bind_core.specs.Refusals.{IsRefusal};
 
@@ -9,7 +9,7 @@ use crate::assignment::Assignment;
 use crate::failure::Failure;
 use crate::request::Request;
 use crate::taken::TakenQuery;
-use mysql_program::readers_and_writers::write_whole;
+use mysql_io::readers_and_writers::write_whole;
 use std::alloc::Global;
 use std::io::Write;
 

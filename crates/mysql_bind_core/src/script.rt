@@ -1,7 +1,7 @@
 //! The whole script, in a transaction if one is asked for.
 ghost use Rattle.std.specs.Prelude.{◌≡◌, ◌≢◌, ◌++◌, ℕ, List, [], take, if◌then◌else◌, IfOk, IfErr, OnOk, IsErrOf};
 ghost use Rattle.std.specs.Io.KnownBytes.{Appends};
-ghost use Rattle.mysql_program.specs.ReadersAndWriters.{AppendsPrefix};
+ghost use Rattle.mysql_io.specs.ReadersAndWriters.{AppendsPrefix};
 ghost use Rattle.mysql_bind_core.specs.Bound.{IsTaken};
 ghost use Rattle.mysql_bind_core.specs.Scripts.{AreStatements, IfMemory, IfQuery, IfRow, IsRowsRefusal, IsScript};
 
@@ -9,7 +9,7 @@ use crate::request::Request;
 use crate::row::{Row, RowsFailure};
 use crate::rows::append_rows;
 use crate::taken::TakenQuery;
-use mysql_program::readers_and_writers::write_whole;
+use mysql_io::readers_and_writers::write_whole;
 use std::alloc::{AllocError, Global};
 use std::io::Write;
 

@@ -53,4 +53,4 @@ pub use Rattle.mysql_program.specs.Words
 pub use Rattle.mysql_program.specs.WordErrors
 pub use Rattle.mysql_program.specs.Program
 pub use Rattle.mysql_program.specs.RunErrors
-pub use Rattle.mysql_program.specs.ReadersAndWriters
+pub use Rattle.mysql_io.specs.ReadersAndWriters

@@ -1,3 +1,2 @@
-pub mod WriteLemmas
 pub mod ProgramLemmas
 pub mod WordLemmas

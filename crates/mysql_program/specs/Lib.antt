@@ -2,4 +2,3 @@ pub mod Words
 pub mod WordErrors
 pub mod Program
 pub mod RunErrors
-pub mod ReadersAndWriters

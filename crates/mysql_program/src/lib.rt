@@ -7,7 +7,6 @@
 mod arguments;
 pub mod laws;
 mod program;
-pub mod readers_and_writers;
 mod run_error;
 mod words;
 

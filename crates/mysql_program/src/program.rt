@@ -1,5 +1,5 @@
 //! The program over any reader and writer: it judges the words, reads, and writes or refuses.
-ghost use Rattle.std.specs.Prelude.{◌≡◌, ◌≢◌, ◌⊎◌, ◌++◌, ◌∷◌, [], ℕ, List, map, None, Some, Ok, Err, IsErrOf, IsErrAnd, IfOk, IfErr, OnOk, IsOk, alloc_error, option_map};
+ghost use Rattle.std.specs.Prelude.{◌≡◌, ◌≢◌, ◌⊎◌, ◌++◌, ◌∷◌, [], ℕ, List, map, None, Some, Ok, Err, IsErrOf, IsErrAnd, IfOk, IfErr, OnErr, OnOk, IsOk, alloc_error, option_map};
 ghost use Rattle.std.specs.Io.KnownBytes.{Appends};
 ghost use Rattle.std.specs.Cow.{cow_slice_items};
 ghost use Rattle.mysql_sql_text.specs.StringUnits.{with_backslashes};
@@ -9,14 +9,14 @@ ghost use Rattle.mysql_params_core.specs.Given.{given};
 ghost use Rattle.mysql_binding.specs.BindErrors.{cause_of};
 ghost use Rattle.mysql_program.specs.Program.{Refusal, bad_words, binding_cause, lines_of, IsOutput, Answers};
 ghost use Rattle.mysql_program.specs.RunErrors.{refusal_of, HoldsCause, IsOutputRefusal};
-ghost use Rattle.mysql_program.specs.ReadersAndWriters.{ReadsWhole, AppendsPrefix};
+ghost use Rattle.mysql_io.specs.ReadersAndWriters.{ReadsWhole, AppendsPrefix};
 ghost use Rattle.mysql_program.specs.WordErrors.{seen_command, words_refusal};
 ghost use Rattle.mysql_program.specs.Words.{names_of_query, bound_query, usage, word_bytes, command_of, AsksToBind};
 
-use crate::readers_and_writers::{ReadError, read_whole, write_whole};
 use crate::run_error::RunError;
 use crate::words::{Command, WordsError, judge};
 use mysql_binding::{BindError, bind_text};
+use mysql_io::readers_and_writers::{ReadError, read_whole, write_whole};
 use mysql_named_params::named_params::{NamedParamsError, ParsedNamedParams};
 use mysql_params_core::params::Params;
 use std::alloc::{AllocError, Global};
@@ -83,8 +83,21 @@ pub fn run<R: Read, W: Write>(
         Err(ReadError::Memory(error)) => return Err(RunError::Memory(error)),
     };
     match command_output(alloc, command, &query) {
-        Ok(text) => write_whole(output, &text),
+        Ok(text) => write_answer(output, &text),
         Err(error) => Err(error),
+    }
+}
+
+// Writes the whole answer. On an error, which is `Write`, the writer took a prefix of it.
+fn write_answer<W: Write>(output: &mut W, text: &[u8]) -> Result<(), RunError>
+    ensures ok { OnOk result (Appends (W.contents output.old) (W.contents output.new) text.now) }
+    ensures only_write { OnErr result (IsErrOf result RunError.Write) }
+    ensures prefix { OnErr result (
+        AppendsPrefix (W.contents output.old) (W.contents output.new) text.now) }
+{
+    match write_whole(output, text) {
+        Ok(()) => Ok(()),
+        Err(_) => Err(RunError::Write),
     }
 }
 

@@ -1,6 +1,6 @@
 use Rattle.std.proofs.Common.{◌-◌, ◌^◌, vec_len}
 use Rattle.std.specs.Io.KnownBytes.{Consumes}
-use Rattle.mysql_program.proofs.readers_and_writers.read_whole.Given as goal
+use Rattle.mysql_io.proofs.readers_and_writers.read_whole.Given as goal
 
 -- what was read so far
 abbrev pub invariant-reading : goal.invariant-reading

@@ -1,6 +1,6 @@
 use Rattle.std.proofs.Common.{◌≤◌, ◌-◌, length, take}
 use Rattle.std.specs.Io.KnownBytes.{Appends}
-use Rattle.mysql_program.proofs.readers_and_writers.write_whole.Given as goal
+use Rattle.mysql_io.proofs.readers_and_writers.write_whole.Given as goal
 
 -- what the writer took so far
 abbrev pub invariant-writing : goal.invariant-writing

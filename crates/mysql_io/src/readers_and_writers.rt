@@ -1,11 +1,10 @@
 //! Reading to the end and writing the whole. No failed call is repeated.
 //!
-//! It is lent to the program `mysql_bind`.
-ghost use Rattle.std.specs.Prelude.{◌≡◌, IfOk, OnErr, OnOk, IsErrOf};
+//! It is lent to the programs `mysql_query` and `mysql_bind`.
+ghost use Rattle.std.specs.Prelude.{IfOk, OnErr, OnOk};
 ghost use Rattle.std.specs.Io.KnownBytes.{Appends};
-ghost use Rattle.mysql_program.specs.ReadersAndWriters.{ReadsWhole, AppendsPrefix};
+ghost use Rattle.mysql_io.specs.ReadersAndWriters.{ReadsWhole, AppendsPrefix};
 
-use crate::run_error::RunError;
 use std::alloc::{AllocError, Global};
 use std::io::{Read, Write};
 
@@ -39,20 +38,22 @@ pub fn read_whole<R: Read>(alloc: Global, input: &mut R) -> Result<Vec<u8>, Read
     }
 }
 
-/// Writes the whole text. On an error, which is `Write`, the writer took a prefix of it, and not
-/// the whole.
-pub fn write_whole<W: Write>(output: &mut W, text: &[u8]) -> Result<(), RunError>
+/// A write failed, or took no byte.
+#[derive(Debug, Clone, Copy)]
+pub struct WriteError;
+
+/// Writes the whole text. On an error the writer took a prefix of it, and not the whole.
+pub fn write_whole<W: Write>(output: &mut W, text: &[u8]) -> Result<(), WriteError>
     ensures ok { OnOk result (Appends (W.contents output.old) (W.contents output.new) text.now) }
-    ensures only_write { OnErr result (IsErrOf result RunError.Write) }
     ensures prefix { OnErr result (
         AppendsPrefix (W.contents output.old) (W.contents output.new) text.now) }
 {
     let mut done = 0;
     'writing: while done < text.len() {
         match output.write(&text[done..]) {
-            Ok(0) => return Err(RunError::Write),
+            Ok(0) => return Err(WriteError),
             Ok(n) => done += n,
-            Err(_) => return Err(RunError::Write),
+            Err(_) => return Err(WriteError),
         }
     }
     Ok(())

@@ -1,6 +1,6 @@
 use Rattle.std.proofs.Common.{arith, length-drop, length-take}
-use Rattle.mysql_program.proofs.WriteLemmas.{appends_more}
-use Rattle.mysql_program.proofs.readers_and_writers.write_whole.Goals as goal
+use Rattle.mysql_io.proofs.WriteLemmas.{appends_more}
+use Rattle.mysql_io.proofs.readers_and_writers.write_whole.Goals as goal
 
 pub writing-preserved : goal.writing-preserved
 writing-preserved g c = record {
