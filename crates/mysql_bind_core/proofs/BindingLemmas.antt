@@ -3,8 +3,8 @@ use Rattle.std.proofs.Common.{◌≡◌, ℕ, ◌<◌, List, [], ◌∷◌, leng
 use Rattle.std.specs.Prelude.{IfOk, IfErr}
 use Rattle.std.specs.Borrow.{Bor}
 use Rattle.mysql_values.specs.declared.value.Value.{Value}
-use Rattle.mysql_program.specs.Words.{given_by_name}
-use Rattle.mysql_program.specs.WordErrors.{seen_pair}
+use Rattle.mysql_query_core.specs.Words.{given_by_name}
+use Rattle.mysql_query_core.specs.WordErrors.{seen_pair}
 use Rattle.mysql_bind_core.specs.declared.assignment.Assignment.{Assignment}
 use Rattle.mysql_bind_core.specs.declared.failure.Failure.{Failure}
 use Rattle.mysql_bind_core.specs.declared.failure.Failure.TheVariants as failure

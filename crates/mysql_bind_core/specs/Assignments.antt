@@ -3,7 +3,7 @@ use Rattle.std.specs.Prelude.{ℕ, List, [], ◌∷◌, Option, Some, None, opti
 use Rattle.mysql_values.specs.declared.value.Value.{Value}
 use Rattle.mysql_params_core.specs.Given.{Given, empty}
 use Rattle.mysql_params_core.specs.Made.{ToParamsRefusal}
-use Rattle.mysql_program.specs.Words.{given_by_name}
+use Rattle.mysql_query_core.specs.Words.{given_by_name}
 use Rattle.mysql_bind_core.specs.ValueTypes.{typed_value}
 use Rattle.mysql_bind_core.specs.declared.assignment.Assignment.{Assignment}
 use Rattle.mysql_bind_core.specs.declared.assignment.PairsError.{PairsError}

@@ -1,7 +1,7 @@
 //! Values for names, as their sources give them.
 ghost use Rattle.std.specs.Prelude.{◌≡◌, map, ok_or, ⊤};
 ghost use Rattle.mysql_values.specs.Answer.{IsAnswer};
-ghost use Rattle.mysql_program.specs.WordErrors.{seen_pair};
+ghost use Rattle.mysql_query_core.specs.WordErrors.{seen_pair};
 ghost use Rattle.mysql_bind_core.specs.Assignments.{pair_of, pairs_of, pairs_refusal, no_value};
 
 use crate::value_type::{ValueType, typed_value};

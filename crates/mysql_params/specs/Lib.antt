@@ -49,8 +49,8 @@ pub use Rattle.mysql_steady_text.specs.BothModesErrors
 pub use Rattle.mysql_fixed_query.specs.Bindable
 pub use Rattle.mysql_fixed_query.specs.FixedText
 pub use Rattle.mysql_fixed_query.specs.BindableAnywhere
-pub use Rattle.mysql_program.specs.Words
-pub use Rattle.mysql_program.specs.WordErrors
-pub use Rattle.mysql_program.specs.Program
-pub use Rattle.mysql_program.specs.RunErrors
+pub use Rattle.mysql_query_core.specs.Words
+pub use Rattle.mysql_query_core.specs.WordErrors
+pub use Rattle.mysql_query_core.specs.Program
+pub use Rattle.mysql_query_core.specs.RunErrors
 pub use Rattle.mysql_io.specs.ReadersAndWriters

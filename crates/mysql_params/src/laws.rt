@@ -21,7 +21,7 @@ pub use mysql_portable::laws::{
     portable_is_sharp, portable_reading, same_places, same_statements, steady_texts,
     unportable_equality,
 };
-pub use mysql_program::laws::run_error_equality;
+pub use mysql_query_core::laws::run_error_equality;
 pub use mysql_steady_text::laws::{
     both_modes_error_equality, both_modes_pairs_error_equality, bound_steady_texts,
     bound_steady_texts_are_sent, bound_steady_texts_in_clients, bound_texts_in_both_modes,

@@ -27,7 +27,7 @@ pub use mysql_binding::{
 pub use mysql_portable::client::first_unportable_in_client;
 pub use mysql_portable::portable::{Construct, Unportable, first_unportable};
 pub use mysql_portable::steady::first_unsteady;
-pub use mysql_program::{RunError, run, words_of};
+pub use mysql_query_core::{RunError, run, words_of};
 pub use mysql_steady_text::{
     BothModesError, BothModesPairsError, SteadyPairsError, SteadyTextError, bind_pairs_anywhere,
     bind_pairs_in_any_mode, bind_pairs_in_both_modes, bind_text_anywhere, bind_text_in_any_mode,

@@ -8,7 +8,7 @@ ghost use Rattle.mysql_params_core.specs.Given.{Given};
 ghost use Rattle.mysql_params_core.specs.Referents.{referents};
 ghost use Rattle.mysql_values.specs.BorrowedValue.{owned_values};
 ghost use Rattle.mysql_binding.specs.AppendedText.{AreFound};
-ghost use Rattle.mysql_program.specs.WordErrors.{seen_pair};
+ghost use Rattle.mysql_query_core.specs.WordErrors.{seen_pair};
 ghost use Rattle.mysql_bind_core.specs.Assignments.{given_of, pairs_of};
 ghost use Rattle.mysql_bind_core.specs.Contents.{has_fragment};
 ghost use Rattle.mysql_bind_core.specs.Bound.{IsAssignedText, IsTextFor, IsValuesText, IsWritten};

@@ -4,8 +4,8 @@ ghost use Rattle.std.specs.Prelude.{◌≡◌, ◌≢◌, ℕ, List, Some, None,
 ghost use Rattle.mysql_named_params.specs.Tokens.{OnTokens};
 ghost use Rattle.mysql_values.specs.declared.value.Value as value_type;
 ghost use Rattle.mysql_params_core.specs.Given.{given};
-ghost use Rattle.mysql_program.specs.WordErrors.{seen_pair};
-ghost use Rattle.mysql_program.specs.Words.{given_by_name};
+ghost use Rattle.mysql_query_core.specs.WordErrors.{seen_pair};
+ghost use Rattle.mysql_query_core.specs.Words.{given_by_name};
 ghost use Rattle.mysql_bind_core.specs.Assignments.{given_of, pairs_of};
 ghost use Rattle.mysql_bind_core.specs.Bound.{IsAssignedText, IsPortableIfWanted, IsTextFor, IsValuesText, IsWritten};
 ghost use Rattle.mysql_bind_core.specs.Refusals.{IsAssignmentsRefusal, IsFoundInText, IsMadeRefusal, IsRefusal, IsTextRefusal, IsValuesRefusal};

@@ -2,7 +2,7 @@ use Rattle.std.proofs.Common.{map, ◌≡◌, ◌∙◌, ◌+◌, ◌++◌, ◌�
 use Rattle.std.proofs.lemmas.List.{map-append}
 use Rattle.std.specs.Prelude.{option_map, ok_or, ⊤}
 use Rattle.mysql_wire_part.proofs.AnswerLemmas.{refusal_expected_too}
-use Rattle.mysql_program.specs.WordErrors.{seen_pair}
+use Rattle.mysql_query_core.specs.WordErrors.{seen_pair}
 use Rattle.mysql_bind_core.specs.Assignments.{no_value, pair_of, pairs_of, pairs_refusal}
 use Rattle.mysql_bind_core.proofs.AssignmentLemmas.{one_pair_more, no_pair}
 use Rattle.mysql_bind_core.proofs.assignment.pairs_of.Goals as goal

@@ -2,7 +2,7 @@ use Rattle.std.proofs.Common.{◌<◌, length, map, arith, refl}
 use Rattle.std.proofs.lemmas.List.{length-map}
 use Rattle.mysql_params_core.specs.Referents.{referents}
 use Rattle.mysql_values.specs.BorrowedValue.{owned_values}
-use Rattle.mysql_program.specs.WordErrors.{seen_pair}
+use Rattle.mysql_query_core.specs.WordErrors.{seen_pair}
 use Rattle.mysql_bind_core.specs.Requests.{mode_of}
 use Rattle.mysql_bind_core.proofs.AppendedRowLemmas.{done_so, pairs_appended, unmixed}
 use Rattle.mysql_bind_core.proofs.FoundPairLemmas.{found_on}

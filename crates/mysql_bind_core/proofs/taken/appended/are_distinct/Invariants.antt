@@ -1,5 +1,5 @@
 use Rattle.std.proofs.Common.{◌≡◌, drop, map}
-use Rattle.mysql_program.specs.WordErrors.{seen_pair}
+use Rattle.mysql_query_core.specs.WordErrors.{seen_pair}
 use Rattle.mysql_bind_core.specs.FoundPairs.{are_distinct}
 use Rattle.mysql_bind_core.proofs.taken.appended.are_distinct.Given as goal
 

@@ -1,5 +1,5 @@
 use Rattle.std.proofs.Common.{sym, ap, ◌∙◌, Some, map, rules}
-use Rattle.mysql_program.specs.WordErrors.{seen_pair}
+use Rattle.mysql_query_core.specs.WordErrors.{seen_pair}
 use Rattle.mysql_bind_core.proofs.FoundPairLemmas.{values_more}
 use Rattle.mysql_bind_core.proofs.taken.appended.values_in.Goals as goal
 

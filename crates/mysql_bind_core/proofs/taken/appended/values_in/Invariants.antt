@@ -1,7 +1,7 @@
 use Rattle.std.proofs.Common.{take, map}
 use Rattle.mysql_params_core.specs.Referents.{referents}
 use Rattle.mysql_values.specs.BorrowedValue.{owned_values}
-use Rattle.mysql_program.specs.WordErrors.{seen_pair}
+use Rattle.mysql_query_core.specs.WordErrors.{seen_pair}
 use Rattle.mysql_bind_core.specs.FoundPairs.{AreValuesIn}
 use Rattle.mysql_bind_core.proofs.taken.appended.values_in.Given as goal
 

@@ -1,7 +1,7 @@
 use Rattle.std.proofs.Common.{◌≡◌, ℕ, List, map, Some, Ok}
 use Rattle.mysql_values.specs.declared.value.Value.{Value}
 use Rattle.mysql_params_core.specs.Given.{given}
-use Rattle.mysql_program.specs.WordErrors.{seen_pair}
+use Rattle.mysql_query_core.specs.WordErrors.{seen_pair}
 use Rattle.mysql_bind_core.specs.Assignments.{given_of, pairs_of}
 use Rattle.mysql_bind_core.specs.Refusals.{IsMadeRefusal, IsAssignmentsRefusal}
 use Rattle.mysql_bind_core.proofs.AssignmentLemmas.{ok_or-found}

@@ -1,0 +1,19 @@
+-- What the program writes, from what it parsed.
+use Rattle.std.proofs.Common.{◌≡◌, ◌∷◌, ℕ, List, Ok, sym, ap, ◌∙◌, subst}
+use Rattle.std.specs.Prelude.{Bool, false}
+use Rattle.mysql_named_params.specs.Tokens.{Token, IsTokens, text_of}
+use Rattle.mysql_named_params.specs.Places.{names, with_marks, has_both, HasName, HasMark}
+use Rattle.mysql_named_params.specs.Parsed.{Parsed, parsed}
+use Rattle.mysql_query_core.specs.Program.{lines_of, names_output}
+use Rattle.mysql_named_params.proofs.TokenListLemmas.{one_token_list}
+use Rattle.mysql_binding.proofs.CauseLemmas.{has_both-not}
+
+-- the lines of a parsed query are what `names` writes
+pub names_output_is : (mode : Bool) (query text : List ℕ) (p : Parsed) (ts us : List Token) →
+    IsTokens mode query ts → p ≡ parsed ts → IsTokens mode query us → (HasName us × HasMark us → ⊥) →
+    text ≡ lines_of (p.query ∷ p.params) → names_output ts ≡ Ok text
+names_output_is mode query text p ts us is e is' not_both text_is =
+    let same : us ≡ ts = one_token_list mode query us ts is' is in
+    let one : has_both ts ≡ false = has_both-not ts (subst (λ x. HasName x × HasMark x → ⊥) same not_both) in
+    let lines : lines_of (text_of (with_marks ts) ∷ names ts) ≡ text = sym (text_is ∙ ap (λ (x : Parsed). lines_of (x.query ∷ x.params)) e) in
+    rw one (ap Ok lines)

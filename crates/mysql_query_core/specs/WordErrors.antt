@@ -1,0 +1,26 @@
+-- What the code's commands and errors of words stand for.
+use Rattle.std.specs.Prelude.{ℕ, List, Option, None, Some}
+use Rattle.std.specs.Borrow.{Bor}
+use Rattle.mysql_values.specs.declared.value.Value.{Value}
+use Rattle.mysql_params_core.specs.Given.{given}
+use Rattle.mysql_query_core.specs.Words as words
+use Rattle.mysql_query_core.specs.Words.{WordsRefusal, usage, redefined_name}
+use Rattle.mysql_query_core.specs.declared.words.Command.{Command}
+use Rattle.mysql_query_core.specs.declared.words.Command.TheVariants.{Names, Bind}
+use Rattle.mysql_query_core.specs.declared.words.WordsError.{WordsError}
+use Rattle.mysql_query_core.specs.declared.words.WordsError.TheVariants.{Usage, Redefined, Memory}
+
+-- the refusal of the words that the error stands for; none for out of memory
+abbrev pub words_refusal : WordsError → Option WordsRefusal
+words_refusal Usage = Some usage
+words_refusal (Redefined name) = Some (redefined_name name.items)
+words_refusal (Memory error) = None
+
+-- the command that the code's command stands for
+abbrev pub seen_command : Command → words.Command
+seen_command Names = words.names_of_query
+seen_command (Bind params) = words.bound_query (given params)
+
+-- the bytes of a name, and the value
+abbrev pub seen_pair : Bor (List ℕ) × Value → List ℕ × Value
+seen_pair (name, value) = (name.now, value)
