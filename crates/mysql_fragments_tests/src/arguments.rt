@@ -1,10 +1,10 @@
 //! Fragments that arguments make. The wanted texts are written by the rules of the MySQL Reference
 //! Manual, "Schema Object Names", "Numeric Literals" and "Row Subqueries".
-use mysql_fragment_arguments::{
-    Decimal, DoubleOf, Identifier, ListOf, Qualified, RowsOf, ToFragments, Word,
-};
 use mysql_fragments::{FragmentsError, bind_fragments};
 use mysql_params_core::params::ToParamsError;
+use mysql_to_fragments::{
+    Decimal, DoubleOf, Identifier, ListOf, Qualified, RowsOf, ToFragments, Word,
+};
 use mysql_values::value::convert::ToValueError;
 use std::alloc::Global;
 use std::time::Duration;

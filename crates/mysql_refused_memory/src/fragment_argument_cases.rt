@@ -7,11 +7,11 @@ use crate::fragment_inputs::PlainFragment::{
 use crate::fragment_inputs::PlainItem::{Decimal as Number, Value as Item};
 use crate::inputs::Plain::{Bytes, Int, Null, UInt};
 use crate::outcome::{Case, Outcome, cases, judged, row};
-use mysql_fragment_arguments::{
-    Decimal, Identifier, ListOf, Qualified, RowsOf, ToFragments, ToItem, ToRow, Word,
-};
 use mysql_fragments::Fragments;
 use mysql_params::params::ToParamsError;
+use mysql_to_fragments::{
+    Decimal, Identifier, ListOf, Qualified, RowsOf, ToFragments, ToItem, ToRow, Word,
+};
 use std::alloc::Global;
 use std::time::Duration;
 

@@ -5,13 +5,13 @@ ghost use Rattle.mysql_values.specs.StringUnits.{with_backslashes};
 ghost use Rattle.mysql_fragments.specs.Expanded.{IsBoundFragments};
 ghost use Rattle.mysql_fragments.specs.GivenFragments.{given_fragments};
 ghost use Rattle.mysql_fragments.specs.declared.fragment.Fragments as declared;
-ghost use Rattle.mysql_fragment_arguments.specs.FragmentContent.{keyword};
-ghost use Rattle.mysql_fragment_arguments.specs.NamedContents.{contents_of, pairs_made};
+ghost use Rattle.mysql_to_fragments.specs.FragmentContent.{keyword};
+ghost use Rattle.mysql_to_fragments.specs.NamedContents.{contents_of, pairs_made};
 ghost use Rattle.shop_example.specs.ArticleSearch.{search_pairs, search_query, way};
 
-use mysql_fragment_arguments::{Decimal, Identifier, ListOf, ToFragment, ToFragments, Word};
 use mysql_fragments::{Fragment, FragmentsError, bind_fragments};
 use mysql_params::params::ToParamsError;
+use mysql_to_fragments::{Decimal, Identifier, ListOf, ToFragment, ToFragments, Word};
 use mysql_values::value::convert::ToValueError;
 use std::alloc::Global;
 use thiserror::Error;

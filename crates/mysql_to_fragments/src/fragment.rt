@@ -1,0 +1,89 @@
+//! What makes a fragment.
+ghost use Rattle.std.specs.Prelude.{◌≡◌, Ok, IfOk, ⊤};
+ghost use Rattle.mysql_values.specs.Answer.{IsAnswer};
+ghost use Rattle.mysql_values.specs.ValueOf.{too_long_duration};
+ghost use Rattle.mysql_params_core.specs.Names.{names_of};
+ghost use Rattle.mysql_params_core.specs.Referents.{referents};
+ghost use Rattle.mysql_to_fragments.specs.FragmentContent.{content_of, identifier, keyword, qualified};
+ghost use Rattle.mysql_to_fragments.specs.Arguments.{SaidFragment, alone, made_of};
+
+use crate::item::ToItem;
+use mysql_fragments::{Fragment, Item, Keyword};
+use mysql_values::value::convert::ToValueError;
+use std::alloc::{AllocError, Global};
+
+/// What makes a fragment: what makes an item, as a value does; [`ListOf`](crate::ListOf) and
+/// [`RowsOf`](crate::RowsOf); [`Identifier`], [`Qualified`] and [`Word`]; a type of a caller's own.
+pub trait ToFragment {
+    // what the fragment says, or the first duration in it that is too long for a value
+    ghost said: { Self → SaidFragment };
+
+    /// The fragment. `DurationTooLong` is returned only if the type's `said` says so. `Memory` may
+    /// come in place of any other result.
+    fn to_fragment(&self, alloc: Global) -> Result<Fragment, ToValueError>
+        ensures { IsAnswer content_of too_long_duration (said self.now) ⊤ result };
+}
+
+impl<T: ToItem> ToFragment for T {
+    ghost said = { λ argument. made_of alone (T.said_item argument) };
+
+    fn to_fragment(&self, alloc: Global) -> Result<Fragment, ToValueError> {
+        match self.to_item(alloc) {
+            Ok(Item::Value(value)) => Ok(Fragment::Value(value)),
+            Ok(Item::Decimal(number)) => Ok(Fragment::Decimal(number)),
+            Ok(Item::Double(double)) => Ok(Fragment::Double(double)),
+            Err(ToValueError::Memory(error)) => Err(ToValueError::Memory(error)),
+            Err(ToValueError::DurationTooLong(duration)) => {
+                Err(ToValueError::DurationTooLong(duration))
+            }
+        }
+    }
+}
+
+/// The name of a table or a column, which may come from outside: it is written in backquotes.
+#[derive(Clone, Copy)]
+pub struct Identifier<'a>(pub &'a [u8]);
+
+impl<'a> ToFragment for Identifier<'a> {
+    ghost said = { λ name. Ok (identifier name.0.now) };
+
+    fn to_fragment(&self, alloc: Global) -> Result<Fragment, ToValueError> {
+        Ok(Fragment::Identifier(Vec::from_slice(alloc, self.0)?))
+    }
+}
+
+/// Names with `.` between them, each as an [`Identifier`]: a database and a table in it.
+#[derive(Clone, Copy)]
+pub struct Qualified<'a>(pub &'a [&'a [u8]]);
+
+impl<'a> ToFragment for Qualified<'a> {
+    ghost said = { λ names. Ok (qualified (referents names.0.now)) };
+
+    fn to_fragment(&self, alloc: Global) -> Result<Fragment, ToValueError> {
+        Ok(Fragment::Qualified(copies(alloc, self.0)?))
+    }
+}
+
+// Copies of the names.
+fn copies(alloc: Global, names: &[&[u8]]) -> Result<Vec<Vec<u8>>, AllocError>
+    ensures { IfOk result (λ copies. names_of copies.items ≡ referents names.now) }
+{
+    let mut copies = Vec::new(alloc);
+    for name in names {
+        copies.push(Vec::from_slice(alloc, *name)?)?;
+    }
+    Ok(copies)
+}
+
+/// A keyword that stands in the program, as `DESC`: the text of a
+/// [`Keyword`](mysql_fragments::Keyword).
+#[derive(Clone, Copy)]
+pub struct Word(pub &'static [u8]);
+
+impl ToFragment for Word {
+    ghost said = { λ word. Ok (keyword word.0.now) };
+
+    fn to_fragment(&self, alloc: Global) -> Result<Fragment, ToValueError> {
+        Ok(Fragment::Keyword(Keyword::new(alloc, self.0)?))
+    }
+}
