@@ -16,6 +16,8 @@ mod room;
 #[cfg(test)]
 mod shared;
 #[cfg(test)]
+mod single_calls;
+#[cfg(test)]
 mod sizes;
 #[cfg(test)]
 mod steady_borrowed;

@@ -7,6 +7,15 @@ pub use mysql_binding::laws::{
     equal_texts_say_the_same, first_not_alone_is_first, isolation, no_place_is_left,
     parsed_query_equality, position_of_first_not_alone,
 };
+pub use mysql_float_literal::laws::{
+    doubles_read_before_others, ends_of_doubles, is_double_is_shape,
+};
+pub use mysql_fragments::laws::{
+    bound_fragments_are_sent, bound_fragments_in_clients, bound_fragments_on_servers,
+    doubles_are_plain, fragments_are_sent, fragments_in_clients, fragments_isolated,
+    fragments_on_servers, fragments_read_back, fragments_read_in_place, said_fragments_exist,
+    steady_fragments_are_sent, steady_fragments_in_clients, values_bind_as_text,
+};
 pub use mysql_named_params::laws::{
     locality, mixed_error_equality, named_params_error_equality, nameless_is_unchanged,
     one_token_list, parsed_equality, positions_of_places, renaming_undone, tokens_exist,

@@ -13,9 +13,13 @@
 //! character set may read otherwise. If the query is a constant, [`fixed_query`] binds it,
 //! refused for nothing but memory. [`run`] is the program, with its commands `names` and `bind`,
 //! for any reader and writer, and [`words_of`] has its words.
+//!
+//! [`fragments`] bind also lists, rows, exact numbers, doubles, identifiers and keywords, and make
+//! these of arguments.
 #![tactic(auto)]
 
 pub mod fixed_query;
+pub mod fragments;
 pub mod laws;
 pub mod named_params;
 pub mod params;

@@ -2,7 +2,7 @@
 use Rattle.std.proofs.Common.{◌≡◌, ◌+◌, ◌<◌, ◌++◌, ◌∷◌, [], ℕ, List, length, take, subst, sym, suc, get_or, arith, ◌∙◌, ap}
 use Rattle.std.proofs.Math.Seq.{take-suc}
 use Rattle.std.specs.Global.{Vec}
-use Rattle.mysql_fragments.specs.declared.fragment.Item.{Item}
+use Rattle.mysql_params.specs.declared.fragments.Item.{Item}
 use Rattle.shop_example.specs.PriceRows.{ArePriceRows, IsPriceRow}
 use Rattle.shop_example.specs.declared.price_rows.Price.{Price}
 

@@ -1,10 +1,10 @@
 -- The query for articles by their numbers, and what is given to it.
 use Rattle.std.specs.Prelude.{◌≡◌, ℕ, List, [], ◌∷◌, codes}
 use Rattle.mysql_values.specs.declared.value.Value.TheVariants.{UInt}
-use Rattle.mysql_fragments.specs.GivenFragments.{GivenFragments, positional}
-use Rattle.mysql_fragments.specs.declared.fragment.Item.{Item}
-use Rattle.mysql_fragments.specs.declared.fragment.Item.TheVariants as item
-use Rattle.mysql_fragments.specs.declared.fragment.Fragment.TheVariants as one
+use Rattle.mysql_params.specs.GivenFragments.{GivenFragments, positional}
+use Rattle.mysql_params.specs.declared.fragments.Item.{Item}
+use Rattle.mysql_params.specs.declared.fragments.Item.TheVariants as item
+use Rattle.mysql_params.specs.declared.fragments.Fragment.TheVariants as one
 
 -- the query, whose mark a list takes
 abbrev pub among_query : List ℕ

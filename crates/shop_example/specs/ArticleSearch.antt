@@ -1,8 +1,8 @@
 -- The search for articles, and what is given to it.
 use Rattle.std.specs.Prelude.{ℕ, List, [], ◌∷◌, codes, map, Ok}
 use Rattle.mysql_values.specs.declared.value.Value.TheVariants.{UInt}
-use Rattle.mysql_to_fragments.specs.FragmentContent.{value_item, list, number, identifier, keyword}
-use Rattle.mysql_to_fragments.specs.Arguments.{SaidFragment, all_said, made_of}
+use Rattle.mysql_params.specs.FragmentContent.{value_item, list, number, identifier, keyword}
+use Rattle.mysql_params.specs.Arguments.{SaidFragment, all_said, made_of}
 use Rattle.shop_example.specs.declared.article_search.Direction.{Direction}
 use Rattle.shop_example.specs.declared.article_search.Direction.TheVariants.{Ascending, Descending}
 

@@ -2,10 +2,10 @@
 use Rattle.std.specs.Prelude.{◌≡◌, ℕ, List, [], ◌∷◌, codes, string_bytes, ⊤}
 use Rattle.std.specs.Global.{Vec}
 use Rattle.mysql_values.specs.declared.value.Value.TheVariants.{UInt}
-use Rattle.mysql_fragments.specs.GivenFragments.{GivenFragments, positional}
-use Rattle.mysql_fragments.specs.declared.fragment.Item.{Item}
-use Rattle.mysql_fragments.specs.declared.fragment.Item.TheVariants as item
-use Rattle.mysql_fragments.specs.declared.fragment.Fragment.TheVariants as one
+use Rattle.mysql_params.specs.GivenFragments.{GivenFragments, positional}
+use Rattle.mysql_params.specs.declared.fragments.Item.{Item}
+use Rattle.mysql_params.specs.declared.fragments.Item.TheVariants as item
+use Rattle.mysql_params.specs.declared.fragments.Fragment.TheVariants as one
 use Rattle.shop_example.specs.declared.price_rows.Price.{Price}
 
 -- the statement, whose mark rows take

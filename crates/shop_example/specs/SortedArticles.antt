@@ -1,8 +1,8 @@
 -- The query for articles in an order that a user chooses, and what is given to it.
 use Rattle.std.specs.Prelude.{◌≡◌, ℕ, Bool, List, [], ◌∷◌, codes, if◌then◌else◌}
-use Rattle.mysql_fragments.specs.GivenFragments.{GivenFragments, positional}
-use Rattle.mysql_fragments.specs.declared.fragment.Fragment.{Fragment}
-use Rattle.mysql_fragments.specs.declared.fragment.Fragment.TheVariants as one
+use Rattle.mysql_params.specs.GivenFragments.{GivenFragments, positional}
+use Rattle.mysql_params.specs.declared.fragments.Fragment.{Fragment}
+use Rattle.mysql_params.specs.declared.fragments.Fragment.TheVariants as one
 
 -- the query, whose marks take a column and a direction
 abbrev pub sorted_query : List ℕ

@@ -2,12 +2,12 @@
 ghost use Rattle.std.specs.Prelude.{◌≡◌, IfOk, map};
 ghost use Rattle.mysql_params.specs.Tokens.{OnTokens};
 ghost use Rattle.mysql_values.specs.StringUnits.{with_backslashes};
-ghost use Rattle.mysql_fragments.specs.Expanded.{IsBoundFragments};
-ghost use Rattle.mysql_fragments.specs.GivenFragments.{GivenFragments};
+ghost use Rattle.mysql_params.specs.Expanded.{IsBoundFragments};
+ghost use Rattle.mysql_params.specs.GivenFragments.{GivenFragments};
 ghost use Rattle.shop_example.specs.ArticleList.{IsListOf, among_query, number_item};
 
 use crate::one_fragment::one_fragment;
-use mysql_fragments::{Fragment, Fragments, FragmentsError, Item, bind_fragments};
+use mysql_params::fragments::{Fragment, Fragments, FragmentsError, Item, bind_fragments};
 use mysql_values::value::Value;
 use std::alloc::{AllocError, Global};
 

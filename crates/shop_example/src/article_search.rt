@@ -2,16 +2,18 @@
 ghost use Rattle.std.specs.Prelude.{◌≡◌, Ok, IfOk};
 ghost use Rattle.mysql_params.specs.Tokens.{OnTokens};
 ghost use Rattle.mysql_values.specs.StringUnits.{with_backslashes};
-ghost use Rattle.mysql_fragments.specs.Expanded.{IsBoundFragments};
-ghost use Rattle.mysql_fragments.specs.GivenFragments.{given_fragments};
-ghost use Rattle.mysql_fragments.specs.declared.fragment.Fragments as declared;
-ghost use Rattle.mysql_to_fragments.specs.FragmentContent.{keyword};
-ghost use Rattle.mysql_to_fragments.specs.NamedContents.{contents_of, pairs_made};
+ghost use Rattle.mysql_params.specs.Expanded.{IsBoundFragments};
+ghost use Rattle.mysql_params.specs.GivenFragments.{given_fragments};
+ghost use Rattle.mysql_params.specs.declared.fragments.Fragments as declared;
+ghost use Rattle.mysql_params.specs.FragmentContent.{keyword};
+ghost use Rattle.mysql_params.specs.NamedContents.{contents_of, pairs_made};
 ghost use Rattle.shop_example.specs.ArticleSearch.{search_pairs, search_query, way};
 
-use mysql_fragments::{Fragment, FragmentsError, bind_fragments};
+use mysql_params::fragments::{
+    Decimal, Fragment, FragmentsError, Identifier, ListOf, ToFragment, ToFragments, Word,
+    bind_fragments,
+};
 use mysql_params::params::ToParamsError;
-use mysql_to_fragments::{Decimal, Identifier, ListOf, ToFragment, ToFragments, Word};
 use mysql_values::value::convert::ToValueError;
 use std::alloc::Global;
 use thiserror::Error;

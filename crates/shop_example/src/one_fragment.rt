@@ -1,7 +1,7 @@
 //! The fragments of a query with one place.
 ghost use Rattle.std.specs.Prelude.{◌≡◌, ◌∷◌, [], IfOk};
 
-use mysql_fragments::Fragment;
+use mysql_params::fragments::Fragment;
 use std::alloc::{AllocError, Global};
 
 /// The list of one fragment.

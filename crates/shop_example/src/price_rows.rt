@@ -2,12 +2,12 @@
 ghost use Rattle.std.specs.Prelude.{◌≡◌, IfOk, map};
 ghost use Rattle.mysql_params.specs.Tokens.{OnTokens};
 ghost use Rattle.mysql_values.specs.StringUnits.{with_backslashes};
-ghost use Rattle.mysql_fragments.specs.Expanded.{IsBoundFragments};
-ghost use Rattle.mysql_fragments.specs.GivenFragments.{GivenFragments};
+ghost use Rattle.mysql_params.specs.Expanded.{IsBoundFragments};
+ghost use Rattle.mysql_params.specs.GivenFragments.{GivenFragments};
 ghost use Rattle.shop_example.specs.PriceRows.{ArePriceRows, AreGivenRows, IsPriceRow, prices_query};
 
 use crate::one_fragment::one_fragment;
-use mysql_fragments::{Fragment, Fragments, FragmentsError, Item, bind_fragments};
+use mysql_params::fragments::{Fragment, Fragments, FragmentsError, Item, bind_fragments};
 use mysql_values::value::Value;
 use std::alloc::{AllocError, Global};
 
@@ -65,7 +65,7 @@ fn price_row(alloc: Global, price: &Price) -> Result<Vec<Item>, AllocError>
 #[cfg(test)]
 mod tests {
     use super::*;
-    use mysql_fragments::FragmentFault;
+    use mysql_params::fragments::FragmentFault;
 
     const INSERTED: &[u8] = b"INSERT INTO price (article, amount) VALUES (1, 19.99), (2, 0.50)";
 

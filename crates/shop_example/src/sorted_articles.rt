@@ -2,11 +2,11 @@
 ghost use Rattle.std.specs.Prelude.{◌≡◌, Bool, IfOk};
 ghost use Rattle.mysql_params.specs.Tokens.{OnTokens};
 ghost use Rattle.mysql_values.specs.StringUnits.{with_backslashes};
-ghost use Rattle.mysql_fragments.specs.Expanded.{IsBoundFragments};
-ghost use Rattle.mysql_fragments.specs.GivenFragments.{GivenFragments};
+ghost use Rattle.mysql_params.specs.Expanded.{IsBoundFragments};
+ghost use Rattle.mysql_params.specs.GivenFragments.{GivenFragments};
 ghost use Rattle.shop_example.specs.SortedArticles.{AreOrder, IsOrder, direction, sorted_query};
 
-use mysql_fragments::{Fragment, Fragments, FragmentsError, Keyword, bind_fragments};
+use mysql_params::fragments::{Fragment, Fragments, FragmentsError, Keyword, bind_fragments};
 use std::alloc::{AllocError, Global};
 
 const SORTED: &[u8] = b"SELECT id, name FROM article ORDER BY ? ?";
