@@ -4,7 +4,7 @@ use crate::matching::{NamePlace, add_unused, assigned_names, is_new, note_value,
 use crate::query_file::{PlacesInOrder, QueryFile};
 use crate::told::SourceName;
 use crate::values::{TYPES, Values, type_of};
-use mysql_bind_core::{Assignment, ValueType};
+use mysql_bind_core::{Assignment, Request, ValueType};
 use mysql_records::LentField;
 use mysql_values::show::Shown;
 use std::alloc::{AllocError, Global};
@@ -33,6 +33,8 @@ pub struct ColumnType {
 pub struct Wanted<'a> {
     /// The query.
     pub query: QueryFile<'a>,
+    /// What is asked of it.
+    pub request: Request,
     /// Its names.
     pub places: Vec<NamePlace>,
     /// The number of each place by its name.

@@ -162,11 +162,11 @@ fn add_member(
     values: &mut Values,
     alloc: Global,
     path: &str,
-    name: &str,
-    json: &Json<'_>,
+    member: &(&str, Json<'_>),
     decimals: Decimals,
 ) -> Result<(), Complaint> {
-    match member_parts(alloc, json, decimals)? {
+    let name = member.0;
+    match member_parts(alloc, &member.1, decimals)? {
         Some((value_type, bytes)) => {
             let origin = format!(in alloc; "{path}: `{name}`")?;
             values.add(
@@ -199,7 +199,7 @@ fn add_each(
         return Err(bad_file(alloc, path, "no JSON object: write {\"name\": value, ..}"));
     };
     for member in members {
-        add_member(values, alloc, path, member.0, &member.1, decimals)?;
+        add_member(values, alloc, path, member, decimals)?;
     }
     Ok(())
 }

@@ -8,7 +8,7 @@ use crate::sources::unmarked;
 use crate::table_script::TableScript;
 use crate::values::Values;
 use mysql_bind_core::{
-    Cell, Failure, MatchedQuery, Request, TableColumn, TableForm, TableRefusal, append_table,
+    Cell, Failure, MatchedQuery, TableColumn, TableForm, TableRefusal, append_table,
     assignments_of, line_and_column, record_cells,
 };
 use mysql_records::{Fault, FaultKind, LentField, RecordError, RecordFormat, first_record_into};
@@ -189,9 +189,10 @@ fn table_columns(alloc: Global, columns: &[Column]) -> Result<Vec<TableColumn>, 
     Ok(taken)
 }
 
-// What is bound in each row.
+// The table, and what is bound in each row.
 #[derive(Drop)]
 struct Bound<'b> {
+    table: Table<'b>,
     // The names of the columns that are used, and of the values that are the same in each row.
     names: &'b [&'b [u8]],
     // The query, matched with these.
@@ -205,11 +206,11 @@ struct Bound<'b> {
 fn row_refused(
     script: &mut TableScript<'_, '_>,
     rt: &HostRuntime,
-    table: Table<'_>,
     bound: &Bound<'_>,
     at: usize,
     failure: Failure,
 ) -> Result<Complaint, Complaint> {
+    let table = bound.table;
     let mut fields = Vec::new(rt.alloc());
     let Some(more) = table.read(rt.alloc(), table.from_index(at), &mut fields)? else {
         return Err(Complaint::Memory);
@@ -221,7 +222,7 @@ fn row_refused(
         assignments: assigned.as_slice(),
         line: line as u64,
     };
-    let complaint = complaint_of_row(rt.alloc(), script.wanted, script.request, row, failure)?;
+    let complaint = complaint_of_row(rt.alloc(), script.wanted, row, failure)?;
     if script.stream {
         script.begin(rt)?;
     } else {
@@ -234,11 +235,11 @@ fn row_refused(
 fn table_refused(
     script: &mut TableScript<'_, '_>,
     rt: &HostRuntime,
-    table: Table<'_>,
     bound: &Bound<'_>,
     rest: &[u8],
     refusal: TableRefusal,
 ) -> Result<Complaint, Complaint> {
+    let table = bound.table;
     let start = table.index_of(rest);
     match refusal {
         TableRefusal::Record(fault) => Ok(table.fault_refused(rt.alloc(), start, fault)),
@@ -248,7 +249,7 @@ fn table_refused(
             Ok(table.length_refused(rt.alloc(), at, fields, columns))
         }
         TableRefusal::Row { at, failure } => {
-            row_refused(script, rt, table, bound, start.saturating_add(at), failure)
+            row_refused(script, rt, bound, start.saturating_add(at), failure)
         }
         TableRefusal::Memory(_) => Ok(Complaint::Memory),
     }
@@ -258,7 +259,6 @@ fn table_refused(
 fn add_rows(
     script: &mut TableScript<'_, '_>,
     rt: &HostRuntime,
-    table: Table<'_>,
     bound: &Bound<'_>,
     rest: &[u8],
 ) -> Result<(), Complaint> {
@@ -269,11 +269,11 @@ fn add_rows(
     };
     let mut rest = rest;
     // What is added at once has a byte, except at the end.
-    for _ in 0..table.bytes.len() {
+    for _ in 0..bound.table.bytes.len() {
         let text = &mut script.text;
         match append_table(rt.alloc(), &bound.query, &bound.form, rest, most, text) {
             Ok(more) => rest = more,
-            Err(refusal) => return Err(table_refused(script, rt, table, bound, rest, refusal)?),
+            Err(refusal) => return Err(table_refused(script, rt, bound, rest, refusal)?),
         }
         if rest.is_empty() {
             break;
@@ -323,8 +323,9 @@ fn add_table(
     let taken = table_columns(rt.alloc(), columns)?;
     let fixed = fixed_cells(rt.alloc(), wanted)?;
     let bound = Bound {
+        table,
         names: names.as_slice(),
-        query: matched_query(rt.alloc(), wanted, names.as_slice(), script.request)?,
+        query: matched_query(rt.alloc(), wanted, names.as_slice())?,
         form: TableForm {
             format: table.format,
             columns: taken.as_slice(),
@@ -332,7 +333,7 @@ fn add_table(
             fixed: fixed.as_slice(),
         },
     };
-    add_rows(script, rt, table, &bound, rest)
+    add_rows(script, rt, &bound, rest)
 }
 
 // The query, matched with the columns of these names.
@@ -340,14 +341,13 @@ fn matched_query<'q, 'n>(
     alloc: Global,
     wanted: &'q Wanted<'_>,
     names: &'q [&'n [u8]],
-    request: Request,
 ) -> Result<MatchedQuery<'q, 'n>, Complaint> {
     let query = &wanted.query;
-    match MatchedQuery::with_columns(alloc, query.bytes.as_slice(), names, request) {
+    match MatchedQuery::with_columns(alloc, query.bytes.as_slice(), names, wanted.request) {
         Ok(matched) => Ok(matched),
         Err(failure) => {
             let values = Values::new(alloc);
-            Err(complaint_of(alloc, query, &values, request, failure)?)
+            Err(complaint_of(alloc, query, &values, wanted.request, failure)?)
         }
     }
 }

@@ -4,7 +4,7 @@ use crate::columns::Wanted;
 use crate::complaint::{Complaint, Fault, Place, add_fault, bad_row};
 use crate::query_file::complaint_of;
 use crate::values::{Values, wrong_value};
-use mysql_bind_core::{Assignment, Failure, Request, typed_fragment};
+use mysql_bind_core::{Assignment, Failure, typed_fragment};
 use mysql_values::show::Shown;
 use std::alloc::{AllocError, Global};
 
@@ -21,11 +21,11 @@ pub struct RowAt<'r> {
 pub fn complaint_of_row(
     alloc: Global,
     wanted: &Wanted<'_>,
-    request: Request,
     row: RowAt<'_>,
     failure: Failure,
 ) -> Result<Complaint, AllocError> {
     let path = wanted.path.as_str();
+    let request = wanted.request;
     match failure {
         Failure::NoValue => wrong_fields(alloc, path, row),
         Failure::UnportableText(found) => {

@@ -3,8 +3,8 @@ use crate::columns::{Wanted, column_types};
 use crate::complaint::{Complaint, bad_word};
 use crate::json_members::Decimals;
 use crate::json_rows::add_objects;
-use crate::matching::{NamePlace, name_places, place_numbers};
-use crate::query_file::{QueryFile, complaint_of, read_query};
+use crate::matching::{name_places, place_numbers};
+use crate::query_file::{complaint_of, read_query};
 use crate::records::add_records;
 use crate::requests::request_of;
 use crate::script::Script;
@@ -12,7 +12,7 @@ use crate::sources::{Sources, shown_path};
 use crate::table_script::TableScript;
 use crate::values::{Values, values_of};
 use clap::ArgMatches;
-use mysql_bind_core::{Request, START, TakenQuery};
+use mysql_bind_core::{START, TakenQuery};
 use mysql_records::RecordFormat;
 use std::alloc::{AllocError, Global};
 
@@ -77,40 +77,16 @@ fn null_text_of(alloc: Global, matches: &ArgMatches<'_>) -> Result<Option<Vec<u8
     }
 }
 
-// What the columns of a table are held against.
-fn wanted_of<'a>(
-    alloc: Global,
-    matches: &ArgMatches<'_>,
-    path: &str,
-    query: QueryFile<'a>,
-    places: Vec<NamePlace>,
-    fixed: Values,
-) -> Result<Wanted<'a>, Complaint> {
-    let numbers = place_numbers(alloc, places.as_slice())?;
-    Ok(Wanted {
-        query,
-        places,
-        numbers,
-        fixed,
-        types: column_types(alloc, matches.get_strs("column").unwrap_or(&[]))?,
-        null_text: null_text_of(alloc, matches)?,
-        allow_unused: matches.get_flag("allow-unused"),
-        path: String::from_str(alloc, shown_path(path))?,
-    })
-}
-
 // Writes the rows of a table of records.
 fn write_records(
     rt: &HostRuntime,
     matches: &ArgMatches<'_>,
     wanted: &Wanted<'_>,
-    request: Request,
     format: RecordFormat,
     bytes: &[u8],
 ) -> Result<(), Complaint> {
     let mut script = TableScript {
         wanted,
-        request,
         transaction: matches.get_flag("transaction"),
         stream: matches.get_flag("stream"),
         begun: false,
@@ -135,12 +111,10 @@ fn write_objects(
     rt: &HostRuntime,
     matches: &ArgMatches<'_>,
     wanted: &Wanted<'_>,
-    request: Request,
     bytes: &[u8],
 ) -> Result<(), Complaint> {
     let mut script = Script {
         wanted,
-        request,
         transaction: matches.get_flag("transaction"),
         stream: matches.get_flag("stream"),
         begun: false,
@@ -183,17 +157,20 @@ pub fn rows(rt: &HostRuntime, matches: &ArgMatches<'_>) -> Result<(), Complaint>
             return Err(complaint_of(rt.alloc(), &query, &values, request, failure)?);
         }
     };
-    let wanted = wanted_of(rt.alloc(), matches, path, query, places, fixed)?;
+    let wanted = Wanted {
+        numbers: place_numbers(rt.alloc(), places.as_slice())?,
+        query,
+        request,
+        places,
+        fixed,
+        types: column_types(rt.alloc(), matches.get_strs("column").unwrap_or(&[]))?,
+        null_text: null_text_of(rt.alloc(), matches)?,
+        allow_unused: matches.get_flag("allow-unused"),
+        path: String::from_str(rt.alloc(), shown_path(path))?,
+    };
     let bytes = sources.read(rt, path)?;
     match form {
-        Form::Records(format) => write_records(
-            rt,
-            matches,
-            &wanted,
-            request,
-            format,
-            bytes.as_slice(),
-        ),
-        Form::Ndjson => write_objects(rt, matches, &wanted, request, bytes.as_slice()),
+        Form::Records(format) => write_records(rt, matches, &wanted, format, bytes.as_slice()),
+        Form::Ndjson => write_objects(rt, matches, &wanted, bytes.as_slice()),
     }
 }

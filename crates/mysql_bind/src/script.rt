@@ -6,8 +6,7 @@ use crate::query_file::complaint_of;
 use crate::refused_row::{RowAt, complaint_of_row};
 use crate::values::Values;
 use mysql_bind_core::{
-    Assignment, COMMIT, RefusedRow, Request, Row, RowsFailure, START, script_of, stream_rows,
-    write_rows,
+    Assignment, COMMIT, RefusedRow, Row, RowsFailure, START, script_of, stream_rows, write_rows,
 };
 use std::alloc::{AllocError, Global};
 
@@ -19,8 +18,6 @@ pub const STREAMED_ROWS: usize = 256;
 pub struct Script<'a, 'w> {
     /// The query, and what the table is held against.
     pub wanted: &'a Wanted<'w>,
-    /// What is asked of the query.
-    pub request: Request,
     /// Whether a transaction is asked for.
     pub transaction: bool,
     /// Whether rows are written before all are bound.
@@ -70,7 +67,7 @@ impl Script<'_, '_> {
             rt.alloc(),
             text,
             self.rows.as_slice(),
-            self.request,
+            self.wanted.request,
             &mut rt.stdout(),
         ) {
             Ok(()) => Ok(()),
@@ -104,7 +101,7 @@ impl Script<'_, '_> {
             rt.alloc(),
             self.wanted.query.bytes.as_slice(),
             self.rows.as_slice(),
-            self.request,
+            self.wanted.request,
             self.transaction,
             &mut rt.stdout(),
         ) {
@@ -119,7 +116,7 @@ impl Script<'_, '_> {
             rt.alloc(),
             self.wanted.query.bytes.as_slice(),
             self.rows.as_slice(),
-            self.request,
+            self.wanted.request,
             self.transaction,
         ) {
             Ok(text) => write_text(rt, output, text.as_slice()),
@@ -134,7 +131,7 @@ impl Script<'_, '_> {
                 alloc,
                 &self.wanted.query,
                 &Values::new(alloc),
-                self.request,
+                self.wanted.request,
                 failure,
             ),
             RowsFailure::Row(refused) => self.row_refused(alloc, refused),
@@ -158,6 +155,6 @@ impl Script<'_, '_> {
             None => return Ok(Complaint::Memory),
         };
         let row = RowAt { assignments, line };
-        complaint_of_row(alloc, self.wanted, self.request, row, refused.failure)
+        complaint_of_row(alloc, self.wanted, row, refused.failure)
     }
 }

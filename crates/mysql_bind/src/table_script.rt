@@ -2,15 +2,13 @@
 use crate::columns::Wanted;
 use crate::complaint::Complaint;
 use crate::output::write_text;
-use mysql_bind_core::{COMMIT, Request, START};
+use mysql_bind_core::{COMMIT, START};
 
 /// The statements of the rows so far.
 #[derive(Drop)]
 pub struct TableScript<'a, 'w> {
     /// The query, and what the table is held against.
     pub wanted: &'a Wanted<'w>,
-    /// What is asked of the query.
-    pub request: Request,
     /// Whether a transaction is asked for.
     pub transaction: bool,
     /// Whether rows are written before all are bound.
