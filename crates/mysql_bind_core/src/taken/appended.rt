@@ -42,8 +42,8 @@ pub(crate) enum Attempt {
 }
 
 impl<'q> TakenQuery<'q> {
-    /// Writes the text, as [`TakenQuery::text`] gives it, to the end of a script; if it refuses, the
-    /// script stays as it is. The names are those of the query, which are listed once for many
+    /// Writes the text, as [`TakenQuery::text`] gives it, to the end of a script; if it refuses,
+    /// the script stays as it is. The names are those of the query, which are listed once for many
     /// rows.
     pub(crate) fn append(
         &self,
