@@ -18,8 +18,8 @@ use mysql_binding::{KEPT_PLACES, NO_PLACE, ParsedQuery, SurveyedQuery};
 use std::alloc::Global;
 use std::marker::Model;
 
-/// A query that a request takes, with its places. It is bound any number of times, and walked no
-/// more before its text is written.
+/// A query that a request takes, with its places. It is bound any number of times; to values it is
+/// bound without a further walk.
 #[derive(Debug, Drop)]
 pub struct TakenQuery<'q> {
     parsed: ParsedQuery<'q>,

@@ -28,7 +28,8 @@ use std::alloc::{AllocError, Global};
 
 impl<'q> TakenQuery<'q> {
     /// The query with the literals of the assigned values in the places of its names, or the
-    /// refusal, as [`bound_text`](crate::bound_text) gives it. The query isn't walked again.
+    /// refusal, as [`bound_text`](crate::bound_text) gives it. For values the query isn't walked
+    /// again.
     pub fn text(&self, alloc: Global, assignments: &[Assignment]) -> Result<Vec<u8>, Failure>
         ensures bound { IfOk result (λ text.
             IsWritten self.now.request self.now.query assignments.now text.items) }
