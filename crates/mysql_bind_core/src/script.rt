@@ -8,7 +8,7 @@ ghost use Rattle.mysql_bind_core.specs.Scripts.{AreStatements, IfMemory, IfQuery
 use crate::request::Request;
 use crate::row::{Row, RowsFailure};
 use crate::rows::append_rows;
-use crate::taken::TakenQuery;
+use crate::taken::{TakenQuery, check_query};
 use mysql_io::readers_and_writers::write_whole;
 use std::alloc::{AllocError, Global};
 use std::io::Write;
@@ -151,6 +151,13 @@ pub fn stream_rows<W: Write>(
         × AreStatements request query.now (take number rows.now) [] statements
         × AppendsPrefix (W.contents output.old) (W.contents output.new) statements }
 {
+    if rows.is_empty() {
+        // Nothing is bound then, so no memory is asked for.
+        return match check_query(alloc, query, request) {
+            Ok(()) => written(output, &[]),
+            Err(failure) => Err(RowsFailure::Query(failure)),
+        };
+    }
     match TakenQuery::new(alloc, query, request) {
         Ok(taken) => stream_taken(alloc, &taken, rows, output),
         Err(failure) => Err(RowsFailure::Query(failure)),
