@@ -126,3 +126,16 @@ fn owned_queries_and_copies(rt: HostRuntime) {
         b"SELECT NULL",
     );
 }
+
+#[test]
+fn places_that_are_found_once(rt: HostRuntime) {
+    let query = b"SELECT :a, ':a', :bc";
+    let parsed = answer_of(&rt, ParsedQuery::parse(rt.alloc(), query));
+    let surveyed = parsed.surveyed();
+    same_in(&rt, surveyed.known.len(), 2, &"places");
+    for (place, wanted) in surveyed.known.iter().zip([(7usize, 2usize), (8, 3)]) {
+        same_in(&rt, (place.before, place.len), wanted, &"a place");
+    }
+    same_in(&rt, surveyed.survey.names, 2, &"names");
+    same_in(&rt, surveyed.survey.not_alone, None, &"joined places");
+}
