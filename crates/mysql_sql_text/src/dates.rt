@@ -2,7 +2,8 @@
 ghost use Rattle.std.specs.Prelude.{◌≡◌, ◌++◌, ◌+◌, ◌≤◌, length, take};
 ghost use Rattle.mysql_sql_text.specs.LiteralText.{after_hours, date_literal, day_text, is_midnight, padded, quoted, time_literal};
 
-use crate::numbers::{append_byte, append_padded, decimal_len};
+use crate::numbers::{append_padded, decimal_len};
+use crate::strings::append_byte;
 
 /// The fields of a date with its time of day. Each may be out of its usual range.
 #[derive(Clone, Copy)]

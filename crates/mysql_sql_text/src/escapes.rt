@@ -11,7 +11,7 @@ ghost use Rattle.mysql_sql_text.specs.EscapedLanes.{first_byte, four_lanes, last
 ghost use Rattle.mysql_sql_text.specs.LiteralText.{escaped, escaped_byte, is_escaped};
 
 use crate::blocks::{HALF, both_ends};
-use crate::numbers::append_byte;
+use crate::strings::append_byte;
 use std::simd::prelude::*;
 
 // The number of bytes in a block.

@@ -43,22 +43,11 @@ pub fn fill_signed(buffer: &mut [u8], number: i64)
     ensures { buffer.new ≡ signed_decimal number }
 {
     if number < 0 {
-        let at = append_byte(buffer, 0, b'-');
-        append_decimal(buffer, at, number.unsigned_abs());
+        buffer[0] = b'-';
+        fill_padded(&mut buffer[1..], number.unsigned_abs());
     } else {
         fill_padded(buffer, number.unsigned_abs());
     }
-}
-
-// Appends a number.
-fn append_decimal(buffer: &mut [u8], at: usize, number: u64) -> usize
-    requires { at + length (decimal number) ≤ length buffer.old }
-    ensures next { result ≡ at + length (decimal number) }
-    ensures front { take result buffer.new ≡ take at buffer.old ++ decimal number }
-{
-    let end = at + decimal_len(number);
-    fill_padded(&mut buffer[at..end], number);
-    end
 }
 
 /// Fills the slice with a number, after zeros. The slice is at least as long as the digits.
@@ -102,14 +91,4 @@ pub(crate) fn append_padded(buffer: &mut [u8], at: usize, width: usize, number: 
     let end = at + decimal_len(number).max(width);
     fill_padded(&mut buffer[at..end], number);
     end
-}
-
-// Appends one byte.
-pub(crate) fn append_byte(buffer: &mut [u8], at: usize, byte: u8) -> usize
-    requires { at < length buffer.old }
-    ensures next { result ≡ at + 1 }
-    ensures front { take result buffer.new ≡ take at buffer.old ++ byte ∷ [] }
-{
-    buffer[at] = byte;
-    at + 1
 }

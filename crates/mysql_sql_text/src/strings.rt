@@ -3,7 +3,6 @@ ghost use Rattle.std.specs.Prelude.{◌≡◌, [], ◌∷◌, ◌++◌, ◌+◌,
 ghost use Rattle.mysql_sql_text.specs.LiteralText.{bytes_literal, escaped, hexadecimal_digit, hexadecimal, quoted};
 
 use crate::escapes::{append_escaped, escaped_len};
-use crate::numbers::append_byte;
 use crate::utf8::is_utf8;
 
 /// How long the literal of bytes is.
@@ -70,6 +69,16 @@ fn append_before_quote(
         return append_bytes(buffer, at, bytes);
     }
     append_escaped(buffer, at, bytes, no_backslash_escape)
+}
+
+// Appends one byte.
+pub(crate) fn append_byte(buffer: &mut [u8], at: usize, byte: u8) -> usize
+    requires { at < length buffer.old }
+    ensures next { result ≡ at + 1 }
+    ensures front { take result buffer.new ≡ take at buffer.old ++ byte ∷ [] }
+{
+    buffer[at] = byte;
+    at + 1
 }
 
 // Appends bytes as they are.
