@@ -4,8 +4,8 @@ ghost use Rattle.std.specs.Option.{SomeIff};
 ghost use Rattle.std.specs.Str.Parse.{IsNumeral, digits_value};
 ghost use Rattle.mysql_sql_text.specs.Digits.{value_of_digits};
 
-// A number of so many decimal digits fits 64 bits.
-const FEW: usize = 19;
+// So many decimal digits always fit 64 bits: 19 nines are less than 2^64, and 20 are more.
+const DIGITS_IN_64_BITS: usize = 19;
 
 /// The number that one or more ASCII digits write, if 128 bits hold it.
 pub fn value_of_digits(digits: &[u8]) -> Option<u128>
@@ -13,7 +13,7 @@ pub fn value_of_digits(digits: &[u8]) -> Option<u128>
     ensures refused { IfNone result
         (IfSome (value_of_digits digits.now) (λ number. 2 ^ 128 ≤ number)) }
 {
-    if digits.len() <= FEW {
+    if digits.len() <= DIGITS_IN_64_BITS {
         let number = value_of_few_digits(digits)?;
         return Some(u128::from(number));
     }
@@ -22,7 +22,7 @@ pub fn value_of_digits(digits: &[u8]) -> Option<u128>
 
 // The number of so few digits that 64 bits hold it, read digit by digit.
 pub(crate) fn value_of_few_digits(digits: &[u8]) -> Option<u64>
-    requires { length digits.now ≤ FEW }
+    requires { length digits.now ≤ DIGITS_IN_64_BITS }
     ensures { result ≡ value_of_digits digits.now }
 {
     if digits.is_empty() {
