@@ -7,7 +7,7 @@ use Rattle.std.proofs.lemmas.Grind.{flat_map-append}
 use Rattle.std.proofs.lemmas.Simd.{ones-mask_l, chunk-drop, length-chunk}
 use Rattle.std.proofs.lemmas.Nat.{zero_from_ones}
 use lib.Lanes.{chunk, mask_l}
-use Rattle.mysql_sql_text.specs.LiteralText.{control_z, escaped, escaped_byte, is_escaped}
+use Rattle.mysql_sql_text.specs.LiteralText.{control_z, escaped, escaped_byte, needs_escape}
 use Rattle.mysql_sql_text.proofs.ByteNames.{newline, carriage_return, backslash, single_quote, double_quote}
 
 -- one byte: two for an escaped one, else itself
@@ -22,15 +22,15 @@ on_escaped_byte P false b two one =
     cond_both (eqb b single_quote) _ _ P (λ _. two _ _) (λ _.
     cond_both (eqb b double_quote) _ _ P (λ _. two _ _) (λ _. one)))))))
 
-length-escaped_byte : (mode : Bool) (b : ℕ) → length (escaped_byte mode b) ≡ 1 + cond (is_escaped mode b) 1 0
+length-escaped_byte : (mode : Bool) (b : ℕ) → length (escaped_byte mode b) ≡ 1 + cond (needs_escape mode b) 1 0
 length-escaped_byte mode b = on_escaped_byte (λ t. length t ≡ 1 + cond (eqb (length t) 2) 1 0) mode b (λ x y. refl) refl
 
-pub escaped_byte-plain : (mode : Bool) (b : ℕ) → is_escaped mode b ≡ false → escaped_byte mode b ≡ b ∷ []
+pub escaped_byte-plain : (mode : Bool) (b : ℕ) → needs_escape mode b ≡ false → escaped_byte mode b ≡ b ∷ []
 escaped_byte-plain mode b =
     on_escaped_byte (λ t. eqb (length t) 2 ≡ false → t ≡ b ∷ []) mode b (λ x y h. absurd (false≢true (sym h))) (λ h. refl)
 
 -- escaped bytes are longer by one for each that is escaped
-pub length-escaped : (mode : Bool) (bytes : List ℕ) → length (escaped mode bytes) ≡ length bytes + count_by (is_escaped mode) bytes
+pub length-escaped : (mode : Bool) (bytes : List ℕ) → length (escaped mode bytes) ≡ length bytes + count_by (needs_escape mode) bytes
 length-escaped mode [] = refl
 length-escaped mode (b ∷ bytes) =
     omega (
@@ -38,7 +38,7 @@ length-escaped mode (b ∷ bytes) =
       length-append (escaped_byte mode b) (escaped mode bytes),
       length-escaped_byte mode b,
       length-escaped mode bytes,
-      sum_by-cons (λ x. cond (is_escaped mode x) 1 0) b bytes,
+      sum_by-cons (λ x. cond (needs_escape mode x) 1 0) b bytes,
     )
 
 pub length-escaped-le : (mode : Bool) (bytes : List ℕ) → length bytes ≤ length (escaped mode bytes)
@@ -57,7 +57,7 @@ length-escaped-cut mode d i =
 
 -- the same, its escapes counted
 pub length-escaped-block : (mode : Bool) (d : List ℕ) (i : ℕ) → i + 16 ≤ length d
-    → length (escaped mode (drop i d)) ≡ 16 + count_by (is_escaped mode) (chunk i 16 d) + length (escaped mode (drop (i + 16) d))
+    → length (escaped mode (drop i d)) ≡ 16 + count_by (needs_escape mode) (chunk i 16 d) + length (escaped mode (drop (i + 16) d))
 length-escaped-block mode d i buffer =
     omega (arith, length-escaped-cut mode d i, length-escaped mode (chunk i 16 d), length-chunk i 16 d buffer)
 
@@ -67,14 +67,14 @@ no_bits true others h = absurd (omega arith)
 no_bits false others h = (refl, omega arith)
 
 -- bytes whose mask is empty stand for themselves
-pub escaped-none : (mode : Bool) (bytes : List ℕ) → mask_l (map (is_escaped mode) bytes) ≡ 0 → escaped mode bytes ≡ bytes
+pub escaped-none : (mode : Bool) (bytes : List ℕ) → mask_l (map (needs_escape mode) bytes) ≡ 0 → escaped mode bytes ≡ bytes
 escaped-none mode [] h = refl
 escaped-none mode (b ∷ bytes) h =
-    let bits = no_bits (is_escaped mode b) (mask_l (map (is_escaped mode) bytes)) h in
+    let bits = no_bits (needs_escape mode b) (mask_l (map (needs_escape mode) bytes)) h in
     ap₂ (λ a t. a ++ t) (escaped_byte-plain mode b bits.0) (escaped-none mode bytes bits.1)
 
 -- so do bytes that are no longer when they are escaped
 pub escaped-as_long : (mode : Bool) (bytes : List ℕ) → length (escaped mode bytes) ≡ length bytes → escaped mode bytes ≡ bytes
 escaped-as_long mode bytes same =
     escaped-none mode bytes
-    (zero_from_ones _ (ones-mask_l (is_escaped mode) bytes ∙ omega (arith, length-escaped mode bytes)))
+    (zero_from_ones _ (ones-mask_l (needs_escape mode) bytes ∙ omega (arith, length-escaped mode bytes)))

@@ -2,7 +2,7 @@
 use Rattle.std.proofs.Common.{◌≡◌, ℕ, ◌<◌, Bool, true, false, ◌&&◌, eqb, cond, List, [], ◌∷◌, get_or, refl, ap₂}
 use Rattle.std.proofs.lemmas.Bool.{agree_below, agree_below_at, and_parts, eqb-true, false≢true}
 use Rattle.mysql_sql_text.specs.EscapedLanes.{first_byte, last_byte}
-use Rattle.mysql_sql_text.specs.LiteralText.{escaped_byte, is_escaped}
+use Rattle.mysql_sql_text.specs.LiteralText.{escaped_byte, needs_escape}
 use Rattle.mysql_sql_text.proofs.ByteNames.{backslash}
 
 -- whether two texts are the same
@@ -35,8 +35,8 @@ abbrev pub with_first : Bool → ℕ → ℕ → List ℕ
 with_first escape first last = cond escape (first ∷ last ∷ []) (last ∷ [])
 
 -- what stands for a byte, by its first byte and its last
-pub escaped_byte-parts : (mode : Bool) (b : ℕ) → b < 256 → with_first (is_escaped mode b) (first_byte mode) (last_byte mode b) ≡ escaped_byte mode b
+pub escaped_byte-parts : (mode : Bool) (b : ℕ) → b < 256 → with_first (needs_escape mode b) (first_byte mode) (last_byte mode b) ≡ escaped_byte mode b
 escaped_byte-parts true b h =
-    same_text-true _ _ (agree_below_at (λ k. same_text (with_first (is_escaped true k) (first_byte true) (last_byte true k)) (escaped_byte true k)) (λ _. true) 256 b refl h)
+    same_text-true _ _ (agree_below_at (λ k. same_text (with_first (needs_escape true k) (first_byte true) (last_byte true k)) (escaped_byte true k)) (λ _. true) 256 b refl h)
 escaped_byte-parts false b h =
-    same_text-true _ _ (agree_below_at (λ k. same_text (with_first (is_escaped false k) (first_byte false) (last_byte false k)) (escaped_byte false k)) (λ _. true) 256 b refl h)
+    same_text-true _ _ (agree_below_at (λ k. same_text (with_first (needs_escape false k) (first_byte false) (last_byte false k)) (escaped_byte false k)) (λ _. true) 256 b refl h)

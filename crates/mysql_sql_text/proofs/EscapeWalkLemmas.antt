@@ -10,7 +10,7 @@ use Rattle.std.proofs.lemmas.Simd.{ones-mask_l, chunk-drop, length-chunk, traili
 use Rattle.std.proofs.Math.Seq.{drop-cons, take-append-add}
 use lib.Count.{count_trailing_zeros}
 use lib.Lanes.{chunk, mask_l}
-use Rattle.mysql_sql_text.specs.LiteralText.{escaped, escaped_byte, is_escaped}
+use Rattle.mysql_sql_text.specs.LiteralText.{escaped, escaped_byte, needs_escape}
 use Rattle.mysql_sql_text.proofs.MaskLemmas.{mask_l-drop}
 use Rattle.mysql_sql_text.proofs.BlockLemmas.{escaped_byte-plain, escaped-block, escaped-none, length-escaped, length-escaped-le, length-escaped-cut}
 
@@ -26,18 +26,18 @@ last_block bytes last at long within =
 
 -- its escapes are counted, except those
 pub ones-last_block : (mode : Bool) (bytes : List ℕ) (last at : ℕ) → last + 16 ≡ length bytes → last ≤ at
-    → count_ones (mask_l (map (is_escaped mode) (chunk last 16 bytes)) / 2 ^ (at - last))
-    ≡ count_by (is_escaped mode) (drop at bytes)
+    → count_ones (mask_l (map (needs_escape mode) (chunk last 16 bytes)) / 2 ^ (at - last))
+    ≡ count_by (needs_escape mode) (drop at bytes)
 ones-last_block mode bytes last at long within =
     let block = chunk last 16 bytes in
-    ap count_ones (mask_l-drop (at - last) (map (is_escaped mode) block)
-    ∙ ap mask_l (drop-map (is_escaped mode) (at - last) block ∙ ap (map (is_escaped mode)) (last_block bytes last at long within)))
-    ∙ ones-mask_l (is_escaped mode) (drop at bytes)
+    ap count_ones (mask_l-drop (at - last) (map (needs_escape mode) block)
+    ∙ ap mask_l (drop-map (needs_escape mode) (at - last) block ∙ ap (map (needs_escape mode)) (last_block bytes last at long within)))
+    ∙ ones-mask_l (needs_escape mode) (drop at bytes)
 
 -- the escapes of at most 16 bytes are those of the last 8, except what the first 8 have of them, and of the first 8
 pub ones-ends : (mode : Bool) (bytes ends : List ℕ) (mask : ℕ) → 8 ≤ length bytes → length bytes ≤ 16
-    → ends ≡ drop (length bytes - 8) bytes ++ take 8 bytes → mask ≡ mask_l (map (is_escaped mode) ends)
-    → count_ones (mask / 2 ^ (16 - length bytes)) ≡ count_by (is_escaped mode) bytes
+    → ends ≡ drop (length bytes - 8) bytes ++ take 8 bytes → mask ≡ mask_l (map (needs_escape mode) ends)
+    → count_ones (mask / 2 ^ (16 - length bytes)) ≡ count_by (needs_escape mode) bytes
 ones-ends mode bytes ends mask at_least at_most are is =
     let last = length bytes - 8 in
     let twice = 16 - length bytes in
@@ -47,18 +47,18 @@ ones-ends mode bytes ends mask at_least at_most are is =
     ∙ drop-append-le twice (drop last bytes) (take 8 bytes) (omega (arith, at_least, at_most, length-drop last bytes))
     ∙ ap (λ t. t ++ take 8 bytes) (drop-drop twice last bytes ∙ ap (λ i. drop i bytes) place) in
     ap (λ m. count_ones (m / 2 ^ twice)) is
-    ∙ ap count_ones (mask_l-drop twice (map (is_escaped mode) ends)
-    ∙ ap mask_l (drop-map (is_escaped mode) twice ends ∙ ap (map (is_escaped mode)) apart))
-    ∙ ones-mask_l (is_escaped mode) (drop 8 bytes ++ take 8 bytes)
+    ∙ ap count_ones (mask_l-drop twice (map (needs_escape mode) ends)
+    ∙ ap mask_l (drop-map (needs_escape mode) twice ends ∙ ap (map (needs_escape mode)) apart))
+    ∙ ones-mask_l (needs_escape mode) (drop 8 bytes ++ take 8 bytes)
     ∙ omega (
       arith,
-      sum_by-append (λ b. cond (is_escaped mode b) 1 0) (drop 8 bytes) (take 8 bytes),
-      sum_by-take-drop (λ b. cond (is_escaped mode b) 1 0) bytes 8,
+      sum_by-append (λ b. cond (needs_escape mode b) 1 0) (drop 8 bytes) (take 8 bytes),
+      sum_by-take-drop (λ b. cond (needs_escape mode b) 1 0) bytes 8,
     )
 
 -- the length of the end of the bytes, by its escapes
 pub length-escaped-end : (mode : Bool) (bytes : List ℕ) (at : ℕ) → at ≤ length bytes
-    → length (escaped mode (drop at bytes)) + at ≡ length bytes + count_by (is_escaped mode) (drop at bytes)
+    → length (escaped mode (drop at bytes)) + at ≡ length bytes + count_by (needs_escape mode) (drop at bytes)
 length-escaped-end mode bytes at within = omega (arith, length-escaped mode (drop at bytes), length-drop at bytes)
 
 -- nothing is left after the last byte
@@ -66,12 +66,12 @@ pub length-escaped-after : (mode : Bool) (bytes : List ℕ) → length (escaped 
 length-escaped-after mode bytes = ap (λ left. length (escaped mode left)) (drop_all (length bytes) bytes (omega arith))
 
 pub count-end-le : (mode : Bool) (bytes : List ℕ) (at : ℕ) → at ≤ length bytes
-    → count_by (is_escaped mode) (drop at bytes) + at ≤ length bytes
-count-end-le mode bytes at within = omega (arith, count_by-le-length (is_escaped mode) (drop at bytes), length-drop at bytes)
+    → count_by (needs_escape mode) (drop at bytes) + at ≤ length bytes
+count-end-le mode bytes at within = omega (arith, count_by-le-length (needs_escape mode) (drop at bytes), length-drop at bytes)
 
 -- the bytes before an escape stand for themselves
 pub escaped-run : (mode : Bool) (bytes : List ℕ) (from count : ℕ) → from + count < length bytes
-    → ((k : ℕ) → from ≤ k → k < from + count → is_escaped mode (get_or bytes k 0) ≡ false)
+    → ((k : ℕ) → from ≤ k → k < from + count → needs_escape mode (get_or bytes k 0) ≡ false)
     → escaped mode (drop from bytes)
     ≡ take count (drop from bytes) ++ (escaped_byte mode (get_or bytes (from + count) 0) ++ escaped mode (drop (from + count + 1) bytes))
 escaped-run mode bytes from zero within plain =
@@ -137,22 +137,22 @@ front_of_copy bytes from at whole count old copied block few room to copy =
 
 -- the first escape of so many bytes, by the lowest bit of their mask
 module _ (mode : Bool) (bytes : List ℕ) (from size mask : ℕ) (within : from + size ≤ length bytes) (small : size ≤ 16)
-    (is : mask ≡ mask_l (map (is_escaped mode) (chunk from size bytes))) (some : ¬ (mask ≡ 0)) where
+    (is : mask ≡ mask_l (map (needs_escape mode) (chunk from size bytes))) (some : ¬ (mask ≡ 0)) where
   abbrev pub count : ℕ
   count = count_trailing_zeros 64 mask
 
-  counted : count ≡ prefix_len (λ b. not (is_escaped mode b)) (chunk from size bytes)
+  counted : count ≡ prefix_len (λ b. not (needs_escape mode b)) (chunk from size bytes)
   counted =
       ap (count_trailing_zeros 64) is
-      ∙ trailing_mask_l (is_escaped mode) 64 (chunk from size bytes) (omega (arith, length-chunk from size bytes within)) (omega arith)
+      ∙ trailing_mask_l (needs_escape mode) 64 (chunk from size bytes) (omega (arith, length-chunk from size bytes within)) (omega arith)
 
   pub first_escape_within : count < size
   first_escape_within =
       elim (cases_lt count size) [
         | inl less ↦ less
         | inr whole ↦
-            let few = run_in_chunk_le (is_escaped mode) bytes from size count 0 within counted in
-            let all = mask_empty (is_escaped mode) (chunk from size bytes) (omega (arith, counted, length-chunk from size bytes within)) in
+            let few = run_in_chunk_le (needs_escape mode) bytes from size count 0 within counted in
+            let all = mask_empty (needs_escape mode) (chunk from size bytes) (omega (arith, counted, length-chunk from size bytes within)) in
             absurd (omega arith)
       ]
 
@@ -160,7 +160,7 @@ module _ (mode : Bool) (bytes : List ℕ) (from size mask : ℕ) (within : from 
       ≡ take count (drop from bytes) ++ (escaped_byte mode (get_or bytes (from + count) 0) ++ escaped mode (drop (from + count + 1) bytes))
   first_escape_cuts =
       escaped-run mode bytes from count (omega (arith, first_escape_within))
-      (run_in_chunk_fails (is_escaped mode) bytes from size count 0 within counted)
+      (run_in_chunk_fails (needs_escape mode) bytes from size count 0 within counted)
 
   abbrev pub escape : List ℕ
   escape = escaped_byte mode (get_or bytes (from + count) 0)
@@ -196,7 +196,7 @@ module _ (mode : Bool) (bytes : List ℕ) (from size mask : ℕ) (within : from 
       ∙ ap (λ t. front ++ t) (append_assoc plain escape after ∙ sym first_escape_cuts)
 
 -- bytes without escapes stand for themselves, and what follows them is escaped
-pub escaped-after_none : (mode : Bool) (bytes : List ℕ) (from size : ℕ) → mask_l (map (is_escaped mode) (chunk from size bytes)) ≡ 0
+pub escaped-after_none : (mode : Bool) (bytes : List ℕ) (from size : ℕ) → mask_l (map (needs_escape mode) (chunk from size bytes)) ≡ 0
     → escaped mode (drop from bytes) ≡ chunk from size bytes ++ escaped mode (drop (from + size) bytes)
 escaped-after_none mode bytes from size none =
     ap (escaped mode) (chunk-drop from size bytes)

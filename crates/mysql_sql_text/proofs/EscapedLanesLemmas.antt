@@ -13,7 +13,7 @@ use lib.Dec.{leb, ltb, T}
 use Rattle.std.specs.List.{range_with_len}
 use lib.Lanes.{chunk, mask_l, pick_l, sel_l, top, zip2, Each1}
 use Rattle.mysql_sql_text.specs.EscapedLanes.{first_byte, four_lanes, last_byte}
-use Rattle.mysql_sql_text.specs.LiteralText.{escaped, escaped_byte, is_escaped}
+use Rattle.mysql_sql_text.specs.LiteralText.{escaped, escaped_byte, needs_escape}
 use Rattle.mysql_sql_text.specs.declared.escapes.TheConstants.{PLACES}
 use Rattle.mysql_sql_text.proofs.EscapeTableLemmas.{with_first, escaped_byte-parts}
 
@@ -153,23 +153,23 @@ bit-of : (b : Bool) → eqb (cond b 1 0) 1 ≡ b
 bit-of true = refl
 bit-of false = refl
 
-one_lane : (mode : Bool) (x lane value : ℕ) → x < 256 → value ≡ cond (is_escaped mode x) 1 0 → lane ≡ last_byte mode x
+one_lane : (mode : Bool) (x lane value : ℕ) → x < 256 → value ≡ cond (needs_escape mode x) 1 0 → lane ≡ last_byte mode x
     → with_first (eqb value 1) (first_byte mode) lane ≡ escaped_byte mode x
 one_lane mode x lane value small is last =
     ap₂ (λ n l. with_first (eqb n 1) (first_byte mode) l) is last
-    ∙ ap (λ b. with_first b (first_byte mode) (last_byte mode x)) (bit-of (is_escaped mode x))
+    ∙ ap (λ b. with_first b (first_byte mode) (last_byte mode x)) (bit-of (needs_escape mode x))
     ∙ escaped_byte-parts mode x small
 
 -- four lanes are the next four bytes, escaped
 pub four_lanes-escaped : (mode : Bool) (xs lanes : List ℕ) → 4 ≤ length xs → Each1 (Fits w8) xs
     → ((i : ℕ) → i < 4 → get_or lanes i 0 ≡ last_byte mode (get_or xs i 0))
-    → four_lanes mode (mask_l (map (is_escaped mode) xs)) lanes ≡ escaped mode (take 4 xs)
+    → four_lanes mode (mask_l (map (needs_escape mode) xs)) lanes ≡ escaped mode (take 4 xs)
 four_lanes-escaped mode [] lanes long fits last = absurd (omega arith)
 four_lanes-escaped mode (a ∷ []) lanes long fits last = absurd (omega arith)
 four_lanes-escaped mode (a ∷ b ∷ []) lanes long fits last = absurd (omega arith)
 four_lanes-escaped mode (a ∷ b ∷ c ∷ []) lanes long fits last = absurd (omega arith)
 four_lanes-escaped mode (a ∷ b ∷ c ∷ d ∷ xs) lanes long fits last =
-    let bits = map (is_escaped mode) (a ∷ b ∷ c ∷ d ∷ xs) in
+    let bits = map (needs_escape mode) (a ∷ b ∷ c ∷ d ∷ xs) in
     ap₂ (λ s t. s ++ t) (one_lane mode a _ _ fits.0.fits (bit_mask_l bits 0) (last 0 (omega arith)))
     (ap₂ (λ s t. s ++ t) (one_lane mode b _ _ fits.1.0.fits (bit_mask_l bits 1) (last 1 (omega arith)))
     (ap₂ (λ s t. s ++ t) (one_lane mode c _ _ fits.1.1.0.fits (bit_mask_l bits 2) (last 2 (omega arith)))

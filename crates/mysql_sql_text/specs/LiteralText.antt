@@ -26,9 +26,9 @@ escaped_byte false b =
     if b == byte "\"" then codes "\\\"" else b ∷ []))))))
 escaped_byte true b = if b == byte "'" then codes "''" else b ∷ []
 
--- whether a byte is escaped: two bytes stand for it
-abbrev pub is_escaped : Bool → ℕ → Bool
-is_escaped mode b = length (escaped_byte mode b) == 2
+-- whether a byte needs an escape: two bytes stand for it
+abbrev pub needs_escape : Bool → ℕ → Bool
+needs_escape mode b = length (escaped_byte mode b) == 2
 
 -- what stands for each of the bytes, in a row
 abbrev pub escaped : Bool → List ℕ → List ℕ

@@ -8,7 +8,7 @@ ghost use Rattle.std.specs.Prelude.{◌≡◌, [], ◌∷◌, ◌++◌, ◌+◌,
 ghost use Rattle.std.specs.Int.RustNames.{count_ones};
 ghost use Rattle.std.specs.Simd.Lanes.{chunk, mask_l};
 ghost use Rattle.mysql_sql_text.specs.EscapedLanes.{first_byte, four_lanes, last_byte};
-ghost use Rattle.mysql_sql_text.specs.LiteralText.{escaped, escaped_byte, is_escaped};
+ghost use Rattle.mysql_sql_text.specs.LiteralText.{escaped, escaped_byte, needs_escape};
 
 use crate::blocks::{HALF, both_ends};
 use crate::strings::append_byte;
@@ -200,7 +200,7 @@ fn append_few_escapes(
 ) -> usize
     requires two_blocks { first + 2 * LANES ≤ length bytes.now }
     requires mask { block_escapes
-        ≡ mask_l (map (is_escaped no_backslash_escape) (chunk first LANES bytes.now)) }
+        ≡ mask_l (map (needs_escape no_backslash_escape) (chunk first LANES bytes.now)) }
     requires fits { start + length (escaped no_backslash_escape (drop first bytes.now))
         ≤ length buffer.old }
     ensures next { result + length (escaped no_backslash_escape (drop (first + LANES) bytes.now))
@@ -234,7 +234,7 @@ fn append_many_escapes(
     block_escapes: u64,
     no_backslash_escape: bool,
 ) -> usize
-    requires mask { block_escapes ≡ mask_l (map (is_escaped no_backslash_escape) block) }
+    requires mask { block_escapes ≡ mask_l (map (needs_escape no_backslash_escape) block) }
     requires fits { start + length (escaped no_backslash_escape block) + LANES
         ≤ length buffer.old }
     ensures next { result ≡ start + length (escaped no_backslash_escape block) }
@@ -319,7 +319,7 @@ fn append_lanes(buffer: &mut [u8], at: usize, block: u8x16) -> usize
 // and the bytes that it is compared with stay in vector registers over the loop.
 #[inline(always)]
 fn escaped_lanes(block: u8x16, no_backslash_escape: bool) -> u64
-    ensures { result ≡ mask_l (map (is_escaped no_backslash_escape) block) }
+    ensures { result ≡ mask_l (map (needs_escape no_backslash_escape) block) }
 {
     let quotes = block.simd_eq(u8x16::splat(b'\''));
     if no_backslash_escape {

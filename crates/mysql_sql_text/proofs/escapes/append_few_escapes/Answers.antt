@@ -1,7 +1,7 @@
 use Rattle.std.proofs.Common.{◌≡◌, ◌∙◌, ◌++◌, ◌+◌, ◌-◌, ◌≤◌, map, take, drop, length, refl, sym, ap, arith, append_assoc, length-append}
 use Rattle.std.proofs.lemmas.Simd.{length-chunk}
 use lib.Lanes.{chunk, mask_l}
-use Rattle.mysql_sql_text.specs.LiteralText.{escaped, is_escaped}
+use Rattle.mysql_sql_text.specs.LiteralText.{escaped, needs_escape}
 use Rattle.mysql_sql_text.proofs.MaskLemmas.{later_mask}
 use Rattle.mysql_sql_text.proofs.EscapeWalkLemmas.{room_for_block, count, front_of_copy, first_escape_within, first_escape_len, first_escape_front, escaped-after_none}
 use Rattle.mysql_sql_text.proofs.escapes.append_few_escapes.Goals as goal
@@ -76,7 +76,7 @@ escapes-preserved c =
     record {
       low = omega (arith, c.escapes.invariant.low);
       within = omega (arith, less, c.escapes.invariant.within);
-      mask = later_mask (is_escaped mode) bytes from (from + (plain + 1)) (c.args.first + 16) mask (plain + 1) refl
+      mask = later_mask (needs_escape mode) bytes from (from + (plain + 1)) (c.args.first + 16) mask (plain + 1) refl
           (omega (arith, less, c.escapes.invariant.within)) c.escapes.invariant.mask;
       next = omega (
         arith,
@@ -102,7 +102,7 @@ returns-clause-next c =
     let from = c.escapes.from in
     let size = c.args.first + 16 - from in
     let end : from + size ≡ c.args.first + 16 = omega (arith, c.escapes.invariant.within) in
-    let none : mask_l (map (is_escaped mode) (chunk from size bytes)) ≡ 0 = sym c.escapes.invariant.mask ∙ c.escapes-test.false in
+    let none : mask_l (map (needs_escape mode) (chunk from size bytes)) ≡ 0 = sym c.escapes.invariant.mask ∙ c.escapes-test.false in
     omega (
       arith,
       c.escapes.invariant.next,
@@ -119,7 +119,7 @@ returns-clause-front c =
     let from = c.escapes.from in
     let size = c.args.first + 16 - from in
     let end : from + size ≡ c.args.first + 16 = omega (arith, c.escapes.invariant.within) in
-    let none : mask_l (map (is_escaped mode) (chunk from size bytes)) ≡ 0 = sym c.escapes.invariant.mask ∙ c.escapes-test.false in
+    let none : mask_l (map (needs_escape mode) (chunk from size bytes)) ≡ 0 = sym c.escapes.invariant.mask ∙ c.escapes-test.false in
     let before = take c.escapes.at c.escapes.buffer in
     let after = escaped mode (drop (c.args.first + 16) bytes) in
     let copied = front_of_copy bytes from c.escapes.at c.append_lanes-2.result size c.escapes.buffer c.append_lanes-2.new.buffer

@@ -1,5 +1,5 @@
 use Rattle.std.proofs.Common.{◌≡◌, ◌++◌, ◌+◌, ◌-◌, ◌≤◌, take, drop, length}
-use Rattle.mysql_sql_text.specs.LiteralText.{escaped, is_escaped}
+use Rattle.mysql_sql_text.specs.LiteralText.{escaped, needs_escape}
 use Rattle.mysql_sql_text.proofs.MaskLemmas.{IsMask}
 use Rattle.mysql_sql_text.proofs.escapes.append_few_escapes.Given as goal
 
@@ -7,7 +7,7 @@ abbrev pub invariant-escapes : goal.invariant-escapes
 invariant-escapes l = record {
   low : l.first ≤ l.from;
   within : l.from ≤ l.first + 16;
-  mask : IsMask (is_escaped l.no_backslash_escape) l.bytes l.from (l.first + 16) l.escapes;
+  mask : IsMask (needs_escape l.no_backslash_escape) l.bytes l.from (l.first + 16) l.escapes;
   next : l.at + length (escaped l.no_backslash_escape (drop l.from l.bytes))
       ≡ l.start + length (escaped l.no_backslash_escape (drop l.first l.bytes));
   front : take l.at l.buffer ++ escaped l.no_backslash_escape (drop l.from l.bytes)

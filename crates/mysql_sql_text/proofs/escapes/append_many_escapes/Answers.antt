@@ -2,7 +2,7 @@ use Rattle.std.proofs.Common.{◌≡◌, ◌∙◌, ◌++◌, ◌+◌, ◌*◌, 
 use Rattle.std.proofs.lemmas.List.{take_all, length-drop, length-map, drop-map, get_or-map}
 use lib.Lanes.{mask_l}
 use Rattle.mysql_sql_text.specs.EscapedLanes.{four_lanes, last_byte}
-use Rattle.mysql_sql_text.specs.LiteralText.{escaped, is_escaped}
+use Rattle.mysql_sql_text.specs.LiteralText.{escaped, needs_escape}
 use Rattle.mysql_sql_text.proofs.MaskLemmas.{mask_l-drop}
 use Rattle.mysql_sql_text.proofs.EscapedLanesLemmas.{Each1-drop, escaped-take_four, four_lanes-escaped, last-of_others, length-escaped-parts}
 use Rattle.mysql_sql_text.proofs.escapes.append_many_escapes.Goals as goal
@@ -36,9 +36,9 @@ loop-quarter-preserved c =
     let rest = drop (4 * quarter) block in
     let before = escaped mode (take (4 * quarter) block) in
     let step : 4 * (quarter + 1) ≡ 4 * quarter + 4 = omega arith in
-    let bits : c.args.block_escapes / 2 ^ (4 * quarter) ≡ mask_l (map (is_escaped mode) rest) =
+    let bits : c.args.block_escapes / 2 ^ (4 * quarter) ≡ mask_l (map (needs_escape mode) rest) =
     ap (λ m. m / 2 ^ (4 * quarter)) c.requires.mask
-    ∙ mask_l-drop (4 * quarter) (map (is_escaped mode) block) ∙ ap mask_l (drop-map (is_escaped mode) (4 * quarter) block) in
+    ∙ mask_l-drop (4 * quarter) (map (needs_escape mode) block) ∙ ap mask_l (drop-map (needs_escape mode) (4 * quarter) block) in
     let four : four_lanes mode (c.args.block_escapes / 2 ^ (4 * quarter)) lanes ≡ escaped mode (take 4 rest) =
     ap (λ m. four_lanes mode m lanes) bits
     ∙ four_lanes-escaped mode rest lanes (omega (arith, length-drop (4 * quarter) block, c.fits-block.0)) (Each1-drop (4 * quarter) block c.fits-block.1)

@@ -4,7 +4,7 @@ use Rattle.std.proofs.lemmas.Simd.{ones-mask_l, length-chunk}
 use Rattle.std.proofs.lemmas.List.Sums.{count_by-le-length}
 use lib.Lanes.{chunk, mask_l}
 use Rattle.std.specs.Int.RustNames.{count_ones}
-use Rattle.mysql_sql_text.specs.LiteralText.{is_escaped}
+use Rattle.mysql_sql_text.specs.LiteralText.{needs_escape}
 use Rattle.mysql_sql_text.proofs.BlockLemmas.{length-escaped-block}
 use Rattle.mysql_sql_text.proofs.EscapeWalkLemmas.{count-end-le, length-escaped-end, ones-last_block}
 use Rattle.mysql_sql_text.proofs.escapes.escaped_len.Goals as goal
@@ -15,8 +15,8 @@ loop-at-preserved c =
     let bytes = c.args.bytes.now in
     let at = c.loop-at.at in
     let block = chunk at 16 bytes in
-    let counted = ap count_ones c.escaped_lanes.ensures ∙ ones-mask_l (is_escaped mode) block in
-    let few = count_by-le-length (is_escaped mode) block in
+    let counted = ap count_ones c.escaped_lanes.ensures ∙ ones-mask_l (needs_escape mode) block in
+    let few = count_by-le-length (needs_escape mode) block in
     let long = length-chunk at 16 bytes (omega arith) in
     record {
       within = omega arith;
@@ -26,8 +26,8 @@ loop-at-preserved c =
 
 -- the escapes of the last block that no block before it has
 rest : (mode : Bool) (bytes : List ℕ) (at mask counted : ℕ) → 16 ≤ length bytes → length bytes - 16 ≤ at
-    → mask ≡ mask_l (map (is_escaped mode) (chunk (length bytes - 16) 16 bytes))
-    → counted ≡ count_ones (mask / 2 ^ (at - (length bytes - 16))) → counted ≡ count_by (is_escaped mode) (drop at bytes)
+    → mask ≡ mask_l (map (needs_escape mode) (chunk (length bytes - 16) 16 bytes))
+    → counted ≡ count_ones (mask / 2 ^ (at - (length bytes - 16))) → counted ≡ count_by (needs_escape mode) (drop at bytes)
 rest mode bytes at mask counted long within is count =
     let last = length bytes - 16 in
     count ∙ ap (λ m. count_ones (m / 2 ^ (at - last))) is ∙ ones-last_block mode bytes last at (omega arith) within
