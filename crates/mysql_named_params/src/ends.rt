@@ -10,8 +10,9 @@ ghost use Rattle.mysql_named_params.specs.Bytes.{asterisk, slash, is_string_quot
 ghost use Rattle.mysql_named_params.specs.Tokens.{IsStringTail};
 ghost use Rattle.mysql_named_params.specs.ClosingQuote.{is_escaped, NoneCloses, IsFirstClosing, IsNextQuote};
 
-use crate::lanes::{LANES, first_of_two};
+use crate::lanes::first_of_two;
 use memchr::{memchr, memmem};
+use mysql_sql_text::blocks::LANES;
 use std::simd::prelude::*;
 
 // The number of bytes of a string, a name or a line that are looked at 16 at once before a jump,

@@ -3,10 +3,8 @@
 ghost use Rattle.std.specs.Prelude.{◌≡◌, ◌+◌, ◌≤◌, length};
 ghost use Rattle.mysql_named_params.specs.Lanes.{first_set, is_neither, IsFirstOther};
 
+use mysql_sql_text::blocks::LANES;
 use std::simd::prelude::*;
-
-/// The number of bytes that are compared at once. It is lent to the crate above.
-pub const LANES: usize = 16;
 
 /// The index of the lowest bit that is set, if one is. It is lent to the crate above.
 #[inline(always)]

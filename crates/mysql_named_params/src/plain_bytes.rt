@@ -4,7 +4,8 @@ ghost use Rattle.std.specs.Prelude.{◌≡◌, ◌+◌, ◌≤◌, length};
 ghost use Rattle.mysql_named_params.specs.Lanes.{IsFirstOther};
 ghost use Rattle.mysql_named_params.specs.PlainBytes.{is_always_plain, AreAlwaysPlain};
 
-use crate::lanes::{LANES, first_set};
+use crate::lanes::first_set;
+use mysql_sql_text::blocks::LANES;
 use std::simd::prelude::*;
 
 // The number of bytes that are passed by the table.

@@ -5,7 +5,8 @@ ghost use Rattle.mysql_named_params.specs.Lanes.{IsFirstOther};
 ghost use Rattle.mysql_named_params.specs.FirstToken.{IsNameFront, IsFirstToken, opens_dash_comment, opens_block_comment};
 
 use crate::ends::{len_up_to_byte, len_up_to_close, string_len};
-use crate::lanes::{LANES, first_set};
+use crate::lanes::first_set;
+use mysql_sql_text::blocks::LANES;
 use std::simd::prelude::*;
 
 /// The kinds of tokens that a search for names and marks tells apart.

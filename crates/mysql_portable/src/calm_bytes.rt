@@ -7,7 +7,8 @@ ghost use Rattle.mysql_named_params.specs.Bytes.{begins};
 ghost use Rattle.mysql_named_params.specs.Lanes.{EachPasses, IsFirstOther};
 ghost use Rattle.mysql_portable.specs.CalmBytes.{is_calm, is_of_exponent, StandBeforeNoExponent};
 
-use mysql_named_params::lanes::{LANES, first_set};
+use mysql_named_params::lanes::first_set;
+use mysql_sql_text::blocks::LANES;
 use std::simd::prelude::*;
 
 // The number of bytes that are passed by the table.

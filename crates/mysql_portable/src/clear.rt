@@ -11,7 +11,7 @@ ghost use Rattle.mysql_portable.specs.Steady.{IsSteady};
 
 use crate::client::{begins_word, is_client_word, letter_of, stand_before_comment};
 use crate::portable::{begins_special, is_tag_byte, may_open_line};
-use mysql_named_params::lanes::LANES;
+use mysql_sql_text::blocks::LANES;
 use std::simd::prelude::*;
 
 /// Whether no byte of the text is in doubt. A clear query is steady and portable.

@@ -3,7 +3,8 @@
 ghost use Rattle.std.specs.Prelude.{◌+◌, ◌≤◌, length};
 ghost use Rattle.mysql_named_params.specs.Lanes.{is_neither, EachPasses};
 
-use mysql_named_params::lanes::{LANES, first_of_two};
+use mysql_named_params::lanes::first_of_two;
+use mysql_sql_text::blocks::LANES;
 
 /// The number of bytes that a search by jumps looks at one by one before the next jump, since the
 /// byte that it looks for is often near.

@@ -4,7 +4,8 @@ ghost use Rattle.std.specs.Prelude.{◌≡◌, ◌+◌, ◌≤◌, length, IsTru
 ghost use Rattle.mysql_named_params.specs.Lanes.{EachPasses, IsFirstOther};
 ghost use Rattle.mysql_portable.specs.TameBytes.{is_tame};
 
-use mysql_named_params::lanes::{LANES, first_set};
+use mysql_named_params::lanes::first_set;
+use mysql_sql_text::blocks::LANES;
 use std::simd::prelude::*;
 
 /// Whether the bytes before this index are tame: 16 bytes at once as long as the text has so many,

@@ -1,7 +1,10 @@
-//! Bytes that are fewer than a block of 16, as one block.
+//! Blocks of 16 bytes, which are looked at together, and fewer bytes as one block.
 ghost use Rattle.std.specs.Prelude.{◌≡◌, ◌++◌, ◌-◌, ◌≤◌, length, take, drop};
 
 use std::simd::prelude::*;
+
+/// The number of bytes in a block. It is lent to the crates above.
+pub const LANES: usize = 16;
 
 // Half the bytes of a block.
 pub(crate) const HALF: usize = 8;

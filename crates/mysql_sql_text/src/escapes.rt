@@ -10,12 +10,9 @@ ghost use Rattle.std.specs.Simd.Lanes.{chunk, mask_l};
 ghost use Rattle.mysql_sql_text.specs.EscapedLanes.{first_byte, four_lanes, last_byte};
 ghost use Rattle.mysql_sql_text.specs.LiteralText.{escaped, escaped_byte, needs_escape};
 
-use crate::blocks::{HALF, both_ends};
+use crate::blocks::{HALF, LANES, both_ends};
 use crate::strings::append_byte;
 use std::simd::prelude::*;
-
-// The number of bytes in a block.
-const LANES: usize = 16;
 
 // A block with more escapes than these goes four bytes at once.
 const FEW_ESCAPES: u32 = 2;

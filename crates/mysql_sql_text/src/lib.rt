@@ -7,7 +7,7 @@
 //! this crate.
 #![tactic(auto)]
 
-mod blocks;
+pub mod blocks;
 pub mod dates;
 pub mod digits;
 mod escapes;

@@ -2,11 +2,8 @@
 ghost use Rattle.std.specs.Prelude.{◌≡◌, ◌+◌, ◌≤◌, length, take, drop, IsTrue};
 ghost use Rattle.std.specs.Str.{IsAscii, is_utf8};
 
-use crate::blocks::{HALF, both_ends};
+use crate::blocks::{HALF, LANES, both_ends};
 use std::simd::prelude::*;
-
-// The number of bytes in a block.
-const LANES: usize = 16;
 
 /// Whether bytes are UTF-8. It is lent to the crate above.
 pub fn is_utf8(bytes: &[u8]) -> bool
