@@ -12,7 +12,7 @@ use lib.Count.{count_trailing_zeros}
 use lib.Lanes.{chunk, mask_l}
 use Rattle.mysql_sql_text.specs.LiteralText.{escaped, escaped_byte, needs_escape}
 use Rattle.mysql_sql_text.proofs.MaskLemmas.{mask_l-drop}
-use Rattle.mysql_sql_text.proofs.BlockLemmas.{escaped_byte-plain, escaped-block, escaped-none, length-escaped, length-escaped-le, length-escaped-cut}
+use Rattle.mysql_sql_text.proofs.BlockLemmas.{escaped_byte-plain, escaped-none, length-escaped, length-escaped-le}
 
 -- the last block is the end of the bytes, also without what an earlier one has of it
 pub block_to_end : (bytes : List ℕ) (last : ℕ) → last + 16 ≡ length bytes → chunk last 16 bytes ≡ drop last bytes
@@ -95,18 +95,6 @@ pub room_for_block : (mode : Bool) (bytes : List ℕ) (from at most : ℕ) → f
     → at + length (escaped mode (drop from bytes)) ≤ most → at + 16 ≤ most
 room_for_block mode bytes from at most block fits =
     omega (arith, length-escaped-le mode (drop from bytes), length-drop from bytes)
-
--- the step over a whole block
-pub block_next : (mode : Bool) (bytes : List ℕ) (from at next : ℕ) → next ≡ at + length (escaped mode (chunk from 16 bytes))
-    → next + length (escaped mode (drop (from + 16) bytes)) ≡ at + length (escaped mode (drop from bytes))
-block_next mode bytes from at next is = omega (arith, length-escaped-cut mode bytes from)
-
-pub block_front : (mode : Bool) (bytes : List ℕ) (from : ℕ) (front done : List ℕ) → done ≡ front ++ escaped mode (chunk from 16 bytes)
-    → done ++ escaped mode (drop (from + 16) bytes) ≡ front ++ escaped mode (drop from bytes)
-block_front mode bytes from front done is =
-    let rest = escaped mode (drop (from + 16) bytes) in
-    ap (λ t. t ++ rest) is ∙ append_assoc front (escaped mode (chunk from 16 bytes)) rest
-    ∙ ap (λ t. front ++ t) (sym (escaped-block mode bytes from))
 
 -- if no byte of a block is escaped, its mask is empty
 mask_empty : (p : ℕ → Bool) (bytes : List ℕ) → prefix_len (λ b. not (p b)) bytes ≡ length bytes → mask_l (map p bytes) ≡ 0

@@ -1,15 +1,14 @@
-use Rattle.std.proofs.Common.{◌≡◌, ◌++◌, ◌+◌, ◌-◌, ◌≤◌, take, drop, length}
+use Rattle.std.proofs.Common.{◌≡◌, ◌++◌, ◌+◌, take, length}
 use Rattle.mysql_sql_text.specs.LiteralText.{escaped}
 use Rattle.mysql_sql_text.proofs.escapes.append_escaped.Given as goal
 
-abbrev pub invariant-loop-from : goal.invariant-loop-from
-invariant-loop-from l = record {
-  within : l.from ≤ length l.bytes;
-  next : l.at + length (escaped l.no_backslash_escape (drop l.from l.bytes))
+abbrev pub invariant-by_lanes : goal.invariant-by_lanes
+invariant-by_lanes l = record {
+  next : l.at + length (escaped l.no_backslash_escape l.rest)
       ≡ l.start + length (escaped l.no_backslash_escape l.bytes);
-  front : take l.at l.buffer ++ escaped l.no_backslash_escape (drop l.from l.bytes)
+  front : take l.at l.buffer ++ escaped l.no_backslash_escape l.rest
       ≡ take l.start l.fn.buffer ++ escaped l.no_backslash_escape l.bytes;
 }
 
-abbrev pub decreases-loop-from : goal.decreases-loop-from
-decreases-loop-from l = length l.bytes - l.from
+abbrev pub decreases-by_lanes : goal.decreases-by_lanes
+decreases-by_lanes l = length l.rest

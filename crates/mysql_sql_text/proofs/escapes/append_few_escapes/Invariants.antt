@@ -5,14 +5,13 @@ use Rattle.mysql_sql_text.proofs.escapes.append_few_escapes.Given as goal
 
 abbrev pub invariant-escapes : goal.invariant-escapes
 invariant-escapes l = record {
-  low : l.first ≤ l.from;
-  within : l.from ≤ l.first + 16;
-  mask : IsMask (needs_escape l.no_backslash_escape) l.bytes l.from (l.first + 16) l.escapes;
+  within : l.from ≤ 16;
+  mask : IsMask (needs_escape l.no_backslash_escape) l.bytes l.from 16 l.escapes;
   next : l.at + length (escaped l.no_backslash_escape (drop l.from l.bytes))
-      ≡ l.start + length (escaped l.no_backslash_escape (drop l.first l.bytes));
+      ≡ l.start + length (escaped l.no_backslash_escape l.bytes);
   front : take l.at l.buffer ++ escaped l.no_backslash_escape (drop l.from l.bytes)
-      ≡ take l.start l.fn.buffer ++ escaped l.no_backslash_escape (drop l.first l.bytes);
+      ≡ take l.start l.fn.buffer ++ escaped l.no_backslash_escape l.bytes;
 }
 
 abbrev pub decreases-escapes : goal.decreases-escapes
-decreases-escapes l = l.first + 16 - l.from
+decreases-escapes l = 16 - l.from
