@@ -1,5 +1,5 @@
 -- Which quotes of a string close it: those that aren't escaped. A text here begins after the
--- opening quote. For private functions of `ends.rt`; no public contract cites it.
+-- opening quote. For private functions of `ends/string.rt`; no public contract cites it.
 use Rattle.std.specs.Prelude.{◌≡◌, ◌≢◌, ◌+◌, ◌<◌, ◌≤◌, ℕ, zero, suc, Bool, true, false, not, ◌&&◌, List, length, slice_index, Option, Some, None}
 use Rattle.mysql_sql_text.specs.StringUnits.{is_escape}
 

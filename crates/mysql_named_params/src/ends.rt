@@ -1,164 +1,26 @@
 //! Where strings, quoted identifiers and comments end. Most ends are near: the first 16 bytes are
 //! looked at together, or those of a short text and of a block comment one by one. A far end is
 //! found by a jump. What follows the near bytes stands in functions of its own that are never
-//! inlined, so that the way to a near end stays short.
-ghost use Rattle.std.specs.Prelude.{◌≡◌, ◌+◌, ◌<◌, ◌≤◌, [], ◌∷◌, length, take, drop, map, IsTrue};
-ghost use Rattle.std.specs.Simd.Lanes.{mask_l};
-ghost use Rattle.memchr.specs.Find.{is_byte};
-ghost use Rattle.mysql_sql_text.specs.StringUnits.{is_escape};
-ghost use Rattle.mysql_named_params.specs.Bytes.{asterisk, slash, is_string_quote, IsUpTo};
-ghost use Rattle.mysql_named_params.specs.Tokens.{IsStringTail};
-ghost use Rattle.mysql_named_params.specs.ClosingQuote.{is_escaped, NoneCloses, IsFirstClosing, IsNextQuote};
+//! inlined, so that the way to a near end stays short. Strings have escapes, and stand in `string`.
+ghost use Rattle.std.specs.Prelude.{◌≡◌, ◌≤◌, [], ◌∷◌, length, take, drop};
+ghost use Rattle.mysql_named_params.specs.Bytes.{asterisk, slash, IsUpTo};
 
 use crate::lanes::first_of_two;
 use memchr::{memchr, memmem};
 use mysql_sql_text::blocks::LANES;
-use std::simd::prelude::*;
 
-// The number of bytes of a string, a name or a line that are looked at 16 at once before a jump,
-// which costs more.
-const NEAR: usize = 512;
+pub(crate) mod string;
 
-// The number of bytes of a block comment that are looked at one by one before a jump.
-const FEW: usize = 32;
+// The number of bytes of a string, a name or a line that are looked at 16 at once before `memchr`,
+// which costs a call. With 32 bytes one by one and then a call, ends were 10 in a hundred of the
+// instructions on scripts. More spare calls for ends that are farther, and make long texts slower.
+// No other number was measured.
+const BEFORE_MEMCHR: usize = 512;
 
-/// The length of a string after its opening quote. Many strings are empty, so that is asked first.
-pub(crate) fn string_len(text: &[u8], quote: u8, no_backslash_escape: bool) -> usize
-    requires { IsTrue (is_string_quote quote) }
-    ensures in_range { result ≤ length text.now }
-    ensures string { IsStringTail no_backslash_escape quote (take result text.now)
-        (drop result text.now) }
-{
-    if text.len() < LANES {
-        return short_string_len(text, quote, no_backslash_escape);
-    }
-    if text[0] == quote {
-        return 1;
-    }
-    match closing_quote(text, 0, quote, no_backslash_escape) {
-        Some(close) => close + 1,
-        None => long_string_len(text, quote, no_backslash_escape),
-    }
-}
-
-// `string_len`, byte by byte.
-fn short_string_len(text: &[u8], quote: u8, no_backslash_escape: bool) -> usize
-    ensures in_range { result ≤ length text.now }
-    ensures string { IsStringTail no_backslash_escape quote (take result text.now)
-        (drop result text.now) }
-{
-    let mut at = 0;
-    'bytes: while at < text.len() {
-        let byte = text[at];
-        if byte == quote {
-            return at + 1;
-        }
-        at += 1;
-        if is_escape(byte, no_backslash_escape) {
-            at = text.len().min(at + 1);
-        }
-    }
-    at
-}
-
-// `string_len`, if none of the first 16 bytes closes the string. Only quotes are looked for: the
-// bytes before one tell whether it closes the string, so that other escapes cost nothing.
-#[inline(never)]
-fn long_string_len(text: &[u8], quote: u8, no_backslash_escape: bool) -> usize
-    requires long { LANES ≤ length text.now }
-    requires open { NoneCloses no_backslash_escape quote text.now 0 LANES }
-    ensures in_range { result ≤ length text.now }
-    ensures string { IsStringTail no_backslash_escape quote (take result text.now)
-        (drop result text.now) }
-{
-    let mut at = LANES;
-    'jumps: while at < text.len() {
-        let near = text.len().min(at.saturating_add(NEAR));
-        let reach = near.saturating_sub(LANES - 1);
-        'by_lanes: while at < reach {
-            match closing_quote(text, at, quote, no_backslash_escape) {
-                Some(close) => return close + 1,
-                None => at += LANES,
-            }
-        }
-        let far = far_quote(text, at, quote);
-        if far == text.len() {
-            return far;
-        }
-        if !is_escaped(text, far, no_backslash_escape) {
-            return far + 1;
-        }
-        at = far + 1;
-    }
-    at
-}
-
-// The index of the first closing quote among the 16 bytes from this one on. Each bit of a mask is
-// looked at once, so that quotes that stand close together cost no further comparison.
-#[inline(always)]
-fn closing_quote(text: &[u8], from: usize, quote: u8, no_backslash_escape: bool) -> Option<usize>
-    requires { from + LANES ≤ length text.now }
-    ensures { IsFirstClosing no_backslash_escape quote text.now from LANES result }
-{
-    let mut at = from;
-    let mut quotes = quotes_of_block(text, from, quote);
-    'quotes: while quotes != 0 {
-        let run = quotes.trailing_zeros() as usize;
-        at += run;
-        if !is_escaped(text, at, no_backslash_escape) {
-            return Some(at);
-        }
-        at += 1;
-        quotes >>= run + 1;
-    }
-    None
-}
-
-// One bit for each of the 16 bytes from this one on, the first byte's lowest: whether it is the
-// quote.
-#[inline(always)]
-fn quotes_of_block(text: &[u8], at: usize, quote: u8) -> u64
-    requires { at + LANES ≤ length text.now }
-    ensures { result ≡ mask_l (map (is_byte quote) (take LANES (drop at text.now))) }
-{
-    u8x16::from_slice(&text[at..])
-        .simd_eq(u8x16::splat(quote))
-        .to_bitmask()
-}
-
-// Whether the byte at this index of a string is escaped: the escapes directly before it pair up,
-// except one.
-fn is_escaped(text: &[u8], at: usize, no_backslash_escape: bool) -> bool
-    requires { at ≤ length text.now }
-    ensures { result ≡ is_escaped no_backslash_escape text.now at }
-{
-    let mut escaped = false;
-    let mut first = at;
-    'escapes: while first > 0 && is_escape(text[first - 1], no_backslash_escape) {
-        escaped = !escaped;
-        first -= 1;
-    }
-    escaped
-}
-
-// Whether the byte escapes the one after it in a string.
-fn is_escape(byte: u8, no_backslash_escape: bool) -> bool
-    ensures { result ≡ is_escape no_backslash_escape byte }
-{
-    !no_backslash_escape && byte == b'\\'
-}
-
-// The index of the next quote from this one on, or the end, by a jump.
-#[inline(never)]
-fn far_quote(text: &[u8], from: usize, quote: u8) -> usize
-    requires { from ≤ length text.now }
-    ensures { IsNextQuote quote text.now from result }
-{
-    match memchr(quote, &text[from..]) {
-        Some(far) => from + far,
-        None => text.len(),
-    }
-}
+// The number of bytes of a block comment that are looked at one by one before `memmem`. With 512
+// more after these, 16 at once, comments of some hundred bytes took up to twice the time, and rows
+// of asterisks up to five times.
+const BEFORE_MEMMEM: usize = 32;
 
 /// The length up to and with the first such byte, or to the end.
 pub(crate) fn len_up_to_byte(text: &[u8], byte: u8) -> usize
@@ -193,7 +55,7 @@ fn long_len_up_to_byte(text: &[u8], byte: u8) -> usize
     ensures in_range { result ≤ length text.now }
     ensures up_to { IsUpTo (byte ∷ []) (take result text.now) (drop result text.now) }
 {
-    let reach = text.len().min(NEAR).saturating_sub(LANES - 1);
+    let reach = text.len().min(BEFORE_MEMCHR).saturating_sub(LANES - 1);
     let mut at = 0;
     'by_lanes: while at < reach {
         match first_of_two(text, at, byte, byte) {
@@ -222,13 +84,13 @@ pub(crate) fn len_up_to_close(text: &[u8]) -> usize
     ensures in_range { result ≤ length text.now }
     ensures up_to { IsUpTo (asterisk ∷ slash ∷ []) (take result text.now) (drop result text.now) }
 {
-    let few = text.len().min(FEW);
-    for at in 0..few {
+    let near = text.len().min(BEFORE_MEMMEM);
+    for at in 0..near {
         if text[at] == b'*' && at + 1 < text.len() && text[at + 1] == b'/' {
             return at + 2;
         }
     }
-    few + far_len_up_to_close(&text[few..])
+    near + far_len_up_to_close(&text[near..])
 }
 
 // `len_up_to_close`, by a jump.

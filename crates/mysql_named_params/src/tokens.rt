@@ -4,7 +4,8 @@ ghost use Rattle.mysql_named_params.specs.Bytes.{is_white_space, is_start_byte, 
 ghost use Rattle.mysql_named_params.specs.Lanes.{IsFirstOther};
 ghost use Rattle.mysql_named_params.specs.FirstToken.{IsNameFront, IsFirstToken, opens_dash_comment, opens_block_comment};
 
-use crate::ends::{len_up_to_byte, len_up_to_close, string_len};
+use crate::ends::string::string_len;
+use crate::ends::{len_up_to_byte, len_up_to_close};
 use crate::lanes::first_set;
 use mysql_sql_text::blocks::LANES;
 use std::simd::prelude::*;

@@ -10,4 +10,4 @@ returns-then-text-at-eq47-clause-up_to c =
 pub returns-clause-up_to : goal.returns-clause-up_to
 returns-clause-up_to c =
     let far = c.far_len_up_to_close.ensures in
-    near_then_far _ _ _ _ _ _ (omega arith) (omega arith) (take_rest c.args.text.now c.min-few.result) far.in_range c.loop-at.invariant far.up_to
+    near_then_far _ _ _ _ _ _ (omega arith) (omega arith) (take_rest c.args.text.now c.min-near.result) far.in_range c.loop-at.invariant far.up_to

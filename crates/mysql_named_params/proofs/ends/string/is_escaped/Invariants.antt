@@ -1,7 +1,7 @@
 use Rattle.std.proofs.Common.{◌≡◌, ◌≤◌}
 use Rattle.mysql_named_params.specs.ClosingQuote.{is_escaped}
 use Rattle.mysql_named_params.proofs.ClosingQuoteLemmas.{turned}
-use Rattle.mysql_named_params.proofs.ends.is_escaped.Given as goal
+use Rattle.mysql_named_params.proofs.ends.string.is_escaped.Given as goal
 
 abbrev pub invariant-escapes : goal.invariant-escapes
 invariant-escapes l =

@@ -1,6 +1,6 @@
 use Rattle.std.proofs.Common.{◌-◌, length}
 use Rattle.mysql_named_params.proofs.ShortStringLemmas.{IsWithin}
-use Rattle.mysql_named_params.proofs.ends.short_string_len.Given as goal
+use Rattle.mysql_named_params.proofs.ends.string.short_string_len.Given as goal
 
 abbrev pub invariant-bytes : goal.invariant-bytes
 invariant-bytes l = IsWithin l.no_backslash_escape l.quote l.text l.at

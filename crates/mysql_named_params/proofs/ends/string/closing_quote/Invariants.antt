@@ -2,7 +2,7 @@ use Rattle.std.proofs.Common.{◌+◌, ◌-◌, ◌≤◌}
 use Rattle.mysql_named_params.specs.ClosingQuote.{NoneCloses}
 use Rattle.memchr.specs.Find.{is_byte}
 use Rattle.mysql_sql_text.proofs.MaskLemmas.{IsMask}
-use Rattle.mysql_named_params.proofs.ends.closing_quote.Given as goal
+use Rattle.mysql_named_params.proofs.ends.string.closing_quote.Given as goal
 
 abbrev pub invariant-quotes : goal.invariant-quotes
 invariant-quotes l =

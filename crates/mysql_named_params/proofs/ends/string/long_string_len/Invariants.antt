@@ -1,6 +1,6 @@
 use Rattle.std.proofs.Common.{◌-◌, ◌≤◌, length}
 use Rattle.mysql_named_params.proofs.ClosingQuoteLemmas.{GoesOn}
-use Rattle.mysql_named_params.proofs.ends.long_string_len.Given as goal
+use Rattle.mysql_named_params.proofs.ends.string.long_string_len.Given as goal
 
 abbrev pub invariant-jumps : goal.invariant-jumps
 invariant-jumps l = GoesOn l.no_backslash_escape l.quote l.text l.at

@@ -2,7 +2,7 @@ use Rattle.std.proofs.Common.{◌==◌, ◌≤◌, arith}
 use Rattle.std.proofs.lemmas.Simd.{bitmask_splat, length-chunk}
 use lib.Lanes.{chunk}
 use mir.Syntax.{w8}
-use Rattle.mysql_named_params.proofs.ends.quotes_of_block.Goals as goal
+use Rattle.mysql_named_params.proofs.ends.string.quotes_of_block.Goals as goal
 
 pub returns : goal.returns
 returns c =

@@ -3,7 +3,7 @@ use lib.Count.{count_trailing_zeros}
 use Rattle.memchr.specs.Find.{is_byte}
 use Rattle.mysql_sql_text.proofs.MaskLemmas.{later_mask}
 use Rattle.mysql_named_params.proofs.ClosingQuoteLemmas.{next_quote, none_left, none_past}
-use Rattle.mysql_named_params.proofs.ends.closing_quote.Goals as goal
+use Rattle.mysql_named_params.proofs.ends.string.closing_quote.Goals as goal
 
 pub is_escaped-requires : goal.is_escaped-requires
 is_escaped-requires c =

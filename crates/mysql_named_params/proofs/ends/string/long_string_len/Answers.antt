@@ -1,6 +1,6 @@
 use Rattle.std.proofs.Common.{◌<◌, arith, length, sym, ◌∙◌}
 use Rattle.mysql_named_params.proofs.ClosingQuoteLemmas.{goes_on_first, goes_on_next, goes_on_to, goes_on_to_quote, ends_open, ends_closed}
-use Rattle.mysql_named_params.proofs.ends.long_string_len.Goals as goal
+use Rattle.mysql_named_params.proofs.ends.string.long_string_len.Goals as goal
 
 pub jumps-init : goal.jumps-init
 jumps-init c = goes_on_to _ _ _ 0 16 (omega arith) c.requires.long c.requires.open (goes_on_first _ _ _)

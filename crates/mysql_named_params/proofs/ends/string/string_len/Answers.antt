@@ -1,6 +1,6 @@
 use Rattle.std.proofs.Common.{refl, arith}
 use Rattle.mysql_named_params.proofs.ClosingQuoteLemmas.{goes_on_first, goes_on_to, ends_closed}
-use Rattle.mysql_named_params.proofs.ends.string_len.Goals as goal
+use Rattle.mysql_named_params.proofs.ends.string.string_len.Goals as goal
 
 pub returns-then-text-quote-clause-string : goal.returns-then-text-quote-clause-string
 returns-then-text-quote-clause-string c =

@@ -1,6 +1,6 @@
 use Rattle.std.proofs.Common.{sym, ◌∙◌, arith}
 use Rattle.mysql_named_params.proofs.ShortStringLemmas.{past_escape, past_other, within_closed, within_open}
-use Rattle.mysql_named_params.proofs.ends.short_string_len.Goals as goal
+use Rattle.mysql_named_params.proofs.ends.string.short_string_len.Goals as goal
 
 pub returns-then-byte-quote-clause-string : goal.returns-then-byte-quote-clause-string
 returns-then-byte-quote-clause-string c = within_closed _ _ _ _ c.bytes.invariant c.bytes-test.true c.if-byte-quote.true
