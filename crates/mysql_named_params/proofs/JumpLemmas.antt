@@ -70,6 +70,14 @@ run_over w ws text at (suc n) le none inv =
     let same : at + 1 + n ≡ at + suc n = omega arith in
     subst (IsNotReached (w ∷ ws) text) same (run_over w ws text (at + 1) n (omega arith) (λ k low high. none k (omega arith) (omega arith)) step)
 
+-- the same from the front on
+pub run_from_front : (w : ℕ) (ws text : List ℕ) (n : ℕ) → n ≤ length text → EachPasses (is_neither w w) text 0 n →
+    IsNotReached (w ∷ ws) text n
+run_from_front w ws text n le none =
+    let same : 0 + n ≡ n = omega arith in
+    let start : IsNotReached (w ∷ ws) text 0 = omega arith in
+    subst (IsNotReached (w ∷ ws) text) same (run_over w ws text 0 n (omega arith) (λ k low high. none k low (omega arith)) start)
+
 -- a star after which another byte stands
 pub no_slash_after : (text : List ℕ) (at : ℕ) → at + 1 < length text → get_or text (at + 1) 0 ≢ slash →
     IsNotReached (asterisk ∷ slash ∷ []) text at → IsNotReached (asterisk ∷ slash ∷ []) text (at + 1)

@@ -2,7 +2,7 @@
 use Rattle.std.proofs.Common.{◌≡◌, ◌≢◌, ℕ, zero, suc, ◌+◌, ◌-◌, ◌<◌, ◌≤◌, get_or, eq-eqb, Bool, true, false, ◌==◌, ◌&&◌, nat_eq, List, [], ◌∷◌, ◌++◌, length, take, drop, refl, sym, ap, ◌∙◌, subst, inl, inr, arith, append_assoc, length-append, ne_eqb, true≢false, take_at, take-append-drop}
 use Rattle.std.specs.List.{starts_with}
 use Rattle.std.proofs.lemmas.List.{drop_more, drop_all, take_rest}
-use Rattle.std.proofs.lemmas.Bool.{cases_Bool, and_from, eqb-true, eqb-false}
+use Rattle.std.proofs.lemmas.Bool.{cases_Bool, cases_lt, and_from, eqb-true, eqb-false}
 use Rattle.mysql_named_params.specs.Bytes.{is_name_byte, Lacks, HoldsOnlyAtEnd, IsUpTo, up_to_word, up_to_end}
 use Rattle.mysql_sql_text.specs.StringUnits.{is_escape}
 use Rattle.mysql_named_params.specs.Tokens.{IsStringTail, closed_string, open_string, open_in_escape}
@@ -106,7 +106,7 @@ pub string_at : (mode : Bool) (q : ℕ) (text : List ℕ) (n : ℕ) → n ≡ st
     IsStringTail mode q (take n text) (drop n text)
 string_at mode q text n e = subst (λ k. IsStringTail mode q (take k text) (drop k text)) (sym e) (string_gives mode q text)
 
-pub name_at : (text : List ℕ) (n : ℕ) → n ≡ name_len text → IsNameFront (take n text) (drop n text)
+name_at : (text : List ℕ) (n : ℕ) → n ≡ name_len text → IsNameFront (take n text) (drop n text)
 name_at text n e = subst (λ k. IsNameFront (take k text) (drop k text)) (sym e) (name_gives text)
 
 -- ---- one step of a count
@@ -115,23 +115,23 @@ name_at text n e = subst (λ k. IsNameFront (take k text) (drop k text)) (sym e)
 counted : (i n k : ℕ) → i + n ≡ k → n ≡ 0 → i ≡ k
 counted i n k e z = omega arith
 
-pub name_stops : (text : List ℕ) (i : ℕ) → i < length text →
+name_stops : (text : List ℕ) (i : ℕ) → i < length text →
     is_name_byte (get_or text i 0) ≡ false → i + name_len (drop i text) ≡ name_len text →
     i ≡ name_len text
 name_stops text i lt other inv = counted i _ _ inv (rw (drop_more text i 0 lt, other) refl)
 
-pub name_ends : (text : List ℕ) (i : ℕ) → length text ≤ i →
+name_ends : (text : List ℕ) (i : ℕ) → length text ≤ i →
     i + name_len (drop i text) ≡ name_len text → i ≡ name_len text
 name_ends text i le inv = counted i _ _ inv (rw (drop_all i text le) refl)
 
-pub name_goes_on : (text : List ℕ) (i : ℕ) → i < length text →
+name_goes_on : (text : List ℕ) (i : ℕ) → i < length text →
     is_name_byte (get_or text i 0) ≡ true → i + name_len (drop i text) ≡ name_len text →
     i + 1 + name_len (drop (i + 1) text) ≡ name_len text
 name_goes_on text i lt name inv =
     let e : name_len (drop i text) ≡ suc (name_len (drop (i + 1) text)) = rw (drop_more text i 0 lt, name) refl in
     omega arith
 
-pub name_run : (text : List ℕ) (i n : ℕ) → i + n ≤ length text → EachPasses is_name_byte text i (i + n) →
+name_run : (text : List ℕ) (i n : ℕ) → i + n ≤ length text → EachPasses is_name_byte text i (i + n) →
     i + name_len (drop i text) ≡ name_len text → i + n + name_len (drop (i + n) text) ≡ name_len text
 name_run text i zero le each inv =
     let same : i ≡ i + 0 = omega arith in
@@ -140,6 +140,19 @@ name_run text i (suc n) le each inv =
     let step = name_goes_on text i (omega arith) (each i (omega arith) (omega arith)) inv in
     let same : i + 1 + n ≡ i + suc n = omega arith in
     subst (λ k. k + name_len (drop k text) ≡ name_len text) same (name_run text (i + 1) n (omega arith) (λ k low high. each k (omega arith) (omega arith)) step)
+
+-- where the name bytes end that stand before this index, and it isn't one of a name or the end
+pub name_to_end : (text : List ℕ) (i : ℕ) → i ≤ length text → EachPasses is_name_byte text 0 i →
+    (i < length text → is_name_byte (get_or text i 0) ≡ false) → IsNameFront (take i text) (drop i text)
+name_to_end text i le each stops =
+    let same : 0 + i ≡ i = omega arith in
+    let none : 0 + name_len (drop 0 text) ≡ name_len text = omega arith in
+    let here : i + name_len (drop i text) ≡ name_len text =
+    subst (λ k. k + name_len (drop k text) ≡ name_len text) same (name_run text 0 i (omega arith) (λ k low high. each k low (omega arith)) none) in
+    elim (cases_lt i (length text)) [
+      | inl less ↦ name_at text i (name_stops text i less (stops less) here)
+      | inr past ↦ name_at text i (name_ends text i past here)
+    ]
 
 pub string_stops : (mode : Bool) (q : ℕ) (text : List ℕ) (i n : ℕ) → i < length text →
     get_or text i 0 ≡ q → i + string_len mode q false (drop i text) ≡ n → i + 1 ≡ n

@@ -1,4 +1,4 @@
--- The bytes with which only plain tokens begin. For private functions of `plain_bytes.rt`; no
+-- The bytes with which only plain tokens begin. For private functions of `tokens.rt`; no
 -- public contract cites them.
 use Rattle.std.specs.Prelude.{◌≡◌, ◌<◌, ◌≤◌, ℕ, Bool, true, not, ◌||◌, ◌==◌, List, slice_index}
 use Rattle.mysql_named_params.specs.Bytes.{backquote, hash, dash, slash, colon, question_mark, is_string_quote}

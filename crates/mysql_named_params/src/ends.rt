@@ -5,7 +5,7 @@
 ghost use Rattle.std.specs.Prelude.{◌≡◌, ◌≤◌, [], ◌∷◌, length, take, drop};
 ghost use Rattle.mysql_named_params.specs.Bytes.{asterisk, slash, IsUpTo};
 
-use crate::lanes::first_of_two;
+use crate::lanes::{Neither, first_of_two, run_end};
 use memchr::{memchr, memmem};
 use mysql_sql_text::blocks::LANES;
 
@@ -55,13 +55,14 @@ fn long_len_up_to_byte(text: &[u8], byte: u8) -> usize
     ensures in_range { result ≤ length text.now }
     ensures up_to { IsUpTo (byte ∷ []) (take result text.now) (drop result text.now) }
 {
-    let reach = text.len().min(BEFORE_MEMCHR).saturating_sub(LANES - 1);
-    let mut at = 0;
-    'by_lanes: while at < reach {
-        match first_of_two(text, at, byte, byte) {
-            Some(run) => return at + run + 1,
-            None => at += LANES,
-        }
+    let near = text.len().min(BEFORE_MEMCHR);
+    let others = Neither {
+        first: byte,
+        second: byte,
+    };
+    let at = run_end(others, text, 0, near);
+    if at < near {
+        return at + 1;
     }
     at + far_len_up_to_byte(&text[at..], byte)
 }

@@ -1,7 +1,7 @@
 //! Searches of 16 bytes at once, lent to the crate above. Each takes a few instructions, so that a
 //! near end costs no more than a loop over a few bytes, and a far one much less.
-ghost use Rattle.std.specs.Prelude.{◌≡◌, ◌+◌, ◌≤◌, length};
-ghost use Rattle.mysql_named_params.specs.Lanes.{first_set, is_neither, IsFirstOther};
+ghost use Rattle.std.specs.Prelude.{◌≡◌, ◌+◌, ◌<◌, ◌≤◌, ℕ, Bool, false, length, slice_index};
+ghost use Rattle.mysql_named_params.specs.Lanes.{first_set, is_neither, EachPasses, IsFirstOther};
 
 use mysql_sql_text::blocks::LANES;
 use std::simd::prelude::*;
@@ -28,4 +28,68 @@ pub fn first_of_two(text: &[u8], at: usize, first: u8, second: u8) -> Option<usi
     let bytes = u8x16::from_slice(&text[at..]);
     let found = bytes.simd_eq(u8x16::splat(first)) | bytes.simd_eq(u8x16::splat(second));
     first_set(found.to_bitmask())
+}
+
+/// A set of bytes that a search passes. It is lent to the crate above.
+pub trait ByteSet: Copy {
+    // whether the set contains a byte
+    ghost contains: { Self → ℕ → Bool };
+
+    /// Whether the set contains the byte.
+    fn contains(self, byte: u8) -> bool
+        ensures { result ≡ contains self byte };
+
+    /// How many of the 16 bytes from this one on stand before the first that the set doesn't
+    /// contain, if there is one.
+    fn first_other(self, text: &[u8], at: usize) -> Option<usize>
+        requires { at + LANES ≤ length text.now }
+        ensures { IsFirstOther (contains self) text.now at LANES result };
+}
+
+/// All bytes except two. It is lent to the crate above.
+#[derive(Clone, Copy)]
+pub struct Neither {
+    /// One of the two.
+    pub first: u8,
+    /// The other, or the same again.
+    pub second: u8,
+}
+
+impl ByteSet for Neither {
+    ghost contains = { λ set. is_neither set.first set.second };
+
+    #[inline(always)]
+    fn contains(self, byte: u8) -> bool {
+        byte != self.first && byte != self.second
+    }
+
+    #[inline(always)]
+    fn first_other(self, text: &[u8], at: usize) -> Option<usize> {
+        first_of_two(text, at, self.first, self.second)
+    }
+}
+
+/// Where a run of bytes of the set ends that begins at an index: at the first byte that the set
+/// doesn't contain, or where the search ends. The bytes go 16 at once as long as the text has so
+/// many, also after the end of the search, and then one by one. So a run may be found that ends
+/// after it. Inline, so that each set has a loop of its own. It is lent to the crate above.
+#[inline(always)]
+pub fn run_end<S: ByteSet>(set: S, text: &[u8], from: usize, end: usize) -> usize
+    requires { (from ≤ end) × (end ≤ length text.now) }
+    ensures in_range { (from ≤ result) × (result ≤ length text.now) }
+    ensures run { EachPasses (S.contains set) text.now from result }
+    ensures stops { result < end → S.contains set (slice_index text.now result) ≡ false }
+{
+    let reach = end.min(text.len().saturating_sub(LANES - 1));
+    let mut at = from;
+    'by_lanes: while at < reach {
+        match set.first_other(text, at) {
+            Some(run) => return at + run,
+            None => at += LANES,
+        }
+    }
+    while at < end && set.contains(text[at]) {
+        at += 1;
+    }
+    at
 }

@@ -10,5 +10,4 @@ pub mod lanes;
 pub mod laws;
 pub mod named_params;
 pub mod places;
-mod plain_bytes;
 pub mod tokens;

@@ -5,8 +5,7 @@ ghost use Rattle.mysql_named_params.specs.Tokens.{OnTokens};
 ghost use Rattle.mysql_named_params.specs.Places.{names, marks, place_count};
 ghost use Rattle.mysql_named_params.specs.FirstPlace.{IsFirstPlace};
 
-use crate::plain_bytes::plain_end;
-use crate::tokens::{TokenKind, first_token};
+use crate::tokens::{TokenKind, first_token, plain_end};
 
 /// What stands at a place of a query.
 #[derive(Clone, Copy, Debug, PartialEq, Eq)]

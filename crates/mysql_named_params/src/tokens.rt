@@ -1,12 +1,14 @@
-//! The token at the front of a text. `places` finds names and marks by it; no user needs it.
+//! The token at the front of a text, and runs of bytes with which only plain tokens begin. `places`
+//! finds names and marks by them; no user needs them.
 ghost use Rattle.std.specs.Prelude.{◌≡◌, ◌+◌, ◌<◌, ◌≤◌, length, take, drop};
 ghost use Rattle.mysql_named_params.specs.Bytes.{is_white_space, is_start_byte, is_name_byte, begins};
 ghost use Rattle.mysql_named_params.specs.Lanes.{IsFirstOther};
 ghost use Rattle.mysql_named_params.specs.FirstToken.{IsNameFront, IsFirstToken, opens_dash_comment, opens_block_comment};
+ghost use Rattle.mysql_named_params.specs.PlainBytes.{is_always_plain, AreAlwaysPlain};
 
 use crate::ends::string::string_len;
 use crate::ends::{len_up_to_byte, len_up_to_close};
-use crate::lanes::first_set;
+use crate::lanes::{ByteSet, first_set, run_end};
 use mysql_sql_text::blocks::LANES;
 use std::simd::prelude::*;
 
@@ -42,37 +44,34 @@ fn is_name_byte(byte: u8) -> bool
     is_start_byte(byte) || byte.is_ascii_digit()
 }
 
-// The number of name bytes at the front of the text: 16 at once, and the last ones one by one.
+// The number of name bytes at the front of the text.
 fn name_len(text: &[u8]) -> usize
     ensures in_range { result ≤ length text.now }
     ensures front { IsNameFront (take result text.now) (drop result text.now) }
 {
-    let reach = text.len().saturating_sub(LANES - 1);
-    let mut at = 0;
-    'by_lanes: while at < reach {
-        match first_not_of_name(text, at) {
-            Some(run) => return at + run,
-            None => at += LANES,
-        }
-    }
-    while at < text.len() && is_name_byte(text[at]) {
-        at += 1;
-    }
-    at
+    run_end(NameBytes, text, 0, text.len())
 }
 
-// How many of the 16 bytes from this one on stand before the first that is no name byte, if one is
-// none.
-#[inline(always)]
-fn first_not_of_name(text: &[u8], at: usize) -> Option<usize>
-    requires { at + LANES ≤ length text.now }
-    ensures { IsFirstOther is_name_byte text.now at LANES result }
-{
-    let bytes = u8x16::from_slice(&text[at..]);
-    let not_lower = bytes.simd_lt(u8x16::splat(b'a')) | bytes.simd_gt(u8x16::splat(b'z'));
-    let not_digit = bytes.simd_lt(u8x16::splat(b'0')) | bytes.simd_gt(u8x16::splat(b'9'));
-    let others = (not_lower & not_digit) & bytes.simd_ne(u8x16::splat(b'_'));
-    first_set(others.to_bitmask())
+// The bytes that continue a name.
+#[derive(Clone, Copy)]
+struct NameBytes;
+
+impl ByteSet for NameBytes {
+    ghost contains = { λ _. is_name_byte };
+
+    #[inline(always)]
+    fn contains(self, byte: u8) -> bool {
+        is_name_byte(byte)
+    }
+
+    #[inline(always)]
+    fn first_other(self, text: &[u8], at: usize) -> Option<usize> {
+        let bytes = u8x16::from_slice(&text[at..]);
+        let not_lower = bytes.simd_lt(u8x16::splat(b'a')) | bytes.simd_gt(u8x16::splat(b'z'));
+        let not_digit = bytes.simd_lt(u8x16::splat(b'0')) | bytes.simd_gt(u8x16::splat(b'9'));
+        let others = (not_lower & not_digit) & bytes.simd_ne(u8x16::splat(b'_'));
+        first_set(others.to_bitmask())
+    }
 }
 
 // Whether a `-` and then this text open a comment.
@@ -132,3 +131,79 @@ pub fn first_token(text: &[u8], no_backslash_escape: bool) -> (TokenKind, usize)
         _ => (TokenKind::Other, 1),
     }
 }
+
+// The number of bytes of a plain run that are passed by the table before 16 go at once. With none,
+// short tokens that repeat, as `(?,?,?)` or `'Y','N'`, took 1.2 to 1.8 times the time. More make
+// longer runs slower. No other number was measured.
+const PLAIN_BY_TABLE: usize = 8;
+
+/// An index up to which no byte, from the given one on, begins a token other than a plain one. It
+/// is in fact the furthest such index. The contract needn't say so, because `first_place` examines
+/// the byte there itself.
+pub(crate) fn plain_end(text: &[u8], from: usize) -> usize
+    requires { from ≤ length text.now }
+    ensures in_range { (from ≤ result) × (result ≤ length text.now) }
+    ensures plain { AreAlwaysPlain text.now from result }
+{
+    let near = text.len().min(from.saturating_add(PLAIN_BY_TABLE));
+    for at in from..near {
+        if !is_always_plain(text[at]) {
+            return at;
+        }
+    }
+    far_plain_end(text, near)
+}
+
+// `plain_end` without the table. It is never inlined, so that the loop over the first bytes stays
+// short.
+#[inline(never)]
+fn far_plain_end(text: &[u8], from: usize) -> usize
+    requires { from ≤ length text.now }
+    ensures in_range { (from ≤ result) × (result ≤ length text.now) }
+    ensures plain { AreAlwaysPlain text.now from result }
+{
+    run_end(PlainBytes, text, from, text.len())
+}
+
+// The bytes with which no token but a plain one begins.
+#[derive(Clone, Copy)]
+struct PlainBytes;
+
+impl ByteSet for PlainBytes {
+    ghost contains = { λ _. is_always_plain };
+
+    #[inline(always)]
+    fn contains(self, byte: u8) -> bool {
+        is_always_plain(byte)
+    }
+
+    #[inline(always)]
+    fn first_other(self, text: &[u8], at: usize) -> Option<usize> {
+        let bytes = u8x16::from_slice(&text[at..]);
+        let quotes = bytes.simd_eq(u8x16::splat(b'\'')) | bytes.simd_eq(u8x16::splat(b'"'));
+        let identifier_or_hash = bytes.simd_eq(u8x16::splat(b'`'))
+            | bytes.simd_eq(u8x16::splat(b'#'));
+        let dash_or_slash = bytes.simd_eq(u8x16::splat(b'-')) | bytes.simd_eq(u8x16::splat(b'/'));
+        let places = bytes.simd_eq(u8x16::splat(b':')) | bytes.simd_eq(u8x16::splat(b'?'));
+        let others = (quotes | identifier_or_hash) | (dash_or_slash | places);
+        first_set(others.to_bitmask())
+    }
+}
+
+// Whether no token but a plain one begins with the byte.
+fn is_always_plain(byte: u8) -> bool
+    ensures { result ≡ is_always_plain byte }
+{
+    ALWAYS_PLAIN[byte as usize] == b'1'
+}
+
+// `1` for each byte with which no token but a plain one begins, 32 bytes a line.
+static ALWAYS_PLAIN: [u8; 256] = *b"\
+    11111111111111111111111111111111\
+    11001110111110101111111111011110\
+    11111111111111111111111111111111\
+    01111111111111111111111111111111\
+    11111111111111111111111111111111\
+    11111111111111111111111111111111\
+    11111111111111111111111111111111\
+    11111111111111111111111111111111";

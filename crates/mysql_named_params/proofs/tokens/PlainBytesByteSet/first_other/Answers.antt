@@ -3,7 +3,7 @@ use Rattle.std.proofs.lemmas.Simd.{zip2_splat, length-chunk}
 use lib.Lanes.{chunk}
 use Rattle.mysql_named_params.specs.PlainBytes.{is_always_plain}
 use Rattle.mysql_named_params.proofs.LaneLemmas.{joined, first_other}
-use Rattle.mysql_named_params.proofs.plain_bytes.first_not_plain.Goals as goal
+use Rattle.mysql_named_params.proofs.tokens.PlainBytesByteSet.first_other.Goals as goal
 
 pub returns : goal.returns
 returns c =

@@ -3,7 +3,7 @@ use Rattle.std.proofs.lemmas.Simd.{zip2_splat, zip2_splat_left, length-chunk}
 use lib.Lanes.{chunk}
 use Rattle.mysql_named_params.specs.Bytes.{is_name_byte}
 use Rattle.mysql_named_params.proofs.LaneLemmas.{joined, first_other}
-use Rattle.mysql_named_params.proofs.tokens.first_not_of_name.Goals as goal
+use Rattle.mysql_named_params.proofs.tokens.NameBytesByteSet.first_other.Goals as goal
 
 pub returns : goal.returns
 returns c =
