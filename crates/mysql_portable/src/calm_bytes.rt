@@ -2,17 +2,18 @@
 //! client, except an exponent before a place and a word at the front of a client's line or
 //! statement. After none of them a line or a statement begins. The first bytes are passed by a
 //! table, since most runs are short, and longer ones 16 bytes at once.
-ghost use Rattle.std.specs.Prelude.{◌≡◌, ◌+◌, ◌≤◌, length};
+ghost use Rattle.std.specs.Prelude.{◌≡◌, ◌≤◌, length};
 ghost use Rattle.mysql_named_params.specs.Bytes.{begins};
-ghost use Rattle.mysql_named_params.specs.Lanes.{EachPasses, IsFirstOther};
+ghost use Rattle.mysql_named_params.specs.Lanes.{EachPasses};
 ghost use Rattle.mysql_portable.specs.CalmBytes.{is_calm, is_of_exponent, StandBeforeNoExponent};
 
-use mysql_named_params::lanes::first_set;
-use mysql_sql_text::blocks::LANES;
+use mysql_named_params::lanes::{ByteSet, first_set, run_end};
 use std::simd::prelude::*;
 
-// The number of bytes that are passed by the table.
-const NEAR: usize = 4;
+// The number of bytes that are passed by the table before 16 go at once. Fewer than for plain runs,
+// since `calm_len` sees by itself that a run is empty. More make longer runs slower, fewer make
+// short ones slower. No other number was measured.
+const PASSED_BY_TABLE: usize = 4;
 
 /// A number of bytes at the front of the text that are calm, and none of which stands before an
 /// exponent and a place. Inline, so that where there is none one look-up tells it, without a call.
@@ -55,55 +56,43 @@ fn calm_end(text: &[u8]) -> usize
     ensures in_range { result ≤ length text.now }
     ensures calm { EachPasses is_calm text.now 0 result }
 {
-    let near = text.len().min(NEAR);
+    let near = text.len().min(PASSED_BY_TABLE);
     for at in 0..near {
         if !is_calm(text[at]) {
             return at;
         }
     }
-    far_calm_end(text, near)
+    run_end(NoConstructBytes, text, near, text.len())
 }
 
-// `calm_end`, if the bytes before this index are calm.
-fn far_calm_end(text: &[u8], from: usize) -> usize
-    requires in_range { from ≤ length text.now }
-    requires calm { EachPasses is_calm text.now 0 from }
-    ensures in_range { result ≤ length text.now }
-    ensures calm { EachPasses is_calm text.now 0 result }
-{
-    let reach = text.len().saturating_sub(LANES - 1);
-    let mut at = from;
-    'by_lanes: while at < reach {
-        match first_not_calm(text, at) {
-            Some(run) => return at + run,
-            None => at += LANES,
-        }
-    }
-    while at < text.len() && is_calm(text[at]) {
-        at += 1;
-    }
-    at
-}
+// The calm bytes.
+#[derive(Clone, Copy)]
+struct NoConstructBytes;
 
-// How many of the 16 bytes from this one on stand before the first that isn't calm, if one isn't.
-// Two bytes that differ in their last bit alone are compared as one.
-#[inline(always)]
-fn first_not_calm(text: &[u8], at: usize) -> Option<usize>
-    requires { at + LANES ≤ length text.now }
-    ensures { IsFirstOther is_calm text.now at LANES result }
-{
-    let bytes = u8x16::from_slice(&text[at..]);
-    let pairs = bytes | u8x16::splat(1);
-    let quotes = pairs.simd_eq(u8x16::splat(b'#')) | bytes.simd_eq(u8x16::splat(b'\''));
-    let star_or_slash = pairs.simd_eq(u8x16::splat(b'+')) | pairs.simd_eq(u8x16::splat(b'/'));
-    let colon_or_dash = pairs.simd_eq(u8x16::splat(b';')) | bytes.simd_eq(u8x16::splat(b'-'));
-    let brackets = bytes.simd_eq(u8x16::splat(b'[')) | bytes.simd_eq(u8x16::splat(b'\\'));
-    let mark_or_dollar = bytes.simd_eq(u8x16::splat(b'?')) | bytes.simd_eq(u8x16::splat(b'$'));
-    let ends = bytes.simd_eq(u8x16::splat(b'\n')) | bytes.simd_eq(u8x16::splat(0));
-    let names = bytes.simd_eq(u8x16::splat(b'`')) | ends;
-    let signs = (quotes | star_or_slash) | (colon_or_dash | brackets);
-    let others = signs | (mark_or_dollar | names);
-    first_set(others.to_bitmask())
+impl ByteSet for NoConstructBytes {
+    ghost contains = { λ _. is_calm };
+
+    #[inline(always)]
+    fn contains(self, byte: u8) -> bool {
+        is_calm(byte)
+    }
+
+    // Two bytes that differ only in their last bit are compared as one.
+    #[inline(always)]
+    fn first_other(self, text: &[u8], at: usize) -> Option<usize> {
+        let bytes = u8x16::from_slice(&text[at..]);
+        let pairs = bytes | u8x16::splat(1);
+        let quotes = pairs.simd_eq(u8x16::splat(b'#')) | bytes.simd_eq(u8x16::splat(b'\''));
+        let star_or_slash = pairs.simd_eq(u8x16::splat(b'+')) | pairs.simd_eq(u8x16::splat(b'/'));
+        let colon_or_dash = pairs.simd_eq(u8x16::splat(b';')) | bytes.simd_eq(u8x16::splat(b'-'));
+        let brackets = bytes.simd_eq(u8x16::splat(b'[')) | bytes.simd_eq(u8x16::splat(b'\\'));
+        let mark_or_dollar = bytes.simd_eq(u8x16::splat(b'?')) | bytes.simd_eq(u8x16::splat(b'$'));
+        let ends = bytes.simd_eq(u8x16::splat(b'\n')) | bytes.simd_eq(u8x16::splat(0));
+        let names = bytes.simd_eq(u8x16::splat(b'`')) | ends;
+        let signs = (quotes | star_or_slash) | (colon_or_dash | brackets);
+        let others = signs | (mark_or_dollar | names);
+        first_set(others.to_bitmask())
+    }
 }
 
 // Whether the byte is calm.

@@ -11,7 +11,7 @@ ghost use Rattle.mysql_portable.specs.TameBytes.{IsTameText};
 ghost use Rattle.mysql_portable.specs.FrontInClient.{are_comment, statement_after, line_after, found_in_bytes, found_or_zero, found_in_front};
 
 use crate::calm_bytes::calm_len;
-use crate::jumps::{BEFORE_JUMP, end_without};
+use crate::jumps::{end_without, near_end_without};
 use crate::portable::{Construct, Unportable, begins_place, begins_special, front_construct};
 use crate::tame_bytes::are_tame;
 use mysql_named_params::tokens::{first_token, is_white_space};
@@ -71,20 +71,16 @@ fn begins_end(text: &[u8]) -> bool
 fn holds_opener(text: &[u8]) -> bool
     ensures { result ≡ holds_opener text.now }
 {
-    let mut i = 0;
-    'stops: while i < text.len() {
-        i = end_without(text, i, b'/', b'*');
-        let near = i + BEFORE_JUMP.min(text.len() - i);
-        'near_bytes: while i < near {
-            let rest = &text[i..];
-            if begins_opener(rest) {
-                return true;
-            }
-            if begins_end(rest) {
-                return false;
-            }
-            i += 1;
+    let mut at = end_without(text, 0, b'/', b'*');
+    'stops: while at < text.len() {
+        let rest = &text[at..];
+        if begins_opener(rest) {
+            return true;
         }
+        if begins_end(rest) {
+            return false;
+        }
+        at = near_end_without(text, at + 1, b'/', b'*');
     }
     false
 }
@@ -225,16 +221,12 @@ fn ends_line(text: &[u8]) -> bool
 fn escapes_newline(text: &[u8]) -> bool
     ensures { result ≡ escapes_newline text.now }
 {
-    let mut i = 0;
-    'stops: while i < text.len() {
-        i = end_without(text, i, b'\\', b'\\');
-        let near = i + BEFORE_JUMP.min(text.len() - i);
-        'near_bytes: while i < near {
-            if text[i] == b'\\' && ends_line(&text[i + 1..]) {
-                return true;
-            }
-            i += 1;
+    let mut at = end_without(text, 0, b'\\', b'\\');
+    'stops: while at < text.len() {
+        if text[at] == b'\\' && ends_line(&text[at + 1..]) {
+            return true;
         }
+        at = near_end_without(text, at + 1, b'\\', b'\\');
     }
     false
 }
@@ -306,16 +298,12 @@ pub(crate) fn is_client_word(letter: u8, rest: &[u8]) -> bool
 fn begins_delimiter_line(text: &[u8]) -> bool
     ensures { result ≡ begins_delimiter_line text.now }
 {
-    let mut i = 0;
-    'stops: while i < text.len() {
-        i = end_without(text, i, b'\n', b'\n');
-        let near = i + BEFORE_JUMP.min(text.len() - i);
-        'near_bytes: while i < near {
-            if text[i] == b'\n' && begins_word(b"delimiter", &text[i + 1..]) {
-                return true;
-            }
-            i += 1;
+    let mut at = end_without(text, 0, b'\n', b'\n');
+    'stops: while at < text.len() {
+        if text[at] == b'\n' && begins_word(b"delimiter", &text[at + 1..]) {
+            return true;
         }
+        at = near_end_without(text, at + 1, b'\n', b'\n');
     }
     false
 }

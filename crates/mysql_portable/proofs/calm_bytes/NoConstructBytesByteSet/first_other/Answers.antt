@@ -3,7 +3,7 @@ use Rattle.std.proofs.lemmas.Simd.{zip2_splat, splat_is_map, length-chunk}
 use lib.Lanes.{chunk}
 use Rattle.mysql_named_params.proofs.LaneLemmas.{joined, first_other}
 use Rattle.mysql_portable.specs.CalmBytes.{is_calm}
-use Rattle.mysql_portable.proofs.calm_bytes.first_not_calm.Goals as goal
+use Rattle.mysql_portable.proofs.calm_bytes.NoConstructBytesByteSet.first_other.Goals as goal
 
 pub returns : goal.returns
 returns c =

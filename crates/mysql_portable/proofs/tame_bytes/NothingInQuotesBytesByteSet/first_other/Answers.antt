@@ -3,7 +3,7 @@ use Rattle.std.proofs.lemmas.Simd.{zip2_splat, length-chunk}
 use lib.Lanes.{chunk}
 use Rattle.mysql_named_params.proofs.LaneLemmas.{joined, first_other}
 use Rattle.mysql_portable.specs.TameBytes.{is_tame}
-use Rattle.mysql_portable.proofs.tame_bytes.first_not_tame.Goals as goal
+use Rattle.mysql_portable.proofs.tame_bytes.NothingInQuotesBytesByteSet.first_other.Goals as goal
 
 pub returns : goal.returns
 returns c =
