@@ -2,7 +2,7 @@
 //! looked at together, or those of a short text and of a block comment one by one. A far end is
 //! found by a jump. What follows the near bytes stands in functions of its own that are never
 //! inlined, so that the way to a near end stays short. Strings have escapes, and stand in `string`.
-ghost use Rattle.std.specs.Prelude.{◌≡◌, ◌≤◌, [], ◌∷◌, length, take, drop};
+ghost use Rattle.std.specs.Prelude.{◌≤◌, [], ◌∷◌, length, take, drop};
 ghost use Rattle.mysql_named_params.specs.Bytes.{asterisk, slash, IsUpTo};
 
 use crate::lanes::{Neither, first_of_two, run_end};

@@ -18,10 +18,10 @@ pub fn first_set(mask: u64) -> Option<usize>
     }
 }
 
-/// How many of the 16 bytes from this one on stand before the first that is one of the two, if one
-/// of them is. It is lent to the crate above.
+// How many of the 16 bytes from this one on stand before the first that is one of the two, if one
+// of them is.
 #[inline(always)]
-pub fn first_of_two(text: &[u8], at: usize, first: u8, second: u8) -> Option<usize>
+pub(crate) fn first_of_two(text: &[u8], at: usize, first: u8, second: u8) -> Option<usize>
     requires { at + LANES ≤ length text.now }
     ensures { IsFirstOther (is_neither first second) text.now at LANES result }
 {
@@ -69,10 +69,10 @@ impl ByteSet for Neither {
     }
 }
 
-/// Where a run of bytes of the set ends that begins at an index: at the first byte that the set
-/// doesn't contain, or where the search ends. The bytes go 16 at once as long as the text has so
-/// many, also after the end of the search, and then one by one. So a run may be found that ends
-/// after it. Inline, so that each set has a loop of its own. It is lent to the crate above.
+/// The end of the run of bytes of the set that begins at an index, or of the search. The bytes go
+/// 16 at once as long as the text has so many, also after the end of the search, and then one by
+/// one: so a run may end after it. Inline, so that each set has a loop of its own. It is lent to
+/// the crate above.
 #[inline(always)]
 pub fn run_end<S: ByteSet>(set: S, text: &[u8], from: usize, end: usize) -> usize
     requires { (from ≤ end) × (end ≤ length text.now) }

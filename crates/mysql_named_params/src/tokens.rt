@@ -1,15 +1,13 @@
 //! The token at the front of a text, and runs of bytes with which only plain tokens begin. `places`
 //! finds names and marks by them; no user needs them.
-ghost use Rattle.std.specs.Prelude.{◌≡◌, ◌+◌, ◌<◌, ◌≤◌, length, take, drop};
+ghost use Rattle.std.specs.Prelude.{◌≡◌, ◌<◌, ◌≤◌, length, take, drop};
 ghost use Rattle.mysql_named_params.specs.Bytes.{is_white_space, is_start_byte, is_name_byte, begins};
-ghost use Rattle.mysql_named_params.specs.Lanes.{IsFirstOther};
 ghost use Rattle.mysql_named_params.specs.FirstToken.{IsNameFront, IsFirstToken, opens_dash_comment, opens_block_comment};
 ghost use Rattle.mysql_named_params.specs.PlainBytes.{is_always_plain, AreAlwaysPlain};
 
 use crate::ends::string::string_len;
 use crate::ends::{len_up_to_byte, len_up_to_close};
 use crate::lanes::{ByteSet, first_set, run_end};
-use mysql_sql_text::blocks::LANES;
 use std::simd::prelude::*;
 
 /// The kinds of tokens that a search for names and marks tells apart.

@@ -1,5 +1,5 @@
-//! A search by jumps for one of two bytes: those of a text that a test looks at, since what it looks
-//! for begins or ends with them.
+//! A search by jumps for one of two bytes: those of a text that a test looks at, since what it
+//! looks for begins or ends with them.
 ghost use Rattle.std.specs.Prelude.{◌≤◌, length};
 ghost use Rattle.mysql_named_params.specs.Lanes.{is_neither, EachPasses};
 

@@ -2,7 +2,7 @@
 //!
 //! `fill_..` writes the whole slice. `append_..` writes from an index on, keeps what stands before
 //! it, and returns the index after the last byte that it wrote.
-ghost use Rattle.std.specs.Prelude.{◌≡◌, [], ◌∷◌, ◌++◌, ◌+◌, ◌/◌, ◌%◌, ◌<◌, ◌≤◌, length, take, drop};
+ghost use Rattle.std.specs.Prelude.{◌≡◌, ◌∷◌, ◌++◌, ◌+◌, ◌/◌, ◌%◌, ◌<◌, ◌≤◌, length, take, drop};
 ghost use Rattle.std.specs.Fmt.{decimal, signed_decimal};
 ghost use Rattle.std.specs.Str.{byte};
 ghost use Rattle.mysql_sql_text.specs.LiteralText.{padded};
