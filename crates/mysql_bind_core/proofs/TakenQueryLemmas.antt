@@ -14,7 +14,7 @@ use Rattle.mysql_binding.specs.ParsedQuery.{QueryInMode}
 use Rattle.mysql_binding.specs.SurveyedQuery.{OnSurveyed}
 use Rattle.mysql_binding.specs.WrittenText.{IsGivenText}
 use Rattle.mysql_binding.specs.declared.bind_error.BindError.{BindError}
-use Rattle.mysql_binding.specs.declared.binding.surveyed.SurveyedQuery.{SurveyedQuery}
+use Rattle.mysql_binding.specs.declared.binding.survey.SurveyedQuery.{SurveyedQuery}
 use Rattle.mysql_steady_text.specs.SteadyLiteral.{steady_literal_of}
 use Rattle.mysql_steady_text.specs.SteadyLiterals.{IsSteadyFor}
 use Rattle.mysql_steady_text.specs.declared.steady_text_error.SteadyTextError.TheVariants.{Bind}

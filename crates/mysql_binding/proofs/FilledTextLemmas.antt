@@ -1,6 +1,6 @@
 -- A text of a fixed length that is filled as far as an index.
 use Rattle.std.specs.Prelude.{Bool}
-use Rattle.mysql_value_core.specs.declared.value.borrowed.ValueRef.{ValueRef}
+use Rattle.mysql_value_core.specs.declared.value.ValueRef.{ValueRef}
 use Rattle.std.proofs.Common.{◌≡◌, ℕ, ◌+◌, ◌<◌, ◌≤◌, false, List, ◌++◌, length, map, take, drop, get_or, Some, sym, ap, ◌∙◌, subst, arith, take_all}
 use Rattle.std.proofs.lemmas.List.{get_or_default, get_or-map, length-map, length-take-le}
 use Rattle.mysql_values.specs.Literal.{is_float}

@@ -1,6 +1,6 @@
 -- The text that is written from what was measured, and its length.
 use Rattle.std.specs.Prelude.{Bool, Ok, Err, IfErr, IfOk, Result, option_map, ◌^◌}
-use Rattle.mysql_value_core.specs.declared.value.borrowed.ValueRef.{ValueRef}
+use Rattle.mysql_value_core.specs.declared.value.ValueRef.{ValueRef}
 use Rattle.std.specs.List.{All, sum, sum_by}
 use Rattle.std.proofs.Common.{◌≡◌, ℕ, ◌+◌, ◌<◌, ◌≤◌, List, [], ◌∷◌, ◌++◌, length, take, drop, take_all, length-append, map, Option, Some, None, refl, sym, ap, ◌∙◌, subst, arith}
 use Rattle.std.proofs.lemmas.List.{length-map, take-append-le}
@@ -24,7 +24,7 @@ use Rattle.mysql_binding.specs.TextInRoom.{IsTextInRoom}
 use Rattle.mysql_binding.specs.TextLength.{pieces_len}
 use Rattle.mysql_binding.specs.WrittenText.{IsGivenText, IsWrittenText}
 use Rattle.mysql_binding.specs.declared.bind_error.BindError.{BindError}
-use Rattle.mysql_binding.specs.declared.binding.measured.MeasuredText.{MeasuredText}
+use Rattle.mysql_binding.specs.declared.binding.literals.MeasuredText.{MeasuredText}
 use Rattle.mysql_binding.specs.declared.binding.room.TextInRoom.TheVariants.{Written}
 use Rattle.mysql_binding.specs.declared.binding.survey.Survey.{Survey}
 use Rattle.mysql_binding.proofs.BoundText.{bound}

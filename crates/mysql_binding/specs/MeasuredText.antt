@@ -14,7 +14,7 @@ use Rattle.mysql_binding.specs.LiteralForm.{Literals, LiteralFacts, literal_len}
 use Rattle.mysql_binding.specs.TextLength.{pieces_len}
 use Rattle.mysql_binding.specs.TextInRoom.{HasTextOf}
 use Rattle.mysql_binding.specs.WrittenText.{IsGivenText}
-use Rattle.mysql_binding.specs.declared.binding.measured.MeasuredText.{MeasuredText}
+use Rattle.mysql_binding.specs.declared.binding.literals.MeasuredText.{MeasuredText}
 use Rattle.mysql_binding.specs.declared.binding.survey.Survey.{Survey}
 
 -- the values were looked up, and there is no cause to refuse

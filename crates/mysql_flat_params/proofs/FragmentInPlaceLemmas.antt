@@ -9,7 +9,7 @@ use Rattle.std.proofs.lemmas.Nat.{same_from_place}
 use Rattle.std.proofs.lemmas.Simd.{map-map}
 use Rattle.mysql_wire_part.specs.Answer.{IsExpectedRefusal}
 use Rattle.mysql_wire_part.proofs.AnswerLemmas.{refusal_expected_too}
-use Rattle.mysql_value_core.specs.declared.value.borrowed.ValueRef.{ValueRef}
+use Rattle.mysql_value_core.specs.declared.value.ValueRef.{ValueRef}
 use Rattle.mysql_flat_params.specs.ColumnNumbers.{column_type, is_unsigned_parameter}
 use Rattle.mysql_flat_params.specs.FlatForm.{FormRefusal, read_of_type}
 use Rattle.mysql_fragments.specs.BorrowedFragments.{cell_item, cell_rows}

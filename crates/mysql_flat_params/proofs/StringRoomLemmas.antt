@@ -11,7 +11,7 @@ use Rattle.mysql_params_core.specs.Given.{Given}
 use Rattle.mysql_binding.specs.LiteralForm.{IsPlainLiteral}
 use Rattle.mysql_binding.specs.MeasuredText.{IsMeasured}
 use Rattle.mysql_binding.specs.WrittenText.{IsGivenText}
-use Rattle.mysql_binding.specs.declared.binding.measured.MeasuredText.{MeasuredText}
+use Rattle.mysql_binding.specs.declared.binding.literals.MeasuredText.{MeasuredText}
 use Rattle.mysql_binding.proofs.BoundTextLemmas.{is_bound_text}
 use Rattle.mysql_binding.proofs.MeasuredTextLemmas.{measured_length}
 use Rattle.mysql_binding.proofs.TextInRoomLemmas.{bound_length}

@@ -1,7 +1,7 @@
 -- Private: what the form's parameters give, with names in a hash map or kept in place.
 use Rattle.std.specs.Prelude.{ℕ, List, []}
 use Rattle.std.specs.Borrow.{Bor}
-use Rattle.mysql_value_core.specs.declared.value.borrowed.ValueRef.{ValueRef}
+use Rattle.mysql_value_core.specs.declared.value.ValueRef.{ValueRef}
 use Rattle.mysql_values.specs.BorrowedValue.{owned_values}
 use Rattle.mysql_params_core.specs.Given.{Given, ValueMap, empty, named, positional}
 use Rattle.mysql_params_core.specs.GivenBorrowed.{pair_map}

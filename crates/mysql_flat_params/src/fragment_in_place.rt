@@ -2,7 +2,7 @@
 ghost use Rattle.std.specs.Prelude.{◌≡◌, ◌++◌, ℕ, IfErr, IfOk, IfSome, List, Ok, [], ⊤, length, map, true};
 ghost use Rattle.mysql_wire_part.specs.Answer.{IsExpectedRefusal};
 ghost use Rattle.mysql_wire_part.specs.ParseBuf.{left};
-ghost use Rattle.mysql_value_core.specs.declared.value.borrowed.ValueRef as borrowed_value;
+ghost use Rattle.mysql_value_core.specs.declared.value.ValueRef as borrowed_value;
 ghost use Rattle.mysql_values.specs.BorrowedValue.{owned};
 ghost use Rattle.mysql_flat_params.specs.FormErrors.{form_refusal};
 ghost use Rattle.mysql_fragments.specs.BorrowedFragments.{Says};

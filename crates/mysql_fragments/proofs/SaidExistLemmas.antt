@@ -4,7 +4,7 @@ use Rattle.std.specs.Global.{Global, Vec}
 use Rattle.std.specs.Simd.{first_chunks}
 use Rattle.std.proofs.Common.{◌≡◌, ◌*◌, ◌^◌, ◌<◌, ◌≤◌, ℕ, zero, suc, List, [], ◌∷◌, length, map, take, drop, arith, refl, ap}
 use Rattle.std.proofs.lemmas.List.{length-drop, length-map}
-use Rattle.mysql_value_core.specs.declared.value.borrowed.ValueRef.{ValueRef}
+use Rattle.mysql_value_core.specs.declared.value.ValueRef.{ValueRef}
 use Rattle.mysql_values.specs.BorrowedValue.{owned}
 use Rattle.mysql_fragments.specs.BorrowedFragments.{AreSaid, HasFewCells, HaveFewCells, Says, cell_item}
 use Rattle.mysql_fragments.specs.declared.fragment.Item.{Item}

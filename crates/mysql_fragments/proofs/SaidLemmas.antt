@@ -9,7 +9,7 @@ use Rattle.std.proofs.lemmas.List.{length-map, length-take-le, length-drop}
 use Rattle.std.proofs.lemmas.List.Folds.{flat_map-map}
 use Rattle.std.proofs.lemmas.Simd.{map-map}
 use Rattle.mysql_params_core.proofs.MissingLemmas.{list_any-map}
-use Rattle.mysql_value_core.specs.declared.value.borrowed.ValueRef.{ValueRef}
+use Rattle.mysql_value_core.specs.declared.value.ValueRef.{ValueRef}
 use Rattle.mysql_values.specs.declared.value.Value.{Value}
 use Rattle.mysql_fragments.specs.BorrowedFragments.{AreSaid, Says, cell_item, cell_rows}
 use Rattle.mysql_fragments.specs.BorrowedText.{borrowed_fault, borrowed_text, borrowed_values, cells_fault, first_borrowed_fault_from, first_borrowed_float_from, has_borrowed_float}

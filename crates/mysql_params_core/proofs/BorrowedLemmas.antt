@@ -6,7 +6,7 @@ use Rattle.std.specs.List.{list_all}
 use Rattle.std.specs.FinMap.{contains_key, get}
 use Rattle.std.proofs.lemmas.List.{take_more, get_or-map, length-map, map-append, take_all}
 use Rattle.mysql_value_core.specs.declared.value.Value.{Value}
-use Rattle.mysql_value_core.specs.declared.value.borrowed.ValueRef.{ValueRef}
+use Rattle.mysql_value_core.specs.declared.value.ValueRef.{ValueRef}
 use Rattle.mysql_values.specs.BorrowedValue.{owned, owned_values}
 use Rattle.mysql_params_core.specs.FirstAbsent.{IsFirstAbsent}
 use Rattle.mysql_params_core.specs.Given.{ValueMap, named}

@@ -4,7 +4,7 @@ use Rattle.std.specs.Prelude.{ℕ, List, map}
 use Rattle.std.specs.FinMap.{from_entries}
 use Rattle.std.specs.Borrow.{Bor}
 use Rattle.mysql_value_core.specs.declared.value.Value.{Value}
-use Rattle.mysql_value_core.specs.declared.value.borrowed.ValueRef.{ValueRef}
+use Rattle.mysql_value_core.specs.declared.value.ValueRef.{ValueRef}
 use Rattle.mysql_values.specs.BorrowedValue.{owned, owned_values}
 use Rattle.mysql_params_core.specs.Given.{Given, ValueMap, empty, named, positional, value_map}
 use Rattle.mysql_params_core.specs.declared.params.borrowed.BorrowedParams.{BorrowedParams}

@@ -15,7 +15,7 @@ ghost use Rattle.mysql_steady_text.specs.BothModesErrors.{IsBothModesRefusal};
 
 use crate::both_modes_error::BothModesError;
 use crate::first_backslash::first_backslash;
-use crate::steady_form::SteadyForm;
+use crate::steady_literal::SteadyForm;
 use mysql_binding::{BindError, bind_borrowed_as};
 use mysql_params_core::params::{BorrowedParams, Params};
 use mysql_portable::portable::first_unportable;

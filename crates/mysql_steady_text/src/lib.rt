@@ -15,8 +15,6 @@ mod both_modes_pairs_error;
 pub mod first_backslash;
 pub mod laws;
 mod pairs;
-mod refusal;
-mod steady_form;
 pub mod steady_literal;
 mod steady_pairs_error;
 mod steady_text;
@@ -29,10 +27,9 @@ pub use pairs::{
     bind_pairs_anywhere, bind_pairs_in_any_mode, bind_pairs_in_both_modes, bind_values_anywhere,
     bind_values_in_any_mode, bind_values_in_both_modes,
 };
-pub use refusal::query_refusal;
-pub use steady_form::SteadyForm;
+pub use steady_literal::SteadyForm;
 pub use steady_pairs_error::SteadyPairsError;
 pub use steady_text::{
-    bind_borrowed_anywhere, bind_steady, bind_text_anywhere, bind_text_in_any_mode,
+    bind_borrowed_anywhere, bind_steady, bind_text_anywhere, bind_text_in_any_mode, query_refusal,
 };
 pub use steady_text_error::SteadyTextError;

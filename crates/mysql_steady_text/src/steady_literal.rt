@@ -1,14 +1,18 @@
-//! The length of a steady literal, and a slice that is filled with it.
-ghost use Rattle.std.specs.Prelude.{◌≡◌, ◌++◌, codes, length, Some, is_none, option_map};
+//! The length of a steady literal, a slice that is filled with it, and the form of literals that
+//! writes them.
+ghost use Rattle.std.specs.Prelude.{◌≡◌, ◌++◌, codes, length, Some, is_none, option_map, refl};
 ghost use Rattle.std.specs.List.{list_all};
 ghost use Rattle.mysql_sql_text.specs.LiteralText.{hexadecimal};
 ghost use Rattle.mysql_values.specs.BorrowedValue.{owned};
 ghost use Rattle.mysql_values.specs.Literal.{is_float};
+ghost use Rattle.mysql_values.specs.declared.value.Value.TheVariants.{NULL, Bytes, Int, UInt, Float, Double, Date, Time};
 ghost use Rattle.mysql_portable.specs.Steady.{IsSteady};
 ghost use Rattle.mysql_steady_text.specs.SteadyLiteral.{is_spelled_out, steady_bytes_literal, steady_literal_of};
 ghost use Rattle.mysql_steady_text.specs.ReadSteadyLiteral.{ReadsSteadyAs};
+ghost use Rattle.mysql_steady_text.specs.SteadyLiterals.{IsSteadyFor};
 
 use crate::laws::{borrowed_steady_literals, steady_literals};
+use mysql_binding::LiteralForm;
 use mysql_sql_text::strings::{fill_hexadecimal, fill_string, string_len};
 use mysql_values::value::{Value, ValueRef};
 
@@ -151,4 +155,43 @@ fn is_spelled_out(byte: u8) -> bool
     ensures { result ≡ is_spelled_out byte }
 {
     32 <= byte && byte <= 126 && byte != b'\\'
+}
+
+/// Steady literals, lent to the crates above.
+#[derive(Debug, Clone, Copy)]
+pub struct SteadyForm;
+
+impl LiteralForm for SteadyForm {
+    ghost literal = { λ _. steady_literal_of };
+
+    ghost IsKnown = { λ _. IsSteadyFor };
+
+    ghost floats = { λ _. elim [
+      | NULL ↦ refl
+      | Bytes bytes ↦ refl
+      | Int number ↦ refl
+      | UInt number ↦ refl
+      | Float bits ↦ refl
+      | Double bits ↦ refl
+      | Date year month day hour minute second microseconds ↦ refl
+      | Time negative days hours minutes seconds microseconds ↦ refl
+    ] };
+
+    fn len(&self, value: ValueRef<'_>) -> Option<u128> {
+        borrowed_steady_len(value)
+    }
+
+    fn put(&self, value: ValueRef<'_>, room: &mut [u8]) {
+        borrowed_steady_literals(value);
+        put_borrowed_steady(value, room);
+    }
+
+    fn value_len(&self, value: &Value) -> Option<u128> {
+        steady_len(value)
+    }
+
+    fn put_value(&self, value: &Value, room: &mut [u8]) {
+        steady_literals(value);
+        put_steady(value, room);
+    }
 }

@@ -1,4 +1,5 @@
-//! Queries with the steady literals of values in the places of names and marks.
+//! Queries with the steady literals of values in the places of names and marks, and why a query has
+//! no such text, whatever is given to it.
 ghost use Rattle.std.specs.Prelude.{◌≡◌, ℕ, Bool, None, Some, IfErr, IfOk, IsErrOf};
 ghost use Rattle.mysql_named_params.specs.Tokens.{OnTokens};
 ghost use Rattle.mysql_named_params.specs.Places.{HasName, HasMark};
@@ -11,12 +12,14 @@ ghost use Rattle.mysql_binding.specs.FirstCause.{first_cause};
 ghost use Rattle.mysql_steady_text.specs.SteadyAgain.{IsSteadyBoundAgain, IsSteadyByPosition};
 ghost use Rattle.mysql_steady_text.specs.SteadyText.{IsAnywhereText, IsSteadyText};
 ghost use Rattle.mysql_steady_text.specs.SteadyTextErrors.{IsBindRefusal, IsSteadyRefusal};
+ghost use Rattle.mysql_steady_text.specs.QueryRefusal.{query_refusal};
 
-use crate::refusal::query_refusal;
-use crate::steady_form::SteadyForm;
+use crate::steady_literal::SteadyForm;
 use crate::steady_text_error::SteadyTextError;
 use mysql_binding::{BindError, bind_borrowed_as};
 use mysql_params_core::params::{BorrowedParams, Params};
+use mysql_portable::clear::is_clear;
+use mysql_portable::portable::first_unportable;
 use mysql_portable::steady::first_unsteady;
 use std::alloc::Global;
 
@@ -162,5 +165,26 @@ pub fn bind_steady(
     match bind_borrowed_as(alloc, query, params, false, &SteadyForm) {
         Ok(text) => Ok(text),
         Err(error) => Err(SteadyTextError::Bind(error)),
+    }
+}
+
+/// The refusal of a query for which [`bind_text_anywhere`](crate::bind_text_anywhere) needn't look
+/// at parameters: `Unsteady`, or else `Unportable`; lent to the crates above. It allocates nothing.
+///
+/// Most queries pass by one quick walk. If a byte is in doubt there, two more find what refuses the
+/// query, or that nothing does.
+// A query has one token list in each mode, and a steady one the same in both (`steady_texts`).
+pub fn query_refusal(query: &[u8]) -> Option<SteadyTextError>
+    ensures { (mode : Bool) → OnTokens mode query.now (λ ts. result ≡ query_refusal query.now ts) }
+{
+    if is_clear(query) {
+        return None;
+    }
+    if let Some(at) = first_unsteady(query) {
+        return Some(SteadyTextError::Unsteady { at });
+    }
+    match first_unportable(query, false) {
+        Some(found) => Some(SteadyTextError::Unportable(found)),
+        None => None,
     }
 }

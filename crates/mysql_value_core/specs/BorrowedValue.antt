@@ -2,8 +2,8 @@
 use Rattle.std.specs.Prelude.{List, map}
 use Rattle.mysql_value_core.specs.declared.value.Value.{Value}
 use Rattle.mysql_value_core.specs.declared.value.Value.TheVariants.{NULL, Bytes, Int, UInt, Float, Double, Date, Time}
-use Rattle.mysql_value_core.specs.declared.value.borrowed.ValueRef.{ValueRef}
-use Rattle.mysql_value_core.specs.declared.value.borrowed.ValueRef.TheVariants as borrowed
+use Rattle.mysql_value_core.specs.declared.value.ValueRef.{ValueRef}
+use Rattle.mysql_value_core.specs.declared.value.ValueRef.TheVariants as borrowed
 
 -- the value that a borrowed one says: the same variant, of the same bytes or fields
 abbrev pub owned : ValueRef → Value

@@ -6,18 +6,17 @@ ghost use Rattle.std.specs.Cmp.Lexicographic.{slice_cmp};
 ghost use Rattle.std.specs.Ordering.{nat_cmp};
 ghost use Rattle.std.specs.declared.cmp.Ordering.TheVariants.{Equal};
 ghost use Rattle.mysql_value_core.specs.declared.value.Value as value;
-ghost use Rattle.mysql_wire_part.specs.Answer.{IsAnswer};
 ghost use Rattle.mysql_value_core.specs.ValueOf.{MeansBytes, too_long_duration};
 ghost use Rattle.mysql_value_core.specs.ValueOrder.{value_cmp};
+ghost use Rattle.mysql_wire_part.specs.Answer.{IsAnswer};
 
 mod borrowed;
 mod literals;
 mod rows;
 
-use crate::bytes::Bytes;
 use crate::value::convert::{FromValueError, ToValue, ToValueError};
 use crate::value::{
-    BinValue, ClientSide, SerializationSide, ServerSide, TextValue, Value, ValueDeserializer,
+    BinValue, Bytes, ClientSide, SerializationSide, ServerSide, TextValue, Value, ValueDeserializer,
 };
 pub use borrowed::{
     borrowed_equality, borrowed_fields_in_range, borrowed_literal_shape, borrowed_order,

@@ -6,7 +6,7 @@ ghost use Rattle.mysql_binding.specs.FirstCause.{mixed_cause};
 ghost use Rattle.mysql_binding.specs.SurveyedQuery.{OnSurveyed};
 
 use crate::binding::found::place_after;
-use crate::binding::surveyed::SurveyedQuery;
+use crate::binding::survey::SurveyedQuery;
 use std::alloc::{AllocError, Global};
 
 /// The names of a query without both names and marks: slices of the query.

@@ -17,7 +17,7 @@ use crate::bind_error::BindError;
 use crate::bind_pairs_error::BindPairsError;
 use crate::binding::form::PlainForm;
 use crate::binding::room::{TextInRoom, bind_surveyed_into};
-use crate::binding::surveyed::SurveyedQuery;
+use crate::binding::survey::SurveyedQuery;
 use crate::binding::{KEPT_PLACES, NO_PLACE, bind_borrowed_in};
 use mysql_params_core::params::{BorrowedParams, NamedPairs};
 use mysql_values::value::ValueRef;

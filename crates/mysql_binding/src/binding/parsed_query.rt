@@ -8,6 +8,7 @@ ghost use Rattle.mysql_named_params.specs.Places.{HasName, HasMark, marks, names
 ghost use Rattle.mysql_portable.specs.Portable.{IsPortable};
 ghost use Rattle.mysql_portable.specs.FirstUnportable.{first_unportable};
 ghost use Rattle.mysql_params_core.specs.Given.{Given, given};
+ghost use Rattle.mysql_params_core.specs.Referents.{referents};
 ghost use Rattle.mysql_binding.specs.AppendedText.{AreFound, IsAppended};
 ghost use Rattle.mysql_binding.specs.BindErrors.{IsCauseOrMemory};
 ghost use Rattle.mysql_binding.specs.BoundAgain.{IsSameBoundAgain, IsSameByPosition};
@@ -17,7 +18,6 @@ ghost use Rattle.mysql_binding.specs.Isolation.{IsBoundText};
 ghost use Rattle.mysql_binding.specs.ParsedQuery.{AreParsed, same_query};
 ghost use Rattle.mysql_binding.specs.SameQuery.{same_query_is_equivalence};
 ghost use Rattle.mysql_binding.specs.Survey.{IsSurvey};
-ghost use Rattle.mysql_params_core.specs.Referents.{referents};
 ghost use Rattle.mysql_values.specs.BorrowedValue.{owned_values};
 
 mod pairs;
@@ -26,8 +26,7 @@ use crate::bind_error::BindError;
 use crate::binding::form::LiteralForm;
 use crate::binding::found::all_places;
 use crate::binding::names::query_names;
-use crate::binding::survey::Survey;
-use crate::binding::surveyed::SurveyedQuery;
+use crate::binding::survey::{Survey, SurveyedQuery};
 use crate::binding::text::append_measured;
 use crate::binding::{KEPT_PLACES, NO_PLACE, bind_surveyed, measured_values};
 use mysql_named_params::named_params::{MixedParamsError, NamedParamsError};

@@ -12,9 +12,9 @@ ghost use Rattle.mysql_binding.specs.WrittenText.{IsGivenText};
 
 use crate::bind_error::BindError;
 use crate::binding::form::LiteralForm;
-use crate::binding::measured::MeasuredText;
+use crate::binding::literals::MeasuredText;
 use crate::binding::measured_text;
-use crate::binding::surveyed::SurveyedQuery;
+use crate::binding::survey::SurveyedQuery;
 use crate::binding::text::fill_measured;
 use mysql_params_core::params::BorrowedParams;
 use std::alloc::Global;

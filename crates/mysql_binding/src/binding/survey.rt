@@ -1,13 +1,75 @@
-//! What is known of the places of a query before values are looked up, found in one walk that
-//! allocates nothing.
-ghost use Rattle.std.specs.Prelude.{◌≡◌, ◌+◌, ◌≤◌, None, Some, length, take, drop, if◌then◌else◌};
+//! What is known of a query and its places before values are looked up, found in one walk that
+//! allocates nothing; and the bytes that may stand beside a place.
+ghost use Rattle.std.specs.Prelude.{◌≡◌, ◌+◌, ◌≤◌, length, take, None, Some, drop, if◌then◌else◌};
 ghost use Rattle.mysql_named_params.specs.Tokens.{OnTokens};
-ghost use Rattle.mysql_binding.specs.FoundPlaces.{found_places};
-ghost use Rattle.mysql_binding.specs.StandsAlone.{stands_alone};
-ghost use Rattle.mysql_binding.specs.Survey.{IsSurvey};
+ghost use Rattle.mysql_binding.specs.FoundPlaces.{AreFirstPlaces, found_places};
+ghost use Rattle.mysql_binding.specs.Survey.{IsSurvey, IsSurveyOf};
+ghost use Rattle.mysql_binding.specs.StandsAlone.{stands_alone, may_stand_before, may_stand_after, none_or_first, none_or_last};
 
-use crate::binding::stands_alone::stands_alone;
 use mysql_named_params::places::{FoundPlace, PlaceKind, first_place};
+
+/// A query, the mode in which it is read, and what one walk found out of its places. It is lent to
+/// the crates above; no user needs it.
+#[derive(Clone, Copy, Debug)]
+pub struct SurveyedQuery<'q> {
+    /// The query.
+    pub query: &'q [u8],
+    /// The mode in which the query is read.
+    pub no_backslash_escape: bool,
+    /// How many places it has, and the first that doesn't stand alone.
+    pub survey: Survey,
+    /// Its first places, as many as were kept.
+    pub known: &'q [FoundPlace],
+    pub ghost surveyed: { IsSurveyOf no_backslash_escape query.now survey },
+    pub ghost in_query: { survey.names + survey.marks ≤ length query.now },
+    pub ghost first: { AreFirstPlaces no_backslash_escape query.now known.now },
+}
+
+impl<'q> SurveyedQuery<'q> {
+    /// Surveys a query in a mode, and keeps as many of its first places as there is room for.
+    pub fn new(
+        query: &'q [u8],
+        no_backslash_escape: bool,
+        room: &'q mut [FoundPlace],
+    ) -> SurveyedQuery<'q>
+        ensures query { result.query.now ≡ query.now }
+        ensures mode { result.no_backslash_escape ≡ no_backslash_escape }
+        ensures known { OnTokens no_backslash_escape query.now (λ ts.
+            result.known.now ≡ take (length room.old) (found_places ts)) }
+    {
+        let (survey, kept) = place_survey(query, room, no_backslash_escape);
+        SurveyedQuery {
+            query,
+            no_backslash_escape,
+            survey,
+            known: &room[..kept],
+        }
+    }
+
+    /// What the walk found out of its places.
+    pub fn survey(&self) -> Survey
+        ensures same { result ≡ self.now.survey }
+        ensures survey { OnTokens self.now.no_backslash_escape self.now.query.now
+            (IsSurvey result) }
+    {
+        self.survey
+    }
+
+    /// The same query, with these as its first places.
+    pub fn with_places<'p>(&'p self, places: &'p [FoundPlace]) -> SurveyedQuery<'p>
+        requires { AreFirstPlaces self.now.no_backslash_escape self.now.query.now places.now }
+        ensures query { result.query.now ≡ self.now.query.now }
+        ensures mode { result.no_backslash_escape ≡ self.now.no_backslash_escape }
+        ensures known { result.known.now ≡ places.now }
+    {
+        SurveyedQuery {
+            query: self.query,
+            no_backslash_escape: self.no_backslash_escape,
+            survey: self.survey,
+            known: places,
+        }
+    }
+}
 
 /// The places of a query, counted and tested.
 #[derive(Debug, Clone, Copy)]
@@ -78,4 +140,67 @@ fn not_alone_at(query: &[u8], place: usize, start: usize, end: usize) -> Option<
     } else {
         Some((place, start))
     }
+}
+
+// Whether the byte may stand directly before a place.
+fn may_stand_before(byte: u8) -> bool
+    ensures { result ≡ may_stand_before byte }
+{
+    MAY_STAND_BEFORE[byte as usize] == b'1'
+}
+
+// Whether the byte may stand directly after a place.
+fn may_stand_after(byte: u8) -> bool
+    ensures { result ≡ may_stand_after byte }
+{
+    MAY_STAND_AFTER[byte as usize] == b'1'
+}
+
+// `1` for white space and each of `(,=<>+-*/%&|^~`, 32 bytes a line.
+static MAY_STAND_BEFORE: [u8; 256] = *b"\
+    00000000011011000000000000000000\
+    10000110101111010000000000001110\
+    00000000000000000000000000000010\
+    00000000000000000000000000001010\
+    00000000000000000000000000000000\
+    00000000000000000000000000000000\
+    00000000000000000000000000000000\
+    00000000000000000000000000000000";
+
+// `1` for white space and each of `),;=<>+-*/%&|^!`, 32 bytes a line.
+static MAY_STAND_AFTER: [u8; 256] = *b"\
+    00000000011011000000000000000000\
+    11000110011111010000000000011110\
+    00000000000000000000000000000010\
+    00000000000000000000000000001000\
+    00000000000000000000000000000000\
+    00000000000000000000000000000000\
+    00000000000000000000000000000000\
+    00000000000000000000000000000000";
+
+// Whether a place may stand after this text.
+fn allows_place_after(before: &[u8]) -> bool
+    ensures { result ≡ none_or_last may_stand_before before.now }
+{
+    match before.last() {
+        Some(byte) => may_stand_before(*byte),
+        None => true,
+    }
+}
+
+// Whether a place may stand before this text.
+fn allows_place_before(after: &[u8]) -> bool
+    ensures { result ≡ none_or_first may_stand_after after.now }
+{
+    match after.first() {
+        Some(byte) => may_stand_after(*byte),
+        None => true,
+    }
+}
+
+/// Whether a place between these two texts stands alone.
+pub(super) fn stands_alone(before: &[u8], after: &[u8]) -> bool
+    ensures { result ≡ stands_alone before.now after.now }
+{
+    allows_place_after(before) && allows_place_before(after)
 }

@@ -13,9 +13,8 @@ ghost use Rattle.mysql_binding.specs.WrittenText.{IsGivenText, IsWrittenText};
 
 use crate::binding::form::LiteralForm;
 use crate::binding::found::place_after;
-use crate::binding::literals::append_literal;
-use crate::binding::measured::MeasuredText;
-use crate::binding::surveyed::SurveyedQuery;
+use crate::binding::literals::{MeasuredText, append_literal};
+use crate::binding::survey::SurveyedQuery;
 use mysql_values::value::ValueRef;
 use std::alloc::{AllocError, Global};
 

@@ -10,8 +10,7 @@ ghost use Rattle.mysql_value_core.specs.BinaryReading.{date_value, time_value, r
 ghost use Rattle.mysql_value_core.specs.BinaryReadBack.{ReadsBackInBinary};
 ghost use Rattle.mysql_value_core.specs.declared.value.Value as value;
 
-use crate::bytes::Bytes;
-use crate::value::{Value, ValueDeserializer};
+use crate::value::{Bytes, Value, ValueDeserializer};
 use byteorder::{ByteOrder, LittleEndian};
 use mysql_sql_text::dates::{DateFields, TimeFields};
 use mysql_wire_part::{

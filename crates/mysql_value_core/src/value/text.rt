@@ -6,8 +6,7 @@ ghost use Rattle.mysql_value_core.specs.BorrowedValue.{owned, owned_values};
 ghost use Rattle.mysql_value_core.specs.TextCell.{read_cell, read_cells, ReadsBytes, ReadsACell};
 ghost use Rattle.mysql_value_core.specs.declared.value.Value as value;
 
-use crate::bytes::Bytes;
-use crate::value::{Value, ValueDeserializer, ValueRef};
+use crate::value::{Bytes, Value, ValueDeserializer, ValueRef};
 use mysql_wire_part::{MyDeserialize, ParseBuf, WireError};
 use std::alloc::{AllocError, Global};
 use std::marker::PhantomData;

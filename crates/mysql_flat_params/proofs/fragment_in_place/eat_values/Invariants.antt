@@ -1,5 +1,5 @@
 use Rattle.std.proofs.Common.{◌≡◌, ◌+◌, ◌++◌, List, [], length, map}
-use Rattle.mysql_value_core.specs.declared.value.borrowed.ValueRef.{ValueRef}
+use Rattle.mysql_value_core.specs.declared.value.ValueRef.{ValueRef}
 use Rattle.mysql_flat_params.specs.FlatFragments.{read_each, read_item}
 use Rattle.mysql_flat_params.specs.FormInPlace.{cell_content}
 use Rattle.mysql_flat_params.proofs.fragment_in_place.eat_values.Given as goal

@@ -1,6 +1,6 @@
 use Rattle.std.proofs.Common.{get_or, map, sym, ◌∙◌, arith}
 use Rattle.std.proofs.lemmas.List.{length-map}
-use Rattle.mysql_value_core.specs.declared.value.borrowed.ValueRef.TheVariants.{NULL}
+use Rattle.mysql_value_core.specs.declared.value.ValueRef.TheVariants.{NULL}
 use Rattle.mysql_fragments.specs.BorrowedFragments.{cell_item}
 use Rattle.mysql_fragments.specs.FragmentErrors.{is_float_item}
 use Rattle.mysql_fragments.proofs.CellLemmas.{any_found, any_next, any_none, cell_is}

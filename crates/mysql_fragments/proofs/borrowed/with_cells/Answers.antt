@@ -1,7 +1,7 @@
 use Rattle.std.proofs.Common.{◌+◌, length, get_or, map, take_all, refl, ap, ◌∙◌, arith}
 use Rattle.std.specs.Prelude.{codes}
 use Rattle.std.proofs.lemmas.List.{length-map}
-use Rattle.mysql_value_core.specs.declared.value.borrowed.ValueRef.TheVariants.{NULL}
+use Rattle.mysql_value_core.specs.declared.value.ValueRef.TheVariants.{NULL}
 use Rattle.mysql_binding.specs.LiteralForm.{written_literal}
 use Rattle.mysql_binding.specs.MeasuredText.{IsOfFields}
 use Rattle.mysql_fragments.specs.BorrowedFragments.{cell_item}

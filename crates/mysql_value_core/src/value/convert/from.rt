@@ -2,8 +2,7 @@
 ghost use Rattle.std.specs.Prelude.{◌≡◌, Ok, string_bytes};
 ghost use Rattle.mysql_value_core.specs.ValueTable.{value_of_bool, value_of_byte_vec, value_of_i16, value_of_i32, value_of_i64, value_of_i8, value_of_isize, value_of_string, value_of_u16, value_of_u32, value_of_u64, value_of_u8, value_of_usize};
 
-use crate::bytes::Bytes;
-use crate::value::Value;
+use crate::value::{Bytes, Value};
 
 impl From<i8> for Value {
     ghost from_gives = { λ number value. Ok value ≡ value_of_i8 number };

@@ -1,13 +1,12 @@
 //! The values of whole numbers and Booleans.
 ghost use Rattle.mysql_value_core.specs.ValueTable.{value_of_bool, value_of_i128, value_of_i16, value_of_i32, value_of_i64, value_of_i8, value_of_isize, value_of_u128, value_of_u16, value_of_u32, value_of_u64, value_of_u8, value_of_usize};
 
-use crate::bytes::Bytes;
-use crate::value::Value;
-use crate::value::convert::{ToValue, ToValueError};
-use std::alloc::Global;
-
 mod duration;
 mod texts;
+
+use crate::value::convert::{ToValue, ToValueError};
+use crate::value::{Bytes, Value};
+use std::alloc::Global;
 
 impl ToValue for i8 {
     ghost value_of = { value_of_i8 };

@@ -3,9 +3,8 @@ ghost use Rattle.std.specs.Prelude.{string_bytes};
 ghost use Rattle.std.specs.Option.{option_map};
 ghost use Rattle.mysql_value_core.specs.FromValue.{ConvertsOrHandsBack, value_array, value_bytes, cow_bytes, cow_text, owned_cow, value_text};
 
-use crate::bytes::Bytes;
-use crate::value::Value;
 use crate::value::convert::FromValueError;
+use crate::value::{Bytes, Value};
 use mysql_sql_text::utf8::is_utf8;
 use std::borrow::{CowSlice, CowStr};
 

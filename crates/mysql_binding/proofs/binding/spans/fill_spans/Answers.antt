@@ -1,5 +1,5 @@
 use Rattle.std.proofs.Common.{◌∙◌, rules}
-use Rattle.mysql_value_core.specs.declared.value.borrowed.ValueRef.TheVariants.{NULL}
+use Rattle.mysql_value_core.specs.declared.value.ValueRef.TheVariants.{NULL}
 use Rattle.mysql_binding.proofs.FilledTextLemmas.{item_is}
 use Rattle.mysql_binding.proofs.SpanTextLemmas.{value_no_float, value_len, span_literal_fits, spans_filled_more, spans_filled_all}
 use Rattle.mysql_binding.proofs.binding.spans.fill_spans.Goals as goal

@@ -1,5 +1,5 @@
 use Rattle.std.proofs.Common.{◌+◌, drop, refl, rules, arith}
-use Rattle.mysql_value_core.specs.declared.value.borrowed.ValueRef.TheVariants.{NULL}
+use Rattle.mysql_value_core.specs.declared.value.ValueRef.TheVariants.{NULL}
 use Rattle.mysql_binding.specs.FoundPlaces.{BeginWithPlaces}
 use Rattle.mysql_binding.proofs.FoundPlacesLemmas.{rest_after}
 use Rattle.mysql_binding.proofs.WrittenTextLemmas.{written_none}

@@ -1,8 +1,8 @@
 use Rattle.std.proofs.Common.{ℕ, List, [], get_or, ap, ◌∙◌}
 use Rattle.std.specs.Prelude.{is_some}
 use Rattle.std.specs.Borrow.{Bor}
-use Rattle.mysql_value_core.specs.declared.value.borrowed.ValueRef.{ValueRef}
-use Rattle.mysql_value_core.specs.declared.value.borrowed.ValueRef.TheVariants.{NULL}
+use Rattle.mysql_value_core.specs.declared.value.ValueRef.{ValueRef}
+use Rattle.mysql_value_core.specs.declared.value.ValueRef.TheVariants.{NULL}
 use Rattle.mysql_params_core.proofs.SortedPairLemmas.{asked_of_insert, redefined_here, distinct_more, pair_map-insert}
 use Rattle.mysql_params_core.proofs.params.sorted_pairs.first_redefined_sorted.Goals as goal
 

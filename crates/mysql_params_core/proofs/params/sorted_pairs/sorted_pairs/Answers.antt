@@ -1,7 +1,7 @@
 use Rattle.std.proofs.Common.{◌≡◌, ◌<◌, ◌-◌, ◌+◌, ℕ, List, [], length, drop, get_or, subst, arith}
 use Rattle.std.specs.Borrow.{Bor}
-use Rattle.mysql_value_core.specs.declared.value.borrowed.ValueRef.{ValueRef}
-use Rattle.mysql_value_core.specs.declared.value.borrowed.ValueRef.TheVariants.{NULL}
+use Rattle.mysql_value_core.specs.declared.value.ValueRef.{ValueRef}
+use Rattle.mysql_value_core.specs.declared.value.ValueRef.TheVariants.{NULL}
 use Rattle.mysql_params_core.specs.GivenBorrowed.{pair_map}
 use Rattle.mysql_params_core.proofs.SortedPairLemmas.{inserted_before, pair_map-insert}
 use Rattle.mysql_params_core.proofs.params.sorted_pairs.sorted_pairs.Goals as goal

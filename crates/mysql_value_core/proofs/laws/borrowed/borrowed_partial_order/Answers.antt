@@ -1,5 +1,5 @@
 use Rattle.std.proofs.Common.{◌∙◌, ap, Some, rules}
-use Rattle.mysql_value_core.specs.contracts.value.borrowed.ValueRefOrd.TheImpl.Laws.{matches_partial_cmp-law}
+use Rattle.mysql_value_core.specs.contracts.value.ValueRefOrd.TheImpl.Laws.{matches_partial_cmp-law}
 use Rattle.mysql_value_core.proofs.laws.borrowed.borrowed_partial_order.Goals as goal
 
 pub returns : goal.returns

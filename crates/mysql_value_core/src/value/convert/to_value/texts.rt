@@ -5,9 +5,8 @@ ghost use Rattle.mysql_value_core.specs.FromValue.{cow_bytes, cow_text};
 ghost use Rattle.mysql_value_core.specs.ValueOf.{bytes_value, too_long_duration};
 ghost use Rattle.mysql_value_core.specs.ValueTable.{value_of_byte_array, value_of_byte_cow, value_of_byte_slice, value_of_byte_vec, value_of_str, value_of_str_cow, value_of_string};
 
-use crate::bytes::Bytes;
-use crate::value::Value;
 use crate::value::convert::{ToValue, ToValueError};
+use crate::value::{Bytes, Value};
 use std::alloc::Global;
 use std::borrow::{CowSlice, CowStr};
 

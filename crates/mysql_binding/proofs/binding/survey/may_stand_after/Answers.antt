@@ -2,9 +2,9 @@
 use Rattle.std.proofs.Common.{nat_eq, get_or, refl, arith}
 use Rattle.std.specs.Str.{byte}
 use Rattle.std.proofs.lemmas.Bool.{agree_below_at}
-use Rattle.mysql_binding.specs.declared.binding.stands_alone.TheConstants.{MAY_STAND_AFTER}
+use Rattle.mysql_binding.specs.declared.binding.survey.TheConstants.{MAY_STAND_AFTER}
 use Rattle.mysql_binding.specs.StandsAlone.{may_stand_after}
-use Rattle.mysql_binding.proofs.binding.stands_alone.may_stand_after.Goals as goal
+use Rattle.mysql_binding.proofs.binding.survey.may_stand_after.Goals as goal
 
 pub returns : goal.returns
 returns c = agree_below_at (λ k. nat_eq (get_or MAY_STAND_AFTER k 0) (byte "1")) may_stand_after 256 c.args.byte refl (omega arith)

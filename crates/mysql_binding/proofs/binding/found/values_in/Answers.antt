@@ -6,7 +6,7 @@ use Rattle.mysql_binding.proofs.FoundPlacesLemmas.{none_passed, one_passed}
 use Rattle.mysql_binding.proofs.FoundValueLemmas.{looked_up_all, looked_up_in_map, looked_up_length, looked_up_more, looked_up_none}
 use Rattle.mysql_binding.proofs.NameListLemmas.{listed_none, name_left, listed_more, listed_all}
 use Rattle.mysql_binding.proofs.SurveyedQueryLemmas.{begin_with, counted_names}
-use Rattle.mysql_binding.proofs.binding.values.values_in.Goals as goal
+use Rattle.mysql_binding.proofs.binding.found.values_in.Goals as goal
 
 pub loop-rest-init : goal.loop-rest-init
 loop-rest-init g c =

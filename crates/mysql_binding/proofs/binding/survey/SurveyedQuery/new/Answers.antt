@@ -1,5 +1,5 @@
 use Rattle.mysql_binding.proofs.SurveyedQueryLemmas.{taken_are_first, survey_of}
-use Rattle.mysql_binding.proofs.binding.surveyed.SurveyedQuery.new.Goals as goal
+use Rattle.mysql_binding.proofs.binding.survey.SurveyedQuery.new.Goals as goal
 
 pub invariant_of-result : goal.invariant_of-result
 invariant_of-result c = record {

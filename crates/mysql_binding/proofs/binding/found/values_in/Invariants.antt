@@ -5,7 +5,7 @@ use Rattle.mysql_values.specs.BorrowedValue.{owned_values}
 use Rattle.mysql_binding.specs.FoundPlaces.{BeginWithPlaces}
 use Rattle.mysql_binding.proofs.FoundValueLemmas.{AreLookedUp}
 use Rattle.mysql_binding.proofs.NameListLemmas.{ListedSoFar}
-use Rattle.mysql_binding.proofs.binding.values.values_in.Given as goal
+use Rattle.mysql_binding.proofs.binding.found.values_in.Given as goal
 
 -- the names so far, which no list has in memory, and their values
 abbrev pub invariant-loop-rest : goal.invariant-loop-rest

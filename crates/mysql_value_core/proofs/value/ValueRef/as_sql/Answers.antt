@@ -6,7 +6,7 @@ use Rattle.mysql_value_core.specs.BorrowedValue.{owned}
 use Rattle.mysql_value_core.specs.ReadBack.{ReadsAs}
 use Rattle.mysql_value_core.specs.TimeLiteral.{WritesTimeText}
 use Rattle.mysql_value_core.proofs.LiteralLemmas.{literal_utf8}
-use Rattle.mysql_value_core.proofs.value.borrowed.ValueRef.as_sql.Goals as goal
+use Rattle.mysql_value_core.proofs.value.ValueRef.as_sql.Goals as goal
 
 -- the vector holds the slice that was lent, and nothing after it
 whole_room : (len : ℕ) (room rest : List ℕ) → length room ≡ len → take len (room ++ rest) ≡ room

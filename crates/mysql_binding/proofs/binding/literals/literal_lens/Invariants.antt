@@ -3,7 +3,7 @@ use Rattle.std.specs.List.{All, sum}
 use Rattle.mysql_values.specs.Value.{FieldsInRange}
 use Rattle.mysql_values.specs.BorrowedValue.{owned_values}
 use Rattle.mysql_binding.specs.LiteralForm.{literal_len}
-use Rattle.mysql_binding.proofs.binding.measured.literal_lens.Given as goal
+use Rattle.mysql_binding.proofs.binding.literals.literal_lens.Given as goal
 
 abbrev pub invariant-loop-value : goal.invariant-loop-value
 invariant-loop-value g l =

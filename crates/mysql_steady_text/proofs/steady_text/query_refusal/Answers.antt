@@ -3,7 +3,7 @@ use Rattle.std.proofs.Common.{sym, ◌∙◌}
 use Rattle.mysql_named_params.proofs.TokensExistLemmas.{tokens_exist}
 use Rattle.mysql_portable.proofs.SteadyLemmas.{steady_other}
 use Rattle.mysql_steady_text.proofs.QueryRefusalLemmas.{clear_passes, unsteady_is_refused, steady_is_refused}
-use Rattle.mysql_steady_text.proofs.refusal.query_refusal.Goals as goal
+use Rattle.mysql_steady_text.proofs.steady_text.query_refusal.Goals as goal
 
 pub returns-then-is_clear : goal.returns-then-is_clear
 returns-then-is_clear c mode =

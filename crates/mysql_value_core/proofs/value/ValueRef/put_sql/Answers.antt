@@ -4,7 +4,7 @@ use Rattle.mysql_value_core.specs.BorrowedValue.{owned}
 use Rattle.mysql_value_core.specs.ReadBack.{ReadsAs}
 use Rattle.mysql_value_core.specs.TimeLiteral.{WritesTimeText}
 use Rattle.mysql_value_core.proofs.LiteralLemmas.{literal_reads, literal_writes_time}
-use Rattle.mysql_value_core.proofs.value.borrowed.ValueRef.put_sql.Goals as goal
+use Rattle.mysql_value_core.proofs.value.ValueRef.put_sql.Goals as goal
 
 pub returns-clause-reads_back : goal.returns-clause-reads_back
 returns-clause-reads_back c =
