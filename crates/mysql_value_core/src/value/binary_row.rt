@@ -27,6 +27,16 @@ pub enum BinaryRowError {
     Wire(WireError),
 }
 
+impl From<WireError> for BinaryRowError {
+    ghost use Rattle.mysql_value_core.specs.declared.value.binary_row.BinaryRowError.TheVariants.{Wire};
+
+    ghost from_gives = { λ wire error. error ≡ Wire wire };
+
+    fn from(error: WireError) -> BinaryRowError {
+        BinaryRowError::Wire(error)
+    }
+}
+
 /// Which columns of a row in binary form are NULL.
 #[derive(Clone, Copy)]
 pub struct NullBitmap<'b>(&'b [u8]);
@@ -97,13 +107,9 @@ pub fn read_binary_cells_into<'b>(
 {
     let mut rest = *buf;
     let bitmap = read_null_bitmap(columns.len(), &mut rest)?;
-    match eat_columns(columns, bitmap, &mut rest, cells) {
-        Ok(()) => {
-            *buf = rest;
-            Ok(())
-        }
-        Err(error) => Err(BinaryRowError::Wire(error)),
-    }
+    eat_columns(columns, bitmap, &mut rest, cells)?;
+    *buf = rest;
+    Ok(())
 }
 
 // The values of the columns. After an error any of them may have been taken off.
