@@ -27,6 +27,11 @@ abbrev pub value_refusal : ToValueError → Option ToParamsRefusal
 value_refusal (to_value.DurationTooLong duration) = Some (too_long duration)
 value_refusal (to_value.Memory error) = None
 
+-- the error of an argument whose value is refused: out of memory stays out of memory
+abbrev pub of_value : ToValueError → ToParamsError
+of_value (to_value.DurationTooLong duration) = to_params.Value (to_value.DurationTooLong duration)
+of_value (to_value.Memory error) = to_params.Memory error
+
 -- The refusal of `to_params` that the error stands for; none for out of memory. Nor is there one
 -- for a `Value` that holds out of memory: `to_params` returns `Memory` instead, as a clause of its
 -- own says.

@@ -137,13 +137,10 @@ fn named_place_values<'p, M: NamedValues>(
     if names.is_empty() {
         return Err(ParamsError::Confusion(ParamsConfusionError::NamedParamsForPositionalQuery));
     }
-    let mut values = Vec::with_capacity(alloc, names.len()).map_err(ParamsError::Memory)?;
+    let mut values = Vec::with_capacity(alloc, names.len())?;
     for (i, name) in names.iter().enumerate() {
         match entries.value_of(*name) {
-            Some(value) => match values.push(value) {
-                Ok(()) => {}
-                Err(_) => return Err(ParamsError::Memory(AllocError)),
-            },
+            Some(value) => values.push(value)?,
             None => return Err(missing_params_error(alloc, reported_name(entries, names, i))),
         }
     }

@@ -53,10 +53,8 @@ impl NameMap for HashMap<Vec<u8>, Value> {
 
     fn insert_value(&mut self, alloc: Global, name: &[u8], value: Value) -> Result<(), AllocError> {
         let name = Vec::from_slice(alloc, name)?;
-        match self.insert(name, value) {
-            Ok(_) => Ok(()),
-            Err(_) => Err(AllocError),
-        }
+        self.insert(name, value)?;
+        Ok(())
     }
 }
 
@@ -78,10 +76,8 @@ impl NameMap for BTreeMap<Vec<u8>, Value> {
 
     fn insert_value(&mut self, alloc: Global, name: &[u8], value: Value) -> Result<(), AllocError> {
         let name = Vec::from_slice(alloc, name)?;
-        match self.insert(name, value) {
-            Ok(_) => Ok(()),
-            Err(_) => Err(AllocError),
-        }
+        self.insert(name, value)?;
+        Ok(())
     }
 }
 

@@ -1,11 +1,13 @@
 //! Why parameters are refused.
-ghost use Rattle.std.specs.Prelude.{◌≡◌, IfOk, OnErr};
-ghost use Rattle.mysql_params_core.specs.Errors.{AreEqualParamsErrors, IsMissing};
-ghost use Rattle.mysql_params_core.specs.declared.params.errors.ParamsError.TheVariants.{Missing, Confusion};
+ghost use Rattle.std.specs.Prelude.{◌≡◌, IfOk, OnErr, alloc_error};
+ghost use Rattle.mysql_params_core.specs.Errors.{AreEqualParamsErrors, IsMissing, of_value};
+ghost use Rattle.mysql_params_core.specs.declared.params.errors.ParamsError.TheVariants.{Missing, Confusion, Memory};
+ghost use Rattle.mysql_params_core.specs.declared.params.errors.IntoPositionalError.TheVariants as positional;
+ghost use Rattle.mysql_params_core.specs.declared.params.errors.ToParamsError.TheVariants as to_params;
 
 use mysql_values::show::Shown;
 use mysql_values::value::convert::ToValueError;
-use std::alloc::AllocError;
+use std::alloc::{AllocError, AllocFailed};
 use thiserror::Error;
 
 /// The name of a query that the parameters have no value for.
@@ -79,6 +81,23 @@ impl From<ParamsConfusionError> for ParamsError {
     }
 }
 
+impl From<AllocError> for ParamsError {
+    ghost from_gives = { λ _ error. error ≡ Memory alloc_error };
+
+    fn from(error: AllocError) -> ParamsError {
+        ParamsError::Memory(error)
+    }
+}
+
+/// Of a value that had no place in a list.
+impl<T: Drop> From<AllocFailed<T>> for ParamsError {
+    ghost from_gives = { λ _ error. error ≡ Memory alloc_error };
+
+    fn from(failed: AllocFailed<T>) -> ParamsError {
+        ParamsError::Memory(AllocError::from(failed))
+    }
+}
+
 /// Why named parameters don't become positional.
 #[derive(Debug, PartialEq, Eq, Drop, Error)]
 pub enum IntoPositionalError {
@@ -88,6 +107,14 @@ pub enum IntoPositionalError {
     /// Out of memory.
     #[error("out of memory")]
     Memory(AllocError),
+}
+
+impl From<AllocError> for IntoPositionalError {
+    ghost from_gives = { λ _ error. error ≡ positional.Memory alloc_error };
+
+    fn from(error: AllocError) -> IntoPositionalError {
+        IntoPositionalError::Memory(error)
+    }
 }
 
 /// Why arguments make no parameters.
@@ -102,4 +129,35 @@ pub enum ToParamsError {
     /// Out of memory.
     #[error("out of memory")]
     Memory(AllocError),
+}
+
+impl From<AllocError> for ToParamsError {
+    ghost from_gives = { λ _ error. error ≡ to_params.Memory alloc_error };
+
+    fn from(error: AllocError) -> ToParamsError {
+        ToParamsError::Memory(error)
+    }
+}
+
+/// Of a value that had no place in a list or a map.
+impl<T: Drop> From<AllocFailed<T>> for ToParamsError {
+    ghost from_gives = { λ _ error. error ≡ to_params.Memory alloc_error };
+
+    fn from(failed: AllocFailed<T>) -> ToParamsError {
+        ToParamsError::Memory(AllocError::from(failed))
+    }
+}
+
+/// Out of memory stays out of memory.
+impl From<ToValueError> for ToParamsError {
+    ghost from_gives = { λ value error. error ≡ of_value value };
+
+    fn from(error: ToValueError) -> ToParamsError {
+        match error {
+            ToValueError::Memory(error) => ToParamsError::Memory(error),
+            ToValueError::DurationTooLong(duration) => {
+                ToParamsError::Value(ToValueError::DurationTooLong(duration))
+            }
+        }
+    }
 }

@@ -112,13 +112,13 @@ fn named_positional(
 {
     match first_absent(&entries, names) {
         None => {
-            let values = take_values(alloc, entries, names).map_err(IntoPositionalError::Memory)?;
+            let values = take_values(alloc, entries, names)?;
             Ok(Params::Positional(values))
         }
-        Some(first) => match missing_error(alloc, names[first].as_slice()) {
-            Ok(error) => Err(IntoPositionalError::Missing(error)),
-            Err(error) => Err(IntoPositionalError::Memory(error)),
-        },
+        Some(first) => {
+            let error = missing_error(alloc, names[first].as_slice())?;
+            Err(IntoPositionalError::Missing(error))
+        }
     }
 }
 
@@ -180,10 +180,7 @@ fn take_values(
     let mut values = Vec::new(alloc);
     for name in names {
         if let Some((key, value)) = left.remove_entry(name) {
-            match indices.insert(key, values.len()) {
-                Ok(_) => {}
-                Err(_) => return Err(AllocError),
-            }
+            indices.insert(key, values.len())?;
             values.push(value)?;
         } else if let Some(index) = indices.get(name) {
             let value = values[*index].clone()?;

@@ -11,7 +11,7 @@ use crate::params::entries::has_name;
 use crate::params::{Params, ToParamsError};
 use mysql_values::value::Value;
 use mysql_values::value::convert::{ToValue, ToValueError};
-use std::alloc::{AllocError, Global};
+use std::alloc::Global;
 use std::collections::HashMap;
 
 /// What names a parameter.
@@ -159,19 +159,8 @@ fn insert_new(
     ensures value { IfErr result (λ error.
         error ≢ ToParamsError.Value (to_value.Memory alloc_error)) }
 {
-    let value = match answer {
-        Ok(value) => value,
-        Err(ToValueError::Memory(error)) => return Err(ToParamsError::Memory(error)),
-        Err(ToValueError::DurationTooLong(duration)) => {
-            return Err(ToParamsError::Value(ToValueError::DurationTooLong(duration)));
-        }
-    };
-    let name = match Vec::from_slice(alloc, name) {
-        Ok(name) => name,
-        Err(error) => return Err(ToParamsError::Memory(error)),
-    };
-    match entries.insert(name, value) {
-        Ok(_) => Ok(()),
-        Err(_) => Err(ToParamsError::Memory(AllocError)),
-    }
+    let value = answer?;
+    let name = Vec::from_slice(alloc, name)?;
+    entries.insert(name, value)?;
+    Ok(())
 }

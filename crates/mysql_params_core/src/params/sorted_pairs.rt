@@ -47,10 +47,8 @@ pub(super) fn first_redefined_sorted<'p>(
 {
     let mut entries: BTreeMap<&'p [u8], ValueRef<'p>> = BTreeMap::new(alloc);
     for (i, pair) in pairs.iter().enumerate() {
-        match entries.insert(pair.0, pair.1) {
-            Ok(None) => {}
-            Ok(Some(_)) => return Ok(Some(i)),
-            Err(_) => return Err(AllocError),
+        if entries.insert(pair.0, pair.1)?.is_some() {
+            return Ok(Some(i));
         }
     }
     Ok(None)
@@ -68,10 +66,7 @@ fn sorted_pairs<'p>(
     let mut i = pairs.len();
     while i > 0 {
         i -= 1;
-        match entries.insert(pairs[i].0, pairs[i].1) {
-            Ok(_) => {}
-            Err(_) => return Err(AllocError),
-        }
+        entries.insert(pairs[i].0, pairs[i].1)?;
     }
     Ok(entries)
 }
@@ -89,17 +84,11 @@ pub(super) fn sorted_place_values<'p>(
     if names.is_empty() {
         return Err(ParamsError::Confusion(ParamsConfusionError::NamedParamsForPositionalQuery));
     }
-    let entries = match sorted_pairs(alloc, pairs) {
-        Ok(entries) => entries,
-        Err(error) => return Err(ParamsError::Memory(error)),
-    };
-    let mut values = Vec::with_capacity(alloc, names.len()).map_err(ParamsError::Memory)?;
+    let entries = sorted_pairs(alloc, pairs)?;
+    let mut values = Vec::with_capacity(alloc, names.len())?;
     for (i, name) in names.iter().enumerate() {
         match sorted_value(&entries, *name) {
-            Some(value) => match values.push(value) {
-                Ok(()) => {}
-                Err(_) => return Err(ParamsError::Memory(AllocError)),
-            },
+            Some(value) => values.push(value)?,
             None => return Err(missing_params_error(alloc, reported_name(&entries, names, i))),
         }
     }

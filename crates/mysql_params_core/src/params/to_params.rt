@@ -10,7 +10,7 @@ ghost use Rattle.mysql_values.specs.ValueOf.{Meaning, MeansBytes, too_long_durat
 use crate::params::{Params, ToParamsError};
 use mysql_values::value::Value;
 use mysql_values::value::convert::{ToValue, ToValueError};
-use std::alloc::{AllocError, Global};
+use std::alloc::Global;
 
 /// What makes parameters.
 pub trait ToParams {
@@ -159,14 +159,7 @@ fn append_answer(
     ensures value { IfErr result (λ error.
         error ≢ ToParamsError.Value (to_value.Memory alloc_error)) }
 {
-    match answer {
-        Ok(value) => match values.push(value) {
-            Ok(()) => Ok(()),
-            Err(_) => Err(ToParamsError::Memory(AllocError)),
-        },
-        Err(ToValueError::Memory(error)) => Err(ToParamsError::Memory(error)),
-        Err(ToValueError::DurationTooLong(duration)) => {
-            Err(ToParamsError::Value(ToValueError::DurationTooLong(duration)))
-        }
-    }
+    let value = answer?;
+    values.push(value)?;
+    Ok(())
 }

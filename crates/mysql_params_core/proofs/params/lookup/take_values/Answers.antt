@@ -6,7 +6,7 @@ use Rattle.mysql_params_core.specs.Names.{names_of}
 use Rattle.mysql_params_core.proofs.MapLemmas.{get-value_map}
 use Rattle.mysql_params_core.proofs.TakenLemmas.{index_below, was_nowhere, taken_step, copied_step}
 use Rattle.mysql_params_core.proofs.WalkLemmas.{none_missing, values_at-from}
-use Rattle.mysql_params_core.proofs.params.lookup.take_values.Goals.{in-Some+in-Ok+in_ok-push, in_default+in-Some-get+in_ok-value+in_ok-push-2}
+use Rattle.mysql_params_core.proofs.params.lookup.take_values.Goals.{in-Some+in_ok-insert+in_ok-push, in_default+in-Some-get+in_ok-value+in_ok-push-2}
 use Rattle.mysql_params_core.proofs.params.lookup.take_values.Goals as goal
 
 pub index-requires : goal.index-requires
@@ -28,13 +28,13 @@ pub loop-name-preserved : goal.loop-name-preserved
 loop-name-preserved c =
     let below : c.loop-name.name-index < length c.args.names.now = omega arith in
     elim c.match-remove_entry.branch [
-      | in-Some+in-Ok+in_ok-push w ↦ rw (w.values-is, w.indices-is)
+      | in-Some+in_ok-insert+in_ok-push w ↦ rw (w.values-is, w.indices-is)
           (taken_step c.args.entries.entries c.loop-name.left.entries c.loop-name.indices.entries c.loop-name.values.items
           c.args.names.now c.loop-name.name-index c.name-item.result below c.name-item.is
           c.loop-name.invariant.so_far c.loop-name.invariant.taken
           w.in-Some.key w.in-Some.value w.in-Some.ensures.same_key (sym w.in-Some.ensures.value)
           c.remove_entry.new.self.entries w.insert.new.self.entries w.len.result (omega (arith, w.len.ensures, c.loop-name.values.ok))
-          w.in-Some.ensures.updates.0 w.in-Ok.ensures.updates.0
+          w.in-Some.ensures.updates.0 w.in_ok-insert.ensures.updates.0
           w.push.new.self.items w.in_ok-push.ensures.items)
       | in_default+in-Some-get+in_ok-value+in_ok-push-2 w ↦ rw (w.values-is, w.indices-is)
           (copied_step c.args.entries.entries c.loop-name.left.entries c.loop-name.indices.entries c.loop-name.values.items

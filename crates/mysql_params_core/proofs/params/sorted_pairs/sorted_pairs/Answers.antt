@@ -17,5 +17,5 @@ loop-i-preserved c =
       inserted_before c.args.pairs.now i d below (pair_map c.loop-i.entries.entries) (pair_map c.insert.new.self.entries)
           (subst (λ (k : ℕ). pair_map c.loop-i.entries.entries ≡ pair_map (drop k c.args.pairs.now)) next c.loop-i.invariant.1)
           (pair_map-insert c.loop-i.entries.entries c.insert.new.self.entries pair.0 pair.1
-          c.in-Ok.ensures.updates.3 c.in-Ok.ensures.updates.1),
+          c.in_ok-insert.ensures.updates.3 c.in_ok-insert.ensures.updates.1),
     )

@@ -13,23 +13,23 @@ use Rattle.mysql_params_core.proofs.params.sorted_pairs.sorted_place_values.Goal
 
 pub reported_name-requires : goal.reported_name-requires
 reported_name-requires c =
-    first_absent (pair_map c.in-Ok.entries.entries) c.args.names.now c.loop-i.i _ c.loop-i-test.true c.loop-i.values.items c.loop-i.invariant
+    first_absent (pair_map c.in_ok-entries.entries.entries) c.args.names.now c.loop-i.i _ c.loop-i-test.true c.loop-i.values.items c.loop-i.invariant
     (sym c.in-None.ensures)
 
 pub returns-in-None-clause-values : goal.returns-in-None-clause-values
 returns-in-None-clause-values c =
-    let m = pair_map c.in-Ok.entries.entries in
-    subst (λ (n : ValueMap). IsExpectedRefusal (lookup (named n) (referents c.args.names.now)) ⊤ (lookup_refusal c.missing_params_error.result)) c.in-Ok.ensures
+    let m = pair_map c.in_ok-entries.entries.entries in
+    subst (λ (n : ValueMap). IsExpectedRefusal (lookup (named n) (referents c.args.names.now)) ⊤ (lookup_refusal c.missing_params_error.result)) c.in_ok-entries.ensures
     (refused_as_missing m (referents c.args.names.now) c.loop-i.i
     (first_absent m c.args.names.now c.loop-i.i _ c.loop-i-test.true c.loop-i.values.items c.loop-i.invariant (sym c.in-None.ensures))
     _ c.reported_name.ensures _ c.missing_params_error.ensures)
 
 pub loop-i-preserved : goal.loop-i-preserved
 loop-i-preserved c =
-    found_more (pair_map c.in-Ok.entries.entries) c.args.names.now c.loop-i.i _ c.loop-i-test.true c.loop-i.values.items c.loop-i.invariant
+    found_more (pair_map c.in_ok-entries.entries.entries) c.args.names.now c.loop-i.i _ c.loop-i-test.true c.loop-i.values.items c.loop-i.invariant
     c.in-Some.value c.push.new.self.items (sym c.in-Some.ensures) (search rules)
 
 pub returns-clause-values : goal.returns-clause-values
 returns-clause-values c =
-    subst (λ (n : ValueMap). lookup (named n) (referents c.args.names.now) ≡ Ok (owned_values c.loop-i.values.items)) c.in-Ok.ensures
-    (found_all (pair_map c.in-Ok.entries.entries) c.args.names.now c.loop-i.values.items c.loop-i.i (search rules) (search rules) c.loop-i.invariant)
+    subst (λ (n : ValueMap). lookup (named n) (referents c.args.names.now) ≡ Ok (owned_values c.loop-i.values.items)) c.in_ok-entries.ensures
+    (found_all (pair_map c.in_ok-entries.entries.entries) c.args.names.now c.loop-i.values.items c.loop-i.i (search rules) (search rules) c.loop-i.invariant)
