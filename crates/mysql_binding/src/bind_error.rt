@@ -51,3 +51,23 @@ impl From<AllocError> for BindError {
         BindError::Memory(error)
     }
 }
+
+/// Out of memory of a lookup stays out of memory.
+impl From<ParamsError> for BindError {
+    ghost use Rattle.std.specs.Prelude.{◌≡◌, None, option_map, alloc_error};
+    ghost use Rattle.mysql_params_core.specs.Errors.{lookup_refusal};
+    ghost use Rattle.mysql_binding.specs.BindErrors.{cause_of};
+    ghost use Rattle.mysql_binding.specs.FirstCause.{refused_params};
+    ghost use Rattle.mysql_binding.specs.declared.bind_error.BindError.TheVariants.{Memory};
+
+    ghost from_gives = { λ lookup error.
+        (cause_of error ≡ option_map refused_params (lookup_refusal lookup))
+        × (lookup_refusal lookup ≡ None → error ≡ Memory alloc_error) };
+
+    fn from(error: ParamsError) -> BindError {
+        match error {
+            ParamsError::Memory(error) => BindError::Memory(error),
+            error => BindError::Params(error),
+        }
+    }
+}

@@ -1,9 +1,8 @@
 //! Queries with the literals of values in the places of names and marks.
-ghost use Rattle.std.specs.Prelude.{◌≡◌, false, ℕ, Bool, List, None, Ok, Some, IfErr, IfOk, IfSome, IsErrOf, alloc_error, length, option_map};
+ghost use Rattle.std.specs.Prelude.{◌≡◌, false, ℕ, Bool, List, None, Ok, Some, IfErr, IfOk, IfSome, IsErrOf, length, option_map};
 ghost use Rattle.mysql_sql_text.specs.StringUnits.{with_backslashes};
 ghost use Rattle.mysql_named_params.specs.Tokens.{OnTokens, Token};
 ghost use Rattle.mysql_named_params.specs.Places.{names, HasName, HasMark};
-ghost use Rattle.mysql_params_core.specs.Errors.{lookup_refusal};
 ghost use Rattle.mysql_params_core.specs.Given.{Given, given};
 ghost use Rattle.mysql_params_core.specs.GivenBorrowed.{given_by_borrowed};
 ghost use Rattle.mysql_params_core.specs.Lookup.{LookupRefusal, lookup};
@@ -47,7 +46,7 @@ pub use crate::binding::survey::{Survey, SurveyedQuery};
 use crate::binding::text::written_text;
 pub use crate::binding::text::{append_piece, fill_measured};
 use mysql_named_params::places::{FoundPlace, PlaceKind};
-use mysql_params_core::params::{BorrowedParams, Params, ParamsError, place_values};
+use mysql_params_core::params::{BorrowedParams, Params, place_values};
 use mysql_values::value::ValueRef;
 use std::alloc::Global;
 
@@ -338,21 +337,7 @@ fn looked_up_values<'p>(
     ensures refused { IfErr result
         (IsLookupError (given_by_borrowed params.entry) (referents names.now)) }
 {
-    match place_values(alloc, params, names) {
-        Ok(values) => Ok(values),
-        Err(error) => Err(bind_error_of(error)),
-    }
-}
-
-// The error of binding for an error of the lookup: out of memory stays out of memory.
-fn bind_error_of(error: ParamsError) -> BindError
-    ensures cause { cause_of result ≡ option_map refused_params (lookup_refusal error) }
-    ensures memory { lookup_refusal error ≡ None → result ≡ BindError.Memory alloc_error }
-{
-    match error {
-        ParamsError::Memory(error) => BindError::Memory(error),
-        error => BindError::Params(error),
-    }
+    Ok(place_values(alloc, params, names)?)
 }
 
 // The first of the causes after the lookup: the marks, the places, the floats.
