@@ -1,6 +1,6 @@
 -- The text that is written with steady literals in the places of a query is what is promised for both
 -- modes, if no backslash stands in a string of the query.
-use Rattle.std.specs.Prelude.{Bool, IsSomeAnd, ⊤}
+use Rattle.std.specs.Prelude.{Bool, IsSomeAnd, Result, Ok, Err, IsErrAnd, ⊤}
 use Rattle.std.proofs.Common.{◌≡◌, ◌++◌, ℕ, true, List, [], ◌∷◌, map, length, Option, Some, None, refl, sym, ap, ◌∙◌, subst}
 use Rattle.std.specs.List.{list_all}
 use Rattle.mysql_values.specs.declared.value.Value.{Value}
@@ -166,3 +166,8 @@ portable_in_both query ts given text is p t =
 -- what nothing is said of
 pub nothing_said : (mode : Bool) (query : List ℕ) → OnTokens mode query (λ ts. ⊤)
 nothing_said mode query = let t = tokens_exist mode query in (t.0, t.1, tt)
+
+-- a call that hands on an error
+pub is_handed_on : {A E : Type 0} (r : Result A E) (e : E) → IsErrAnd r (λ t. t ≡ e) → r ≡ Err e
+is_handed_on (Ok a) e same = absurd same
+is_handed_on (Err t) e same = ap (λ x. Err x) same

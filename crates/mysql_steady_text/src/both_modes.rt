@@ -96,10 +96,7 @@ pub(crate) fn bind_borrowed_in_both_modes(
     if let Some(found) = first_unportable(query, true) {
         return Err(BothModesError::Unportable(found));
     }
-    match bind_agreed(alloc, query, params) {
-        Ok(text) => Ok(text),
-        Err(error) => Err(BothModesError::Bind(error)),
-    }
+    Ok(bind_agreed(alloc, query, params)?)
 }
 
 // The text of a query on which the modes agree.

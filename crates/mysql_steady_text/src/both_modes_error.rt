@@ -20,3 +20,14 @@ pub enum BothModesError {
     #[error(transparent)]
     Bind(BindError),
 }
+
+impl From<BindError> for BothModesError {
+    ghost use Rattle.std.specs.Prelude.{◌≡◌};
+    ghost use Rattle.mysql_steady_text.specs.declared.both_modes_error.BothModesError.TheVariants.{Bind};
+
+    ghost from_gives = { λ refusal error. error ≡ Bind refusal };
+
+    fn from(error: BindError) -> BothModesError {
+        BothModesError::Bind(error)
+    }
+}

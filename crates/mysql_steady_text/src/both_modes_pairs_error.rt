@@ -18,3 +18,14 @@ pub enum BothModesPairsError {
     #[error(transparent)]
     Bind(BothModesError),
 }
+
+impl From<BothModesError> for BothModesPairsError {
+    ghost use Rattle.std.specs.Prelude.{◌≡◌};
+    ghost use Rattle.mysql_steady_text.specs.declared.both_modes_pairs_error.BothModesPairsError.TheVariants.{Bind};
+
+    ghost from_gives = { λ refusal error. error ≡ Bind refusal };
+
+    fn from(error: BothModesError) -> BothModesPairsError {
+        BothModesPairsError::Bind(error)
+    }
+}

@@ -67,10 +67,8 @@ pub fn bind_pairs_anywhere(
     if let Some(error) = steady_pairs_refusal(alloc, &named) {
         return Err(error);
     }
-    match bind_borrowed_anywhere(alloc, query, BorrowedParams::Pairs(&named)) {
-        Ok(text) => Ok(text),
-        Err(error) => Err(SteadyPairsError::Bind(error)),
-    }
+    let params = BorrowedParams::Pairs(&named);
+    Ok(bind_borrowed_anywhere(alloc, query, params)?)
 }
 
 /// [`bind_text_anywhere`](crate::bind_text_anywhere) of borrowed values by position: no value is
@@ -129,10 +127,8 @@ pub fn bind_pairs_in_any_mode(
     if let Some(error) = steady_pairs_refusal(alloc, &named) {
         return Err(error);
     }
-    match bind_borrowed_in_any_mode(alloc, query, BorrowedParams::Pairs(&named)) {
-        Ok(text) => Ok(text),
-        Err(error) => Err(SteadyPairsError::Bind(error)),
-    }
+    let params = BorrowedParams::Pairs(&named);
+    Ok(bind_borrowed_in_any_mode(alloc, query, params)?)
 }
 
 /// [`bind_values_anywhere`] for a query that is meant for one server, as
@@ -195,10 +191,8 @@ pub fn bind_pairs_in_both_modes(
     if let Some(error) = both_modes_pairs_refusal(alloc, &named) {
         return Err(error);
     }
-    match bind_borrowed_in_both_modes(alloc, query, BorrowedParams::Pairs(&named)) {
-        Ok(text) => Ok(text),
-        Err(error) => Err(BothModesPairsError::Bind(error)),
-    }
+    let params = BorrowedParams::Pairs(&named);
+    Ok(bind_borrowed_in_both_modes(alloc, query, params)?)
 }
 
 /// [`bind_text_in_both_modes`](crate::bind_text_in_both_modes) of borrowed values by position: no

@@ -20,3 +20,14 @@ pub enum SteadyPairsError {
     #[error(transparent)]
     Bind(SteadyTextError),
 }
+
+impl From<SteadyTextError> for SteadyPairsError {
+    ghost use Rattle.std.specs.Prelude.{◌≡◌};
+    ghost use Rattle.mysql_steady_text.specs.declared.steady_pairs_error.SteadyPairsError.TheVariants.{Bind};
+
+    ghost from_gives = { λ refusal error. error ≡ Bind refusal };
+
+    fn from(error: SteadyTextError) -> SteadyPairsError {
+        SteadyPairsError::Bind(error)
+    }
+}

@@ -162,10 +162,7 @@ pub fn bind_steady(
     ensures mixed { (mode : Bool) → OnTokens mode query.now (λ ts. HasName ts × HasMark ts →
         IsErrOf result (SteadyTextError.Bind BindError.Mixed)) }
 {
-    match bind_borrowed_as(alloc, query, params, false, &SteadyForm) {
-        Ok(text) => Ok(text),
-        Err(error) => Err(SteadyTextError::Bind(error)),
-    }
+    Ok(bind_borrowed_as(alloc, query, params, false, &SteadyForm)?)
 }
 
 /// The refusal of a query for which [`bind_text_anywhere`](crate::bind_text_anywhere) needn't look

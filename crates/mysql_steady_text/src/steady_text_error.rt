@@ -22,3 +22,14 @@ pub enum SteadyTextError {
     #[error(transparent)]
     Bind(BindError),
 }
+
+impl From<BindError> for SteadyTextError {
+    ghost use Rattle.std.specs.Prelude.{◌≡◌};
+    ghost use Rattle.mysql_steady_text.specs.declared.steady_text_error.SteadyTextError.TheVariants.{Bind};
+
+    ghost from_gives = { λ refusal error. error ≡ Bind refusal };
+
+    fn from(error: BindError) -> SteadyTextError {
+        SteadyTextError::Bind(error)
+    }
+}
