@@ -6,6 +6,7 @@ ghost use Rattle.std.specs.Io.KnownBytes.{Appends};
 ghost use Rattle.mysql_io.specs.ReadersAndWriters.{ReadsWhole, AppendsPrefix};
 
 use std::alloc::{AllocError, Global};
+use std::io;
 use std::io::{Read, Write};
 
 /// Why a reader can't be read to its end.
@@ -17,6 +18,18 @@ pub enum ReadError {
     Memory(AllocError),
 }
 
+impl From<io::Error> for ReadError {
+    fn from(_error: io::Error) -> ReadError {
+        ReadError::Read
+    }
+}
+
+impl From<AllocError> for ReadError {
+    fn from(error: AllocError) -> ReadError {
+        ReadError::Memory(error)
+    }
+}
+
 /// All bytes that the reader has left. It is read until a read returns none.
 pub fn read_whole<R: Read>(alloc: Global, input: &mut R) -> Result<Vec<u8>, ReadError>
     ensures { IfOk result (λ bytes.
@@ -25,22 +38,23 @@ pub fn read_whole<R: Read>(alloc: Global, input: &mut R) -> Result<Vec<u8>, Read
     let mut bytes = Vec::new(alloc);
     let mut chunk = [0u8; 4096];
     'reading: loop {
-        let n = match input.read(&mut chunk) {
-            Ok(n) => n,
-            Err(_) => return Err(ReadError::Read),
-        };
+        let n = input.read(&mut chunk)?;
         if n == 0 {
             return Ok(bytes);
         }
-        bytes
-            .extend_from_slice(&chunk[..n])
-            .map_err(ReadError::Memory)?;
+        bytes.extend_from_slice(&chunk[..n])?;
     }
 }
 
 /// A write failed, or took no byte.
 #[derive(Debug, Clone, Copy)]
 pub struct WriteError;
+
+impl From<io::Error> for WriteError {
+    fn from(_error: io::Error) -> WriteError {
+        WriteError
+    }
+}
 
 /// Writes the whole text. On an error the writer took a prefix of it, and not the whole.
 pub fn write_whole<W: Write>(output: &mut W, text: &[u8]) -> Result<(), WriteError>
@@ -50,11 +64,11 @@ pub fn write_whole<W: Write>(output: &mut W, text: &[u8]) -> Result<(), WriteErr
 {
     let mut done = 0;
     'writing: while done < text.len() {
-        match output.write(&text[done..]) {
-            Ok(0) => return Err(WriteError),
-            Ok(n) => done += n,
-            Err(_) => return Err(WriteError),
+        let n = output.write(&text[done..])?;
+        if n == 0 {
+            return Err(WriteError);
         }
+        done += n;
     }
     Ok(())
 }
