@@ -36,3 +36,14 @@ pub enum RecordError {
     /// Out of memory. It may come in place of a fault, and of no empty text.
     Memory(AllocError),
 }
+
+impl From<AllocError> for RecordError {
+    ghost use Rattle.std.specs.Prelude.{◌≡◌, alloc_error};
+    ghost use Rattle.mysql_records.specs.declared.fault.RecordError.TheVariants.{Memory};
+
+    ghost from_gives = { λ _ error. error ≡ Memory alloc_error };
+
+    fn from(error: AllocError) -> RecordError {
+        RecordError::Memory(error)
+    }
+}

@@ -22,6 +22,17 @@ pub(crate) enum FieldError<'a> {
     Memory(AllocError),
 }
 
+impl<'a> From<AllocError> for FieldError<'a> {
+    ghost use Rattle.std.specs.Prelude.{◌≡◌, alloc_error};
+    ghost use Rattle.mysql_records.specs.declared.fields.FieldError.TheVariants.{Memory};
+
+    ghost from_gives = { λ _ error. error ≡ Memory alloc_error };
+
+    fn from(error: AllocError) -> FieldError<'a> {
+        FieldError::Memory(error)
+    }
+}
+
 // What follows a field, and the text behind that.
 #[derive(Clone, Copy)]
 pub(crate) enum FieldEnd<'a> {
@@ -63,10 +74,7 @@ fn enclosed_field<'a>(
         BeginsWithField format text.now (lent_seen read.0) read.1.now) }
     ensures refused { IfErr result (IsFieldRefusal format text.now) }
 {
-    let (field, back) = match lent_pieces(alloc, format, true, tail) {
-        Ok(read) => read,
-        Err(error) => return Err(FieldError::Memory(error)),
-    };
+    let (field, back) = lent_pieces(alloc, format, true, tail)?;
     if back.is_empty() {
         return Err(FieldError::Fault(FaultKind::OpenQuote, text));
     }
@@ -108,10 +116,7 @@ fn bare_field<'a>(
         BeginsWithField format text.now (lent_seen read.0) read.1.now) }
     ensures refused { IfErr result (IsFieldRefusal format text.now) }
 {
-    let (field, back) = match lent_pieces(alloc, format, false, text) {
-        Ok(read) => read,
-        Err(error) => return Err(FieldError::Memory(error)),
-    };
+    let (field, back) = lent_pieces(alloc, format, false, text)?;
     if field_end(format, back).is_some() {
         return Ok((field, back));
     }

@@ -47,10 +47,8 @@ pub fn first_record<'a>(
     let Some(rest) = first_record_into(alloc, format, text, &mut lent)? else {
         return Ok(None);
     };
-    match owned_fields(alloc, lent) {
-        Ok(fields) => Ok(Some(Record { fields, rest })),
-        Err(error) => Err(RecordError::Memory(error)),
-    }
+    let fields = owned_fields(alloc, lent)?;
+    Ok(Some(Record { fields, rest }))
 }
 
 // The fields with their bytes as vectors.

@@ -5,22 +5,22 @@ use Rattle.mysql_records.proofs.fields.enclosed_field.Goals as goal
 
 pub returns-then-is_empty-clause-refused : goal.returns-then-is_empty-clause-refused
 returns-then-is_empty-clause-refused c =
-    enclosed_open c.args.format c.args.text.now c.args.tail.now c.in-Ok.ensures.0 c.in-Ok.read.1.now c.requires.quotes c.requires.whole
-    c.in-Ok.ensures.2 (empty_from c.in-Ok.read.1.now c.if-is_empty.ensures)
+    enclosed_open c.args.format c.args.text.now c.args.tail.now c.in_ok-field.ensures.0 c.in_ok-field.back.now c.requires.quotes c.requires.whole
+    c.in_ok-field.ensures.2 (empty_from c.in_ok-field.back.now c.if-is_empty.ensures)
 
 pub returns-in_default-clause-refused : goal.returns-in_default-clause-refused
 returns-in_default-clause-refused c =
-    enclosed_escape c.args.format c.args.text.now c.args.tail.now c.in-Ok.ensures.0 c.in-Ok.read.1.now c.requires.quotes c.requires.whole
-    c.in-Ok.ensures.2 (some_from c.in-Ok.read.1.now c.if-is_empty.ensures) c.in_default.ensures.none
+    enclosed_escape c.args.format c.args.text.now c.args.tail.now c.in_ok-field.ensures.0 c.in_ok-field.back.now c.requires.quotes c.requires.whole
+    c.in_ok-field.ensures.2 (some_from c.in_ok-field.back.now c.if-is_empty.ensures) c.in_default.ensures.none
 
 pub returns-then-is_some-clause-read : goal.returns-then-is_some-clause-read
 returns-then-is_some-clause-read c =
-    subst (λ x. BeginsWithField c.args.format c.args.text.now x c.in-Some.rest.now) (sym c.in-Ok.ensures.1) (enclosed_read c.args.format c.args.text.now c.args.tail.now c.in-Ok.ensures.0 c.in-Ok.read.1.now c.in-Some.rest.now c.requires.quotes c.requires.whole
-    c.in-Ok.ensures.2 c.in-Some.ensures.some (ends_if_some c.args.format c.in-Some.rest.now c.field_end.result c.if-is_some.ensures c.field_end.ensures.some))
+    subst (λ x. BeginsWithField c.args.format c.args.text.now x c.in-Some.rest.now) (sym c.in_ok-field.ensures.1) (enclosed_read c.args.format c.args.text.now c.args.tail.now c.in_ok-field.ensures.0 c.in_ok-field.back.now c.in-Some.rest.now c.requires.quotes c.requires.whole
+    c.in_ok-field.ensures.2 c.in-Some.ensures.some (ends_if_some c.args.format c.in-Some.rest.now c.field_end.result c.if-is_some.ensures c.field_end.ensures.some))
 
 pub returns-clause-refused : goal.returns-clause-refused
 returns-clause-refused c =
-    enclosed_behind c.args.format c.args.text.now c.args.tail.now c.in-Ok.ensures.0 c.in-Ok.read.1.now c.in-Some.rest.now c.fault_behind_quote.result
-    c.requires.quotes c.requires.whole c.in-Ok.ensures.2 c.in-Some.ensures.some
+    enclosed_behind c.args.format c.args.text.now c.args.tail.now c.in_ok-field.ensures.0 c.in_ok-field.back.now c.in-Some.rest.now c.fault_behind_quote.result
+    c.requires.quotes c.requires.whole c.in_ok-field.ensures.2 c.in-Some.ensures.some
     (none_of c.field_end.result _ c.if-is_some.ensures c.field_end.ensures.none)
     c.fault_behind_quote.ensures.before c.fault_behind_quote.ensures.stands
