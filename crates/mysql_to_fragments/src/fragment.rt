@@ -28,14 +28,10 @@ impl<T: ToItem> ToFragment for T {
     ghost said = { λ argument. made_of alone (T.said_item argument) };
 
     fn to_fragment(&self, alloc: Global) -> Result<Fragment, ToValueError> {
-        match self.to_item(alloc) {
-            Ok(Item::Value(value)) => Ok(Fragment::Value(value)),
-            Ok(Item::Decimal(number)) => Ok(Fragment::Decimal(number)),
-            Ok(Item::Double(double)) => Ok(Fragment::Double(double)),
-            Err(ToValueError::Memory(error)) => Err(ToValueError::Memory(error)),
-            Err(ToValueError::DurationTooLong(duration)) => {
-                Err(ToValueError::DurationTooLong(duration))
-            }
+        match self.to_item(alloc)? {
+            Item::Value(value) => Ok(Fragment::Value(value)),
+            Item::Decimal(number) => Ok(Fragment::Decimal(number)),
+            Item::Double(double) => Ok(Fragment::Double(double)),
         }
     }
 }

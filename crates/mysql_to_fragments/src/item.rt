@@ -26,13 +26,8 @@ impl<T: ToValue> ToItem for T {
     ghost said_item = { λ argument. made_of value_item (T.value_of argument) };
 
     fn to_item(&self, alloc: Global) -> Result<Item, ToValueError> {
-        match self.to_value(alloc) {
-            Ok(value) => Ok(Item::Value(value)),
-            Err(ToValueError::Memory(error)) => Err(ToValueError::Memory(error)),
-            Err(ToValueError::DurationTooLong(duration)) => {
-                Err(ToValueError::DurationTooLong(duration))
-            }
-        }
+        let value = self.to_value(alloc)?;
+        Ok(Item::Value(value))
     }
 }
 

@@ -19,13 +19,8 @@ impl<'a, T: ToItem> ToFragment for ListOf<'a, T> {
     ghost said = { λ items. made_of list (all_said (map T.said_item items.0.now)) };
 
     fn to_fragment(&self, alloc: Global) -> Result<Fragment, ToValueError> {
-        match list_items(alloc, self.0) {
-            Ok(items) => Ok(Fragment::List(items)),
-            Err(ToValueError::Memory(error)) => Err(ToValueError::Memory(error)),
-            Err(ToValueError::DurationTooLong(duration)) => {
-                Err(ToValueError::DurationTooLong(duration))
-            }
-        }
+        let items = list_items(alloc, self.0)?;
+        Ok(Fragment::List(items))
     }
 }
 
@@ -50,14 +45,7 @@ pub(crate) fn push_item<T: ToItem>(
     ensures { IsAnswer (λ _. items_content items.new.items) too_long_duration
         (with_one (Ok (items_content items.old.items)) (T.said_item argument.now)) ⊤ result }
 {
-    match argument.to_item(alloc) {
-        Ok(item) => match items.push(item) {
-            Ok(()) => Ok(()),
-            Err(_) => Err(ToValueError::Memory(AllocError)),
-        },
-        Err(ToValueError::Memory(error)) => Err(ToValueError::Memory(error)),
-        Err(ToValueError::DurationTooLong(duration)) => {
-            Err(ToValueError::DurationTooLong(duration))
-        }
-    }
+    let item = argument.to_item(alloc)?;
+    items.push(item).map_err(AllocError::from)?;
+    Ok(())
 }

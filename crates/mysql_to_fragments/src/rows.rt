@@ -30,13 +30,8 @@ impl<'a, R: ToRow> ToFragment for RowsOf<'a, R> {
     ghost said = { λ rows_of. made_of rows (all_said (map R.said_row rows_of.0.now)) };
 
     fn to_fragment(&self, alloc: Global) -> Result<Fragment, ToValueError> {
-        match all_rows(alloc, self.0) {
-            Ok(rows) => Ok(Fragment::Rows(rows)),
-            Err(ToValueError::Memory(error)) => Err(ToValueError::Memory(error)),
-            Err(ToValueError::DurationTooLong(duration)) => {
-                Err(ToValueError::DurationTooLong(duration))
-            }
-        }
+        let rows = all_rows(alloc, self.0)?;
+        Ok(Fragment::Rows(rows))
     }
 }
 
@@ -62,14 +57,7 @@ fn push_row<R: ToRow>(
         too_long_duration (with_one (Ok (map (λ row. items_content row.items) rows.old.items))
         (R.said_row argument.now)) ⊤ result }
 {
-    match argument.to_row(alloc) {
-        Ok(row) => match rows.push(row) {
-            Ok(()) => Ok(()),
-            Err(_) => Err(ToValueError::Memory(AllocError)),
-        },
-        Err(ToValueError::Memory(error)) => Err(ToValueError::Memory(error)),
-        Err(ToValueError::DurationTooLong(duration)) => {
-            Err(ToValueError::DurationTooLong(duration))
-        }
-    }
+    let row = argument.to_row(alloc)?;
+    rows.push(row).map_err(AllocError::from)?;
+    Ok(())
 }
