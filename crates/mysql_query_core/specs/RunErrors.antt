@@ -1,6 +1,10 @@
 -- What each error of `run` stands for.
 use Rattle.std.specs.Prelude.{◌≡◌, ◌⊎◌, ℕ, List, Err, Option, None, Some, option_map, alloc_error, ⊤}
+use Rattle.mysql_io.specs.declared.readers_and_writers.ReadError.{ReadError}
+use Rattle.mysql_io.specs.declared.readers_and_writers.ReadError.TheVariants as read
 use Rattle.mysql_named_params.specs.Tokens.{Token}
+use Rattle.mysql_named_params.specs.declared.named_params.NamedParamsError.{NamedParamsError}
+use Rattle.mysql_named_params.specs.declared.named_params.NamedParamsError.TheVariants as names
 use Rattle.mysql_binding.specs.BindErrors.{AreEqualBindErrors, cause_of}
 use Rattle.mysql_binding.specs.FirstCause.{Cause}
 use Rattle.mysql_query_core.specs.Program.{Refusal, bad_words, names_of_mixed_query, binding_cause, IsOutput}
@@ -34,6 +38,16 @@ refusal_of (Bind error) = option_map binding_cause (cause_of error)
 refusal_of Read = None
 refusal_of Write = None
 refusal_of (Memory e) = None
+
+-- the error of a run whose input can't be read
+abbrev pub run_error_of_read : ReadError → RunError
+run_error_of_read read.Read = Read
+run_error_of_read (read.Memory error) = Memory error
+
+-- the error of a run that is asked for the names of a query
+abbrev pub run_error_of_names : NamedParamsError → RunError
+run_error_of_names (names.Mixed error) = Mixed
+run_error_of_names (names.Memory error) = Memory error
 
 -- the same variant, and the same name or error of binding
 abbrev pub AreEqualRunErrors : RunError → RunError → Type 0

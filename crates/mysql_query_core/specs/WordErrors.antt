@@ -3,6 +3,8 @@ use Rattle.std.specs.Prelude.{ℕ, List, Option, None, Some}
 use Rattle.std.specs.Borrow.{Bor}
 use Rattle.mysql_values.specs.declared.value.Value.{Value}
 use Rattle.mysql_params_core.specs.Given.{given}
+use Rattle.mysql_params_core.specs.declared.params.errors.ToParamsError.{ToParamsError}
+use Rattle.mysql_params_core.specs.declared.params.errors.ToParamsError.TheVariants as to_params
 use Rattle.mysql_query_core.specs.Words as words
 use Rattle.mysql_query_core.specs.Words.{WordsRefusal, usage, redefined_name}
 use Rattle.mysql_query_core.specs.declared.words.Command.{Command}
@@ -15,6 +17,12 @@ abbrev pub words_refusal : WordsError → Option WordsRefusal
 words_refusal Usage = Some usage
 words_refusal (Redefined name) = Some (redefined_name name.items)
 words_refusal (Memory error) = None
+
+-- the error of the words whose pairs are refused with an error; no value of a pair is a duration
+abbrev pub words_error_of_params : ToParamsError → WordsError
+words_error_of_params (to_params.Redefined name) = Redefined name
+words_error_of_params (to_params.Value error) = Usage
+words_error_of_params (to_params.Memory error) = Memory error
 
 -- the command that the code's command stands for
 abbrev pub seen_command : Command → words.Command

@@ -14,10 +14,10 @@ ghost use Rattle.mysql_query_core.specs.WordErrors.{seen_command, words_refusal}
 ghost use Rattle.mysql_query_core.specs.Words.{names_of_query, bound_query, usage, word_bytes, command_of, AsksToBind};
 
 use crate::run_error::RunError;
-use crate::words::{Command, WordsError, judge};
-use mysql_binding::{BindError, bind_text};
-use mysql_io::readers_and_writers::{ReadError, read_whole, write_whole};
-use mysql_named_params::named_params::{NamedParamsError, ParsedNamedParams};
+use crate::words::{Command, judge};
+use mysql_binding::bind_text;
+use mysql_io::readers_and_writers::{read_whole, write_whole};
+use mysql_named_params::named_params::ParsedNamedParams;
 use mysql_params_core::params::Params;
 use std::alloc::{AllocError, Global};
 use std::borrow::CowSlice;
@@ -73,19 +73,10 @@ pub fn run<R: Read, W: Write>(
     // Out of memory is an error of its own, also if binding ran out of it.
     ensures cause { IfErr result HoldsCause }
 {
-    let command = match judge(alloc, words) {
-        Ok(command) => command,
-        Err(error) => return Err(run_error_of_words(error)),
-    };
-    let query = match read_whole(alloc, input) {
-        Ok(query) => query,
-        Err(ReadError::Read) => return Err(RunError::Read),
-        Err(ReadError::Memory(error)) => return Err(RunError::Memory(error)),
-    };
-    match command_output(alloc, command, &query) {
-        Ok(text) => write_answer(output, &text),
-        Err(error) => Err(error),
-    }
+    let command = judge(alloc, words)?;
+    let query = read_whole(alloc, input)?;
+    let text = command_output(alloc, command, &query)?;
+    write_answer(output, &text)
 }
 
 // Writes the whole answer. On an error, which is `Write`, the writer took a prefix of it.
@@ -95,22 +86,8 @@ fn write_answer<W: Write>(output: &mut W, text: &[u8]) -> Result<(), RunError>
     ensures prefix { OnErr result (
         AppendsPrefix (W.contents output.old) (W.contents output.new) text.now) }
 {
-    match write_whole(output, text) {
-        Ok(()) => Ok(()),
-        Err(_) => Err(RunError::Write),
-    }
-}
-
-// A refusal of words, as an error of the program.
-fn run_error_of_words(error: WordsError) -> RunError
-    ensures refusal { refusal_of result ≡ option_map bad_words (words_refusal error) }
-    ensures memory { words_refusal error ≡ None → result ≡ RunError.Memory alloc_error }
-{
-    match error {
-        WordsError::Usage => RunError::Usage,
-        WordsError::Redefined(name) => RunError::Redefined(name),
-        WordsError::Memory(error) => RunError::Memory(error),
-    }
+    write_whole(output, text)?;
+    Ok(())
 }
 
 // What a command writes for a query.
@@ -133,15 +110,9 @@ fn names_output(alloc: Global, query: &[u8]) -> Result<Vec<u8>, RunError>
     ensures refused { OnTokens with_backslashes query.now (λ ts.
         IfErr result (IsOutputRefusal names_of_query ts)) }
 {
-    let parsed = match ParsedNamedParams::parse(alloc, query) {
-        Ok(parsed) => parsed,
-        Err(NamedParamsError::Mixed(_)) => return Err(RunError::Mixed),
-        Err(NamedParamsError::Memory(error)) => return Err(RunError::Memory(error)),
-    };
-    match names_text(alloc, &parsed) {
-        Ok(text) => Ok(text),
-        Err(error) => Err(RunError::Memory(error)),
-    }
+    let parsed = ParsedNamedParams::parse(alloc, query)?;
+    let text = names_text(alloc, &parsed)?;
+    Ok(text)
 }
 
 // The parsed query and each of its names, each followed by a newline.
@@ -182,19 +153,6 @@ fn bound_output(alloc: Global, query: &[u8], params: Params) -> Result<Vec<u8>, 
     ensures refused { OnTokens with_backslashes query.now (λ ts.
         IfErr result (IsOutputRefusal (bound_query (given params)) ts)) }
 {
-    match bind_text(alloc, query, params) {
-        Ok(text) => Ok(text),
-        Err(error) => Err(run_error_of_binding(error)),
-    }
-}
-
-// A refusal of binding, as an error of the program.
-fn run_error_of_binding(error: BindError) -> RunError
-    ensures refusal { refusal_of result ≡ option_map binding_cause (cause_of error) }
-    ensures memory { error ≡ BindError.Memory alloc_error → result ≡ RunError.Memory alloc_error }
-{
-    match error {
-        BindError::Memory(error) => RunError::Memory(error),
-        error => RunError::Bind(error),
-    }
+    let text = bind_text(alloc, query, params)?;
+    Ok(text)
 }

@@ -6,13 +6,14 @@ ghost use Rattle.mysql_values.specs.declared.value.Value.TheVariants.{Bytes as B
 ghost use Rattle.std.specs.List.{list_all, list_any};
 ghost use Rattle.mysql_params_core.specs.Given.{given, positional};
 ghost use Rattle.mysql_query_core.specs.Words.{parts_of_word, int_of_text, uint_of_text, value_of_kind, value_of_null, parsed_value, pair_of_word, pairs_of_words, is_nameless, bound_query, command_made, given_by_name, command_of_pairs, bind_command, command_of, AsksToBind, usage, word_bytes};
-ghost use Rattle.mysql_query_core.specs.WordErrors.{words_refusal, seen_pair, seen_command};
+ghost use Rattle.mysql_query_core.specs.WordErrors.{words_error_of_params, words_refusal, seen_pair, seen_command};
+ghost use Rattle.mysql_query_core.specs.declared.words.WordsError.TheVariants.{Usage, Memory};
 
 use mysql_params_core::params::{Params, ToParamsError};
 use mysql_values::bytes::Bytes;
 use mysql_values::value::Value;
-use mysql_values::value::convert::from_value_opt;
-use std::alloc::{AllocError, Global};
+use mysql_values::value::convert::{FromValueError, from_value_opt};
+use std::alloc::{AllocError, AllocFailed, Global};
 
 // What words ask for.
 #[derive(Drop)]
@@ -32,6 +33,43 @@ pub(crate) enum WordsError {
     Redefined(Vec<u8>),
     // Out of memory.
     Memory(AllocError),
+}
+
+impl From<AllocError> for WordsError {
+    ghost from_gives = { λ _ error. error ≡ Memory alloc_error };
+
+    fn from(error: AllocError) -> WordsError {
+        WordsError::Memory(error)
+    }
+}
+
+impl<T: Drop> From<AllocFailed<T>> for WordsError {
+    ghost from_gives = { λ _ error. error ≡ Memory alloc_error };
+
+    fn from(_error: AllocFailed<T>) -> WordsError {
+        WordsError::Memory(AllocError)
+    }
+}
+
+impl From<ToParamsError> for WordsError {
+    ghost from_gives = { λ refused error. error ≡ words_error_of_params refused };
+
+    fn from(error: ToParamsError) -> WordsError {
+        match error {
+            ToParamsError::Redefined(name) => WordsError::Redefined(name),
+            // No value is a duration that is too long.
+            ToParamsError::Value(_) => WordsError::Usage,
+            ToParamsError::Memory(error) => WordsError::Memory(error),
+        }
+    }
+}
+
+impl From<FromValueError> for WordsError {
+    ghost from_gives = { λ _ error. error ≡ Usage };
+
+    fn from(_error: FromValueError) -> WordsError {
+        WordsError::Usage
+    }
 }
 
 // Judges words: `names` alone, or `bind` and words of a name and a value.
@@ -102,9 +140,7 @@ fn params_by_position(alloc: Global, pairs: Vec<(&[u8], Value)>) -> Result<Param
 {
     let mut values = Vec::new(alloc);
     for (_, value) in pairs {
-        if values.push(value).is_err() {
-            return Err(WordsError::Memory(AllocError));
-        }
+        values.push(value)?;
     }
     Ok(Params::Positional(values))
 }
@@ -114,13 +150,8 @@ fn params_by_name(alloc: Global, pairs: &[(&[u8], Value)]) -> Result<Params, Wor
     ensures { IsAnswer (λ params. bound_query (given params)) words_refusal
         (command_made (given_by_name (map seen_pair pairs.now))) ⊤ result }
 {
-    match Params::from_pairs(alloc, pairs) {
-        Ok(params) => Ok(params),
-        Err(ToParamsError::Redefined(name)) => Err(WordsError::Redefined(name)),
-        // No value is a duration that is too long.
-        Err(ToParamsError::Value(_)) => Err(WordsError::Usage),
-        Err(ToParamsError::Memory(error)) => Err(WordsError::Memory(error)),
-    }
+    let params = Params::from_pairs(alloc, pairs)?;
+    Ok(params)
 }
 
 // Whether all names are empty.
@@ -147,13 +178,8 @@ fn pairs_of_words<'a>(
 {
     let mut pairs = Vec::new(alloc);
     for word in words {
-        match pair_of_word(alloc, word.as_str()) {
-            Ok(pair) => match pairs.push(pair) {
-                Ok(()) => {}
-                Err(_) => return Err(WordsError::Memory(AllocError)),
-            },
-            Err(error) => return Err(error),
-        }
+        let pair = pair_of_word(alloc, word.as_str())?;
+        pairs.push(pair)?;
     }
     Ok(pairs)
 }
@@ -164,10 +190,10 @@ fn pair_of_word<'a>(alloc: Global, word: &'a str) -> Result<(&'a [u8], Value), W
         (ok_or (pair_of_word word.now) usage) ⊤ result }
 {
     match parts_of_word(word) {
-        Some((name, text)) => match parsed_value(alloc, text.as_bytes()) {
-            Ok(value) => Ok((name.as_bytes(), value)),
-            Err(error) => Err(error),
-        },
+        Some((name, text)) => {
+            let value = parsed_value(alloc, text.as_bytes())?;
+            Ok((name.as_bytes(), value))
+        }
         None => Err(WordsError::Usage),
     }
 }
@@ -222,10 +248,8 @@ fn int_of_text(alloc: Global, text: &[u8]) -> Result<Value, WordsError>
     ensures { IsAnswer (λ value. value) words_refusal
         (ok_or (int_of_text text.now) usage) ⊤ result }
 {
-    match from_value_opt::<i64>(bytes_of_text(alloc, text)?) {
-        Ok(number) => Ok(Value::Int(number)),
-        Err(_) => Err(WordsError::Usage),
-    }
+    let number = from_value_opt::<i64>(bytes_of_text(alloc, text)?)?;
+    Ok(Value::Int(number))
 }
 
 // The `UInt` of a decimal text.
@@ -233,16 +257,14 @@ fn uint_of_text(alloc: Global, text: &[u8]) -> Result<Value, WordsError>
     ensures { IsAnswer (λ value. value) words_refusal
         (ok_or (uint_of_text text.now) usage) ⊤ result }
 {
-    match from_value_opt::<u64>(bytes_of_text(alloc, text)?) {
-        Ok(number) => Ok(Value::UInt(number)),
-        Err(_) => Err(WordsError::Usage),
-    }
+    let number = from_value_opt::<u64>(bytes_of_text(alloc, text)?)?;
+    Ok(Value::UInt(number))
 }
 
 // The `Bytes` of a text.
 fn bytes_of_text(alloc: Global, text: &[u8]) -> Result<Value, WordsError>
     ensures { IsAnswer (λ value. value) words_refusal (Ok (BytesOf text.now)) ⊤ result }
 {
-    let bytes = Vec::from_slice(alloc, text).map_err(WordsError::Memory)?;
+    let bytes = Vec::from_slice(alloc, text)?;
     Ok(Value::Bytes(Bytes::from(bytes)))
 }

@@ -1,91 +1,127 @@
--- Each goal is proved without these lines too. With them a wrong body is refused in half the time.
-use Rattle.std.proofs.Common.{rules}
+-- Most goals are proved without these lines too. With them a wrong body is refused in half the time.
+use Rattle.std.proofs.Common.{inl, inr, rules}
+use Rattle.std.proofs.lemmas.Result.{err_from_is_err_and}
+use Rattle.mysql_query_core.proofs.ProgramLemmas.{read_refused}
 use Rattle.mysql_query_core.proofs.program.run.Goals as goal
 
-pub returns-in-Err-clause-ok : goal.returns-in-Err-clause-ok
-returns-in-Err-clause-ok g c = search rules
+pub returns-in_err-command-clause-ok : goal.returns-in_err-command-clause-ok
+returns-in_err-command-clause-ok g c =
+    let handed_on = err_from_is_err_and c.from_residual.result c.from_residual.ensures.1 in
+    rw handed_on.1 (search rules)
 
-pub returns-in-Err-clause-words : goal.returns-in-Err-clause-words
-returns-in-Err-clause-words g c = search rules
+pub returns-in_err-command-clause-words : goal.returns-in_err-command-clause-words
+returns-in_err-command-clause-words g c =
+    let handed_on = err_from_is_err_and c.from_residual.result c.from_residual.ensures.1 in
+    rw handed_on.1 (search (rules, handed_on.2.0, handed_on.2.1))
 
-pub returns-in-Err-clause-usage : goal.returns-in-Err-clause-usage
-returns-in-Err-clause-usage g c = search rules
+pub returns-in_err-command-clause-usage : goal.returns-in_err-command-clause-usage
+returns-in_err-command-clause-usage g c =
+    let handed_on = err_from_is_err_and c.from_residual.result c.from_residual.ensures.1 in
+    rw handed_on.1 (search (rules, handed_on.2.0, handed_on.2.1))
 
-pub returns-in-Err-clause-refused : goal.returns-in-Err-clause-refused
-returns-in-Err-clause-refused g c = search rules
+pub returns-in_err-command-clause-refused : goal.returns-in_err-command-clause-refused
+returns-in_err-command-clause-refused g c =
+    let handed_on = err_from_is_err_and c.from_residual.result c.from_residual.ensures.1 in
+    rw handed_on.1 (search (rules, handed_on.2.0, handed_on.2.1))
 
-pub returns-in-Err-clause-write : goal.returns-in-Err-clause-write
-returns-in-Err-clause-write g c = search rules
+pub returns-in_err-command-clause-write : goal.returns-in_err-command-clause-write
+returns-in_err-command-clause-write g c =
+    let handed_on = err_from_is_err_and c.from_residual.result c.from_residual.ensures.1 in
+    rw handed_on.1 (search (rules, handed_on.2.0, handed_on.2.1))
 
-pub returns-in-Err-clause-unwritten : goal.returns-in-Err-clause-unwritten
-returns-in-Err-clause-unwritten g c = search rules
+pub returns-in_err-command-clause-unwritten : goal.returns-in_err-command-clause-unwritten
+returns-in_err-command-clause-unwritten g c =
+    let handed_on = err_from_is_err_and c.from_residual.result c.from_residual.ensures.1 in
+    rw handed_on.1 (search rules)
 
-pub returns-in-Err-clause-cause : goal.returns-in-Err-clause-cause
-returns-in-Err-clause-cause g c = search rules
+pub returns-in_err-command-clause-cause : goal.returns-in_err-command-clause-cause
+returns-in_err-command-clause-cause g c =
+    let handed_on = err_from_is_err_and c.from_residual.result c.from_residual.ensures.1 in
+    rw handed_on.1 (search (rules, handed_on.2.0, handed_on.2.1))
 
-pub returns-in-Err-Read-clause-ok : goal.returns-in-Err-Read-clause-ok
-returns-in-Err-Read-clause-ok g c = search rules
+pub returns-in_err-query-clause-ok : goal.returns-in_err-query-clause-ok
+returns-in_err-query-clause-ok g c =
+    elim (read_refused c.from_residual-in_err-query.result c.in_err-query.field-0.0 c.from_residual-in_err-query.ensures.1) [
+      | inl read ↦ rw read (search rules)
+      | inr memory ↦ rw memory (search rules)
+    ]
 
-pub returns-in-Err-Read-clause-words : goal.returns-in-Err-Read-clause-words
-returns-in-Err-Read-clause-words g c = search rules
+pub returns-in_err-query-clause-words : goal.returns-in_err-query-clause-words
+returns-in_err-query-clause-words g c =
+    elim (read_refused c.from_residual-in_err-query.result c.in_err-query.field-0.0 c.from_residual-in_err-query.ensures.1) [
+      | inl read ↦ rw read (search rules)
+      | inr memory ↦ rw memory (search rules)
+    ]
 
-pub returns-in-Err-Read-clause-usage : goal.returns-in-Err-Read-clause-usage
-returns-in-Err-Read-clause-usage g c = search rules
+pub returns-in_err-query-clause-usage : goal.returns-in_err-query-clause-usage
+returns-in_err-query-clause-usage g c =
+    elim (read_refused c.from_residual-in_err-query.result c.in_err-query.field-0.0 c.from_residual-in_err-query.ensures.1) [
+      | inl read ↦ rw read (search rules)
+      | inr memory ↦ rw memory (search rules)
+    ]
 
-pub returns-in-Err-Read-clause-refused : goal.returns-in-Err-Read-clause-refused
-returns-in-Err-Read-clause-refused g c = search rules
+pub returns-in_err-query-clause-refused : goal.returns-in_err-query-clause-refused
+returns-in_err-query-clause-refused g c =
+    elim (read_refused c.from_residual-in_err-query.result c.in_err-query.field-0.0 c.from_residual-in_err-query.ensures.1) [
+      | inl read ↦ rw read (search rules)
+      | inr memory ↦ rw memory (search rules)
+    ]
 
-pub returns-in-Err-Read-clause-write : goal.returns-in-Err-Read-clause-write
-returns-in-Err-Read-clause-write g c = search rules
+pub returns-in_err-query-clause-write : goal.returns-in_err-query-clause-write
+returns-in_err-query-clause-write g c =
+    elim (read_refused c.from_residual-in_err-query.result c.in_err-query.field-0.0 c.from_residual-in_err-query.ensures.1) [
+      | inl read ↦ rw read (search rules)
+      | inr memory ↦ rw memory (search rules)
+    ]
 
-pub returns-in-Err-Read-clause-unwritten : goal.returns-in-Err-Read-clause-unwritten
-returns-in-Err-Read-clause-unwritten g c = search rules
+pub returns-in_err-query-clause-unwritten : goal.returns-in_err-query-clause-unwritten
+returns-in_err-query-clause-unwritten g c =
+    elim (read_refused c.from_residual-in_err-query.result c.in_err-query.field-0.0 c.from_residual-in_err-query.ensures.1) [
+      | inl read ↦ rw read (search rules)
+      | inr memory ↦ rw memory (search rules)
+    ]
 
-pub returns-in-Err-Read-clause-cause : goal.returns-in-Err-Read-clause-cause
-returns-in-Err-Read-clause-cause g c = search rules
+pub returns-in_err-query-clause-cause : goal.returns-in_err-query-clause-cause
+returns-in_err-query-clause-cause g c =
+    elim (read_refused c.from_residual-in_err-query.result c.in_err-query.field-0.0 c.from_residual-in_err-query.ensures.1) [
+      | inl read ↦ rw read (search rules)
+      | inr memory ↦ rw memory (search rules)
+    ]
 
-pub returns-in-Err-Memory-clause-ok : goal.returns-in-Err-Memory-clause-ok
-returns-in-Err-Memory-clause-ok g c = search rules
+pub returns-in_err-text-clause-ok : goal.returns-in_err-text-clause-ok
+returns-in_err-text-clause-ok g c =
+    let handed_on = err_from_is_err_and c.from_residual-in_err-text.result c.from_residual-in_err-text.ensures.1 in
+    rw handed_on.1 (search rules)
 
-pub returns-in-Err-Memory-clause-words : goal.returns-in-Err-Memory-clause-words
-returns-in-Err-Memory-clause-words g c = search rules
+pub returns-in_err-text-clause-words : goal.returns-in_err-text-clause-words
+returns-in_err-text-clause-words g c =
+    let handed_on = err_from_is_err_and c.from_residual-in_err-text.result c.from_residual-in_err-text.ensures.1 in
+    rw (handed_on.1, handed_on.2) (search rules)
 
-pub returns-in-Err-Memory-clause-usage : goal.returns-in-Err-Memory-clause-usage
-returns-in-Err-Memory-clause-usage g c = search rules
+pub returns-in_err-text-clause-usage : goal.returns-in_err-text-clause-usage
+returns-in_err-text-clause-usage g c =
+    let handed_on = err_from_is_err_and c.from_residual-in_err-text.result c.from_residual-in_err-text.ensures.1 in
+    rw (handed_on.1, handed_on.2) (search rules)
 
-pub returns-in-Err-Memory-clause-refused : goal.returns-in-Err-Memory-clause-refused
-returns-in-Err-Memory-clause-refused g c = search rules
+pub returns-in_err-text-clause-refused : goal.returns-in_err-text-clause-refused
+returns-in_err-text-clause-refused g c =
+    let handed_on = err_from_is_err_and c.from_residual-in_err-text.result c.from_residual-in_err-text.ensures.1 in
+    rw (handed_on.1, handed_on.2) (search rules)
 
-pub returns-in-Err-Memory-clause-write : goal.returns-in-Err-Memory-clause-write
-returns-in-Err-Memory-clause-write g c = search rules
+pub returns-in_err-text-clause-write : goal.returns-in_err-text-clause-write
+returns-in_err-text-clause-write g c =
+    let handed_on = err_from_is_err_and c.from_residual-in_err-text.result c.from_residual-in_err-text.ensures.1 in
+    rw (handed_on.1, handed_on.2) (search rules)
 
-pub returns-in-Err-Memory-clause-unwritten : goal.returns-in-Err-Memory-clause-unwritten
-returns-in-Err-Memory-clause-unwritten g c = search rules
+pub returns-in_err-text-clause-unwritten : goal.returns-in_err-text-clause-unwritten
+returns-in_err-text-clause-unwritten g c =
+    let handed_on = err_from_is_err_and c.from_residual-in_err-text.result c.from_residual-in_err-text.ensures.1 in
+    rw (handed_on.1, handed_on.2) (search rules)
 
-pub returns-in-Err-Memory-clause-cause : goal.returns-in-Err-Memory-clause-cause
-returns-in-Err-Memory-clause-cause g c = search rules
-
-pub returns-in-Ok-command_output-clause-ok : goal.returns-in-Ok-command_output-clause-ok
-returns-in-Ok-command_output-clause-ok g c = search rules
-
-pub returns-in-Ok-command_output-clause-words : goal.returns-in-Ok-command_output-clause-words
-returns-in-Ok-command_output-clause-words g c = search rules
-
-pub returns-in-Ok-command_output-clause-usage : goal.returns-in-Ok-command_output-clause-usage
-returns-in-Ok-command_output-clause-usage g c = search rules
-
-pub returns-in-Ok-command_output-clause-refused : goal.returns-in-Ok-command_output-clause-refused
-returns-in-Ok-command_output-clause-refused g c = search rules
-
-pub returns-in-Ok-command_output-clause-write : goal.returns-in-Ok-command_output-clause-write
-returns-in-Ok-command_output-clause-write g c = search rules
-
-pub returns-in-Ok-command_output-clause-unwritten :
-    goal.returns-in-Ok-command_output-clause-unwritten
-returns-in-Ok-command_output-clause-unwritten g c = search rules
-
-pub returns-in-Ok-command_output-clause-cause : goal.returns-in-Ok-command_output-clause-cause
-returns-in-Ok-command_output-clause-cause g c = search rules
+pub returns-in_err-text-clause-cause : goal.returns-in_err-text-clause-cause
+returns-in_err-text-clause-cause g c =
+    let handed_on = err_from_is_err_and c.from_residual-in_err-text.result c.from_residual-in_err-text.ensures.1 in
+    rw (handed_on.1, handed_on.2) (search rules)
 
 pub returns-clause-ok : goal.returns-clause-ok
 returns-clause-ok g c = search rules
