@@ -114,17 +114,12 @@ pub fn bind_fragments_in(
     ensures mixed { OnTokens no_backslash_escape query.now (λ ts.
         HasName ts × HasMark ts → IsErrOf result FragmentsError.Mixed) }
 {
-    let list = match placed_fragments(alloc, query, fragments, no_backslash_escape, true) {
-        Ok(list) => list,
-        Err(error) => return Err(error),
-    };
+    let list = placed_fragments(alloc, query, fragments, no_backslash_escape, true)?;
     let form = PlainForm {
         no_backslash_escape,
     };
-    match filled_query(alloc, query, list.as_slice(), no_backslash_escape, &form) {
-        Ok(text) => Ok(text),
-        Err(error) => Err(FragmentsError::Memory(error)),
-    }
+    let text = filled_query(alloc, query, list.as_slice(), no_backslash_escape, &form)?;
+    Ok(text)
 }
 
 /// The query with a fragment in the place of each name and mark, in the mode in which a backslash
@@ -183,14 +178,9 @@ fn expanded(
     ensures mixed { OnTokens no_backslash_escape query.now (λ ts.
         HasName ts × HasMark ts → IsErrOf result FragmentsError.Mixed) }
 {
-    let list = match placed_fragments(alloc, query, fragments, no_backslash_escape, as_literals) {
-        Ok(list) => list,
-        Err(error) => return Err(error),
-    };
-    match written(alloc, query, list.as_slice(), no_backslash_escape) {
-        Ok(expanded) => Ok(expanded),
-        Err(error) => Err(FragmentsError::Memory(error)),
-    }
+    let list = placed_fragments(alloc, query, fragments, no_backslash_escape, as_literals)?;
+    let expanded = written(alloc, query, list.as_slice(), no_backslash_escape)?;
+    Ok(expanded)
 }
 
 /// References to the fragments for the places of a query, if none of the causes refuses them for

@@ -32,10 +32,8 @@ pub(crate) fn fragments_of_places<'f>(
     match fragments {
         Fragments::Positional(list) => {
             if name_count == 0 {
-                match references(alloc, list.as_slice()) {
-                    Ok(list) => Ok(list),
-                    Err(error) => Err(FragmentsError::Memory(error)),
-                }
+                let list = references(alloc, list.as_slice())?;
+                Ok(list)
             } else {
                 Err(FragmentsError::Confusion(ParamsConfusionError::PositionalParamsForNamedQuery))
             }
@@ -74,10 +72,8 @@ fn fragments_of_names<'f>(
     ensures refused { IfErr result (λ error. OnTokens no_backslash_escape query.now (λ ts.
         IsPlaceRefusal (fragments_at (fragment_map entries.now.entries) (names ts)) error)) }
 {
-    let parsed = match ParsedQuery::parse_in(alloc, query, no_backslash_escape) {
-        Ok(parsed) => parsed,
-        Err(error) => return Err(FragmentsError::Memory(error)),
-    };
+    let parsed = ParsedQuery::parse_in(alloc, query, no_backslash_escape)?;
+    // The query has no marks, so this is out of memory.
     let names = match parsed.names(alloc) {
         Ok(names) => names,
         Err(_) => return Err(FragmentsError::Memory(AllocError)),
@@ -97,16 +93,10 @@ fn listed_fragments<'f>(
     ensures refused { IfErr result (IsPlaceRefusal
         (fragments_at (fragment_map entries.now.entries) (referents names.now))) }
 {
-    let mut list = match Vec::with_capacity(alloc, names.len()) {
-        Ok(list) => list,
-        Err(error) => return Err(FragmentsError::Memory(error)),
-    };
+    let mut list = Vec::with_capacity(alloc, names.len())?;
     for name in names {
         match entries.get(*name) {
-            Some(fragment) => match list.push(fragment) {
-                Ok(()) => {}
-                Err(_) => return Err(FragmentsError::Memory(AllocError)),
-            },
+            Some(fragment) => list.push(fragment).map_err(AllocError::from)?,
             None => return Err(missing_error(alloc, *name)),
         }
     }

@@ -109,15 +109,10 @@ fn bind_steady_fragments(
     ensures mixed { (mode : Bool) → OnTokens mode query.now (λ ts. HasName ts × HasMark ts →
         IsErrOf result (SteadyFragmentsError.Fragments FragmentsError.Mixed)) }
 {
-    let list = match placed_fragments(alloc, query, fragments, false, true) {
-        Ok(list) => list,
-        Err(error) => return Err(SteadyFragmentsError::Fragments(error)),
-    };
+    let list = placed_fragments(alloc, query, fragments, false, true)?;
     if let Some(place) = first_unsteady_place(list.as_slice()) {
         return Err(SteadyFragmentsError::UnsteadyFragment { place });
     }
-    match filled_query(alloc, query, list.as_slice(), false, &SteadyForm) {
-        Ok(text) => Ok(text),
-        Err(error) => Err(SteadyFragmentsError::Fragments(FragmentsError::Memory(error))),
-    }
+    let text = filled_query(alloc, query, list.as_slice(), false, &SteadyForm)?;
+    Ok(text)
 }

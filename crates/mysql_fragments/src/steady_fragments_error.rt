@@ -1,6 +1,7 @@
 //! Why a query and fragments give no steady text.
 use crate::fragments_error::FragmentsError;
 use mysql_portable::portable::Unportable;
+use std::alloc::AllocError;
 use thiserror::Error;
 
 /// Why [`bind_fragments_anywhere`](crate::bind_fragments_anywhere) or
@@ -29,4 +30,27 @@ pub enum SteadyFragmentsError {
         /// [`Fault`](crate::FragmentsError::Fault).
         place: usize,
     },
+}
+
+impl From<FragmentsError> for SteadyFragmentsError {
+    ghost use Rattle.std.specs.Prelude.{◌≡◌};
+    ghost use Rattle.mysql_fragments.specs.declared.steady_fragments_error.SteadyFragmentsError.TheVariants.{Fragments};
+
+    ghost from_gives = { λ refusal error. error ≡ Fragments refusal };
+
+    fn from(error: FragmentsError) -> SteadyFragmentsError {
+        SteadyFragmentsError::Fragments(error)
+    }
+}
+
+impl From<AllocError> for SteadyFragmentsError {
+    ghost use Rattle.std.specs.Prelude.{◌≡◌, alloc_error};
+    ghost use Rattle.mysql_fragments.specs.declared.fragments_error.FragmentsError.TheVariants.{Memory};
+    ghost use Rattle.mysql_fragments.specs.declared.steady_fragments_error.SteadyFragmentsError.TheVariants.{Fragments};
+
+    ghost from_gives = { λ _ error. error ≡ Fragments (Memory alloc_error) };
+
+    fn from(error: AllocError) -> SteadyFragmentsError {
+        SteadyFragmentsError::Fragments(FragmentsError::Memory(error))
+    }
 }
