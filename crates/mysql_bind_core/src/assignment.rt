@@ -1,12 +1,22 @@
-//! Values for names, as their sources give them.
-ghost use Rattle.std.specs.Prelude.{◌≡◌, map, ok_or, ⊤};
+//! What names are assigned, as their sources give it: the values that it makes, or the fragments.
+ghost use Rattle.std.specs.Prelude.{◌≡◌, ◌≢◌, map, ok_or, ⊤, ℕ, List, Some, Ok, IfOk, IfErr, OnOk};
+ghost use Rattle.std.specs.FinMap.{contains_key};
 ghost use Rattle.mysql_values.specs.Answer.{IsAnswer};
+ghost use Rattle.mysql_fragments.specs.GivenFragments.{fragment_map};
+ghost use Rattle.mysql_fragments.specs.declared.fragment.Fragment as declared;
 ghost use Rattle.mysql_query_core.specs.WordErrors.{seen_pair};
 ghost use Rattle.mysql_bind_core.specs.Assignments.{pair_of, pairs_of, pairs_refusal, no_value};
+ghost use Rattle.mysql_bind_core.specs.Contents.{contents_of, has_fragment, named_content};
+ghost use Rattle.mysql_bind_core.specs.Entries.{entries_of, pair_seen, pair_said, with_fragment};
+ghost use Rattle.mysql_bind_core.specs.Refusals.{IsContentsRefusal, IsEntriesRefusal};
 
-use crate::value_type::{ValueType, typed_value};
+use crate::failure::Failure;
+use crate::fragment_type::typed_fragment;
+use crate::value_type::{ValueType, is_value_type, typed_value};
+use mysql_fragments::{Fragment, Fragments};
 use mysql_values::value::Value;
 use std::alloc::{AllocError, Global};
+use std::collections::HashMap;
 
 /// A name of a query, and the bytes that a value is made of.
 #[derive(Debug, Drop)]
@@ -62,4 +72,120 @@ fn pair_of(alloc: Global, assignment: &Assignment) -> Result<(&[u8], Value), Pai
         Some(value) => Ok((assignment.name.as_slice(), value)),
         None => Err(PairsError::NoValue),
     }
+}
+
+// Whether one of the assignments is no value.
+pub(crate) fn has_fragment(assignments: &[Assignment]) -> bool
+    ensures { result ≡ has_fragment assignments.now }
+{
+    assignments
+        .iter()
+        .any(|assignment| !is_value_type(assignment.value_type))
+}
+
+// What assignments give by name.
+pub(crate) fn assigned_fragments(
+    alloc: Global,
+    assignments: &[Assignment],
+) -> Result<HashMap<Vec<u8>, Fragment>, Failure>
+    ensures given { IfOk result (λ entries. (pairs : List (List ℕ × declared.Fragment))
+        × (contents_of assignments.now ≡ Some (map pair_said pairs))
+        × (entries_of pairs ≡ Ok (fragment_map entries.entries))) }
+    ensures refused { IfErr result (IsContentsRefusal assignments.now) }
+    ensures only { IfErr result (λ e. e ≢ Failure.Write) }
+{
+    match fragments_of(alloc, assignments) {
+        Ok(pairs) => entries_of(alloc, pairs),
+        Err(PairsError::NoValue) => Err(Failure::NoValue),
+        Err(PairsError::Memory(error)) => Err(Failure::Memory(error)),
+    }
+}
+
+// The name and the fragment of each assignment.
+fn fragments_of(
+    alloc: Global,
+    assignments: &[Assignment],
+) -> Result<Vec<(&[u8], Fragment)>, PairsError>
+    ensures { IsAnswer (λ pairs. map (λ pair. pair_said (pair_seen pair)) pairs.items)
+        pairs_refusal (ok_or (contents_of assignments.now) no_value) ⊤ result }
+{
+    let mut pairs = Vec::new(alloc);
+    for assignment in assignments {
+        match fragment_of(alloc, assignment) {
+            Ok(pair) => match pairs.push(pair) {
+                Ok(()) => {}
+                Err(_) => return Err(PairsError::Memory(AllocError)),
+            },
+            Err(error) => return Err(error),
+        }
+    }
+    Ok(pairs)
+}
+
+// The name and the fragment of an assignment.
+fn fragment_of(alloc: Global, assignment: &Assignment) -> Result<(&[u8], Fragment), PairsError>
+    ensures { IsAnswer (λ pair. pair_said (pair_seen pair)) pairs_refusal
+        (ok_or (named_content assignment.now) no_value) ⊤ result }
+{
+    let typed = match typed_fragment(alloc, assignment.value_type, assignment.bytes.as_slice()) {
+        Ok(typed) => typed,
+        Err(error) => return Err(PairsError::Memory(error)),
+    };
+    match typed {
+        Some(fragment) => Ok((assignment.name.as_slice(), fragment)),
+        None => Err(PairsError::NoValue),
+    }
+}
+
+// The fragments by name, each of which comes once.
+fn entries_of(
+    alloc: Global,
+    pairs: Vec<(&[u8], Fragment)>,
+) -> Result<HashMap<Vec<u8>, Fragment>, Failure>
+    ensures made { IfOk result (λ entries.
+        entries_of (map pair_seen pairs.entry.items) ≡ Ok (fragment_map entries.entries)) }
+    ensures refused { IfErr result (IsEntriesRefusal
+        (entries_of (map pair_seen pairs.entry.items))) }
+{
+    let mut entries = HashMap::new(alloc);
+    for pair in pairs {
+        let (name, fragment) = pair;
+        match insert_fragment(alloc, &mut entries, name, fragment) {
+            Ok(()) => {}
+            Err(failure) => return Err(failure),
+        }
+    }
+    Ok(entries)
+}
+
+// Inserts a fragment under a copy of its name, which may not be in the map yet.
+fn insert_fragment(
+    alloc: Global,
+    entries: &mut HashMap<Vec<u8>, Fragment>,
+    name: &[u8],
+    fragment: Fragment,
+) -> Result<(), Failure>
+    ensures made { OnOk result (with_fragment (Ok (fragment_map entries.old.entries))
+        (name.now, fragment) ≡ Ok (fragment_map entries.new.entries)) }
+    ensures refused { IfErr result (IsEntriesRefusal
+        (with_fragment (Ok (fragment_map entries.old.entries)) (name.now, fragment))) }
+{
+    let copy = match Vec::from_slice(alloc, name) {
+        Ok(copy) => copy,
+        Err(error) => return Err(Failure::Memory(error)),
+    };
+    if has_name(entries, name) {
+        return Err(Failure::Redefined(copy));
+    }
+    match entries.insert(copy, fragment) {
+        Ok(_) => Ok(()),
+        Err(_) => Err(Failure::Memory(AllocError)),
+    }
+}
+
+// Whether the name is in the map.
+fn has_name(entries: &HashMap<Vec<u8>, Fragment>, name: &[u8]) -> bool
+    ensures { result ≡ contains_key (fragment_map entries.now.entries) name.now }
+{
+    entries.get(name).is_some()
 }

@@ -1,4 +1,4 @@
-//! Binding and writing: the bound text of a query that is taken, or a refusal.
+//! Binding and writing in one call: the bound text of a query, or a refusal.
 ghost use Rattle.std.specs.Prelude.{◌≡◌, ◌≢◌, ℕ, List, IfOk, IfErr, OnOk, IsErrOf, alloc_error};
 ghost use Rattle.std.specs.Io.KnownBytes.{Appends};
 ghost use Rattle.mysql_io.specs.ReadersAndWriters.{AppendsPrefix};
@@ -9,7 +9,6 @@ use crate::assignment::Assignment;
 use crate::failure::Failure;
 use crate::request::Request;
 use crate::taken::TakenQuery;
-use mysql_io::readers_and_writers::write_whole;
 use std::alloc::Global;
 use std::io::Write;
 
@@ -64,47 +63,4 @@ pub fn write_bound<W: Write>(
 {
     let taken = TakenQuery::new(alloc, query, request)?;
     taken.write(alloc, assignments, output)
-}
-
-impl<'q> TakenQuery<'q> {
-    /// Binds the assigned values into the query, and writes the whole text, or refuses, as
-    /// [`write_bound`] does for a query that is taken.
-    pub fn write<W: Write>(
-        &self,
-        alloc: Global,
-        assignments: &[Assignment],
-        output: &mut W,
-    ) -> Result<(), Failure>
-        ensures written { OnOk result ((text : List ℕ)
-            × IsWritten self.now.request self.now.query assignments.now text
-            × Appends (W.contents output.old) (W.contents output.new) text) }
-        ensures refused { IfErr result (λ e. e ≢ Failure.Write →
-            IsRefusal self.now.request self.now.query assignments.now e) }
-
-        // A refusal has written nothing.
-        ensures unwritten { IfErr result (λ e. e ≢ Failure.Write → output.new ≡ output.old) }
-
-        // A failed write has written a prefix of what would have been written.
-        ensures begun { IsErrOf result Failure.Write → (text : List ℕ)
-            × IsWritten self.now.request self.now.query assignments.now text
-            × AppendsPrefix (W.contents output.old) (W.contents output.new) text }
-    {
-        match self.text(alloc, assignments) {
-            Ok(text) => written(output, &text),
-            Err(failure) => Err(failure),
-        }
-    }
-}
-
-// Writes the whole text.
-fn written<W: Write>(output: &mut W, text: &[u8]) -> Result<(), Failure>
-    ensures ok { OnOk result (Appends (W.contents output.old) (W.contents output.new) text.now) }
-    ensures refused { IfErr result (λ e. e ≡ Failure.Write) }
-    ensures begun { IsErrOf result Failure.Write →
-        AppendsPrefix (W.contents output.old) (W.contents output.new) text.now }
-{
-    match write_whole(output, text) {
-        Ok(()) => Ok(()),
-        Err(_) => Err(Failure::Write),
-    }
 }

@@ -4,8 +4,7 @@ ghost use Rattle.mysql_values.specs.BorrowedValue.{owned};
 ghost use Rattle.mysql_bind_core.specs.Cells.{AreAssigned, cell_value, value_said};
 
 use crate::assignment::Assignment;
-use crate::lent_value::lent_value;
-use crate::value_type::{ValueType, typed_value};
+use crate::value_type::{ValueType, lent_value, typed_value};
 use mysql_values::value::{Value, ValueRef};
 use std::alloc::{AllocError, Global};
 

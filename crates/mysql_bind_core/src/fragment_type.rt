@@ -3,10 +3,9 @@ ghost use Rattle.std.specs.Prelude.{◌≡◌, IfOk, Some, map, option_map};
 ghost use Rattle.json.specs.Json.{document};
 ghost use Rattle.json.specs.Value.{value_view};
 ghost use Rattle.mysql_float_literal.specs.DoubleText.{double_value};
-ghost use Rattle.mysql_bind_core.specs.Contents.{all_of, content, double_item, double_of, finite_double, has_exponent, is_value_type, item_of, item_said, list_in, list_of_json, name_of, number_item, number_of, said};
+ghost use Rattle.mysql_bind_core.specs.Contents.{all_of, content, double_item, double_of, finite_double, has_exponent, item_of, item_said, list_in, list_of_json, name_of, number_item, number_of, said};
 
-use crate::lent_value::lent_number;
-use crate::value_type::{ValueType, copied, typed_value};
+use crate::value_type::{ValueType, copied, lent_number, typed_value};
 use json::{Error as JsonError, Scratch, Value as Json};
 use mysql_float_literal::Double;
 use mysql_fragments::{Fragment, Item};
@@ -34,16 +33,6 @@ pub fn typed_fragment(
             None => Ok(None),
         },
     }
-}
-
-// Whether the type gives values.
-pub(crate) fn is_value_type(value_type: ValueType) -> bool
-    ensures { result ≡ is_value_type value_type }
-{
-    !matches!(
-        value_type,
-        ValueType::Decimal | ValueType::Double | ValueType::Identifier | ValueType::List
-    )
 }
 
 // An exact number.

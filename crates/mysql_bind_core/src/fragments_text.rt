@@ -8,8 +8,7 @@ ghost use Rattle.mysql_bind_core.specs.Entries.{IsFragmentsFor};
 ghost use Rattle.mysql_bind_core.specs.Refusals.{IsFragmentsRefusal, IsFragmentsTextRefusal};
 ghost use Rattle.mysql_bind_core.specs.Requests.{mode_of};
 
-use crate::assignment::Assignment;
-use crate::entries::assigned_fragments;
+use crate::assignment::{Assignment, assigned_fragments};
 use crate::failure::Failure;
 use crate::request::{Literals, Portability, Request};
 use mysql_fragments::{

@@ -2,10 +2,10 @@
 //! bound from its cells where they lie.
 ghost use Rattle.std.specs.Prelude.{◌≡◌, ◌++◌, ◌<◌, ℕ, false, true, List, length, map, Some, IfOk, IfErr, IfSome, IsTrue, IsFalse, OnErr, OnOk};
 ghost use Rattle.std.specs.List.{slice_get};
+ghost use Rattle.mysql_values.specs.BorrowedValue.{owned_values};
 ghost use Rattle.mysql_named_params.specs.Tokens.{OnTokens};
 ghost use Rattle.mysql_named_params.specs.Places.{names};
 ghost use Rattle.mysql_params_core.specs.Referents.{referents};
-ghost use Rattle.mysql_values.specs.BorrowedValue.{owned_values};
 ghost use Rattle.mysql_bind_core.specs.Bound.{IsTaken};
 ghost use Rattle.mysql_bind_core.specs.Cells.{AreAssigned, AreNumbersOf, TableQuery, are_distinct_names, value_said};
 ghost use Rattle.mysql_bind_core.specs.Contents.{has_fragment};
@@ -18,8 +18,7 @@ use crate::cell::{Cell, CellValue, cell_values};
 use crate::failure::Failure;
 use crate::laws::values_are_sent;
 use crate::request::Request;
-use crate::taken::text::found_in_text;
-use crate::taken::{Attempt, TakenQuery};
+use crate::taken::{Attempt, TakenQuery, found_in_text};
 use mysql_binding::ParsedQuery;
 use mysql_params_core::params::NamedPairs;
 use mysql_values::value::ValueRef;

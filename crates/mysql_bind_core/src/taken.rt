@@ -1,21 +1,40 @@
 //! Queries that a request takes. What is found out of a query before values are looked at is found
-//! out once, and handed on.
-ghost use Rattle.std.specs.Prelude.{◌≡◌, ◌≢◌, IfErr, IfOk, IsErrOf, OnOk, alloc_error};
+//! out once, and handed on. The text of such a query has its assignments, in the literals that are
+//! asked for, and is written or refused whole.
+ghost use Rattle.std.specs.Prelude.{◌≡◌, ◌≢◌, IfErr, IfOk, IsErrOf, OnOk, alloc_error, ℕ, List, Some, None, Ok, map, IfSome};
+ghost use Rattle.std.specs.Io.KnownBytes.{Appends};
+ghost use Rattle.mysql_io.specs.ReadersAndWriters.{AppendsPrefix};
+ghost use Rattle.mysql_values.specs.declared.value.Value as value_type;
 ghost use Rattle.mysql_named_params.specs.Tokens.{OnTokens};
+ghost use Rattle.mysql_params_core.specs.Given.{given};
 ghost use Rattle.mysql_binding.specs.FoundPlaces.{found_places};
-ghost use Rattle.mysql_bind_core.specs.Bound.{IsTaken};
-ghost use Rattle.mysql_bind_core.specs.Refusals.{IsQueryRefusal};
+ghost use Rattle.mysql_query_core.specs.WordErrors.{seen_pair};
+ghost use Rattle.mysql_query_core.specs.Words.{given_by_name};
+ghost use Rattle.mysql_bind_core.specs.Bound.{IsTaken, IsAssignedText, IsPortableIfWanted, IsTextFor, IsValuesText, IsWritten};
+ghost use Rattle.mysql_bind_core.specs.Refusals.{IsQueryRefusal, IsAssignmentsRefusal, IsFoundInText, IsMadeRefusal, IsRefusal, IsTextRefusal, IsValuesRefusal};
 ghost use Rattle.mysql_bind_core.specs.Requests.{mode_of};
+ghost use Rattle.mysql_bind_core.specs.Assignments.{given_of, pairs_of};
 
 mod appended;
-pub(crate) mod text;
 
+use crate::assignment::{Assignment, PairsError, has_fragment, pairs_of};
 use crate::checked::check_surveyed;
 use crate::failure::Failure;
-use crate::request::Request;
+use crate::fragments_text::fragments_text;
+use crate::laws::values_are_sent;
+use crate::request::{Literals, Portability, Request};
 pub(crate) use appended::Attempt;
-use mysql_binding::{KEPT_PLACES, NO_PLACE, ParsedQuery, SurveyedQuery};
-use std::alloc::Global;
+use mysql_binding::{
+    KEPT_PLACES, NO_PLACE, ParsedQuery, PlainForm, SurveyedQuery, bind_surveyed_as,
+};
+use mysql_io::readers_and_writers::write_whole;
+use mysql_params_core::params::{Params, ToParamsError};
+use mysql_portable::client::first_unportable_in_client;
+use mysql_portable::portable::Unportable;
+use mysql_steady_text::{SteadyForm, SteadyTextError};
+use mysql_values::value::Value;
+use std::alloc::{AllocError, Global};
+use std::io::Write;
 use std::marker::Model;
 
 /// A query that a request takes, with its places. It is bound any number of times; to values it is
@@ -76,6 +95,102 @@ impl<'q> TakenQuery<'q> {
     {
         &self.parsed
     }
+
+    /// The query with the literals of the assigned values in the places of its names, or the
+    /// refusal, as [`bound_text`](crate::bound_text) gives it. For values the query isn't walked
+    /// again.
+    pub fn text(&self, alloc: Global, assignments: &[Assignment]) -> Result<Vec<u8>, Failure>
+        ensures bound { IfOk result (λ text.
+            IsWritten self.now.request self.now.query assignments.now text.items) }
+        ensures refused { IfErr result
+            (IsRefusal self.now.request self.now.query assignments.now) }
+        ensures only { IfErr result (λ e. e ≢ Failure.Write) }
+    {
+        if has_fragment(assignments) {
+            let text = fragments_text(alloc, self.parsed.query(), assignments, self.request)?;
+            return self.asked_text(assignments, text);
+        }
+        let text = self.values_text(alloc, assignments)?;
+        if self.request.literals.no_backslash_escape() {
+            return self.asked_text(assignments, text);
+        }
+        values_are_sent();
+        Ok(text)
+    }
+
+    /// Binds the assigned values into the query, and writes the whole text, or refuses, as
+    /// [`write_bound`](crate::write_bound) does for a query that is taken.
+    pub fn write<W: Write>(
+        &self,
+        alloc: Global,
+        assignments: &[Assignment],
+        output: &mut W,
+    ) -> Result<(), Failure>
+        ensures written { OnOk result ((text : List ℕ)
+            × IsWritten self.now.request self.now.query assignments.now text
+            × Appends (W.contents output.old) (W.contents output.new) text) }
+        ensures refused { IfErr result (λ e. e ≢ Failure.Write →
+            IsRefusal self.now.request self.now.query assignments.now e) }
+
+        // A refusal has written nothing.
+        ensures unwritten { IfErr result (λ e. e ≢ Failure.Write → output.new ≡ output.old) }
+
+        // A failed write has written a prefix of what would have been written.
+        ensures begun { IsErrOf result Failure.Write → (text : List ℕ)
+            × IsWritten self.now.request self.now.query assignments.now text
+            × AppendsPrefix (W.contents output.old) (W.contents output.new) text }
+    {
+        match self.text(alloc, assignments) {
+            Ok(text) => written(output, &text),
+            Err(failure) => Err(failure),
+        }
+    }
+
+    // The text, unless it has to be portable in a client and isn't: a name may have a newline, and
+    // a string without backslash escapes a newline or a byte 0. All texts with fragments are asked.
+    fn asked_text(&self, assignments: &[Assignment], text: Vec<u8>) -> Result<Vec<u8>, Failure>
+        requires { IsAssignedText self.now.request self.now.query assignments.now text.items }
+        ensures bound { IfOk result (λ text.
+            IsWritten self.now.request self.now.query assignments.now text.items) }
+        ensures refused { IfErr result
+            (IsRefusal self.now.request self.now.query assignments.now) }
+        ensures only { IfErr result (λ e. e ≢ Failure.Write) }
+    {
+        match found_in_text(text.as_slice(), self.request) {
+            None => Ok(text),
+            Some(found) => Err(Failure::UnportableText(found)),
+        }
+    }
+
+    // The text of assignments that are all values, with the literals that are asked for.
+    fn values_text(&self, alloc: Global, assignments: &[Assignment]) -> Result<Vec<u8>, Failure>
+        ensures bound { IfOk result (λ text.
+            IsValuesText self.now.request self.now.query assignments.now text.items) }
+        ensures refused { IfErr result
+            (IsValuesRefusal self.now.request self.now.query assignments.now) }
+        ensures only { IfErr result (λ e. e ≢ Failure.Write) }
+    {
+        let params = assigned_params(alloc, assignments)?;
+        let surveyed = self.parsed.surveyed();
+        let borrowed = params.borrowed();
+        match self.request.literals {
+            Literals::Plain {
+                no_backslash_escape,
+            } => {
+                let form = PlainForm {
+                    no_backslash_escape,
+                };
+                match bind_surveyed_as(alloc, &surveyed, borrowed, &form) {
+                    Ok(text) => Ok(text),
+                    Err(error) => Err(Failure::Plain(error)),
+                }
+            }
+            Literals::Steady => match bind_surveyed_as(alloc, &surveyed, borrowed, &SteadyForm) {
+                Ok(text) => Ok(text),
+                Err(error) => Err(Failure::Steady(SteadyTextError::Bind(error))),
+            },
+        }
+    }
 }
 
 /// Whether the request takes the query, without any values: `Open`, `Unsteady`, `Unportable` or
@@ -89,4 +204,70 @@ pub fn check_query(alloc: Global, query: &[u8], request: Request) -> Result<(), 
     let mode = request.literals.no_backslash_escape();
     let mut first = [NO_PLACE; KEPT_PLACES];
     check_surveyed(&SurveyedQuery::new(query, mode, &mut first), request)
+}
+
+// Writes the whole text.
+fn written<W: Write>(output: &mut W, text: &[u8]) -> Result<(), Failure>
+    ensures ok { OnOk result (Appends (W.contents output.old) (W.contents output.new) text.now) }
+    ensures refused { IfErr result (λ e. e ≡ Failure.Write) }
+    ensures begun { IsErrOf result Failure.Write →
+        AppendsPrefix (W.contents output.old) (W.contents output.new) text.now }
+{
+    match write_whole(output, text) {
+        Ok(()) => Ok(()),
+        Err(_) => Err(Failure::Write),
+    }
+}
+
+// The first construct of a bound text, if it has to be portable in a client.
+pub(crate) fn found_in_text(text: &[u8], request: Request) -> Option<Unportable>
+    ensures none { result ≡ None → IsPortableIfWanted request text.now }
+    ensures found { IfSome result (IsFoundInText request text.now) }
+{
+    match request.portability {
+        Portability::Any => None,
+        Portability::Portable => {
+            first_unportable_in_client(text, request.literals.no_backslash_escape())
+        }
+    }
+}
+
+// What assignments give.
+fn assigned_params(alloc: Global, assignments: &[Assignment]) -> Result<Params, Failure>
+    ensures given { IfOk result (λ params. (pairs : List (List ℕ × value_type.Value))
+        × (pairs_of assignments.now ≡ Some pairs) × (given_of pairs ≡ Ok (given params))) }
+    ensures refused { IfErr result (IsAssignmentsRefusal assignments.now) }
+    ensures only { IfErr result (λ e. e ≢ Failure.Write) }
+{
+    match pairs_of(alloc, assignments) {
+        Ok(pairs) => params_of(alloc, pairs.as_slice()),
+        Err(PairsError::NoValue) => Err(Failure::NoValue),
+        Err(PairsError::Memory(error)) => Err(Failure::Memory(error)),
+    }
+}
+
+// What pairs give: nothing, if there are none.
+fn params_of(alloc: Global, pairs: &[(&[u8], Value)]) -> Result<Params, Failure>
+    ensures given { IfOk result (λ params. given_of (map seen_pair pairs.now) ≡ Ok (given params)) }
+    ensures refused { IfErr result (IsMadeRefusal (given_of (map seen_pair pairs.now))) }
+{
+    if pairs.is_empty() {
+        return Ok(Params::Empty);
+    }
+    named_params(alloc, pairs)
+}
+
+// What pairs give by name.
+fn named_params(alloc: Global, pairs: &[(&[u8], Value)]) -> Result<Params, Failure>
+    ensures given { IfOk result (λ params.
+        given_by_name (map seen_pair pairs.now) ≡ Ok (given params)) }
+    ensures refused { IfErr result (IsMadeRefusal (given_by_name (map seen_pair pairs.now))) }
+{
+    match Params::from_pairs(alloc, pairs) {
+        Ok(params) => Ok(params),
+        Err(ToParamsError::Redefined(name)) => Err(Failure::Redefined(name)),
+        // No value is a duration that is too long, so this doesn't come.
+        Err(ToParamsError::Value(_)) => Err(Failure::Memory(AllocError)),
+        Err(ToParamsError::Memory(error)) => Err(Failure::Memory(error)),
+    }
 }

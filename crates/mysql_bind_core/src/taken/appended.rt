@@ -2,11 +2,11 @@
 //! query alone, as its places and names, is found once before, and a value is looked for among the
 //! few of its row, without a map.
 ghost use Rattle.std.specs.Prelude.{◌≡◌, ◌++◌, ◌<◌, ℕ, false, true, List, length, map, option_map, IfOk, IfErr, IfSome, IsTrue, IsFalse, OnErr, OnOk};
+ghost use Rattle.mysql_values.specs.BorrowedValue.{owned_values};
 ghost use Rattle.mysql_named_params.specs.Tokens.{OnTokens};
 ghost use Rattle.mysql_named_params.specs.Places.{names};
 ghost use Rattle.mysql_params_core.specs.Given.{Given};
 ghost use Rattle.mysql_params_core.specs.Referents.{referents};
-ghost use Rattle.mysql_values.specs.BorrowedValue.{owned_values};
 ghost use Rattle.mysql_binding.specs.AppendedText.{AreFound};
 ghost use Rattle.mysql_query_core.specs.WordErrors.{seen_pair};
 ghost use Rattle.mysql_bind_core.specs.Assignments.{given_of, pairs_of};
@@ -16,13 +16,11 @@ ghost use Rattle.mysql_bind_core.specs.FoundPairs.{AreValuesIn, IsTextAppended, 
 ghost use Rattle.mysql_bind_core.specs.Refusals.{IsRefusal};
 ghost use Rattle.mysql_bind_core.specs.Requests.{mode_of};
 
-use crate::assignment::{Assignment, PairsError, pairs_of};
-use crate::entries::has_fragment;
+use crate::assignment::{Assignment, PairsError, has_fragment, pairs_of};
 use crate::failure::Failure;
 use crate::laws::values_are_sent;
 use crate::request::Literals;
-use crate::taken::TakenQuery;
-use crate::taken::text::found_in_text;
+use crate::taken::{TakenQuery, found_in_text};
 use mysql_binding::{BindError, PlainForm, append_parsed};
 use mysql_steady_text::SteadyForm;
 use mysql_values::value::{Value, ValueRef};

@@ -2,7 +2,7 @@ use Rattle.std.proofs.Common.{◌-◌, drop, length}
 use Rattle.mysql_named_params.specs.Tokens.{OnTokens}
 use Rattle.mysql_binding.specs.FoundPlaces.{BeginWithPlaces}
 use Rattle.mysql_bind_core.proofs.QueryEndLemmas.{PassedTo}
-use Rattle.mysql_bind_core.proofs.query_end.open_end.Given as goal
+use Rattle.mysql_bind_core.proofs.checked.open_end.Given as goal
 
 abbrev pub invariant-places : goal.invariant-places
 invariant-places l =

@@ -7,7 +7,7 @@ use Rattle.mysql_bind_core.specs.Refusals.{IsContentsRefusal, IsEntriesRefusal}
 use Rattle.mysql_bind_core.proofs.AssignmentLemmas.{ok_or-found}
 use Rattle.mysql_bind_core.proofs.BindingLemmas.{if_ok, if_err}
 use Rattle.mysql_bind_core.proofs.EntryLemmas.{contents_refused, said_seen}
-use Rattle.mysql_bind_core.proofs.entries.assigned_fragments.Goals as goal
+use Rattle.mysql_bind_core.proofs.assignment.assigned_fragments.Goals as goal
 
 pub returns-in-Ok-clause-given : goal.returns-in-Ok-clause-given
 returns-in-Ok-clause-given c =

@@ -7,7 +7,7 @@ use Rattle.mysql_bind_core.specs.Contents.{all_of, contents_of, named_content}
 use Rattle.mysql_bind_core.specs.Entries.{pair_said, pair_seen}
 use Rattle.mysql_bind_core.proofs.AssignmentLemmas.{ok_or-found, ok_or-refused}
 use Rattle.mysql_bind_core.proofs.ContentLemmas.{before, one_more, one_none}
-use Rattle.mysql_bind_core.proofs.entries.fragments_of.Goals as goal
+use Rattle.mysql_bind_core.proofs.assignment.fragments_of.Goals as goal
 
 pub returns-in-Err : goal.returns-in-Err
 returns-in-Err c =

@@ -6,7 +6,7 @@ use Rattle.mysql_bind_core.specs.Assignments.{given_of, pairs_of}
 use Rattle.mysql_bind_core.specs.Refusals.{IsMadeRefusal, IsAssignmentsRefusal}
 use Rattle.mysql_bind_core.proofs.AssignmentLemmas.{ok_or-found}
 use Rattle.mysql_bind_core.proofs.BindingLemmas.{if_ok, if_err, assignments_refused}
-use Rattle.mysql_bind_core.proofs.taken.text.assigned_params.Goals as goal
+use Rattle.mysql_bind_core.proofs.taken.assigned_params.Goals as goal
 
 pub returns-in-Ok-clause-given : goal.returns-in-Ok-clause-given
 returns-in-Ok-clause-given c =

@@ -2,7 +2,7 @@ use Rattle.std.proofs.Common.{◌≡◌, drop, map}
 use Rattle.mysql_bind_core.specs.Contents.{all_of, named_content}
 use Rattle.mysql_bind_core.specs.Entries.{pair_said, pair_seen}
 use Rattle.mysql_bind_core.proofs.ContentLemmas.{before}
-use Rattle.mysql_bind_core.proofs.entries.fragments_of.Given as goal
+use Rattle.mysql_bind_core.proofs.assignment.fragments_of.Given as goal
 
 -- what is found of all assignments is what was found, and before what is left to find
 abbrev pub invariant-loop-assignment : goal.invariant-loop-assignment

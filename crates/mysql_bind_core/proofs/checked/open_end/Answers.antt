@@ -3,7 +3,7 @@ use Rattle.mysql_named_params.specs.Tokens.{OnTokens}
 use Rattle.mysql_binding.specs.FoundPlaces.{BeginWithPlaces}
 use Rattle.mysql_binding.proofs.SurveyedQueryLemmas.{begin_with}
 use Rattle.mysql_bind_core.proofs.QueryEndLemmas.{passed_none, passed_more, passed_place, ends_with_place, last_end, end_alone, first_is_whole}
-use Rattle.mysql_bind_core.proofs.query_end.open_end.Goals as goal
+use Rattle.mysql_bind_core.proofs.checked.open_end.Goals as goal
 
 pub places-init : goal.places-init
 places-init c = (passed_none _ _, begin_with _ _ _ c.args.surveyed.now.first)

@@ -1,6 +1,6 @@
 use Rattle.std.proofs.Common.{sym, ◌∙◌, arith}
 use Rattle.mysql_bind_core.proofs.OpenStringLemmas.{units_none, past_byte, past_escape, ends_at_quote, goes_on}
-use Rattle.mysql_bind_core.proofs.query_end.is_open_string.Goals as goal
+use Rattle.mysql_bind_core.proofs.checked.is_open_string.Goals as goal
 
 pub units-init : goal.units-init
 units-init c = units_none _ _ _

@@ -2,7 +2,7 @@ use Rattle.std.proofs.Common.{◌≡◌, Bool, true, false, not, refl, sym, ap, 
 use Rattle.std.proofs.lemmas.Slice.Eq.{ends_is}
 use Rattle.std.proofs.lemmas.Bool.Decides.{Decides-eqb}
 use Rattle.mysql_bind_core.proofs.QueryEndLemmas.{some_text, first_and_rest, string_tail, string_open, string_closed, identifier_open, identifier_closed, comment_tail, comment_open, comment_closed, other_closed}
-use Rattle.mysql_bind_core.proofs.query_end.is_open.Goals as goal
+use Rattle.mysql_bind_core.proofs.checked.is_open.Goals as goal
 
 was_true : (r : Bool) → not r ≡ false → r ≡ true
 was_true true e = refl

@@ -2,7 +2,7 @@ use Rattle.std.proofs.Common.{◌≡◌, false, ap, sym, ◌∙◌, Ok}
 use Rattle.std.specs.FinMap.{contains_key, insert}
 use Rattle.mysql_fragments.specs.GivenFragments.{fragment_map}
 use Rattle.mysql_bind_core.proofs.EntryLemmas.{fragment_map-insert}
-use Rattle.mysql_bind_core.proofs.entries.insert_fragment.Goals as goal
+use Rattle.mysql_bind_core.proofs.assignment.insert_fragment.Goals as goal
 
 pub returns-in-Ok-insert-clause-made : goal.returns-in-Ok-insert-clause-made
 returns-in-Ok-insert-clause-made c =

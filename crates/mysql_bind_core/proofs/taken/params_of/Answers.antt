@@ -3,7 +3,7 @@ use Rattle.std.specs.Prelude.{IfOk, IfErr}
 use Rattle.mysql_params_core.specs.Given.{given}
 use Rattle.mysql_bind_core.specs.Refusals.{IsMadeRefusal}
 use Rattle.mysql_bind_core.proofs.BindingLemmas.{given_of-some}
-use Rattle.mysql_bind_core.proofs.taken.text.params_of.Goals as goal
+use Rattle.mysql_bind_core.proofs.taken.params_of.Goals as goal
 
 pub returns-clause-given : goal.returns-clause-given
 returns-clause-given c =

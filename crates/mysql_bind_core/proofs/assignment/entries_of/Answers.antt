@@ -4,7 +4,7 @@ use Rattle.mysql_fragments.specs.GivenFragments.{fragment_map}
 use Rattle.mysql_bind_core.specs.Entries.{entries_of, pair_seen}
 use Rattle.mysql_bind_core.specs.Refusals.{IsEntriesRefusal}
 use Rattle.mysql_bind_core.proofs.EntryLemmas.{entries_of-more, entries_of-refused}
-use Rattle.mysql_bind_core.proofs.entries.entries_of.Goals as goal
+use Rattle.mysql_bind_core.proofs.assignment.entries_of.Goals as goal
 
 pub loop-pair-preserved : goal.loop-pair-preserved
 loop-pair-preserved c =

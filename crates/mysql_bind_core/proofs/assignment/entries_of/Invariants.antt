@@ -2,7 +2,7 @@ use Rattle.std.proofs.Common.{◌≡◌, ◌++◌, map, Ok}
 use Rattle.std.specs.Vec.Iter.{into_iter_items}
 use Rattle.mysql_fragments.specs.GivenFragments.{fragment_map}
 use Rattle.mysql_bind_core.specs.Entries.{entries_of, pair_seen}
-use Rattle.mysql_bind_core.proofs.entries.entries_of.Given as goal
+use Rattle.mysql_bind_core.proofs.assignment.entries_of.Given as goal
 
 -- the pairs are those so far and what is left, and the map has those so far
 abbrev pub invariant-loop-pair : goal.invariant-loop-pair
