@@ -327,6 +327,27 @@ fn add_options(
     Ok(())
 }
 
+// Adds what `--json` gives.
+fn add_json(
+    values: &mut Values,
+    sources: &mut Sources,
+    rt: &HostRuntime,
+    paths: &[&str],
+    decimals: Decimals,
+) -> Result<(), Complaint> {
+    for path in paths {
+        let bytes = sources.read(rt, path)?;
+        add_members(
+            values,
+            rt.alloc(),
+            shown_path(path),
+            unmarked(bytes.as_slice()),
+            decimals,
+        )?;
+    }
+    Ok(())
+}
+
 /// The assignments that the options make, in the order --set, --file, --env, --null, --json,
 /// --pairs.
 pub fn values_of(
@@ -336,16 +357,8 @@ pub fn values_of(
 ) -> Result<Values, Complaint> {
     let mut values = Values::new(rt.alloc());
     add_options(&mut values, sources, rt, matches)?;
-    let decimals = Decimals::of(matches);
-    for path in matches.get_strs("json").unwrap_or(&[]) {
-        let bytes = sources.read(rt, path)?;
-        add_members(
-            &mut values,
-            rt.alloc(),
-            shown_path(path),
-            unmarked(bytes.as_slice()),
-            decimals,
-        )?;
+    if let Some(paths) = matches.get_strs("json") {
+        add_json(&mut values, sources, rt, paths, Decimals::of(matches))?;
     }
     for path in matches.get_strs("pairs").unwrap_or(&[]) {
         add_pairs(&mut values, sources, rt, path)?;
