@@ -9,7 +9,7 @@ use Rattle.mysql_values.specs.BorrowedValue.{owned, owned_values}
 use Rattle.mysql_params_core.specs.Given.{Given, empty, named, positional}
 use Rattle.mysql_flat_params.specs.FlatForm.{FormRefusal, FormReading, read_name, read_value, with_parameter, after_value, after_name, read_parameter, HasFirstParameter, IsReadFrom, IsFormReading, read_to_end, refused_at, read_on}
 use Rattle.std.proofs.lemmas.Bool.{eqb-true}
-use Rattle.mysql_wire_part.specs.Answer.{IsExpectedRefusal}
+use Rattle.mysql_wire_part.specs.Answer.{IsAnswer, IsExpectedRefusal}
 use Rattle.mysql_wire_part.proofs.AnswerLemmas.{refusal_expected_too}
 use Rattle.mysql_flat_params.specs.FormErrors.{form_refusal, IsRefusalFrom, IsFormRefusal}
 use Rattle.mysql_flat_params.specs.declared.form_error.FormError.{FormError}
@@ -106,6 +106,13 @@ pub handed_on : {A : Type 0} (P : FormError → Type 0) (r : Result A FormError)
     IsErrAnd r (λ t. t ≡ e) → P e → IfErr r P
 handed_on P (Ok a) e same h = absurd same
 handed_on P (Err t) e same h = subst P (sym same) h
+
+-- .. which is the answer still
+pub answer_handed_on : {A Seen : Type 0} (seen : A → Seen) (expected : Result Seen FormRefusal) (Takes : Type 0) (r : Result A FormError) (e : FormError) →
+    IsErrAnd r (λ t. t ≡ e) → IsExpectedRefusal expected Takes (form_refusal e) → IsAnswer seen form_refusal expected Takes r
+answer_handed_on seen expected Takes (Ok a) e same answer = absurd same
+answer_handed_on seen expected Takes (Err t) e same answer =
+    subst (λ x. IsExpectedRefusal expected Takes (form_refusal x)) (sym same) answer
 
 -- .. and an error that is out of memory only if memory is asked for
 pub memory_handed_on : {A Seen : Type 0} (expected : Result Seen FormRefusal) (Takes : Type 0) (r : Result A FormError) (e : FormError) →

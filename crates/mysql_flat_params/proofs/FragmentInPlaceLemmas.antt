@@ -121,11 +121,11 @@ module _ (place position flags : ℕ) (bytes : List ℕ) where
 
   -- a value that is refused
   pub value_refused : (n : ℕ) (refusal : Option FormRefusal) → (n < 128) ⊎ (133 < n) →
-      IsExpectedRefusal (read_of_type place position n (column_type n) (is_unsigned_parameter flags) bytes) ⊤ refusal →
+      IsExpectedRefusal (read_of_type place position n (column_type n) (is_unsigned_parameter flags) bytes) ⊥ refusal →
       IsExpectedRefusal (read_fragment_of place position n flags bytes) ⊤ refusal
   value_refused n refusal apart h =
-      refusal_expected_too (read_of_type place position n (column_type n) (is_unsigned_parameter flags) bytes) (read_fragment_of place position n flags bytes) ⊤ ⊤ refusal
-      (λ why e. value_typed n apart ∙ ap (map_form fragment_of_value) e) (λ t. t) h
+      refusal_expected_too (read_of_type place position n (column_type n) (is_unsigned_parameter flags) bytes) (read_fragment_of place position n flags bytes) ⊥ ⊤ refusal
+      (λ why e. value_typed n apart ∙ ap (map_form fragment_of_value) e) (λ _. tt) h
 
 -- rows that are lent are the same rows
 pub rows_lent : (r : RowsInPlace) (b : RowsRef) → b.cells.now ≡ r.cells.items → b.width ≡ r.width →

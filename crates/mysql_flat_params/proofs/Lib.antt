@@ -1,6 +1,6 @@
 pub mod LeavesLemmas
 pub mod FormLemmas
-pub mod ValueErrorLemmas
+pub mod ValueLemmas
 pub mod NamePlaceLemmas
 pub mod MissingLemmas
 pub mod IntoRoomLemmas

@@ -6,8 +6,8 @@ ghost use Rattle.mysql_wire_part.specs.Column.{is_unsigned};
 ghost use Rattle.mysql_wire_part.specs.ParseBuf.{left, read_refusal};
 ghost use Rattle.mysql_values.specs.BorrowedValue.{owned, owned_values};
 ghost use Rattle.mysql_params_core.specs.Given.{empty, given, named, positional};
-ghost use Rattle.mysql_flat_params.specs.ColumnNumbers.{is_unsigned_parameter};
-ghost use Rattle.mysql_flat_params.specs.FlatForm.{HasFirstParameter, IsFormReading, IsReadFrom, name_refusal, refused_in, read_name, read_parameter, read_value};
+ghost use Rattle.mysql_flat_params.specs.ColumnNumbers.{column_type, is_unsigned_parameter};
+ghost use Rattle.mysql_flat_params.specs.FlatForm.{HasFirstParameter, IsFormReading, IsReadFrom, name_refusal, refused_in, read_name, read_of_type, read_parameter, read_value};
 ghost use Rattle.mysql_flat_params.specs.FormErrors.{IsFormRefusal, IsRefusalFrom, form_refusal};
 ghost use Rattle.mysql_flat_params.specs.FormParams.{given_in_form};
 
@@ -60,14 +60,12 @@ pub fn params_of_form(alloc: Global, form: &[u8]) -> Result<Params, FormError>
     ensures memory { IsErrOf result (FormError.Memory alloc_error) →
         HasFirstParameter form.now }
 {
-    match form_params::<HashMap<Vec<u8>, Value>>(alloc, form, Vec::new(alloc)) {
-        Ok(FormParams::Empty) => Ok(Params::Empty),
-        Ok(FormParams::Named(entries)) => Ok(Params::Named(entries)),
-        Ok(FormParams::Positional(values)) => match own_values(alloc, values.as_slice()) {
-            Ok(values) => Ok(Params::Positional(values)),
-            Err(error) => Err(FormError::Memory(error)),
-        },
-        Err(error) => Err(error),
+    match form_params::<HashMap<Vec<u8>, Value>>(alloc, form, Vec::new(alloc))? {
+        FormParams::Empty => Ok(Params::Empty),
+        FormParams::Named(entries) => Ok(Params::Named(entries)),
+        FormParams::Positional(values) => {
+            Ok(Params::Positional(own_values(alloc, values.as_slice())?))
+        }
     }
 }
 
@@ -135,10 +133,7 @@ fn positional_params<'f, M: FormNames<'f>>(
     ensures refused { IfErr result
         (IsRefusalFrom total 1 (positional (owned first.entry ∷ [])) (left rest.entry)) }
 {
-    let mut values = match first_value(first, rest.len() / LEAST_PARAMETER, spare) {
-        Ok(values) => values,
-        Err(error) => return Err(FormError::Memory(error)),
-    };
+    let mut values = first_value(first, rest.len() / LEAST_PARAMETER, spare)?;
     let mut rest = rest;
     while !rest.is_empty() {
         append_parameter(total, &mut values, &mut rest)?;
@@ -191,10 +186,8 @@ fn append_parameter<'f>(
         });
     }
     let value = eat_value(spot, rest)?;
-    match values.push(value) {
-        Ok(()) => Ok(()),
-        Err(_) => Err(FormError::Memory(AllocError)),
-    }
+    values.push(value)?;
+    Ok(())
 }
 
 // The parameters by name that begin with this one and go on with the rest.
@@ -214,10 +207,7 @@ fn named_params<'f, M: FormNames<'f>>(
         (left rest.entry)) }
 {
     let follow = rest.len() / (LEAST_PARAMETER + 1);
-    let mut names = match M::with_first(alloc, name, first, follow) {
-        Ok(names) => names,
-        Err(error) => return Err(FormError::Memory(error)),
-    };
+    let mut names = M::with_first(alloc, name, first, follow)?;
     let mut rest = rest;
     let mut place = 1;
     while !rest.is_empty() {
@@ -249,10 +239,8 @@ fn insert_parameter<'f, M: FormNames<'f>>(
         return Err(error);
     }
     let value = eat_value(spot, rest)?;
-    match names.insert_new(alloc, name, value) {
-        Ok(()) => Ok(()),
-        Err(error) => Err(FormError::Memory(error)),
-    }
+    names.insert_new(alloc, name, value)?;
+    Ok(())
 }
 
 // Why a name, which stands at this index, is refused after parameters by name.
@@ -289,6 +277,7 @@ pub(crate) fn eat_name<'a>(spot: Spot, rest: &mut ParseBuf<'a>) -> Result<&'a [u
     ensures within { IfOk result (λ name.
         length name.now + length (left rest.new) < length (left rest.old)) }
 {
+    // The error gets the parameter that it is of.
     match rest.eat_lenenc_str() {
         Ok(name) => Ok(name),
         Err(error) => Err(form_error(spot, 0, error)),
@@ -304,7 +293,24 @@ pub(crate) fn eat_value<'f>(spot: Spot, rest: &mut ParseBuf<'f>) -> Result<Value
     let [number, flags, bytes @ ..] = rest.0 else {
         return Err(FormError::End { place, position });
     };
-    let number = *number;
+    let mut after = ParseBuf(bytes);
+    let value = eat_value_ref(spot, *number, *flags, &mut after)?;
+    *rest = after;
+    Ok(value)
+}
+
+/// The value of a parameter whose type has this number, after its flags.
+pub(crate) fn eat_value_ref<'f>(
+    spot: Spot,
+    number: u8,
+    flags: u8,
+    rest: &mut ParseBuf<'f>,
+) -> Result<ValueRef<'f>, FormError>
+    ensures { IsAnswer (λ value. (owned value, left rest.new)) form_refusal
+        (read_of_type spot.place spot.position number (column_type number)
+        (is_unsigned_parameter flags) (left rest.old)) ⊥ result }
+{
+    let Spot { place, position } = spot;
     let Some(column) = column_type(number) else {
         return Err(FormError::UnsupportedType {
             place,
@@ -312,18 +318,15 @@ pub(crate) fn eat_value<'f>(spot: Spot, rest: &mut ParseBuf<'f>) -> Result<Value
             number,
         });
     };
-    let mut after = ParseBuf(bytes);
-    match read_binary_value(column, column_flags(*flags), &mut after) {
-        Ok(value) => {
-            *rest = after;
-            Ok(value)
-        }
+    // The error gets the parameter that it is of.
+    match read_binary_value(column, column_flags(flags), rest) {
+        Ok(value) => Ok(value),
         Err(error) => Err(form_error(spot, number, error)),
     }
 }
 
-/// The flags of a column that say the same as the flags of a parameter.
-pub(crate) fn column_flags(flags: u8) -> ColumnFlags
+// The flags of a column that say the same as the flags of a parameter.
+fn column_flags(flags: u8) -> ColumnFlags
     ensures { is_unsigned result ≡ is_unsigned_parameter flags }
 {
     if flags & UNSIGNED != 0 {
@@ -333,8 +336,8 @@ pub(crate) fn column_flags(flags: u8) -> ColumnFlags
     }
 }
 
-/// Why a parameter whose type has this number can't be read.
-pub(crate) fn form_error(spot: Spot, number: u8, error: WireError) -> FormError
+// Why a parameter whose type has this number can't be read.
+fn form_error(spot: Spot, number: u8, error: WireError) -> FormError
     ensures refusal { IfSome (read_refusal error) (λ refusal. form_refusal result
         ≡ Some (refused_in spot.place spot.position number refusal)) }
     ensures memory { read_refusal error ≡ None → result ≡ FormError.Memory alloc_error }

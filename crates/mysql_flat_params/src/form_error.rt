@@ -1,5 +1,5 @@
 //! Why bytes are no parameters.
-use std::alloc::AllocError;
+use std::alloc::{AllocError, AllocFailed};
 use thiserror::Error;
 
 /// Why [`params_of_form`](crate::params_of_form) gave no parameters. `place` is the number of the
@@ -55,4 +55,26 @@ pub enum FormError {
     /// Memory was refused.
     #[error("out of memory")]
     Memory(AllocError),
+}
+
+impl From<AllocError> for FormError {
+    ghost use Rattle.std.specs.Prelude.{◌≡◌, alloc_error};
+    ghost use Rattle.mysql_flat_params.specs.declared.form_error.FormError.TheVariants.{Memory};
+
+    ghost from_gives = { λ _ error. error ≡ Memory alloc_error };
+
+    fn from(error: AllocError) -> FormError {
+        FormError::Memory(error)
+    }
+}
+
+impl<T: Drop> From<AllocFailed<T>> for FormError {
+    ghost use Rattle.std.specs.Prelude.{◌≡◌, alloc_error};
+    ghost use Rattle.mysql_flat_params.specs.declared.form_error.FormError.TheVariants.{Memory};
+
+    ghost from_gives = { λ _ error. error ≡ Memory alloc_error };
+
+    fn from(_failed: AllocFailed<T>) -> FormError {
+        FormError::Memory(AllocError)
+    }
 }

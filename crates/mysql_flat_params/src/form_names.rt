@@ -98,10 +98,8 @@ impl<'f> FormNames<'f> for NamesInPlace<'f> {
             FEW_NAMES
         };
         let mut pairs = Vec::with_capacity(alloc, room)?;
-        match pairs.push((name, value)) {
-            Ok(()) => Ok(NamesInPlace::Pairs(pairs)),
-            Err(_) => Err(AllocError),
-        }
+        pairs.push((name, value))?;
+        Ok(NamesInPlace::Pairs(pairs))
     }
 
     fn has(&self, name: &[u8]) -> bool {
@@ -120,10 +118,8 @@ impl<'f> FormNames<'f> for NamesInPlace<'f> {
         match self {
             NamesInPlace::Pairs(pairs) => {
                 if pairs.len() < FEW_NAMES {
-                    return match pairs.push((name, value)) {
-                        Ok(()) => Ok(()),
-                        Err(_) => Err(AllocError),
-                    };
+                    pairs.push((name, value))?;
+                    return Ok(());
                 }
                 let mut entries = sorted_names(alloc, pairs.as_slice())?;
                 insert_sorted(&mut entries, name, value)?;
@@ -162,8 +158,6 @@ pub(crate) fn insert_sorted<'f>(
     ensures { OnOk result (pair_map entries.new.entries
         ≡ insert (pair_map entries.old.entries) name.now (owned value.entry)) }
 {
-    match entries.insert(name, value) {
-        Ok(_) => Ok(()),
-        Err(_) => Err(AllocError),
-    }
+    entries.insert(name, value)?;
+    Ok(())
 }

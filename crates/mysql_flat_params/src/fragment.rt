@@ -9,9 +9,9 @@ ghost use Rattle.mysql_flat_params.specs.FlatFragments.{read_fragment, read_frag
 ghost use Rattle.mysql_flat_params.specs.FragmentContent.{content_of};
 
 use crate::double::double_in;
-use crate::form::{Spot, eat_name};
+use crate::form::{Spot, eat_name, eat_value_ref};
 use crate::form_error::FormError;
-use crate::fragment_parts::{eat_names, eat_text, eat_value_ref};
+use crate::fragment_parts::{eat_names, eat_text};
 use crate::items::{NUMBER, eat_items, eat_rows};
 use crate::keywords::listed_keyword;
 use mysql_fragments::{Fragment, Keyword};
@@ -76,10 +76,7 @@ fn eat_fragment_of(
         Ok(Fragment::Keyword(eat_keyword(alloc, spot, rest)?))
     } else {
         let value = eat_value_ref(spot, number, flags, rest)?;
-        match fragment_of(alloc, value) {
-            Ok(fragment) => Ok(fragment),
-            Err(error) => Err(FormError::Memory(error)),
-        }
+        Ok(fragment_of(alloc, value)?)
     }
 }
 
@@ -90,10 +87,7 @@ fn fragment_of(alloc: Global, value: ValueRef<'_>) -> Result<Fragment, AllocErro
 {
     match double_in(value) {
         Some(double) => Ok(Fragment::Double(double)),
-        None => match value.to_value(alloc) {
-            Ok(value) => Ok(Fragment::Value(value)),
-            Err(error) => Err(error),
-        },
+        None => Ok(Fragment::Value(value.to_value(alloc)?)),
     }
 }
 
@@ -103,8 +97,5 @@ fn eat_keyword(alloc: Global, spot: Spot, rest: &mut ParseBuf<'_>) -> Result<Key
         (read_keyword spot.place spot.position (left rest.old)) ⊤ result }
 {
     let text = eat_name(spot, rest)?;
-    match Keyword::new(alloc, listed_keyword(text)) {
-        Ok(keyword) => Ok(keyword),
-        Err(error) => Err(FormError::Memory(error)),
-    }
+    Ok(Keyword::new(alloc, listed_keyword(text))?)
 }

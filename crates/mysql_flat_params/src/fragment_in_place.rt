@@ -13,10 +13,9 @@ ghost use Rattle.mysql_flat_params.specs.FragmentContent.{content_of, value_item
 ghost use Rattle.mysql_flat_params.specs.FormInPlace.{IsKeptAs, cell_content, rows_content};
 
 use crate::double::double_in;
-use crate::form::Spot;
+use crate::form::{Spot, eat_value_ref};
 use crate::form_error::FormError;
 use crate::fragment::{KEYWORD, LIST, ROWS, eat_fragment};
-use crate::fragment_parts::eat_value_ref;
 use crate::items::NUMBER;
 use crate::rows_in_place::RowsInPlace;
 use mysql_fragments::{Fragment, FragmentRef};
@@ -75,24 +74,16 @@ pub(crate) fn eat_in_place<'f>(
     let flags = *flags;
     let mut ahead = ParseBuf(bytes);
     if number < NUMBER || number > KEYWORD {
-        return match eat_value_ref(spot, number, flags, &mut ahead) {
-            Ok(value) => {
-                *rest = ahead;
-                Ok(kept_value(value))
-            }
-            Err(error) => Err(error),
-        };
+        let value = eat_value_ref(spot, number, flags, &mut ahead)?;
+        *rest = ahead;
+        return Ok(kept_value(value));
     }
-    match eat_values_of(alloc, spot, number, &mut ahead) {
-        Ok(Some(read)) => {
+    match eat_values_of(alloc, spot, number, &mut ahead)? {
+        Some(read) => {
             *rest = ahead;
             Ok(read)
         }
-        Ok(None) => match eat_fragment(alloc, spot, rest) {
-            Ok(fragment) => Ok(FragmentInPlace::Copied(fragment)),
-            Err(error) => Err(error),
-        },
-        Err(error) => Err(FormError::Memory(error)),
+        None => Ok(FragmentInPlace::Copied(eat_fragment(alloc, spot, rest)?)),
     }
 }
 
@@ -244,10 +235,7 @@ fn eat_values<'f>(
         let Some(value) = eat_value_item(spot, rest) else {
             return Ok(false);
         };
-        match cells.push(value) {
-            Ok(()) => {}
-            Err(_) => return Err(AllocError),
-        }
+        cells.push(value)?;
         missing -= 1;
     }
     Ok(true)

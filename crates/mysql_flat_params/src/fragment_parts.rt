@@ -1,20 +1,16 @@
-//! The parts of parameters: names, texts, counts and values.
+//! The parts of fragments: texts, counts and names.
 ghost use Rattle.std.specs.Prelude.{⊤};
 ghost use Rattle.mysql_wire_part.specs.Answer.{IsAnswer};
 ghost use Rattle.mysql_wire_part.specs.ParseBuf.{left};
-ghost use Rattle.mysql_values.specs.BorrowedValue.{owned};
 ghost use Rattle.mysql_params_core.specs.Names.{names_of};
-ghost use Rattle.mysql_flat_params.specs.ColumnNumbers.{column_type, is_unsigned_parameter};
-ghost use Rattle.mysql_flat_params.specs.FlatForm.{read_name, read_of_type};
+ghost use Rattle.mysql_flat_params.specs.FlatForm.{read_name};
 ghost use Rattle.mysql_flat_params.specs.FormErrors.{form_refusal};
 ghost use Rattle.mysql_flat_params.specs.FlatFragments.{read_all, read_count};
 
-use crate::column_number::column_type;
-use crate::form::{Spot, column_flags, eat_name, form_error};
+use crate::form::{Spot, eat_name};
 use crate::form_error::FormError;
-use mysql_values::value::{ValueRef, read_binary_value};
 use mysql_wire_part::ParseBuf;
-use std::alloc::{AllocError, Global};
+use std::alloc::Global;
 
 /// A copy of the name or text at the front.
 pub(crate) fn eat_text(
@@ -26,10 +22,7 @@ pub(crate) fn eat_text(
         (read_name spot.place spot.position (left rest.old)) ⊤ result }
 {
     let text = eat_name(spot, rest)?;
-    match Vec::from_slice(alloc, text) {
-        Ok(text) => Ok(text),
-        Err(error) => Err(FormError::Memory(error)),
-    }
+    Ok(Vec::from_slice(alloc, text)?)
 }
 
 /// The count at the front.
@@ -59,39 +52,8 @@ pub(crate) fn eat_names(
     let mut count = eat_count(spot, rest)?;
     let mut names = Vec::new(alloc);
     while count > 0 {
-        let name = match eat_text(alloc, spot, rest) {
-            Ok(name) => name,
-            Err(error) => return Err(error),
-        };
-        match names.push(name) {
-            Ok(()) => {}
-            Err(_) => return Err(FormError::Memory(AllocError)),
-        }
+        names.push(eat_text(alloc, spot, rest)?)?;
         count -= 1;
     }
     Ok(names)
-}
-
-/// The value of a parameter whose type has this number, after its flags.
-pub(crate) fn eat_value_ref<'f>(
-    spot: Spot,
-    number: u8,
-    flags: u8,
-    rest: &mut ParseBuf<'f>,
-) -> Result<ValueRef<'f>, FormError>
-    ensures { IsAnswer (λ value. (owned value, left rest.new)) form_refusal
-        (read_of_type spot.place spot.position number (column_type number)
-        (is_unsigned_parameter flags) (left rest.old)) ⊤ result }
-{
-    let Some(column) = column_type(number) else {
-        return Err(FormError::UnsupportedType {
-            place: spot.place,
-            position: spot.position,
-            number,
-        });
-    };
-    match read_binary_value(column, column_flags(flags), rest) {
-        Ok(value) => Ok(value),
-        Err(error) => Err(form_error(spot, number, error)),
-    }
 }

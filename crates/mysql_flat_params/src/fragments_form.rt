@@ -14,7 +14,7 @@ use crate::form_error::FormError;
 use crate::fragment::eat_fragment;
 use mysql_fragments::{Fragment, Fragments};
 use mysql_wire_part::ParseBuf;
-use std::alloc::{AllocError, Global};
+use std::alloc::Global;
 use std::collections::HashMap;
 
 /// The fragments that a form says, by position or by name, as its first parameter is; none by
@@ -48,20 +48,8 @@ pub fn form_fragments(alloc: Global, form: &[u8]) -> Result<Fragments, FormError
     let mut rest = ParseBuf(form);
     let mut place = 0;
     while !rest.is_empty() {
-        let (name, fragment) = match eat_parameter(
-            alloc,
-            form.len(),
-            place,
-            &fragments,
-            &mut rest,
-        ) {
-            Ok(read) => read,
-            Err(error) => return Err(error),
-        };
-        match insert_fragment(alloc, &mut fragments, name, fragment) {
-            Ok(()) => {}
-            Err(error) => return Err(error),
-        }
+        let (name, fragment) = eat_parameter(alloc, form.len(), place, &fragments, &mut rest)?;
+        insert_fragment(alloc, &mut fragments, name, fragment)?;
         place += 1;
     }
     Ok(fragments)
@@ -150,10 +138,8 @@ fn insert_fragment(
                 *fragments = Fragments::Named(entries);
                 return Ok(());
             }
-            match list.push(fragment) {
-                Ok(()) => Ok(()),
-                Err(_) => Err(FormError::Memory(AllocError)),
-            }
+            list.push(fragment)?;
+            Ok(())
         }
     }
 }
@@ -169,12 +155,7 @@ fn insert_named(
         ≡ insert (fragment_map entries.old.entries) name.now fragment) }
     ensures memory { IfErr result (λ error. error ≡ FormError.Memory alloc_error) }
 {
-    let name = match Vec::from_slice(alloc, name) {
-        Ok(name) => name,
-        Err(error) => return Err(FormError::Memory(error)),
-    };
-    match entries.insert(name, fragment) {
-        Ok(_) => Ok(()),
-        Err(_) => Err(FormError::Memory(AllocError)),
-    }
+    let name = Vec::from_slice(alloc, name)?;
+    entries.insert(name, fragment)?;
+    Ok(())
 }

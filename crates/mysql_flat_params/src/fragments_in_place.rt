@@ -39,14 +39,8 @@ pub(crate) fn form_in_place<'f>(alloc: Global, form: &'f [u8]) -> Result<FormInP
     let mut rest = ParseBuf(form);
     let mut place = 0;
     while !rest.is_empty() {
-        let (name, fragment) = match eat_parameter(alloc, form.len(), place, &kept, &mut rest) {
-            Ok(read) => read,
-            Err(error) => return Err(error),
-        };
-        match keep(alloc, &mut kept, name, fragment) {
-            Ok(()) => {}
-            Err(error) => return Err(FormError::Memory(error)),
-        }
+        let (name, fragment) = eat_parameter(alloc, form.len(), place, &kept, &mut rest)?;
+        keep(alloc, &mut kept, name, fragment)?;
         place += 1;
     }
     Ok(kept)

@@ -9,9 +9,9 @@ ghost use Rattle.mysql_flat_params.specs.FlatFragments.{read_all, read_item, rea
 ghost use Rattle.mysql_flat_params.specs.FragmentContent.{item_content, items_content};
 
 use crate::double::double_in;
-use crate::form::Spot;
+use crate::form::{Spot, eat_value_ref};
 use crate::form_error::FormError;
-use crate::fragment_parts::{eat_count, eat_text, eat_value_ref};
+use crate::fragment_parts::{eat_count, eat_text};
 use mysql_fragments::Item;
 use mysql_values::value::ValueRef;
 use mysql_wire_part::ParseBuf;
@@ -33,14 +33,7 @@ pub(crate) fn eat_rows(
     let mut count = eat_count(spot, rest)?;
     let mut rows = Vec::new(alloc);
     while count > 0 {
-        let row = match eat_items(alloc, spot, rest) {
-            Ok(row) => row,
-            Err(error) => return Err(error),
-        };
-        match rows.push(row) {
-            Ok(()) => {}
-            Err(_) => return Err(FormError::Memory(AllocError)),
-        }
+        rows.push(eat_items(alloc, spot, rest)?)?;
         count -= 1;
     }
     Ok(rows)
@@ -58,14 +51,7 @@ pub(crate) fn eat_items(
     let mut count = eat_count(spot, rest)?;
     let mut items = Vec::new(alloc);
     while count > 0 {
-        let item = match eat_item(alloc, spot, rest) {
-            Ok(item) => item,
-            Err(error) => return Err(error),
-        };
-        match items.push(item) {
-            Ok(()) => {}
-            Err(_) => return Err(FormError::Memory(AllocError)),
-        }
+        items.push(eat_item(alloc, spot, rest)?)?;
         count -= 1;
     }
     Ok(items)
@@ -100,16 +86,10 @@ fn eat_item_of(
         (read_item_of spot.place spot.position number flags (left rest.old)) ⊤ result }
 {
     if number == NUMBER {
-        match eat_text(alloc, spot, rest) {
-            Ok(text) => Ok(Item::Decimal(text)),
-            Err(error) => Err(error),
-        }
+        Ok(Item::Decimal(eat_text(alloc, spot, rest)?))
     } else {
         let value = eat_value_ref(spot, number, flags, rest)?;
-        match item_of(alloc, value) {
-            Ok(item) => Ok(item),
-            Err(error) => Err(FormError::Memory(error)),
-        }
+        Ok(item_of(alloc, value)?)
     }
 }
 
@@ -119,9 +99,6 @@ fn item_of(alloc: Global, value: ValueRef<'_>) -> Result<Item, AllocError>
 {
     match double_in(value) {
         Some(double) => Ok(Item::Double(double)),
-        None => match value.to_value(alloc) {
-            Ok(value) => Ok(Item::Value(value)),
-            Err(error) => Err(error),
-        },
+        None => Ok(Item::Value(value.to_value(alloc)?)),
     }
 }

@@ -97,10 +97,7 @@ fn named_fragments<'p>(
         let (_, place, after) = found.cut(rest);
         let name = &place[1..];
         match BTreeMap::get(entries, name) {
-            Some(fragment) => match list.push(fragment.lent()) {
-                Ok(()) => {}
-                Err(_) => return Err(FragmentsError::Memory(AllocError)),
-            },
+            Some(fragment) => list.push(fragment.lent()).map_err(AllocError::from)?,
             None => return Err(missing_error(alloc, name)),
         }
         rest = after;

@@ -1,4 +1,6 @@
-use Rattle.std.proofs.Common.{refl, arith}
+use Rattle.std.proofs.Common.{refl, arith, inl}
+use Rattle.std.specs.Prelude.{alloc_error}
+use Rattle.mysql_flat_params.specs.declared.form_error.FormError.TheVariants.{Memory}
 use Rattle.mysql_flat_params.proofs.FormLemmas.{handed_on, not_empty, parameter_read, parameter_refused, whole_read}
 use Rattle.mysql_flat_params.proofs.form.named_params.Goals as goal
 
@@ -16,8 +18,11 @@ loop-rest-preserved g c =
 pub returns-clause-params : goal.returns-clause-params
 returns-clause-params g c = whole_read _ _ _ _ _ _ _ c.loop-rest.invariant.0 (c.loop-rest-test.ensures.empty.0 refl)
 
+pub returns-in_err-names-clause-refused : goal.returns-in_err-names-clause-refused
+returns-in_err-names-clause-refused g c = handed_on _ c.from_residual.result (Memory alloc_error) c.from_residual.ensures.1 (inl refl)
+
 pub returns-in_err-insert_parameter-clause-refused :
     goal.returns-in_err-insert_parameter-clause-refused
 returns-in_err-insert_parameter-clause-refused g c =
-    handed_on _ c.from_residual.result c.in_err-insert_parameter.field-0.0 c.from_residual.ensures.1
+    handed_on _ c.from_residual-in_err-insert_parameter.result c.in_err-insert_parameter.field-0.0 c.from_residual-in_err-insert_parameter.ensures.1
     (parameter_refused _ _ _ _ _ _ _ _ c.loop-rest.invariant.0 (not_empty _ c.loop-rest-test.ensures.empty.1) c.in_err-insert_parameter.ensures)

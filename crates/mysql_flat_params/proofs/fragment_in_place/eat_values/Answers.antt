@@ -11,7 +11,7 @@ pub loop-missing-preserved : goal.loop-missing-preserved
 loop-missing-preserved c =
     let (more, items, count, so_far) = c.loop-missing.invariant in (
       more ++ c.in-Some.value ∷ [],
-      c.in-Ok.ensures.items ∙ (ap (λ xs. xs ++ c.in-Some.value ∷ []) items ∙ append_assoc c.args.cells.now.items more (c.in-Some.value ∷ [])),
+      c.in_ok-push.ensures.items ∙ (ap (λ xs. xs ++ c.in-Some.value ∷ []) items ∙ append_assoc c.args.cells.now.items more (c.in-Some.value ∷ [])),
       omega (arith, count, length-append more (c.in-Some.value ∷ [])),
       one_more (read_item c.args.spot.place c.args.spot.position) cell_content _ _ more _ c.in-Some.value _ _ c.loop-missing-test.true so_far c.in-Some.ensures refl,
     )

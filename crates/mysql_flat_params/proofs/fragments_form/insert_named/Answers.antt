@@ -4,8 +4,8 @@ use Rattle.mysql_fragments.specs.GivenFragments.{fragment_map}
 use Rattle.mysql_flat_params.proofs.FragmentMapLemmas.{fragment_map-insert}
 use Rattle.mysql_flat_params.proofs.fragments_form.insert_named.Goals as goal
 
-pub returns-in-Ok-insert-clause-inserted : goal.returns-in-Ok-insert-clause-inserted
-returns-in-Ok-insert-clause-inserted c =
-    fragment_map-insert c.args.entries.now.entries c.insert.new.self.entries c.in-Ok.name c.args.fragment
-    c.in-Ok-insert.ensures.updates.3 c.in-Ok-insert.ensures.updates.1
-    ∙ ap (λ name. insert (fragment_map c.args.entries.now.entries) name c.args.fragment) c.in-Ok.ensures.items
+pub returns-clause-inserted : goal.returns-clause-inserted
+returns-clause-inserted c =
+    fragment_map-insert c.args.entries.now.entries c.insert.new.self.entries c.in_ok-name.name c.args.fragment
+    c.in_ok-insert.ensures.updates.3 c.in_ok-insert.ensures.updates.1
+    ∙ ap (λ name. insert (fragment_map c.args.entries.now.entries) name c.args.fragment) c.in_ok-name.ensures.items

@@ -1,6 +1,9 @@
-use Rattle.std.proofs.Common.{[], arith, refl, subst, sym}
+use Rattle.std.proofs.Common.{[], arith, inl, refl, subst, sym}
+use Rattle.std.specs.Prelude.{alloc_error}
 use Rattle.mysql_fragments.specs.GivenFragments.{positional}
-use Rattle.mysql_flat_params.proofs.FormLemmas.{not_empty}
+use Rattle.mysql_flat_params.specs.FragmentsFormErrors.{IsFormRefusal}
+use Rattle.mysql_flat_params.specs.declared.form_error.FormError.TheVariants.{Memory}
+use Rattle.mysql_flat_params.proofs.FormLemmas.{handed_on, not_empty}
 use Rattle.mysql_flat_params.specs.FormInPlace.{AreKeptAs}
 use Rattle.mysql_flat_params.proofs.FragmentsFormLemmas.{all_of_it, parameter_read, parameter_refused, whole_read}
 use Rattle.mysql_flat_params.proofs.fragments_in_place.form_in_place.Goals as goal
@@ -11,23 +14,29 @@ loop-rest-init c = (
   omega arith,
 )
 
-pub returns-in-Err-clause-refused : goal.returns-in-Err-clause-refused
-returns-in-Err-clause-refused c =
+pub returns-in_err-name-clause-refused : goal.returns-in_err-name-clause-refused
+returns-in_err-name-clause-refused c =
     let ((given, kept, leads), within) = c.loop-rest.invariant in
-    parameter_refused c.args.form.now _ given _ c.in-Err.error leads (not_empty _ c.loop-rest-test.ensures.empty.1) (c.in-Err.ensures.refused given kept)
+    handed_on (IsFormRefusal c.args.form.now) c.from_residual.result c.in_err-name.field-0.0 c.from_residual.ensures.1
+    (parameter_refused c.args.form.now _ given _ c.in_err-name.field-0.0 leads (not_empty _ c.loop-rest-test.ensures.empty.1)
+    (c.in_err-name.ensures.refused given kept))
+
+pub returns-in_err-keep-clause-refused : goal.returns-in_err-keep-clause-refused
+returns-in_err-keep-clause-refused c =
+    handed_on (IsFormRefusal c.args.form.now) c.from_residual-in_err-keep.result (Memory alloc_error) c.from_residual-in_err-keep.ensures.1 (inl refl)
 
 pub loop-rest-smaller : goal.loop-rest-smaller
 loop-rest-smaller c =
     let ((given, kept, leads), within) = c.loop-rest.invariant in
-    let (said, says, read) = c.in-Ok.ensures.read given kept in
+    let (said, says, read) = c.in_ok-name.ensures.read given kept in
     (parameter_read c.args.form.now _ given _ _ said _ _ leads (not_empty _ c.loop-rest-test.ensures.empty.1) read refl).1
 
 pub loop-rest-preserved : goal.loop-rest-preserved
 loop-rest-preserved c =
     let ((given, kept, leads), within) = c.loop-rest.invariant in
-    let (said, says, read) = c.in-Ok.ensures.read given kept in
+    let (said, says, read) = c.in_ok-name.ensures.read given kept in
     let next = parameter_read c.args.form.now _ given _ _ said _ _ leads (not_empty _ c.loop-rest-test.ensures.empty.1) read refl in
-    ((_, c.in-Ok-keep.ensures given said kept says, next.0), omega (arith, next.1, within))
+    ((_, c.in_ok-keep.ensures given said kept says, next.0), omega (arith, next.1, within))
 
 pub returns-clause-read : goal.returns-clause-read
 returns-clause-read c =

@@ -1,5 +1,6 @@
-use Rattle.std.specs.Prelude.{Ok, Err}
+use Rattle.std.specs.Prelude.{Ok, Err, is_ok}
 use Rattle.std.proofs.Common.{◌≡◌, ◌+◌, ◌++◌, [], ◌∷◌, ap, append_assoc, arith, inl, inr, length, length-append, refl, subst, sym, ◌∙◌}
+use Rattle.std.proofs.lemmas.Bool.{cond-true}
 use Rattle.mysql_named_params.specs.Places.{names}
 use Rattle.mysql_named_params.proofs.TokenEndLemmas.{slice_from}
 use Rattle.mysql_binding.proofs.FoundPlacesLemmas.{none_passed, one_passed}
@@ -45,18 +46,20 @@ returns-in-None-clause-refused c = λ fragments all.
 
 pub loop-rest-preserved : goal.loop-rest-preserved
 loop-rest-preserved c =
+    let pushed : c.push.new.self.items ≡ c.loop-rest.list.items ++ c.lent.result ∷ [] =
+    c.push.ensures.items ∙ cond-true (is_ok c.push.result) _ _ (sym c.in_ok-map_err-in-Some-get.ensures.variant) in
     let ((listed_names, listed, long, found), known) = c.loop-rest.invariant in
     let name = slice_from 1 c.cut.result.1.now in (
       (
         listed_names ++ name ∷ [],
         listed_more _ _ _ _ listed_names listed c.cut.result.1.now c.cut.result.2.now name c.in-Some.found
             (omega (arith, long, c.loop-rest-test.true, c.loop-rest.list.ok.0)) c.in-Some.ensures.place c.cut.ensures.place c.cut.ensures.after refl,
-        omega (arith, long, ap length c.in-Ok.ensures.items, length-append listed_names (name ∷ []), length-append c.loop-rest.list.items (c.lent.result ∷ [])),
+        omega (arith, long, ap length pushed, length-append listed_names (name ∷ []), length-append c.loop-rest.list.items (c.lent.result ∷ [])),
         found_more c.args.entries.now.entries listed_names c.loop-rest.list.items name found c.in-Some-get.fragment.now c.lent.result _
-            c.in-Some-get.ensures.value c.lent.ensures c.in-Ok.ensures.items,
+            c.in-Some-get.ensures.value c.lent.ensures pushed,
       ),
       one_passed c.args.surveyed.now.no_backslash_escape c.loop-rest.rest.now _ c.args.surveyed.now.known.now (c.in-Some.found.before + c.in-Some.found.len) c.len-in-loop-rest.result _ _ _
-          c.in-Ok.ensures.items c.cut.ensures.after (omega arith) c.in-Some.ensures.next,
+          pushed c.cut.ensures.after (omega arith) c.in-Some.ensures.next,
     )
 
 pub returns-clause-placed : goal.returns-clause-placed
