@@ -1,5 +1,5 @@
 -- Which refusal comes: the first that holds, in the order of `Failure`.
-use Rattle.std.specs.Prelude.{◌≡◌, ◌++◌, ◌≢◌, ℕ, true, false, List, map, Some, None, Result, Ok, Err, ⊤}
+use Rattle.std.specs.Prelude.{◌≡◌, ◌++◌, ◌≢◌, ℕ, true, false, List, map, Some, None, Result, Ok, Err, ⊤, alloc_error}
 use Rattle.mysql_values.specs.declared.value.Value.{Value}
 use Rattle.mysql_named_params.specs.Tokens.{Token, OnTokens}
 use Rattle.mysql_named_params.specs.Places.{marks}
@@ -9,6 +9,8 @@ use Rattle.mysql_portable.specs.FirstUnportableInClient.{first_unportable_in_cli
 use Rattle.mysql_portable.specs.declared.portable.Unportable.{Unportable}
 use Rattle.mysql_params_core.specs.Given.{Given}
 use Rattle.mysql_params_core.specs.Made.{ToParamsRefusal, redefined}
+use Rattle.mysql_params_core.specs.declared.params.errors.ToParamsError.{ToParamsError}
+use Rattle.mysql_params_core.specs.declared.params.errors.ToParamsError.TheVariants as to_params
 use Rattle.mysql_binding.specs.BindErrors.{IsCauseOrMemory}
 use Rattle.mysql_binding.specs.FirstCause.{first_cause}
 use Rattle.mysql_steady_text.specs.SteadyTextErrors.{IsSteadyRefusal}
@@ -23,6 +25,8 @@ use Rattle.mysql_bind_core.specs.Entries.{Entries, entries_of, pair_said}
 use Rattle.mysql_bind_core.specs.QueryEnd.{end, long_end}
 use Rattle.mysql_bind_core.specs.Requests.{mode_of}
 use Rattle.mysql_bind_core.specs.declared.assignment.Assignment.{Assignment}
+use Rattle.mysql_bind_core.specs.declared.assignment.PairsError.{PairsError}
+use Rattle.mysql_bind_core.specs.declared.assignment.PairsError.TheVariants as pairs
 use Rattle.mysql_bind_core.specs.declared.failure.Failure.{Failure}
 use Rattle.mysql_bind_core.specs.declared.failure.Failure.TheVariants as failure
 use Rattle.mysql_bind_core.specs.declared.request.Literals.{Literals}
@@ -48,6 +52,17 @@ IsQueryRefusal request query failure.Marks =
     × OnTokens (mode_of request.literals) query (λ ts. marks ts ≢ 0)
 IsQueryRefusal request query (failure.Memory error) = ⊤
 IsQueryRefusal request query why = ⊥
+
+-- the failure for which an error of pairs stands
+abbrev pub pairs_failure : PairsError → Failure
+pairs_failure pairs.NoValue = failure.NoValue
+pairs_failure (pairs.Memory error) = failure.Memory error
+
+-- the failure for which an error of parameters stands
+abbrev pub params_failure : ToParamsError → Failure
+params_failure (to_params.Redefined name) = failure.Redefined name
+params_failure (to_params.Value error) = failure.Memory alloc_error
+params_failure (to_params.Memory error) = failure.Memory error
 
 -- why pairs that make this give nothing, or out of memory
 abbrev pub IsMadeRefusal : Result Given ToParamsRefusal → Failure → Type 0

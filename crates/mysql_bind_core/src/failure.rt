@@ -1,9 +1,11 @@
 //! Why nothing was written.
+use crate::assignment::PairsError;
 use mysql_binding::BindError;
 use mysql_fragments::{FragmentsError, SteadyFragmentsError};
+use mysql_params_core::params::ToParamsError;
 use mysql_portable::portable::Unportable;
 use mysql_steady_text::SteadyTextError;
-use std::alloc::AllocError;
+use std::alloc::{AllocError, AllocFailed};
 
 /// Why [`write_bound`](crate::write_bound) did not write the whole text: the first cause, in this
 /// order. After `Write` a prefix of the text was written, after all others nothing.
@@ -43,4 +45,100 @@ pub enum Failure {
     Write,
     /// Out of memory. It may come in place of any other.
     Memory(AllocError),
+}
+
+impl From<AllocError> for Failure {
+    ghost use Rattle.std.specs.Prelude.{◌≡◌, alloc_error};
+    ghost use Rattle.mysql_bind_core.specs.declared.failure.Failure.TheVariants.{Memory};
+
+    ghost from_gives = { λ _ failure. failure ≡ Memory alloc_error };
+
+    fn from(error: AllocError) -> Failure {
+        Failure::Memory(error)
+    }
+}
+
+impl<T: Drop> From<AllocFailed<T>> for Failure {
+    ghost use Rattle.std.specs.Prelude.{◌≡◌, alloc_error};
+    ghost use Rattle.mysql_bind_core.specs.declared.failure.Failure.TheVariants.{Memory};
+
+    ghost from_gives = { λ _ failure. failure ≡ Memory alloc_error };
+
+    fn from(_error: AllocFailed<T>) -> Failure {
+        Failure::Memory(AllocError)
+    }
+}
+
+impl From<BindError> for Failure {
+    ghost use Rattle.std.specs.Prelude.{◌≡◌};
+    ghost use Rattle.mysql_bind_core.specs.declared.failure.Failure.TheVariants.{Plain};
+
+    ghost from_gives = { λ error failure. failure ≡ Plain error };
+
+    fn from(error: BindError) -> Failure {
+        Failure::Plain(error)
+    }
+}
+
+impl From<SteadyTextError> for Failure {
+    ghost use Rattle.std.specs.Prelude.{◌≡◌};
+    ghost use Rattle.mysql_bind_core.specs.declared.failure.Failure.TheVariants.{Steady};
+
+    ghost from_gives = { λ error failure. failure ≡ Steady error };
+
+    fn from(error: SteadyTextError) -> Failure {
+        Failure::Steady(error)
+    }
+}
+
+impl From<FragmentsError> for Failure {
+    ghost use Rattle.std.specs.Prelude.{◌≡◌};
+    ghost use Rattle.mysql_bind_core.specs.declared.failure.Failure.TheVariants.{Fragments};
+
+    ghost from_gives = { λ error failure. failure ≡ Fragments error };
+
+    fn from(error: FragmentsError) -> Failure {
+        Failure::Fragments(error)
+    }
+}
+
+impl From<SteadyFragmentsError> for Failure {
+    ghost use Rattle.std.specs.Prelude.{◌≡◌};
+    ghost use Rattle.mysql_bind_core.specs.declared.failure.Failure.TheVariants.{SteadyFragments};
+
+    ghost from_gives = { λ error failure. failure ≡ SteadyFragments error };
+
+    fn from(error: SteadyFragmentsError) -> Failure {
+        Failure::SteadyFragments(error)
+    }
+}
+
+impl From<PairsError> for Failure {
+    ghost use Rattle.std.specs.Prelude.{◌≡◌};
+    ghost use Rattle.mysql_bind_core.specs.Refusals.{pairs_failure};
+
+    ghost from_gives = { λ error failure. failure ≡ pairs_failure error };
+
+    fn from(error: PairsError) -> Failure {
+        match error {
+            PairsError::NoValue => Failure::NoValue,
+            PairsError::Memory(error) => Failure::Memory(error),
+        }
+    }
+}
+
+impl From<ToParamsError> for Failure {
+    ghost use Rattle.std.specs.Prelude.{◌≡◌};
+    ghost use Rattle.mysql_bind_core.specs.Refusals.{params_failure};
+
+    ghost from_gives = { λ error failure. failure ≡ params_failure error };
+
+    fn from(error: ToParamsError) -> Failure {
+        match error {
+            ToParamsError::Redefined(name) => Failure::Redefined(name),
+            // No value is a duration that is too long, so this doesn't come.
+            ToParamsError::Value(_) => Failure::Memory(AllocError),
+            ToParamsError::Memory(error) => Failure::Memory(error),
+        }
+    }
 }

@@ -31,3 +31,36 @@ pub enum RowsFailure {
     /// Out of memory. It may come in place of any other.
     Memory(AllocError),
 }
+
+impl From<AllocError> for RowsFailure {
+    ghost use Rattle.std.specs.Prelude.{◌≡◌, alloc_error};
+    ghost use Rattle.mysql_bind_core.specs.declared.row.RowsFailure.TheVariants.{Memory};
+
+    ghost from_gives = { λ _ failure. failure ≡ Memory alloc_error };
+
+    fn from(error: AllocError) -> RowsFailure {
+        RowsFailure::Memory(error)
+    }
+}
+
+impl From<Failure> for RowsFailure {
+    ghost use Rattle.std.specs.Prelude.{◌≡◌};
+    ghost use Rattle.mysql_bind_core.specs.declared.row.RowsFailure.TheVariants.{Query};
+
+    ghost from_gives = { λ refused failure. failure ≡ Query refused };
+
+    fn from(refused: Failure) -> RowsFailure {
+        RowsFailure::Query(refused)
+    }
+}
+
+impl From<RefusedRow> for RowsFailure {
+    ghost use Rattle.std.specs.Prelude.{◌≡◌};
+    ghost use Rattle.mysql_bind_core.specs.declared.row.RowsFailure.TheVariants.{Row};
+
+    ghost from_gives = { λ refused failure. failure ≡ Row refused };
+
+    fn from(refused: RefusedRow) -> RowsFailure {
+        RowsFailure::Row(refused)
+    }
+}
