@@ -2,6 +2,7 @@
 use crate::assignment::PairsError;
 use mysql_binding::BindError;
 use mysql_fragments::{FragmentsError, SteadyFragmentsError};
+use mysql_io::readers_and_writers::WriteError;
 use mysql_params_core::params::ToParamsError;
 use mysql_portable::portable::Unportable;
 use mysql_steady_text::SteadyTextError;
@@ -140,5 +141,16 @@ impl From<ToParamsError> for Failure {
             ToParamsError::Value(_) => Failure::Memory(AllocError),
             ToParamsError::Memory(error) => Failure::Memory(error),
         }
+    }
+}
+
+impl From<WriteError> for Failure {
+    ghost use Rattle.std.specs.Prelude.{◌≡◌};
+    ghost use Rattle.mysql_bind_core.specs.declared.failure.Failure.TheVariants.{Write};
+
+    ghost from_gives = { λ _ failure. failure ≡ Write };
+
+    fn from(_error: WriteError) -> Failure {
+        Failure::Write
     }
 }

@@ -1,6 +1,7 @@
 //! Rows, and why one or all of them are refused.
 use crate::assignment::Assignment;
 use crate::failure::Failure;
+use mysql_io::readers_and_writers::WriteError;
 use std::alloc::AllocError;
 
 /// What the names of a query are assigned in one statement.
@@ -62,5 +63,16 @@ impl From<RefusedRow> for RowsFailure {
 
     fn from(refused: RefusedRow) -> RowsFailure {
         RowsFailure::Row(refused)
+    }
+}
+
+impl From<WriteError> for RowsFailure {
+    ghost use Rattle.std.specs.Prelude.{◌≡◌};
+    ghost use Rattle.mysql_bind_core.specs.declared.row.RowsFailure.TheVariants.{Write};
+
+    ghost from_gives = { λ _ failure. failure ≡ Write };
+
+    fn from(_error: WriteError) -> RowsFailure {
+        RowsFailure::Write
     }
 }
