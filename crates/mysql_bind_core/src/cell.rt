@@ -60,11 +60,7 @@ pub(crate) fn cell_values<'c>(
     let mut values = Vec::with_capacity(alloc, cells.len())?;
     for cell in cells {
         match cell_value(alloc, *cell)? {
-            Some(value) => {
-                if values.push(value).is_err() {
-                    return Err(AllocError);
-                }
-            }
+            Some(value) => values.push(value)?,
             None => return Ok(None),
         }
     }

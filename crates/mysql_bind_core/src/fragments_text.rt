@@ -28,10 +28,8 @@ pub(crate) fn fragments_text(
     ensures refused { IfErr result (IsFragmentsTextRefusal request query.now assignments.now) }
     ensures only { IfErr result (λ e. e ≢ Failure.Write) }
 {
-    match assigned_fragments(alloc, assignments) {
-        Ok(entries) => named_text(alloc, query, &Fragments::Named(entries), request),
-        Err(failure) => Err(failure),
-    }
+    let entries = assigned_fragments(alloc, assignments)?;
+    named_text(alloc, query, &Fragments::Named(entries), request)
 }
 
 // The text of a query and of fragments, with the literals that are asked for.
@@ -80,10 +78,7 @@ fn plain_text(
         IsFragmentsRefusal (Literals.Plain no_backslash_escape) portability query.now ts
         (given_fragments fragments.now) e)) }
 {
-    match bind_fragments_in(alloc, query, fragments, no_backslash_escape) {
-        Ok(text) => Ok(text),
-        Err(error) => Err(Failure::Fragments(error)),
-    }
+    Ok(bind_fragments_in(alloc, query, fragments, no_backslash_escape)?)
 }
 
 // The text with steady literals, of a portable query.
@@ -95,10 +90,7 @@ fn anywhere_text(alloc: Global, query: &[u8], fragments: &Fragments) -> Result<V
         IsFragmentsRefusal Literals.Steady Portability.Portable query.now ts
         (given_fragments fragments.now) e)) }
 {
-    match bind_fragments_anywhere(alloc, query, fragments) {
-        Ok(text) => Ok(text),
-        Err(error) => Err(Failure::SteadyFragments(error)),
-    }
+    Ok(bind_fragments_anywhere(alloc, query, fragments)?)
 }
 
 // The text with steady literals, of any query.
@@ -110,8 +102,5 @@ fn any_mode_text(alloc: Global, query: &[u8], fragments: &Fragments) -> Result<V
         IsFragmentsRefusal Literals.Steady Portability.Any query.now ts
         (given_fragments fragments.now) e)) }
 {
-    match bind_fragments_in_any_mode(alloc, query, fragments) {
-        Ok(text) => Ok(text),
-        Err(error) => Err(Failure::SteadyFragments(error)),
-    }
+    Ok(bind_fragments_in_any_mode(alloc, query, fragments)?)
 }

@@ -71,10 +71,7 @@ impl<'q, 'c> MatchedQuery<'q, 'c> {
         ensures refused { IfErr result (IsQueryRefusal request query.now) }
     {
         let taken = TakenQuery::new(alloc, query, request)?;
-        let numbers = match column_numbers(alloc, taken.parsed(), columns) {
-            Ok(numbers) => numbers,
-            Err(error) => return Err(Failure::Memory(error)),
-        };
+        let numbers = column_numbers(alloc, taken.parsed(), columns)?;
         Ok(MatchedQuery {
             taken,
             columns,
@@ -102,10 +99,9 @@ impl<'q, 'c> MatchedQuery<'q, 'c> {
         ensures refused { IfErr result (IsRowRefusal self.now cells.now) }
         ensures kept { OnErr result (script.new.items ≡ script.old.items) }
     {
-        match self.append_values(alloc, cells, script) {
-            Ok(Attempt::Written) => Ok(()),
-            Ok(Attempt::Left) => self.append_assigned(alloc, cells, script),
-            Err(error) => Err(Failure::Memory(error)),
+        match self.append_values(alloc, cells, script)? {
+            Attempt::Written => Ok(()),
+            Attempt::Left => self.append_assigned(alloc, cells, script),
         }
     }
 
@@ -121,10 +117,7 @@ impl<'q, 'c> MatchedQuery<'q, 'c> {
         ensures refused { IfErr result (IsRowRefusal self.now cells.now) }
         ensures kept { OnErr result (script.new.items ≡ script.old.items) }
     {
-        let assignments = match assignments_of(alloc, self.columns, cells) {
-            Ok(assignments) => assignments,
-            Err(error) => return Err(Failure::Memory(error)),
-        };
+        let assignments = assignments_of(alloc, self.columns, cells)?;
         self.taken
             .append_text(alloc, assignments.as_slice(), script)
     }
@@ -257,9 +250,8 @@ fn column_numbers(
         OnTokens query.now.mode query.now.query (λ ts.
         AreNumbersOf (referents columns.now) (names ts) numbers.items))) }
 {
-    let names = match query.names(alloc) {
-        Ok(names) => names,
-        Err(_) => return Err(AllocError),
+    let Ok(names) = query.names(alloc) else {
+        return Err(AllocError);
     };
     if names.is_empty() || columns.is_empty() || !are_distinct_names(alloc, columns)? {
         return Ok(None);
@@ -309,9 +301,7 @@ fn numbers_by_name<'c>(
 ) -> Result<BTreeMap<&'c [u8], usize>, AllocError> {
     let mut by_name = BTreeMap::new(alloc);
     for (number, name) in columns.iter().enumerate() {
-        if by_name.insert(*name, number).is_err() {
-            return Err(AllocError);
-        }
+        by_name.insert(*name, number)?;
     }
     Ok(by_name)
 }

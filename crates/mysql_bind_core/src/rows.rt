@@ -33,18 +33,17 @@ pub fn append_rows(
     if rows.is_empty() {
         return Ok(());
     }
-    let names = match query.parsed().names(alloc) {
-        Ok(names) => names,
-        Err(_) => return Err(RefusedRow {
+    let Ok(names) = query.parsed().names(alloc) else {
+        return Err(RefusedRow {
             number: 0,
             failure: Failure::Memory(AllocError),
-        }),
+        });
     };
     for number in 0..rows.len() {
         let assignments = rows[number].assignments.as_slice();
-        match append_statement(alloc, query, names.as_slice(), assignments, script) {
-            Ok(()) => {}
-            Err(failure) => return Err(RefusedRow { number, failure }),
+        let appended = append_statement(alloc, query, names.as_slice(), assignments, script);
+        if let Err(failure) = appended {
+            return Err(RefusedRow { number, failure });
         }
     }
     Ok(())

@@ -45,10 +45,8 @@ pub fn script_of(
         IsScript request query.now rows.now transaction script.items) }
     ensures refused { IfErr result (IsRowsRefusal request query.now rows.now) }
 {
-    match TakenQuery::new(alloc, query, request) {
-        Ok(taken) => taken_script(alloc, &taken, rows, transaction),
-        Err(failure) => Err(RowsFailure::Query(failure)),
-    }
+    let taken = TakenQuery::new(alloc, query, request)?;
+    taken_script(alloc, &taken, rows, transaction)
 }
 
 // The script of rows and a query that is taken.
@@ -64,15 +62,9 @@ fn taken_script(
     ensures refused { IfErr result (IsRowsRefusal query.now.request query.now.query rows.now) }
 {
     let mut script = Vec::new(alloc);
-    if let Err(error) = append_if(&mut script, transaction, START) {
-        return Err(RowsFailure::Memory(error));
-    }
-    if let Err(refused) = append_rows(alloc, query, rows, &mut script) {
-        return Err(RowsFailure::Row(refused));
-    }
-    if let Err(error) = append_if(&mut script, transaction, COMMIT) {
-        return Err(RowsFailure::Memory(error));
-    }
+    append_if(&mut script, transaction, START)?;
+    append_rows(alloc, query, rows, &mut script)?;
+    append_if(&mut script, transaction, COMMIT)?;
     Ok(script)
 }
 
@@ -102,10 +94,8 @@ pub fn write_rows<W: Write>(
         × IsScript request query.now rows.now transaction script
         × AppendsPrefix (W.contents output.old) (W.contents output.new) script }
 {
-    match script_of(alloc, query, rows, request, transaction) {
-        Ok(script) => written(output, &script),
-        Err(failure) => Err(failure),
-    }
+    let script = script_of(alloc, query, rows, request, transaction)?;
+    written(output, &script)
 }
 
 // Writes the whole script.
@@ -115,10 +105,7 @@ fn written<W: Write>(output: &mut W, script: &[u8]) -> Result<(), RowsFailure>
     ensures begun { IsErrOf result RowsFailure.Write →
         AppendsPrefix (W.contents output.old) (W.contents output.new) script.now }
 {
-    match write_whole(output, script) {
-        Ok(()) => Ok(()),
-        Err(_) => Err(RowsFailure::Write),
-    }
+    Ok(write_whole(output, script)?)
 }
 
 /// Writes the statement of each row, without a transaction's. A row that is refused leaves exactly
@@ -153,15 +140,11 @@ pub fn stream_rows<W: Write>(
 {
     if rows.is_empty() {
         // Nothing is bound then, so no memory is asked for.
-        return match check_query(alloc, query, request) {
-            Ok(()) => written(output, &[]),
-            Err(failure) => Err(RowsFailure::Query(failure)),
-        };
+        check_query(alloc, query, request)?;
+        return written(output, &[]);
     }
-    match TakenQuery::new(alloc, query, request) {
-        Ok(taken) => stream_taken(alloc, &taken, rows, output),
-        Err(failure) => Err(RowsFailure::Query(failure)),
-    }
+    let taken = TakenQuery::new(alloc, query, request)?;
+    stream_taken(alloc, &taken, rows, output)
 }
 
 // Writes the statement of each row of a query that is taken.
@@ -189,11 +172,8 @@ fn stream_taken<W: Write>(
         × AppendsPrefix (W.contents output.old) (W.contents output.new) statements }
 {
     let mut statements = Vec::new(alloc);
-    match append_rows(alloc, query, rows, &mut statements) {
-        Ok(()) => written(output, &statements),
-        Err(refused) => match written(output, &statements) {
-            Ok(()) => Err(RowsFailure::Row(refused)),
-            Err(failure) => Err(failure),
-        },
-    }
+    let appended = append_rows(alloc, query, rows, &mut statements);
+    // Also before a row that is refused, statements are written.
+    written(output, &statements)?;
+    Ok(appended?)
 }

@@ -23,10 +23,7 @@ pub fn append_record(
     ensures kept { OnErr result (script.new.items ≡ script.old.items) }
 {
     let before = script.len();
-    match query.append_row(alloc, cells, script) {
-        Ok(()) => {}
-        Err(failure) => return Err(failure),
-    }
+    query.append_row(alloc, cells, script)?;
     match script.extend_from_slice(b"\n;\n") {
         Ok(()) => Ok(()),
         Err(error) => {

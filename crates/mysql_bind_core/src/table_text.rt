@@ -39,11 +39,7 @@ pub fn append_table<'t>(
     let mut fields = Vec::new(alloc);
     let mut rest = text;
     for _count in 0..most {
-        let found = match read_record(alloc, form, text, rest, &mut fields) {
-            Ok(found) => found,
-            Err(refusal) => return Err(refusal),
-        };
-        let Some(more) = found else {
+        let Some(more) = read_record(alloc, form, text, rest, &mut fields)? else {
             return Ok(rest);
         };
         let at = text.len() - rest.len();
@@ -51,10 +47,10 @@ pub fn append_table<'t>(
             let fields = fields.len();
             return Err(TableRefusal::Length { at, fields });
         }
-        match append_fields(alloc, query, form, fields.as_slice(), script) {
-            Ok(()) => rest = more,
-            Err(failure) => return Err(TableRefusal::Row { at, failure }),
+        if let Err(failure) = append_fields(alloc, query, form, fields.as_slice(), script) {
+            return Err(TableRefusal::Row { at, failure });
         }
+        rest = more;
     }
     Ok(rest)
 }
@@ -104,10 +100,8 @@ fn append_fields(
         (lent_fields_seen fields.now)) }
     ensures kept { OnErr result (script.new.items ≡ script.old.items) }
 {
-    match record_cells(alloc, form, fields) {
-        Ok(cells) => append_record(alloc, query, cells.as_slice(), script),
-        Err(error) => Err(Failure::Memory(error)),
-    }
+    let cells = record_cells(alloc, form, fields)?;
+    append_record(alloc, query, cells.as_slice(), script)
 }
 
 /// The cells of a record with these fields, which lie where the fields do: of each column that is
