@@ -26,8 +26,10 @@ use mysql_steady_text::SteadyForm;
 use mysql_values::value::{Value, ValueRef};
 use std::alloc::{AllocError, Global};
 
-// Among more pairs than these a value is looked for in a map.
-const FEW: usize = 16;
+// A row of at most so many values is bound without a map of them, whose making was a fifth of the
+// instructions of `rows_out`. A walk over the values takes its place, for each name and each value.
+// How many values a map is worth wasn't measured.
+const FEW_VALUES: usize = 16;
 
 /// What the short way to a row's text came to.
 #[derive(Debug, Clone, Copy)]
@@ -243,7 +245,7 @@ fn are_few_values(query_names: &[&[u8]], assignments: &[Assignment]) -> bool
     ensures asked { IsTrue result → 0 < length query_names.now }
     ensures values { IsTrue result → has_fragment assignments.now ≡ false }
 {
-    !query_names.is_empty() && assignments.len() <= FEW && !has_fragment(assignments)
+    !query_names.is_empty() && assignments.len() <= FEW_VALUES && !has_fragment(assignments)
 }
 
 // The values, borrowed, of the pairs with these names, if each name has one.
