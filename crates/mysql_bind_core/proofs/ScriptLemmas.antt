@@ -8,6 +8,7 @@ use Rattle.mysql_bind_core.specs.Refusals.{IsRefusal, of_query}
 use Rattle.mysql_bind_core.specs.declared.failure.Failure.{Failure}
 use Rattle.mysql_bind_core.specs.declared.failure.Failure.TheVariants.{Memory}
 use Rattle.mysql_bind_core.specs.declared.request.Request.{Request}
+use Rattle.mysql_bind_core.specs.declared.row.RefusedRow.{RefusedRow}
 use Rattle.mysql_bind_core.specs.declared.row.Row.{Row}
 use Rattle.mysql_bind_core.specs.Scripts.{AreStatements, AreWritten, IsRefusedRow, script, statement}
 
@@ -73,6 +74,13 @@ pub of_all : (request : Request) (query : List ℕ) (rows : List Row) (number : 
     → number ≡ length rows → AreStatements request query (take number rows) old after → AreStatements request query rows old after
 of_all request query rows number old after all are =
     subst (λ rs. AreStatements request query rs old after) (ap (λ n. take n rows) all ∙ take-all rows) are
+
+-- the statements of all rows, or of those before a refused one
+pub some_statements : {A : Type 0} (request : Request) (query : List ℕ) (rows : List Row) (r : Result A RefusedRow) (before after : List ℕ)
+    → OnOk r (AreStatements request query rows before after) → IfErr r (λ e. AreStatements request query (take e.number rows) before after)
+    → (number : ℕ) × AreStatements request query (take number rows) before after
+some_statements request query rows (Ok done) before after all some = (length rows, all_statements request query rows before after all)
+some_statements request query rows (Err e) before after all some = (e.number, some)
 
 -- memory may lack before the first row
 pub out_of_memory : (request : Request) (query : List ℕ) (rows : List Row) (error : AllocError) → 0 < length rows → IsRefusedRow request query rows 0 (Memory error)

@@ -11,9 +11,9 @@ use Rattle.mysql_bind_core.proofs.matched.MatchedQuery.append_assigned.Goals as 
 pub returns-clause-bound : goal.returns-clause-bound
 returns-clause-bound c =
     let q = c.args.self.now in
-    let made = c.in-Ok.assignments.items in
+    let made = c.in_ok-assignments.assignments.items in
     let said : AreAssigned q.columns c.args.cells.now made =
-    subst (λ (v : TableQuery). AreAssigned v.columns c.args.cells.now made) c.self.view_is c.in-Ok.ensures in
+    subst (λ (v : TableQuery). AreAssigned v.columns c.args.cells.now made) c.self.view_is c.in_ok-assignments.ensures in
     let bound : OnOk c.append_text.result ((x : List ℕ) × IsWritten q.request q.query made x × (c.append_text.new.script.items ≡ c.args.script.now.items ++ x)) =
     subst (λ (v : TableQuery). OnOk c.append_text.result ((x : List ℕ) × IsWritten v.request v.query made x × (c.append_text.new.script.items ≡ c.args.script.now.items ++ x)))
     c.self.view_is (rw c.as_slice.ensures.value at c.append_text.ensures.bound) in
@@ -23,9 +23,9 @@ returns-clause-bound c =
 pub returns-clause-refused : goal.returns-clause-refused
 returns-clause-refused c =
     let q = c.args.self.now in
-    let made = c.in-Ok.assignments.items in
+    let made = c.in_ok-assignments.assignments.items in
     let said : AreAssigned q.columns c.args.cells.now made =
-    subst (λ (v : TableQuery). AreAssigned v.columns c.args.cells.now made) c.self.view_is c.in-Ok.ensures in
+    subst (λ (v : TableQuery). AreAssigned v.columns c.args.cells.now made) c.self.view_is c.in_ok-assignments.ensures in
     let refused : IfErr c.append_text.result (IsRefusal q.request q.query made) =
     subst (λ (v : TableQuery). IfErr c.append_text.result (IsRefusal v.request v.query made))
     c.self.view_is (rw c.as_slice.ensures.value at c.append_text.ensures.refused) in

@@ -27,6 +27,6 @@ invariant_of-result c =
     let same : parsed ≡ in_its_mode taken = rw (sym c.parsed.ensures.query, sym c.parsed.ensures.mode) refl in
     record {
       is_taken = subst (λ (w : RequestedQuery). IsTaken w.request w.query) (sym c.in_ok-taken.ensures.query) c.in_ok-taken.ensures.taken;
-      numbered = subst (λ (q : QueryInMode). IfSome c.in-Ok.numbers (λ n. HaveNumbers q (referents c.args.columns.now) n.items)) same
-          (have_numbers parsed (referents c.args.columns.now) (length c.args.columns.now) c.in-Ok.numbers (length-map c.args.columns.now (λ r. r.now)) c.in-Ok.ensures.distinct c.in-Ok.ensures.some c.in-Ok.ensures.asked c.in-Ok.ensures.numbers);
+      numbered = subst (λ (q : QueryInMode). IfSome c.in_ok-numbers.numbers (λ n. HaveNumbers q (referents c.args.columns.now) n.items)) same
+          (have_numbers parsed (referents c.args.columns.now) (length c.args.columns.now) c.in_ok-numbers.numbers (length-map c.args.columns.now (λ r. r.now)) c.in_ok-numbers.ensures.distinct c.in_ok-numbers.ensures.some c.in_ok-numbers.ensures.asked c.in_ok-numbers.ensures.numbers);
     }
