@@ -131,24 +131,18 @@ fn keep<'f>(
         IsGivenAs kept.new (with_parameter given name.now said)) }
 {
     match kept {
-        FormInPlace::Named(entries) => match entries.insert(name, fragment) {
-            Ok(_) => Ok(()),
-            Err(_) => Err(AllocError),
-        },
+        FormInPlace::Named(entries) => {
+            entries.insert(name, fragment)?;
+        }
         FormInPlace::Positional(list) => {
             if list.is_empty() && !name.is_empty() {
                 let mut entries = BTreeMap::new(alloc);
-                match entries.insert(name, fragment) {
-                    Ok(_) => {}
-                    Err(_) => return Err(AllocError),
-                }
+                entries.insert(name, fragment)?;
                 *kept = FormInPlace::Named(entries);
                 return Ok(());
             }
-            match list.push(fragment) {
-                Ok(()) => Ok(()),
-                Err(_) => Err(AllocError),
-            }
+            list.push(fragment)?;
         }
     }
+    Ok(())
 }

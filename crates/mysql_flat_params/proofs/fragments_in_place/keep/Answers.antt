@@ -7,13 +7,13 @@ use Rattle.mysql_flat_params.proofs.FragmentsInPlaceLemmas.{first_by_name, inser
 use Rattle.mysql_flat_params.proofs.fragments_in_place.keep.Goals.{else-is_empty-via-then-is_empty+else-not-is_empty, else-is_empty-via-else-is_empty}
 use Rattle.mysql_flat_params.proofs.fragments_in_place.keep.Goals as goal
 
-pub returns-in-Ok : goal.returns-in-Ok
-returns-in-Ok c = λ given said g kept.
+pub returns-in_ok-insert-in-Named : goal.returns-in_ok-insert-in-Named
+returns-in_ok-insert-in-Named c = λ given said g kept.
     let (fragments, is, all) = subst (λ k. IsGivenAs k given) c.in-Named.is g in (
       insert fragments c.args.name.now said,
       ap (λ x. with_parameter x c.args.name.now said) is,
       inserted_more c.in-Named.entries.entries c.insert.new.self.entries c.args.name c.args.fragment said fragments
-          c.in-Ok.ensures.updates.3 c.in-Ok.ensures.updates.1 kept all,
+          c.in_ok-insert-in-Named.ensures.updates.3 c.in_ok-insert-in-Named.ensures.updates.1 kept all,
     )
 
 pub returns-then-not-is_empty : goal.returns-then-not-is_empty
@@ -23,14 +23,14 @@ returns-then-not-is_empty c = λ given said g kept. (
       (sym c.in-Positional.list.ok.0 ∙ none_of _ _ c.is_empty.ensures c.if-is_empty.true)
       (some_of _ _ c.is_empty-then-is_empty.ensures c.if-not-is_empty.true),
   inserted_more c.new-entries.result.entries c.insert-then-not-is_empty.new.self.entries c.args.name c.args.fragment said empty
-      c.in-Ok-insert.ensures.updates.3 c.in-Ok-insert.ensures.updates.1 kept (subst (λ es. IsMapKeptAs es empty) (sym c.new-entries.ensures.empty) none_kept),
+      c.in_ok-insert-in-Positional.ensures.updates.3 c.in_ok-insert-in-Positional.ensures.updates.1 kept (subst (λ es. IsMapKeptAs es empty) (sym c.new-entries.ensures.empty) none_kept),
 )
 
-pub returns-in-Ok-push : goal.returns-in-Ok-push
-returns-in-Ok-push c = λ given said g kept.
+pub returns-in_ok-push-in-Positional : goal.returns-in_ok-push-in-Positional
+returns-in_ok-push-in-Positional c = λ given said g kept.
     pushed c.in-Positional.list.items c.push.new.self.items given c.args.name.now c.args.fragment said (subst (λ k. IsGivenAs k given) c.in-Positional.is g)
     (λ none. elim c.else-is_empty.branch [
       | else-is_empty-via-then-is_empty+else-not-is_empty w ↦ nil_from_length c.args.name.now (none_of _ _ w.is_empty-then-is_empty.ensures w.if-not-is_empty.false)
       | else-is_empty-via-else-is_empty w ↦ absurd (some_of _ _ c.is_empty.ensures w.if-is_empty.false (c.in-Positional.list.ok.0 ∙ ap length none))
     ])
-    c.in-Ok-push.ensures.items kept
+    c.in_ok-push-in-Positional.ensures.items kept
