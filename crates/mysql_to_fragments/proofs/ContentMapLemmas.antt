@@ -9,10 +9,11 @@ use Rattle.std.specs.Cmp.{unsigned_ties}
 use Rattle.std.specs.Cmp.Lexicographic.{slice_cmp, pointwise, bytes_decides, lists_ties, nat_list_cmp_total, nat_list_eq_equiv}
 use Rattle.std.specs.FinMap.{find, get, get-from_entries, insert, get-insert, same_map, slice_cmp-IsAntisymmetric, nat_cmp-IsAntisymmetric}
 use Rattle.std.specs.Map.{lookup, KeepsOthers}
-use Rattle.mysql_wire_part.specs.Answer.{IsAnswer}
+use Rattle.mysql_wire_part.specs.Answer.{IsAnswer, IsExpectedRefusal}
 use Rattle.mysql_values.specs.ValueOf.{too_long_duration}
 use Rattle.mysql_value_core.specs.declared.value.convert.ToValueError.{ToValueError}
 use Rattle.mysql_value_core.specs.declared.value.convert.ToValueError.TheVariants.{DurationTooLong, Memory}
+use Rattle.mysql_params_core.specs.Errors.{of_value, to_params_refusal}
 use Rattle.mysql_params_core.proofs.EqualityLemmas.{has_bytes, key_eq}
 use Rattle.mysql_fragments.specs.declared.fragment.Fragment.{Fragment}
 use Rattle.mysql_to_fragments.specs.FragmentContent.{content_of}
@@ -68,3 +69,10 @@ with_new-content m name said (Ok w) v is answers =
     ap (with_new m name) (answers ∙ ap (λ x. Ok (content_of x)) same)
 with_new-content m name said (Err (DurationTooLong d)) v is answers = cc
 with_new-content m name said (Err (Memory e)) v is answers = cc
+
+-- the refusal of an argument is that of its pair
+pub with_new-refused : (m : ContentMap) (name : List ℕ) (said : SaidFragment) (error : ToValueError)
+    → IsExpectedRefusal said ⊤ (too_long_duration error)
+    → IsExpectedRefusal (with_new m name said) ⊤ (to_params_refusal (of_value error))
+with_new-refused m name said (DurationTooLong d) refused = ap (with_new m name) refused
+with_new-refused m name said (Memory e) refused = tt

@@ -15,7 +15,7 @@ use crate::nested::nested;
 use mysql_fragments::{Fragment, Fragments};
 use mysql_params_core::params::ToParamsError;
 use mysql_values::value::convert::ToValueError;
-use std::alloc::{AllocError, Global};
+use std::alloc::Global;
 use std::collections::HashMap;
 
 /// Pairs of a name and an argument, as tuples of up to eight of them:
@@ -301,19 +301,8 @@ fn insert_new(
     ensures value { IfErr result (λ error.
         error ≢ ToParamsError.Value (to_value.Memory alloc_error)) }
 {
-    let fragment = match answer {
-        Ok(fragment) => fragment,
-        Err(ToValueError::Memory(error)) => return Err(ToParamsError::Memory(error)),
-        Err(ToValueError::DurationTooLong(duration)) => {
-            return Err(ToParamsError::Value(ToValueError::DurationTooLong(duration)));
-        }
-    };
-    let name = match Vec::from_slice(alloc, name) {
-        Ok(name) => name,
-        Err(error) => return Err(ToParamsError::Memory(error)),
-    };
-    match entries.insert(name, fragment) {
-        Ok(_) => Ok(()),
-        Err(_) => Err(ToParamsError::Memory(AllocError)),
-    }
+    let fragment = answer?;
+    let name = Vec::from_slice(alloc, name)?;
+    entries.insert(name, fragment)?;
+    Ok(())
 }
