@@ -15,7 +15,7 @@ use crate::fragment_type::typed_fragment;
 use crate::value_type::{ValueType, is_value_type, typed_value};
 use mysql_fragments::{Fragment, Fragments};
 use mysql_values::value::Value;
-use std::alloc::{AllocError, Global};
+use std::alloc::{AllocError, AllocFailed, Global};
 use std::collections::HashMap;
 
 /// A name of a query, and the bytes that a value is made of.
@@ -38,6 +38,28 @@ pub(crate) enum PairsError {
     Memory(AllocError),
 }
 
+impl From<AllocError> for PairsError {
+    ghost use Rattle.std.specs.Prelude.{◌≡◌, alloc_error};
+    ghost use Rattle.mysql_bind_core.specs.declared.assignment.PairsError.TheVariants.{Memory};
+
+    ghost from_gives = { λ _ error. error ≡ Memory alloc_error };
+
+    fn from(error: AllocError) -> PairsError {
+        PairsError::Memory(error)
+    }
+}
+
+impl<T: Drop> From<AllocFailed<T>> for PairsError {
+    ghost use Rattle.std.specs.Prelude.{◌≡◌, alloc_error};
+    ghost use Rattle.mysql_bind_core.specs.declared.assignment.PairsError.TheVariants.{Memory};
+
+    ghost from_gives = { λ _ error. error ≡ Memory alloc_error };
+
+    fn from(_error: AllocFailed<T>) -> PairsError {
+        PairsError::Memory(AllocError)
+    }
+}
+
 // The name and the value of each assignment.
 pub(crate) fn pairs_of(
     alloc: Global,
@@ -46,15 +68,9 @@ pub(crate) fn pairs_of(
     ensures { IsAnswer (λ pairs. map seen_pair pairs.items) pairs_refusal
         (ok_or (pairs_of assignments.now) no_value) ⊤ result }
 {
-    let mut pairs = Vec::with_capacity(alloc, assignments.len()).map_err(PairsError::Memory)?;
+    let mut pairs = Vec::with_capacity(alloc, assignments.len())?;
     for assignment in assignments {
-        match pair_of(alloc, assignment) {
-            Ok(pair) => match pairs.push(pair) {
-                Ok(()) => {}
-                Err(_) => return Err(PairsError::Memory(AllocError)),
-            },
-            Err(error) => return Err(error),
-        }
+        pairs.push(pair_of(alloc, assignment)?)?;
     }
     Ok(pairs)
 }
@@ -64,11 +80,7 @@ fn pair_of(alloc: Global, assignment: &Assignment) -> Result<(&[u8], Value), Pai
     ensures { IsAnswer seen_pair pairs_refusal
         (ok_or (pair_of assignment.now) no_value) ⊤ result }
 {
-    let typed = match typed_value(alloc, assignment.value_type, assignment.bytes.as_slice()) {
-        Ok(typed) => typed,
-        Err(error) => return Err(PairsError::Memory(error)),
-    };
-    match typed {
+    match typed_value(alloc, assignment.value_type, assignment.bytes.as_slice())? {
         Some(value) => Ok((assignment.name.as_slice(), value)),
         None => Err(PairsError::NoValue),
     }
@@ -94,11 +106,8 @@ pub(crate) fn assigned_fragments(
     ensures refused { IfErr result (IsContentsRefusal assignments.now) }
     ensures only { IfErr result (λ e. e ≢ Failure.Write) }
 {
-    match fragments_of(alloc, assignments) {
-        Ok(pairs) => entries_of(alloc, pairs),
-        Err(PairsError::NoValue) => Err(Failure::NoValue),
-        Err(PairsError::Memory(error)) => Err(Failure::Memory(error)),
-    }
+    let pairs = fragments_of(alloc, assignments)?;
+    entries_of(alloc, pairs)
 }
 
 // The name and the fragment of each assignment.
@@ -111,13 +120,7 @@ fn fragments_of(
 {
     let mut pairs = Vec::new(alloc);
     for assignment in assignments {
-        match fragment_of(alloc, assignment) {
-            Ok(pair) => match pairs.push(pair) {
-                Ok(()) => {}
-                Err(_) => return Err(PairsError::Memory(AllocError)),
-            },
-            Err(error) => return Err(error),
-        }
+        pairs.push(fragment_of(alloc, assignment)?)?;
     }
     Ok(pairs)
 }
@@ -127,11 +130,7 @@ fn fragment_of(alloc: Global, assignment: &Assignment) -> Result<(&[u8], Fragmen
     ensures { IsAnswer (λ pair. pair_said (pair_seen pair)) pairs_refusal
         (ok_or (named_content assignment.now) no_value) ⊤ result }
 {
-    let typed = match typed_fragment(alloc, assignment.value_type, assignment.bytes.as_slice()) {
-        Ok(typed) => typed,
-        Err(error) => return Err(PairsError::Memory(error)),
-    };
-    match typed {
+    match typed_fragment(alloc, assignment.value_type, assignment.bytes.as_slice())? {
         Some(fragment) => Ok((assignment.name.as_slice(), fragment)),
         None => Err(PairsError::NoValue),
     }
@@ -150,10 +149,7 @@ fn entries_of(
     let mut entries = HashMap::new(alloc);
     for pair in pairs {
         let (name, fragment) = pair;
-        match insert_fragment(alloc, &mut entries, name, fragment) {
-            Ok(()) => {}
-            Err(failure) => return Err(failure),
-        }
+        insert_fragment(alloc, &mut entries, name, fragment)?;
     }
     Ok(entries)
 }
@@ -170,17 +166,12 @@ fn insert_fragment(
     ensures refused { IfErr result (IsEntriesRefusal
         (with_fragment (Ok (fragment_map entries.old.entries)) (name.now, fragment))) }
 {
-    let copy = match Vec::from_slice(alloc, name) {
-        Ok(copy) => copy,
-        Err(error) => return Err(Failure::Memory(error)),
-    };
+    let copy = Vec::from_slice(alloc, name)?;
     if has_name(entries, name) {
         return Err(Failure::Redefined(copy));
     }
-    match entries.insert(copy, fragment) {
-        Ok(_) => Ok(()),
-        Err(_) => Err(Failure::Memory(AllocError)),
-    }
+    entries.insert(copy, fragment)?;
+    Ok(())
 }
 
 // Whether the name is in the map.

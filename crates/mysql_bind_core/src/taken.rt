@@ -140,10 +140,8 @@ impl<'q> TakenQuery<'q> {
             × IsWritten self.now.request self.now.query assignments.now text
             × AppendsPrefix (W.contents output.old) (W.contents output.new) text }
     {
-        match self.text(alloc, assignments) {
-            Ok(text) => written(output, &text),
-            Err(failure) => Err(failure),
-        }
+        let text = self.text(alloc, assignments)?;
+        written(output, &text)
     }
 
     // The text, unless it has to be portable in a client and isn't: a name may have a newline, and
