@@ -1,15 +1,17 @@
--- What assignments give, and why they are refused.
-use Rattle.std.proofs.Common.{◌≡◌, ℕ, ◌<◌, List, [], ◌∷◌, length, map, refl, arith, Some, Result, Ok, Err}
+-- What holds of a value in another form, and what pairs give with their values borrowed.
+use Rattle.std.proofs.Common.{◌≡◌, ◌∙◌, ℕ, ◌+◌, ◌<◌, List, [], ◌∷◌, ◌++◌, length, map, take, get_or, refl, sym, ap, arith, Result, Ok, Err}
 use Rattle.std.specs.Prelude.{IfOk, IfErr}
+use Rattle.std.proofs.lemmas.List.{take_more, get_or-map, length-map, map-append}
 use Rattle.std.specs.Borrow.{Bor}
 use Rattle.mysql_values.specs.declared.value.Value.{Value}
-use Rattle.mysql_query_core.specs.Words.{given_by_name}
+use Rattle.mysql_values.specs.declared.value.ValueRef.{ValueRef}
+use Rattle.mysql_values.specs.BorrowedValue.{owned}
+use Rattle.mysql_params_core.specs.GivenBorrowed.{by_borrowed}
+use Rattle.mysql_params_core.specs.Made as made
+use Rattle.mysql_params_core.specs.Made.{pairs_made}
 use Rattle.mysql_query_core.specs.WordErrors.{seen_pair}
-use Rattle.mysql_bind_core.specs.declared.assignment.Assignment.{Assignment}
-use Rattle.mysql_bind_core.specs.declared.failure.Failure.{Failure}
-use Rattle.mysql_bind_core.specs.declared.failure.Failure.TheVariants as failure
-use Rattle.mysql_bind_core.specs.Assignments.{given_of, pairs_of}
-use Rattle.mysql_bind_core.specs.Refusals.{IsMadeRefusal, IsAssignmentsRefusal}
+use Rattle.mysql_bind_core.specs.Assignments.{given_of}
+use Rattle.mysql_bind_core.proofs.FoundPairLemmas.{meant}
 
 -- what holds of a value holds of it in another form
 pub if_ok : {A E : Type 0} (r : Result A E) (P Q : A → Type 0) → ((a : A) → P a → Q a) → IfOk r P → IfOk r Q
@@ -20,12 +22,24 @@ pub if_err : {A E : Type 0} (r : Result A E) (P Q : E → Type 0) → ((e : E) �
 if_err (Ok a) P Q f p = tt
 if_err (Err e) P Q f p = f e p
 
-pub given_of-some : (ps : List (Bor (List ℕ) × Value)) → 0 < length ps → given_of (map seen_pair ps) ≡ given_by_name (map seen_pair ps)
-given_of-some [] some = absurd (omega arith)
-given_of-some (p ∷ ps) some = refl
+-- ---- pairs whose values are borrowed
 
-pub assignments_refused : (assignments : List Assignment) (pairs : List (List ℕ × Value)) → pairs_of assignments ≡ Some pairs →
-    (why : Failure) → IsMadeRefusal (given_of pairs) why → IsAssignmentsRefusal assignments why
-assignments_refused assignments pairs e failure.NoValue h = absurd h
-assignments_refused assignments pairs e (failure.Memory error) h = tt
-assignments_refused assignments pairs e why h = (pairs, e, h)
+meant_borrowed : (ps : List (Bor (List ℕ) × ValueRef)) → map meant (map by_borrowed ps) ≡ map made.seen_pair ps
+meant_borrowed [] = refl
+meant_borrowed (p ∷ ps) = ap (λ rest. made.seen_pair p ∷ rest) (meant_borrowed ps)
+
+pub given_of-borrowed : (ps : List (Bor (List ℕ) × ValueRef)) → 0 < length ps → given_of (map by_borrowed ps) ≡ pairs_made (map made.seen_pair ps)
+given_of-borrowed [] some = absurd (omega arith)
+given_of-borrowed (p ∷ ps) some = ap pairs_made (meant_borrowed (p ∷ ps))
+
+-- one pair more is borrowed
+pub borrowed_more : (pairs : List (Bor (List ℕ) × Value)) (i : ℕ) (pair : Bor (List ℕ) × Value) (lent more : List (Bor (List ℕ) × ValueRef)) (value : ValueRef) →
+    i < length pairs → pair ≡ get_or pairs i pair → owned value ≡ pair.1 → more ≡ lent ++ (pair.0, value) ∷ [] →
+    map by_borrowed lent ≡ take i (map seen_pair pairs) → map by_borrowed more ≡ take (i + 1) (map seen_pair pairs)
+borrowed_more pairs i pair lent more value below at same pushed so_far =
+    ap (map by_borrowed) pushed ∙ map-append by_borrowed lent ((pair.0, value) ∷ [])
+    ∙ ap (λ front. front ++ (pair.0.now, owned value) ∷ []) so_far
+    ∙ ap (λ v. take i (map seen_pair pairs) ++ (pair.0.now, v) ∷ []) same
+    ∙ ap (λ p. take i (map seen_pair pairs) ++ seen_pair p ∷ []) at
+    ∙ ap (λ p. take i (map seen_pair pairs) ++ p ∷ []) (sym (get_or-map seen_pair pairs i pair (seen_pair pair) below))
+    ∙ sym (take_more (map seen_pair pairs) i (seen_pair pair) (omega (arith, length-map pairs seen_pair, below)))

@@ -1,5 +1,5 @@
 -- What is known of a query that is taken, as contracts see it.
-use Rattle.std.proofs.Common.{◌≡◌, ◌∙◌, ℕ, Bool, List, None, refl, sym, ap, subst}
+use Rattle.std.proofs.Common.{◌≡◌, ◌∙◌, ℕ, Bool, List, None, refl, sym, subst}
 use Rattle.mysql_values.specs.Literal.{literal_of}
 use Rattle.mysql_named_params.specs.Tokens.{Token, IsTokens, OnTokens}
 use Rattle.mysql_named_params.proofs.TokenListLemmas.{one_token_list}

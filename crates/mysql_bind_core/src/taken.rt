@@ -4,20 +4,16 @@
 ghost use Rattle.std.specs.Prelude.{◌≡◌, ◌≢◌, IfErr, IfOk, IsErrOf, OnOk, alloc_error, ℕ, List, Some, None, Ok, map, IfSome};
 ghost use Rattle.std.specs.Io.KnownBytes.{Appends};
 ghost use Rattle.mysql_io.specs.ReadersAndWriters.{AppendsPrefix};
-ghost use Rattle.mysql_values.specs.declared.value.Value as value_type;
-ghost use Rattle.mysql_named_params.specs.Tokens.{OnTokens};
-ghost use Rattle.mysql_params_core.specs.Given.{given};
-ghost use Rattle.mysql_binding.specs.FoundPlaces.{found_places};
+ghost use Rattle.mysql_params_core.specs.GivenBorrowed.{by_borrowed, given_by_borrowed};
 ghost use Rattle.mysql_query_core.specs.WordErrors.{seen_pair};
-ghost use Rattle.mysql_query_core.specs.Words.{given_by_name};
-ghost use Rattle.mysql_bind_core.specs.Bound.{IsTaken, IsAssignedText, IsPortableIfWanted, IsTextFor, IsValuesText, IsWritten};
-ghost use Rattle.mysql_bind_core.specs.Refusals.{IsQueryRefusal, IsAssignmentsRefusal, IsFoundInText, IsMadeRefusal, IsRefusal, IsTextRefusal, IsValuesRefusal};
+ghost use Rattle.mysql_bind_core.specs.Bound.{IsTaken, IsAssignedText, IsPortableIfWanted, IsValuesText, IsWritten};
+ghost use Rattle.mysql_bind_core.specs.Refusals.{IsQueryRefusal, IsFoundInText, IsMadeRefusal, IsRefusal, IsValuesRefusal};
 ghost use Rattle.mysql_bind_core.specs.Requests.{mode_of};
 ghost use Rattle.mysql_bind_core.specs.Assignments.{given_of, pairs_of};
 
 mod appended;
 
-use crate::assignment::{Assignment, PairsError, has_fragment, pairs_of};
+use crate::assignment::{Assignment, has_fragment, pairs_of};
 use crate::checked::check_surveyed;
 use crate::failure::Failure;
 use crate::fragments_text::fragments_text;
@@ -28,11 +24,11 @@ use mysql_binding::{
     KEPT_PLACES, NO_PLACE, ParsedQuery, PlainForm, SurveyedQuery, bind_surveyed_as,
 };
 use mysql_io::readers_and_writers::write_whole;
-use mysql_params_core::params::{Params, ToParamsError};
+use mysql_params_core::params::{BorrowedParams, NamedPairs};
 use mysql_portable::client::first_unportable_in_client;
 use mysql_portable::portable::Unportable;
 use mysql_steady_text::{SteadyForm, SteadyTextError};
-use mysql_values::value::Value;
+use mysql_values::value::{Value, ValueRef};
 use std::alloc::{AllocError, Global};
 use std::io::Write;
 use std::marker::Model;
@@ -168,9 +164,11 @@ impl<'q> TakenQuery<'q> {
             (IsValuesRefusal self.now.request self.now.query assignments.now) }
         ensures only { IfErr result (λ e. e ≢ Failure.Write) }
     {
-        let params = assigned_params(alloc, assignments)?;
+        let pairs = pairs_of(alloc, assignments)?;
+        let borrowed = borrowed_pairs(alloc, pairs.as_slice())?;
+        let named = NamedPairs(borrowed.as_slice());
+        let params = params_of(alloc, &named)?;
         let surveyed = self.parsed.surveyed();
-        let borrowed = params.borrowed();
         match self.request.literals {
             Literals::Plain {
                 no_backslash_escape,
@@ -178,12 +176,9 @@ impl<'q> TakenQuery<'q> {
                 let form = PlainForm {
                     no_backslash_escape,
                 };
-                match bind_surveyed_as(alloc, &surveyed, borrowed, &form) {
-                    Ok(text) => Ok(text),
-                    Err(error) => Err(Failure::Plain(error)),
-                }
+                Ok(bind_surveyed_as(alloc, &surveyed, params, &form)?)
             }
-            Literals::Steady => match bind_surveyed_as(alloc, &surveyed, borrowed, &SteadyForm) {
+            Literals::Steady => match bind_surveyed_as(alloc, &surveyed, params, &SteadyForm) {
                 Ok(text) => Ok(text),
                 Err(error) => Err(Failure::Steady(SteadyTextError::Bind(error))),
             },
@@ -230,42 +225,35 @@ pub(crate) fn found_in_text(text: &[u8], request: Request) -> Option<Unportable>
     }
 }
 
-// What assignments give.
-fn assigned_params(alloc: Global, assignments: &[Assignment]) -> Result<Params, Failure>
-    ensures given { IfOk result (λ params. (pairs : List (List ℕ × value_type.Value))
-        × (pairs_of assignments.now ≡ Some pairs) × (given_of pairs ≡ Ok (given params))) }
-    ensures refused { IfErr result (IsAssignmentsRefusal assignments.now) }
+// The pairs, with their values borrowed.
+fn borrowed_pairs<'p>(
+    alloc: Global,
+    pairs: &'p [(&'p [u8], Value)],
+) -> Result<Vec<(&'p [u8], ValueRef<'p>)>, AllocError>
+    ensures { IfOk result (λ lent. map by_borrowed lent.items ≡ map seen_pair pairs.now) }
+{
+    let mut lent = Vec::with_capacity(alloc, pairs.len())?;
+    for pair in pairs {
+        lent.push((pair.0, pair.1.borrowed()))?;
+    }
+    Ok(lent)
+}
+
+// What pairs give by name: nothing, if there are none. A name that is given twice is refused.
+fn params_of<'p>(
+    alloc: Global,
+    pairs: &'p NamedPairs<'p>,
+) -> Result<BorrowedParams<'p, 'p>, Failure>
+    ensures given { IfOk result (λ params.
+        given_of (map by_borrowed pairs.now.0.now) ≡ Ok (given_by_borrowed params)) }
+    ensures refused { IfErr result (IsMadeRefusal (given_of (map by_borrowed pairs.now.0.now))) }
     ensures only { IfErr result (λ e. e ≢ Failure.Write) }
 {
-    match pairs_of(alloc, assignments) {
-        Ok(pairs) => params_of(alloc, pairs.as_slice()),
-        Err(PairsError::NoValue) => Err(Failure::NoValue),
-        Err(PairsError::Memory(error)) => Err(Failure::Memory(error)),
+    if pairs.0.is_empty() {
+        return Ok(BorrowedParams::Empty);
     }
-}
-
-// What pairs give: nothing, if there are none.
-fn params_of(alloc: Global, pairs: &[(&[u8], Value)]) -> Result<Params, Failure>
-    ensures given { IfOk result (λ params. given_of (map seen_pair pairs.now) ≡ Ok (given params)) }
-    ensures refused { IfErr result (IsMadeRefusal (given_of (map seen_pair pairs.now))) }
-{
-    if pairs.is_empty() {
-        return Ok(Params::Empty);
-    }
-    named_params(alloc, pairs)
-}
-
-// What pairs give by name.
-fn named_params(alloc: Global, pairs: &[(&[u8], Value)]) -> Result<Params, Failure>
-    ensures given { IfOk result (λ params.
-        given_by_name (map seen_pair pairs.now) ≡ Ok (given params)) }
-    ensures refused { IfErr result (IsMadeRefusal (given_by_name (map seen_pair pairs.now))) }
-{
-    match Params::from_pairs(alloc, pairs) {
-        Ok(params) => Ok(params),
-        Err(ToParamsError::Redefined(name)) => Err(Failure::Redefined(name)),
-        // No value is a duration that is too long, so this doesn't come.
-        Err(ToParamsError::Value(_)) => Err(Failure::Memory(AllocError)),
-        Err(ToParamsError::Memory(error)) => Err(Failure::Memory(error)),
+    match pairs.first_redefined(alloc)? {
+        None => Ok(BorrowedParams::Pairs(pairs)),
+        Some(index) => Err(Failure::Redefined(Vec::from_slice(alloc, pairs.0[index].0)?)),
     }
 }

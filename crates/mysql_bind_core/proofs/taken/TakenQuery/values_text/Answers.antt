@@ -1,69 +1,85 @@
-use Rattle.std.proofs.Common.{subst}
+use Rattle.std.proofs.Common.{◌≡◌, ◌∙◌, ap, ℕ, List, map, sym, Ok}
+use Rattle.std.specs.Borrow.{Bor}
+use Rattle.mysql_values.specs.declared.value.Value.{Value}
+use Rattle.mysql_values.specs.declared.value.ValueRef.{ValueRef}
 use Rattle.mysql_params_core.specs.Given.{Given}
-use Rattle.mysql_binding.specs.BindErrors.{IsCauseOrMemory}
-use Rattle.mysql_binding.specs.FirstCause.{first_cause}
-use Rattle.mysql_binding.specs.LiteralForm.{IsPlainLiteral}
-use Rattle.mysql_binding.specs.SurveyedQuery.{OnSurveyed}
-use Rattle.mysql_binding.specs.WrittenText.{IsGivenText}
-use Rattle.mysql_params_core.specs.Given.{given}
-use Rattle.mysql_steady_text.specs.SteadyLiteral.{steady_literal_of}
-use Rattle.mysql_steady_text.specs.SteadyLiterals.{IsSteadyFor}
-use Rattle.mysql_values.specs.Literal.{literal_of}
-use Rattle.mysql_bind_core.specs.Refusals.{of_text}
+use Rattle.mysql_params_core.specs.GivenBorrowed.{by_borrowed, given_by_borrowed}
+use Rattle.mysql_query_core.specs.WordErrors.{seen_pair}
+use Rattle.mysql_binding.proofs.AppendedTextLemmas.{handed_on}
+use Rattle.mysql_bind_core.specs.Assignments.{given_of, pairs_of}
+use Rattle.mysql_bind_core.specs.Refusals.{IsValuesRefusal, of_text}
+use Rattle.mysql_bind_core.specs.declared.failure.Failure.TheVariants as failure
+use Rattle.mysql_bind_core.proofs.AssignmentLemmas.{ok_or-found}
 use Rattle.mysql_bind_core.proofs.TakenQueryLemmas.{plain_text, steady_text, plain_refusal, steady_refusal}
 use Rattle.mysql_bind_core.proofs.taken.TakenQuery.values_text.Goals as goal
+
+-- pairs give what they give with their values borrowed
+borrowed_give : (pairs shown : List (Bor (List ℕ) × Value)) (lent handed : List (Bor (List ℕ) × ValueRef)) (given : Given) → shown ≡ pairs → handed ≡ lent →
+    map by_borrowed lent ≡ map seen_pair shown → given_of (map by_borrowed handed) ≡ Ok given → given_of (map seen_pair pairs) ≡ Ok given
+borrowed_give pairs shown lent handed given is_shown is_handed same gives =
+    ap (λ ps. given_of (map seen_pair ps)) (sym is_shown) ∙ ap given_of (sym same)
+    ∙ ap (λ ps. given_of (map by_borrowed ps)) (sym is_handed) ∙ gives
+
+pub returns-in_err-bind_surveyed_as-in-Plain-clause-refused :
+    goal.returns-in_err-bind_surveyed_as-in-Plain-clause-refused
+returns-in_err-bind_surveyed_as-in-Plain-clause-refused c =
+    let t = c.self.inside in
+    let s = c.surveyed-surveyed in
+    let back = c.from_residual-in_err-bind_surveyed_as-in-Plain in
+    let error = c.in_err-bind_surveyed_as-in-Plain.field-0.0 in
+    let pairs = c.in_ok-pairs.pairs.items in
+    let params = given_by_borrowed c.in_ok-params.params in
+    handed_on (IsValuesRefusal c.args.self.now.request c.args.self.now.query c.args.assignments.now) back.result (failure.Plain error) back.ensures.1
+    (of_text (map seen_pair pairs) params (ok_or-found (pairs_of c.args.assignments.now) (map seen_pair pairs) c.in_ok-pairs.ensures)
+    (borrowed_give pairs c.as_slice.result.now c.in_ok-borrowed.borrowed.items c.as_slice-2.result.now params c.as_slice.ensures.value c.as_slice-2.ensures.value
+    c.in_ok-borrowed.ensures c.in_ok-params.ensures.given)
+    (plain_refusal t.request t.parsed c.args.self.now c.self.invariant c.self.view_is s.result s.ensures.query s.ensures.mode params
+    c.in-Plain.no_backslash_escape error c.in-Plain.is c.in_err-bind_surveyed_as-in-Plain.ensures.refused))
+
+pub returns-in-Plain-clause-bound : goal.returns-in-Plain-clause-bound
+returns-in-Plain-clause-bound c =
+    let t = c.self.inside in
+    let s = c.surveyed-surveyed in
+    let pairs = c.in_ok-pairs.pairs.items in
+    let params = given_by_borrowed c.in_ok-params.params in
+    record {
+      pairs = map seen_pair pairs;
+      given = params;
+      pairs_are = ok_or-found (pairs_of c.args.assignments.now) (map seen_pair pairs) c.in_ok-pairs.ensures;
+      given_is =
+          borrowed_give pairs c.as_slice.result.now c.in_ok-borrowed.borrowed.items c.as_slice-2.result.now params c.as_slice.ensures.value c.as_slice-2.ensures.value
+          c.in_ok-borrowed.ensures c.in_ok-params.ensures.given;
+      bound =
+          plain_text t.request t.parsed c.args.self.now c.self.invariant c.self.view_is s.result s.ensures.query s.ensures.mode params
+          c.in-Plain.no_backslash_escape _ c.in-Plain.is c.in_ok-bind_surveyed_as-in-Plain.ensures.text;
+    }
 
 pub returns-in-Ok-clause-bound : goal.returns-in-Ok-clause-bound
 returns-in-Ok-clause-bound c =
     let t = c.self.inside in
     let s = c.surveyed-surveyed in
-    let mode = c.in-Plain.no_backslash_escape in
-    let found = c.in_ok-params.ensures.given in
-    let params = given c.in_ok-params.params in
+    let pairs = c.in_ok-pairs.pairs.items in
+    let params = given_by_borrowed c.in_ok-params.params in
     record {
-      pairs = found.0;
+      pairs = map seen_pair pairs;
       given = params;
-      pairs_are = found.1;
-      given_is = found.2;
+      pairs_are = ok_or-found (pairs_of c.args.assignments.now) (map seen_pair pairs) c.in_ok-pairs.ensures;
+      given_is =
+          borrowed_give pairs c.as_slice.result.now c.in_ok-borrowed.borrowed.items c.as_slice-2.result.now params c.as_slice.ensures.value c.as_slice-2.ensures.value
+          c.in_ok-borrowed.ensures c.in_ok-params.ensures.given;
       bound =
-          plain_text t.request t.parsed c.args.self.now c.self.invariant c.self.view_is s.result s.ensures.query s.ensures.mode (given c.in_ok-params.params) mode c.in-Ok.text.items c.in-Plain.is
-          (subst (λ (g : Given). OnSurveyed s.result (λ ts. IsGivenText (literal_of mode) (IsPlainLiteral mode) ts g c.in-Ok.text.items)) c.borrowed-borrowed.ensures c.in-Ok.ensures.text);
-    }
-
-pub returns-in-Plain-clause-refused : goal.returns-in-Plain-clause-refused
-returns-in-Plain-clause-refused c =
-    let t = c.self.inside in
-    let s = c.surveyed-surveyed in
-    let found = c.in_ok-params.ensures.given in
-    let params = given c.in_ok-params.params in
-    of_text found.0 params found.1 found.2
-    (plain_refusal t.request t.parsed c.args.self.now c.self.invariant c.self.view_is s.result s.ensures.query s.ensures.mode (given c.in_ok-params.params) c.in-Plain.no_backslash_escape c.in-Err.error c.in-Plain.is
-    (subst (λ (g : Given). OnSurveyed s.result (λ ts. IsCauseOrMemory (first_cause ts g) c.in-Err.error)) c.borrowed-borrowed.ensures c.in-Err.ensures.refused))
-
-pub returns-in-Ok-bind_surveyed_as-clause-bound : goal.returns-in-Ok-bind_surveyed_as-clause-bound
-returns-in-Ok-bind_surveyed_as-clause-bound c =
-    let t = c.self.inside in
-    let s = c.surveyed-surveyed in
-    let text = c.in-Ok-bind_surveyed_as.text.items in
-    let found = c.in_ok-params.ensures.given in
-    let params = given c.in_ok-params.params in
-    record {
-      pairs = found.0;
-      given = params;
-      pairs_are = found.1;
-      given_is = found.2;
-      bound =
-          steady_text t.request t.parsed c.args.self.now c.self.invariant c.self.view_is s.result s.ensures.query s.ensures.mode (given c.in_ok-params.params) text c.in-Steady.is
-          (subst (λ (g : Given). OnSurveyed s.result (λ ts. IsGivenText steady_literal_of IsSteadyFor ts g text)) c.borrowed-borrowed.ensures c.in-Ok-bind_surveyed_as.ensures.text);
+          steady_text t.request t.parsed c.args.self.now c.self.invariant c.self.view_is s.result s.ensures.query s.ensures.mode params
+          c.in-Ok.text.items c.in-Steady.is c.in-Ok.ensures.text;
     }
 
 pub returns-clause-refused : goal.returns-clause-refused
 returns-clause-refused c =
     let t = c.self.inside in
     let s = c.surveyed-surveyed in
-    let error = c.in-Err-bind_surveyed_as.error in
-    let found = c.in_ok-params.ensures.given in
-    let params = given c.in_ok-params.params in
-    of_text found.0 params found.1 found.2
-    (steady_refusal t.request t.parsed c.args.self.now c.self.invariant c.self.view_is s.result s.ensures.query s.ensures.mode (given c.in_ok-params.params) error c.in-Steady.is
-    (subst (λ (g : Given). OnSurveyed s.result (λ ts. IsCauseOrMemory (first_cause ts g) error)) c.borrowed-borrowed.ensures c.in-Err-bind_surveyed_as.ensures.refused))
+    let pairs = c.in_ok-pairs.pairs.items in
+    let params = given_by_borrowed c.in_ok-params.params in
+    of_text (map seen_pair pairs) params (ok_or-found (pairs_of c.args.assignments.now) (map seen_pair pairs) c.in_ok-pairs.ensures)
+    (borrowed_give pairs c.as_slice.result.now c.in_ok-borrowed.borrowed.items c.as_slice-2.result.now params c.as_slice.ensures.value c.as_slice-2.ensures.value
+    c.in_ok-borrowed.ensures c.in_ok-params.ensures.given)
+    (steady_refusal t.request t.parsed c.args.self.now c.self.invariant c.self.view_is s.result s.ensures.query s.ensures.mode params
+    c.in-Err.error c.in-Steady.is c.in-Err.ensures.refused)
