@@ -1,5 +1,5 @@
 -- Which refusal comes: the first that holds, in the order of `Failure`.
-use Rattle.std.specs.Prelude.{◌≡◌, ◌++◌, ◌≢◌, ℕ, true, false, List, map, Some, None, Result, Ok, Err, ⊤, alloc_error}
+use Rattle.std.specs.Prelude.{◌≡◌, ◌++◌, ◌≢◌, ℕ, true, false, List, map, Some, None, Result, Ok, Err, ⊤}
 use Rattle.mysql_values.specs.declared.value.Value.{Value}
 use Rattle.mysql_named_params.specs.Tokens.{Token, OnTokens}
 use Rattle.mysql_named_params.specs.Places.{marks}
@@ -9,8 +9,6 @@ use Rattle.mysql_portable.specs.FirstUnportableInClient.{first_unportable_in_cli
 use Rattle.mysql_portable.specs.declared.portable.Unportable.{Unportable}
 use Rattle.mysql_params_core.specs.Given.{Given}
 use Rattle.mysql_params_core.specs.Made.{ToParamsRefusal, redefined}
-use Rattle.mysql_params_core.specs.declared.params.errors.ToParamsError.{ToParamsError}
-use Rattle.mysql_params_core.specs.declared.params.errors.ToParamsError.TheVariants as to_params
 use Rattle.mysql_binding.specs.BindErrors.{IsCauseOrMemory}
 use Rattle.mysql_binding.specs.FirstCause.{first_cause}
 use Rattle.mysql_steady_text.specs.SteadyTextErrors.{IsSteadyRefusal}
@@ -57,12 +55,6 @@ IsQueryRefusal request query why = ⊥
 abbrev pub pairs_failure : PairsError → Failure
 pairs_failure pairs.NoValue = failure.NoValue
 pairs_failure (pairs.Memory error) = failure.Memory error
-
--- the failure for which an error of parameters stands
-abbrev pub params_failure : ToParamsError → Failure
-params_failure (to_params.Redefined name) = failure.Redefined name
-params_failure (to_params.Value error) = failure.Memory alloc_error
-params_failure (to_params.Memory error) = failure.Memory error
 
 -- why pairs that make this give nothing, or out of memory
 abbrev pub IsMadeRefusal : Result Given ToParamsRefusal → Failure → Type 0

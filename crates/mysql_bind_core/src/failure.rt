@@ -3,7 +3,6 @@ use crate::assignment::PairsError;
 use mysql_binding::BindError;
 use mysql_fragments::{FragmentsError, SteadyFragmentsError};
 use mysql_io::readers_and_writers::WriteError;
-use mysql_params_core::params::ToParamsError;
 use mysql_portable::portable::Unportable;
 use mysql_steady_text::SteadyTextError;
 use std::alloc::{AllocError, AllocFailed};
@@ -124,22 +123,6 @@ impl From<PairsError> for Failure {
         match error {
             PairsError::NoValue => Failure::NoValue,
             PairsError::Memory(error) => Failure::Memory(error),
-        }
-    }
-}
-
-impl From<ToParamsError> for Failure {
-    ghost use Rattle.std.specs.Prelude.{◌≡◌};
-    ghost use Rattle.mysql_bind_core.specs.Refusals.{params_failure};
-
-    ghost from_gives = { λ error failure. failure ≡ params_failure error };
-
-    fn from(error: ToParamsError) -> Failure {
-        match error {
-            ToParamsError::Redefined(name) => Failure::Redefined(name),
-            // No value is a duration that is too long, so this doesn't come.
-            ToParamsError::Value(_) => Failure::Memory(AllocError),
-            ToParamsError::Memory(error) => Failure::Memory(error),
         }
     }
 }
