@@ -206,10 +206,7 @@ fn written<W: Write>(output: &mut W, text: &[u8]) -> Result<(), Failure>
     ensures begun { IsErrOf result Failure.Write →
         AppendsPrefix (W.contents output.old) (W.contents output.new) text.now }
 {
-    match write_whole(output, text) {
-        Ok(()) => Ok(()),
-        Err(_) => Err(Failure::Write),
-    }
+    Ok(write_whole(output, text)?)
 }
 
 // The first construct of a bound text, if it has to be portable in a client.
