@@ -7,7 +7,7 @@ use Rattle.mysql_named_params.specs.Bytes.{asterisk, colon, dash, exclamation_ma
 use Rattle.mysql_named_params.specs.Tokens.{Token, text_of, text_then, QuotedString, HashComment, DashComment, BlockComment, Plain}
 use Rattle.mysql_named_params.proofs.TokenRowLemmas.{text_then-append}
 use Rattle.mysql_portable.specs.Server.{begins_place, begins_tag, begins_dashes, begins_exponent_dashes, begins_fraction, begins_own, begins_special}
-use Rattle.mysql_portable.specs.Quiet.{stands_apart, closes, ends_version, is_version, is_loud, is_quiet, begins_quiet}
+use Rattle.mysql_portable.specs.Quiet.{stands_apart, closes, ends_version, is_version, may_begin_something, is_quiet, begins_quiet}
 use Rattle.mysql_portable.specs.Portable.{may_open_line, differs_at, is_read_alike, AreReadAlike, AreReadAlikeBefore}
 use Rattle.mysql_bind_core.specs.ScriptTokens.{AreLinesReadAlike, has_newline, script_tokens, semicolon, statement_tokens, then_newline, tokens_of_statements, with_newline, word_tokens}
 use Rattle.mysql_bind_core.proofs.LineLemmas.{newline_then}
@@ -89,17 +89,17 @@ module _ (more : List ℕ) where
   version_same : (x : List ℕ) → is_version (x ++ newline ∷ []) ≡ is_version (x ++ newline ∷ more)
   version_same x = rw (begins_same (λ c. c == byte "0") x, ends_same 0 x) refl
 
-  loud_same : (b : ℕ) (x : List ℕ) → is_loud b (x ++ newline ∷ []) ≡ is_loud b (x ++ newline ∷ more)
-  loud_same b x = rw (begins_same (λ c. c == asterisk) x, begins_same is_start_byte x, own_same b x, apart_same b x, version_same x) refl
+  may_begin_same : (b : ℕ) (x : List ℕ) → may_begin_something b (x ++ newline ∷ []) ≡ may_begin_something b (x ++ newline ∷ more)
+  may_begin_same b x = rw (begins_same (λ c. c == asterisk) x, begins_same is_start_byte x, own_same b x, apart_same b x, version_same x) refl
 
   -- a quiet text ends before the newline
   quiet_more : (x : List ℕ) → is_quiet (x ++ newline ∷ []) ≡ true → is_quiet (x ++ newline ∷ more) ≡ true
   quiet_more [] h = absurd (true≢false (sym h))
   quiet_more (b ∷ x) h =
-      let p = and_parts (not (is_loud b (x ++ newline ∷ []))) _ h in
+      let p = and_parts (not (may_begin_something b (x ++ newline ∷ []))) _ h in
       elim (or_cases (closes b (x ++ newline ∷ [])) (is_quiet (x ++ newline ∷ [])) p.1) [
-        | inl c ↦ rw (sym (loud_same b x) ∙ not-false-of p.0, sym (closes_same b x) ∙ c) refl
-        | inr q ↦ rw (sym (loud_same b x) ∙ not-false-of p.0, quiet_more x q) (or_right (closes b (x ++ newline ∷ more)) true refl)
+        | inl c ↦ rw (sym (may_begin_same b x) ∙ not-false-of p.0, sym (closes_same b x) ∙ c) refl
+        | inr q ↦ rw (sym (may_begin_same b x) ∙ not-false-of p.0, quiet_more x q) (or_right (closes b (x ++ newline ∷ more)) true refl)
       ]
     where
       not-false-of : {s : Bool} → not s ≡ true → s ≡ false

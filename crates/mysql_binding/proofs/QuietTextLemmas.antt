@@ -8,11 +8,11 @@ use Rattle.mysql_named_params.specs.Bytes.{asterisk, backquote, dash, hash, slas
 use Rattle.mysql_named_params.specs.Tokens.{Token, bytes_of, QuotedString, QuotedIdentifier, HashComment, DashComment, BlockComment, Name, Mark, Plain}
 use Rattle.mysql_portable.specs.Server.{begins_special, begins_place, begins_own}
 use Rattle.mysql_portable.specs.Portable.{differs_at, may_open_line, is_read_alike}
-use Rattle.mysql_portable.specs.Quiet.{is_loud, is_for_client, stands_apart, closes, ends_version, is_version, is_quiet, IsQuietComment, begins_quiet}
+use Rattle.mysql_portable.specs.Quiet.{may_begin_something, is_for_client, stands_apart, closes, ends_version, is_version, is_quiet, IsQuietComment, begins_quiet}
 use Rattle.mysql_portable.proofs.PortableLemmas.{second_false, false_if, is_alike_on_all}
 use Rattle.mysql_binding.proofs.UpToSpliceLemmas.{SameUpToSplice, at_end, same, same-append, at_place, last_byte, portable_move, plain_move, same-end, place_byte}
 
--- ---- a byte that is not loud stays one
+-- ---- a byte that begins nothing stays one
 
 no_place_slash : (b : ℕ) (x : List ℕ) → begins_place (b ∷ x) ≡ true → b ≡ slash → ⊥
 no_place_slash b x p e = true≢false (sym (subst (λ u. begins_place (u ∷ x) ≡ true) e p))
@@ -78,9 +78,9 @@ version_move {x = x} a h =
     let p = and_parts (not (begins (λ c. c == byte "0") x)) _ h in
     rw (zero_move a p.1 (not-true _ p.0), digits_move 0 a p.1) refl
 
-loud_move : (b c : ℕ) {x y : List ℕ} → SameUpToSplice c x y → is_loud b (c ∷ x) ≡ false →
-    is_loud b (c ∷ y) ≡ false
-loud_move b c {x = x} {y = y} a h =
+nothing_begins_move : (b c : ℕ) {x y : List ℕ} → SameUpToSplice c x y → may_begin_something b (c ∷ x) ≡ false →
+    may_begin_something b (c ∷ y) ≡ false
+nothing_begins_move b c {x = x} {y = y} a h =
     let more : SameUpToSplice b (c ∷ x) (c ∷ y) = same a in
     let p1 = or_parts (is_string_quote b) _ h in
     let p2 = or_parts (b == backquote) _ p1.1 in
@@ -101,7 +101,7 @@ loud_move b c {x = x} {y = y} a h =
 
 no_place_quiet : (b : ℕ) (x : List ℕ) → begins_place (b ∷ x) ≡ true → is_quiet (b ∷ x) ≡ true → ⊥
 no_place_quiet b x p q =
-    let h = not-true _ (and_parts (not (is_loud b x)) _ q).0 in
+    let h = not-true _ (and_parts (not (may_begin_something b x)) _ q).0 in
     let p1 = or_parts (is_string_quote b) _ h in
     let p2 = or_parts (b == backquote) _ p1.1 in
     let p3 = or_parts (b == hash) _ p2.1 in
@@ -127,17 +127,17 @@ quiet_move at_end h = h
 quiet_move (at_place {b = b} {x = x} p l) h = absurd (no_place_quiet b x p h)
 quiet_move (same {b = b} at_end) h = h
 quiet_move (same {b = b} (at_place {b = c} {x = x} p l)) h =
-    let q = and_parts (not (is_loud b (c ∷ x))) _ h in
+    let q = and_parts (not (may_begin_something b (c ∷ x))) _ h in
     elim (or_cases (closes b (c ∷ x)) (is_quiet (c ∷ x)) q.1) [
       | inl k ↦ absurd (no_place_slash c x p (eqb-true c slash (and_parts (b == asterisk) _ k).1))
       | inr k ↦ absurd (no_place_quiet c x p k)
     ]
 quiet_move (same {b = b} (same {b = c} {x = x} {y = y} a)) h =
-    let q = and_parts (not (is_loud b (c ∷ x))) _ h in
-    let loud : is_loud b (c ∷ y) ≡ false = loud_move b c a (not-true _ q.0) in
+    let q = and_parts (not (may_begin_something b (c ∷ x))) _ h in
+    let nothing : may_begin_something b (c ∷ y) ≡ false = nothing_begins_move b c a (not-true _ q.0) in
     elim (or_cases (closes b (c ∷ x)) (is_quiet (c ∷ x)) q.1) [
-      | inl k ↦ by_close (is_loud b (c ∷ y)) (closes b (c ∷ y)) (is_quiet (c ∷ y)) loud k
-      | inr k ↦ by_rest (is_loud b (c ∷ y)) (closes b (c ∷ y)) (is_quiet (c ∷ y)) loud (quiet_move (same {before = b} {b = c} a) k)
+      | inl k ↦ by_close (may_begin_something b (c ∷ y)) (closes b (c ∷ y)) (is_quiet (c ∷ y)) nothing k
+      | inr k ↦ by_rest (may_begin_something b (c ∷ y)) (closes b (c ∷ y)) (is_quiet (c ∷ y)) nothing (quiet_move (same {before = b} {b = c} a) k)
     ]
 
 -- ---- a token that passes its test does so in the bound text
@@ -148,7 +148,7 @@ special_first (at_place {b = b} {x = x} p l) q h = absurd (no_place_quiet b x p 
 special_first (same at_end) q h = h
 special_first (same (same a)) q h = h
 special_first (same {b = b} (at_place {b = c} {x = x} p l)) q h =
-    let k = and_parts (not (is_loud b (c ∷ x))) _ q in
+    let k = and_parts (not (may_begin_something b (c ∷ x))) _ q in
     elim (or_cases (closes b (c ∷ x)) (is_quiet (c ∷ x)) k.1) [
       | inl m ↦ absurd (no_place_slash c x p (eqb-true c slash (and_parts (b == asterisk) _ m).1))
       | inr m ↦ absurd (no_place_quiet c x p m)
@@ -164,19 +164,19 @@ begins_quiet_move (same {b = b} {x = x} {y = y} a) h =
     let q = and_parts (begins_special x) _ p.1 in
     rw (p.0, special_first a q.1 q.0, quiet_move a q.1) refl
 
-pub quietly_move : (before : ℕ) (t : Token) {x y : List ℕ} → SameUpToSplice (last_byte before (bytes_of t)) x y → is_read_alike t x ≡ true → is_read_alike t y ≡ true
-quietly_move before (QuotedString quote tail) a p = p
-quietly_move before (QuotedIdentifier tail) a p = p
-quietly_move before (HashComment tail) a p = p
-quietly_move before (DashComment gap tail) a p = p
-quietly_move before (BlockComment tail) {x = x} {y = y} a p =
+pub alike_move : (before : ℕ) (t : Token) {x y : List ℕ} → SameUpToSplice (last_byte before (bytes_of t)) x y → is_read_alike t x ≡ true → is_read_alike t y ≡ true
+alike_move before (QuotedString quote tail) a p = p
+alike_move before (QuotedIdentifier tail) a p = p
+alike_move before (HashComment tail) a p = p
+alike_move before (DashComment gap tail) a p = p
+alike_move before (BlockComment tail) {x = x} {y = y} a p =
     elim (or_cases (not (begins_special tail)) (is_quiet (tail ++ x)) p) [
       | inl e ↦ rw e refl
       | inr e ↦ rw (quiet_move (same-append asterisk tail a) e) (or_right (not (begins_special tail)) true refl)
     ]
-quietly_move before (Name name) a p = p
-quietly_move before Mark a p = p
-quietly_move before (Plain b) {x = x} {y = y} a p =
+alike_move before (Name name) a p = p
+alike_move before Mark a p = p
+alike_move before (Plain b) {x = x} {y = y} a p =
     elim (or_cases (is_alike_on_all (Plain b) x) (b == slash && begins_quiet x) p) [
       | inl e ↦ by_first (is_alike_on_all (Plain b) y) (b == slash && begins_quiet y) (portable_move before (Plain b) a e)
       | inr e ↦

@@ -16,7 +16,7 @@ use Rattle.mysql_portable.specs.FoundInClient.{begins_statement, begins_line, be
 use Rattle.mysql_portable.proofs.OtherModeLemmas.{all_parts}
 use Rattle.mysql_sql_text.specs.InLine.{is_in_line}
 use Rattle.mysql_binding.proofs.LiteralTokenLemmas.{is_alphanumeric, other, plain_tokens, plain_text, plain_before, minus_plain, AreDigits-alphanumeric, AreHexadecimalPairs-alphanumeric}
-use Rattle.mysql_binding.proofs.SentTextLemmas.{is_calm_first, begins_calmly, is_word_letter, no_word_found, AreSentBefore, statement_after, line_after, IsSentAt}
+use Rattle.mysql_binding.proofs.SentTextLemmas.{is_sent_first, begins_as_sent, is_word_letter, no_word_found, AreSentBefore, statement_after, line_after, IsSentAt}
 use Rattle.mysql_binding.proofs.SpliceLemmas.{HoldsAlone}
 
 pub and_none : (a : Bool) → (a && false) ≡ false
@@ -55,7 +55,7 @@ pub record SentText (mode : Bool) (text : List ℕ) : Type 0 where
   pub list : List Token
   pub list_text : text_of list ≡ text
   pub list_each : (rest : List ℕ) → AreTokensBefore mode rest list
-  pub list_calm : (rest : List ℕ) → begins_calmly (text ++ rest) ≡ true
+  pub list_front : (rest : List ℕ) → begins_as_sent (text ++ rest) ≡ true
   pub list_sent : (rest : List ℕ) (statement line : Bool) → AreSentBefore rest statement line list
   pub list_statement : (statement : Bool) → statement_after statement list ≡ false
   pub list_line : (line : Bool) → line_after line list ≡ false
@@ -87,7 +87,7 @@ front_and_part mode a b x y = record {
   list = x.list ++ y.part;
   list_text = text_of-append x.list y.part ∙ (ap (λ z. z ++ text_of y.part) x.list_text ∙ ap (λ z. a ++ z) y.part_text);
   list_each = λ rest. AreTokensBefore-append mode x.list y.part rest (x.list_each _) (y.part_each rest);
-  list_calm = λ rest. ap begins_calmly (append_assoc a b rest) ∙ x.list_calm (b ++ rest);
+  list_front = λ rest. ap begins_as_sent (append_assoc a b rest) ∙ x.list_front (b ++ rest);
   list_sent = λ rest statement line. AreSentBefore-append x.list y.part rest statement line (x.list_sent _ statement line)
       (subst (λ s. AreSentBefore rest s (line_after line x.list) y.part) (sym (x.list_statement statement))
       (subst (λ l. AreSentBefore rest false l y.part) (sym (x.list_line line)) (y.part_sent rest)));
@@ -102,7 +102,7 @@ sent_alone mode text list s a before rest b n =
     let same : s.list ≡ list = one_token_list mode text s.list list (record { text = s.list_text; each = s.list_each [] }) a in
     subst (λ z. IsSentAt before z rest) same (record {
       stands = b;
-      calm = ap begins_calmly (text_then-text_of s.list rest ∙ ap (λ z. z ++ rest) s.list_text) ∙ s.list_calm rest;
+      front = ap begins_as_sent (text_then-text_of s.list rest ∙ ap (λ z. z ++ rest) s.list_text) ∙ s.list_front rest;
       sent = s.list_sent rest;
       no_statement = s.list_statement;
       no_line = s.list_line;
@@ -152,12 +152,12 @@ run_part mode bytes h = record {
   part_line = run_line bytes h;
 }
 
-calm_alphanumeric : (b : ℕ) → is_alphanumeric b ≡ true → is_calm_first b ≡ true
-unfolding is_calm_first
-calm_alphanumeric b h = rw h refl
+sent_first_alphanumeric : (b : ℕ) → is_alphanumeric b ≡ true → is_sent_first b ≡ true
+unfolding is_sent_first
+sent_first_alphanumeric b h = rw h refl
 
-calm_front : (b : ℕ) (bytes : List ℕ) → is_calm_first b ≡ true → begins_calmly (b ∷ bytes) ≡ true
-calm_front b bytes h = rw h refl
+sent_front : (b : ℕ) (bytes : List ℕ) → is_sent_first b ≡ true → begins_as_sent (b ∷ bytes) ≡ true
+sent_front b bytes h = rw h refl
 
 -- a run whose first byte begins no word of a client
 run_text : (mode : Bool) (b : ℕ) (bytes : List ℕ) → list_all is_alphanumeric (b ∷ bytes) ≡ true →
@@ -169,7 +169,7 @@ run_text mode b bytes h w =
       list = plain_tokens (b ∷ bytes);
       list_text = plain_text (b ∷ bytes);
       list_each = plain_before mode (b ∷ bytes) h;
-      list_calm = λ rest. calm_front b (bytes ++ rest) (calm_alphanumeric b p.0);
+      list_front = λ rest. sent_front b (bytes ++ rest) (sent_first_alphanumeric b p.0);
       list_sent = λ rest statement line. (
         alphanumeric_found statement line b (text_then rest (plain_tokens bytes)) p.0 (w rest statement line),
         rw (alphanumeric_statement statement b p.0, alphanumeric_line line b p.0) (run_sent bytes rest p.1),
@@ -213,9 +213,9 @@ minus_found : (statement line : Bool) (d : ℕ) (rest : List ℕ) → is_ascii_d
 minus_found statement line d rest h =
     rw (digit_stays d rest h, digit_stands d rest h, and_none statement) (no_word_found statement line dash (d ∷ rest) refl)
 
-minus_calm : (d : ℕ) (rest : List ℕ) → is_ascii_digit d ≡ true → begins_calmly (dash ∷ d ∷ rest) ≡ true
-unfolding is_calm_first
-minus_calm d rest h = rw h refl
+minus_front : (d : ℕ) (rest : List ℕ) → is_ascii_digit d ≡ true → begins_as_sent (dash ∷ d ∷ rest) ≡ true
+unfolding is_sent_first
+minus_front d rest h = rw h refl
 
 pub minus_text : (mode : Bool) (digits : List ℕ) → AreDigits digits → SentText mode (dash ∷ digits)
 unfolding run_part
@@ -226,7 +226,7 @@ minus_text mode (d ∷ digits) h =
       list = Plain dash ∷ r.part;
       list_text = ap (λ z. dash ∷ z) r.part_text;
       list_each = λ rest. (minus_plain mode d (text_then rest (plain_tokens digits)) h.0, r.part_each rest);
-      list_calm = λ rest. minus_calm d (digits ++ rest) h.0;
+      list_front = λ rest. minus_front d (digits ++ rest) h.0;
       list_sent = λ rest statement line. (minus_found statement line d (text_then rest (plain_tokens digits)) h.0, r.part_sent rest);
       list_statement = λ statement. r.part_statement;
       list_line = λ line. r.part_line;
@@ -265,9 +265,9 @@ no_zero (b ∷ bytes) h =
 pub quotes_found : (tail : List ℕ) → list_all is_in_line tail ≡ true → found_in_quotes tail ≡ None
 quotes_found tail h = rw (no_escaped_line tail h, no_delimiter_line tail h) refl
 
-quote_calm : is_calm_first single_quote ≡ true
-unfolding is_calm_first
-quote_calm = refl
+quote_sent_first : is_sent_first single_quote ≡ true
+unfolding is_sent_first
+quote_sent_first = refl
 
 string_text : (mode : Bool) {string : List ℕ} → IsClosedString mode string → list_all is_in_line string ≡ true → SentText mode string
 string_text mode (closed_string body u) h =
@@ -276,7 +276,7 @@ string_text mode (closed_string body u) h =
       list = QuotedString single_quote tail ∷ [];
       list_text = append-nil (single_quote ∷ tail);
       list_each = λ rest. ((refl, closed_tail body u refl), tt);
-      list_calm = λ rest. calm_front single_quote (tail ++ rest) quote_calm;
+      list_front = λ rest. sent_front single_quote (tail ++ rest) quote_sent_first;
       list_sent = λ rest statement line. (rw (no_zero tail h) (quotes_found tail h), tt);
       list_statement = λ statement. refl;
       list_line = λ line. refl;

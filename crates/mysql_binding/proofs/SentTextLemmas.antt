@@ -24,47 +24,47 @@ use Rattle.mysql_binding.proofs.UpToSpliceLemmas.{last_byte}
 
 -- ---- what a text in a place begins with
 
-unfoldable pub is_calm_first : ℕ → Bool
-is_calm_first b = is_alphanumeric b || (b == underscore || (b == single_quote || (b == backquote || (b == byte "(" || b == question_mark))))
+unfoldable pub is_sent_first : ℕ → Bool
+is_sent_first b = is_alphanumeric b || (b == underscore || (b == single_quote || (b == backquote || (b == byte "(" || b == question_mark))))
 
 -- a digit, a letter, `_`, `'`, a backquote, `(`, `?`, or a dash and a digit
-abbrev pub begins_calmly : List ℕ → Bool
-begins_calmly [] = false
-begins_calmly (b ∷ bs) = is_calm_first b || (b == dash && begins is_ascii_digit bs)
+abbrev pub begins_as_sent : List ℕ → Bool
+begins_as_sent [] = false
+begins_as_sent (b ∷ bs) = is_sent_first b || (b == dash && begins is_ascii_digit bs)
 
 -- the first byte of such a text passes no test that none of these passes
-pub calm_test : (test : ℕ → Bool) → ((c : ℕ) → is_calm_first c ≡ true → test c ≡ false) → test dash ≡ false →
-    (y : List ℕ) → begins_calmly y ≡ true → begins test y ≡ false
-calm_test test all d [] h = absurd (true≢false (sym h))
-calm_test test all d (c ∷ cs) h =
-    elim (or_cases (is_calm_first c) (c == dash && begins is_ascii_digit cs) h) [
+pub sent_first_test : (test : ℕ → Bool) → ((c : ℕ) → is_sent_first c ≡ true → test c ≡ false) → test dash ≡ false →
+    (y : List ℕ) → begins_as_sent y ≡ true → begins test y ≡ false
+sent_first_test test all d [] h = absurd (true≢false (sym h))
+sent_first_test test all d (c ∷ cs) h =
+    elim (or_cases (is_sent_first c) (c == dash && begins is_ascii_digit cs) h) [
       | inl f ↦ all c f
       | inr m ↦ ap test (eqb-true c dash (and_parts (c == dash) (begins is_ascii_digit cs) m).0) ∙ d
     ]
 
-calm_slash : (c : ℕ) → is_calm_first c ≡ true → (c == slash) ≡ false
-unfolding is_calm_first
-calm_slash c h = other is_calm_first c slash h refl
+sent_first_slash : (c : ℕ) → is_sent_first c ≡ true → (c == slash) ≡ false
+unfolding is_sent_first
+sent_first_slash c h = other is_sent_first c slash h refl
 
-calm_asterisk : (c : ℕ) → is_calm_first c ≡ true → (c == asterisk) ≡ false
-unfolding is_calm_first
-calm_asterisk c h = other is_calm_first c asterisk h refl
+sent_first_asterisk : (c : ℕ) → is_sent_first c ≡ true → (c == asterisk) ≡ false
+unfolding is_sent_first
+sent_first_asterisk c h = other is_sent_first c asterisk h refl
 
-calm_hash : (c : ℕ) → is_calm_first c ≡ true → (c == hash) ≡ false
-unfolding is_calm_first
-calm_hash c h = other is_calm_first c hash h refl
+sent_first_hash : (c : ℕ) → is_sent_first c ≡ true → (c == hash) ≡ false
+unfolding is_sent_first
+sent_first_hash c h = other is_sent_first c hash h refl
 
-calm_dash : (c : ℕ) → is_calm_first c ≡ true → (c == dash) ≡ false
-unfolding is_calm_first
-calm_dash c h = other is_calm_first c dash h refl
+sent_first_dash : (c : ℕ) → is_sent_first c ≡ true → (c == dash) ≡ false
+unfolding is_sent_first
+sent_first_dash c h = other is_sent_first c dash h refl
 
-calm_joined : (c : ℕ) → is_calm_first c ≡ true → is_joined c ≡ false
-unfolding is_calm_first
-calm_joined c h = grind (arith, nat_tests)
+sent_first_joined : (c : ℕ) → is_sent_first c ≡ true → is_joined c ≡ false
+unfolding is_sent_first
+sent_first_joined c h = grind (arith, nat_tests)
 
-calm_space : (c : ℕ) → is_calm_first c ≡ true → is_white_space c ≡ false
-unfolding is_calm_first
-calm_space c h = grind (arith, nat_tests)
+sent_first_space : (c : ℕ) → is_sent_first c ≡ true → is_white_space c ≡ false
+unfolding is_sent_first
+sent_first_space c h = grind (arith, nat_tests)
 
 digit_space : (d : ℕ) → is_ascii_digit d ≡ true → is_white_space d ≡ false
 digit_space d h = grind (arith, nat_tests)
@@ -75,7 +75,7 @@ pub data UpTo : ℕ → List ℕ → List ℕ → Type 0 where
   up_end : {before : ℕ} → UpTo before [] []
   up_same : {before b : ℕ} {x y : List ℕ} → UpTo b x y → UpTo before (b ∷ x) (b ∷ y)
   up_place : {before b : ℕ} {x y : List ℕ} → may_stand_before before ≡ true → begins_place (b ∷ x) ≡ true →
-      begins_calmly y ≡ true → UpTo before (b ∷ x) y
+      begins_as_sent y ≡ true → UpTo before (b ∷ x) y
   up_line : {before : ℕ} (more : List ℕ) → UpTo before [] (newline ∷ more)
 
 pub up_to_line : (before : ℕ) (x more : List ℕ) → UpTo before x (x ++ newline ∷ more)
@@ -102,15 +102,15 @@ and_moves : (a b c : Bool) → (b ≡ false → c ≡ false) → (a && b) ≡ fa
 and_moves true b c f h = f h
 and_moves false b c f h = refl
 
-begins_moves : (test : ℕ → Bool) → ((c : ℕ) → is_calm_first c ≡ true → test c ≡ false) → test dash ≡ false → test newline ≡ false →
+begins_moves : (test : ℕ → Bool) → ((c : ℕ) → is_sent_first c ≡ true → test c ≡ false) → test dash ≡ false → test newline ≡ false →
     {before : ℕ} {x y : List ℕ} → UpTo before x y → begins test x ≡ false → begins test y ≡ false
 begins_moves test all d n up_end h = h
 begins_moves test all d n (up_same u) h = h
-begins_moves test all d n (up_place {y = y} s p c) h = calm_test test all d y c
+begins_moves test all d n (up_place {y = y} s p c) h = sent_first_test test all d y c
 begins_moves test all d n (up_line more) h = n
 
 joined_moves : {before : ℕ} {x y : List ℕ} → UpTo before x y → begins is_joined x ≡ false → begins is_joined y ≡ false
-joined_moves u h = begins_moves is_joined calm_joined refl refl u h
+joined_moves u h = begins_moves is_joined sent_first_joined refl refl u h
 
 -- ---- dashes
 
@@ -137,14 +137,14 @@ dashes_before_digit c (d ∷ ds) h = no_dash_second c d ds (other is_ascii_digit
 abbrev is_dash : ℕ → Bool
 is_dash c = c == dash
 
-calm_no_comment : (y : List ℕ) → begins_calmly y ≡ true → begins_comment y ≡ false
-calm_no_comment [] h = refl
-calm_no_comment (c ∷ cs) h =
-    elim (or_cases (is_calm_first c) (c == dash && begins is_ascii_digit cs) h) [
+sent_no_comment : (y : List ℕ) → begins_as_sent y ≡ true → begins_comment y ≡ false
+sent_no_comment [] h = refl
+sent_no_comment (c ∷ cs) h =
+    elim (or_cases (is_sent_first c) (c == dash && begins is_ascii_digit cs) h) [
       | inl f ↦
-          or_from (c == hash) _ (calm_hash c f)
-          (or_from (c == slash && begins (λ c. c == asterisk) cs) _ (rw (calm_slash c f) refl)
-          (no_dash_first c cs (calm_dash c f)))
+          or_from (c == hash) _ (sent_first_hash c f)
+          (or_from (c == slash && begins (λ c. c == asterisk) cs) _ (rw (sent_first_slash c f) refl)
+          (no_dash_first c cs (sent_first_dash c f)))
       | inr m ↦
           let p = and_parts (c == dash) (begins is_ascii_digit cs) m in
           or_from (c == hash) _ (other is_dash c hash p.0 refl)
@@ -152,11 +152,11 @@ calm_no_comment (c ∷ cs) h =
           (dashes_before_digit c cs p.1))
     ]
 
-dashes_calm : (a : ℕ) (y : List ℕ) → begins_calmly y ≡ true → begins_comment_dashes (a ∷ y) ≡ false
-dashes_calm a [] h = refl
-dashes_calm a (c ∷ cs) h =
-    elim (or_cases (is_calm_first c) (c == dash && begins is_ascii_digit cs) h) [
-      | inl f ↦ no_dash_second a c cs (calm_dash c f)
+dashes_front : (a : ℕ) (y : List ℕ) → begins_as_sent y ≡ true → begins_comment_dashes (a ∷ y) ≡ false
+dashes_front a [] h = refl
+dashes_front a (c ∷ cs) h =
+    elim (or_cases (is_sent_first c) (c == dash && begins is_ascii_digit cs) h) [
+      | inl f ↦ no_dash_second a c cs (sent_first_dash c f)
       | inr m ↦ digit_gap cs (and_parts (c == dash) (begins is_ascii_digit cs) m).1
     ]
   where
@@ -164,46 +164,46 @@ dashes_calm a (c ∷ cs) h =
     digit_gap [] n = absurd (true≢false (sym n))
     digit_gap (d ∷ ds) n = rw (digit_space d n, and_none (c == dash)) (and_none (a == dash))
 
-gap_calm : (a b : ℕ) (y : List ℕ) → begins_calmly y ≡ true → begins_comment_dashes (a ∷ b ∷ y) ≡ false
-gap_calm a b [] h = absurd (true≢false (sym h))
-gap_calm a b (g ∷ gs) h =
-    rw (calm_test is_white_space calm_space refl (g ∷ gs) h, and_none (b == dash)) (and_none (a == dash))
+gap_front : (a b : ℕ) (y : List ℕ) → begins_as_sent y ≡ true → begins_comment_dashes (a ∷ b ∷ y) ≡ false
+gap_front a b [] h = absurd (true≢false (sym h))
+gap_front a b (g ∷ gs) h =
+    rw (sent_first_test is_white_space sent_first_space refl (g ∷ gs) h, and_none (b == dash)) (and_none (a == dash))
 
 gap_moves : (a b : ℕ) {x y : List ℕ} → UpTo b x y → begins_comment_dashes (a ∷ b ∷ x) ≡ false → begins_comment_dashes (a ∷ b ∷ y) ≡ false
 gap_moves a b up_end h = h
 gap_moves a b (up_same u) h = h
-gap_moves a b (up_place {y = y} s p c) h = gap_calm a b y c
+gap_moves a b (up_place {y = y} s p c) h = gap_front a b y c
 gap_moves a b (up_line more) h = rw (and_true (b == dash)) h
 
 dashes_move : (a : ℕ) {x y : List ℕ} → UpTo a x y → begins_comment_dashes (a ∷ x) ≡ false → begins_comment_dashes (a ∷ y) ≡ false
 dashes_move a up_end h = h
 dashes_move a (up_same {b = b} u) h = gap_moves a b u h
-dashes_move a (up_place {y = y} s p c) h = dashes_calm a y c
+dashes_move a (up_place {y = y} s p c) h = dashes_front a y c
 dashes_move a (up_line more) h = no_dash_second a newline more refl
 
 comment_moves : {before : ℕ} {x y : List ℕ} → UpTo before x y → begins_comment x ≡ false → begins_comment y ≡ false
 comment_moves up_end h = h
-comment_moves (up_place {y = y} s p c) h = calm_no_comment y c
+comment_moves (up_place {y = y} s p c) h = sent_no_comment y c
 comment_moves (up_line more) h = no_dash_first newline more refl
 comment_moves (up_same {b = b} {x = x} {y = y} u) h =
     let p = or_parts (b == hash) ((b == slash && begins (λ c. c == asterisk) x) || begins_comment_dashes (b ∷ x)) h in
     let q = or_parts (b == slash && begins (λ c. c == asterisk) x) (begins_comment_dashes (b ∷ x)) p.1 in
     or_from (b == hash) _ p.0
     (or_from (b == slash && begins (λ c. c == asterisk) y) _
-    (and_moves (b == slash) _ _ (begins_moves (λ c. c == asterisk) calm_asterisk refl refl u) q.0)
+    (and_moves (b == slash) _ _ (begins_moves (λ c. c == asterisk) sent_first_asterisk refl refl u) q.0)
     (dashes_move b u q.1))
 
 stand_moves : {before : ℕ} {x y : List ℕ} → UpTo before x y → stand_before_comment x ≡ false → stand_before_comment y ≡ false
 stand_moves up_end h = h
 stand_moves (up_same {b = b} u) h = and_moves (b == dash) _ _ (comment_moves u) h
 stand_moves (up_line more) h = refl
-stand_moves (up_place {y = y} s p c) h = stand_calm y c
+stand_moves (up_place {y = y} s p c) h = stand_front y c
   where
-    stand_calm : (y : List ℕ) → begins_calmly y ≡ true → stand_before_comment y ≡ false
-    stand_calm [] h = refl
-    stand_calm (c ∷ cs) h =
-        elim (or_cases (is_calm_first c) (c == dash && begins is_ascii_digit cs) h) [
-          | inl f ↦ rw (calm_dash c f) refl
+    stand_front : (y : List ℕ) → begins_as_sent y ≡ true → stand_before_comment y ≡ false
+    stand_front [] h = refl
+    stand_front (c ∷ cs) h =
+        elim (or_cases (is_sent_first c) (c == dash && begins is_ascii_digit cs) h) [
+          | inl f ↦ rw (sent_first_dash c f) refl
           | inr m ↦ rw (digit_no_comment cs (and_parts (c == dash) (begins is_ascii_digit cs) m).1) (and_none (c == dash))
         ]
 
@@ -227,11 +227,11 @@ closes_moves : {before : ℕ} {x y : List ℕ} → UpTo before x y → closes_be
 closes_moves up_end h = h
 closes_moves (up_same {b = b} u) h = and_moves (b == slash) _ _ (joined_moves u) h
 closes_moves (up_line more) h = refl
-closes_moves (up_place {y = y} s p c) h = closes_calm y c
+closes_moves (up_place {y = y} s p c) h = closes_front y c
   where
-    closes_calm : (y : List ℕ) → begins_calmly y ≡ true → closes_before_joined y ≡ false
-    closes_calm [] h = refl
-    closes_calm (c ∷ cs) h = rw (calm_test (λ b. b == slash) calm_slash refl (c ∷ cs) h) refl
+    closes_front : (y : List ℕ) → begins_as_sent y ≡ true → closes_before_joined y ≡ false
+    closes_front [] h = refl
+    closes_front (c ∷ cs) h = rw (sent_first_test (λ b. b == slash) sent_first_slash refl (c ∷ cs) h) refl
 
 null_moves : (b : ℕ) {x y : List ℕ} → UpTo b x y → (b == byte "\\" && not (begins (λ c. c == byte "N") x)) ≡ false →
     (b == byte "\\" && not (begins (λ c. c == byte "N") y)) ≡ false
@@ -433,7 +433,7 @@ line_after line (t ∷ ts) = line_after (begins_line line t) ts
 -- what is to be known of the list in a place, of the byte before it, and of the text after it
 pub record IsSentAt (before : ℕ) (list : List Token) (rest : List ℕ) : Type 0 where
   pub stands : may_stand_before before ≡ true
-  pub calm : begins_calmly (text_then rest list) ≡ true
+  pub front : begins_as_sent (text_then rest list) ≡ true
   pub sent : (statement line : Bool) → AreSentBefore rest statement line list
   pub no_statement : (statement : Bool) → statement_after statement list ≡ false
   pub no_line : (line : Bool) → line_after line list ≡ false
@@ -447,8 +447,8 @@ name_begins : (name rest : List ℕ) → IsName name → begins_place (colon ∷
 name_begins [] rest h = absurd h
 name_begins (b ∷ bs) rest h = h.0
 
-list_calm : (before : ℕ) (list ts : List Token) → IsSentAt before list (text_of ts) → begins_calmly (text_of (list ++ ts)) ≡ true
-list_calm before list ts s = rw (text_then-append list ts []) s.calm
+list_front : (before : ℕ) (list ts : List Token) → IsSentAt before list (text_of ts) → begins_as_sent (text_of (list ++ ts)) ≡ true
+list_front before list ts s = rw (text_then-append list ts []) s.front
 
 up_to_place : (mode : Bool) (before : ℕ) (ts : List Token) (lists : List (List Token)) → AreTokensBefore mode [] ts →
     AtPlaces IsSentAt before ts lists → UpTo before (text_of ts) (text_of (with_literal_tokens ts lists))
@@ -456,10 +456,10 @@ up_to_place mode before [] [] h s = up_end
 up_to_place mode before [] (list ∷ lists) h s = absurd s
 up_to_place mode before (Name name ∷ ts) [] h s = absurd s
 up_to_place mode before (Name name ∷ ts) (list ∷ lists) h s =
-    up_place s.0.stands (name_begins name (text_of ts) h.0.0) (list_calm before list (with_literal_tokens ts lists) s.0)
+    up_place s.0.stands (name_begins name (text_of ts) h.0.0) (list_front before list (with_literal_tokens ts lists) s.0)
 up_to_place mode before (Mark ∷ ts) [] h s = absurd s
 up_to_place mode before (Mark ∷ ts) (list ∷ lists) h s =
-    up_place s.0.stands refl (list_calm before list (with_literal_tokens ts lists) s.0)
+    up_place s.0.stands refl (list_front before list (with_literal_tokens ts lists) s.0)
 up_to_place mode before (t ∷ ts) lists h s =
     up_append before (bytes_of t) (up_to_place mode (last_byte before (bytes_of t)) ts lists h.1 s)
 

@@ -31,7 +31,7 @@ use Rattle.mysql_binding.proofs.BoundText.{bound}
 use Rattle.mysql_binding.proofs.ContentsLemmas.{alone_parts}
 use Rattle.mysql_binding.proofs.LiteralTokenLemmas.{AreSettledBefore}
 use Rattle.mysql_binding.proofs.PieceLemmas.{joined_text_count, joined_text_is}
-use Rattle.mysql_binding.proofs.QuietTextLemmas.{quietly_move}
+use Rattle.mysql_binding.proofs.QuietTextLemmas.{alike_move}
 use Rattle.mysql_binding.proofs.UpToSpliceLemmas.{SameUpToSplice, at_end, at_place, same-append, last_byte, opens_nothing_after, token_move}
 
 -- ---- the facts of a place
@@ -131,7 +131,7 @@ spliced_portable mode before (Mark ∷ ts) [] h p s q = absurd s
 spliced_portable mode before (Mark ∷ ts) (list ∷ lists) h p s q =
     AreReadAlikeBefore-append list (with_literal_tokens ts lists) [] q.0 (spliced_portable mode question_mark ts lists h.1 p.1 s.1 q.1)
 spliced_portable mode before (t ∷ ts) lists h p s q = (
-  quietly_move before t (spliced_up_to mode (last_byte before (bytes_of t)) ts lists h.1 s) p.0,
+  alike_move before t (spliced_up_to mode (last_byte before (bytes_of t)) ts lists h.1 s) p.0,
   spliced_portable mode (last_byte before (bytes_of t)) ts lists h.1 p.1 s q,
 )
 

@@ -14,7 +14,7 @@ use Rattle.mysql_portable.specs.Portable.{is_read_alike, AreReadAlikeBefore, IsR
 use Rattle.mysql_portable.specs.Quiet.{IsQuietComment, IsHonest, DecidesWithin, plain_then}
 use Rattle.mysql_portable.proofs.PortableLemmas.{NoEmptyComment, token_on, special_more}
 use Rattle.mysql_portable.proofs.ServerTokenLemmas.{comment_by}
-use Rattle.mysql_portable.proofs.QuietLemmas.{AreQuiet, each_quiet, plain_text, row_on, read_text, block_ways, opener_on, star_on, usual_token, opens_text, whole_comment, quiet_kind, quiet_row, portable_read}
+use Rattle.mysql_portable.proofs.QuietLemmas.{BeginNothing, each_begins_nothing, plain_text, row_on, read_text, block_ways, opener_on, star_on, usual_token, opens_text, whole_comment, quiet_kind, quiet_row, portable_read}
 use Rattle.mysql_portable.proofs.SharpLemmas.{plain_none_on, after_row, after_row_on}
 use Rattle.mysql_binding.specs.Replaced.{with_literal_tokens}
 use Rattle.mysql_binding.proofs.LiteralTokenLemmas.{AreSettledBefore, no_double}
@@ -188,7 +188,7 @@ places_on server honest within mode before (read_executed {ts = ts} {us = us} ta
     let old : text_of (plain_then us tail) ≡ tail ++ text_of ts = plain_text tail us ∙ ap (λ x. tail ++ x) (read_text r) in
     let there = read_stays server honest within mode asterisk tail up c (subst (λ x. IsTokenOn server mode (Plain slash) (asterisk ∷ x)) old o.0) in
     let more = places_on server honest within mode (last_byte asterisk tail) r lists (after_row_on server mode tail us o.1.1) h.1 p.1 s q in
-    let quiet : AreQuiet (text_of (with_literal_tokens us lists)) tail = subst (λ x. AreQuiet x tail) (sym (replaced_alike r lists)) (each_quiet tail (text_of (with_literal_tokens ts lists)) c'.ends c'.quiet) in
+    let quiet : BeginNothing (text_of (with_literal_tokens us lists)) tail = subst (λ x. BeginNothing x tail) (sym (replaced_alike r lists)) (each_begins_nothing tail (text_of (with_literal_tokens ts lists)) c'.ends c'.quiet) in
     let new : text_of (plain_then (with_literal_tokens us lists) tail) ≡ tail ++ text_of (with_literal_tokens ts lists) = plain_text tail (with_literal_tokens us lists) ∙ ap (λ x. tail ++ x) (replaced_alike r lists) in
     let row : AreTokensOn server mode (Plain slash ∷ Plain asterisk ∷ plain_then (with_literal_tokens us lists) tail) = (subst (λ x. IsTokenOn server mode (Plain slash) (asterisk ∷ x)) (sym new) (opener_on server mode (tail ++ text_of (with_literal_tokens ts lists)) there), (star_on server mode _, row_on server mode tail (with_literal_tokens us lists) quiet more)) in
     subst (λ zs. AreTokensOn server mode (Plain slash ∷ Plain asterisk ∷ zs)) (sym (plain_replaced tail us lists)) row

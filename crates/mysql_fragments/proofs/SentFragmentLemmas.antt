@@ -16,7 +16,7 @@ use Rattle.mysql_portable.proofs.OtherModeLemmas.{all_parts}
 use Rattle.mysql_binding.proofs.LiteralTokenLemmas.{other, AreDigits-alphanumeric}
 use Rattle.mysql_sql_text.specs.InLine.{is_in_line}
 use Rattle.mysql_binding.proofs.SentLiteralLemmas.{and_none, SentPart, SentText, both_parts, digits_text, front_and_part, literal_sent, minus_text, part_of, run_part}
-use Rattle.mysql_binding.proofs.SentTextLemmas.{is_calm_first, is_word_letter, no_word_found}
+use Rattle.mysql_binding.proofs.SentTextLemmas.{is_sent_first, is_word_letter, no_word_found}
 use Rattle.mysql_float_literal.specs.DoubleShape.{IsSign, no_sign, minus_sign, IsFraction, no_fraction, point_and_digits, IsDouble, double_shape}
 use Rattle.mysql_fragments.specs.FragmentFaults.{escapes_end, is_keyword}
 use Rattle.mysql_fragments.specs.FragmentShape.{IsIdentifier, one_name, more_names, IsFragment, mark_fragment, literal_fragment, decimal_fragment, negative_decimal_fragment, double_fragment, identifier_fragment, keyword_fragment, list_fragment, row_fragment}
@@ -36,9 +36,9 @@ undoubled (b ∷ bs) k =
           and_from _ _ p.0 (undoubled bs p.1)
     ]
 
-backquote_calm : is_calm_first backquote ≡ true
-unfolding is_calm_first
-backquote_calm = refl
+backquote_sent_first : is_sent_first backquote ≡ true
+unfolding is_sent_first
+backquote_sent_first = refl
 
 name_sent : (mode : Bool) (name : List ℕ) → escapes_end name ≡ false → list_all is_in_line (identifier_text name) ≡ true →
     SentText mode (identifier_text name)
@@ -49,7 +49,7 @@ name_sent mode name plain k =
       list = identifier_tokens [] name;
       list_text = h.run_text;
       list_each = h.run_tokens;
-      list_calm = λ rest. rw backquote_calm refl;
+      list_front = λ rest. rw backquote_sent_first refl;
       list_sent = h.run_sent inside;
       list_statement = h.run_statement;
       list_line = h.run_line;
@@ -80,24 +80,24 @@ closing_part : (mode : Bool) → SentPart mode (codes ")")
 closing_part mode = byte_part mode (byte ")") (λ rest. plain_at mode (byte ")") rest refl) (λ rest. refl) refl refl
 
 bracket_text : (mode : Bool) → SentText mode (codes "(")
-unfolding is_calm_first is_client_word
+unfolding is_sent_first is_client_word
 bracket_text mode = record {
   list = Plain (byte "(") ∷ [];
   list_text = refl;
   list_each = λ rest. (plain_at mode (byte "(") rest refl, tt);
-  list_calm = λ rest. refl;
+  list_front = λ rest. refl;
   list_sent = λ rest statement line. (no_word_found statement line (byte "(") rest refl, tt);
   list_statement = λ statement. refl;
   list_line = λ line. refl;
 }
 
 mark_text : (mode : Bool) → SentText mode (codes "?")
-unfolding is_calm_first
+unfolding is_sent_first
 mark_text mode = record {
   list = Mark ∷ [];
   list_text = refl;
   list_each = λ rest. (tt, tt);
-  list_calm = λ rest. refl;
+  list_front = λ rest. refl;
   list_sent = λ rest statement line. (refl, tt);
   list_statement = λ statement. refl;
   list_line = λ line. refl;

@@ -1,5 +1,5 @@
--- The bytes with which only plain tokens begin. For private functions of `tokens.rt`; no
--- public contract cites them.
+-- The bytes that are *always plain*: with each only a plain token begins, whatever follows it. For
+-- private functions of `tokens.rt`; no public contract cites them.
 use Rattle.std.specs.Prelude.{◌≡◌, ◌<◌, ◌≤◌, ℕ, Bool, true, not, ◌||◌, ◌==◌, List, slice_index}
 use Rattle.mysql_named_params.specs.Bytes.{backquote, hash, dash, slash, colon, question_mark, is_string_quote}
 

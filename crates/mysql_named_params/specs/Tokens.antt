@@ -1,6 +1,7 @@
 -- The grammar of queries: what a token is before the text that follows it, and the tokens of a
 -- query (MySQL Reference Manual, "String Literals", "Schema Object Names", "Comments").
--- docs/RULES.md has it in words, with the points in which it is not the manual's.
+-- docs/RULES.md has it in words, with the points in which it is not the manual's. A *plain* token
+-- is one byte with which no token of another kind begins there.
 use Rattle.std.specs.Prelude.{◌≡◌, ◌≢◌, ℕ, IsTrue, IsFalse, Bool, List, [], ◌∷◌, ◌++◌, ⊤}
 use Rattle.std.specs.List.{list_all}
 use Rattle.mysql_named_params.specs.Bytes.{asterisk, backquote, colon, dash, hash, newline, question_mark, slash, is_white_space, is_start_byte, is_name_byte, is_string_quote, is_extension, begins, IsUpTo}

@@ -12,11 +12,11 @@ use Rattle.mysql_named_params.proofs.TokenEnds.{take_front, up_to_is}
 use Rattle.mysql_named_params.proofs.TokenEndLemmas.{up_to_gives}
 use Rattle.mysql_portable.specs.Server.{Server, Block, executed, comment, comment_of, begins_special, begins_place, begins_own, block_on, opens_line, usual_block, ended_tail, IsTokenOn, AreTokensOn, IsReadOn}
 use Rattle.mysql_portable.specs.Portable.{is_read_alike, AreReadAlikeBefore, IsReadAs, read_all, read_same, read_empty_comment, read_skipped, read_executed}
-use Rattle.mysql_portable.specs.Quiet.{is_loud, is_for_client, stands_apart, closes, is_quiet, IsQuietComment, reads_or_skips, IsHonest, begins_quiet, plain_then}
+use Rattle.mysql_portable.specs.Quiet.{may_begin_something, is_for_client, stands_apart, closes, is_quiet, IsQuietComment, reads_or_skips, IsHonest, begins_quiet, plain_then}
 use Rattle.mysql_portable.proofs.ServerTokenLemmas.{not_plain_on, dash_comment_on, plain_on, comment_by, one_list_on}
 use Rattle.mysql_portable.proofs.PortableLemmas.{second_false, is_alike_on_all, special_more, slash_on, own_none, token_on, head_is, dash_line, has_empty, empty_here, none_here}
 
--- ---- a byte that is not loud
+-- ---- a byte that begins nothing
 
 cond_of : (c : Bool) (p q : Option Token) → (c ≡ true → p ≡ None) → q ≡ None → cond c p q ≡ None
 cond_of true p q f e = f refl
@@ -25,8 +25,8 @@ cond_of false p q f e = e
 none_if : (c : Bool) (p : Option Token) → c ≡ false → c ≡ true → p ≡ None
 none_if c p f t = absurd (true≢false (sym t ∙ f))
 
--- what is known of a byte that is not loud
-pub record QuietByte (b : ℕ) (rest : List ℕ) : Type 0 where
+-- what is known of a byte that begins nothing
+pub record BeginsNothing (b : ℕ) (rest : List ℕ) : Type 0 where
   pub no_quote : is_string_quote b ≡ false
   pub no_backquote : (b == backquote) ≡ false
   pub no_hash : (b == hash) ≡ false
@@ -37,8 +37,8 @@ pub record QuietByte (b : ℕ) (rest : List ℕ) : Type 0 where
   pub no_own : begins_own b rest ≡ false
   pub apart : closes b rest ≡ true → stands_apart (drop 1 rest) ≡ true
 
-pub quiet_byte : (b : ℕ) (rest : List ℕ) → is_loud b rest ≡ false → QuietByte b rest
-quiet_byte b rest h =
+pub begins_nothing : (b : ℕ) (rest : List ℕ) → may_begin_something b rest ≡ false → BeginsNothing b rest
+begins_nothing b rest h =
     let p1 = or_parts (is_string_quote b) _ h in
     let p2 = or_parts (b == backquote) _ p1.1 in
     let p3 = or_parts (b == hash) _ p2.1 in
@@ -80,10 +80,10 @@ name_no [] h = refl
 name_no (b ∷ bs) h = rw h refl
 
 -- such a byte is plain on a server
-pub quiet_on : (server : Server) (mode : Bool) (b : ℕ) (rest : List ℕ) → is_loud b rest ≡ false →
+pub begins_nothing_on : (server : Server) (mode : Bool) (b : ℕ) (rest : List ℕ) → may_begin_something b rest ≡ false →
     not_plain_on server mode (b ∷ rest) ≡ None
-quiet_on server mode b rest h =
-    let q = quiet_byte b rest h in
+begins_nothing_on server mode b rest h =
+    let q = begins_nothing b rest h in
     cond_of (is_string_quote b) _ _ (none_if _ _ q.no_quote)
     (cond_of (b == backquote) _ _ (none_if _ _ q.no_backquote)
     (cond_of (b == hash) _ _ (none_if _ _ q.no_hash)
@@ -93,10 +93,10 @@ quiet_on server mode b rest h =
     (cond_of (b == question_mark) _ _ (none_if _ _ q.no_mark) (own_none server b rest q.no_own)))))))
 
 -- and in the grammar
-pub quiet_at : (mode : Bool) (b : ℕ) (rest : List ℕ) → is_loud b rest ≡ false →
+pub begins_nothing_at : (mode : Bool) (b : ℕ) (rest : List ℕ) → may_begin_something b rest ≡ false →
     not_plain_at mode (b ∷ rest) ≡ None
-quiet_at mode b rest h =
-    let q = quiet_byte b rest h in
+begins_nothing_at mode b rest h =
+    let q = begins_nothing b rest h in
     cond_of (is_string_quote b) _ _ (none_if _ _ q.no_quote)
     (cond_of (b == backquote) _ _ (none_if _ _ q.no_backquote)
     (cond_of (b == hash) _ _ (none_if _ _ q.no_hash)
@@ -107,10 +107,10 @@ quiet_at mode b rest h =
 
 -- ---- the text of a quiet comment
 
--- no byte is loud, before those after it and then a rest
-abbrev pub AreQuiet : List ℕ → List ℕ → Type 0
-AreQuiet rest [] = ⊤
-AreQuiet rest (b ∷ bs) = IsTrue (not (is_loud b (bs ++ rest))) × AreQuiet rest bs
+-- no byte begins something, before those after it and then a rest
+abbrev pub BeginNothing : List ℕ → List ℕ → Type 0
+BeginNothing rest [] = ⊤
+BeginNothing rest (b ∷ bs) = IsTrue (not (may_begin_something b (bs ++ rest))) × BeginNothing rest bs
 
 pub star_slash : List ℕ
 star_slash = asterisk ∷ slash ∷ []
@@ -124,32 +124,32 @@ apart_no_asterisk [] h = refl
 apart_no_asterisk (b ∷ rest) h = grind arith
 
 -- a text that begins with `*/`, and is quiet
-two_quiet : (b : ℕ) (rest : List ℕ) → is_quiet (b ∷ rest) ≡ true → begins_with (asterisk ∷ slash ∷ []) (b ∷ rest) ≡ true →
-    AreQuiet (drop 2 (b ∷ rest)) (take 2 (b ∷ rest))
-two_quiet b [] h w = absurd (true≢false (sym (and_parts (asterisk == b) false w).1))
-two_quiet b (c ∷ bs) h w =
-    let p = and_parts (not (is_loud b (c ∷ bs))) (closes b (c ∷ bs) || is_quiet (c ∷ bs)) h in
+two_begin_nothing : (b : ℕ) (rest : List ℕ) → is_quiet (b ∷ rest) ≡ true → begins_with (asterisk ∷ slash ∷ []) (b ∷ rest) ≡ true →
+    BeginNothing (drop 2 (b ∷ rest)) (take 2 (b ∷ rest))
+two_begin_nothing b [] h w = absurd (true≢false (sym (and_parts (asterisk == b) false w).1))
+two_begin_nothing b (c ∷ bs) h w =
+    let p = and_parts (not (may_begin_something b (c ∷ bs))) (closes b (c ∷ bs) || is_quiet (c ∷ bs)) h in
     (p.0, (last p.0 (or_cases (closes b (c ∷ bs)) (is_quiet (c ∷ bs)) p.1), tt))
   where
-    at_slash : (d : ℕ) → d ≡ slash → begins (λ x. x == asterisk) bs ≡ false → not (is_loud d bs) ≡ true
+    at_slash : (d : ℕ) → d ≡ slash → begins (λ x. x == asterisk) bs ≡ false → not (may_begin_something d bs) ≡ true
     at_slash d e f = rw (e, f) refl
 
-    last : not (is_loud b (c ∷ bs)) ≡ true → (closes b (c ∷ bs) ≡ true) ⊎ (is_quiet (c ∷ bs) ≡ true) →
-        not (is_loud c bs) ≡ true
-    last f (inr q) = (and_parts (not (is_loud c bs)) _ q).0
+    last : not (may_begin_something b (c ∷ bs)) ≡ true → (closes b (c ∷ bs) ≡ true) ⊎ (is_quiet (c ∷ bs) ≡ true) →
+        not (may_begin_something c bs) ≡ true
+    last f (inr q) = (and_parts (not (may_begin_something c bs)) _ q).0
     last f (inl q) =
         let r = and_parts (b == asterisk) _ q in
-        at_slash c (eqb-true c slash r.1) (apart_no_asterisk bs ((quiet_byte b (c ∷ bs) (not-true _ f)).apart q))
+        at_slash c (eqb-true c slash r.1) (apart_no_asterisk bs ((begins_nothing b (c ∷ bs) (not-true _ f)).apart q))
 
 later_quiet : (b : ℕ) (rest : List ℕ) → is_quiet (b ∷ rest) ≡ true → begins_with (asterisk ∷ slash ∷ []) (b ∷ rest) ≡ false →
     is_quiet rest ≡ true
 later_quiet b [] h w =
-    elim (or_cases (b == asterisk && false) false (and_parts (not (is_loud b [])) _ h).1) [
+    elim (or_cases (b == asterisk && false) false (and_parts (not (may_begin_something b [])) _ h).1) [
       | inl q ↦ absurd (true≢false (sym (and_parts (b == asterisk) false q).1))
       | inr q ↦ absurd (true≢false (sym q))
     ]
 later_quiet b (c ∷ bs) h w =
-    let p = and_parts (not (is_loud b (c ∷ bs))) (closes b (c ∷ bs) || is_quiet (c ∷ bs)) h in
+    let p = and_parts (not (may_begin_something b (c ∷ bs))) (closes b (c ∷ bs) || is_quiet (c ∷ bs)) h in
     elim (or_cases (closes b (c ∷ bs)) (is_quiet (c ∷ bs)) p.1) [
       | inr q ↦ q
       | inl q ↦ absurd (no_close q)
@@ -164,29 +164,29 @@ later_quiet b (c ∷ bs) h w =
         subst (λ u. begins_with (asterisk ∷ slash ∷ []) (asterisk ∷ u ∷ bs) ≡ false) y (subst (λ u. begins_with (asterisk ∷ slash ∷ []) (u ∷ c ∷ bs) ≡ false) x w) in
         true≢false z
 
-front_quiet : (text : List ℕ) → is_quiet text ≡ true →
-    AreQuiet (drop (len_up_to (asterisk ∷ slash ∷ []) text) text) (take (len_up_to (asterisk ∷ slash ∷ []) text) text)
-front_quiet [] h = tt
-front_quiet (b ∷ bs) h = go (front_quiet bs) (cases_Bool (begins_with (asterisk ∷ slash ∷ []) (b ∷ bs)))
+front_begins_nothing : (text : List ℕ) → is_quiet text ≡ true →
+    BeginNothing (drop (len_up_to (asterisk ∷ slash ∷ []) text) text) (take (len_up_to (asterisk ∷ slash ∷ []) text) text)
+front_begins_nothing [] h = tt
+front_begins_nothing (b ∷ bs) h = go (front_begins_nothing bs) (cases_Bool (begins_with (asterisk ∷ slash ∷ []) (b ∷ bs)))
   where
-    go : (is_quiet bs ≡ true → AreQuiet (drop (len_up_to (asterisk ∷ slash ∷ []) bs) bs) (take (len_up_to (asterisk ∷ slash ∷ []) bs) bs)) →
+    go : (is_quiet bs ≡ true → BeginNothing (drop (len_up_to (asterisk ∷ slash ∷ []) bs) bs) (take (len_up_to (asterisk ∷ slash ∷ []) bs) bs)) →
         (begins_with (asterisk ∷ slash ∷ []) (b ∷ bs) ≡ true) ⊎ (begins_with (asterisk ∷ slash ∷ []) (b ∷ bs) ≡ false) →
-        AreQuiet (drop (len_up_to (asterisk ∷ slash ∷ []) (b ∷ bs)) (b ∷ bs)) (take (len_up_to (asterisk ∷ slash ∷ []) (b ∷ bs)) (b ∷ bs))
-    go more (inl w) = rw w (two_quiet b bs h w)
+        BeginNothing (drop (len_up_to (asterisk ∷ slash ∷ []) (b ∷ bs)) (b ∷ bs)) (take (len_up_to (asterisk ∷ slash ∷ []) (b ∷ bs)) (b ∷ bs))
+    go more (inl w) = rw w (two_begin_nothing b bs h w)
     go more (inr w) =
-        let p = and_parts (not (is_loud b bs)) _ h in
-        let first : not (is_loud b (take (len_up_to (asterisk ∷ slash ∷ []) bs) bs ++ drop (len_up_to (asterisk ∷ slash ∷ []) bs) bs)) ≡ true = rw take-append-drop p.0 in
+        let p = and_parts (not (may_begin_something b bs)) _ h in
+        let first : not (may_begin_something b (take (len_up_to (asterisk ∷ slash ∷ []) bs) bs ++ drop (len_up_to (asterisk ∷ slash ∷ []) bs) bs)) ≡ true = rw take-append-drop p.0 in
         rw w (first, more (later_quiet b bs h w))
 
--- the bytes up to and with the first `*/` are quiet
-pub each_quiet : (tail rest : List ℕ) → IsUpTo (asterisk ∷ slash ∷ []) tail rest → is_quiet (tail ++ rest) ≡ true →
-    AreQuiet rest tail
-each_quiet tail rest u h =
+-- the bytes up to and with the first `*/` begin nothing
+pub each_begins_nothing : (tail rest : List ℕ) → IsUpTo (asterisk ∷ slash ∷ []) tail rest → is_quiet (tail ++ rest) ≡ true →
+    BeginNothing rest tail
+each_begins_nothing tail rest u h =
     let n = up_to_is (asterisk ∷ slash ∷ []) tail rest (omega arith) u in
     let front : take (len_up_to (asterisk ∷ slash ∷ []) (tail ++ rest)) (tail ++ rest) ≡ tail = take_front tail rest _ n in
     let back : drop (len_up_to (asterisk ∷ slash ∷ []) (tail ++ rest)) (tail ++ rest) ≡ rest =
     append_cancel_left tail _ _ (subst (λ x. x ++ drop (len_up_to (asterisk ∷ slash ∷ []) (tail ++ rest)) (tail ++ rest) ≡ tail ++ rest) front (take-append-drop (len_up_to (asterisk ∷ slash ∷ []) (tail ++ rest)) (tail ++ rest))) in
-    subst (λ x. AreQuiet x tail) back (subst (AreQuiet (drop (len_up_to (asterisk ∷ slash ∷ []) (tail ++ rest)) (tail ++ rest))) front (front_quiet (tail ++ rest) h))
+    subst (λ x. BeginNothing x tail) back (subst (BeginNothing (drop (len_up_to (asterisk ∷ slash ∷ []) (tail ++ rest)) (tail ++ rest))) front (front_begins_nothing (tail ++ rest) h))
 
 -- ---- rows of plain bytes
 
@@ -195,11 +195,11 @@ plain_text [] ts = refl
 plain_text (b ∷ bs) ts = ap (λ x. b ∷ x) (plain_text bs ts)
 
 -- a quiet text is a row of plain tokens on a server
-pub row_on : (server : Server) (mode : Bool) (tail : List ℕ) (us : List Token) → AreQuiet (text_of us) tail →
+pub row_on : (server : Server) (mode : Bool) (tail : List ℕ) (us : List Token) → BeginNothing (text_of us) tail →
     AreTokensOn server mode us → AreTokensOn server mode (plain_then us tail)
 row_on server mode [] us q h = h
 row_on server mode (b ∷ bs) us q h =
-    (plain_on server mode b _ (subst (λ x. not_plain_on server mode (b ∷ x) ≡ None) (sym (plain_text bs us)) (quiet_on server mode b (bs ++ text_of us) (not-true _ q.0))), row_on server mode bs us q.1 h)
+    (plain_on server mode b _ (subst (λ x. not_plain_on server mode (b ∷ x) ≡ None) (sym (plain_text bs us)) (begins_nothing_on server mode b (bs ++ text_of us) (not-true _ q.0))), row_on server mode bs us q.1 h)
 
 -- and in the grammar: tokens of such a text are that row, and others
 pub record PlainRow (mode : Bool) (ts : List Token) (tail rest : List ℕ) : Type 0 where
@@ -210,11 +210,11 @@ pub record PlainRow (mode : Bool) (ts : List Token) (tail rest : List ℕ) : Typ
   pub alike : AreReadAlikeBefore [] later
   pub shorter : length later ≤ length ts
 
-pub plain_row : (mode : Bool) (tail rest : List ℕ) (ts : List Token) → AreQuiet rest tail →
+pub plain_row : (mode : Bool) (tail rest : List ℕ) (ts : List Token) → BeginNothing rest tail →
     AreTokensBefore mode [] ts → AreReadAlikeBefore [] ts → text_of ts ≡ tail ++ rest → PlainRow mode ts tail rest
 plain_row mode [] rest ts q h a e = record { later = ts; row = refl; text = e; holds = h; alike = a; shorter = omega arith }
 plain_row mode (b ∷ bs) rest ts q h a e =
-    let i = head_is mode ts b (bs ++ rest) h e (quiet_at mode b (bs ++ rest) (not-true _ q.0)) in
+    let i = head_is mode ts b (bs ++ rest) h e (begins_nothing_at mode b (bs ++ rest) (not-true _ q.0)) in
     let h' : AreTokensBefore mode [] (Plain b ∷ i.0) = subst (AreTokensBefore mode []) i.1 h in
     let a' : AreReadAlikeBefore [] (Plain b ∷ i.0) = subst (AreReadAlikeBefore []) i.1 a in
     let r = plain_row mode bs rest i.0 q.1 h'.1 a'.1 i.2 in
@@ -296,7 +296,7 @@ reading_executed server mode tail ts q k r =
       alike = read_executed tail q r.alike;
       holds = (
         subst (λ x. IsTokenOn server mode (Plain slash) (asterisk ∷ x)) (sym same) (opener_on server mode _ k),
-        (star_on server mode _, row_on server mode tail r.tokens (subst (λ x. AreQuiet x tail) (sym (read_text r.alike)) (each_quiet tail (text_of ts) q.ends q.quiet)) r.holds),
+        (star_on server mode _, row_on server mode tail r.tokens (subst (λ x. BeginNothing x tail) (sym (read_text r.alike)) (each_begins_nothing tail (text_of ts) q.ends q.quiet)) r.holds),
       );
     }
 
@@ -354,7 +354,7 @@ quiet_row mode ts text h a e s q =
     let h' : AreTokensBefore mode [] (Plain asterisk ∷ i.0) = subst (AreTokensBefore mode []) i.1 h in
     let a' : AreReadAlikeBefore [] (Plain asterisk ∷ i.0) = subst (AreReadAlikeBefore []) i.1 a in
     let joined : take (len_up_to (asterisk ∷ slash ∷ []) text) text ++ drop (len_up_to (asterisk ∷ slash ∷ []) text) text ≡ text = take-append-drop (len_up_to (asterisk ∷ slash ∷ []) text) text in
-    let r = plain_row mode (take (len_up_to (asterisk ∷ slash ∷ []) text) text) (drop (len_up_to (asterisk ∷ slash ∷ []) text) text) i.0 (front_quiet text q) h'.1 a'.1 (i.2 ∙ sym joined) in
+    let r = plain_row mode (take (len_up_to (asterisk ∷ slash ∷ []) text) text) (drop (len_up_to (asterisk ∷ slash ∷ []) text) text) i.0 (front_begins_nothing text q) h'.1 a'.1 (i.2 ∙ sym joined) in
     let whole : take (len_up_to (asterisk ∷ slash ∷ []) text) text ++ text_of r.later ≡ text = ap (λ x. take (len_up_to (asterisk ∷ slash ∷ []) text) text ++ x) r.text ∙ joined in
     record {
       tail = take (len_up_to (asterisk ∷ slash ∷ []) text) text;

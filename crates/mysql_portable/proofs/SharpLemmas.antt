@@ -11,11 +11,11 @@ use Rattle.mysql_named_params.proofs.PlainLemmas.{plain_none}
 use Rattle.mysql_named_params.proofs.RestLemmas.{dash_none}
 use Rattle.mysql_portable.specs.Server.{Server, keeps_dashes, opens_line, holds_return, escapes_backquote, line_on, identifier_on, begins_special, begins_own, comment, comment_of, block_on, reads_in, IsBlockTail, usual_block, own_block, IsTailBy, usual_end, own_end, IsDashTail, ended_tail, open_tail, IsQuotedTail, usual_quotes, own_quotes, IsTokenOn, AreTokensOn, IsReadOn}
 use Rattle.mysql_portable.specs.Portable.{stands_inside, may_open_line, differs_at, is_read_alike, AreReadAlikeBefore, IsReadAs, read_all, read_same, read_empty_comment, read_skipped, read_executed}
-use Rattle.mysql_portable.specs.Quiet.{is_loud, is_quiet, IsHonest, begins_quiet, plain_then}
+use Rattle.mysql_portable.specs.Quiet.{may_begin_something, is_quiet, IsHonest, begins_quiet, plain_then}
 use Rattle.mysql_portable.proofs.ServerTokenLemmas.{not_plain_on, dash_comment_on, block_comment_on, comment_by, own_is, own_at}
 use Rattle.mysql_portable.proofs.GrammarLemmas.{not_plain_found_on, tokens_on}
 use Rattle.mysql_portable.proofs.PortableLemmas.{false_if, returns_alike, escapes_alike, special_more, is_alike_on_all}
-use Rattle.mysql_portable.proofs.QuietLemmas.{AreQuiet, quiet_byte, each_quiet, plain_text, read_text}
+use Rattle.mysql_portable.proofs.QuietLemmas.{BeginNothing, begins_nothing, each_begins_nothing, plain_text, read_text}
 
 -- a server that skips quiet comments, and differs from the grammar wherever else one may
 abbrev pub contrary : Server
@@ -108,9 +108,9 @@ no_own mode b rest n =
 
 -- ---- comments
 
-block_quiet : (tail rest : List ℕ) → IsBlockTail contrary tail rest →
+block_alike : (tail rest : List ℕ) → IsBlockTail contrary tail rest →
     (not (begins_special tail) || is_quiet (tail ++ rest)) ≡ true
-block_quiet tail rest h = go (cases_Bool (begins_special tail)) (cases_Bool (is_quiet (tail ++ rest)))
+block_alike tail rest h = go (cases_Bool (begins_special tail)) (cases_Bool (is_quiet (tail ++ rest)))
   where
     no_usual : (s q : Bool) → s ≡ true → q ≡ false → cond s (cond q comment (comment_of 0)) comment ≡ comment → ⊥
     no_usual true false p r e = cc
@@ -125,9 +125,9 @@ block_quiet tail rest h = go (cases_Bool (begins_special tail)) (cases_Bool (is_
     nothing : (n : ℕ) (xs : List ℕ) → n ≡ 0 → take n xs ≡ []
     nothing n xs e = subst (λ k. take k xs ≡ []) (sym e) refl
 
-    loud : begins_special tail ≡ true → is_quiet (tail ++ rest) ≡ false → IsBlockTail contrary tail rest → ⊥
-    loud p r (usual_block k u) = no_usual (begins_special (tail ++ rest)) (is_quiet (tail ++ rest)) (special_more tail rest p) r k
-    loud p r (own_block n k e) =
+    not_quiet : begins_special tail ≡ true → is_quiet (tail ++ rest) ≡ false → IsBlockTail contrary tail rest → ⊥
+    not_quiet p r (usual_block k u) = no_usual (begins_special (tail ++ rest)) (is_quiet (tail ++ rest)) (special_more tail rest p) r k
+    not_quiet p r (own_block n k e) =
         let zero_is : n ≡ 0 = no_length (begins_special (tail ++ rest)) (is_quiet (tail ++ rest)) n (special_more tail rest p) r k in
         let nil : tail ≡ [] = sym e ∙ nothing n (tail ++ rest) zero_is in
         true≢false (sym p ∙ ap begins_special nil)
@@ -136,31 +136,31 @@ block_quiet tail rest h = go (cases_Bool (begins_special tail)) (cases_Bool (is_
         (not (begins_special tail) || is_quiet (tail ++ rest)) ≡ true
     go (inr p) r = rw p refl
     go (inl p) (inl r) = rw r (or_right (not (begins_special tail)) true refl)
-    go (inl p) (inr r) = absurd (loud p r h)
+    go (inl p) (inr r) = absurd (not_quiet p r h)
 
 -- ---- what ends at one byte
 
 -- the server has no number of its own, or ends what follows at once
-tail_quiet : (asked : Bool) (end : ℕ) (tail rest : List ℕ) → IsTailBy (cond asked (Some 0) None) end tail rest →
+unasked_or_empty : (asked : Bool) (end : ℕ) (tail rest : List ℕ) → IsTailBy (cond asked (Some 0) None) end tail rest →
     (asked ≡ false) ⊎ (tail ≡ [])
-tail_quiet false end tail rest h = inl refl
-tail_quiet true end tail rest (usual_end o u) = cc
-tail_quiet true end tail rest (own_end n o e) =
+unasked_or_empty false end tail rest h = inl refl
+unasked_or_empty true end tail rest (usual_end o u) = cc
+unasked_or_empty true end tail rest (own_end n o e) =
     let z : n ≡ 0 = cc in
     inr (sym e ∙ ap (λ k. take k (tail ++ rest)) z)
 
-line_quiet : (tail rest : List ℕ) → IsUpTo (newline ∷ []) tail rest → IsTailBy (line_on contrary (tail ++ rest)) newline tail rest →
+no_return_inside : (tail rest : List ℕ) → IsUpTo (newline ∷ []) tail rest → IsTailBy (line_on contrary (tail ++ rest)) newline tail rest →
     holds_return tail ≡ false
-line_quiet tail rest u h =
-    elim (tail_quiet (holds_return (tail ++ rest)) newline tail rest h) [
+no_return_inside tail rest u h =
+    elim (unasked_or_empty (holds_return (tail ++ rest)) newline tail rest h) [
       | inl e ↦ sym (returns_alike tail rest u) ∙ e
       | inr nil ↦ ap holds_return nil
     ]
 
-identifier_quiet : (tail rest : List ℕ) → IsUpTo (backquote ∷ []) tail rest →
+no_escaped_backquote : (tail rest : List ℕ) → IsUpTo (backquote ∷ []) tail rest →
     IsTailBy (identifier_on contrary (tail ++ rest)) backquote tail rest → escapes_backquote tail ≡ false
-identifier_quiet tail rest u h =
-    elim (tail_quiet (escapes_backquote (tail ++ rest)) backquote tail rest h) [
+no_escaped_backquote tail rest u h =
+    elim (unasked_or_empty (escapes_backquote (tail ++ rest)) backquote tail rest h) [
       | inl e ↦ sym (escapes_alike tail rest u) ∙ e
       | inr nil ↦ ap escapes_backquote nil
     ]
@@ -200,9 +200,9 @@ no_star (b ∷ bs) e = go (b == asterisk) e
     go true e = absurd (always_block bs e)
     go false e = refl
 
-plain_quiet : (mode : Bool) (b : ℕ) (rest : List ℕ) → not_plain_at mode (b ∷ rest) ≡ None →
+plain_same : (mode : Bool) (b : ℕ) (rest : List ℕ) → not_plain_at mode (b ∷ rest) ≡ None →
     not_plain_on contrary mode (b ∷ rest) ≡ None → differs_at b rest ≡ false
-plain_quiet mode b rest g n =
+plain_same mode b rest g n =
     or_from _ _ (false_if (b == slash) _ (λ h. no_star rest (slash_none mode b rest (eqb-true b slash h) n)))
     (or_from _ _ (false_if (b == dash) _ (λ h. no_line rest (dash_none_here mode b rest (eqb-true b dash h) g) (dash_none_there mode b rest (eqb-true b dash h) n))) (no_own mode b rest n))
 
@@ -212,18 +212,18 @@ by_first p q e = rw e refl
 both : (p q : Bool) → p ≡ true → q ≡ true → (p && q) ≡ true
 both p q e f = rw (e, f) refl
 
-token_quiet : (mode : Bool) (t : Token) (rest : List ℕ) → IsToken mode t rest → IsTokenOn contrary mode t rest →
+token_alike : (mode : Bool) (t : Token) (rest : List ℕ) → IsToken mode t rest → IsTokenOn contrary mode t rest →
     is_read_alike t rest ≡ true
-token_quiet mode (QuotedString quote tail) rest h o = quoted_alike mode quote tail rest h.0 o
-token_quiet mode (QuotedIdentifier tail) rest h o = ap not (identifier_quiet tail rest h o)
-token_quiet mode (HashComment tail) rest h o = ap not (line_quiet tail rest h o)
-token_quiet mode (DashComment gap tail) rest h o =
-    both _ _ (space_alone gap h.0 h.1 o.0) (ap not (line_quiet tail rest h.2 (no_newline contrary gap tail rest h.1 o.1)))
-token_quiet mode (BlockComment tail) rest h o = block_quiet tail rest o
-token_quiet mode (Name name) rest h o = refl
-token_quiet mode Mark rest h o = refl
-token_quiet mode (Plain b) rest h o =
-    by_first (is_alike_on_all (Plain b) rest) (b == slash && begins_quiet rest) (ap not (plain_quiet mode b rest (plain_none mode b rest h) (plain_none_on contrary mode b rest o)))
+token_alike mode (QuotedString quote tail) rest h o = quoted_alike mode quote tail rest h.0 o
+token_alike mode (QuotedIdentifier tail) rest h o = ap not (no_escaped_backquote tail rest h o)
+token_alike mode (HashComment tail) rest h o = ap not (no_return_inside tail rest h o)
+token_alike mode (DashComment gap tail) rest h o =
+    both _ _ (space_alone gap h.0 h.1 o.0) (ap not (no_return_inside tail rest h.2 (no_newline contrary gap tail rest h.1 o.1)))
+token_alike mode (BlockComment tail) rest h o = block_alike tail rest o
+token_alike mode (Name name) rest h o = refl
+token_alike mode Mark rest h o = refl
+token_alike mode (Plain b) rest h o =
+    by_first (is_alike_on_all (Plain b) rest) (b == slash && begins_quiet rest) (ap not (plain_same mode b rest (plain_none mode b rest h) (plain_none_on contrary mode b rest o)))
 
 -- ---- rows of plain bytes
 
@@ -232,17 +232,17 @@ line_closed [] h = refl
 line_closed (b ∷ []) h = refl
 line_closed (b ∷ gap ∷ bs) h = rw h refl
 
-byte_quiet : (b : ℕ) (rest : List ℕ) → is_loud b rest ≡ false → is_read_alike (Plain b) rest ≡ true
-byte_quiet b rest h =
-    let q = quiet_byte b rest h in
+byte_alike : (b : ℕ) (rest : List ℕ) → may_begin_something b rest ≡ false → is_read_alike (Plain b) rest ≡ true
+byte_alike b rest h =
+    let q = begins_nothing b rest h in
     let d : differs_at b rest ≡ false = or_from _ _ (false_if _ _ (λ e. q.no_block e)) (or_from _ _ (false_if _ _ (λ e. line_closed rest (q.no_dashes e))) q.no_own) in
     by_first (is_alike_on_all (Plain b) rest) (b == slash && begins_quiet rest) (ap not d)
 
-row_quiet : (tail : List ℕ) (ts : List Token) → AreQuiet (text_of ts) tail → AreReadAlikeBefore [] ts →
+row_alike : (tail : List ℕ) (ts : List Token) → BeginNothing (text_of ts) tail → AreReadAlikeBefore [] ts →
     AreReadAlikeBefore [] (plain_then ts tail)
-row_quiet [] ts q h = h
-row_quiet (b ∷ bs) ts q h =
-    (subst (λ x. is_read_alike (Plain b) x ≡ true) (sym (plain_text bs ts)) (byte_quiet b (bs ++ text_of ts) (not-true _ q.0)), row_quiet bs ts q.1 h)
+row_alike [] ts q h = h
+row_alike (b ∷ bs) ts q h =
+    (subst (λ x. is_read_alike (Plain b) x ≡ true) (sym (plain_text bs ts)) (byte_alike b (bs ++ text_of ts) (not-true _ q.0)), row_alike bs ts q.1 h)
 
 pub after_row : (mode : Bool) (tail : List ℕ) (ts : List Token) → AreTokensBefore mode [] (plain_then ts tail) → AreTokensBefore mode [] ts
 after_row mode [] ts h = h
@@ -256,24 +256,24 @@ second_dash : (text : List ℕ) → is_read_alike (Plain dash) (newline ∷ text
 second_dash [] = refl
 second_dash (b ∷ text) = refl
 
-all_quiet : (mode : Bool) {ts us : List Token} → IsReadAs ts us → AreTokensBefore mode [] ts →
+all_alike : (mode : Bool) {ts us : List Token} → IsReadAs ts us → AreTokensBefore mode [] ts →
     AreTokensOn contrary mode us → AreReadAlikeBefore [] ts
-all_quiet mode read_all h o = tt
-all_quiet mode (read_same {t = t} {ts = ts} r) h o =
-    (token_quiet mode t (text_of ts) h.0 (subst (IsTokenOn contrary mode t) (read_text r) o.0), all_quiet mode r h.1 o.1)
-all_quiet mode (read_empty_comment {ts = ts} r) h o =
-    (refl, (second_dash (text_of ts), (refl, all_quiet mode r h.1.1.1 o.1)))
-all_quiet mode (read_skipped {ts = ts} tail q r) h o =
+all_alike mode read_all h o = tt
+all_alike mode (read_same {t = t} {ts = ts} r) h o =
+    (token_alike mode t (text_of ts) h.0 (subst (IsTokenOn contrary mode t) (read_text r) o.0), all_alike mode r h.1 o.1)
+all_alike mode (read_empty_comment {ts = ts} r) h o =
+    (refl, (second_dash (text_of ts), (refl, all_alike mode r h.1.1.1 o.1)))
+all_alike mode (read_skipped {ts = ts} tail q r) h o =
     let there : (begins_special (tail ++ text_of ts) && is_quiet (tail ++ text_of ts)) ≡ true = both _ _ q.special q.quiet in
     let opener : begins_quiet (asterisk ∷ text_of (plain_then ts tail)) ≡ true =
     subst (λ x. (begins_special x && is_quiet x) ≡ true) (sym (plain_text tail ts)) there in
-    (opener, (refl, row_quiet tail ts (each_quiet tail (text_of ts) q.ends q.quiet) (all_quiet mode r (after_row mode tail ts h.1.1) o.1)))
-all_quiet mode (read_executed {us = us} tail q r) h o =
-    (or_right (not (begins_special tail)) _ q.quiet, all_quiet mode r h.1 (after_row_on contrary mode tail us o.1.1))
+    (opener, (refl, row_alike tail ts (each_begins_nothing tail (text_of ts) q.ends q.quiet) (all_alike mode r (after_row mode tail ts h.1.1) o.1)))
+all_alike mode (read_executed {us = us} tail q r) h o =
+    (or_right (not (begins_special tail)) _ q.quiet, all_alike mode r h.1 (after_row_on contrary mode tail us o.1.1))
 
 pub sharp : (mode : Bool) (query : List ℕ) (ts : List Token) → IsTokens mode query ts →
     ((server : Server) (us : List Token) → IsHonest server → IsReadOn server mode query us → IsReadAs ts us) →
     AreReadAlikeBefore [] ts
 sharp mode query ts h alike =
     let u = tokens_on contrary mode query in
-    all_quiet mode (alike contrary u.0 contrary_is_honest u.1) h.each u.1.each
+    all_alike mode (alike contrary u.0 contrary_is_honest u.1) h.each u.1.each

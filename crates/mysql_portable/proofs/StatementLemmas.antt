@@ -6,17 +6,17 @@ use Rattle.std.proofs.lemmas.Bool.{or_parts, not-true}
 use Rattle.mysql_named_params.specs.Bytes.{backquote, hash, dash, newline, slash, asterisk, is_string_quote, begins}
 use Rattle.mysql_named_params.specs.Tokens.{Token, text_of, QuotedString, QuotedIdentifier, HashComment, DashComment, BlockComment, Name, Mark, Plain}
 use Rattle.mysql_portable.specs.Server.{begins_place, begins_own}
-use Rattle.mysql_portable.specs.Quiet.{is_loud, is_for_client, plain_then}
+use Rattle.mysql_portable.specs.Quiet.{may_begin_something, is_for_client, plain_then}
 use Rattle.mysql_portable.specs.Portable.{IsReadAs, read_all, read_same, read_empty_comment, read_skipped, read_executed}
 use Rattle.mysql_portable.specs.Statements.{in_first, statements}
-use Rattle.mysql_portable.proofs.QuietLemmas.{AreQuiet, each_quiet}
+use Rattle.mysql_portable.proofs.QuietLemmas.{BeginNothing, each_begins_nothing}
 
 pub length-in_first : (t : Token) (lists : List (List Token)) → length (in_first t lists) ≡ length lists
 length-in_first t [] = refl
 length-in_first t (first ∷ more) = refl
 
--- a byte that isn't loud is no `;`
-no_semicolon : (b : ℕ) (rest : List ℕ) → is_loud b rest ≡ false → (b == byte ";") ≡ false
+-- a byte that begins nothing is no `;`
+no_semicolon : (b : ℕ) (rest : List ℕ) → may_begin_something b rest ≡ false → (b == byte ";") ≡ false
 no_semicolon b rest h =
     let p1 = or_parts (is_string_quote b) _ h in
     let p2 = or_parts (b == backquote) _ p1.1 in
@@ -29,7 +29,7 @@ no_semicolon b rest h =
     (or_parts (b == byte ";") _ p8.0).0
 
 -- a quiet text cuts nothing
-row_count : (tail rest : List ℕ) (ts : List Token) → AreQuiet rest tail →
+row_count : (tail rest : List ℕ) (ts : List Token) → BeginNothing rest tail →
     length (statements (plain_then ts tail)) ≡ length (statements ts)
 row_count [] rest ts q = refl
 row_count (b ∷ bs) rest ts q =
@@ -63,6 +63,6 @@ read_statements (read_same {t = Mark} {ts = ts} {us = us} r) = both_first Mark u
 read_statements (read_empty_comment {ts = ts} {us = us} r) =
     length-in_first (DashComment newline []) (statements us) ∙ (read_statements r ∙ sym (length-in_first (Plain dash) (in_first (Plain dash) (in_first (Plain newline) (statements ts))) ∙ (length-in_first (Plain dash) (in_first (Plain newline) (statements ts)) ∙ length-in_first (Plain newline) (statements ts))))
 read_statements (read_skipped {ts = ts} {us = us} tail q r) =
-    length-in_first (BlockComment tail) (statements us) ∙ (read_statements r ∙ sym (opened_count (plain_then ts tail) ∙ row_count tail (text_of ts) ts (each_quiet tail (text_of ts) q.ends q.quiet)))
+    length-in_first (BlockComment tail) (statements us) ∙ (read_statements r ∙ sym (opened_count (plain_then ts tail) ∙ row_count tail (text_of ts) ts (each_begins_nothing tail (text_of ts) q.ends q.quiet)))
 read_statements (read_executed {ts = ts} {us = us} tail q r) =
-    (opened_count (plain_then us tail) ∙ row_count tail (text_of ts) us (each_quiet tail (text_of ts) q.ends q.quiet)) ∙ (read_statements r ∙ sym (length-in_first (BlockComment tail) (statements ts)))
+    (opened_count (plain_then us tail) ∙ row_count tail (text_of ts) us (each_begins_nothing tail (text_of ts) q.ends q.quiet)) ∙ (read_statements r ∙ sym (length-in_first (BlockComment tail) (statements ts)))

@@ -1,7 +1,8 @@
--- Clear texts: a test that looks at a byte and what stands beside it, and not at tokens. A clear
--- query is steady and portable, and most queries that are both are clear. Some are not, as a query
--- with `[` in a string, or with `a-?`. A query that is clear in a client is portable there too;
--- a query that begins with a comment isn't clear in one.
+-- Clear texts: a byte is *in doubt* if it isn't steady, or may begin or end a construct where it
+-- stands. A text is *clear* if none of its bytes is in doubt. The test looks at a byte and what
+-- stands beside it, and not at tokens. A clear query is steady and portable, and most queries that
+-- are both are clear. Some are not, as a query with `[` in a string, or with `a-?`. A query that is
+-- clear in a client is portable there too; a query that begins with a comment isn't clear in one.
 use Rattle.std.specs.Prelude.{◌≡◌, ◌-◌, ◌<◌, ◌≤◌, ◌==◌, ◌&&◌, ◌||◌, not, nat_le, codes, ℕ, Bool, true, false, List, [], ◌∷◌, if◌then◌else◌, drop, slice_index}
 use Rattle.std.specs.Char.{is_ascii_digit}
 use Rattle.std.specs.Str.{byte}
@@ -103,10 +104,10 @@ is_clear_from client text at = is_clear_after client (byte_before text at) (drop
 
 -- ---- bytes that are passed
 
--- a steady byte with which no construct begins, in whatever text it stands, that no place begins
--- with, and that ends no comment
-abbrev pub is_sure : ℕ → Bool
-is_sure b =
+-- a byte that is never in doubt on servers: a steady one with which no construct begins, in
+-- whatever text it stands, that no place begins with, and that ends no comment
+abbrev pub is_never_in_doubt : ℕ → Bool
+is_never_in_doubt b =
     is_steady b
     && not (b == carriage_return || (b == bracket || (b == dollar
     || (b == slash || (b == dash || (b == colon || b == question_mark))))))
@@ -115,11 +116,11 @@ is_sure b =
 abbrev pub is_of_client : ℕ → Bool
 is_of_client b = b == 0 || (b == byte ";" || (b == byte "d" || b == byte "D"))
 
--- a byte that isn't sure
-abbrev pub is_unsure : Bool → ℕ → Bool
-is_unsure client b = not (is_sure b) || (client && is_of_client b)
+-- a byte that may be in doubt: it has to be looked at with what stands beside it
+abbrev pub may_be_in_doubt : Bool → ℕ → Bool
+may_be_in_doubt client b = not (is_never_in_doubt b) || (client && is_of_client b)
 
--- each byte from the first index up to the second is sure
-abbrev pub AreSure : Bool → List ℕ → ℕ → ℕ → Type 0
-AreSure client text from end =
-    (k : ℕ) → from ≤ k → k < end → is_unsure client (slice_index text k) ≡ false
+-- no byte from the first index up to the second may be in doubt
+abbrev pub AreNeverInDoubt : Bool → List ℕ → ℕ → ℕ → Type 0
+AreNeverInDoubt client text from end =
+    (k : ℕ) → from ≤ k → k < end → may_be_in_doubt client (slice_index text k) ≡ false

@@ -4,7 +4,7 @@ pub mod KnownServers
 pub mod Portable
 pub mod FirstUnportable
 pub mod FrontConstruct
-pub mod CalmBytes
+pub mod NoConstruct
 pub mod Steady
 pub mod CharacterSet
 pub mod Client
@@ -12,5 +12,5 @@ pub mod Statements
 pub mod FoundInClient
 pub mod FirstUnportableInClient
 pub mod FrontInClient
-pub mod TameBytes
+pub mod NothingInQuotes
 pub mod Clear

@@ -43,8 +43,8 @@ is_version text = not (begins (λ c. c == byte "0") text) && ends_version 0 text
 -- This byte, before this text, may begin something: a text in quotes, a comment, a place, or what
 -- a server has of its own; or, with what stands before the comment, a `-`, what follows a `*/`, and
 -- what follows the `!` of the comment's sign.
-abbrev pub is_loud : ℕ → List ℕ → Bool
-is_loud b rest =
+abbrev pub may_begin_something : ℕ → List ℕ → Bool
+may_begin_something b rest =
     is_string_quote b
     || (b == backquote
     || (b == hash
@@ -56,10 +56,11 @@ is_loud b rest =
     || ((closes b rest && not (stands_apart (drop 1 rest)))
     || (b == exclamation_mark && not (is_version rest))))))))))
 
--- the text of a quiet comment, and then anything: no byte up to and with its `*/` is loud
+-- the text of a quiet comment, and then anything: no byte up to and with its `*/` may begin
+-- something
 abbrev pub is_quiet : List ℕ → Bool
 is_quiet [] = false
-is_quiet (b ∷ rest) = not (is_loud b rest) && (closes b rest || is_quiet rest)
+is_quiet (b ∷ rest) = not (may_begin_something b rest) && (closes b rest || is_quiet rest)
 
 -- what follows `/*` in a quiet comment, before a rest
 pub record IsQuietComment (tail rest : List ℕ) : Type 0 where

@@ -1,7 +1,7 @@
 -- Texts that both modes read alike (MySQL Reference Manual, "String Literals", and "Server SQL
--- Modes", NO_BACKSLASH_ESCAPES), and those that every character set shows as they are: the laws
--- `modes_agree` and `steady_texts`. Outside of strings a backslash is a byte like any other in both
--- modes.
+-- Modes", NO_BACKSLASH_ESCAPES), and *steady* texts, of bytes below 128 without a backslash, which
+-- every character set shows as they are: the laws `modes_agree` and `steady_texts`. Outside of
+-- strings a backslash is a byte like any other in both modes.
 use Rattle.std.specs.Prelude.{ℕ, IsTrue, Bool, true, not, ◌==◌, ◌&&◌, nat_lt, List, [], ◌∷◌, Option, ⊤}
 use Rattle.std.specs.List.{list_all, position}
 use Rattle.std.specs.Str.{byte}

@@ -5,7 +5,7 @@ ghost use Rattle.std.specs.Prelude.{◌≡◌, ◌==◌, ◌+◌, ◌<◌, ◌�
 ghost use Rattle.std.specs.Simd.Lanes.{mask_l};
 ghost use Rattle.mysql_named_params.specs.Bytes.{begins, dash, is_start_byte, newline, space};
 ghost use Rattle.mysql_named_params.specs.Tokens.{OnTokens};
-ghost use Rattle.mysql_portable.specs.Clear.{begins_client_line, begins_opener_after, begins_special_block, byte_before, is_clear, is_clear_after, is_clear_from, is_clear_in_client, is_in_doubt, is_in_doubt_for, is_in_doubt_in_client, is_of_client, is_sign, is_sure, is_unsure, may_begin_tag, may_take_dashes, may_take_place};
+ghost use Rattle.mysql_portable.specs.Clear.{begins_client_line, begins_opener_after, begins_special_block, byte_before, is_clear, is_clear_after, is_clear_from, is_clear_in_client, is_in_doubt, is_in_doubt_for, is_in_doubt_in_client, is_never_in_doubt, is_of_client, is_sign, may_be_in_doubt, may_begin_tag, may_take_dashes, may_take_place};
 ghost use Rattle.mysql_portable.specs.FirstUnportableInClient.{IsPortableInClient};
 ghost use Rattle.mysql_portable.specs.Steady.{IsSteady};
 
@@ -51,8 +51,8 @@ fn is_clear_for(text: &[u8], client: bool) -> bool
 }
 
 // Whether one of the 16 bytes from this one on is in doubt. Each bit of a mask is looked at once,
-// so that unsure bytes that stand close together cost no further comparison. Inline, as the body of
-// a loop.
+// so that bytes that may be in doubt and stand close together cost no further comparison. Inline,
+// as the body of a loop.
 #[inline(always)]
 fn is_doubt_in_block(text: &[u8], from: usize, client: bool) -> bool
     requires { from + LANES ≤ length text.now }
@@ -61,25 +61,25 @@ fn is_doubt_in_block(text: &[u8], from: usize, client: bool) -> bool
         is_clear_from client text.now (from + LANES) ≡ is_clear_from client text.now from }
 {
     let mut at = from;
-    let mut unsure = unsure_of_block(text, from, client);
-    'unsure: while unsure != 0 {
-        let run = unsure.trailing_zeros() as usize;
+    let mut doubts = doubt_mask(text, from, client);
+    'doubts: while doubts != 0 {
+        let run = doubts.trailing_zeros() as usize;
         at += run;
         if is_doubt_at(text, at, client) {
             return true;
         }
         at += 1;
-        unsure >>= run + 1;
+        doubts >>= run + 1;
     }
     false
 }
 
-// One bit for each of the 16 bytes from this one on, the first byte's lowest: whether it isn't
-// sure.
+// One bit for each of the 16 bytes from this one on, the first byte's lowest: whether it may be in
+// doubt.
 #[inline(always)]
-fn unsure_of_block(text: &[u8], at: usize, client: bool) -> u64
+fn doubt_mask(text: &[u8], at: usize, client: bool) -> u64
     requires { at + LANES ≤ length text.now }
-    ensures { result ≡ mask_l (map (is_unsure client) (take LANES (drop at text.now))) }
+    ensures { result ≡ mask_l (map (may_be_in_doubt client) (take LANES (drop at text.now))) }
 {
     let bytes = u8x16::from_slice(&text[at..]);
     let unsteady = bytes.simd_ge(u8x16::splat(128)) | bytes.simd_eq(u8x16::splat(b'\\'));
@@ -114,7 +114,7 @@ fn is_doubt_within(text: &[u8], from: usize, client: bool) -> bool
     ensures none { IsFalse result → is_clear_from client text.now from ≡ true }
 {
     for at in from..text.len() {
-        if is_unsure(text[at], client) && is_doubt_at(text, at, client) {
+        if may_be_in_doubt(text[at], client) && is_doubt_at(text, at, client) {
             return true;
         }
     }
@@ -254,11 +254,11 @@ fn begins_client_line(text: &[u8]) -> bool
     false
 }
 
-// Whether the byte isn't sure on servers, or else in a client.
-fn is_unsure(byte: u8, client: bool) -> bool
-    ensures { result ≡ is_unsure client byte }
+// Whether the byte may be in doubt on servers, or else in a client.
+fn may_be_in_doubt(byte: u8, client: bool) -> bool
+    ensures { result ≡ may_be_in_doubt client byte }
 {
-    !is_sure(byte) || client && is_of_client(byte)
+    !is_never_in_doubt(byte) || client && is_of_client(byte)
 }
 
 // Whether a construct of a client may begin with the byte, or a statement.
@@ -268,15 +268,16 @@ fn is_of_client(byte: u8) -> bool
     byte == 0 || byte == b';' || byte == b'd' || byte == b'D'
 }
 
-// Whether no construct and no place begins with the byte, it ends no comment, and it is steady.
-fn is_sure(byte: u8) -> bool
-    ensures { result ≡ is_sure byte }
+// Whether the byte is never in doubt on servers: no construct and no place begins with it, it ends
+// no comment, and it is steady.
+fn is_never_in_doubt(byte: u8) -> bool
+    ensures { result ≡ is_never_in_doubt byte }
 {
-    SURE[byte as usize] == b'1'
+    NEVER_IN_DOUBT[byte as usize] == b'1'
 }
 
-// `1` for each sure byte, 32 bytes a line.
-static SURE: [u8; 256] = *b"\
+// `1` for each byte that is never in doubt, 32 bytes a line.
+static NEVER_IN_DOUBT: [u8; 256] = *b"\
     11111111111110111111111111111111\
     11110111111110101111111111011110\
     11111111111111111111111111100111\

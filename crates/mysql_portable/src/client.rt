@@ -3,17 +3,17 @@
 ghost use Rattle.std.specs.Prelude.{◌≡◌, ◌↔◌, ◌≤◌, ◌<◌, false, length, None, IsTrue};
 ghost use Rattle.mysql_named_params.specs.Tokens.{OnTokens};
 ghost use Rattle.mysql_named_params.specs.Lanes.{EachPasses};
-ghost use Rattle.mysql_portable.specs.CalmBytes.{is_calm, StandBeforeNoExponent};
+ghost use Rattle.mysql_portable.specs.NoConstruct.{begins_no_construct, StandBeforeNoExponent};
 ghost use Rattle.mysql_portable.specs.Client.{begins_opener, begins_end, holds_opener};
 ghost use Rattle.mysql_portable.specs.FoundInClient.{begins_no_word, begins_delimiter_line, without_accent, letter_of, begins_word, ends_word, begins_whole_word, is_word_of_mariadb, is_word_of_mysql, is_client_word, is_joined, closes_before_joined, drops_line, begins_comment, stand_before_comment, ends_line, escapes_newline, found_in_quotes, found_in_comment, found_word, found_at_byte};
 ghost use Rattle.mysql_portable.specs.FirstUnportableInClient.{first_unportable_in_client, IsPortableInClient};
-ghost use Rattle.mysql_portable.specs.TameBytes.{IsTameText};
+ghost use Rattle.mysql_portable.specs.NothingInQuotes.{HoldsNothingInQuotes};
 ghost use Rattle.mysql_portable.specs.FrontInClient.{are_comment, statement_after, line_after, found_in_bytes, found_or_zero, found_in_front};
 
-use crate::calm_bytes::calm_len;
 use crate::jumps::{end_without, near_end_without};
+use crate::no_construct::no_construct_len;
+use crate::nothing_in_quotes::begin_nothing_in_quotes;
 use crate::portable::{Construct, Unportable, begins_place, begins_special, front_construct};
-use crate::tame_bytes::are_tame;
 use mysql_named_params::tokens::{first_token, is_white_space};
 
 // Whether the bytes of a token are those of a comment.
@@ -373,13 +373,13 @@ fn found_in_quotes(tail: &[u8]) -> Option<Construct>
     None
 }
 
-// Whether the token of this length at the front of the text is a text in quotes or backquotes of
-// tame bytes. Most are, and nothing is found in them.
-fn is_tame_text(text: &[u8], len: usize) -> bool
+// Whether the token of this length at the front of the text is a text in quotes or backquotes in
+// which nothing begins. Most are, and nothing is found in them.
+fn holds_nothing_in_quotes(text: &[u8], len: usize) -> bool
     requires { len ≤ length text.now }
-    ensures { IsTrue result → IsTameText text.now len }
+    ensures { IsTrue result → HoldsNothingInQuotes text.now len }
 {
-    matches!(text, [b'\'' | b'"' | b'`', ..]) && len > 1 && are_tame(text, len)
+    matches!(text, [b'\'' | b'"' | b'`', ..]) && len > 1 && begin_nothing_in_quotes(text, len)
 }
 
 // What is found in the token at the front of the text, which has this length.
@@ -391,7 +391,7 @@ fn found_in_front(statement: bool, line: bool, text: &[u8], len: usize) -> Optio
     if let Some(found) = front_construct(text, len) {
         return Some(found);
     }
-    if is_tame_text(text, len) {
+    if holds_nothing_in_quotes(text, len) {
         return None;
     }
     let (token, rest) = text.split_at(len);
@@ -401,15 +401,19 @@ fn found_in_front(statement: bool, line: bool, text: &[u8], len: usize) -> Optio
     found_in_bytes(statement, line, token, rest)
 }
 
-// The number of calm bytes at the front of the text that are passed at once: none where a word of
-// the client may begin.
+// The number of bytes at the front of the text that begin no construct and are passed at once: none
+// where a word of the client may begin.
 fn passed_len(statement: bool, line: bool, text: &[u8]) -> usize
     ensures in_range { result ≤ length text.now }
-    ensures calm { EachPasses is_calm text.now 0 result }
+    ensures no_construct { EachPasses begins_no_construct text.now 0 result }
     ensures no_exponent { StandBeforeNoExponent text.now result }
     ensures no_word { 0 < result → (statement ≡ false) × (line ≡ false) }
 {
-    if statement || line { 0 } else { calm_len(text) }
+    if statement || line {
+        0
+    } else {
+        no_construct_len(text)
+    }
 }
 
 /// The first construct of a query for which it isn't portable, as

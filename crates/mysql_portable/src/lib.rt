@@ -6,11 +6,11 @@
 //! [`clear`] is a quick test of a query, lent to the crate above.
 #![tactic(auto)]
 
-mod calm_bytes;
 pub mod clear;
 pub mod client;
 mod jumps;
 pub mod laws;
+mod no_construct;
+mod nothing_in_quotes;
 pub mod portable;
 pub mod steady;
-mod tame_bytes;

@@ -21,7 +21,7 @@ use Rattle.mysql_binding.specs.StandsAlone.{first_not_alone}
 use Rattle.mysql_binding.proofs.BoundStatementLemmas.{replaced_no_opener}
 use Rattle.mysql_binding.proofs.PieceLemmas.{joined_text_count}
 use Rattle.mysql_binding.proofs.SentLiteralLemmas.{and_none, SentPart, SentText, both_parts, front_and_part, literal_sent, part_of, quoted_text, run_part, sent_alone}
-use Rattle.mysql_binding.proofs.SentTextLemmas.{is_calm_first, IsSentAt, spliced_sent}
+use Rattle.mysql_binding.proofs.SentTextLemmas.{is_sent_first, IsSentAt, spliced_sent}
 use Rattle.mysql_binding.proofs.SpliceLemmas.{Each, HoldsAlone, alone, as_many_lists}
 use Rattle.mysql_steady_text.specs.SteadyShape.{IsSteadyLiteral, bare_literal, introduced_string, introduced_pairs}
 use Rattle.mysql_steady_text.specs.SteadyLiterals.{AreSteadyLiterals}
@@ -34,12 +34,12 @@ unfolding is_client_word
 underscore_found rest statement line = rw (and_none line, and_none statement) refl
 
 underscore_text : SentText true (codes "_")
-unfolding is_calm_first
+unfolding is_sent_first
 underscore_text = record {
   list = Plain underscore ∷ [];
   list_text = refl;
   list_each = λ rest. (plain_at true underscore rest refl, tt);
-  list_calm = λ rest. refl;
+  list_front = λ rest. refl;
   list_sent = λ rest statement line. (underscore_found rest statement line, tt);
   list_statement = λ statement. refl;
   list_line = λ line. refl;

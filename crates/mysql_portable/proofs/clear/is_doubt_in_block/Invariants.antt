@@ -1,13 +1,13 @@
 use Rattle.std.proofs.Common.{◌≡◌, ◌+◌, ◌-◌, ◌≤◌}
 use Rattle.mysql_sql_text.proofs.MaskLemmas.{IsMask}
-use Rattle.mysql_portable.specs.Clear.{is_clear_from, is_unsure}
+use Rattle.mysql_portable.specs.Clear.{is_clear_from, may_be_in_doubt}
 use Rattle.mysql_portable.proofs.clear.is_doubt_in_block.Given as goal
 
-abbrev pub invariant-unsure : goal.invariant-unsure
-invariant-unsure l =
+abbrev pub invariant-doubts : goal.invariant-doubts
+invariant-doubts l =
     (l.from ≤ l.at) × (l.at ≤ l.from + 16)
     × (is_clear_from l.client l.text l.at ≡ is_clear_from l.client l.text l.from)
-    × IsMask (is_unsure l.client) l.text l.at (l.from + 16) l.unsure
+    × IsMask (may_be_in_doubt l.client) l.text l.at (l.from + 16) l.doubts
 
-abbrev pub decreases-unsure : goal.decreases-unsure
-decreases-unsure l = l.from + 16 - l.at
+abbrev pub decreases-doubts : goal.decreases-doubts
+decreases-doubts l = l.from + 16 - l.at

@@ -1,12 +1,12 @@
 use Rattle.std.proofs.Common.{rules, sym, arith}
 use Rattle.mysql_portable.proofs.UnportableLemmas.{walked_found, walked_more, walked_whole, none_where_portable, slice_within}
-use Rattle.mysql_portable.proofs.CalmLemmas.{walked_calm}
+use Rattle.mysql_portable.proofs.NoConstructLemmas.{walked_no_construct}
 use Rattle.mysql_portable.proofs.portable.first_unportable.Goals as goal
 
 pub returns-in-Some-clause-first : goal.returns-in-Some-clause-first
 returns-in-Some-clause-first c =
-    let run = c.calm_len.ensures in
-    let walked = walked_calm _ _ _ _ c.tokens.invariant.walked run.in_range run.calm run.no_exponent in
+    let run = c.no_construct_len.ensures in
+    let walked = walked_no_construct _ _ _ _ c.tokens.invariant.walked run.in_range run.no_construct run.no_exponent in
     walked_found _ _ _ _ _ _ _ walked c.first_token-len.ensures (sym c.in-Some.ensures) (omega arith)
 
 pub returns-in-Some-clause-none : goal.returns-in-Some-clause-none
@@ -14,8 +14,8 @@ returns-in-Some-clause-none c = none_where_portable _ _ _ (returns-in-Some-claus
 
 pub tokens-preserved : goal.tokens-preserved
 tokens-preserved c =
-    let run = c.calm_len.ensures in
-    let walked = walked_calm _ _ _ _ c.tokens.invariant.walked run.in_range run.calm run.no_exponent in
+    let run = c.no_construct_len.ensures in
+    let walked = walked_no_construct _ _ _ _ c.tokens.invariant.walked run.in_range run.no_construct run.no_exponent in
     record {
       walked = walked_more _ _ _ _ _ walked c.first_token-len.ensures (sym c.in_default.ensures);
       within = slice_within _ _ _ (slice_within _ _ _ c.tokens.invariant.within);
@@ -23,8 +23,8 @@ tokens-preserved c =
 
 pub returns-then-is_empty-clause-first : goal.returns-then-is_empty-clause-first
 returns-then-is_empty-clause-first c =
-    let run = c.calm_len.ensures in
-    let walked = walked_calm _ _ _ _ c.tokens.invariant.walked run.in_range run.calm run.no_exponent in
+    let run = c.no_construct_len.ensures in
+    let walked = walked_no_construct _ _ _ _ c.tokens.invariant.walked run.in_range run.no_construct run.no_exponent in
     walked_whole _ _ _ (search rules) walked
 
 pub returns-then-is_empty-clause-none : goal.returns-then-is_empty-clause-none

@@ -1,42 +1,44 @@
-//! Runs of calm bytes: with each only a plain token begins, and no construct of a server or of a
-//! client, except an exponent before a place and a word at the front of a client's line or
-//! statement. After none of them a line or a statement begins. The first bytes are passed by a
-//! table, since most runs are short, and longer ones 16 bytes at once.
+//! Runs of bytes that begin no construct: with each only a plain token begins, and no construct of
+//! a server or of a client, except an exponent before a place and a word at the front of a client's
+//! line or statement. After none of them a line or a statement begins. The first bytes are passed
+//! by a table, since most runs are short, and longer ones 16 bytes at once.
 ghost use Rattle.std.specs.Prelude.{◌≡◌, ◌≤◌, length};
 ghost use Rattle.mysql_named_params.specs.Bytes.{begins};
 ghost use Rattle.mysql_named_params.specs.Lanes.{EachPasses};
-ghost use Rattle.mysql_portable.specs.CalmBytes.{is_calm, is_of_exponent, StandBeforeNoExponent};
+ghost use Rattle.mysql_portable.specs.NoConstruct.{begins_no_construct, is_of_exponent, StandBeforeNoExponent};
 
 use mysql_named_params::lanes::{ByteSet, first_set, run_end};
 use std::simd::prelude::*;
 
 // The number of bytes that are passed by the table before 16 go at once. Fewer than for plain runs,
-// since `calm_len` sees by itself that a run is empty. More make longer runs slower, fewer make
-// short ones slower. No other number was measured.
+// since `no_construct_len` sees by itself that a run is empty. More make longer runs slower, fewer
+// make short ones slower. No other number was measured.
 const PASSED_BY_TABLE: usize = 4;
 
-/// A number of bytes at the front of the text that are calm, and none of which stands before an
-/// exponent and a place. Inline, so that where there is none one look-up tells it, without a call.
+/// A number of bytes at the front of the text that begin no construct, and none of which stands
+/// before an exponent and a place. Inline, so that where there is none one look-up tells it,
+/// without a call.
 #[inline(always)]
-pub(crate) fn calm_len(text: &[u8]) -> usize
+pub(crate) fn no_construct_len(text: &[u8]) -> usize
     ensures in_range { result ≤ length text.now }
-    ensures calm { EachPasses is_calm text.now 0 result }
+    ensures no_construct { EachPasses begins_no_construct text.now 0 result }
     ensures no_exponent { StandBeforeNoExponent text.now result }
 {
     match text {
-        [first, ..] if is_calm(*first) => calm_run_len(text),
+        [first, ..] if begins_no_construct(*first) => no_construct_run_len(text),
         _ => 0,
     }
 }
 
-// `calm_len` of a run. It needs to look at no digit: an exponent has a sign, which is not calm, so
-// only a run that ends within one gives its last two bytes back. They may be a digit and `e`.
-fn calm_run_len(text: &[u8]) -> usize
+// `no_construct_len` of a run. It needs to look at no digit: an exponent has a sign, at which a run
+// ends, so only a run that ends within one gives its last two bytes back. They may be a digit and
+// `e`.
+fn no_construct_run_len(text: &[u8]) -> usize
     ensures in_range { result ≤ length text.now }
-    ensures calm { EachPasses is_calm text.now 0 result }
+    ensures no_construct { EachPasses begins_no_construct text.now 0 result }
     ensures no_exponent { StandBeforeNoExponent text.now result }
 {
-    let end = calm_end(text);
+    let end = no_construct_end(text);
     if goes_on_exponent(&text[end..]) {
         end.saturating_sub(2)
     } else {
@@ -51,30 +53,31 @@ fn goes_on_exponent(text: &[u8]) -> bool
     matches!(text, [b'e' | b'E' | b'+' | b'-', ..])
 }
 
-// An index up to which each byte of the text is calm. It is in fact the furthest such index.
-fn calm_end(text: &[u8]) -> usize
+// An index up to which no byte of the text begins a construct. It is in fact the furthest such
+// index.
+fn no_construct_end(text: &[u8]) -> usize
     ensures in_range { result ≤ length text.now }
-    ensures calm { EachPasses is_calm text.now 0 result }
+    ensures no_construct { EachPasses begins_no_construct text.now 0 result }
 {
     let near = text.len().min(PASSED_BY_TABLE);
     for at in 0..near {
-        if !is_calm(text[at]) {
+        if !begins_no_construct(text[at]) {
             return at;
         }
     }
     run_end(NoConstructBytes, text, near, text.len())
 }
 
-// The calm bytes.
+// The bytes with which no construct begins.
 #[derive(Clone, Copy)]
 struct NoConstructBytes;
 
 impl ByteSet for NoConstructBytes {
-    ghost contains = { λ _. is_calm };
+    ghost contains = { λ _. begins_no_construct };
 
     #[inline(always)]
     fn contains(self, byte: u8) -> bool {
-        is_calm(byte)
+        begins_no_construct(byte)
     }
 
     // Two bytes that differ only in their last bit are compared as one.
@@ -95,15 +98,15 @@ impl ByteSet for NoConstructBytes {
     }
 }
 
-// Whether the byte is calm.
-fn is_calm(byte: u8) -> bool
-    ensures { result ≡ is_calm byte }
+// Whether no construct begins with the byte.
+fn begins_no_construct(byte: u8) -> bool
+    ensures { result ≡ begins_no_construct byte }
 {
-    CALM[byte as usize] == b'1'
+    BEGINS_NO_CONSTRUCT[byte as usize] == b'1'
 }
 
-// `1` for each calm byte, 32 bytes a line.
-static CALM: [u8; 256] = *b"\
+// `1` for each byte with which no construct begins, 32 bytes a line.
+static BEGINS_NO_CONSTRUCT: [u8; 256] = *b"\
     01111111110111111111111111111111\
     11000110110010001111111111001110\
     11111111111111111111111111100111\

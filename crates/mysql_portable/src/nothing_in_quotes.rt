@@ -1,31 +1,31 @@
-//! Tame bytes, of which a client makes nothing in quotes: none is a byte 0, a newline or a
+//! Bytes with which nothing that a client finds begins in quotes: none is a byte 0, a newline or a
 //! backslash. They are looked at 16 at once.
 ghost use Rattle.std.specs.Prelude.{◌≡◌, ◌≤◌, length, IsTrue};
 ghost use Rattle.mysql_named_params.specs.Lanes.{EachPasses};
-ghost use Rattle.mysql_portable.specs.TameBytes.{is_tame};
+ghost use Rattle.mysql_portable.specs.NothingInQuotes.{begins_nothing_in_quotes};
 
 use mysql_named_params::lanes::{ByteSet, first_set, run_end};
 use std::simd::prelude::*;
 
-/// Whether the bytes before this index are tame: 16 bytes at once as long as the text has so many,
-/// also after the index, and then one by one.
-pub(crate) fn are_tame(text: &[u8], end: usize) -> bool
+/// Whether the bytes before this index begin nothing in quotes: 16 bytes at once as long as the
+/// text has so many, also after the index, and then one by one.
+pub(crate) fn begin_nothing_in_quotes(text: &[u8], end: usize) -> bool
     requires { end ≤ length text.now }
-    ensures { IsTrue result → EachPasses is_tame text.now 0 end }
+    ensures { IsTrue result → EachPasses begins_nothing_in_quotes text.now 0 end }
 {
     end <= run_end(NothingInQuotesBytes, text, 0, end)
 }
 
-// The tame bytes.
+// The bytes with which nothing begins in quotes.
 #[derive(Clone, Copy)]
 struct NothingInQuotesBytes;
 
 impl ByteSet for NothingInQuotesBytes {
-    ghost contains = { λ _. is_tame };
+    ghost contains = { λ _. begins_nothing_in_quotes };
 
     #[inline(always)]
     fn contains(self, byte: u8) -> bool {
-        is_tame(byte)
+        begins_nothing_in_quotes(byte)
     }
 
     #[inline(always)]
@@ -37,9 +37,9 @@ impl ByteSet for NothingInQuotesBytes {
     }
 }
 
-// Whether the byte is tame.
-fn is_tame(byte: u8) -> bool
-    ensures { result ≡ is_tame byte }
+// Whether the byte begins nothing in quotes.
+fn begins_nothing_in_quotes(byte: u8) -> bool
+    ensures { result ≡ begins_nothing_in_quotes byte }
 {
     byte != 0 && byte != b'\n' && byte != b'\\'
 }

@@ -1,4 +1,4 @@
--- A run of calm bytes: no construct of servers begins in it.
+-- A run of bytes that begin no construct: none of servers begins in it.
 use Rattle.std.specs.Prelude.{Bool}
 use Rattle.std.proofs.Common.{◌≡◌, ◌≢◌, ◌⊎◌, inl, inr, ℕ, zero, suc, ◌+◌, ◌-◌, ◌<◌, ◌≤◌, true, false, ◌||◌, ◌==◌, ne_eqb, List, [], ◌∷◌, length, length-drop, drop, get_or, None, refl, ap, ◌∙◌, subst, arith, below_more}
 use Rattle.std.specs.Char.{is_ascii_digit}
@@ -11,25 +11,25 @@ use Rattle.mysql_named_params.specs.declared.tokens.TokenKind.TheVariants as kin
 use Rattle.mysql_named_params.proofs.TokenEndLemmas.{slice_from}
 use Rattle.mysql_named_params.proofs.FirstPlaceLemmas.{plain_token}
 use Rattle.mysql_portable.specs.Portable.{begins_exponent}
-use Rattle.mysql_portable.specs.CalmBytes.{is_calm, is_of_exponent, StandBeforeNoExponent}
+use Rattle.mysql_portable.specs.NoConstruct.{begins_no_construct, is_of_exponent, StandBeforeNoExponent}
 use Rattle.mysql_portable.specs.FrontConstruct.{front_construct}
 use Rattle.mysql_portable.proofs.UnportableLemmas.{WalkedSoFar, walked_more}
 
--- a calm byte is none of those that are not
-pub calm-not : (b : ℕ) → is_calm b ≡ true → (bad : ℕ) → is_calm bad ≡ false → (b == bad) ≡ false
-calm-not b p bad q = ne_eqb b bad (other b p bad q)
+-- a byte that begins no construct is none of those that may
+pub no_construct-not : (b : ℕ) → begins_no_construct b ≡ true → (bad : ℕ) → begins_no_construct bad ≡ false → (b == bad) ≡ false
+no_construct-not b p bad q = ne_eqb b bad (other b p bad q)
   where
-    other : (b : ℕ) → is_calm b ≡ true → (bad : ℕ) → is_calm bad ≡ false → b ≢ bad
+    other : (b : ℕ) → begins_no_construct b ≡ true → (bad : ℕ) → begins_no_construct bad ≡ false → b ≢ bad
     other b p bad q e = cc
 
 -- one byte more
-pub calm_more : (text : List ℕ) (at : ℕ) → EachPasses is_calm text 0 at → is_calm (get_or text at 0) ≡ true → EachPasses is_calm text 0 (at + 1)
-calm_more text at calm here k low high = below_more _ _ (λ j lt. calm j (omega arith) lt) here k high
+pub no_construct_more : (text : List ℕ) (at : ℕ) → EachPasses begins_no_construct text 0 at → begins_no_construct (get_or text at 0) ≡ true → EachPasses begins_no_construct text 0 (at + 1)
+no_construct_more text at no_construct here k low high = below_more _ _ (λ j lt. no_construct j (omega arith) lt) here k high
 
 -- ---- no byte of the run stands before an exponent
 
-no_sign : (b : ℕ) → is_calm b ≡ true → (b == plus || b == dash) ≡ false
-no_sign b p = or_from _ _ (calm-not b p plus refl) (calm-not b p dash refl)
+no_sign : (b : ℕ) → begins_no_construct b ≡ true → (b == plus || b == dash) ≡ false
+no_sign b p = or_from _ _ (no_construct-not b p plus refl) (no_construct-not b p dash refl)
 
 -- an exponent begins with a letter
 no_letter_first : (b c : ℕ) (bs : List ℕ) → (b == byte "e" || b == byte "E") ≡ false → begins_exponent (b ∷ c ∷ bs) ≡ false
@@ -44,7 +44,7 @@ short_text [] lt = refl
 short_text (b ∷ []) lt = refl
 short_text (b ∷ c ∷ bs) lt = absurd (omega arith)
 
-module _ (text : List ℕ) (end : ℕ) (calm : EachPasses is_calm text 0 end) where
+module _ (text : List ℕ) (end : ℕ) (no_construct : EachPasses begins_no_construct text 0 end) where
   -- no exponent begins with the two bytes after this one
   abbrev Apart : ℕ → Type 0
   Apart k = begins_exponent (get_or text (k + 1) 0 ∷ get_or text (k + 1 + 1) 0 ∷ drop (k + 1 + 1 + 1) text) ≡ false
@@ -59,13 +59,13 @@ module _ (text : List ℕ) (end : ℕ) (calm : EachPasses is_calm text 0 end) wh
         | inr less ↦ short_text (drop (k + 1) text) (omega (arith, length-drop (k + 1) text))
       ]
 
-  second_calm : (k : ℕ) → k + 2 < end → Apart k
-  second_calm k lt =
+  no_sign_inside : (k : ℕ) → k + 2 < end → Apart k
+  no_sign_inside k lt =
       let second = get_or text (k + 1 + 1) 0 in
-      no_sign_second (get_or text (k + 1) 0) second (drop (k + 1 + 1 + 1) text) (no_sign second (calm (k + 1 + 1) (omega arith) (omega arith)))
+      no_sign_second (get_or text (k + 1) 0) second (drop (k + 1 + 1 + 1) text) (no_sign second (no_construct (k + 1 + 1) (omega arith) (omega arith)))
 
   pub apart_within : (n : ℕ) → n ≡ end - 2 → StandBeforeNoExponent text n
-  apart_within n e k lt = apart k (λ more. second_calm k (omega arith))
+  apart_within n e k lt = apart k (λ more. no_sign_inside k (omega arith))
 
   pub apart_at_end : begins is_of_exponent (slice_from end text) ≡ false → StandBeforeNoExponent text end
   apart_at_end none k lt = apart k (λ more. go more (cases_lt (k + 2) end) (cases_lt (k + 1) end))
@@ -77,7 +77,7 @@ module _ (text : List ℕ) (end : ℕ) (calm : EachPasses is_calm text 0 end) wh
           or_parts (get_or text i 0 == byte "e" || get_or text i 0 == byte "E") (get_or text i 0 == plus || get_or text i 0 == dash) (subst (λ j. is_of_exponent (get_or text j 0) ≡ false) same here)
 
       go : k + 2 < length text → (k + 2 < end) ⊎ (end ≤ k + 2) → (k + 1 < end) ⊎ (end ≤ k + 1) → Apart k
-      go more (inl within) q = second_calm k within
+      go more (inl within) q = no_sign_inside k within
       go more (inr past) (inl within) =
           no_sign_second (get_or text (k + 1) 0) (get_or text (k + 1 + 1) 0) (drop (k + 1 + 1 + 1) text) (at_end (k + 1 + 1) (omega arith) (omega arith)).1
       go more (inr past) (inr last) =
@@ -86,29 +86,29 @@ module _ (text : List ℕ) (end : ℕ) (calm : EachPasses is_calm text 0 end) wh
 -- ---- the walk goes on over the run
 
 -- a run after its first byte
-pub calm_after : (b : ℕ) (bs : List ℕ) (n : ℕ) → EachPasses is_calm (b ∷ bs) 0 (suc n) → EachPasses is_calm bs 0 n
-calm_after b bs n calm k from to = calm (suc k) (omega arith) (omega arith)
+pub no_construct_after : (b : ℕ) (bs : List ℕ) (n : ℕ) → EachPasses begins_no_construct (b ∷ bs) 0 (suc n) → EachPasses begins_no_construct bs 0 n
+no_construct_after b bs n no_construct k from to = no_construct (suc k) (omega arith) (omega arith)
 
 pub apart_after : (b : ℕ) (bs : List ℕ) (n : ℕ) → StandBeforeNoExponent (b ∷ bs) (suc n) → StandBeforeNoExponent bs n
 apart_after b bs n apart k lt =
     let same : suc k + 1 ≡ suc (k + 1) = omega arith in
     subst (λ i. begins_exponent (drop i (b ∷ bs)) ≡ false) same (apart (suc k) (omega arith))
 
-pub calm_front : (b : ℕ) (bs : List ℕ) → is_calm b ≡ true → begins_exponent bs ≡ false → front_construct (b ∷ bs) 1 ≡ None
-calm_front b bs p x =
-    rw (calm-not b p double_quote refl, calm-not b p backquote refl, calm-not b p hash refl, calm-not b p dash refl, calm-not b p slash refl, calm-not b p bracket refl, calm-not b p dollar refl, calm-not b p point refl, x)
+pub no_construct_front : (b : ℕ) (bs : List ℕ) → begins_no_construct b ≡ true → begins_exponent bs ≡ false → front_construct (b ∷ bs) 1 ≡ None
+no_construct_front b bs p x =
+    rw (no_construct-not b p double_quote refl, no_construct-not b p backquote refl, no_construct-not b p hash refl, no_construct-not b p dash refl, no_construct-not b p slash refl, no_construct-not b p bracket refl, no_construct-not b p dollar refl, no_construct-not b p point refl, x)
     (rw (and_right (is_ascii_digit b || false) false refl) refl)
 
-pub walked_calm : (mode : Bool) (query rest : List ℕ) (n : ℕ) → WalkedSoFar mode query rest → n ≤ length rest →
-    EachPasses is_calm rest 0 n → StandBeforeNoExponent rest n → WalkedSoFar mode query (slice_from n rest)
-walked_calm mode query rest n w le calm apart = rw take_rest (go n rest w le calm apart)
+pub walked_no_construct : (mode : Bool) (query rest : List ℕ) (n : ℕ) → WalkedSoFar mode query rest → n ≤ length rest →
+    EachPasses begins_no_construct rest 0 n → StandBeforeNoExponent rest n → WalkedSoFar mode query (slice_from n rest)
+walked_no_construct mode query rest n w le no_construct apart = rw take_rest (go n rest w le no_construct apart)
   where
-    go : (n : ℕ) (rest : List ℕ) → WalkedSoFar mode query rest → n ≤ length rest → EachPasses is_calm rest 0 n →
+    go : (n : ℕ) (rest : List ℕ) → WalkedSoFar mode query rest → n ≤ length rest → EachPasses begins_no_construct rest 0 n →
         StandBeforeNoExponent rest n → WalkedSoFar mode query (drop n rest)
-    go zero rest w le calm apart = w
-    go (suc n) [] w le calm apart = absurd (omega arith)
-    go (suc n) (b ∷ bs) w le calm apart =
-        let here : is_calm b ≡ true = calm 0 (omega arith) (omega arith) in
+    go zero rest w le no_construct apart = w
+    go (suc n) [] w le no_construct apart = absurd (omega arith)
+    go (suc n) (b ∷ bs) w le no_construct apart =
+        let here : begins_no_construct b ≡ true = no_construct 0 (omega arith) (omega arith) in
         let first = plain_token mode b bs (and_parts _ _ here).0 in
-        let step = walked_more mode query (b ∷ bs) kind.Other 1 w first (calm_front b bs here (apart 0 (omega arith))) in
-        go n bs (subst (WalkedSoFar mode query) (take_rest (b ∷ bs) 1) step) (omega arith) (calm_after b bs n calm) (apart_after b bs n apart)
+        let step = walked_more mode query (b ∷ bs) kind.Other 1 w first (no_construct_front b bs here (apart 0 (omega arith))) in
+        go n bs (subst (WalkedSoFar mode query) (take_rest (b ∷ bs) 1) step) (omega arith) (no_construct_after b bs n no_construct) (apart_after b bs n apart)

@@ -1,5 +1,5 @@
 -- Bytes with which only plain tokens begin, and no construct of a server or of a client, and after
--- which no line and no statement begins. For private functions of `calm_bytes.rt`, `portable.rt`
+-- which no line and no statement begins. For private functions of `no_construct.rt`, `portable.rt`
 -- and `client.rt`; no public contract cites it.
 use Rattle.std.specs.Prelude.{◌≡◌, ◌+◌, ◌<◌, ℕ, Bool, false, not, ◌&&◌, ◌||◌, ◌==◌, List, drop}
 use Rattle.std.specs.Str.{byte}
@@ -7,9 +7,9 @@ use Rattle.mysql_named_params.specs.Bytes.{asterisk, bracket, dash, dollar, newl
 use Rattle.mysql_named_params.specs.PlainBytes.{is_always_plain}
 use Rattle.mysql_portable.specs.Portable.{begins_exponent}
 
--- a calm byte: nothing begins or ends with it, except an exponent after a digit
-abbrev pub is_calm : ℕ → Bool
-is_calm b =
+-- nothing begins or ends with the byte, except an exponent after a digit
+abbrev pub begins_no_construct : ℕ → Bool
+begins_no_construct b =
     is_always_plain b
     && not (b == bracket || b == dollar || b == point || b == plus || b == asterisk
     || b == byte ";" || b == byte "\\" || b == newline || b == 0)
