@@ -1,7 +1,7 @@
 -- What assignments give to the names of a query.
 use Rattle.std.specs.Prelude.{ℕ, List, [], ◌∷◌, Option, Some, None, option_map, option_and_then, Result, Ok}
 use Rattle.mysql_values.specs.declared.value.Value.{Value}
-use Rattle.mysql_params_core.specs.Given.{Given, empty}
+use Rattle.mysql_params_core.specs.GivenValues.{Given, empty}
 use Rattle.mysql_params_core.specs.Made.{ToParamsRefusal}
 use Rattle.mysql_query_core.specs.Words.{given_by_name}
 use Rattle.mysql_bind_core.specs.ValueTypes.{typed_value}

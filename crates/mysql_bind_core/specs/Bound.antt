@@ -3,10 +3,10 @@
 use Rattle.std.specs.Prelude.{◌≡◌, ℕ, true, false, List, ◌++◌, map, None, Some, Ok}
 use Rattle.mysql_values.specs.declared.value.Value.{Value}
 use Rattle.mysql_named_params.specs.Tokens.{Token, OnTokens}
-use Rattle.mysql_named_params.specs.Places.{marks}
-use Rattle.mysql_portable.specs.Steady.{IsSteady}
+use Rattle.mysql_named_params.specs.NamesAndMarks.{marks}
+use Rattle.mysql_portable.specs.SteadyBytes.{IsSteady}
 use Rattle.mysql_portable.specs.FirstUnportableInClient.{IsPortableInClient}
-use Rattle.mysql_params_core.specs.Given.{Given}
+use Rattle.mysql_params_core.specs.GivenValues.{Given}
 use Rattle.mysql_binding.specs.Isolation.{IsBoundText}
 use Rattle.mysql_fragments.specs.GivenFragments.{FragmentMap, named}
 use Rattle.mysql_fragments.specs.declared.fragment.Fragment.{Fragment}

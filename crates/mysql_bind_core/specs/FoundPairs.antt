@@ -3,7 +3,7 @@ use Rattle.std.specs.Prelude.{◌≡◌, ◌++◌, ◌&&◌, ℕ, Bool, true, Li
 use Rattle.std.specs.Cmp.Lexicographic.{pointwise}
 use Rattle.mysql_values.specs.declared.value.Value.{Value}
 use Rattle.mysql_named_params.specs.Tokens.{OnTokens}
-use Rattle.mysql_params_core.specs.Given.{Given}
+use Rattle.mysql_params_core.specs.GivenValues.{Given}
 use Rattle.mysql_bind_core.specs.Assignments.{given_of}
 use Rattle.mysql_bind_core.specs.Bound.{IsTextFor}
 use Rattle.mysql_bind_core.specs.Requests.{mode_of}

@@ -3,7 +3,7 @@
 use Rattle.std.specs.Prelude.{◌≡◌, ◌<◌, ℕ, true, List, length, Option}
 use Rattle.std.specs.Option.{IfSome}
 use Rattle.std.specs.Global.{Vec}
-use Rattle.mysql_named_params.specs.Places.{names}
+use Rattle.mysql_named_params.specs.NamesAndMarks.{names}
 use Rattle.mysql_named_params.specs.Tokens.{OnTokens}
 use Rattle.mysql_binding.specs.ParsedQuery.{QueryInMode}
 use Rattle.mysql_bind_core.specs.Bound.{IsTaken}

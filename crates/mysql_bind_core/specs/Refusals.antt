@@ -1,13 +1,13 @@
 -- Which refusal comes: the first that holds, in the order of `Failure`.
-use Rattle.std.specs.Prelude.{◌≡◌, ◌++◌, ◌≢◌, ℕ, true, false, List, map, Some, None, Result, Ok, Err, ⊤}
+use Rattle.std.specs.Prelude.{◌≡◌, ◌++◌, ◌≢◌, ℕ, true, false, List, map, Some, None, Result, Ok, Err, ⊤, Option}
 use Rattle.mysql_values.specs.declared.value.Value.{Value}
 use Rattle.mysql_named_params.specs.Tokens.{Token, OnTokens}
-use Rattle.mysql_named_params.specs.Places.{marks}
+use Rattle.mysql_named_params.specs.NamesAndMarks.{marks}
 use Rattle.mysql_portable.specs.Steady.{first_unsteady}
 use Rattle.mysql_portable.specs.FirstUnportable.{first_unportable}
 use Rattle.mysql_portable.specs.FirstUnportableInClient.{first_unportable_in_client}
 use Rattle.mysql_portable.specs.declared.portable.Unportable.{Unportable}
-use Rattle.mysql_params_core.specs.Given.{Given}
+use Rattle.mysql_params_core.specs.GivenValues.{Given}
 use Rattle.mysql_params_core.specs.Made.{ToParamsRefusal, redefined}
 use Rattle.mysql_binding.specs.BindErrors.{IsCauseOrMemory}
 use Rattle.mysql_binding.specs.FirstCause.{first_cause}
@@ -32,7 +32,6 @@ use Rattle.mysql_bind_core.specs.declared.request.Literals.TheVariants as litera
 use Rattle.mysql_bind_core.specs.declared.request.Portability.{Portability}
 use Rattle.mysql_bind_core.specs.declared.request.Portability.TheVariants as portability
 use Rattle.mysql_bind_core.specs.declared.request.Request.{Request}
-use Rattle.std.specs.Prelude.{Option}
 
 -- why the request doesn't take the query, or out of memory
 abbrev pub IsQueryRefusal : Request → List ℕ → Failure → Type 0

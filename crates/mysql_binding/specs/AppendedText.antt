@@ -3,9 +3,9 @@
 use Rattle.std.specs.Prelude.{◌≡◌, ◌++◌, ℕ, Bool, List, None, Ok}
 use Rattle.mysql_values.specs.declared.value.Value.{Value}
 use Rattle.mysql_named_params.specs.Tokens.{Token, OnTokens}
-use Rattle.mysql_named_params.specs.Places.{names}
-use Rattle.mysql_params_core.specs.Given.{Given}
-use Rattle.mysql_params_core.specs.Lookup.{lookup}
+use Rattle.mysql_named_params.specs.NamesAndMarks.{names}
+use Rattle.mysql_params_core.specs.GivenValues.{Given}
+use Rattle.mysql_params_core.specs.LookupValues.{lookup}
 use Rattle.mysql_binding.specs.FirstCause.{mixed_cause}
 use Rattle.mysql_binding.specs.LiteralForm.{Literals, LiteralFacts}
 use Rattle.mysql_binding.specs.WrittenText.{IsGivenText}

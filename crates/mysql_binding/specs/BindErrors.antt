@@ -1,8 +1,8 @@
 -- The cause that each error of binding stands for.
 use Rattle.std.specs.Prelude.{◌≡◌, ◌⊎◌, ℕ, List, Option, Some, None, Err, option_map, alloc_error}
-use Rattle.mysql_params_core.specs.Errors.{lookup_refusal, AreEqualParamsErrors}
-use Rattle.mysql_params_core.specs.Given.{Given}
-use Rattle.mysql_params_core.specs.Lookup.{LookupRefusal, lookup}
+use Rattle.mysql_params_core.specs.LookupErrors.{lookup_refusal, AreEqualParamsErrors}
+use Rattle.mysql_params_core.specs.GivenValues.{Given}
+use Rattle.mysql_params_core.specs.LookupValues.{LookupRefusal, lookup}
 use Rattle.mysql_binding.specs.FirstCause.{Cause, mixed_query, refused_params, mark_count, not_alone, float_value}
 use Rattle.mysql_binding.specs.declared.bind_error.BindError.{BindError}
 use Rattle.mysql_binding.specs.declared.bind_error.BindError.TheVariants.{Mixed, Params, MarkCount, NotAlone, Float, Memory}

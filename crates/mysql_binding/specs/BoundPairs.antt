@@ -3,7 +3,7 @@ use Rattle.std.specs.Prelude.{◌≡◌, ◌≤◌, ◌<◌, ◌⊎◌, ◌++◌
 use Rattle.std.specs.Borrow.{Bor}
 use Rattle.mysql_values.specs.declared.value.ValueRef.{ValueRef}
 use Rattle.mysql_named_params.specs.Tokens.{OnTokens}
-use Rattle.mysql_params_core.specs.Given.{Given}
+use Rattle.mysql_params_core.specs.GivenValues.{Given}
 use Rattle.mysql_params_core.specs.Made.{few_pairs, pairs_made, seen_pair, IsFirstRedefined}
 use Rattle.mysql_binding.specs.BindErrors.{IsCauseOrMemory, AreEqualBindErrors}
 use Rattle.mysql_binding.specs.FirstCause.{first_cause}

@@ -5,10 +5,10 @@ use Rattle.std.specs.Option.{option_or}
 use Rattle.mysql_values.specs.declared.value.Value.{Value}
 use Rattle.mysql_values.specs.Literal.{is_float}
 use Rattle.mysql_named_params.specs.Tokens.{Token}
-use Rattle.mysql_named_params.specs.Places.{names, marks, has_both}
-use Rattle.mysql_params_core.specs.Given.{Given}
-use Rattle.mysql_params_core.specs.Lookup.{LookupRefusal, lookup}
-use Rattle.mysql_binding.specs.StandsAlone.{first_not_alone}
+use Rattle.mysql_named_params.specs.NamesAndMarks.{names, marks, has_both}
+use Rattle.mysql_params_core.specs.GivenValues.{Given}
+use Rattle.mysql_params_core.specs.LookupValues.{LookupRefusal, lookup}
+use Rattle.mysql_binding.specs.FirstNotAlone.{first_not_alone}
 
 -- why binding is refused
 pub data Cause : Type 0 where

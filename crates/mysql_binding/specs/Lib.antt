@@ -1,3 +1,4 @@
+pub mod FirstNotAlone
 pub mod StandsAlone
 pub mod Pieces
 pub mod Contents

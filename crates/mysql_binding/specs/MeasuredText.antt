@@ -5,9 +5,9 @@ use Rattle.std.specs.List.{All, sum}
 use Rattle.mysql_values.specs.declared.value.Value.{Value}
 use Rattle.mysql_values.specs.Value.{FieldsInRange}
 use Rattle.mysql_named_params.specs.Tokens.{Token}
-use Rattle.mysql_named_params.specs.Places.{names}
-use Rattle.mysql_params_core.specs.Given.{Given}
-use Rattle.mysql_params_core.specs.Lookup.{lookup}
+use Rattle.mysql_named_params.specs.NamesAndMarks.{names}
+use Rattle.mysql_params_core.specs.GivenValues.{Given}
+use Rattle.mysql_params_core.specs.LookupValues.{lookup}
 use Rattle.mysql_values.specs.BorrowedValue.{owned_values}
 use Rattle.mysql_binding.specs.FirstCause.{mark_count_differs, first_float, mixed_cause, later_cause}
 use Rattle.mysql_binding.specs.LiteralForm.{Literals, LiteralFacts, literal_len}

@@ -1,8 +1,8 @@
 -- What contracts say of a query whose places are given by plain numbers, which is lent to the crate
 -- above.
 use Rattle.std.specs.Prelude.{◌≡◌, Bool, List, ℕ, take, Some, Err}
-use Rattle.mysql_params_core.specs.Given.{Given}
-use Rattle.mysql_params_core.specs.Lookup.{LookupRefusal, lookup}
+use Rattle.mysql_params_core.specs.GivenValues.{Given}
+use Rattle.mysql_params_core.specs.LookupValues.{LookupRefusal, lookup}
 use Rattle.mysql_binding.specs.BindErrors.{cause_of}
 use Rattle.mysql_binding.specs.FirstCause.{refused_params}
 use Rattle.mysql_binding.specs.PlaceSpans.{AreSpansOf, names_at}

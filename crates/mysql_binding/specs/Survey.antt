@@ -2,8 +2,8 @@
 -- `ParsedQuery` and of `SurveyedQuery`, which is lent to the crates above.
 use Rattle.std.specs.Prelude.{◌≡◌, ℕ, Bool, List, length}
 use Rattle.mysql_named_params.specs.Tokens.{Token, IsTokens}
-use Rattle.mysql_named_params.specs.Places.{names, marks}
-use Rattle.mysql_binding.specs.StandsAlone.{first_not_alone}
+use Rattle.mysql_named_params.specs.NamesAndMarks.{names, marks}
+use Rattle.mysql_binding.specs.FirstNotAlone.{first_not_alone}
 use Rattle.mysql_binding.specs.TextLength.{pieces_len}
 use Rattle.mysql_binding.specs.declared.binding.survey.Survey.{Survey}
 

@@ -10,10 +10,10 @@ use Rattle.mysql_values.specs.declared.value.Value.{Value}
 use Rattle.mysql_values.specs.Literal.{is_float}
 use Rattle.mysql_values.specs.ValueOf.{Meaning}
 use Rattle.mysql_named_params.specs.TokensOf.{tokens_of}
-use Rattle.mysql_named_params.specs.Places.{names, marks}
-use Rattle.mysql_params_core.specs.Given.{Given, empty, named, positional}
+use Rattle.mysql_named_params.specs.NamesAndMarks.{names, marks}
+use Rattle.mysql_params_core.specs.GivenValues.{Given, empty, named, positional}
 use Rattle.mysql_params_core.specs.Made.{Made}
-use Rattle.mysql_binding.specs.StandsAlone.{first_not_alone}
+use Rattle.mysql_binding.specs.FirstNotAlone.{first_not_alone}
 use Rattle.mysql_binding.specs.FirstCause.{first_float}
 
 -- the names of pairs

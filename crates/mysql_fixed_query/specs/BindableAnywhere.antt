@@ -7,7 +7,7 @@ use Rattle.mysql_values.specs.declared.value.Value.{Value}
 use Rattle.mysql_values.specs.ValueOf.{Meaning}
 use Rattle.mysql_named_params.specs.TokensOf.{tokens_of}
 use Rattle.mysql_portable.specs.FirstUnportable.{first_unportable}
-use Rattle.mysql_portable.specs.Steady.{IsSteady}
+use Rattle.mysql_portable.specs.SteadyBytes.{IsSteady}
 use Rattle.mysql_params_core.specs.Made.{Made}
 use Rattle.mysql_binding.specs.Pieces.{pieces, joined_text}
 use Rattle.mysql_steady_text.specs.SteadyLiteral.{steady_literal_text}

@@ -8,7 +8,7 @@ use Rattle.mysql_values.specs.declared.value.Value.{Value}
 use Rattle.mysql_values.specs.declared.value.Value.TheVariants.{NULL}
 use Rattle.mysql_values.specs.Literal.{literal_text}
 use Rattle.mysql_named_params.specs.TokensOf.{tokens_of}
-use Rattle.mysql_named_params.specs.Places.{names}
+use Rattle.mysql_named_params.specs.NamesAndMarks.{names}
 use Rattle.mysql_binding.specs.Pieces.{pieces, joined_text}
 
 -- the text of a query with these values in its places, in order; there are as many as places, and

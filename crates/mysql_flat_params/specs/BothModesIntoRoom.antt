@@ -2,7 +2,7 @@
 -- and any server. A query without a backslash in its strings has the same tokens in both modes.
 use Rattle.std.specs.Prelude.{ℕ, Bool, List, Option, option_map}
 use Rattle.mysql_named_params.specs.Tokens.{Token, OnTokens}
-use Rattle.mysql_params_core.specs.Given.{Given}
+use Rattle.mysql_params_core.specs.GivenValues.{Given}
 use Rattle.mysql_steady_text.specs.BothModesText.{IsPortableInBothModes}
 use Rattle.mysql_steady_text.specs.FirstBackslash.{first_backslash}
 use Rattle.mysql_flat_params.specs.SteadyIntoRoom.{IsSteadyForm, IsSteadyOutcome, query_refusal}

@@ -11,7 +11,7 @@ use Rattle.mysql_wire_part.specs.Lenenc.{read_lenenc}
 use Rattle.mysql_wire_part.specs.declared.column.ColumnType.{ColumnType}
 use Rattle.mysql_value_core.specs.declared.value.Value.{Value}
 use Rattle.mysql_values.specs.BinaryReading.{read_binary}
-use Rattle.mysql_params_core.specs.Given.{Given, empty, named, positional}
+use Rattle.mysql_params_core.specs.GivenValues.{Given, empty, named, positional}
 use Rattle.mysql_flat_params.specs.ColumnNumbers.{column_type, is_unsigned_parameter}
 
 -- Why a form is refused: `place` is the number of the refused parameter, from 0, and `position` the

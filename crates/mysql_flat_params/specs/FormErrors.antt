@@ -1,6 +1,6 @@
 -- Which refusal of a form each error is.
 use Rattle.std.specs.Prelude.{◌≡◌, ◌⊎◌, ℕ, List, length, Option, None, Some, Err, alloc_error}
-use Rattle.mysql_params_core.specs.Given.{Given, empty}
+use Rattle.mysql_params_core.specs.GivenValues.{Given, empty}
 use Rattle.mysql_flat_params.specs.FlatForm.{FormRefusal, form_end, length_lead, unread_type, mixed_form, repeated_name, IsReadFrom}
 use Rattle.mysql_flat_params.specs.declared.form_error.FormError.{FormError}
 use Rattle.mysql_flat_params.specs.declared.form_error.FormError.TheVariants.{End, LengthLead, UnsupportedType, Mixed, Repeated, Memory}

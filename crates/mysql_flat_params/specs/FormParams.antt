@@ -3,7 +3,7 @@ use Rattle.std.specs.Prelude.{ℕ, List, []}
 use Rattle.std.specs.Borrow.{Bor}
 use Rattle.mysql_value_core.specs.declared.value.ValueRef.{ValueRef}
 use Rattle.mysql_values.specs.BorrowedValue.{owned_values}
-use Rattle.mysql_params_core.specs.Given.{Given, ValueMap, empty, named, positional}
+use Rattle.mysql_params_core.specs.GivenValues.{Given, ValueMap, empty, named, positional}
 use Rattle.mysql_params_core.specs.GivenBorrowed.{pair_map}
 use Rattle.mysql_flat_params.specs.declared.form.FormParams.{FormParams}
 use Rattle.mysql_flat_params.specs.declared.form.FormParams.TheVariants.{Empty, Named, Positional}

@@ -2,7 +2,7 @@
 -- any mode and any server. A steady query has the same tokens in both modes.
 use Rattle.std.specs.Prelude.{◌≡◌, ℕ, Bool, true, List, length, Some, None, Ok, Err, ⊤}
 use Rattle.mysql_named_params.specs.Tokens.{OnTokens}
-use Rattle.mysql_named_params.specs.Places.{names}
+use Rattle.mysql_named_params.specs.NamesAndMarks.{names}
 use Rattle.mysql_portable.specs.FirstUnportable.{first_unportable}
 use Rattle.mysql_fragments.specs.FragmentErrors.{first_cause}
 use Rattle.mysql_fragments.specs.GivenFragments.{GivenFragments, fragments_for}

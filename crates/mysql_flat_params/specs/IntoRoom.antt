@@ -2,10 +2,11 @@
 use Rattle.std.specs.Prelude.{◌≡◌, ◌≤◌, ◌<◌, ℕ, Bool, List, length, take, drop, Some, Ok, Err, ⊤}
 use Rattle.std.specs.List.{Contains}
 use Rattle.mysql_named_params.specs.Tokens.{OnTokens}
-use Rattle.mysql_named_params.specs.Places.{HasName, HasMark, names}
+use Rattle.mysql_named_params.specs.NamesAndMarks.{names}
+use Rattle.mysql_named_params.specs.Places.{HasName, HasMark}
 use Rattle.mysql_named_params.specs.Parsed.{parsed}
-use Rattle.mysql_params_core.specs.Given.{Given}
-use Rattle.mysql_params_core.specs.Lookup.{missing, confused}
+use Rattle.mysql_params_core.specs.GivenValues.{Given}
+use Rattle.mysql_params_core.specs.LookupValues.{missing, confused}
 use Rattle.mysql_params_core.specs.declared.params.errors.ParamsConfusionError.TheVariants.{NamedParamsForPositionalQuery, PositionalParamsForNamedQuery}
 use Rattle.mysql_binding.specs.BindErrors.{cause_of}
 use Rattle.mysql_binding.specs.FirstCause.{Cause, first_cause, mixed_query, refused_params, mark_count, not_alone, float_value}

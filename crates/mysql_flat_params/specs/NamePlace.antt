@@ -2,7 +2,8 @@
 use Rattle.std.specs.Prelude.{◌≡◌, ℕ, ◌+◌, List, ◌∷◌, ◌++◌, length}
 use Rattle.std.specs.List.{Contains}
 use Rattle.mysql_named_params.specs.Tokens.{Token, text_of, Name}
-use Rattle.mysql_named_params.specs.Places.{names, place_count}
+use Rattle.mysql_named_params.specs.NamesAndMarks.{names}
+use Rattle.mysql_named_params.specs.Places.{place_count}
 
 -- the place of this number is the first that has this name, whose first byte, after the colon,
 -- stands at this position

@@ -2,7 +2,8 @@
 -- `names_survey`; no public contract cites it.
 use Rattle.std.specs.Prelude.{◌≡◌, List, length}
 use Rattle.mysql_named_params.specs.Tokens.{Token, text_of}
-use Rattle.mysql_named_params.specs.Places.{names, marks, with_marks}
+use Rattle.mysql_named_params.specs.NamesAndMarks.{names, marks}
+use Rattle.mysql_named_params.specs.Places.{with_marks}
 use Rattle.mysql_flat_params.specs.NamesAnswer.{lenenc_row}
 use Rattle.mysql_flat_params.specs.declared.names_room.NamesSurvey.{NamesSurvey}
 

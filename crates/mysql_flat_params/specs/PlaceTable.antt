@@ -2,9 +2,10 @@
 use Rattle.std.specs.Prelude.{◌≡◌, ◌≤◌, ℕ, ℤ, pos, Bool, List, nat_eq, if◌then◌else◌, Some, None, Ok, Err, length, take, drop, ⊤}
 use Rattle.std.specs.List.{Contains}
 use Rattle.mysql_named_params.specs.Tokens.{OnTokens}
-use Rattle.mysql_named_params.specs.Places.{names, place_count}
-use Rattle.mysql_params_core.specs.Given.{Given}
-use Rattle.mysql_params_core.specs.Lookup.{lookup, missing}
+use Rattle.mysql_named_params.specs.NamesAndMarks.{names}
+use Rattle.mysql_named_params.specs.Places.{place_count}
+use Rattle.mysql_params_core.specs.GivenValues.{Given}
+use Rattle.mysql_params_core.specs.LookupValues.{lookup, missing}
 use Rattle.mysql_binding.specs.PlaceSpans.{AreSpansOf, FitSurvey, names_at}
 use Rattle.mysql_binding.specs.declared.binding.spans.PlaceSpan.{PlaceSpan}
 use Rattle.mysql_binding.specs.declared.binding.survey.Survey.{Survey}

@@ -2,7 +2,7 @@
 use Rattle.std.specs.Prelude.{◌≡◌, ◌≤◌, ◌<◌, ℕ, Bool, List, length, drop}
 use Rattle.mysql_wire_part.specs.Lenenc.{lenenc_spelling, read_lenenc}
 use Rattle.mysql_named_params.specs.Tokens.{OnTokens}
-use Rattle.mysql_params_core.specs.Given.{Given}
+use Rattle.mysql_params_core.specs.GivenValues.{Given}
 use Rattle.mysql_binding.specs.Isolation.{IsBoundText}
 use Rattle.mysql_flat_params.specs.BoundRows.{IsBoundRow, IsRowRefusal, HasRowLength}
 use Rattle.mysql_flat_params.specs.IntoRoom.{IsBindOutcome, IsBoundForm, IsInRoom}

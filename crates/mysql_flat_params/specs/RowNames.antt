@@ -6,8 +6,8 @@ use Rattle.std.specs.Borrow.{Bor}
 use Rattle.mysql_value_core.specs.declared.value.Value.{Value}
 use Rattle.mysql_value_core.specs.declared.value.ValueRef.{ValueRef}
 use Rattle.mysql_named_params.specs.Tokens.{OnTokens}
-use Rattle.mysql_named_params.specs.Places.{names}
-use Rattle.mysql_params_core.specs.Given.{Given, empty, named}
+use Rattle.mysql_named_params.specs.NamesAndMarks.{names}
+use Rattle.mysql_params_core.specs.GivenValues.{Given, empty, named}
 use Rattle.mysql_params_core.specs.GivenBorrowed.{pair_map}
 use Rattle.mysql_binding.specs.FirstCause.{mixed_cause}
 use Rattle.mysql_flat_params.specs.FlatForm.{IsFormReading, read_name, read_value}

@@ -2,7 +2,7 @@
 use Rattle.std.specs.Prelude.{ℕ, List, Option, option_map}
 use Rattle.mysql_named_params.specs.Tokens.{Token}
 use Rattle.mysql_portable.specs.Steady.{first_unsteady}
-use Rattle.mysql_params_core.specs.Given.{Given}
+use Rattle.mysql_params_core.specs.GivenValues.{Given}
 use Rattle.mysql_steady_text.specs.FirstBackslash.{first_backslash}
 use Rattle.mysql_flat_params.specs.AnywhereIntoRoom.{IsBoundAnywhere}
 use Rattle.mysql_flat_params.specs.BothModesIntoRoom.{IsBoundInBothModes}

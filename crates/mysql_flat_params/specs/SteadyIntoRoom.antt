@@ -6,7 +6,7 @@ use Rattle.std.specs.Option.{option_or}
 use Rattle.mysql_named_params.specs.Tokens.{Token, OnTokens}
 use Rattle.mysql_portable.specs.FirstUnportable.{first_unportable}
 use Rattle.mysql_portable.specs.declared.portable.Unportable.{Unportable}
-use Rattle.mysql_params_core.specs.Given.{Given}
+use Rattle.mysql_params_core.specs.GivenValues.{Given}
 use Rattle.mysql_flat_params.specs.FlatForm.{IsFormReading, form_end, length_lead, unread_type, mixed_form, repeated_name}
 use Rattle.mysql_flat_params.specs.IntoRoom.{IsBindOutcome}
 use Rattle.mysql_flat_params.specs.UnportableReport.{construct_number}

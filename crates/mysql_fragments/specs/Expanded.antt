@@ -2,8 +2,8 @@
 use Rattle.std.specs.Prelude.{◌≡◌, ℕ, Bool, true, List, map, Some, None, Ok}
 use Rattle.mysql_values.specs.declared.value.Value.{Value}
 use Rattle.mysql_named_params.specs.Tokens.{Token, IsTokens}
-use Rattle.mysql_named_params.specs.Places.{names}
-use Rattle.mysql_params_core.specs.Given.{positional}
+use Rattle.mysql_named_params.specs.NamesAndMarks.{names}
+use Rattle.mysql_params_core.specs.GivenValues.{positional}
 use Rattle.mysql_binding.specs.Isolation.{IsBoundText}
 use Rattle.mysql_binding.specs.Pieces.{pieces, joined_text}
 use Rattle.mysql_binding.specs.Replaced.{AreTokensOf, with_literal_tokens}

@@ -6,8 +6,8 @@ use Rattle.std.specs.Global.{Vec}
 use Rattle.mysql_values.specs.declared.value.Value.{Value}
 use Rattle.mysql_float_literal.specs.DoubleText.{double_text}
 use Rattle.mysql_named_params.specs.Tokens.{Token}
-use Rattle.mysql_named_params.specs.Places.{names}
-use Rattle.mysql_params_core.specs.Given.{positional}
+use Rattle.mysql_named_params.specs.NamesAndMarks.{names}
+use Rattle.mysql_params_core.specs.GivenValues.{positional}
 use Rattle.mysql_binding.specs.LiteralForm.{Literals, LiteralFacts}
 use Rattle.mysql_binding.specs.Replaced.{with_literal_tokens}
 use Rattle.mysql_binding.specs.WrittenText.{IsGivenText}

@@ -4,9 +4,9 @@ use Rattle.std.specs.List.{list_any}
 use Rattle.std.specs.Option.{option_or}
 use Rattle.mysql_values.specs.Literal.{is_float}
 use Rattle.mysql_named_params.specs.Tokens.{Token}
-use Rattle.mysql_named_params.specs.Places.{names, marks, has_both}
+use Rattle.mysql_named_params.specs.NamesAndMarks.{names, marks, has_both}
 use Rattle.mysql_binding.specs.FirstCause.{mark_count_differs}
-use Rattle.mysql_binding.specs.StandsAlone.{first_not_alone}
+use Rattle.mysql_binding.specs.FirstNotAlone.{first_not_alone}
 use Rattle.mysql_fragments.specs.FragmentFaults.{fault_of}
 use Rattle.mysql_fragments.specs.GivenFragments.{GivenFragments, PlaceRefusal, missing, confused, fragments_for}
 use Rattle.mysql_fragments.specs.declared.fragment.Item.{Item}

@@ -8,7 +8,7 @@ use Rattle.std.specs.Option.{option_or}
 use Rattle.std.specs.Str.{byte}
 use Rattle.std.specs.Global.{Vec}
 use Rattle.mysql_named_params.specs.Bytes.{backquote, dash, point, space, underscore}
-use Rattle.mysql_binding.specs.StandsAlone.{none_or_first}
+use Rattle.mysql_binding.specs.FirstNotAlone.{none_or_first}
 use Rattle.mysql_fragments.specs.declared.fragment.Item.{Item}
 use Rattle.mysql_fragments.specs.declared.fragment.Item.TheVariants as item
 use Rattle.mysql_fragments.specs.declared.fragment.Fragment.{Fragment}

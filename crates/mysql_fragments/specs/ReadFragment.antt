@@ -6,7 +6,7 @@ use Rattle.std.specs.Char.{is_ascii_digit}
 use Rattle.std.specs.Str.{byte}
 use Rattle.mysql_sql_text.specs.LiteralEnd.{BeginsWithout}
 use Rattle.mysql_sql_text.specs.ReadLiteral.{read_natural}
-use Rattle.mysql_binding.specs.StandsAlone.{may_stand_after, none_or_first}
+use Rattle.mysql_binding.specs.FirstNotAlone.{may_stand_after, none_or_first}
 
 -- ---- identifiers
 

@@ -7,11 +7,11 @@ use Rattle.std.specs.List.{list_all}
 use Rattle.mysql_sql_text.specs.StringUnits.{with_backslashes}
 use Rattle.mysql_named_params.specs.Tokens.{Token, IsTokens}
 use Rattle.mysql_portable.specs.Portable.{IsPortable, IsReadAs}
-use Rattle.mysql_portable.specs.Server.{Server, IsReadOn}
+use Rattle.mysql_portable.specs.ServerTokens.{Server, IsReadOn}
 use Rattle.mysql_portable.specs.Quiet.{IsHonest, DecidesWithin}
-use Rattle.mysql_portable.specs.Steady.{is_steady, IsSteady}
+use Rattle.mysql_portable.specs.SteadyBytes.{is_steady, IsSteady}
 use Rattle.mysql_portable.specs.CharacterSet.{CharacterSet, seen}
-use Rattle.mysql_params_core.specs.Given.{positional}
+use Rattle.mysql_params_core.specs.GivenValues.{positional}
 use Rattle.mysql_binding.specs.Replaced.{with_literal_tokens}
 use Rattle.mysql_steady_text.specs.SteadyText.{IsSteadyText}
 use Rattle.mysql_fragments.specs.Expanded.{IsExpanded}

@@ -1,7 +1,7 @@
 -- What each error of binding fragments to a steady text stands for.
 use Rattle.std.specs.Prelude.{◌≡◌, ℕ, true, List, Option, Some, None}
 use Rattle.mysql_named_params.specs.Tokens.{Token}
-use Rattle.mysql_named_params.specs.Places.{names}
+use Rattle.mysql_named_params.specs.NamesAndMarks.{names}
 use Rattle.mysql_portable.specs.Steady.{first_unsteady}
 use Rattle.mysql_portable.specs.declared.portable.Unportable.{Unportable}
 use Rattle.mysql_fragments.specs.FragmentErrors.{first_cause, IsCauseOrMemory}

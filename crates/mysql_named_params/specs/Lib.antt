@@ -1,5 +1,6 @@
 pub mod Bytes
 pub mod Tokens
+pub mod NamesAndMarks
 pub mod Places
 pub mod Positions
 pub mod Locality

@@ -2,7 +2,8 @@
 use Rattle.std.specs.Prelude.{ℕ, List, Bool, ◌&&◌, nat_eq}
 use Rattle.std.specs.Cmp.Lexicographic.{pointwise}
 use Rattle.mysql_named_params.specs.Tokens.{Token, text_of}
-use Rattle.mysql_named_params.specs.Places.{names, with_marks}
+use Rattle.mysql_named_params.specs.NamesAndMarks.{names}
+use Rattle.mysql_named_params.specs.Places.{with_marks}
 
 -- a parsed query: its text with marks, and its names
 pub record Parsed : Type 0 where

@@ -1,18 +1,8 @@
--- The places of a query: the names and the marks among its tokens.
-use Rattle.std.specs.Prelude.{◌&&◌, nat_lt, Bool, ℕ, ◌+◌, ◌<◌, List, [], ◌∷◌, length, ⊤}
+-- The places of a query, which are its names and marks, handed on; and each put in place of the
+-- other.
+use Rattle.std.specs.Prelude.{ℕ, ◌+◌, ◌<◌, List, [], ◌∷◌, length, ⊤}
 use Rattle.mysql_named_params.specs.Tokens.{Token, Name, Mark}
-
--- the names without their colons, in order, with repeats
-abbrev pub names : List Token → List (List ℕ)
-names [] = []
-names (Name name ∷ ts) = name ∷ names ts
-names (t ∷ ts) = names ts
-
--- the number of marks
-abbrev pub marks : List Token → ℕ
-marks [] = 0
-marks (Mark ∷ ts) = marks ts + 1
-marks (t ∷ ts) = marks ts
+pub use Rattle.mysql_named_params.specs.NamesAndMarks.{names, marks, has_both}
 
 -- the number of names and marks
 abbrev pub place_count : List Token → ℕ
@@ -46,7 +36,3 @@ HasName ts = 0 < length (names ts)
 -- there is a mark
 abbrev pub HasMark : List Token → Type 0
 HasMark ts = 0 < marks ts
-
--- there is a name and a mark, as a test
-abbrev pub has_both : List Token → Bool
-has_both ts = nat_lt 0 (length (names ts)) && nat_lt 0 (marks ts)

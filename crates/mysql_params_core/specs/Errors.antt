@@ -2,20 +2,12 @@
 use Rattle.std.specs.Prelude.{◌≡◌, ℕ, List, Option, None, Some, ⊤}
 use Rattle.mysql_value_core.specs.declared.value.convert.ToValueError.{ToValueError}
 use Rattle.mysql_value_core.specs.declared.value.convert.ToValueError.TheVariants as to_value
-use Rattle.mysql_params_core.specs.Lookup.{LookupRefusal, missing, confused}
 use Rattle.mysql_params_core.specs.Made.{ToParamsRefusal, redefined, too_long}
-use Rattle.mysql_params_core.specs.declared.params.errors.ParamsError.{ParamsError}
-use Rattle.mysql_params_core.specs.declared.params.errors.ParamsError.TheVariants.{Missing, Confusion, Memory}
 use Rattle.mysql_params_core.specs.declared.params.errors.IntoPositionalError.{IntoPositionalError}
 use Rattle.mysql_params_core.specs.declared.params.errors.IntoPositionalError.TheVariants as positional
 use Rattle.mysql_params_core.specs.declared.params.errors.ToParamsError.{ToParamsError}
 use Rattle.mysql_params_core.specs.declared.params.errors.ToParamsError.TheVariants as to_params
-
--- the refusal of a lookup that the error stands for; none for out of memory
-abbrev pub lookup_refusal : ParamsError → Option LookupRefusal
-lookup_refusal (Missing error) = Some (missing error.0.items)
-lookup_refusal (Confusion confusion) = Some (confused confusion)
-lookup_refusal (Memory error) = None
+pub use Rattle.mysql_params_core.specs.LookupErrors.{lookup_refusal, IsMissing, AreEqualParamsErrors}
 
 -- the missing name that the error holds; none for out of memory
 abbrev pub absent_name : IntoPositionalError → Option (List ℕ)
@@ -39,18 +31,6 @@ abbrev pub to_params_refusal : ToParamsError → Option ToParamsRefusal
 to_params_refusal (to_params.Redefined name) = Some (redefined name.items)
 to_params_refusal (to_params.Value error) = value_refusal error
 to_params_refusal (to_params.Memory error) = None
-
--- a name is missing
-abbrev pub IsMissing : ParamsError → Type 0
-IsMissing (Missing error) = ⊤
-IsMissing _ = ⊥
-
--- the same variant, and the same name or confusion
-abbrev pub AreEqualParamsErrors : ParamsError → ParamsError → Type 0
-AreEqualParamsErrors (Missing a) (Missing b) = a.0.items ≡ b.0.items
-AreEqualParamsErrors (Confusion a) (Confusion b) = a ≡ b
-AreEqualParamsErrors (Memory a) (Memory b) = ⊤
-AreEqualParamsErrors _ _ = ⊥
 
 -- the same variant, and the same name
 abbrev pub AreEqualPositionalErrors : IntoPositionalError → IntoPositionalError → Type 0

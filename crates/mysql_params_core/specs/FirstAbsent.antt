@@ -2,7 +2,7 @@
 use Rattle.std.specs.Prelude.{◌≡◌, ◌<◌, ℕ, true, false, List, [], length, take, slice_index_or, Option, None, Some}
 use Rattle.std.specs.List.{list_all}
 use Rattle.std.specs.FinMap.{contains_key}
-use Rattle.mysql_params_core.specs.Given.{ValueMap}
+use Rattle.mysql_params_core.specs.GivenValues.{ValueMap}
 
 -- the index of the first name that is not in the map; none if all are in it
 abbrev pub IsFirstAbsent : ValueMap → List (List ℕ) → Option ℕ → Type 0

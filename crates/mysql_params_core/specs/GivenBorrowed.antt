@@ -6,7 +6,8 @@ use Rattle.std.specs.Borrow.{Bor}
 use Rattle.mysql_value_core.specs.declared.value.Value.{Value}
 use Rattle.mysql_value_core.specs.declared.value.ValueRef.{ValueRef}
 use Rattle.mysql_values.specs.BorrowedValue.{owned, owned_values}
-use Rattle.mysql_params_core.specs.Given.{Given, ValueMap, empty, named, positional, value_map}
+use Rattle.mysql_params_core.specs.GivenValues.{Given, ValueMap, empty, named, positional}
+use Rattle.mysql_params_core.specs.Given.{value_map}
 use Rattle.mysql_params_core.specs.declared.params.borrowed.BorrowedParams.{BorrowedParams}
 use Rattle.mysql_params_core.specs.declared.params.borrowed.BorrowedParams.TheVariants as borrowed
 

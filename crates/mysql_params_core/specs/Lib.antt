@@ -1,9 +1,12 @@
+pub mod GivenValues
 pub mod Given
 pub mod GivenBorrowed
 pub use Rattle.mysql_wire_part.specs.Answer
 pub mod Referents
+pub mod LookupValues
 pub mod Names
 pub mod FirstAbsent
 pub mod Lookup
 pub mod Made
+pub mod LookupErrors
 pub mod Errors

@@ -7,7 +7,7 @@ use Rattle.mysql_value_core.specs.declared.value.ValueRef.{ValueRef}
 use Rattle.mysql_values.specs.BorrowedValue.{owned}
 use Rattle.std.specs.Borrow.{Bor}
 use Rattle.mysql_values.specs.ValueOf.{Meaning}
-use Rattle.mysql_params_core.specs.Given.{ValueMap, Given, empty, named, positional}
+use Rattle.mysql_params_core.specs.GivenValues.{ValueMap, Given, empty, named, positional}
 
 -- why arguments make no parameters
 pub data ToParamsRefusal : Type 0 where

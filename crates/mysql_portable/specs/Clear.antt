@@ -9,8 +9,8 @@ use Rattle.std.specs.Str.{byte}
 use Rattle.mysql_named_params.specs.Bytes.{asterisk, bracket, carriage_return, colon, dash, dollar, hash, newline, plus, point, question_mark, slash, space, is_extension, begins}
 use Rattle.mysql_portable.specs.FoundInClient.{begins_word, is_client_word, letter_of, stand_before_comment}
 use Rattle.mysql_portable.specs.Portable.{may_open_line}
-use Rattle.mysql_portable.specs.Server.{begins_place, begins_special, is_tag_byte}
-use Rattle.mysql_portable.specs.Steady.{is_steady}
+use Rattle.mysql_portable.specs.ServerTokens.{begins_place, begins_special, is_tag_byte}
+use Rattle.mysql_portable.specs.SteadyBytes.{is_steady}
 
 -- ---- on servers
 

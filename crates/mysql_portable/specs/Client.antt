@@ -8,7 +8,7 @@
 use Rattle.std.specs.Prelude.{◌≡◌, ◌≢◌, ℕ, Bool, IsFalse, false, not, ◌==◌, ◌&&◌, ◌||◌, if◌then◌else◌, List, [], ◌∷◌, ◌++◌, take, ⊤}
 use Rattle.mysql_named_params.specs.Bytes.{asterisk, slash, is_extension, begins, IsUpTo}
 use Rattle.mysql_named_params.specs.Tokens.{Token, bytes_of, text_of, BlockComment, Plain}
-use Rattle.mysql_portable.specs.Server.{Server, Block, comment, comment_of, begins_special, IsNotPlainOn}
+use Rattle.mysql_portable.specs.ServerTokens.{Server, Block, comment, comment_of, begins_special, IsNotPlainOn}
 
 -- the text begins with `/*!`, `/*+` or `/*/`
 abbrev pub begins_opener : List ℕ → Bool

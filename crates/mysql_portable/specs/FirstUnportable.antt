@@ -2,7 +2,7 @@
 use Rattle.std.specs.Prelude.{◌+◌, ◌==◌, ◌&&◌, not, ℕ, List, [], ◌∷◌, if◌then◌else◌, length, drop, Option, Some, None}
 use Rattle.mysql_named_params.specs.Bytes.{dash, exclamation_mark, plus, slash, begins, bracket, dollar, point}
 use Rattle.mysql_named_params.specs.Tokens.{Token, bytes_of, text_of, QuotedString, QuotedIdentifier, HashComment, DashComment, BlockComment, Plain}
-use Rattle.mysql_portable.specs.Server.{begins_fraction, holds_return}
+use Rattle.mysql_portable.specs.ServerTokens.{begins_fraction, holds_return}
 use Rattle.mysql_portable.specs.Portable.{is_read_alike, joins_number}
 use Rattle.mysql_portable.specs.declared.portable.Construct.{Construct}
 use Rattle.mysql_portable.specs.declared.portable.Construct.TheVariants as construct

@@ -8,7 +8,7 @@ use Rattle.std.specs.Char.{to_ascii_lowercase}
 use Rattle.std.specs.Str.{byte}
 use Rattle.mysql_named_params.specs.Bytes.{asterisk, carriage_return, dash, hash, newline, slash, space, is_white_space, begins}
 use Rattle.mysql_named_params.specs.Tokens.{Token, bytes_of, QuotedString, QuotedIdentifier, HashComment, DashComment, BlockComment, Plain}
-use Rattle.mysql_portable.specs.Server.{begins_place, begins_special}
+use Rattle.mysql_portable.specs.ServerTokens.{begins_place, begins_special}
 use Rattle.mysql_portable.specs.Client.{holds_opener}
 use Rattle.mysql_portable.specs.declared.portable.Construct.{Construct}
 use Rattle.mysql_portable.specs.declared.portable.Construct.TheVariants as construct

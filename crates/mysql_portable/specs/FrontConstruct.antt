@@ -3,7 +3,7 @@
 use Rattle.std.specs.Prelude.{◌-◌, ◌==◌, ◌&&◌, ◌||◌, not, ℕ, List, [], ◌∷◌, if◌then◌else◌, take, Option, Some, None}
 use Rattle.std.specs.Char.{is_ascii_digit}
 use Rattle.mysql_named_params.specs.Bytes.{asterisk, backquote, dash, double_quote, hash, slash, bracket, dollar, point}
-use Rattle.mysql_portable.specs.Server.{begins_special, begins_tag, begins_fraction, holds_return, escapes_backquote}
+use Rattle.mysql_portable.specs.ServerTokens.{begins_special, begins_tag, begins_fraction, holds_return, escapes_backquote}
 use Rattle.mysql_portable.specs.Quiet.{is_quiet}
 use Rattle.mysql_portable.specs.Portable.{stands_inside, may_open_line, begins_exponent}
 use Rattle.mysql_portable.specs.FirstUnportable.{special_construct}

@@ -23,7 +23,7 @@ use Rattle.std.specs.Str.Parse.{digits_value}
 use Rattle.mysql_named_params.specs.Bytes.{dollar, exclamation_mark, space}
 use Rattle.mysql_named_params.specs.Tokens.{Token}
 use Rattle.mysql_named_params.specs.TokensOf.{len_up_to}
-use Rattle.mysql_portable.specs.Server.{Server, Block, executed, comment, is_tag_byte, IsReadOn}
+use Rattle.mysql_portable.specs.ServerTokens.{Server, Block, executed, comment, is_tag_byte, IsReadOn}
 use Rattle.mysql_portable.specs.Quiet.{plain_then}
 
 -- the version number at the front of a text, of five or six digits; 0 if none stands there

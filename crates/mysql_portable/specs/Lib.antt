@@ -1,3 +1,4 @@
+pub mod ServerTokens
 pub mod Server
 pub mod Quiet
 pub mod KnownServers
@@ -5,6 +6,7 @@ pub mod Portable
 pub mod FirstUnportable
 pub mod FrontConstruct
 pub mod NoConstruct
+pub mod SteadyBytes
 pub mod Steady
 pub mod CharacterSet
 pub mod Client

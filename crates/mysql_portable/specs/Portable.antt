@@ -6,7 +6,7 @@ use Rattle.std.specs.Char.{is_ascii_digit}
 use Rattle.std.specs.Str.{byte}
 use Rattle.mysql_named_params.specs.Bytes.{asterisk, dash, double_quote, newline, plus, slash, space, begins, point}
 use Rattle.mysql_named_params.specs.Tokens.{Token, text_of, text_then, QuotedString, QuotedIdentifier, HashComment, DashComment, BlockComment, Plain}
-use Rattle.mysql_portable.specs.Server.{keeps_dashes, begins_special, begins_own, begins_place, holds_return, escapes_backquote}
+use Rattle.mysql_portable.specs.ServerTokens.{keeps_dashes, begins_special, begins_own, begins_place, holds_return, escapes_backquote}
 use Rattle.mysql_portable.specs.Quiet.{IsQuietComment, is_quiet, begins_quiet, plain_then}
 
 -- the byte stands before the last one

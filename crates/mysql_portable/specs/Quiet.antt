@@ -11,7 +11,7 @@ use Rattle.std.specs.Char.{is_ascii_digit}
 use Rattle.std.specs.Str.{byte}
 use Rattle.mysql_named_params.specs.Bytes.{asterisk, backquote, dash, exclamation_mark, hash, slash, is_string_quote, is_white_space, begins, IsUpTo}
 use Rattle.mysql_named_params.specs.Tokens.{Token, Plain}
-use Rattle.mysql_portable.specs.Server.{Server, Block, executed, comment, comment_of, begins_special, begins_place, begins_own}
+use Rattle.mysql_portable.specs.ServerTokens.{Server, Block, executed, comment, comment_of, begins_special, begins_place, begins_own}
 
 -- `;` or a backslash, which the client `mysql` takes for itself
 abbrev pub is_for_client : ℕ → Bool
@@ -56,8 +56,7 @@ may_begin_something b rest =
     || ((closes b rest && not (stands_apart (drop 1 rest)))
     || (b == exclamation_mark && not (is_version rest))))))))))
 
--- the text of a quiet comment, and then anything: no byte up to and with its `*/` may begin
--- something
+-- the text of a quiet comment, and more: no byte up to and with its `*/` may begin something
 abbrev pub is_quiet : List ℕ → Bool
 is_quiet [] = false
 is_quiet (b ∷ rest) = not (may_begin_something b rest) && (closes b rest || is_quiet rest)

@@ -18,7 +18,8 @@ use Rattle.std.specs.Global.{Global}
 use Rattle.mysql_sql_text.specs.StringUnits.{with_backslashes}
 use Rattle.mysql_named_params.specs.Bytes.{newline}
 use Rattle.mysql_named_params.specs.Tokens.{Token, OnTokens, text_of}
-use Rattle.mysql_named_params.specs.Places.{names, with_marks, has_both}
+use Rattle.mysql_named_params.specs.NamesAndMarks.{names, has_both}
+use Rattle.mysql_named_params.specs.Places.{with_marks}
 use Rattle.mysql_binding.specs.FirstCause.{Cause, first_cause}
 use Rattle.mysql_binding.specs.Isolation.{IsBoundText}
 use Rattle.mysql_query_core.specs.Words.{WordsRefusal, Command, names_of_query, bound_query, word_bytes, command_of}

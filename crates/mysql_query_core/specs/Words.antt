@@ -7,7 +7,7 @@ use Rattle.mysql_values.specs.declared.value.Value.{Value}
 use Rattle.mysql_values.specs.declared.value.Value.TheVariants.{NULL, Bytes, Int, UInt}
 use Rattle.mysql_values.specs.Intermediate.{committed}
 use Rattle.mysql_values.specs.WholeNumber.{whole_conversion}
-use Rattle.mysql_params_core.specs.Given.{Given, empty, positional}
+use Rattle.mysql_params_core.specs.GivenValues.{Given, empty, positional}
 use Rattle.mysql_params_core.specs.Made.{ToParamsRefusal, redefined, too_long, pairs_made}
 
 -- why words are refused

@@ -3,7 +3,7 @@ use Rattle.std.specs.Prelude.{ℕ, ◌-◌, Bool, true, false, ◌==◌, List, [
 use Rattle.std.specs.List.{flat_map}
 use Rattle.std.specs.Int.{bit_at}
 use Rattle.std.specs.Str.{byte}
-use Rattle.mysql_sql_text.specs.LiteralText.{escaped_byte}
+use Rattle.mysql_sql_text.specs.LiteralParts.{escaped_byte}
 
 -- the first of the two bytes that stand for an escaped byte
 abbrev pub first_byte : Bool → ℕ

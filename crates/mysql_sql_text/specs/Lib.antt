@@ -1,4 +1,5 @@
 pub mod StringUnits
+pub mod LiteralParts
 pub mod LiteralText
 pub mod EscapedLanes
 pub mod LiteralShape

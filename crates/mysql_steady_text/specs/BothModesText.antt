@@ -9,19 +9,20 @@ use Rattle.mysql_values.specs.declared.value.Value.{Value}
 use Rattle.mysql_values.specs.Content.{content_of}
 use Rattle.mysql_sql_text.specs.ReadLiteral.{Content}
 use Rattle.mysql_named_params.specs.Tokens.{Token, IsTokens, OnTokens, text_of}
-use Rattle.mysql_named_params.specs.Places.{names, place_count, with_marks}
+use Rattle.mysql_named_params.specs.NamesAndMarks.{names}
+use Rattle.mysql_named_params.specs.Places.{place_count, with_marks}
 use Rattle.mysql_portable.specs.Portable.{IsPortable, IsReadAs}
-use Rattle.mysql_portable.specs.Server.{Server, IsReadOn}
+use Rattle.mysql_portable.specs.ServerTokens.{Server, IsReadOn}
 use Rattle.mysql_portable.specs.Quiet.{IsHonest, DecidesWithin}
 use Rattle.mysql_portable.specs.Steady.{HoldNoEscapes}
-use Rattle.mysql_params_core.specs.Given.{Given, empty, positional}
-use Rattle.mysql_params_core.specs.Lookup.{lookup}
+use Rattle.mysql_params_core.specs.GivenValues.{Given, empty, positional}
+use Rattle.mysql_params_core.specs.LookupValues.{lookup}
 use Rattle.mysql_binding.specs.FirstCause.{first_cause}
 use Rattle.mysql_binding.specs.Pieces.{pieces, joined_text}
 use Rattle.mysql_binding.specs.Contents.{contents_between, AreReadInPlace}
 use Rattle.mysql_binding.specs.Replaced.{AreTokensOf, with_literal_tokens}
-use Rattle.mysql_steady_text.specs.ReadSteadyLiteral.{read_steady_literal}
-use Rattle.mysql_steady_text.specs.SteadyLiterals.{AreSteadyLiterals, AreSteadyLiteralsOf}
+use Rattle.mysql_steady_text.specs.SteadyReader.{read_steady_literal}
+use Rattle.mysql_steady_text.specs.SteadyShape.{AreSteadyLiterals, AreSteadyLiteralsOf}
 
 -- the text, for both modes, of a query with these tokens and what is given to it
 pub record IsTextInBothModes (ts : List Token) (given : Given) (text : List ℕ) : Type 0 where

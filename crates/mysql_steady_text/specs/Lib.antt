@@ -9,4 +9,5 @@ pub mod QueryRefusal
 pub mod SteadyPairs
 pub mod SteadyLiteral
 pub mod SteadyShape
+pub mod SteadyReader
 pub mod ReadSteadyLiteral

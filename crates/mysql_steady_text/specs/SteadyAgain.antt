@@ -3,9 +3,10 @@
 use Rattle.std.specs.Prelude.{◌≡◌, ℕ, Bool, List, Ok}
 use Rattle.mysql_values.specs.declared.value.Value.{Value}
 use Rattle.mysql_named_params.specs.Tokens.{Token, OnTokens, text_of}
-use Rattle.mysql_named_params.specs.Places.{names, place_count, with_marks}
-use Rattle.mysql_params_core.specs.Given.{Given, empty, positional}
-use Rattle.mysql_params_core.specs.Lookup.{lookup}
+use Rattle.mysql_named_params.specs.NamesAndMarks.{names}
+use Rattle.mysql_named_params.specs.Places.{place_count, with_marks}
+use Rattle.mysql_params_core.specs.GivenValues.{Given, empty, positional}
+use Rattle.mysql_params_core.specs.LookupValues.{lookup}
 use Rattle.mysql_steady_text.specs.SteadyText.{IsSteadyText}
 
 -- in either mode the text has no place, and bound with no parameters it is not refused and stays as

@@ -6,11 +6,11 @@ use Rattle.std.specs.Prelude.{ℕ, nat_le, Bool, ◌&&◌, List, ◌++◌, codes
 use Rattle.std.specs.List.{list_all}
 use Rattle.std.specs.Str.{is_utf8}
 use Rattle.mysql_sql_text.specs.StringUnits.{without_backslashes}
-use Rattle.mysql_sql_text.specs.LiteralText.{escaped, hexadecimal, quoted}
+use Rattle.mysql_sql_text.specs.LiteralParts.{escaped, hexadecimal, quoted}
 use Rattle.mysql_values.specs.declared.value.Value.{Value}
 use Rattle.mysql_values.specs.declared.value.Value.TheVariants.{Bytes}
 use Rattle.mysql_values.specs.Literal.{literal_of}
-use Rattle.mysql_portable.specs.Steady.{is_no_backslash}
+use Rattle.mysql_portable.specs.SteadyBytes.{is_no_backslash}
 
 -- a byte that a steady string holds: the space or graphic ASCII, and no backslash
 abbrev pub is_spelled_out : ℕ → Bool

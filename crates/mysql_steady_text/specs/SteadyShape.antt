@@ -1,7 +1,10 @@
--- The shape of every steady literal: what is to be known of the steady literals in a query.
-use Rattle.std.specs.Prelude.{ℕ, List, ◌++◌, codes}
+-- Steady literals: the shape of every one, and texts that are the steady literals of values.
+use Rattle.std.specs.Prelude.{ℕ, List, ◌++◌, codes, ◌≡◌, [], ◌∷◌, map, Some, ⊤}
 use Rattle.mysql_sql_text.specs.StringUnits.{without_backslashes}
 use Rattle.mysql_sql_text.specs.LiteralShape.{AreHexadecimalPairs, IsLiteral, IsQuoted}
+use Rattle.mysql_values.specs.declared.value.Value.{Value}
+use Rattle.mysql_portable.specs.SteadyBytes.{IsSteady}
+use Rattle.mysql_steady_text.specs.SteadyLiteral.{steady_literal_of}
 
 -- A literal of the mode without backslash escapes; or `_utf8mb4` and a literal in quotes of that
 -- mode, or `_utf8mb4 0x` and hexadecimal digits.
@@ -12,3 +15,12 @@ pub data IsSteadyLiteral : List ℕ → Type 0 where
       → IsSteadyLiteral (codes "_utf8mb4" ++ literal)
   introduced_pairs : (pairs : List ℕ) → AreHexadecimalPairs pairs
       → IsSteadyLiteral (codes "_utf8mb4 0x" ++ pairs)
+
+-- each of the texts has the shape of a steady literal, and is steady
+abbrev pub AreSteadyLiterals : List (List ℕ) → Type 0
+AreSteadyLiterals [] = ⊤
+AreSteadyLiterals (text ∷ texts) = IsSteadyLiteral text × IsSteady text × AreSteadyLiterals texts
+
+-- the texts are the steady literals of the values
+abbrev pub AreSteadyLiteralsOf : List Value → List (List ℕ) → Type 0
+AreSteadyLiteralsOf values texts = map steady_literal_of values ≡ map Some texts

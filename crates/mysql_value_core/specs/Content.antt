@@ -4,7 +4,7 @@ use Rattle.std.specs.Prelude.{pos, Option, Some, None}
 use Rattle.mysql_sql_text.specs.ReadLiteral.{Content, null, number, byte_string}
 use Rattle.mysql_value_core.specs.declared.value.Value.{Value}
 use Rattle.mysql_value_core.specs.declared.value.Value.TheVariants.{NULL, Bytes, Int, UInt, Float, Double, Date, Time}
-use Rattle.mysql_sql_text.specs.LiteralText.{date_text, time_text}
+use Rattle.mysql_sql_text.specs.LiteralParts.{date_text, time_text}
 
 -- the content of a value; floats have none
 abbrev pub content_of : Value → Option Content

@@ -3,7 +3,7 @@
 -- backslash escapes.
 use Rattle.std.specs.Prelude.{ℕ, Bool, true, false, List, [], codes, Option, Some, None, unwrap_or}
 use Rattle.std.specs.Fmt.{decimal, signed_decimal}
-use Rattle.mysql_sql_text.specs.LiteralText.{bytes_literal, date_text, quoted, time_text}
+use Rattle.mysql_sql_text.specs.LiteralParts.{bytes_literal, date_text, quoted, time_text}
 use Rattle.mysql_value_core.specs.declared.value.Value.{Value}
 use Rattle.mysql_value_core.specs.declared.value.Value.TheVariants.{NULL, Bytes, Int, UInt, Float, Double, Date, Time}
 

@@ -1,6 +1,6 @@
 -- Which literals of times are time texts between quotes.
 use Rattle.std.specs.Prelude.{◌≡◌, ℕ, ◌+◌, ◌*◌, ◌<◌, ◌≤◌, false, List, ⊤}
-use Rattle.mysql_sql_text.specs.LiteralText.{quoted}
+use Rattle.mysql_sql_text.specs.LiteralParts.{quoted}
 use Rattle.mysql_sql_text.specs.TimeText.{IsTimeText, total_microseconds}
 use Rattle.mysql_value_core.specs.declared.value.Value.{Value}
 use Rattle.mysql_value_core.specs.declared.value.Value.TheVariants.{Time}

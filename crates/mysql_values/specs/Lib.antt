@@ -3,6 +3,7 @@ pub use Rattle.mysql_sql_text.specs.Digits
 pub use Rattle.mysql_sql_text.specs.InLine
 pub use Rattle.mysql_sql_text.specs.LiteralEnd
 pub use Rattle.mysql_sql_text.specs.LiteralShape
+pub use Rattle.mysql_sql_text.specs.LiteralParts
 pub use Rattle.mysql_sql_text.specs.LiteralText
 pub use Rattle.mysql_sql_text.specs.ReadLiteral
 pub use Rattle.mysql_sql_text.specs.ReadTimeText
