@@ -152,11 +152,11 @@ fn put_binary(
         ColumnType::MYSQL_TYPE_LONGLONG | ColumnType::MYSQL_TYPE_DOUBLE => {
             put_bytes(bytes, random, 8)
         }
-        ColumnType::MYSQL_TYPE_TIMESTAMP
-        | ColumnType::MYSQL_TYPE_DATE
-        | ColumnType::MYSQL_TYPE_NEWDATE
+        ColumnType::MYSQL_TYPE_DATE
         | ColumnType::MYSQL_TYPE_DATETIME
-        | ColumnType::MYSQL_TYPE_TIME => put_date_or_time(bytes, random),
+        | ColumnType::MYSQL_TYPE_NEWDATE
+        | ColumnType::MYSQL_TYPE_TIME
+        | ColumnType::MYSQL_TYPE_TIMESTAMP => put_date_or_time(bytes, random),
         _ => put_string(bytes, random),
     }
 }
