@@ -30,7 +30,7 @@ said_content s = option_map (λ c. (s.0, c)) (content s.1.0 s.1.1)
 abbrev said_fragment : Said → Bool
 said_fragment s = if is_value_type s.1.0 then false else true
 
-heads : {X : Type 0} (x y : X) (xs ys : List X) → x ∷ xs ≡ y ∷ ys → (x ≡ y) × (xs ≡ ys)
+pub heads : {X : Type 0} (x y : X) (xs ys : List X) → x ∷ xs ≡ y ∷ ys → (x ≡ y) × (xs ≡ ys)
 heads x y xs ys e = (cc, cc)
 
 same_pairs : (assigned bs : List Assignment) → map assignment_said assigned ≡ map assignment_said bs → pairs_of assigned ≡ pairs_of bs

@@ -5,8 +5,8 @@ use Rattle.std.proofs.lemmas.List.{get_or-map, length-map}
 use Rattle.json.specs.Json.{Json, array}
 use Rattle.json.specs.Value.{items_of, value_view}
 use Rattle.json.specs.declared.value.Value.{Value, Array, the_lemmas}
-use Rattle.mysql_bind_core.proofs.AssignmentLemmas.{drop_at}
 use Rattle.mysql_bind_core.specs.Contents.{all_of, item_of, list_content, list_of, list_of_json}
+use Rattle.mysql_query_core.proofs.WordLemmas.{drop_index}
 
 -- what is found before what is left to find
 abbrev pub before : {Y : Type 0} → List Y → Option (List Y) → Option (List Y)
@@ -24,7 +24,7 @@ module _ {X Y : Type 0} (f : X → Option Y) (xs : List X) (i : ℕ) (x : X) (fr
   one_at : all_of f xs ≡ before front (all_of f (x ∷ drop (i + 1) xs))
   one_at =
       so_far
-      ∙ ap (λ ys. before front (all_of f ys)) (drop_at xs i x below)
+      ∙ ap (λ ys. before front (all_of f ys)) (drop_index xs i x below)
       ∙ ap (λ y. before front (all_of f (y ∷ drop (i + 1) xs))) (sym at)
 
   pub one_more : (y : Y) → f x ≡ Some y → all_of f xs ≡ before (front ++ y ∷ []) (all_of f (drop (i + 1) xs))

@@ -30,9 +30,9 @@ use Rattle.mysql_bind_core.specs.declared.cell.Cell.{Cell}
 use Rattle.mysql_bind_core.specs.declared.request.Request.{Request}
 use Rattle.mysql_bind_core.specs.declared.value_type.ValueType.{ValueType}
 use Rattle.mysql_bind_core.proofs.AppendedRowLemmas.{unmixed}
-use Rattle.mysql_bind_core.proofs.AssignmentLemmas.{drop_at}
-use Rattle.mysql_bind_core.proofs.CellLemmas.{paired}
+use Rattle.mysql_bind_core.proofs.CellLemmas.{paired, heads}
 use Rattle.mysql_bind_core.proofs.FoundPairLemmas.{AreNew, found_on, inserted, itself, meant, same_names}
+use Rattle.mysql_query_core.proofs.WordLemmas.{drop_index}
 
 -- ---- loops that find one after another
 
@@ -115,9 +115,6 @@ values_at columns vs distinct (n ∷ ns) (i ∷ numbers) (v ∷ placed) e f =
     let b = heads (slice_get vs i) (Some v) (map (slice_get vs) numbers) (map (λ w. Some w) placed) f in
     ap (λ o. o ∷ map (value_in (paired columns vs)) ns) (value_at columns vs i n v distinct a.0 b.0)
     ∙ ap (λ os. Some v ∷ os) (values_at columns vs distinct ns numbers placed a.1 b.1)
-  where
-    heads : {X : Type 0} (x y : X) (xs ys : List X) → x ∷ xs ≡ y ∷ ys → (x ≡ y) × (xs ≡ ys)
-    heads x y xs ys h = (cc, cc)
 
 -- what the columns give, and the values of the places
 pub cells_found : (q : QueryInMode) (request : Request) (columns : List (List ℕ)) (numbers : List ℕ) (vs placed : List Value) →
@@ -232,8 +229,8 @@ said_more columns cells i name d cell k assigned more a below within name_is cel
     split : name ≡ get_or columns i d → cell ≡ get_or cells i k →
         cells_said (drop i columns) (drop i cells) ≡ (name, (cell.value_type, cell.bytes.now)) ∷ cells_said (drop (i + 1) columns) (drop (i + 1) cells)
     split n c =
-        ap (λ ns. cells_said ns (drop i cells)) (drop_at columns i d below ∙ ap (λ x. x ∷ drop (i + 1) columns) (sym n))
-        ∙ ap (λ cs. cells_said (name ∷ drop (i + 1) columns) cs) (drop_at cells i k within ∙ ap (λ x. x ∷ drop (i + 1) cells) (sym c))
+        ap (λ ns. cells_said ns (drop i cells)) (drop_index columns i d below ∙ ap (λ x. x ∷ drop (i + 1) columns) (sym n))
+        ∙ ap (λ cs. cells_said (name ∷ drop (i + 1) columns) cs) (drop_index cells i k within ∙ ap (λ x. x ∷ drop (i + 1) cells) (sym c))
 
 said_no_cells : (columns : List (List ℕ)) → cells_said columns [] ≡ []
 said_no_cells [] = refl

@@ -4,8 +4,7 @@ use Rattle.std.specs.declared.alloc.AllocError.{AllocError}
 use Rattle.std.proofs.Common.{◌≡◌, ◌∙◌, ℕ, ◌+◌, ◌<◌, List, [], ◌∷◌, ◌++◌, length, take, get_or, refl, ap, sym, subst, append_assoc, arith, rules}
 use Rattle.std.proofs.lemmas.List.{take_more}
 use Rattle.mysql_bind_core.specs.Bound.{IsWritten}
-use Rattle.mysql_bind_core.specs.Refusals.{IsRefusal, of_query}
-use Rattle.mysql_bind_core.specs.declared.failure.Failure.{Failure}
+use Rattle.mysql_bind_core.specs.Refusals.{of_query}
 use Rattle.mysql_bind_core.specs.declared.failure.Failure.TheVariants.{Memory}
 use Rattle.mysql_bind_core.specs.declared.request.Request.{Request}
 use Rattle.mysql_bind_core.specs.declared.row.RefusedRow.{RefusedRow}
@@ -87,13 +86,3 @@ pub out_of_memory : (request : Request) (query : List ℕ) (rows : List Row) (er
 out_of_memory request query [] error some = absurd (omega arith)
 out_of_memory request query (row ∷ rows) error some =
     record { row = row; within = some; row_is = refl; refused = of_query tt; texts = []; before = tt }
-
--- ---- what is told of an answer or a refusal
-
-pub on_ok : {A E : Type 0} (r : Result A E) (P Q : Type 0) → (P → Q) → OnOk r P → OnOk r Q
-on_ok (Ok a) P Q f p = f p
-on_ok (Err e) P Q f p = tt
-
-pub if_err : {A E : Type 0} (r : Result A E) (P Q : E → Type 0) → ((e : E) → P e → Q e) → IfErr r P → IfErr r Q
-if_err (Ok a) P Q f p = tt
-if_err (Err e) P Q f p = f e p

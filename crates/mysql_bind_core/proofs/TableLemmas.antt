@@ -1,11 +1,11 @@
 -- The records of a table, one after another, and their statements.
-use Rattle.std.proofs.Common.{◌≡◌, ◌≢◌, ◌∙◌, ℕ, ◌+◌, ◌-◌, ◌<◌, ◌≤◌, suc, zero, List, [], ◌∷◌, ◌++◌, length, map, min, drop, drop-cons, get_or, inl, inr, refl, ap, sym, subst, append_assoc, append-nil, arith, length-append, rules}
-use Rattle.std.specs.Prelude.{All, Option, Some, None, IsNone, ◌↔◌}
+use Rattle.std.proofs.Common.{◌≡◌, ◌≢◌, ◌∙◌, ℕ, ◌+◌, ◌-◌, ◌<◌, ◌≤◌, suc, zero, List, [], ◌∷◌, ◌++◌, length, map, min, drop, get_or, inl, inr, refl, ap, sym, subst, append_assoc, append-nil, arith, length-append}
+use Rattle.std.specs.Prelude.{All, Option}
 use Rattle.std.proofs.lemmas.Bool.{cases_lt}
 use Rattle.std.proofs.lemmas.List.{drop_all, drop_at, get_or-map, length-map, map-append}
 use Rattle.std.specs.Borrow.{Bor}
 use Rattle.std.proofs.lemmas.List.Elements.{All-append}
-use Rattle.mysql_records.specs.Faults.{IsFaulty, IsFaultyTable}
+use Rattle.mysql_records.specs.Faults.{IsFaulty}
 use Rattle.mysql_records.specs.Records.{BeginsWithRecord, IsTable}
 use Rattle.mysql_records.specs.Records as records
 use Rattle.mysql_records.specs.Seen.{lent_fields_seen, lent_seen}
@@ -13,7 +13,7 @@ use Rattle.mysql_records.specs.declared.fault.Fault.{Fault}
 use Rattle.mysql_records.specs.declared.format.RecordFormat.{RecordFormat}
 use Rattle.mysql_records.specs.declared.lent.LentField.{LentField}
 use Rattle.mysql_records.proofs.TableLemmas.{ReadRows, rows_fault, rows_more, rows_none}
-use Rattle.mysql_bind_core.specs.Cells.{AreAssigned, TableQuery, cells_said}
+use Rattle.mysql_bind_core.specs.Cells.{TableQuery, cells_said}
 use Rattle.mysql_bind_core.specs.RowTexts.{IsRowRefusal, IsRowText}
 use Rattle.mysql_bind_core.specs.declared.cell.Cell.{Cell}
 use Rattle.mysql_bind_core.specs.declared.failure.Failure.{Failure}
@@ -25,6 +25,7 @@ use Rattle.mysql_bind_core.specs.declared.table_form.TableForm.{TableForm}
 use Rattle.mysql_bind_core.specs.declared.table_form.TableRefusal.{TableRefusal}
 use Rattle.mysql_bind_core.specs.declared.table_form.TableRefusal.TheVariants as refusal
 use Rattle.mysql_bind_core.proofs.ScriptLemmas.{script-snoc}
+use Rattle.mysql_query_core.proofs.WordLemmas.{drop_index}
 
 -- ---- the records of a text
 
@@ -71,11 +72,6 @@ rest_fits format text rows rest h =
 
 -- ---- the cells of a record
 
-at_index : {X : Type 0} (xs : List X) (i : ℕ) (d : X) → i < length xs → drop i xs ≡ get_or xs i d ∷ drop (i + 1) xs
-at_index xs i d below =
-    let next : suc i ≡ i + 1 = omega arith in
-    drop-cons xs i d below ∙ ap (λ n. get_or xs i d ∷ drop n xs) next
-
 -- one field more
 pub said_next : (null_text : Option (Bor (List ℕ))) (columns : List TableColumn) (fields : List LentField) (i : ℕ) (d : TableColumn) (field : LentField)
     (cells more : List Cell) → i < length columns → i < length fields → field ≡ get_or fields i field →
@@ -86,14 +82,14 @@ said_next null_text columns fields i d field cells more below within at pushed s
     ap (λ said. said ++ fields_said null_text (drop (i + 1) columns) (drop (i + 1) (lent_fields_seen fields))) pushed
     ∙ append_assoc (map cell_said cells) (column_said null_text (get_or columns i d) (lent_seen field)) (fields_said null_text (drop (i + 1) columns) (drop (i + 1) (lent_fields_seen fields)))
     ∙ ap (λ fs. map cell_said cells ++ fields_said null_text (get_or columns i d ∷ drop (i + 1) columns) fs) (sym seen)
-    ∙ ap (λ cs. map cell_said cells ++ fields_said null_text cs (drop i (lent_fields_seen fields))) (sym (at_index columns i d below))
+    ∙ ap (λ cs. map cell_said cells ++ fields_said null_text cs (drop i (lent_fields_seen fields))) (sym (drop_index columns i d below))
     ∙ so_far
   where
     long : i < length (lent_fields_seen fields)
     long = omega (arith, length-map fields lent_seen, within)
 
     seen : drop i (lent_fields_seen fields) ≡ lent_seen field ∷ drop (i + 1) (lent_fields_seen fields)
-    seen = at_index (lent_fields_seen fields) i (lent_seen field) long
+    seen = drop_index (lent_fields_seen fields) i (lent_seen field) long
         ∙ ap (λ f. f ∷ drop (i + 1) (lent_fields_seen fields)) (get_or-map lent_seen fields i field (lent_seen field) within ∙ ap lent_seen (sym at))
 
 no_fields_said : (null_text : Option (Bor (List ℕ))) (columns : List TableColumn) → fields_said null_text columns [] ≡ []

@@ -15,12 +15,13 @@ use Rattle.mysql_binding.specs.BoundAgain.{IsSameBoundAgain, IsSameByPosition}
 use Rattle.mysql_binding.specs.Isolation.{IsBoundText}
 use Rattle.mysql_binding.specs.Pieces.{pieces, pieces_from, joined_text}
 use Rattle.mysql_binding.specs.Contents.{contents_between, AreReadInPlace}
-use Rattle.mysql_binding.specs.Replaced.{AreTokensOf, with_literal_tokens}
+use Rattle.mysql_binding.specs.Replaced.{with_literal_tokens}
 use Rattle.mysql_binding.proofs.CauseLemmas.{no_cause_left, no_cause_renamed, no_cause_parts, no_float_cause, no_place_out, value_each}
 use Rattle.mysql_binding.proofs.ContentsLemmas as read
 use Rattle.mysql_binding.proofs.PieceLemmas.{bound_none, joined_text_count, joined_text-pieces_from}
 use Rattle.mysql_binding.proofs.RenamedPlaceLemmas.{no_place_alone}
 use Rattle.mysql_binding.proofs.ReplacedLemmas.{isolated_places}
+use Rattle.mysql_binding.proofs.SpliceLemmas.{as_many_lists}
 
 -- ---- no place is left
 
@@ -86,14 +87,6 @@ with_literal_tokens-with_marks (Name name ∷ ts) (list ∷ lists) e = ap (λ us
 with_literal_tokens-with_marks (Mark ∷ ts) [] e = absurd (omega arith)
 with_literal_tokens-with_marks (Mark ∷ ts) (list ∷ lists) e = ap (λ us. list ++ us) (with_literal_tokens-with_marks ts lists (omega arith))
 with_literal_tokens-with_marks (t ∷ ts) lists e = ap (λ us. t ∷ us) (with_literal_tokens-with_marks ts lists e)
-
--- there are as many lists of tokens as literals
-as_many_lists : (mode : Bool) (literals : List (List ℕ)) (lists : List (List Token)) →
-    AreTokensOf mode literals lists → length lists ≡ length literals
-as_many_lists mode [] [] h = refl
-as_many_lists mode [] (list ∷ lists) h = absurd h
-as_many_lists mode (literal ∷ literals) [] h = absurd h
-as_many_lists mode (literal ∷ literals) (list ∷ lists) h = omega (arith, as_many_lists mode literals lists h.1)
 
 pub by_position_is_the_same : (mode : Bool) (query text : List ℕ) (ts : List Token) (given : Given) →
     IsTokens mode query ts → (bound : IsBoundText mode ts given text) →

@@ -1,5 +1,5 @@
 -- The first cause for which binding is refused.
-use Rattle.std.specs.Prelude.{Ok, ok_or, option_map, nat_lt}
+use Rattle.std.specs.Prelude.{Result, Ok, Err, ok_or, option_map, nat_lt}
 use Rattle.std.specs.Option.{option_or, option_and_then}
 use Rattle.std.specs.FinMap.{get}
 use Rattle.std.proofs.Common.{◌≡◌, ◌≢◌, ◌⊎◌, ◌==◌, inl, inr, Bool, true, false, ℕ, zero, suc, ◌+◌, ◌<◌, List, [], ◌∷◌, length, refl, sym, ap, ◌∙◌, arith, subst, Option, Some, None, eq-eqb, true≢false}
@@ -37,7 +37,7 @@ pub or_none : {A : Type 0} (a b : Option A) → option_or a b ≡ None → (a �
 or_none None b e = (refl, e)
 or_none (Some x) b e = cc
 
-map_none : {A B : Type 0} (f : A → B) (x : Option A) → option_map f x ≡ None → x ≡ None
+pub map_none : {A B : Type 0} (f : A → B) (x : Option A) → option_map f x ≡ None → x ≡ None
 map_none f None e = refl
 map_none f (Some x) e = cc
 
@@ -246,3 +246,10 @@ value_each ts given values mixed looked later = by (names ts) refl
             marks ts ≡ 0
         no_mark (inl a) b = absurd (omega (arith, a, b))
         no_mark (inr a) b = a
+
+-- what is there is not refused
+pub never_refused : {T E X : Type 0} → (a : T) (e : E) → ◌≡◌ {A = Result T E} (Ok a) (Err e) → X
+never_refused {T = T} {E = E} a e h = absurd (apart h)
+  where
+    apart : ◌≡◌ {A = Result T E} (Ok a) (Err e) → ⊥
+    apart h = cc

@@ -32,7 +32,7 @@ use Rattle.mysql_binding.proofs.BoundTextLemmas.{given_on}
 use Rattle.mysql_binding.proofs.CauseLemmas.{first_by, no_float_cause, on_both, on_map, value_each}
 use Rattle.mysql_binding.proofs.PieceLemmas.{joined_text-pieces_from}
 use Rattle.mysql_binding.proofs.TextLengthLemmas.{plain_len, pieces_len-plain_len}
-use Rattle.mysql_binding.proofs.ValueLiteralLemmas.{float_step, has_literal}
+use Rattle.mysql_binding.proofs.ValueLiteralLemmas.{none_step, has_literal}
 
 -- ---- the text, before it is written
 
@@ -41,7 +41,7 @@ written_literals : (literal : Literals) → LackFloats literal → (values : Lis
     All FieldsInRange values → AreWrittenAs literal IsOfFields values (map (written_literal literal) values)
 written_literals literal floats [] place none range = tt
 written_literals literal floats (v ∷ values) place none range =
-    let step = float_step (is_float v) place (first_float_from (place + 1) values) none in
+    let step = none_step (is_float v) place (first_float_from (place + 1) values) none in
     (has_literal literal floats v step.0, range 0 v (omega arith), written_literals literal floats values (place + 1) step.1 (All-tail FieldsInRange v values range))
 
 written_len : (literal : Literals) (values : List Value) →

@@ -9,13 +9,13 @@ use Rattle.mysql_binding.specs.StandsAlone.{may_stand_before, may_stand_after, n
 use Rattle.mysql_binding.proofs.ByteTestLemmas.{name_byte_not_before}
 use Rattle.mysql_binding.proofs.ContentsLemmas.{alone_parts}
 
-last-append : (test : ℕ → Bool) (xs : List ℕ) (b : ℕ) (ys : List ℕ) →
+pub last-append : (test : ℕ → Bool) (xs : List ℕ) (b : ℕ) (ys : List ℕ) →
     none_or_last test (xs ++ b ∷ ys) ≡ none_or_last test (b ∷ ys)
 last-append test [] b ys = refl
 last-append test (x ∷ []) b ys = refl
 last-append test (x ∷ x' ∷ xs) b ys = last-append test (x' ∷ xs) b ys
 
-name_last : (b : ℕ) (ys : List ℕ) → may_stand_before b ≡ false → list_all is_name_byte ys ≡ true →
+pub name_last : (b : ℕ) (ys : List ℕ) → may_stand_before b ≡ false → list_all is_name_byte ys ≡ true →
     none_or_last may_stand_before (b ∷ ys) ≡ false
 name_last b [] f h = f
 name_last b (y ∷ ys) f h = let p = and_parts (is_name_byte y) (list_all is_name_byte ys) h in name_last y ys (name_byte_not_before y p.0) p.1
@@ -24,7 +24,7 @@ name_last b (y ∷ ys) f h = let p = and_parts (is_name_byte y) (list_all is_nam
 abbrev EndsAsWell : List ℕ → List ℕ → Type 0
 EndsAsWell before after = none_or_last may_stand_before before ≡ true → none_or_last may_stand_before after ≡ true
 
-as_well-append : (xs ys : List ℕ) (b : ℕ) (bytes : List ℕ) →
+pub as_well-append : (xs ys : List ℕ) (b : ℕ) (bytes : List ℕ) →
     EndsAsWell (xs ++ b ∷ bytes) (ys ++ b ∷ bytes)
 as_well-append xs ys b bytes h = last-append may_stand_before ys b bytes ∙ (sym (last-append may_stand_before xs b bytes) ∙ h)
 
@@ -45,7 +45,7 @@ alone_as_well : (before before' : List ℕ) (ts : List Token) → EndsAsWell bef
     stands_alone before (text_of ts) ≡ true → stands_alone before' (text_of (with_marks ts)) ≡ true
 alone_as_well before before' ts e h = let p = and_parts (none_or_last may_stand_before before) _ h in and_from _ _ (e p.0) (first_as_well ts p.1)
 
-if_alone : (b : Bool) (x : Option (ℕ × ℕ)) (p : ℕ × ℕ) → b ≡ true → x ≡ None →
+pub if_alone : (b : Bool) (x : Option (ℕ × ℕ)) (p : ℕ × ℕ) → b ≡ true → x ≡ None →
     (if b then x else Some p) ≡ None
 if_alone true x p e h = h
 if_alone false x p e h = absurd (true≢false (sym e))

@@ -9,7 +9,7 @@ use Rattle.std.specs.Str.{byte}
 use Rattle.std.proofs.lemmas.Bool.{and_parts, cases_Bool, eqb-true, false_from_ne_true, or_cases, or_from, or_parts}
 use Rattle.std.proofs.lemmas.Bool.Decides.{nat_tests}
 use Rattle.mysql_named_params.specs.Bytes.{asterisk, backquote, colon, dash, hash, newline, question_mark, single_quote, slash, underscore, is_start_byte, is_white_space, begins}
-use Rattle.mysql_named_params.specs.Tokens.{Token, IsName, AreTokensBefore, text_of, text_then, bytes_of, QuotedString, QuotedIdentifier, HashComment, DashComment, BlockComment, Name, Mark, Plain}
+use Rattle.mysql_named_params.specs.Tokens.{Token, AreTokensBefore, text_of, text_then, bytes_of, QuotedString, QuotedIdentifier, HashComment, DashComment, BlockComment, Name, Mark, Plain}
 use Rattle.mysql_named_params.proofs.TokenRowLemmas.{text_then-append}
 use Rattle.mysql_portable.specs.Server.{begins_place}
 use Rattle.mysql_portable.specs.Client.{holds_opener}
@@ -19,7 +19,7 @@ use Rattle.mysql_portable.specs.declared.portable.Construct.{Construct}
 use Rattle.mysql_binding.specs.Replaced.{with_literal_tokens}
 use Rattle.mysql_binding.specs.StandsAlone.{may_stand_before}
 use Rattle.mysql_binding.proofs.LiteralTokenLemmas.{is_alphanumeric, other}
-use Rattle.mysql_binding.proofs.SpliceLemmas.{AtPlaces}
+use Rattle.mysql_binding.proofs.SpliceLemmas.{AtPlaces, name_begins}
 use Rattle.mysql_binding.proofs.UpToSpliceLemmas.{last_byte}
 
 -- ---- what a text in a place begins with
@@ -442,10 +442,6 @@ pub sent_append : (xs ys : List Token) (statement line : Bool) → AreSentBefore
     AreSentAsTheyAreFrom (statement_after statement xs) (line_after line xs) ys → AreSentAsTheyAreFrom statement line (xs ++ ys)
 sent_append [] ys statement line h k = k
 sent_append (x ∷ xs) ys statement line h k = (rw (text_then-append xs ys []) h.0, sent_append xs ys (begins_statement statement x) (begins_line line x) h.1 k)
-
-name_begins : (name rest : List ℕ) → IsName name → begins_place (colon ∷ (name ++ rest)) ≡ true
-name_begins [] rest h = absurd h
-name_begins (b ∷ bs) rest h = h.0
 
 list_front : (before : ℕ) (list ts : List Token) → IsSentAt before list (text_of ts) → begins_as_sent (text_of (list ++ ts)) ≡ true
 list_front before list ts s = rw (text_then-append list ts []) s.front

@@ -31,6 +31,7 @@ use Rattle.mysql_binding.proofs.PieceLemmas.{joined_text-pieces_from}
 use Rattle.mysql_binding.proofs.SurveyedQueryLemmas.{found_on, survey_of, unmixed_query}
 use Rattle.mysql_binding.proofs.SpanLemmas.{own_survey, own_names_are, own_text_is}
 use Rattle.mysql_binding.proofs.ValueLiteralLemmas.{as_many_texts}
+use Rattle.mysql_binding.proofs.SpanValueLemmas.{names_at_length}
 
 -- ---- any spans
 
@@ -40,10 +41,6 @@ fit_front [] zero bytes f = tt
 fit_front [] (suc n) bytes f = tt
 fit_front (span ∷ spans) zero bytes f = tt
 fit_front (span ∷ spans) (suc n) bytes f = (f.0, f.1, fit_front spans n (after_span span bytes) f.2)
-
-names_at-len : (spans : List PlaceSpan) (bytes : List ℕ) → length (names_at spans bytes) ≡ length spans
-names_at-len [] bytes = refl
-names_at-len (span ∷ spans) bytes = ap suc (names_at-len spans (after_span span bytes))
 
 -- as many values as names, if there are names
 values_of_names : (given : Given) (ns : List (List ℕ)) (values : List Value) → 0 < length ns → lookup given ns ≡ Ok values →
@@ -65,7 +62,7 @@ value_for_each_span spanned given values never looked counted = by spanned.surve
     by (suc n) e =
         let no_marks : spanned.survey.marks ≡ 0 = none spanned.survey.marks refl in
         let all : take spanned.survey.names spanned.spans.now ≡ spanned.spans.now = take_all spanned.survey.names spanned.spans.now (omega (arith, spanned.count, no_marks)) in
-        let count : length (names_at (take spanned.survey.names spanned.spans.now) spanned.query.now) ≡ length spanned.spans.now = names_at-len (take spanned.survey.names spanned.spans.now) spanned.query.now ∙ ap length all in
+        let count : length (names_at (take spanned.survey.names spanned.spans.now) spanned.query.now) ≡ length spanned.spans.now = names_at_length (take spanned.survey.names spanned.spans.now) spanned.query.now ∙ ap length all in
         values_of_names given (names_at (take spanned.survey.names spanned.spans.now) spanned.query.now) values (omega (arith, count, spanned.count, e)) looked ∙ count
       where
         none : (k : ℕ) → spanned.survey.marks ≡ k → spanned.survey.marks ≡ 0

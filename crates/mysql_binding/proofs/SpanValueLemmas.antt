@@ -51,7 +51,7 @@ module _ (given : Given) (query rest : List ℕ) (spans : List PlaceSpan) (i : �
         looked_up = looked_up_more given s.list name vs vs' v s.looked_up e pushed;
       }
 
-names_at_length : (spans : List PlaceSpan) (bytes : List ℕ) → length (names_at spans bytes) ≡ length spans
+pub names_at_length : (spans : List PlaceSpan) (bytes : List ℕ) → length (names_at spans bytes) ≡ length spans
 names_at_length [] bytes = refl
 names_at_length (span ∷ spans) bytes = omega (arith, names_at_length spans (after_span span bytes))
 

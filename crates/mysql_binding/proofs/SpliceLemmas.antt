@@ -64,7 +64,7 @@ AtPlaces Holds before (t ∷ ts) lists = AtPlaces Holds (last_byte before (bytes
 
 -- ---- the law
 
-name_begins : (name rest : List ℕ) → IsName name → begins_place (colon ∷ (name ++ rest)) ≡ true
+pub name_begins : (name rest : List ℕ) → IsName name → begins_place (colon ∷ (name ++ rest)) ≡ true
 name_begins [] rest h = absurd h
 name_begins (b ∷ bs) rest h = h.0
 

@@ -1,7 +1,7 @@
 -- A text and the same up to a place, where another text follows instead, which opens nothing after the
 -- byte before the place: what is a token and portable before the first is so before the second.
 use Rattle.std.specs.Prelude.{Bool}
-use Rattle.std.proofs.Common.{◌≡◌, ◌⊎◌, ◌++◌, ◌==◌, ◌&&◌, ◌||◌, not, cond, ℕ, true, false, List, [], ◌∷◌, Option, None, arith, inl, inr, refl, ap, ◌∙◌, sym, subst, true≢false}
+use Rattle.std.proofs.Common.{◌≡◌, ◌⊎◌, ◌++◌, ◌==◌, ◌&&◌, ◌||◌, not, ℕ, true, false, List, [], ◌∷◌, None, arith, inl, inr, refl, ap, ◌∙◌, sym, subst, true≢false}
 use Rattle.std.specs.Char.{is_ascii_digit}
 use Rattle.std.specs.Str.{byte}
 use Rattle.std.proofs.lemmas.Bool.{eqb-true, not-true, or_cases, or_parts, or_from, and_parts, false_from_ne_true}
@@ -12,11 +12,11 @@ use Rattle.mysql_named_params.specs.FirstToken.{opens_dash_comment, opens_block_
 use Rattle.mysql_named_params.specs.TokensOf.{not_plain_at}
 use Rattle.mysql_named_params.specs.Places.{IsPlace}
 use Rattle.mysql_named_params.proofs.PlainLemmas.{plain_none}
-use Rattle.mysql_named_params.proofs.RestLemmas.{is_gap, dash_none, none_dash, block_none, none_block, name_none, none_name, cond_none, some_none, string-alike, up_to-alike, block-alike}
+use Rattle.mysql_named_params.proofs.RestLemmas.{is_gap, dash_none, none_dash, block_none, none_block, name_none, none_name, cond_none, some_none, string-alike, up_to-alike, block-alike, dash_second, block_second}
 use Rattle.mysql_named_params.proofs.TokenEnds.{plain_at}
 use Rattle.mysql_portable.specs.Server.{keeps_dashes, is_tag_byte, begins_place, begins_tag, begins_dashes, begins_exponent_dashes, begins_fraction, begins_own}
 use Rattle.mysql_portable.specs.Portable.{may_open_line, differs_at}
-use Rattle.mysql_portable.proofs.PortableLemmas.{second_false, false_if, is_alike_on_all}
+use Rattle.mysql_portable.proofs.PortableLemmas.{second_false, false_if, is_alike_on_all, cond_none_if}
 
 -- the last of these bytes, or, if there are none, the byte before them
 abbrev pub last_byte : ℕ → List ℕ → ℕ
@@ -118,11 +118,6 @@ splice_no_start before (b ∷ bs) e h =
 
 -- ---- no comment and no name opens before the second text if none does before the first
 
--- a dash or slash, a byte, and the text after them
-dash_second : (b : ℕ) (xs : List ℕ) → begins is_gap xs ≡ false → opens_dash_comment (b ∷ xs) ≡ false
-dash_second b [] e = refl
-dash_second b (w ∷ bs) e = false_if (b == dash) _ (λ t. e)
-
 comment_move : {before : ℕ} {x y : List ℕ} → SameUpToSplice before x y → opens_dash_comment x ≡ false → opens_dash_comment y ≡ false
 comment_move at_end e = e
 comment_move (same at_end) e = e
@@ -139,16 +134,6 @@ hint (at_place {b = b} {x = x} p l) e =
       | inr f ↦ absurd (true≢false (sym e ∙ ap is_extension f))
     ]
 
-block_second : (b : ℕ) (xs ys : List ℕ) →
-    (begins is_extension xs ≡ true → begins is_extension ys ≡ true) →
-    opens_block_comment (b ∷ xs) ≡ false → opens_block_comment (b ∷ ys) ≡ false
-block_second b xs ys f e = go (b == asterisk) (begins is_extension xs) (begins is_extension ys) f e
-  where
-    go : (s p q : Bool) → (p ≡ true → q ≡ true) → (s && not p) ≡ false → (s && not q) ≡ false
-    go false p q f e = refl
-    go true true q f e = ap not (f refl)
-    go true false q f e = absurd (true≢false e)
-
 block_move : {before : ℕ} {x y : List ℕ} → SameUpToSplice before x y → opens_block_comment x ≡ false → opens_block_comment y ≡ false
 block_move at_end e = e
 block_move (same {b = b} {x = x} {y = y} a) e = block_second b x y (hint a) e
@@ -161,11 +146,6 @@ start_move (same a) c e = e
 start_move (at_place {before = before} {y = y} p l) c e = splice_no_start before y c l
 
 -- ---- a token that is no place stays one
-
-cond_none_if : (c : Bool) (p q p' q' : Option Token) → (c ≡ true → p ≡ None → p' ≡ None) →
-    (q ≡ None → q' ≡ None) → cond c p q ≡ None → cond c p' q' ≡ None
-cond_none_if true p q p' q' f g e = f refl e
-cond_none_if false p q p' q' f g e = g e
 
 not_plain-move : (mode : Bool) (b : ℕ) {x y : List ℕ} → SameUpToSplice b x y →
     not_plain_at mode (b ∷ x) ≡ None → not_plain_at mode (b ∷ y) ≡ None

@@ -41,10 +41,10 @@ module _ (literal : Literals) (IsKnown : LiteralFacts) where
       ap (λ x. x ∷ map literal values) h.0 ∙ ap (λ xs. Some t ∷ xs) (mapped_literals values texts h.2)
 
 -- the next value is no float, if there is none from its place on
-pub float_step : (b : Bool) (place : ℕ) (rest : Option ℕ) → cond b (Some place) rest ≡ None →
+pub none_step : (b : Bool) (place : ℕ) (rest : Option ℕ) → cond b (Some place) rest ≡ None →
     (b ≡ false) × (rest ≡ None)
-float_step true place rest e = cc
-float_step false place rest e = (refl, e)
+none_step true place rest e = cc
+none_step false place rest e = (refl, e)
 
 pub no_float : (values : List Value) (i : ℕ) (v : Value) → i < length values →
     v ≡ get_or values i v → first_float_from i (drop i values) ≡ None →
@@ -52,4 +52,4 @@ pub no_float : (values : List Value) (i : ℕ) (v : Value) → i < length values
 no_float values i v h e none =
     let cut : drop i values ≡ get_or values i v ∷ drop (i + 1) values = rw add-one (drop-cons values i v h) in
     let same : drop i values ≡ v ∷ drop (i + 1) values = cut ∙ ap (λ x. x ∷ drop (i + 1) values) (sym e) in
-    float_step (is_float v) i _ (sym (ap (λ x. first_float_from i x) same) ∙ none)
+    none_step (is_float v) i _ (sym (ap (λ x. first_float_from i x) same) ∙ none)

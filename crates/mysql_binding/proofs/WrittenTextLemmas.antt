@@ -64,7 +64,7 @@ written_none mode literal IsKnown query values lens text len o no_floats lens_ar
 
 -- ---- the first place of tokens that are parted there
 
-bound-place : (front : List Token) (t : Token) (k : PlaceKind) (back : List Token) (l : List ℕ) (ls : List (List ℕ)) →
+pub bound-place : (front : List Token) (t : Token) (k : PlaceKind) (back : List Token) (l : List ℕ) (ls : List (List ℕ)) →
     place_count front ≡ 0 → place_kind t ≡ Some k →
     bound (front ++ t ∷ back) (l ∷ ls) ≡ text_of front ++ (l ++ bound back ls)
 bound-place [] (Name name) k back l ls e is = refl
@@ -74,7 +74,7 @@ bound-place (Name name ∷ front) t k back l ls e is = absurd (omega arith)
 bound-place (Mark ∷ front) t k back l ls e is = absurd (omega arith)
 bound-place (u ∷ front) t k back l ls e is = ap (λ x. bytes_of u ++ x) (bound-place front t k back l ls e is) ∙ sym (append_assoc (bytes_of u) (text_of front) _)
 
-place_count-place : (t : Token) (k : PlaceKind) (back : List Token) → place_kind t ≡ Some k →
+pub place_count-place : (t : Token) (k : PlaceKind) (back : List Token) → place_kind t ≡ Some k →
     place_count (t ∷ back) ≡ place_count back + 1
 place_count-place (Name name) k back e = refl
 place_count-place Mark k back e = refl

@@ -2,11 +2,11 @@
 use Rattle.std.specs.Prelude.{nat_le, Ok, Err, Option, Some, None, ◌==◌}
 use Rattle.std.proofs.Common.{ℕ, zero, suc, ◌-◌, ◌≤◌, Bool, true, false, List, [], ◌∷◌, ◌++◌, length, drop, if◌then◌else◌, arith}
 use Rattle.std.proofs.lemmas.List.{length-drop}
-use Rattle.mysql_wire_part.specs.Reading.{Reading, ReadRefusal, read_number, unexpected_eof}
+use Rattle.mysql_wire_part.specs.Reading.{ReadRefusal, read_number, unexpected_eof}
 use Rattle.mysql_wire_part.specs.Lenenc.{read_lenenc}
 use Rattle.mysql_fragments.specs.GivenFragments.{GivenFragments}
-use Rattle.mysql_flat_params.specs.FlatForm.{FormRefusal, FormReading, in_parameter, read_name, read_value}
-use Rattle.mysql_flat_params.proofs.LeavesLemmas.{Leaves, leaves_lenenc, leaves_value}
+use Rattle.mysql_flat_params.specs.FlatForm.{FormRefusal, FormReading, read_name, read_value}
+use Rattle.mysql_flat_params.proofs.LeavesLemmas.{Leaves, leaves_lenenc, leaves_value, leaves_in}
 use Rattle.mysql_flat_params.specs.FlatFragments.{map_form, and_then_form, read_count, read_each, read_all, read_item, read_items, read_keyword, read_fragment, read_parameter, fragment_unless, name_refusal, number_type, list_type, rows_type, identifier_type, qualified_type, keyword_type}
 
 leaves_if : {X : Type 0} (n : ℕ) (b : Bool) (x y : FormReading X) → Leaves n x → Leaves n y → Leaves n (if b then x else y)
@@ -25,10 +25,6 @@ leaves_then : {X Y : Type 0} (n : ℕ) (read : FormReading X) (next : X → List
     ((x : X) (rest : List ℕ) → Leaves (length rest) (next x rest)) → Leaves n (and_then_form read next)
 leaves_then n (Ok read) next h k = leaves_more (length read.1) n (next read.0 read.1) h (k read.0 read.1)
 leaves_then n (Err e) next h k = tt
-
-leaves_in : {X : Type 0} (n place position number : ℕ) (read : Reading X) → Leaves n read → Leaves n (in_parameter place position number read)
-leaves_in n place position number (Ok read) h = h
-leaves_in n place position number (Err e) h = tt
 
 -- a name takes at least a byte
 leaves_name_after : (place position b : ℕ) (bytes : List ℕ) → Leaves (length bytes) (read_name place position (b ∷ bytes))

@@ -3,9 +3,8 @@ use Rattle.std.specs.Prelude.{Ok, Err, Option, Some, None, is_some, option_copie
 use Rattle.std.specs.Borrow.{Bor}
 use Rattle.std.specs.FinMap.{contains_key, empty, get, get-empty, get-insert, insert}
 use Rattle.std.specs.Map.{lookup, KeepsOthers}
-use Rattle.std.specs.Ordering.{nat_cmp, is_eq}
-use Rattle.std.specs.Cmp.{unsigned_ties}
-use Rattle.std.specs.Cmp.Lexicographic.{slice_cmp, bytes_decides, lists_ties, nat_list_cmp_total, nat_list_eq_equiv}
+use Rattle.std.specs.Ordering.{nat_cmp}
+use Rattle.std.specs.Cmp.Lexicographic.{slice_cmp, nat_list_cmp_total}
 use Rattle.std.proofs.Common.{◌≡◌, ◌≢◌, ◌==◌, ℕ, ◌-◌, Bool, true, false, true≢false, eqb-true, cond, List, [], ◌∷◌, ◌++◌, length, arith, refl, sym, ap, ◌∙◌, subst}
 use Rattle.mysql_wire_part.specs.Answer.{IsExpectedRefusal}
 use Rattle.mysql_wire_part.proofs.AnswerLemmas.{refusal_expected_too}
@@ -16,6 +15,8 @@ use Rattle.mysql_flat_params.specs.FlatFragments.{and_then_form, fragment_unless
 use Rattle.mysql_flat_params.specs.FormInPlace.{AreKeptAs, IsFoundAs, IsKeptAs, IsMapKeptAs, kept_at}
 use Rattle.mysql_flat_params.specs.FragmentContent.{FragmentContent}
 use Rattle.mysql_flat_params.specs.declared.fragment_in_place.FragmentInPlace.{FragmentInPlace}
+use Rattle.mysql_params_core.proofs.SortedPairLemmas.{by_order, lookup-either, tied}
+use Rattle.mysql_params_core.proofs.MapLemmas.{is_some-copied}
 
 -- ---- lists
 
@@ -75,31 +76,6 @@ name_mixed (f ∷ list) place position at given (b ∷ name) (s ∷ said, is, al
 
 -- ---- maps
 
--- two names are equal if their order says so
-abbrev tied : List ℕ → Bor (List ℕ) → Bool
-tied q x = is_eq (slice_cmp nat_cmp q x.now)
-
-abbrev by_order : Bor (List ℕ) → Bor (List ℕ) → Bool
-by_order x y = is_eq (slice_cmp nat_cmp x.now y.now)
-
-module _ {X : Type 0} (es fs : List (Bor (List ℕ) × X)) (k : Bor (List ℕ)) (v : X)
-    (keeps : KeepsOthers by_order (by_order k) es fs) (inserted : lookup (by_order k) fs ≡ Some v) where
-  lookup-other : (q : List ℕ) → tied q k ≡ false → lookup (tied q) fs ≡ lookup (tied q) es
-  unfolding KeepsOthers
-  lookup-other q apart =
-      keeps (tied q)
-      (λ x y t. sym (lists_ties nat_cmp unsigned_ties q y.now)
-      ∙ nat_list_eq_equiv.congr q x.now y.now (lists_ties nat_cmp unsigned_ties q x.now ∙ t)
-      ∙ lists_ties nat_cmp unsigned_ties x.now y.now)
-      (λ x t. ap (λ bs. is_eq (slice_cmp nat_cmp q bs))
-      (sym ((bytes_decides k.now x.now).0 (lists_ties nat_cmp unsigned_ties k.now x.now ∙ t))) ∙ apart)
-
-  lookup-either : (q : List ℕ) (b : Bool) → tied q k ≡ b → lookup (tied q) fs ≡ cond b (Some v) (lookup (tied q) es)
-  lookup-either q true e =
-      ap (λ bs. lookup (λ (x : Bor (List ℕ)). is_eq (slice_cmp nat_cmp bs x.now)) fs)
-      ((bytes_decides q k.now).0 (lists_ties nat_cmp unsigned_ties q k.now ∙ e)) ∙ inserted
-  lookup-either q false e = lookup-other q e
-
 found_either : (b : Bool) (fragment : FragmentInPlace) (one : Fragment) (o : Option FragmentInPlace) (g : Option Fragment) →
     IsKeptAs fragment one → IsFoundAs o g → IsFoundAs (cond b (Some fragment) o) (cond b (Some one) g)
 found_either true fragment one o g h others = h
@@ -124,13 +100,9 @@ some_found None (Some s) h = absurd h
 some_found (Some f) None h = absurd h
 some_found (Some f) (Some s) h = refl
 
-copied : {X : Type 0} (o : Option (Bor X)) → is_some o ≡ is_some (option_copied o)
-copied None = refl
-copied (Some x) = refl
-
 pub has_kept : (es : List (Bor (List ℕ) × FragmentInPlace)) (m : FragmentMap) (name : List ℕ) (o : Option (Bor FragmentInPlace)) →
     IsMapKeptAs es m → option_copied o ≡ kept_at es name → is_some o ≡ contains_key m name
-has_kept es m name o all is = copied o ∙ (ap is_some is ∙ some_found (kept_at es name) (get m name) (all name))
+has_kept es m name o all is = is_some-copied o ∙ (ap is_some is ∙ some_found (kept_at es name) (get m name) (all name))
 
 -- ---- one parameter
 

@@ -139,7 +139,7 @@ leaves_binary MYSQL_TYPE_TIME2 unsigned bytes = tt
 leaves_binary MYSQL_TYPE_TYPED_ARRAY unsigned bytes = tt
 leaves_binary MYSQL_TYPE_UNKNOWN unsigned bytes = tt
 
-leaves_in : {X : Type 0} (n place position number : ℕ) (read : Reading X) → Leaves n read → Leaves n (in_parameter place position number read)
+pub leaves_in : {X : Type 0} (n place position number : ℕ) (read : Reading X) → Leaves n read → Leaves n (in_parameter place position number read)
 leaves_in n place position number (Ok read) h = h
 leaves_in n place position number (Err e) h = tt
 

@@ -17,7 +17,6 @@ pub mod RowNamesLemmas
 pub mod ReadEachLemmas
 pub mod FragmentLeavesLemmas
 pub mod FragmentsFormLemmas
-pub mod FragmentMapLemmas
 pub mod KeywordLemmas
 pub mod FragmentsRoomLemmas
 pub mod FragmentsAnywhereLemmas

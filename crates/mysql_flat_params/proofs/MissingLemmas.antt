@@ -14,6 +14,7 @@ use Rattle.mysql_params_core.specs.Lookup.{LookupRefusal, missing, lookup, value
 use Rattle.mysql_binding.specs.StandsAlone.{first_not_alone}
 use Rattle.mysql_binding.specs.FirstCause.{Cause, mixed_query, refused_params, mark_count, not_alone, float_value, count_cause, not_alone_cause, float_cause, first_float, later_cause, cause_after_lookup, first_cause, mark_count_differs}
 use Rattle.mysql_named_params.specs.Places.{marks}
+use Rattle.mysql_binding.proofs.CauseLemmas.{map_none}
 
 -- ---- elements of lists
 
@@ -34,10 +35,6 @@ contains_if false names x y in_x in_y = in_y
 
 -- ---- names without a value
 
-unmapped : {X Y : Type 0} (f : X → Y) (o : Option X) → option_map f o ≡ None → o ≡ None
-unmapped f None e = refl
-unmapped f (Some x) e = cc
-
 first_missing_by : (entries : ValueMap) (name : List ℕ) (names : List (List ℕ)) (o : Option Value) → get entries name ≡ o →
     values_at entries (name ∷ names) ≡ None → (values_at entries names ≡ None → Contains names (first_missing entries names)) →
     Contains (name ∷ names) (first_missing entries (name ∷ names))
@@ -47,7 +44,7 @@ first_missing_by entries name names None e none later =
 first_missing_by entries name names (Some value) e none later =
     subst (λ o. Contains (name ∷ names) (unwrap_or (cond (not (is_some o)) (Some name) (find (λ n. not (contains_key entries n)) names)) []))
     (sym e)
-    (contains_later name names _ (later (unmapped (λ rest. value ∷ rest) (values_at entries names)
+    (contains_later name names _ (later (map_none (λ rest. value ∷ rest) (values_at entries names)
     (subst (λ o. option_and_then (λ v. option_map (λ rest. v ∷ rest) (values_at entries names)) o ≡ None) e none))))
 
 first_missing_in : (entries : ValueMap) (names : List (List ℕ)) → values_at entries names ≡ None → Contains names (first_missing entries names)

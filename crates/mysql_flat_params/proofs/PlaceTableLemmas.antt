@@ -106,13 +106,6 @@ never_true e = absurd (apart e)
     apart : IsTrue false → ⊥
     apart e = cc
 
--- no answer is a refusal
-pub never_refused : {T E X : Type 0} → (a : T) (e : E) → ◌≡◌ {A = Result T E} (Ok a) (Err e) → X
-never_refused {T = T} {E = E} a e h = absurd (apart h)
-  where
-    apart : ◌≡◌ {A = Result T E} (Ok a) (Err e) → ⊥
-    apart h = cc
-
 -- a refusal has one error
 pub one_refusal : {T E : Type 0} → (e f : E) → ◌≡◌ {A = Result T E} (Err e) (Err f) → e ≡ f
 one_refusal e f h = cc

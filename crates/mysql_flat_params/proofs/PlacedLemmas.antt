@@ -13,15 +13,16 @@ use Rattle.mysql_binding.specs.Survey.{IsSurvey}
 use Rattle.mysql_binding.specs.declared.binding.survey.Survey.{Survey}
 use Rattle.mysql_fragments.specs.declared.fragments_error.FragmentsError.{FragmentsError}
 use Rattle.mysql_fragments.specs.FilledText.{ArePlaced}
-use Rattle.mysql_fragments.proofs.CauseLemmas.{first_by}
+use Rattle.mysql_fragments.proofs.CauseLemmas.{first_by, some_cause, no_error}
 use Rattle.mysql_fragments.proofs.ExpandedLemmas.{refused_places}
 use Rattle.mysql_fragments.proofs.RoomLemmas.{placed_count}
-use Rattle.mysql_fragments.specs.FragmentErrors.{Cause, IsCauseOrMemory, IsPlaceRefusal, cause_of, first_cause, later_cause, mixed_cause, mixed_query}
+use Rattle.mysql_fragments.specs.FragmentErrors.{IsCauseOrMemory, IsPlaceRefusal, cause_of, first_cause, later_cause, mixed_cause, mixed_query}
 use Rattle.mysql_fragments.specs.GivenFragments.{FragmentMap, GivenFragments, PlaceRefusal, fragments_at, fragments_for, missing, named, with_first}
 use Rattle.mysql_fragments.specs.declared.fragment.Fragment.{Fragment}
 use Rattle.mysql_fragments.specs.declared.fragment_ref.FragmentRef.{FragmentRef}
 use Rattle.mysql_flat_params.specs.FormInPlace.{AreKeptAs, IsFoundAs, IsKeptAs, IsMapKeptAs, kept_at}
 use Rattle.mysql_flat_params.specs.declared.fragment_in_place.FragmentInPlace.{FragmentInPlace}
+use Rattle.mysql_fragments.proofs.PlaceLemmas.{named_some}
 
 -- the names so far have these fragments, and one after them has none
 pub missing_after : (m : FragmentMap) (ns : List (List ℕ)) (n : List ℕ) (more : List (List ℕ)) (fs : List Fragment) →
@@ -32,16 +33,6 @@ missing_after m (k ∷ ns) n more (f ∷ fs) e none =
     let here : get m k ≡ Some f = cc in
     let later : map (get m) ns ≡ map (λ x. Some x) fs = cc in
     ap (λ o. with_first k o (fragments_at m (ns ++ n ∷ more))) here ∙ ap (with_first k (Some f)) (missing_after m ns n more fs later none)
-
--- all names have these fragments
-pub all_found : (m : FragmentMap) (ns : List (List ℕ)) (fs : List Fragment) → map (get m) ns ≡ map (λ x. Some x) fs → fragments_at m ns ≡ Ok fs
-all_found m [] [] e = refl
-all_found m [] (f ∷ fs) e = cc
-all_found m (k ∷ ns) [] e = cc
-all_found m (k ∷ ns) (f ∷ fs) e =
-    let here : get m k ≡ Some f = cc in
-    let later : map (get m) ns ≡ map (λ x. Some x) fs = cc in
-    ap (λ o. with_first k o (fragments_at m ns)) here ∙ ap (with_first k (Some f)) (all_found m ns fs later)
 
 -- one more that is said
 pub said_more : (list : List FragmentRef) (said : List Fragment) (r : FragmentRef) (f : Fragment) → AreSaid list said → Says r f →
@@ -119,11 +110,6 @@ unmixed_too ts none = by (has_both ts) none
     by true e = cc
     by false e = refl
 
-named_some : (given : GivenFragments) (m : FragmentMap) (ns : List (List ℕ)) → given ≡ named m → (length ns ≡ 0 → ⊥) →
-    fragments_for given ns ≡ fragments_at m ns
-named_some given m [] e some = absurd (some refl)
-named_some given m (n ∷ ns) e some = ap (λ g. fragments_for g (n ∷ ns)) e
-
 module _ (mode : Bool) (query : List ℕ) (given : GivenFragments) (m : FragmentMap) (is : given ≡ named m) (count : ℕ) (some : count ≡ 0 → ⊥)
     (o : OnTokens mode query (λ ts. (count ≡ length (names ts)) × (mixed_cause ts ≡ None))) where
   same_for : (ts : List Token) → o.0 ≡ ts → fragments_for given (names ts) ≡ fragments_at m (names ts)
@@ -153,14 +139,6 @@ cause_refusal (Err error) mode query given survey o apart p = refused_places tru
 
 -- ---- the causes after the fragments for the places are known, and the text
 
-some_cause : (x y : Option Cause) → Some x ≡ option_map Some y → (why : Cause) × (y ≡ Some why) × (x ≡ Some why)
-some_cause x None e = cc
-some_cause x (Some why) e = (why, refl, cc)
-
-no_cause : (y : Option Cause) → None ≡ option_map (λ x. Some x) y → y ≡ None
-no_cause None e = refl
-no_cause (Some why) e = cc
-
 -- the fragments for the places of a query are given to it, and these borrowed ones say them
 abbrev pub ArePlacedAs : (mode : Bool) (query : List ℕ) → GivenFragments → List FragmentRef → Type 0
 ArePlacedAs mode query given list = OnTokens mode query (λ ts. (mixed_cause ts ≡ None) × (said : List Fragment)
@@ -183,7 +161,7 @@ module _ (mode : Bool) (query : List ℕ) (survey : Survey) (o : OnTokens mode q
     pub none_later : OnTokens mode query (λ ts. ArePlaced true ts given p.2.1)
     none_later =
         let (ts, is, (unmixed, said, looked, are)) = p in
-        (ts, is, record { unmixed = unmixed; given_to_places = looked; no_later = no_cause (later_cause true ts said) (none ts said are survey_on) })
+        (ts, is, record { unmixed = unmixed; given_to_places = looked; no_later = no_error (later_cause true ts said) (none ts said are survey_on) })
 
     pub as_many_placed : survey.names + survey.marks ≡ length list
     as_many_placed = placed_count mode query survey given list p.2.1 p.2.3 o none_later

@@ -1,10 +1,8 @@
 -- Texts with steady literals in a room that the caller lends.
-use Rattle.std.specs.Prelude.{Bool, false, true, Option, Ok, IfSome, option_map}
+use Rattle.std.specs.Prelude.{Bool, false, true, Option, Ok, option_map}
 use Rattle.std.specs.Option.{option_or}
 use Rattle.std.proofs.Common.{◌≡◌, ℕ, List, Some, None, length, take, refl, sym, ◌∙◌, subst, arith}
 use Rattle.std.proofs.lemmas.List.{length-take-le}
-use Rattle.mysql_values.specs.declared.value.Value.{Value}
-use Rattle.mysql_values.specs.Value.{FieldsInRange}
 use Rattle.mysql_named_params.specs.Tokens.{Token, IsTokens, OnTokens}
 use Rattle.mysql_named_params.proofs.TokensExistLemmas.{tokens_exist}
 use Rattle.mysql_portable.specs.FirstUnportable.{first_unportable}
@@ -21,14 +19,11 @@ use Rattle.mysql_binding.specs.declared.binding.room.TextInRoom.TheVariants.{Wri
 use Rattle.mysql_binding.proofs.CauseLemmas.{on_both}
 use Rattle.mysql_binding.proofs.TextInRoomLemmas.{each_in_room, known_text}
 use Rattle.mysql_steady_text.specs.SteadyLiteral.{steady_literal_of}
-use Rattle.mysql_steady_text.specs.SteadyShape.{IsSteadyLiteral}
-use Rattle.mysql_steady_text.specs.ReadSteadyLiteral.{ReadsSteadyAs}
-use Rattle.mysql_steady_text.proofs.SteadyLiteralLemmas.{steady_shape, steady_bytes, steady_reads}
 use Rattle.mysql_steady_text.specs.FirstBackslash.{first_backslash}
 use Rattle.mysql_steady_text.specs.SteadyLiterals.{IsSteadyFor}
 use Rattle.mysql_steady_text.specs.SteadyText.{IsSteadyText}
 use Rattle.mysql_steady_text.proofs.BackslashLemmas.{hold_no_escapes}
-use Rattle.mysql_steady_text.proofs.BothModesAnswerLemmas.{Agree, agree, in_each_mode, portable_answer}
+use Rattle.mysql_steady_text.proofs.BothModesAnswerLemmas.{Agree, in_each_mode, portable_answer}
 use Rattle.mysql_steady_text.proofs.BothModesTextLemmas.{in_both_modes}
 use Rattle.mysql_steady_text.proofs.SteadyTextLemmas.{is_anywhere_text, no_escapes_of, steady_given}
 use Rattle.mysql_flat_params.specs.FlatForm.{IsFormReading}
@@ -39,13 +34,7 @@ use Rattle.mysql_flat_params.specs.declared.steady_room.Steadiness.{Steadiness}
 use Rattle.mysql_flat_params.specs.declared.steady_room.Steadiness.TheVariants.{Anywhere, BothModes}
 use Rattle.mysql_flat_params.specs.declared.outcome.Outcome.{Outcome}
 use Rattle.mysql_flat_params.specs.declared.outcome.Outcome.TheVariants as variant
-
-steady_known : (v : Value) (text : List ℕ) → FieldsInRange v → steady_literal_of v ≡ Some text → IsSteadyFor v text
-steady_known v text range is = (
-  subst (λ o. IfSome o IsSteadyLiteral) is (steady_shape v range),
-  subst (λ o. IfSome o IsSteady) is (steady_bytes v range),
-  subst (λ o. IfSome o (ReadsSteadyAs v)) is (steady_reads v range),
-)
+use Rattle.mysql_fragments.proofs.SteadyRoomLemmas.{steady_known}
 
 -- ---- a query of which nothing is told
 
@@ -58,9 +47,6 @@ none_told f None None e = (refl, refl)
 -- the modes agree on a query that is steady, and on one without a backslash in its strings
 pub agree_without_unsteady : (query : List ℕ) → IsSteady query → Agree query
 agree_without_unsteady query steady = let t = tokens_exist true query in (t.0, t.1, no_escapes_of true query t.0 steady t.1)
-
-pub agree_without_backslash : (query : List ℕ) (found : Option ℕ) → OnTokens true query (λ ts. found ≡ first_backslash ts) → found ≡ None → Agree query
-agree_without_backslash = agree
 
 -- what is told of no byte of it, and its first construct that isn't portable, or none, in each mode
 pub both_told : (steadiness : Steadiness) (query : List ℕ) (told : Option Outcome) (found : Option Unportable) →

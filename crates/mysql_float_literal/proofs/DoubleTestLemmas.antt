@@ -8,6 +8,7 @@ use Rattle.std.specs.Prelude.{codes}
 use Rattle.mysql_sql_text.specs.LiteralShape.{AreDigits}
 use Rattle.mysql_float_literal.specs.DoubleShape.{IsSign, no_sign, minus_sign, IsFraction, no_fraction, point_and_digits, IsDouble, double_shape}
 use Rattle.mysql_float_literal.specs.DoubleTest.{ends_in_digits, is_exponent, is_double_from, is_double}
+use Rattle.mysql_sql_text.proofs.DigitLemmas.{digits_push, digits_all}
 
 -- ---- from the shape
 
@@ -93,20 +94,6 @@ pub data IsUnsigned : List ℕ → Type 0 where
   unsigned_shape : (whole fraction exponent : List ℕ) → AreDigits whole → IsFraction fraction → IsExponent exponent →
       IsUnsigned (whole ++ (fraction ++ (byte "e" ∷ exponent)))
 
-all_push : (front : List ℕ) (b : ℕ) → list_all is_ascii_digit front ≡ true → is_ascii_digit b ≡ true → AreDigits (front ++ b ∷ [])
-all_push [] b h e = (e, refl)
-all_push (c ∷ front) b h e =
-    let p = and_parts (is_ascii_digit c) (list_all is_ascii_digit front) h in
-    (p.0, digits_all (front ++ b ∷ []) (all_push front b p.1 e))
-  where
-    digits_all : (bytes : List ℕ) → AreDigits bytes → list_all is_ascii_digit bytes ≡ true
-    digits_all [] h = absurd h
-    digits_all (c ∷ bytes) h = and_from _ _ h.0 h.1
-
-all_of : (bytes : List ℕ) → AreDigits bytes → list_all is_ascii_digit bytes ≡ true
-all_of [] h = absurd h
-all_of (c ∷ bytes) h = and_from _ _ h.0 h.1
-
 not_both : (a : Bool) → (a && not true) ≡ true → ⊥
 not_both true e = true≢false (sym e)
 not_both false e = true≢false (sym e)
@@ -118,8 +105,8 @@ fraction_parts whole front [] digit w all some h = absurd (true≢false (sym h))
 fraction_parts whole front (b ∷ bytes) digit w all some h =
     elim (cases_Bool (is_ascii_digit b)) [
       | inl e ↦
-          let more = all_push front b all e in
-          subst (λ x. IsUnsigned (whole ++ (codes "." ++ x))) (append_assoc front (b ∷ []) bytes) (fraction_parts whole (front ++ b ∷ []) bytes true w (all_of (front ++ b ∷ []) more) (λ t. more) (rw e at h))
+          let more = digits_push front b all e in
+          subst (λ x. IsUnsigned (whole ++ (codes "." ++ x))) (append_assoc front (b ∷ []) bytes) (fraction_parts whole (front ++ b ∷ []) bytes true w (digits_all (front ++ b ∷ []) more) (λ t. more) (rw e at h))
       | inr e ↦ elim (cases_Bool (b == byte ".")) [
         | inl d ↦
             let k : ((digit && not true) && is_double_from false true bytes) ≡ true = rw (e, d) at h in
@@ -139,8 +126,8 @@ number_parts front [] digit all some h = absurd (true≢false (sym h))
 number_parts front (b ∷ bytes) digit all some h =
     elim (cases_Bool (is_ascii_digit b)) [
       | inl e ↦
-          let more = all_push front b all e in
-          subst IsUnsigned (append_assoc front (b ∷ []) bytes) (number_parts (front ++ b ∷ []) bytes true (all_of (front ++ b ∷ []) more) (λ t. more) (rw e at h))
+          let more = digits_push front b all e in
+          subst IsUnsigned (append_assoc front (b ∷ []) bytes) (number_parts (front ++ b ∷ []) bytes true (digits_all (front ++ b ∷ []) more) (λ t. more) (rw e at h))
       | inr e ↦ elim (cases_Bool (b == byte ".")) [
         | inl d ↦
             let k : ((digit && not false) && is_double_from false true bytes) ≡ true = rw (e, d) at h in

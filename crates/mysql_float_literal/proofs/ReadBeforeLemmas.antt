@@ -1,6 +1,6 @@
 -- A double before a text that doesn't begin with a digit is read as it is read alone.
 use Rattle.std.proofs.Common.{◌≡◌, ℕ, ◌+◌, ◌-◌, ◌<◌, ◌++◌, ◌&&◌, Bool, true, false, cond, eqb, List, [], ◌∷◌, length, get_or, slice_range, Some, refl, sym, ap, ◌∙◌, subst, arith, add-zero, append_assoc, length-append, drop_at, take_at, lt-ltb, ne_eqb, true≢false}
-use Rattle.std.proofs.lemmas.Bool.{and_from, and_parts}
+use Rattle.std.proofs.lemmas.Bool.{and_parts}
 use Rattle.std.proofs.lemmas.Str.Parse.{digit_from_value}
 use Rattle.std.specs.Char.{digit_value, is_ascii_digit}
 use Rattle.std.specs.Fmt.{sign_text}
@@ -15,6 +15,7 @@ use lib.Seq.{get_or-append-add}
 use Rattle.mysql_sql_text.specs.LiteralEnd.{BeginsWithout}
 use Rattle.mysql_sql_text.specs.LiteralShape.{AreDigits}
 use Rattle.mysql_float_literal.specs.DoubleShape.{no_sign, minus_sign, no_fraction, point_and_digits, IsDouble, double_shape}
+use Rattle.mysql_sql_text.proofs.DigitLemmas.{digits_all}
 
 -- ---- runs of digits
 
@@ -144,10 +145,6 @@ pub all_digits : (ds : List ℕ) → list_all is_ascii_digit ds ≡ true → All
 all_digits [] h = tt
 all_digits (d ∷ ds) h = let p = and_parts (is_ascii_digit d) (list_all is_ascii_digit ds) h in (value_below d p.0, all_digits ds p.1)
 
-are_all : (ds : List ℕ) → AreDigits ds → list_all is_ascii_digit ds ≡ true
-are_all [] h = absurd h
-are_all (d ∷ ds) h = and_from _ _ h.0 h.1
-
 are_some : (ds : List ℕ) → AreDigits ds → 0 < length ds
 are_some [] h = absurd h
 are_some (d ∷ ds) h = omega arith
@@ -167,9 +164,9 @@ by_parts f x negative point minus whole fraction d ds rest w fr none e ends pars
     let exponent : List ℕ = d ∷ ds in
     let p : Parts = parts whole point fraction minus exponent (length (unsigned whole point fraction minus exponent)) in
     let formed : IsWellFormed p = record {
-      whole_digits = all_digits whole (are_all whole w);
+      whole_digits = all_digits whole (digits_all whole w);
       fraction_digits = all_digits fraction fr;
-      exponent_digits = all_digits exponent (are_all exponent e);
+      exponent_digits = all_digits exponent (digits_all exponent e);
       no_point = none;
       no_exponent = λ h. cc;
       len_is = refl;
@@ -179,7 +176,7 @@ by_parts f x negative point minus whole fraction d ds rest w fr none e ends pars
     let joined : (sign_text negative ++ unsigned whole point fraction minus exponent) ++ rest ≡ sign_text negative ++ body whole point fraction minus exponent rest = simp append_assoc in
     let long : length (sign_text negative) + body_len whole point fraction minus exponent ≡ length (sign_text negative ++ unsigned whole point fraction minus exponent) =
     sym (length-append (sign_text negative) _ ∙ ap (λ n. length (sign_text negative) + n) (length-append whole _ ∙ ap (λ n. length whole + n) (length-append (cond point (46 ∷ fraction) []) _))) in
-    let read = read_signed f whole fraction d ds point minus rest (all_digits whole (are_all whole w)) (all_digits fraction fr) (all_digits exponent (are_all exponent e)) none (are_some whole w) (no_digit rest ends) negative in
+    let read = read_signed f whole fraction d ds point minus rest (all_digits whole (digits_all whole w)) (all_digits fraction fr) (all_digits exponent (digits_all exponent e)) none (are_some whole w) (no_digit rest ends) negative in
     rw joined (read ∙ (λ i. Some (same i, long i)))
 
 -- a double that reads as a float alone reads as it before such a text, and ends there
@@ -190,7 +187,7 @@ reads_before f x (double_shape _ whole _ _ (d ∷ ds) no_sign w no_fraction no_s
 reads_before f x (double_shape _ whole _ _ (d ∷ ds) no_sign w no_fraction minus_sign e) parsed rest ends = by_parts f x false false true whole [] d ds rest w refl (λ h. refl) e ends parsed
 reads_before f x (double_shape _ whole _ _ (d ∷ ds) minus_sign w no_fraction no_sign e) parsed rest ends = by_parts f x true false false whole [] d ds rest w refl (λ h. refl) e ends parsed
 reads_before f x (double_shape _ whole _ _ (d ∷ ds) minus_sign w no_fraction minus_sign e) parsed rest ends = by_parts f x true false true whole [] d ds rest w refl (λ h. refl) e ends parsed
-reads_before f x (double_shape _ whole _ _ (d ∷ ds) no_sign w (point_and_digits fraction fr) no_sign e) parsed rest ends = by_parts f x false true false whole fraction d ds rest w (are_all fraction fr) (λ h. absurd (true≢false h)) e ends parsed
-reads_before f x (double_shape _ whole _ _ (d ∷ ds) no_sign w (point_and_digits fraction fr) minus_sign e) parsed rest ends = by_parts f x false true true whole fraction d ds rest w (are_all fraction fr) (λ h. absurd (true≢false h)) e ends parsed
-reads_before f x (double_shape _ whole _ _ (d ∷ ds) minus_sign w (point_and_digits fraction fr) no_sign e) parsed rest ends = by_parts f x true true false whole fraction d ds rest w (are_all fraction fr) (λ h. absurd (true≢false h)) e ends parsed
-reads_before f x (double_shape _ whole _ _ (d ∷ ds) minus_sign w (point_and_digits fraction fr) minus_sign e) parsed rest ends = by_parts f x true true true whole fraction d ds rest w (are_all fraction fr) (λ h. absurd (true≢false h)) e ends parsed
+reads_before f x (double_shape _ whole _ _ (d ∷ ds) no_sign w (point_and_digits fraction fr) no_sign e) parsed rest ends = by_parts f x false true false whole fraction d ds rest w (digits_all fraction fr) (λ h. absurd (true≢false h)) e ends parsed
+reads_before f x (double_shape _ whole _ _ (d ∷ ds) no_sign w (point_and_digits fraction fr) minus_sign e) parsed rest ends = by_parts f x false true true whole fraction d ds rest w (digits_all fraction fr) (λ h. absurd (true≢false h)) e ends parsed
+reads_before f x (double_shape _ whole _ _ (d ∷ ds) minus_sign w (point_and_digits fraction fr) no_sign e) parsed rest ends = by_parts f x true true false whole fraction d ds rest w (digits_all fraction fr) (λ h. absurd (true≢false h)) e ends parsed
+reads_before f x (double_shape _ whole _ _ (d ∷ ds) minus_sign w (point_and_digits fraction fr) minus_sign e) parsed rest ends = by_parts f x true true true whole fraction d ds rest w (digits_all fraction fr) (λ h. absurd (true≢false h)) e ends parsed

@@ -18,20 +18,16 @@ use Rattle.mysql_fragments.specs.BorrowedFragments.{AreSaid}
 use Rattle.mysql_fragments.specs.BorrowedText.{borrowed_text, borrowed_values}
 use Rattle.mysql_fragments.specs.Expanded.{IsBoundFragments}
 use Rattle.mysql_fragments.specs.FilledText.{ArePlaced}
-use Rattle.mysql_fragments.specs.FragmentErrors.{Cause, IsCauseElseMemory, cause_of, cause_of_places, first_cause, later_cause, mixed_cause, mixed_query, refused_fragments}
+use Rattle.mysql_fragments.specs.FragmentErrors.{IsCauseElseMemory, cause_of, cause_of_places, first_cause, later_cause, mixed_cause, mixed_query, refused_fragments}
 use Rattle.mysql_fragments.specs.FragmentsInRoom.{IsCauseOrTooLong, IsTooLong}
 use Rattle.mysql_fragments.specs.GivenFragments.{confused, fragments_for, positional}
 use Rattle.mysql_fragments.specs.declared.fragment.Fragment.{Fragment}
 use Rattle.mysql_fragments.specs.declared.fragment_ref.FragmentRef.{FragmentRef}
 use Rattle.mysql_fragments.specs.declared.fragments_error.FragmentsError.{FragmentsError}
 use Rattle.mysql_fragments.specs.declared.fragments_error.FragmentsError.TheVariants.{Memory, Mixed}
-use Rattle.mysql_fragments.proofs.CauseLemmas.{first_by, first_refused, mixed_none, mixed_some}
+use Rattle.mysql_fragments.proofs.CauseLemmas.{first_by, first_refused, mixed_none, mixed_some, some_cause, no_error}
 use Rattle.mysql_fragments.proofs.FilledLemmas.{bound_on, filled_on}
 use Rattle.mysql_fragments.proofs.SaidLemmas.{said_all_values, said_texts}
-
-no_cause : (y : Option Cause) → None ≡ option_map (λ x. Some x) y → y ≡ None
-no_cause None e = refl
-no_cause (Some why) e = cc
 
 module _ (ts : List Token) (said : List Fragment) where
   pub first_is_mixed : 0 < length (names ts) → HasMark ts → Some (Some mixed_query) ≡ option_map Some (first_cause true ts (positional said))
@@ -58,7 +54,7 @@ module _ (ts : List Token) (said : List Fragment) where
   -- fragments that nothing refuses
   placed_by : None ≡ option_map (λ x. Some x) (first_cause true ts (positional said)) → ArePlaced true ts (positional said) said
   placed_by e =
-      let p = or_none (mixed_cause ts) (cause_of_places true ts (fragments_for (positional said) (names ts))) (no_cause _ e) in
+      let p = or_none (mixed_cause ts) (cause_of_places true ts (fragments_for (positional said) (names ts))) (no_error _ e) in
       let q = by_names (names ts) p.1 in
       record { unmixed = p.0; given_to_places = q.0; no_later = q.1 }
     where
@@ -66,10 +62,6 @@ module _ (ts : List Token) (said : List Fragment) where
           (fragments_for (positional said) ns ≡ Ok said) × (later_cause true ts said ≡ None)
       by_names [] e = (refl, e)
       by_names (n ∷ ns) e = cc
-
-some_cause : (x y : Option Cause) → Some x ≡ option_map Some y → (why : Cause) × (y ≡ Some why) × (x ≡ Some why)
-some_cause x None e = cc
-some_cause x (Some why) e = (why, refl, cc)
 
 module _ (mode : Bool) (query : List ℕ) (survey : Survey) (o : OnTokens mode query (IsSurvey survey)) (fragments : List FragmentRef) (said : List Fragment) (s : AreSaid fragments said) where
   pub borrowed_refused : (error : FragmentsError) →
@@ -79,7 +71,7 @@ module _ (mode : Bool) (query : List ℕ) (survey : Survey) (o : OnTokens mode q
 
   pub borrowed_memory : ((ts : List Token) (said : List Fragment) → AreSaid fragments said → IsSurvey survey ts → None ≡ option_map (λ x. Some x) (first_cause true ts (positional said))) →
       OnTokens mode query (λ ts. IsCauseElseMemory (first_cause true ts (positional said)) (Memory alloc_error))
-  borrowed_memory none = (o.0, o.1, inl (no_cause _ (none o.0 said s o.2), refl))
+  borrowed_memory none = (o.0, o.1, inl (no_error _ (none o.0 said s o.2), refl))
 
   pub borrowed_bound : (text : List ℕ) →
       ((ts : List Token) (said : List Fragment) → AreSaid fragments said → IsSurvey survey ts → None ≡ option_map (λ x. Some x) (first_cause true ts (positional said))) →
@@ -107,7 +99,7 @@ module _ (mode : Bool) (query : List ℕ) (survey : Survey) (o : OnTokens mode q
         OnTokens mode query (λ ts. IsCauseOrTooLong (first_cause true ts (positional said)) (IsTooLong (literal_of mode) ts said) (Memory alloc_error))
     too_long_in_room t =
         let same : t.0 ≡ o.0 = one_token_list mode query t.0 o.0 t.1 o.1 in
-        (o.0, o.1, inl (no_cause _ (none o.0 said s o.2), subst (λ ts. IsTooLong (literal_of mode) ts said) same t.2, refl))
+        (o.0, o.1, inl (no_error _ (none o.0 said s o.2), subst (λ ts. IsTooLong (literal_of mode) ts said) same t.2, refl))
 
 -- ---- names and marks in one query
 

@@ -16,7 +16,7 @@ use Rattle.mysql_binding.specs.FirstCause as bound
 use Rattle.mysql_binding.specs.StandsAlone.{first_not_alone}
 use Rattle.mysql_binding.specs.Survey.{IsSurvey}
 use Rattle.mysql_binding.specs.declared.binding.survey.Survey.{Survey}
-use Rattle.mysql_binding.proofs.CauseLemmas.{has_both-not, or_none}
+use Rattle.mysql_binding.proofs.CauseLemmas.{has_both-not, or_none, map_none}
 use Rattle.mysql_fragments.specs.FragmentErrors.{Cause, mixed_query, refused_fragments, mark_count, not_alone, float_value, faulty, mixed_cause, count_cause, not_alone_cause, is_float_item, has_float, first_float_from, literal_float, float_cause, first_fault_from, fault_cause, later_cause, cause_of_places, first_cause}
 use Rattle.mysql_fragments.specs.FragmentText.{item_values, fragment_values, all_values}
 use Rattle.mysql_fragments.specs.GivenFragments.{FragmentMap, GivenFragments, PlaceRefusal, named, positional, fragments_at, fragments_for, with_first}
@@ -25,10 +25,6 @@ use Rattle.mysql_fragments.specs.declared.fragment.Item.TheVariants as item
 use Rattle.mysql_fragments.specs.declared.fragment.Fragment.{Fragment}
 use Rattle.mysql_fragments.specs.declared.fragment.Fragment.TheVariants as one
 use Rattle.mysql_fragments.specs.declared.fragments_error.FragmentFault.{FragmentFault}
-
-map_none : {A B : Type 0} (f : A → B) (x : Option A) → option_map f x ≡ None → x ≡ None
-map_none f None e = refl
-map_none f (Some x) e = cc
 
 pub mixed_none : (ts : List Token) → (HasName ts × HasMark ts → ⊥) → mixed_cause ts ≡ None
 mixed_none ts h = rw (has_both-not ts h) refl
@@ -231,3 +227,12 @@ none_first place (value ∷ values) h =
 
 pub no_first_float : (fragments : List Fragment) → first_float_from 0 fragments ≡ None → bound.first_float (all_values fragments) ≡ None
 no_first_float fragments h = none_first 0 (all_values fragments) (all_no_float 0 fragments h)
+
+-- an error that is told has a cause
+pub some_cause : (x y : Option Cause) → Some x ≡ option_map Some y → (why : Cause) × (y ≡ Some why) × (x ≡ Some why)
+some_cause x None e = cc
+some_cause x (Some why) e = (why, refl, cc)
+
+pub no_error : (y : Option Cause) → None ≡ option_map (λ x. Some x) y → y ≡ None
+no_error None e = refl
+no_error (Some why) e = cc

@@ -5,7 +5,7 @@ use Rattle.std.proofs.Common.{map, sym, subst, arith, ◌≡◌, ◌++◌, not, 
 use Rattle.std.specs.Char.{is_ascii_digit}
 use Rattle.std.specs.List.{list_all}
 use Rattle.std.specs.Str.{byte}
-use Rattle.std.proofs.lemmas.Bool.{and_parts, and_from}
+use Rattle.std.proofs.lemmas.Bool.{and_parts}
 use Rattle.mysql_sql_text.specs.LiteralShape.{AreDigits}
 use Rattle.mysql_named_params.specs.Bytes.{colon, dash, point, question_mark, plus}
 use Rattle.mysql_named_params.specs.Tokens.{AreTokensBefore, Token, text_of, text_then, Plain}
@@ -17,6 +17,7 @@ use Rattle.mysql_binding.proofs.LiteralTokenLemmas.{IsCutBefore, AreSettledBefor
 use Rattle.mysql_binding.proofs.BoundStatementLemmas.{StayWithin, StayWithin-append, plain_within}
 use Rattle.mysql_binding.proofs.UpToSpliceLemmas.{opens_nothing_after}
 use Rattle.mysql_float_literal.specs.DoubleShape.{IsSign, no_sign, minus_sign, IsFraction, no_fraction, point_and_digits, IsDouble, double_shape}
+use Rattle.mysql_sql_text.proofs.DigitLemmas.{digits_all}
 
 -- ---- its first bytes
 
@@ -110,10 +111,6 @@ no_fraction_dashes (d ∷ fraction) exponent rest all s e =
     let p = and_parts (is_ascii_digit d) (list_all is_ascii_digit fraction) all in
     rw (other is_ascii_digit d question_mark p.0 refl, other is_ascii_digit d colon p.0 refl, no_fraction_dashes fraction exponent rest p.1 s e, other is_ascii_digit d (byte "e") p.0 refl, other is_ascii_digit d (byte "E") p.0 refl, p.0) refl
 
-all_of : (bytes : List ℕ) → AreDigits bytes → list_all is_ascii_digit bytes ≡ true
-all_of [] h = absurd h
-all_of (b ∷ bytes) h = and_from _ _ h.0 h.1
-
 -- a point and digits before an exponent
 point_then : (mode : Bool) {sign : List ℕ} (fraction exponent : List ℕ) → AreDigits fraction → IsSign sign → AreDigits exponent →
     IsPlainText mode (byte "e" ∷ (sign ++ exponent)) → IsPlainText mode (point ∷ (fraction ++ (byte "e" ∷ (sign ++ exponent))))
@@ -124,7 +121,7 @@ point_then mode {sign} fraction exponent f s e c =
       cut_text = ap (λ x. point ∷ x) d.cut_text;
       cut_tokens = λ rest. (plain_at mode point _ refl, d.cut_tokens rest);
       cut_settled = λ rest. (
-        ap not (ap begins_fraction (text_then-text_of (plain_tokens text) rest ∙ ap (λ x. x ++ rest) d.cut_text) ∙ no_fraction_dashes fraction exponent rest (all_of fraction f) s e),
+        ap not (ap begins_fraction (text_then-text_of (plain_tokens text) rest ∙ ap (λ x. x ++ rest) d.cut_text) ∙ no_fraction_dashes fraction exponent rest (digits_all fraction f) s e),
         refl,
         d.cut_settled rest,
       );

@@ -1,14 +1,13 @@
 -- Queries with fragments, as the code writes them.
 use Rattle.std.specs.Prelude.{Bool, Ok, option_map}
 use Rattle.std.specs.Option.{option_or}
-use Rattle.std.proofs.Common.{◌≡◌, ◌+◌, ◌++◌, ◌<◌, ◌≤◌, ℕ, true, false, List, [], ◌∷◌, length, map, take, drop, get_or, Some, None, Option, arith, inl, inr, refl, sym, ap, ◌∙◌, subst, append_assoc, add-one, drop-cons, eq-eqb}
+use Rattle.std.proofs.Common.{◌≡◌, ◌+◌, ◌++◌, ◌<◌, ◌≤◌, ℕ, true, false, List, [], ◌∷◌, length, map, take, drop, get_or, Some, None, arith, inl, inr, refl, sym, ap, ◌∙◌, subst, append_assoc, add-one, drop-cons, eq-eqb}
 use Rattle.std.proofs.lemmas.List.{drop_all, length-map, get_or-map}
 use Rattle.mysql_values.specs.declared.value.Value.{Value}
-use Rattle.mysql_named_params.specs.Tokens.{Token, IsTokens, OnTokens, text_of, bytes_of, Name, Mark}
+use Rattle.mysql_named_params.specs.Tokens.{Token, IsTokens, OnTokens, text_of}
 use Rattle.mysql_named_params.specs.Places.{names, marks, place_count, HasName, HasMark}
-use Rattle.mysql_named_params.specs.FirstPlace.{IsFirstPlace, place_kind}
+use Rattle.mysql_named_params.specs.FirstPlace.{IsFirstPlace}
 use Rattle.mysql_named_params.specs.declared.places.FoundPlace.{FoundPlace}
-use Rattle.mysql_named_params.specs.declared.places.PlaceKind.{PlaceKind}
 use Rattle.mysql_named_params.proofs.FoundPlaceLemmas.{parted}
 use Rattle.mysql_named_params.proofs.TokenListLemmas.{one_token_list}
 use Rattle.mysql_named_params.proofs.TokenRowLemmas.{place_count-append}
@@ -26,25 +25,18 @@ use Rattle.mysql_binding.proofs.CauseLemmas as bound_lemmas
 use Rattle.mysql_binding.proofs.PieceLemmas.{bound_none, joined_text-pieces_from, joined_text_count}
 use Rattle.mysql_fragments.specs.Expanded.{IsExpanded, IsExpandedQuery}
 use Rattle.mysql_fragments.specs.FilledText.{ArePlaced}
-use Rattle.mysql_fragments.specs.FragmentErrors.{Cause, mixed_cause, later_cause, first_cause, literal_float, first_fault_from, cause_of, cause_of_places, IsCauseOrMemory, IsPlaceRefusal, refused_fragments, mixed_query}
+use Rattle.mysql_fragments.specs.FragmentErrors.{mixed_cause, later_cause, first_cause, literal_float, first_fault_from, cause_of, cause_of_places, IsCauseOrMemory, IsPlaceRefusal, refused_fragments, mixed_query}
 use Rattle.mysql_fragments.specs.FragmentText.{all_values, fragment_text, mark_number}
 use Rattle.mysql_fragments.specs.GivenFragments.{GivenFragments, fragments_for}
 use Rattle.mysql_fragments.specs.declared.fragment.Fragment.{Fragment}
 use Rattle.mysql_fragments.specs.declared.fragments_error.FragmentsError.{FragmentsError}
 use Rattle.mysql_fragments.specs.declared.fragments_error.FragmentsError.TheVariants.{Mixed}
-use Rattle.mysql_fragments.proofs.CauseLemmas.{mixed_none, mixed_some, no_later_parts, first_by, first_refused, fragment_each, no_first_float}
+use Rattle.mysql_fragments.proofs.CauseLemmas.{mixed_none, mixed_some, no_later_parts, first_by, first_refused, fragment_each, no_first_float, some_cause, no_error}
 use Rattle.mysql_fragments.proofs.ShapeLemmas.{fragment_shapes, mark_sum}
 use Rattle.mysql_fragments.proofs.SplicedFragmentLemmas.{as_many, fragment_lists, fragments_isolated, fragments_nameless, fragments_marks, fragments_stand_alone}
+use Rattle.mysql_binding.proofs.WrittenTextLemmas.{bound-place, place_count-place}
 
 -- ---- the causes
-
-some_cause : (x y : Option Cause) → Some x ≡ option_map Some y → (why : Cause) × (y ≡ Some why) × (x ≡ Some why)
-some_cause x None e = cc
-some_cause x (Some why) e = (why, refl, cc)
-
-no_error : (y : Option Cause) → None ≡ option_map (λ x. Some x) y → y ≡ None
-no_error None e = refl
-no_error (Some why) e = cc
 
 module _ (as_literals mode : Bool) (query : List ℕ) (given : GivenFragments) (survey : Survey) (o : OnTokens mode query (IsSurvey survey)) where
   pub mixed_refused : 0 < survey.names → 0 < survey.marks →
@@ -165,23 +157,6 @@ spliced_none mode write query fragments text o nil = record {
   room = o.2;
   text_is = ap (λ x. x ++ bound o.0 (map write fragments)) nil;
 }
-
--- (these two stand in mysql_binding's WrittenTextLemmas too, which doesn't lend them)
-bound-place : (front : List Token) (t : Token) (k : PlaceKind) (back : List Token) (l : List ℕ) (ls : List (List ℕ)) →
-    place_count front ≡ 0 → place_kind t ≡ Some k →
-    bound (front ++ t ∷ back) (l ∷ ls) ≡ text_of front ++ (l ++ bound back ls)
-bound-place [] (Name name) k back l ls e is = refl
-bound-place [] Mark k back l ls e is = refl
-bound-place [] t k back l ls e is = cc
-bound-place (Name name ∷ front) t k back l ls e is = absurd (omega arith)
-bound-place (Mark ∷ front) t k back l ls e is = absurd (omega arith)
-bound-place (u ∷ front) t k back l ls e is = ap (λ x. bytes_of u ++ x) (bound-place front t k back l ls e is) ∙ sym (append_assoc (bytes_of u) (text_of front) _)
-
-place_count-place : (t : Token) (k : PlaceKind) (back : List Token) → place_kind t ≡ Some k →
-    place_count (t ∷ back) ≡ place_count back + 1
-place_count-place (Name name) k back e = refl
-place_count-place Mark k back e = refl
-place_count-place t k back e = cc
 
 module _ {X : Type 0} (mode : Bool) (write : X → List ℕ) (query rest : List ℕ) (fragments : List X) (i : ℕ) (text : List ℕ) (s : SplicedSoFar mode write query rest fragments i text) where
   -- as long as fragments are left, a place is found

@@ -24,9 +24,9 @@ use Rattle.mysql_binding.specs.Replaced.{AreTokensOf, with_literal_tokens}
 use Rattle.mysql_binding.specs.WrittenText.{IsGivenText}
 use Rattle.mysql_binding.proofs.BoundText.{bound}
 use Rattle.mysql_binding.proofs.BoundTextLemmas.{is_bound_text}
-use Rattle.mysql_binding.proofs.CauseLemmas.{or_none}
+use Rattle.mysql_binding.proofs.CauseLemmas.{or_none, map_none}
 use Rattle.mysql_binding.proofs.PieceLemmas.{bound_none, joined_text-pieces_from, joined_text_is}
-use Rattle.mysql_binding.proofs.ValueLiteralLemmas.{float_step, has_literal}
+use Rattle.mysql_binding.proofs.ValueLiteralLemmas.{none_step, has_literal}
 use Rattle.mysql_fragments.specs.Expanded.{IsBoundFragments, IsExpanded}
 use Rattle.mysql_fragments.specs.FilledText.{ArePlaced, IsFilledQuery, filled_item, filled_items, filled_row, filled_text}
 use Rattle.mysql_fragments.specs.FragmentErrors.{first_fault_from}
@@ -41,7 +41,7 @@ use Rattle.mysql_fragments.specs.declared.fragment.Fragment.TheVariants as one
 use Rattle.mysql_fragments.proofs.ExpandedLemmas.{expanded_parts, expanded_nameless, expanded_marks, is_expanded, no_cause_expanded}
 use Rattle.mysql_fragments.proofs.FragmentLemmas.{comma_then, fragment_list_of, in_brackets, list_list, row_list}
 use Rattle.mysql_fragments.proofs.FragmentListLemmas.{IsFragmentList, mark_list}
-use Rattle.mysql_fragments.proofs.ShapeLemmas.{fragment_shape, if_row, map_none, item_shape, number_shape}
+use Rattle.mysql_fragments.proofs.ShapeLemmas.{fragment_shape, if_row, item_shape, number_shape}
 use Rattle.mysql_float_literal.specs.DoubleText.{double_text}
 use Rattle.mysql_fragments.proofs.CauseLemmas.{no_first_float}
 use Rattle.mysql_fragments.proofs.TextLemmas.{flat_map_more}
@@ -222,7 +222,7 @@ known_written : (literal : Literals) (IsKnown : LiteralFacts) (values : List Val
     AreKnownUnlessFloats literal IsKnown values → AreWrittenAs literal IsKnown values (map (written_literal literal) values)
 known_written literal IsKnown [] place none k = tt
 known_written literal IsKnown (v ∷ values) place none k =
-    let step = float_step _ place (bound_cause.first_float_from (place + 1) values) none in
+    let step = none_step _ place (bound_cause.first_float_from (place + 1) values) none in
     let one = k.0 step.0 in
     (one.0, one.1, known_written literal IsKnown values (place + 1) step.1 k.1)
 

@@ -26,7 +26,9 @@ use Rattle.mysql_binding.proofs.UpToSpliceLemmas.{joins_nothing, opens_nothing_a
 use Rattle.mysql_fragments.specs.FragmentFaults.{escapes_end, is_keyword, is_keyword_from}
 use Rattle.mysql_fragments.specs.FragmentShape.{IsIdentifier, one_name, more_names, IsFragment, mark_fragment, literal_fragment, decimal_fragment, negative_decimal_fragment, double_fragment, identifier_fragment, keyword_fragment, list_fragment, row_fragment}
 use Rattle.mysql_fragments.specs.FragmentText.{doubled, identifier_text}
-use Rattle.mysql_fragments.proofs.FragmentListLemmas.{IsFragmentList, decimal_list, decimal_tokens, double_list, last-append, literal_list, mark_list, negative_list, no_marks, no_names, placeless_alone}
+use Rattle.mysql_fragments.proofs.FragmentListLemmas.{IsFragmentList, decimal_list, decimal_tokens, double_list, literal_list, mark_list, negative_list, no_marks, placeless_alone}
+use Rattle.mysql_binding.proofs.RenamedPlaceLemmas.{last-append}
+use Rattle.mysql_named_params.proofs.FoundPlaceLemmas.{names-no_place}
 
 -- ---- an identifier
 
@@ -208,7 +210,7 @@ identifier_list mode h =
         list_settled = λ rest f. p.1.path_settled rest;
         list_alone = placeless_alone p.0 p.1.path_places;
         list_within = p.1.path_within;
-        list_names = no_names p.0 p.1.path_places;
+        list_names = names-no_place p.0 p.1.path_places;
         list_marks = no_marks p.0 p.1.path_places;
       },
     )
@@ -332,7 +334,7 @@ keyword_list mode (b ∷ bytes) h =
         list_settled = λ rest f. words_settled (b ∷ bytes) all rest;
         list_within = words_within (b ∷ bytes) all;
         list_alone = placeless_alone (plain_tokens (b ∷ bytes)) (plain_places bytes);
-        list_names = no_names (plain_tokens (b ∷ bytes)) (plain_places bytes);
+        list_names = names-no_place (plain_tokens (b ∷ bytes)) (plain_places bytes);
         list_marks = no_marks (plain_tokens (b ∷ bytes)) (plain_places bytes);
       },
     )

@@ -2,12 +2,11 @@
 -- bytes open nothing and its tokens are portable, and the places that it brings stand alone too. This of a mark,
 -- a literal and numbers.
 use Rattle.std.specs.Prelude.{Bool}
-use Rattle.std.proofs.Common.{◌≡◌, ◌++◌, ◌||◌, not, ℕ, true, false, List, [], ◌∷◌, if◌then◌else◌, Option, Some, None, arith, refl, ap, ◌∙◌, sym, append_assoc, true≢false}
+use Rattle.std.proofs.Common.{◌≡◌, ◌++◌, ◌||◌, not, ℕ, true, false, List, [], ◌∷◌, None, arith, refl, ap, ◌∙◌, sym, append_assoc, true≢false}
 use Rattle.std.specs.Char.{is_ascii_digit}
 use Rattle.std.specs.List.{list_all}
 use Rattle.std.specs.Str.{byte}
 use Rattle.std.proofs.lemmas.Bool.{and_parts, and_from, false_from_ne_true}
-use Rattle.std.proofs.lemmas.List.{nil_from_length}
 use Rattle.mysql_sql_text.specs.LiteralEnd.{continues_literal}
 use Rattle.mysql_sql_text.specs.LiteralShape.{AreDigits, IsLiteral}
 use Rattle.mysql_named_params.specs.Bytes.{colon, dash, point, question_mark}
@@ -23,20 +22,12 @@ use Rattle.mysql_binding.proofs.LiteralTokenLemmas.{AreSettledBefore, AreSettled
 use Rattle.mysql_binding.proofs.UpToSpliceLemmas.{opens_nothing_after}
 use Rattle.mysql_float_literal.specs.DoubleShape.{IsDouble}
 use Rattle.mysql_fragments.proofs.DoubleTokenLemmas.{IsDouble-plain, double_opens_nothing, double_within}
+use Rattle.mysql_sql_text.proofs.DigitLemmas.{digits_all}
+use Rattle.mysql_binding.proofs.RenamedPlaceLemmas.{if_alone}
+use Rattle.mysql_named_params.proofs.FoundPlaceLemmas.{names-no_place}
 
 -- ---- texts that may stand before a place (these two stand in mysql_binding's RenamedPlaceLemmas too,
 -- which doesn't lend them)
-
-pub last-append : (test : ℕ → Bool) (xs : List ℕ) (b : ℕ) (ys : List ℕ) →
-    none_or_last test (xs ++ b ∷ ys) ≡ none_or_last test (b ∷ ys)
-last-append test [] b ys = refl
-last-append test (x ∷ []) b ys = refl
-last-append test (x ∷ x' ∷ xs) b ys = last-append test (x' ∷ xs) b ys
-
-pub if_alone : (b : Bool) (x : Option (ℕ × ℕ)) (p : ℕ × ℕ) → b ≡ true → x ≡ None →
-    (if b then x else Some p) ≡ None
-if_alone true x p e h = h
-if_alone false x p e h = absurd (true≢false (sym e))
 
 -- the places of the list stand alone if it does, before tokens whose places do
 abbrev pub StandAlone : List Token → Type 0
@@ -70,9 +61,6 @@ placeless_alone list none more first each place before last = go list none place
     go (Mark ∷ list) none place before = absurd (omega arith)
     go (t ∷ list) none place before = go list none place (before ++ bytes_of t)
 
-pub no_names : (list : List Token) → place_count list ≡ 0 → names list ≡ []
-no_names list none = nil_from_length (names list) (omega (arith, none, place_count-sum list))
-
 pub no_marks : (list : List Token) → place_count list ≡ 0 → marks list ≡ 0
 no_marks list none = omega (arith, none, place_count-sum list)
 
@@ -104,7 +92,7 @@ literal_list mode literal h =
         list_settled = λ rest h. c.1.cut_settled rest;
         list_alone = placeless_alone c.0 c.1.cut_places;
         list_within = literal_within mode literal c.0 (within mode h) (record { text = c.1.cut_text; each = c.1.cut_tokens [] });
-        list_names = no_names c.0 c.1.cut_places;
+        list_names = names-no_place c.0 c.1.cut_places;
         list_marks = no_marks c.0 c.1.cut_places;
       },
     )
@@ -141,10 +129,6 @@ abbrev pub decimal_tokens : List ℕ → List ℕ → List Token
 decimal_tokens whole fraction = plain_tokens whole ++ (Plain dot ∷ plain_tokens fraction)
 
 module _ (whole fraction : List ℕ) (w : AreDigits whole) (f : AreDigits fraction) where
-  fraction_digits : (bytes : List ℕ) → AreDigits bytes → list_all is_ascii_digit bytes ≡ true
-  fraction_digits [] h = absurd h
-  fraction_digits (b ∷ bytes) h = and_from _ _ h.0 h.1
-
   decimal_text : text_of (decimal_tokens whole fraction) ≡ whole ++ (dot ∷ fraction)
   decimal_text = text_of-append (plain_tokens whole) (Plain dot ∷ plain_tokens fraction) ∙ (ap (λ x. x ++ text_of (Plain dot ∷ plain_tokens fraction)) (plain_text whole) ∙ ap (λ x. whole ++ (dot ∷ x)) (plain_text fraction))
 
@@ -156,7 +140,7 @@ module _ (whole fraction : List ℕ) (w : AreDigits whole) (f : AreDigits fracti
   decimal_settled : (rest : List ℕ) → none_or_first may_stand_after rest ≡ true → AreSettledBefore rest (decimal_tokens whole fraction)
   decimal_settled rest h =
       AreSettledBefore-append (plain_tokens whole) (Plain dot ∷ plain_tokens fraction) rest (plain_settled whole (AreDigits-alphanumeric whole w) _)
-      (ap not (fraction_ends fraction (fraction_digits fraction f) rest h), refl, plain_settled fraction (AreDigits-alphanumeric fraction f) rest)
+      (ap not (fraction_ends fraction (digits_all fraction f) rest h), refl, plain_settled fraction (AreDigits-alphanumeric fraction f) rest)
 
   decimal_within : StayWithin (decimal_tokens whole fraction)
   decimal_within =
@@ -177,7 +161,7 @@ module _ (whole fraction : List ℕ) (w : AreDigits whole) (f : AreDigits fracti
     list_settled = decimal_settled;
     list_alone = placeless_alone (decimal_tokens whole fraction) decimal_places;
     list_within = decimal_within;
-    list_names = no_names (decimal_tokens whole fraction) decimal_places;
+    list_names = names-no_place (decimal_tokens whole fraction) decimal_places;
     list_marks = no_marks (decimal_tokens whole fraction) decimal_places;
   }
 
@@ -201,7 +185,7 @@ negative_list mode (d ∷ digits) fraction w f =
       list_settled = λ rest h. (minus_portable d (text_then rest (plain_tokens digits ++ (Plain dot ∷ plain_tokens fraction))) w.0, minus_single d (text_then rest (plain_tokens digits ++ (Plain dot ∷ plain_tokens fraction))) w.0, c.list_settled rest h);
       list_alone = placeless_alone (Plain dash ∷ decimal_tokens whole fraction) places;
       list_within = (refl, c.list_within);
-      list_names = no_names (Plain dash ∷ decimal_tokens whole fraction) places;
+      list_names = names-no_place (Plain dash ∷ decimal_tokens whole fraction) places;
       list_marks = no_marks (Plain dash ∷ decimal_tokens whole fraction) places;
     }
 
@@ -219,7 +203,7 @@ double_list mode text h =
         list_settled = λ rest h. c.cut_settled rest;
         list_alone = placeless_alone list c.cut_places;
         list_within = double_within h;
-        list_names = no_names list c.cut_places;
+        list_names = names-no_place list c.cut_places;
         list_marks = no_marks list c.cut_places;
       },
     )

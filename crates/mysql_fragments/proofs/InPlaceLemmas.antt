@@ -22,15 +22,15 @@ use Rattle.mysql_binding.specs.Replaced.{with_literal_tokens}
 use Rattle.mysql_binding.specs.StandsAlone.{may_stand_before, may_stand_after, none_or_first, none_or_last, first_not_alone_from}
 use Rattle.mysql_binding.specs.ValueLiterals.{AreLiteralsOf}
 use Rattle.mysql_binding.proofs.BoundText.{bound}
-use Rattle.mysql_binding.proofs.CauseLemmas.{or_none}
+use Rattle.mysql_binding.proofs.CauseLemmas.{or_none, map_none}
 use Rattle.mysql_binding.proofs.ContentsLemmas.{alone_parts}
 use Rattle.mysql_binding.proofs.PieceLemmas.{joined_text_is, joined_text-pieces_from}
 use Rattle.mysql_binding.proofs.ValueLiteralLemmas.{has_literal}
 use Rattle.mysql_fragments.specs.Expanded.{IsBoundFragments}
-use Rattle.mysql_fragments.specs.FilledText.{filled_item, filled_items, filled_row, filled_text}
 use Rattle.mysql_fragments.specs.FragmentErrors.{first_fault_from, first_float_from, has_float, is_float_item}
 use Rattle.mysql_fragments.specs.FragmentFaults.{digit_count, fault_of, is_decimal, item_fault, items_fault, list_fault, names_fault, number_fault, row_fault, rows_fault, rows_fault_from}
 use Rattle.mysql_fragments.specs.FragmentsInPlace.{ReadsAsNumber, ReadsAsDouble, ItemReadsAsItself, AreReadAsItems, read_last_item, read_more_items, AreReadAsRows, read_last_row, read_more_rows, ReadsAsItself, ReadAsThemselves}
+use Rattle.mysql_fragments.specs.FilledText.{filled_item, filled_items, filled_row, filled_text}
 use Rattle.mysql_fragments.specs.FragmentText.{all_values, identifier_text, joined}
 use Rattle.mysql_fragments.specs.GivenFragments.{GivenFragments}
 use Rattle.mysql_fragments.specs.ReadFragment.{AreReadAsNames, read_exact}
@@ -42,7 +42,7 @@ use Rattle.mysql_fragments.proofs.CauseLemmas.{if_none, or_false}
 use Rattle.mysql_fragments.proofs.ExpandedLemmas.{expanded_alone, expanded_nameless, expanded_parts}
 use Rattle.mysql_fragments.proofs.FilledLemmas.{filled_bound}
 use Rattle.mysql_fragments.proofs.ReadFragmentLemmas.{decimal_back, identifier_read, names_read, no_backquote, no_digit}
-use Rattle.mysql_fragments.proofs.ShapeLemmas.{if_fault, if_row, map_none}
+use Rattle.mysql_fragments.proofs.ShapeLemmas.{if_fault, if_row}
 
 module _ (mode : Bool) where
   -- the literal of a value

@@ -23,3 +23,4 @@ pub mod SteadyPartLemmas
 pub mod SteadyFragmentLemmas
 pub mod SaidSteadyLemmas
 pub mod SteadyRoomLemmas
+pub mod FragmentMapLemmas

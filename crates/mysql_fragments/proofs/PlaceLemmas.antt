@@ -36,7 +36,7 @@ get-fragment_map es q = get-from_entries nat_list_cmp_total _ q ∙ find-lookup 
 abbrev pub AreFound : FragmentMap → List (List ℕ) → List (Bor Fragment) → Type 0
 AreFound m ns fs = map (get m) ns ≡ map (λ x. Some x) (referents fs)
 
-at_found : (m : FragmentMap) (ns : List (List ℕ)) (fs : List Fragment) → map (get m) ns ≡ map (λ x. Some x) fs →
+pub at_found : (m : FragmentMap) (ns : List (List ℕ)) (fs : List Fragment) → map (get m) ns ≡ map (λ x. Some x) fs →
     fragments_at m ns ≡ Ok fs
 at_found m [] [] e = refl
 at_found m [] (f ∷ fs) e = cc
@@ -98,7 +98,7 @@ pub named_refused : (given : GivenFragments) (m : FragmentMap) (ns : List (List 
 named_refused given m [] e none = ap (λ g. fragments_for g []) e
 named_refused given m (n ∷ ns) e none = absurd (omega arith)
 
-named_some : (given : GivenFragments) (m : FragmentMap) (ns : List (List ℕ)) → given ≡ named m → (length ns ≡ 0 → ⊥) →
+pub named_some : (given : GivenFragments) (m : FragmentMap) (ns : List (List ℕ)) → given ≡ named m → (length ns ≡ 0 → ⊥) →
     fragments_for given ns ≡ fragments_at m ns
 named_some given m [] e some = absurd (some refl)
 named_some given m (n ∷ ns) e some = ap (λ g. fragments_for g (n ∷ ns)) e

@@ -4,19 +4,20 @@ use Rattle.std.specs.Char.{is_ascii_digit}
 use Rattle.std.specs.List.{list_all}
 use Rattle.std.specs.Str.{byte}
 use Rattle.std.specs.Str.Parse.{digits_value}
-use Rattle.std.proofs.Common.{◌≡◌, ◌+◌, ◌-◌, ◌*◌, ◌++◌, ◌==◌, ℕ, true, false, List, [], ◌∷◌, length, map, Some, inl, inr, refl, sym, ap, ◌∙◌, subst, append_assoc, append-nil, true≢false, arith, rules}
+use Rattle.std.proofs.Common.{◌≡◌, ◌+◌, ◌-◌, ◌*◌, ◌++◌, ◌==◌, ℕ, true, false, List, [], ◌∷◌, length, map, Some, inl, inr, refl, sym, ap, ◌∙◌, subst, append_assoc, append-nil, true≢false, arith}
 use Rattle.std.proofs.lemmas.Bool.{and_parts, and_from, cases_Bool, cond-true, eqb-true}
 use Rattle.std.proofs.lemmas.Bool.Decides.{nat_tests}
-use Rattle.std.proofs.lemmas.Str.Parse.{IsNumeralModel, numerals_by_fold}
 use Rattle.mysql_sql_text.specs.LiteralEnd.{BeginsWithout}
 use Rattle.mysql_sql_text.specs.LiteralShape.{AreDigits}
-use Rattle.mysql_sql_text.specs.ReadLiteral.{read_digits, read_natural}
+use Rattle.mysql_sql_text.specs.ReadLiteral.{read_natural}
 use Rattle.mysql_named_params.specs.Bytes.{backquote, dash, point}
 use Rattle.mysql_binding.specs.StandsAlone.{may_stand_after, none_or_first}
 use Rattle.mysql_fragments.specs.FragmentFaults.{is_decimal}
 use Rattle.mysql_fragments.specs.FragmentText.{doubled, identifier_text, joined}
 use Rattle.mysql_fragments.proofs.ShapeLemmas.{IsNumber, whole_number, with_point, number_parts}
 use Rattle.mysql_fragments.specs.ReadFragment.{is_backquote, is_point, with_byte, read_name, read_identifier, AreReadAsNames, read_last, read_more, ReadsAsOne, read_fraction, read_after_whole, read_unsigned, read_exact}
+use Rattle.mysql_sql_text.proofs.DigitLemmas.{digits_all}
+use Rattle.mysql_sql_text.proofs.ReadNaturalLemmas.{numeral_model, value_after, read_digits-append}
 
 -- ---- what may follow a place
 
@@ -78,15 +79,6 @@ names_read name (next ∷ names) rest h =
 
 -- ---- exact numbers
 
--- the number that digits go on to, after the number so far
-value_after : ℕ → List ℕ → ℕ
-value_after n [] = n
-value_after n (d ∷ ds) = value_after (10 * n + (d - byte "0")) ds
-
-numeral_model : IsNumeralModel (λ ds. list_all is_ascii_digit ds ≡ true) (value_after 0)
-unfolding value_after
-numeral_model = numerals_by_fold _ (search rules) value_after (search rules)
-
 value_is : (ds : List ℕ) → list_all is_ascii_digit ds ≡ true → value_after 0 ds ≡ digits_value 10 ds
 value_is ds h = numeral_model.same ds (numeral_model.to ds h)
 
@@ -94,14 +86,6 @@ value_after-append : (n : ℕ) (ds es : List ℕ) → value_after n (ds ++ es) �
 unfolding value_after
 value_after-append n [] es = refl
 value_after-append n (d ∷ ds) es = value_after-append (10 * n + (d - byte "0")) ds es
-
-digits_read : (n : ℕ) (ds rest : List ℕ) → list_all is_ascii_digit ds ≡ true → BeginsWithout is_ascii_digit rest →
-    read_digits n (ds ++ rest) ≡ (value_after n ds, rest)
-unfolding value_after
-digits_read n [] [] d h = refl
-digits_read n [] (b ∷ rest) d h = rw h refl
-digits_read n (c ∷ ds) rest d h =
-    let p = and_parts (is_ascii_digit c) (list_all is_ascii_digit ds) d in rw p.0 (digits_read (10 * n + (c - byte "0")) ds rest p.1 h)
 
 fraction_read : (n count : ℕ) (ds rest : List ℕ) → list_all is_ascii_digit ds ≡ true → BeginsWithout is_ascii_digit rest →
     read_fraction n count (ds ++ rest) ≡ ((value_after n ds, count + length ds), rest)
@@ -112,13 +96,9 @@ fraction_read n count (c ∷ ds) rest d h =
     let p = and_parts (is_ascii_digit c) (list_all is_ascii_digit ds) d in
     rw p.0 (fraction_read (10 * n + (c - byte "0")) (count + 1) ds rest p.1 h ∙ ap (λ k. ((value_after (10 * n + (c - byte "0")) ds, k), rest)) (omega arith))
 
-all_digits : (ds : List ℕ) → AreDigits ds → list_all is_ascii_digit ds ≡ true
-all_digits [] h = absurd h
-all_digits (b ∷ ds) h = and_from _ _ h.0 h.1
-
 natural_read : (ds rest : List ℕ) → AreDigits ds → BeginsWithout is_ascii_digit rest → read_natural (ds ++ rest) ≡ Some (value_after 0 ds, rest)
 natural_read [] rest d h = absurd d
-natural_read (c ∷ ds) rest d h = cond-true (is_ascii_digit c) _ _ d.0 ∙ ap Some (digits_read 0 (c ∷ ds) rest (all_digits (c ∷ ds) d) h)
+natural_read (c ∷ ds) rest d h = cond-true (is_ascii_digit c) _ _ d.0 ∙ ap Some (read_digits-append 0 (c ∷ ds) rest (digits_all (c ∷ ds) d) h)
 
 after_whole : (n : ℕ) (rest : List ℕ) → BeginsWithout is_point rest → read_after_whole n rest ≡ ((n, 0), rest)
 after_whole n [] h = refl
@@ -129,7 +109,7 @@ whole_read : (ds rest : List ℕ) → AreDigits ds → none_or_first may_stand_a
     read_unsigned (ds ++ rest) ≡ Some ((digits_value 10 ds, 0), rest)
 whole_read ds rest d h =
     ap (option_map (λ r. read_after_whole r.0 r.1)) (natural_read ds rest d (no_digit rest h))
-    ∙ (ap Some (after_whole (value_after 0 ds) rest (no_point rest h)) ∙ ap (λ n. Some ((n, 0), rest)) (value_is ds (all_digits ds d)))
+    ∙ (ap Some (after_whole (value_after 0 ds) rest (no_point rest h)) ∙ ap (λ n. Some ((n, 0), rest)) (value_is ds (digits_all ds d)))
 
 all_both : (xs ys : List ℕ) → list_all is_ascii_digit xs ≡ true → list_all is_ascii_digit ys ≡ true → list_all is_ascii_digit (xs ++ ys) ≡ true
 all_both [] ys p q = q
@@ -138,9 +118,9 @@ all_both (x ∷ xs) ys p q = let r = and_parts (is_ascii_digit x) (list_all is_a
 parts_read : (whole fraction rest : List ℕ) → AreDigits whole → AreDigits fraction → none_or_first may_stand_after rest ≡ true →
     read_unsigned (whole ++ (point ∷ (fraction ++ rest))) ≡ Some ((digits_value 10 (whole ++ fraction), length fraction), rest)
 parts_read whole fraction rest w f h =
-    let both : list_all is_ascii_digit (whole ++ fraction) ≡ true = all_both whole fraction (all_digits whole w) (all_digits fraction f) in
+    let both : list_all is_ascii_digit (whole ++ fraction) ≡ true = all_both whole fraction (digits_all whole w) (digits_all fraction f) in
     ap (option_map (λ r. read_after_whole r.0 r.1)) (natural_read whole (point ∷ (fraction ++ rest)) w refl)
-    ∙ (ap Some (fraction_read (value_after 0 whole) 0 fraction rest (all_digits fraction f) (no_digit rest h))
+    ∙ (ap Some (fraction_read (value_after 0 whole) 0 fraction rest (digits_all fraction f) (no_digit rest h))
     ∙ (ap (λ k. Some ((value_after (value_after 0 whole) fraction, k), rest)) (omega arith)
     ∙ ap (λ n. Some ((n, length fraction), rest)) (sym (value_after-append 0 whole fraction) ∙ value_is (whole ++ fraction) both)))
 

@@ -8,7 +8,7 @@ use Rattle.std.proofs.lemmas.Bool.{and_parts, and_from, cases_Bool, eqb-true}
 use Rattle.mysql_values.specs.declared.value.Value.{Value}
 use Rattle.mysql_sql_text.specs.LiteralShape.{AreDigits, natural_literal, negative_literal}
 use Rattle.mysql_named_params.specs.Bytes.{dash, point}
-use Rattle.mysql_binding.proofs.CauseLemmas.{or_none}
+use Rattle.mysql_binding.proofs.CauseLemmas.{or_none, map_none}
 use Rattle.mysql_fragments.specs.FragmentErrors.{first_fault_from}
 use Rattle.mysql_fragments.specs.FragmentFaults.{character_count, digit_count, ends_in_space, escapes_end, fault_of, is_decimal, is_keyword, is_number_from, item_fault, items_fault, list_fault, name_fault, names_fault, names_fault_from, number_fault, row_fault, rows_fault, rows_fault_from}
 use Rattle.mysql_fragments.specs.FragmentShape.{IsIdentifier, one_name, more_names, IsFragment, AreFragments, mark_fragment, literal_fragment, decimal_fragment, negative_decimal_fragment, double_fragment, identifier_fragment, keyword_fragment, list_fragment, row_fragment}
@@ -22,6 +22,7 @@ use Rattle.mysql_fragments.specs.declared.fragment.Fragment.{Fragment}
 use Rattle.mysql_fragments.specs.declared.fragment.Fragment.TheVariants as one
 use Rattle.mysql_fragments.specs.declared.fragments_error.FragmentFault.{FragmentFault}
 use Rattle.mysql_fragments.specs.declared.fragments_error.FragmentFault.TheVariants as fault
+use Rattle.mysql_sql_text.proofs.DigitLemmas.{digits_push, digits_all}
 
 -- ---- exact numbers
 
@@ -46,28 +47,14 @@ pub data IsNumber : List ℕ → Type 0 where
   whole_number : (bytes : List ℕ) → AreDigits bytes → IsNumber bytes
   with_point : (whole fraction : List ℕ) → AreDigits whole → AreDigits fraction → IsNumber (whole ++ (codes "." ++ fraction))
 
-all_push : (front : List ℕ) (b : ℕ) → list_all is_ascii_digit front ≡ true → is_ascii_digit b ≡ true → AreDigits (front ++ b ∷ [])
-all_push [] b h e = (e, refl)
-all_push (c ∷ front) b h e =
-    let p = and_parts (is_ascii_digit c) (list_all is_ascii_digit front) h in
-    (p.0, digits_all (front ++ b ∷ []) (all_push front b p.1 e))
-  where
-    digits_all : (bytes : List ℕ) → AreDigits bytes → list_all is_ascii_digit bytes ≡ true
-    digits_all [] h = absurd h
-    digits_all (c ∷ bytes) h = and_from _ _ h.0 h.1
-
-all_of : (bytes : List ℕ) → AreDigits bytes → list_all is_ascii_digit bytes ≡ true
-all_of [] h = absurd h
-all_of (c ∷ bytes) h = and_from _ _ h.0 h.1
-
 pub number_parts : (front bytes : List ℕ) (digit : Bool) → list_all is_ascii_digit front ≡ true →
     (digit ≡ true → AreDigits front) → is_number_from digit false bytes ≡ true → IsNumber (front ++ bytes)
 number_parts front [] digit all some h = subst IsNumber (sym (append-nil front)) (whole_number front (some h))
 number_parts front (b ∷ bytes) digit all some h =
     elim (cases_Bool (is_ascii_digit b)) [
       | inl e ↦
-          let more = all_push front b all e in
-          subst IsNumber (append_assoc front (b ∷ []) bytes) (number_parts (front ++ b ∷ []) bytes true (all_of (front ++ b ∷ []) more) (λ t. more) (rw e at h))
+          let more = digits_push front b all e in
+          subst IsNumber (append_assoc front (b ∷ []) bytes) (number_parts (front ++ b ∷ []) bytes true (digits_all (front ++ b ∷ []) more) (λ t. more) (rw e at h))
       | inr e ↦
           let k : (((b == point) && (digit && not false)) && is_number_from false true bytes) ≡ true = rw e at h in
           let p = and_parts _ _ k in
@@ -95,10 +82,6 @@ decimal_is mode (b ∷ bytes) h =
     ]
 
 -- ---- faults that there aren't
-
-pub map_none : {A B : Type 0} (f : A → B) (x : Option A) → option_map f x ≡ None → x ≡ None
-map_none f None e = refl
-map_none f (Some x) e = cc
 
 pub if_fault : (b : Bool) (x : FragmentFault) → (if b then None else Some x) ≡ None → b ≡ true
 if_fault true x e = refl

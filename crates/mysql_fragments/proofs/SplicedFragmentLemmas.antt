@@ -2,8 +2,7 @@
 use Rattle.std.specs.Prelude.{Bool}
 use Rattle.std.proofs.Common.{◌≡◌, ◌+◌, ◌++◌, ℕ, true, false, List, [], ◌∷◌, length, Some, None, arith, refl, ap, ◌∙◌, sym, subst, true≢false}
 use Rattle.std.proofs.lemmas.Bool.{and_parts}
-use Rattle.std.specs.List.{list_all}
-use Rattle.mysql_named_params.specs.Bytes.{colon, is_name_byte, question_mark, space}
+use Rattle.mysql_named_params.specs.Bytes.{colon, question_mark, space}
 use Rattle.mysql_named_params.specs.Tokens.{Token, IsToken, IsTokens, AreTokensBefore, text_of, bytes_of, Name, Mark}
 use Rattle.mysql_named_params.specs.Places.{names, marks, place_count}
 use Rattle.mysql_named_params.proofs.TokenListLemmas.{one_token_list}
@@ -23,12 +22,13 @@ use Rattle.mysql_binding.proofs.SpliceLemmas.{AtPlaces, Each, HoldsAlone, IsSpli
 use Rattle.mysql_binding.proofs.SplicedOnServerLemmas.{spliced_on, spliced_read}
 use Rattle.mysql_fragments.specs.FragmentShape.{IsFragment, AreFragments}
 use Rattle.mysql_fragments.proofs.FragmentLemmas.{fragment_list_of}
-use Rattle.mysql_fragments.proofs.FragmentListLemmas.{IsFragmentList, StandAlone, last-append}
+use Rattle.mysql_fragments.proofs.FragmentListLemmas.{IsFragmentList, StandAlone}
 use Rattle.mysql_fragments.proofs.SentFragmentLemmas.{fragment_sent}
 use Rattle.mysql_fragments.specs.SentFragments.{BeginNoWords}
 use Rattle.mysql_sql_text.specs.InLine.{AreInLine}
 use Rattle.mysql_binding.proofs.SentLiteralLemmas.{sent_alone}
 use Rattle.mysql_binding.proofs.SentTextLemmas.{IsSentAt, spliced_sent}
+use Rattle.mysql_binding.proofs.RenamedPlaceLemmas.{last-append, name_last, as_well-append}
 
 -- the tokens of a fragment, read alone
 pub fragment_list : (mode : Bool) (n : ℕ) (text : List ℕ) (list : List Token) → IsFragment mode n text →
@@ -170,14 +170,6 @@ fragments_marks mode (t ∷ ts) counts texts lists s a l = fragments_marks mode 
 -- the second text ends as well as the first
 abbrev EndsAsWell : List ℕ → List ℕ → Type 0
 EndsAsWell before after = none_or_last may_stand_before before ≡ true → none_or_last may_stand_before after ≡ true
-
-as_well-append : (xs ys : List ℕ) (b : ℕ) (bytes : List ℕ) → EndsAsWell (xs ++ b ∷ bytes) (ys ++ b ∷ bytes)
-as_well-append xs ys b bytes h = last-append may_stand_before ys b bytes ∙ (sym (last-append may_stand_before xs b bytes) ∙ h)
-
-name_last : (b : ℕ) (ys : List ℕ) → may_stand_before b ≡ false → list_all is_name_byte ys ≡ true →
-    none_or_last may_stand_before (b ∷ ys) ≡ false
-name_last b [] f h = f
-name_last b (y ∷ ys) f h = let p = and_parts (is_name_byte y) (list_all is_name_byte ys) h in name_last y ys (name_byte_not_before y p.0) p.1
 
 -- what ends in a name may not stand before a place
 name_ends : (mode : Bool) (xs name rest : List ℕ) → IsToken mode (Name name) rest →

@@ -3,9 +3,8 @@
 use Rattle.std.specs.Prelude.{Bool, Result, Ok, Err, IfOk, IfErr, ⊤}
 use Rattle.std.specs.List.{list_all}
 use Rattle.std.specs.Option.{is_some}
-use Rattle.std.proofs.Common.{◌≡◌, ◌+◌, ◌++◌, ℕ, true, false, List, [], ◌∷◌, map, length, Option, Some, None, arith, inl, inr, refl, sym, ap, ◌∙◌, subst, true≢false}
-use Rattle.std.proofs.lemmas.Bool.{and_from, cases_Bool}
-use Rattle.std.proofs.lemmas.List.Folds.{list_all-append}
+use Rattle.std.proofs.Common.{◌≡◌, ◌+◌, ℕ, true, false, List, [], ◌∷◌, map, length, Option, Some, None, arith, inl, inr, refl, sym, ap, ◌∙◌, subst, true≢false}
+use Rattle.std.proofs.lemmas.Bool.{cases_Bool}
 use Rattle.mysql_named_params.specs.Tokens.{Token, IsTokens, OnTokens, bytes_of, text_of, Name, Mark}
 use Rattle.mysql_named_params.specs.Places.{names, place_count}
 use Rattle.mysql_named_params.proofs.TokenListLemmas.{one_token_list}
@@ -16,17 +15,16 @@ use Rattle.mysql_portable.specs.declared.portable.Unportable.{Unportable}
 use Rattle.mysql_portable.proofs.OtherModeLemmas.{all_parts}
 use Rattle.mysql_portable.proofs.PlaceTextLemmas.{placeless_join_no_number}
 use Rattle.mysql_portable.proofs.SteadyLemmas.{steady_other, steady_other_on, steady_seen}
-use Rattle.mysql_params_core.specs.Given.{Given, positional}
+use Rattle.mysql_params_core.specs.Given.{positional}
 use Rattle.mysql_binding.specs.Replaced.{with_literal_tokens}
-use Rattle.mysql_binding.specs.StandsAlone.{first_not_alone}
 use Rattle.mysql_binding.proofs.BoundText.{bound}
-use Rattle.mysql_binding.proofs.CauseLemmas.{no_cause_parts, no_place_out, on_both, on_map}
+use Rattle.mysql_binding.proofs.CauseLemmas.{on_both, on_map}
 use Rattle.mysql_binding.proofs.PieceLemmas.{joined_text_count, joined_text_is}
 use Rattle.mysql_steady_text.specs.SteadyText.{IsSteadyText}
 use Rattle.mysql_steady_text.specs.SteadyLiteral.{steady_literal_of}
 use Rattle.mysql_steady_text.specs.SteadyLiterals.{IsSteadyFor}
 use Rattle.mysql_steady_text.proofs.SteadyTextLemmas.{is_steady_text}
-use Rattle.mysql_steady_text.proofs.SteadySpliceLemmas.{steady_places, steady_portable, steady_on, steady_read}
+use Rattle.mysql_steady_text.proofs.SteadySpliceLemmas.{steady_places, steady_portable, steady_on, steady_read, all_both}
 use Rattle.mysql_steady_text.proofs.BothModesTextLemmas.{nothing_said}
 use Rattle.mysql_fragments.specs.Expanded.{IsExpanded}
 use Rattle.mysql_fragments.specs.FilledText.{ArePlaced, IsFilledQuery}
@@ -41,6 +39,7 @@ use Rattle.mysql_fragments.specs.SteadyFragmentsErrors.{IsFragmentsRefusal, IsSt
 use Rattle.mysql_fragments.specs.declared.steady_fragments_error.SteadyFragmentsError.{SteadyFragmentsError}
 use Rattle.mysql_fragments.specs.declared.steady_fragments_error.SteadyFragmentsError.TheVariants.{Unsteady, Fragments, UnsteadyFragment}
 use Rattle.mysql_fragments.specs.declared.steady_fragments_error.SteadyFragmentsError.TheVariants as error
+use Rattle.mysql_steady_text.proofs.SteadyClientLemmas.{bound_alone}
 
 -- ---- steady texts of fragments
 
@@ -70,9 +69,6 @@ none_unsteady : (place : ℕ) (fragments : List Fragment) → AllSteady (map fra
 unfolding AllSteady
 none_unsteady place [] s = refl
 none_unsteady place (fragment ∷ fragments) s = rw s.0 (none_unsteady (place + 1) fragments s.1)
-
-all_both : (xs ys : List ℕ) → list_all is_steady xs ≡ true → list_all is_steady ys ≡ true → list_all is_steady (xs ++ ys) ≡ true
-all_both xs ys h k = list_all-append is_steady xs ys ∙ and_from _ _ h k
 
 -- steady texts in the places of a steady query give a steady one,
 bound_steady : (ts : List Token) (texts : List (List ℕ)) → list_all is_steady (text_of ts) ≡ true → AllSteady texts →
@@ -121,9 +117,6 @@ is_steady_fragments ts given expanded text x s b =
       bound = b;
     }
 
-alone_in : (ts : List Token) (given : Given) (text : List ℕ) → IsSteadyText ts given text → first_not_alone ts ≡ None
-alone_in ts given text t = no_place_out ts t.values (no_cause_parts ts given t.values t.no_cause t.looked_up).1
-
 is_anywhere_fragments : (query : List ℕ) (ts : List Token) (given : GivenFragments) (text : List ℕ) → IsTokens false query ts →
     IsSteady query → IsPortable ts → IsSteadyFragments ts given text → IsAnywhereFragments query ts given text
 is_anywhere_fragments query ts given text is steady p f =
@@ -133,7 +126,7 @@ is_anywhere_fragments query ts given text is steady p f =
     let counts : List ℕ = map mark_number x.fragments in
     let texts : List (List ℕ) = map fragment_text x.fragments in
     let alone = expanded_alone true false ts given f.query x in
-    let n = alone_in us (positional (all_values x.fragments)) text b in
+    let n = bound_alone us (positional (all_values x.fragments)) text b in
     let alike : AreReadAlikeBefore [] us = fragments_portable false f.query ts counts texts x.lists alone x.shapes x.tokens_of_fragments x.text_is query is p.alike in
     record {
       steady_text = f;

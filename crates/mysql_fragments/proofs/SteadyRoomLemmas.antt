@@ -37,7 +37,7 @@ BoundAnywhere query given text = (mode : Bool) → OnTokens mode query (λ ts. I
 
 -- ---- the text of a steady query
 
-steady_known : (v : Value) (text : List ℕ) → FieldsInRange v → steady_literal_of v ≡ Some text → IsSteadyFor v text
+pub steady_known : (v : Value) (text : List ℕ) → FieldsInRange v → steady_literal_of v ≡ Some text → IsSteadyFor v text
 steady_known v text range is = (
   subst (λ o. IfSome o IsSteadyLiteral) is (steady_shape v range),
   subst (λ o. IfSome o IsSteady) is (steady_bytes v range),

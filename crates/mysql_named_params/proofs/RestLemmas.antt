@@ -46,7 +46,7 @@ and_false true b e = e
 and_false false b e = refl
 
 -- a dash or slash, a byte, and the text after them
-dash_second : (b : ℕ) (xs : List ℕ) → begins is_gap xs ≡ false → opens_dash_comment (b ∷ xs) ≡ false
+pub dash_second : (b : ℕ) (xs : List ℕ) → begins is_gap xs ≡ false → opens_dash_comment (b ∷ xs) ≡ false
 dash_second b [] e = refl
 dash_second b (w ∷ bs) e = and_false (b == dash) _ e
 
@@ -68,7 +68,7 @@ hint (at_place p n) e = absurd (no_hint _ p e)
     no_hint b (inl f) g = true≢false (sym g ∙ ap is_extension f)
     no_hint b (inr f) g = true≢false (sym g ∙ ap is_extension f)
 
-block_second : (b : ℕ) (xs ys : List ℕ) →
+pub block_second : (b : ℕ) (xs ys : List ℕ) →
     (begins is_extension xs ≡ true → begins is_extension ys ≡ true) →
     opens_block_comment (b ∷ xs) ≡ false → opens_block_comment (b ∷ ys) ≡ false
 block_second b xs ys f e = go (b == asterisk) (begins is_extension xs) (begins is_extension ys) f e

@@ -1,6 +1,7 @@
 -- A finite map that stands for a hash map's entries.
 use Rattle.std.proofs.Common.{◌≡◌, ℕ, List, [], ◌∷◌, map, cond, refl, sym, ap, ◌∙◌}
-use Rattle.std.specs.Prelude.{Some, nat_eq, vec_len}
+use Rattle.std.specs.Prelude.{None, Option, Some, is_some, nat_eq, option_copied, vec_len}
+use Rattle.std.specs.Borrow.{Bor}
 use Rattle.std.specs.List.{AllZip, each_same}
 use Rattle.std.specs.Global.{Vec}
 use Rattle.std.specs.Ordering.{nat_cmp}
@@ -32,3 +33,8 @@ value_map-clone es fs h = ap from_entries (same es fs h)
     same [] (f ∷ fs) h = absurd h
     same (e ∷ es) [] h = absurd h
     same (e ∷ es) (f ∷ fs) h = λ i. (each_same e.0.items f.0.items h.0.0.0 i, h.0.1 i) ∷ same es fs h.1 i
+
+-- a value behind a reference is there if its copy is
+pub is_some-copied : {X : Type 0} (o : Option (Bor X)) → is_some o ≡ is_some (option_copied o)
+is_some-copied None = refl
+is_some-copied (Some x) = refl

@@ -32,13 +32,13 @@ get-sorted_pairs (pair ∷ pairs) q =
     ∙ sym (owned_cond (is_eq (slice_cmp nat_cmp q pair.0.now)) pair.1 (lookup (λ k. is_eq (slice_cmp nat_cmp q k.now)) pairs))
 
 -- two names are equal if their order says so
-abbrev tied : List ℕ → Bor (List ℕ) → Bool
+abbrev pub tied : List ℕ → Bor (List ℕ) → Bool
 tied q x = is_eq (slice_cmp nat_cmp q x.now)
 
-abbrev by_order : Bor (List ℕ) → Bor (List ℕ) → Bool
+abbrev pub by_order : Bor (List ℕ) → Bor (List ℕ) → Bool
 by_order x y = is_eq (slice_cmp nat_cmp x.now y.now)
 
-module _ (es fs : List (Bor (List ℕ) × ValueRef)) (k : Bor (List ℕ)) (v : ValueRef)
+module _ {X : Type 0} (es fs : List (Bor (List ℕ) × X)) (k : Bor (List ℕ)) (v : X)
     (keeps : KeepsOthers by_order (by_order k) es fs) (inserted : lookup (by_order k) fs ≡ Some v) where
   lookup-other : (q : List ℕ) → tied q k ≡ false → lookup (tied q) fs ≡ lookup (tied q) es
   unfolding KeepsOthers
@@ -50,13 +50,15 @@ module _ (es fs : List (Bor (List ℕ) × ValueRef)) (k : Bor (List ℕ)) (v : V
       (λ x t. ap (λ bs. is_eq (slice_cmp nat_cmp q bs))
       (sym ((bytes_decides k.now x.now).0 (lists_ties nat_cmp unsigned_ties k.now x.now ∙ t))) ∙ apart)
 
-  lookup-either : (q : List ℕ) (b : Bool) → tied q k ≡ b
+  pub lookup-either : (q : List ℕ) (b : Bool) → tied q k ≡ b
       → lookup (tied q) fs ≡ cond b (Some v) (lookup (tied q) es)
   lookup-either q true e =
       ap (λ bs. lookup (λ (x : Bor (List ℕ)). is_eq (slice_cmp nat_cmp bs x.now)) fs)
       ((bytes_decides q k.now).0 (lists_ties nat_cmp unsigned_ties q k.now ∙ e)) ∙ inserted
   lookup-either q false e = lookup-other q e
 
+module _ (es fs : List (Bor (List ℕ) × ValueRef)) (k : Bor (List ℕ)) (v : ValueRef)
+    (keeps : KeepsOthers by_order (by_order k) es fs) (inserted : lookup (by_order k) fs ≡ Some v) where
   owned_either : (b : Bool) (o : Option ValueRef)
       → option_map owned (cond b (Some v) o) ≡ cond b (Some (owned v)) (option_map owned o)
   owned_either true o = refl
@@ -65,7 +67,7 @@ module _ (es fs : List (Bor (List ℕ) × ValueRef)) (k : Bor (List ℕ)) (v : V
   pub pair_map-insert : pair_map fs ≡ insert (pair_map es) k.now (owned v)
   pair_map-insert = same_map nat_list_cmp_total (slice_cmp-IsAntisymmetric nat_cmp-IsAntisymmetric) _ _ (λ q.
       get-sorted_pairs fs q
-      ∙ ap (option_map owned) (lookup-either q (tied q k) refl)
+      ∙ ap (option_map owned) (lookup-either es fs k v keeps inserted q (tied q k) refl)
       ∙ owned_either (tied q k) (lookup (tied q) es)
       ∙ ap (cond (tied q k) (Some (owned v))) (sym (get-sorted_pairs es q))
       ∙ sym (get-insert nat_list_cmp_total (pair_map es) k.now (owned v) q))

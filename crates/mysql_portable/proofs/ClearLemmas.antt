@@ -8,20 +8,20 @@ use Rattle.std.proofs.lemmas.Bool.Decides.{nat_tests}
 use Rattle.std.proofs.lemmas.Bool.{and_parts, and_from, or_parts, not-true, not-false, eqb-true}
 use Rattle.mysql_named_params.specs.Bytes.{asterisk, backquote, bracket, carriage_return, colon, dash, dollar, double_quote, hash, newline, plus, point, question_mark, slash, space, is_start_byte, is_string_quote, begins, IsUpTo}
 use Rattle.mysql_named_params.specs.Tokens.{Token, bytes_of, text_of, IsToken, IsTokens, AreTokensBefore, QuotedString, QuotedIdentifier, HashComment, DashComment, BlockComment, Name, Mark, Plain}
-use Rattle.mysql_portable.specs.FirstUnportable.{construct_at, special_construct, first_unportable}
+use Rattle.mysql_portable.specs.FirstUnportable.{special_construct, first_unportable}
 use Rattle.mysql_portable.specs.FrontConstruct.{block_construct, front_construct}
-use Rattle.mysql_portable.specs.Portable.{stands_inside, may_open_line, begins_exponent, AreReadAlikeBefore, JoinNoNumberBefore, IsPortable}
+use Rattle.mysql_portable.specs.Portable.{stands_inside, may_open_line, begins_exponent, IsPortable}
 use Rattle.mysql_portable.specs.Quiet.{is_quiet}
 use Rattle.mysql_portable.specs.Server.{keeps_dashes, begins_place, begins_special, begins_tag, begins_dashes, begins_exponent_dashes, begins_fraction, is_tag_byte, holds_return, escapes_backquote}
 use Rattle.mysql_portable.specs.Steady.{is_steady}
 use Rattle.mysql_portable.specs.declared.portable.Construct.{Construct}
 use Rattle.mysql_portable.specs.declared.portable.Construct.TheVariants as construct
 use Rattle.mysql_portable.specs.Clear.{is_sign, may_begin_tag, begins_special_block, may_take_dashes, may_take_place, is_in_doubt, is_in_doubt_for, is_in_doubt_in_client, is_clear_after}
-use Rattle.mysql_portable.proofs.FrontLemmas.{passes, unportable_at, front_is}
+use Rattle.mysql_portable.proofs.FrontLemmas.{passes, front_is}
 use Rattle.mysql_portable.proofs.PortableLemmas.{second_false, false_if, returns_alike}
 use Rattle.mysql_portable.proofs.SharpLemmas.{string_ends}
 use Rattle.mysql_portable.proofs.SteadyLemmas.{steady_other}
-use Rattle.mysql_portable.proofs.UnportableLemmas.{AllPass, portable_has_none}
+use Rattle.mysql_portable.proofs.UnportableLemmas.{AllPass, portable_has_none, none_passes, pass_parts}
 
 -- ---- tests
 
@@ -195,13 +195,6 @@ module _ (client : Bool) where
 
   -- ---- tokens
 
-  none_passes : (t : Token) (rest : List ℕ) → unportable_at t rest ≡ None → passes t rest ≡ true
-  none_passes t rest = go (passes t rest)
-    where
-      go : (p : Bool) → cond p None (Some (construct_at t rest)) ≡ None → p ≡ true
-      go true e = refl
-      go false e = cc
-
   no_quote_inside : (q : ℕ) (tail rest : List ℕ) (n : ℕ) → n ≡ length tail → stands_inside q tail ≡ false →
       (q == double_quote && stands_inside double_quote (take n (tail ++ rest))) ≡ false
   no_quote_inside q tail rest n l h =
@@ -258,13 +251,6 @@ module _ (client : Bool) where
       (token_passes t (text_of ts) before h.0 c, all_pass ts more.0 h.1 more.1)
 
   -- ---- queries
-
-  pass_parts : (ts : List Token) → AllPass [] ts → AreReadAlikeBefore [] ts × JoinNoNumberBefore [] ts
-  pass_parts [] h = (tt, tt)
-  pass_parts (t ∷ ts) h =
-      let p = and_parts _ _ h.0 in
-      let more = pass_parts ts h.1 in
-      ((p.0, more.0), (not-true _ p.1, more.1))
 
   portable_if_all_pass : (ts : List Token) → AllPass [] ts → IsPortable ts
   portable_if_all_pass ts h = let p = pass_parts ts h in record { alike = p.0; apart = p.1 }

@@ -13,7 +13,7 @@ use Rattle.mysql_portable.specs.Quiet.{IsHonest, plain_then}
 use Rattle.mysql_portable.specs.Client.{Client, holds_opener, block_by, usual_block_by, own_block_by, IsNotPlainBy, IsTokenBy, AreTokensBy, IsReadBy, HoldNoOpener}
 use Rattle.mysql_portable.proofs.ServerTokenLemmas.{not_plain_on, not_plain_on_is, comment_by, block_comment_on}
 use Rattle.mysql_portable.proofs.GrammarLemmas.{tokens_on}
-use Rattle.mysql_portable.proofs.SharpLemmas.{plain_none_on}
+use Rattle.mysql_portable.proofs.SharpLemmas.{plain_none_on, after_row}
 use Rattle.mysql_portable.proofs.QuietLemmas.{portable_read, read_text}
 
 -- ---- openers
@@ -207,10 +207,6 @@ opener_after_plain : (tail : List ℕ) (ts : List Token) → HoldNoOpener (plain
 opener_after_plain [] ts h = h
 opener_after_plain (b ∷ bs) ts h = opener_after_plain bs ts h
 
-tokens_after_plain : (mode : Bool) (tail : List ℕ) (ts : List Token) → AreTokensBefore mode [] (plain_then ts tail) → AreTokensBefore mode [] ts
-tokens_after_plain mode [] ts h = h
-tokens_after_plain mode (b ∷ bs) ts h = tokens_after_plain mode bs ts h.1
-
 -- so it is of the tokens of such a query on the server
 asked_nothing : (mode : Bool) {ts us : List Token} → IsReadAs ts us → AreTokensBefore mode [] ts → HoldNoOpener ts → AreAskedNothing us
 asked_nothing mode read_all h o = tt
@@ -225,7 +221,7 @@ asked_nothing mode (read_same {t = Mark} r) h o = (tt, asked_nothing mode r h.1 
 asked_nothing mode (read_same {t = Plain b} r) h o = (tt, asked_nothing mode r h.1 o)
 asked_nothing mode (read_empty_comment r) h o = (tt, asked_nothing mode r h.1.1.1 o)
 asked_nothing mode (read_skipped {ts = ts} tail q r) h o =
-    (subst (λ x. (begins_special (tail ++ x) ≡ true) ⊎ (holds_opener (tail ++ x) ≡ false)) (sym (read_text r)) (inl q.special), asked_nothing mode r (tokens_after_plain mode tail ts h.1.1) (opener_after_plain tail ts o))
+    (subst (λ x. (begins_special (tail ++ x) ≡ true) ⊎ (holds_opener (tail ++ x) ≡ false)) (sym (read_text r)) (inl q.special), asked_nothing mode r (after_row mode tail ts h.1.1) (opener_after_plain tail ts o))
 asked_nothing mode (read_executed {us = us} tail q r) h o = (tt, (tt, after_plain tail us (asked_nothing mode r h.1 o.1)))
 
 -- the client reads as its server

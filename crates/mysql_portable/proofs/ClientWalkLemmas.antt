@@ -2,7 +2,7 @@
 use Rattle.std.specs.Prelude.{Bool, ⊤}
 use Rattle.std.proofs.Common.{◌≡◌, ◌⊎◌, ◌↔◌, ℕ, ◌+◌, true, false, cond, ◌==◌, ◌&&◌, ◌||◌, List, [], ◌∷◌, ◌++◌, length, take, drop, Option, Some, None, refl, sym, ap, ◌∙◌, subst, inl, inr, arith, length-append}
 use Rattle.std.proofs.Math.Bool.{or-false}
-use Rattle.std.proofs.lemmas.Bool.{and_parts, or_cases, not-true, eqb-true, false_from_ne_true}
+use Rattle.std.proofs.lemmas.Bool.{and_parts, not-true, eqb-true, false_from_ne_true}
 use Rattle.std.proofs.lemmas.List.{nil_from_length, take_rest, take_at, drop_at}
 use Rattle.std.specs.List.{list_any}
 use Rattle.std.specs.Str.{byte}
@@ -25,15 +25,9 @@ use Rattle.mysql_portable.specs.FrontInClient.{statement_after, line_after, foun
 use Rattle.mysql_portable.specs.declared.portable.Construct.{Construct}
 use Rattle.mysql_portable.specs.declared.portable.Construct.TheVariants as construct
 use Rattle.mysql_portable.specs.declared.portable.Unportable.{Unportable}
-use Rattle.mysql_portable.proofs.FrontLemmas.{passes, unportable_at, front_is}
+use Rattle.mysql_portable.proofs.FrontLemmas.{passes, unportable_at, front_is, quote_is}
 
 -- ---- what is found at the front is said of its token
-
-quote_is : (q : ℕ) → is_string_quote q ≡ true → (q ≡ single_quote) ⊎ (q ≡ double_quote)
-quote_is q h = elim (or_cases (q == single_quote) (q == double_quote) h) [
-  | inl e ↦ inl (eqb-true q single_quote e)
-  | inr e ↦ inr (eqb-true q double_quote e)
-]
 
 -- what is said of both quotes is said of a quote
 of_quotes : (P : ℕ → Type 0) (q : ℕ) → is_string_quote q ≡ true → P single_quote → P double_quote → P q
@@ -174,7 +168,7 @@ front_of s l mode rest kind n f =
     (front_found s l mode f.token (drop n rest) f.holds))
 
 -- the bytes of the first token
-first_bytes : (mode : Bool) (rest : List ℕ) (kind : TokenKind) (n : ℕ) → (f : IsFirstToken mode rest kind n) → take n rest ≡ bytes_of f.token
+pub first_bytes : (mode : Bool) (rest : List ℕ) (kind : TokenKind) (n : ℕ) → (f : IsFirstToken mode rest kind n) → take n rest ≡ bytes_of f.token
 first_bytes mode rest kind n f = subst (λ x. take n x ≡ bytes_of f.token) f.bytes (take_at (bytes_of f.token) (drop n rest) n f.len_is)
 
 pub walked_more : (mode : Bool) (query rest : List ℕ) (kind : TokenKind) (n : ℕ) (s l s' l' : Bool) →

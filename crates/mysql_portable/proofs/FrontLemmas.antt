@@ -27,7 +27,7 @@ unportable_at t rest = cond (passes t rest) None (Some (construct_at t rest))
 
 -- ---- a text in quotes
 
-quote_is : (q : ℕ) → is_string_quote q ≡ true → (q ≡ single_quote) ⊎ (q ≡ double_quote)
+pub quote_is : (q : ℕ) → is_string_quote q ≡ true → (q ≡ single_quote) ⊎ (q ≡ double_quote)
 quote_is q h = elim (or_cases (q == single_quote) (q == double_quote) h) [
   | inl e ↦ inl (eqb-true q single_quote e)
   | inr e ↦ inr (eqb-true q double_quote e)

@@ -26,7 +26,7 @@ pub false_if : (a b : Bool) → (a ≡ true → b ≡ false) → (a && b) ≡ fa
 false_if true b f = f refl
 false_if false b f = refl
 
-cond_none_if : (c : Bool) (p q p' q' : Option Token) → (c ≡ true → p ≡ None → p' ≡ None) →
+pub cond_none_if : (c : Bool) (p q p' q' : Option Token) → (c ≡ true → p ≡ None → p' ≡ None) →
     (q ≡ None → q' ≡ None) → cond c p q ≡ None → cond c p' q' ≡ None
 cond_none_if true p q p' q' f g e = f refl e
 cond_none_if false p q p' q' f g e = g e

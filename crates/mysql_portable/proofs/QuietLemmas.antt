@@ -7,7 +7,7 @@ use Rattle.mysql_named_params.specs.Bytes.{asterisk, backquote, colon, dash, has
 use Rattle.mysql_named_params.specs.Tokens.{Token, bytes_of, text_of, IsToken, IsTokens, AreTokensBefore, QuotedString, QuotedIdentifier, HashComment, DashComment, BlockComment, Name, Mark, Plain}
 use Rattle.mysql_named_params.specs.Places.{names, marks}
 use Rattle.mysql_named_params.specs.Positions.{positions_from}
-use Rattle.mysql_named_params.specs.TokensOf.{not_plain_at, dash_comment, block_comment, name_at, begins_with, len_up_to}
+use Rattle.mysql_named_params.specs.TokensOf.{not_plain_at, dash_comment, block_comment, begins_with, len_up_to}
 use Rattle.mysql_named_params.proofs.TokenEnds.{take_front, up_to_is}
 use Rattle.mysql_named_params.proofs.TokenEndLemmas.{up_to_gives}
 use Rattle.mysql_portable.specs.Server.{Server, Block, executed, comment, comment_of, begins_special, begins_place, begins_own, block_on, opens_line, usual_block, ended_tail, IsTokenOn, AreTokensOn, IsReadOn}
@@ -15,6 +15,7 @@ use Rattle.mysql_portable.specs.Portable.{is_read_alike, AreReadAlikeBefore, IsR
 use Rattle.mysql_portable.specs.Quiet.{may_begin_something, is_for_client, stands_apart, closes, is_quiet, IsQuietComment, reads_or_skips, IsHonest, begins_quiet, plain_then}
 use Rattle.mysql_portable.proofs.ServerTokenLemmas.{not_plain_on, dash_comment_on, plain_on, comment_by, one_list_on}
 use Rattle.mysql_portable.proofs.PortableLemmas.{second_false, is_alike_on_all, special_more, slash_on, own_none, token_on, head_is, dash_line, has_empty, empty_here, none_here}
+use Rattle.mysql_named_params.proofs.RestLemmas.{none_name}
 
 -- ---- a byte that begins nothing
 
@@ -75,10 +76,6 @@ slash_no : (rest : List ℕ) → begins (λ c. c == asterisk) rest ≡ false →
 slash_no [] h = refl
 slash_no (b ∷ bs) h = rw h refl
 
-name_no : (rest : List ℕ) → begins is_start_byte rest ≡ false → name_at rest ≡ None
-name_no [] h = refl
-name_no (b ∷ bs) h = rw h refl
-
 -- such a byte is plain on a server
 pub begins_nothing_on : (server : Server) (mode : Bool) (b : ℕ) (rest : List ℕ) → may_begin_something b rest ≡ false →
     not_plain_on server mode (b ∷ rest) ≡ None
@@ -89,7 +86,7 @@ begins_nothing_on server mode b rest h =
     (cond_of (b == hash) _ _ (none_if _ _ q.no_hash)
     (cond_of (b == dash) _ _ (λ e. dash_no_on server rest (q.no_dashes e))
     (cond_of (b == slash) _ _ (λ e. slash_on server rest (q.no_block e))
-    (cond_of (b == colon) _ _ (λ e. name_no rest (q.no_name e))
+    (cond_of (b == colon) _ _ (λ e. none_name rest (q.no_name e))
     (cond_of (b == question_mark) _ _ (none_if _ _ q.no_mark) (own_none server b rest q.no_own)))))))
 
 -- and in the grammar
@@ -102,7 +99,7 @@ begins_nothing_at mode b rest h =
     (cond_of (b == hash) _ _ (none_if _ _ q.no_hash)
     (cond_of (b == dash) _ _ (λ e. dash_no rest (q.no_dashes e))
     (cond_of (b == slash) _ _ (λ e. slash_no rest (q.no_block e))
-    (cond_of (b == colon) _ _ (λ e. name_no rest (q.no_name e))
+    (cond_of (b == colon) _ _ (λ e. none_name rest (q.no_name e))
     (cond_of (b == question_mark) _ _ (none_if _ _ q.no_mark) refl))))))
 
 -- ---- the text of a quiet comment

@@ -50,7 +50,7 @@ front_of mode rest kind n f =
     (subst (λ k. front_construct (bytes_of f.token ++ drop n rest) k ≡ unportable_at f.token (drop n rest)) f.len_is
     (front_is mode f.token (drop n rest) f.holds))
 
-none_passes : (t : Token) (rest : List ℕ) → unportable_at t rest ≡ None → passes t rest ≡ true
+pub none_passes : (t : Token) (rest : List ℕ) → unportable_at t rest ≡ None → passes t rest ≡ true
 none_passes t rest = go (passes t rest)
   where
     go : (p : Bool) → cond p None (Some (construct_at t rest)) ≡ None → p ≡ true
@@ -128,7 +128,7 @@ all_from (t ∷ ts) n h =
     let s = first_step (passes t (text_of ts)) _ (first_unportable_from (n + length (bytes_of t)) ts) h in
     (s.0, all_from ts (n + length (bytes_of t)) s.1)
 
-pass_parts : (ts : List Token) → AllPass [] ts → AreReadAlikeBefore [] ts × JoinNoNumberBefore [] ts
+pub pass_parts : (ts : List Token) → AllPass [] ts → AreReadAlikeBefore [] ts × JoinNoNumberBefore [] ts
 pass_parts [] h = (tt, tt)
 pass_parts (t ∷ ts) h =
     let p = and_parts _ _ h.0 in

@@ -47,16 +47,16 @@ pair_refused word name text why e h =
 
 -- one word after another
 
-drop_at : {X : Type 0} (xs : List X) (i : ℕ) (d : X) → i < length xs → drop i xs ≡ get_or xs i d ∷ drop (i + 1) xs
-drop_at xs i d h =
+pub drop_index : {X : Type 0} (xs : List X) (i : ℕ) (d : X) → i < length xs → drop i xs ≡ get_or xs i d ∷ drop (i + 1) xs
+drop_index xs i d h =
     let next : suc i ≡ i + 1 = omega arith in
     drop-cons xs i d h ∙ ap (λ n. get_or xs i d ∷ drop n xs) next
 
 -- pairs before those that are read
-abbrev before_pairs : List (List ℕ × Value) → Option (List (List ℕ × Value)) → Option (List (List ℕ × Value))
+abbrev pub before_pairs : List (List ℕ × Value) → Option (List (List ℕ × Value)) → Option (List (List ℕ × Value))
 before_pairs front back = option_map (λ rest. front ++ rest) back
 
-before_pairs-push : (front : List (List ℕ × Value)) (pair : List ℕ × Value) (back : Option (List (List ℕ × Value)))
+pub before_pairs-push : (front : List (List ℕ × Value)) (pair : List ℕ × Value) (back : Option (List (List ℕ × Value)))
     → before_pairs front (option_map (λ rest. pair ∷ rest) back) ≡ before_pairs (front ++ pair ∷ []) back
 before_pairs-push front pair None = refl
 before_pairs-push front pair (Some rest) = ap Some (sym (append_assoc front (pair ∷ []) rest))
@@ -67,7 +67,7 @@ pub one_pair_more : (words : List (String Global)) (i : ℕ) (word : String Glob
     → pairs_of_words (word_bytes words) ≡ before_pairs (front ++ pair ∷ []) (pairs_of_words (word_bytes (drop (i + 1) words)))
 one_pair_more words i word front pair below at found so_far =
     so_far
-    ∙ ap (λ ws. before_pairs front (pairs_of_words (word_bytes ws))) (drop_at words i word below)
+    ∙ ap (λ ws. before_pairs front (pairs_of_words (word_bytes ws))) (drop_index words i word below)
     ∙ ap (λ w. before_pairs front (pairs_of_words (string_bytes w ∷ word_bytes (drop (i + 1) words)))) (sym at)
     ∙ ap (λ o. before_pairs front (option_and_then (λ p. option_map (λ pairs. p ∷ pairs) (pairs_of_words (word_bytes (drop (i + 1) words)))) o))
     (ok_or-found (pair_of_word (string_bytes word)) pair found)
@@ -81,7 +81,7 @@ no_pair words i word front why below at refused so_far =
     let refused_so = ok_or-refused (pair_of_word (string_bytes word)) why refused in
     let none : pairs_of_words (word_bytes words) ≡ None =
     so_far
-    ∙ ap (λ ws. before_pairs front (pairs_of_words (word_bytes ws))) (drop_at words i word below)
+    ∙ ap (λ ws. before_pairs front (pairs_of_words (word_bytes ws))) (drop_index words i word below)
     ∙ ap (λ w. before_pairs front (pairs_of_words (string_bytes w ∷ word_bytes (drop (i + 1) words)))) (sym at)
     ∙ ap (λ o. before_pairs front (option_and_then (λ p. option_map (λ pairs. p ∷ pairs) (pairs_of_words (word_bytes (drop (i + 1) words)))) o)) refused_so.0 in
     ap (λ o. ok_or o usage) none ∙ ap Err (sym refused_so.1)

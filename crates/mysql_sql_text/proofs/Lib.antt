@@ -20,3 +20,4 @@ pub mod ClockLemmas
 pub mod EscapedLemmas
 pub mod QuotedLemmas
 pub mod InLineLemmas
+pub mod DigitLemmas

@@ -12,18 +12,18 @@ use Rattle.mysql_sql_text.specs.LiteralEnd.{BeginsWithout}
 use Rattle.mysql_sql_text.proofs.ByteNames.{digit_zero}
 
 -- the number that digits go on to, after the number so far
-value_after : ℕ → List ℕ → ℕ
+unfoldable pub value_after : ℕ → List ℕ → ℕ
 value_after n [] = n
 value_after n (d ∷ ds) = value_after (10 * n + (d - digit_zero)) ds
 
-numeral_model : IsNumeralModel (λ ds. list_all is_ascii_digit ds ≡ true) (value_after 0)
+pub numeral_model : IsNumeralModel (λ ds. list_all is_ascii_digit ds ≡ true) (value_after 0)
 unfolding value_after
 numeral_model = numerals_by_fold _ (search rules) value_after (search rules)
 
 pub all_digits-decimal : (n : ℕ) → n < 2 ^ 64 → list_all is_ascii_digit (decimal n) ≡ true
 all_digits-decimal n h = digits_decimal numeral_model n h
 
-read_digits-append : (n : ℕ) (ds rest : List ℕ) → list_all is_ascii_digit ds ≡ true → BeginsWithout is_ascii_digit rest
+pub read_digits-append : (n : ℕ) (ds rest : List ℕ) → list_all is_ascii_digit ds ≡ true → BeginsWithout is_ascii_digit rest
     → read_digits n (ds ++ rest) ≡ (value_after n ds, rest)
 unfolding value_after
 read_digits-append n [] [] d h = refl

@@ -9,7 +9,6 @@ use Rattle.std.proofs.lemmas.Iterator.Adapters.{position_from-zero}
 use Rattle.std.proofs.lemmas.List.{append_cancel_left, take_rest}
 use Rattle.std.proofs.lemmas.List.Elements.{All-from_get_or}
 use Rattle.std.proofs.lemmas.List.Sums.{list_all-from_AllPass}
-use Rattle.std.proofs.Math.Seq.{take-append_seam}
 use Rattle.memchr.specs.Find.{IsFirstByte, is_byte}
 use Rattle.mysql_named_params.specs.Bytes.{begins, is_string_quote}
 use Rattle.mysql_named_params.specs.FirstToken.{IsFirstToken}
@@ -25,6 +24,8 @@ use Rattle.mysql_portable.specs.Steady.{is_no_backslash, holds_no_escape, HoldNo
 use Rattle.mysql_portable.proofs.OtherModeLemmas.{all_parts, token_other}
 use Rattle.mysql_binding.proofs.CauseLemmas.{or_none}
 use Rattle.mysql_steady_text.specs.FirstBackslash.{is_backslash, backslash_in, first_backslash_from, first_backslash}
+use Rattle.mysql_binding.proofs.ValueLiteralLemmas.{none_step}
+use Rattle.mysql_portable.proofs.ClientWalkLemmas.{first_bytes}
 
 -- ---- the first place of a byte
 
@@ -41,10 +42,6 @@ some_from test (x ∷ xs) n k i e = go (test x) (some_from test xs n (k + 1) i) 
     go false more e =
         let next : n + (k + 1) ≡ n + k + 1 = omega arith in
         subst (λ j. position_from test j xs ≡ Some (n + i)) next (more e)
-
-none_step : (b : Bool) (k : ℕ) (o : Option ℕ) → cond b (Some k) o ≡ None → (b ≡ false) × (o ≡ None)
-none_step true k o e = cc
-none_step false k o e = (refl, e)
 
 none_from : (test : ℕ → Bool) (xs : List ℕ) (n k : ℕ) → position_from test k xs ≡ None →
     position_from test n xs ≡ None
@@ -236,14 +233,6 @@ told (Plain b) rest mode h found s o = go (is_string_quote b) refl
     go true q = s q ∙ (position_from-zero is_backslash (b ∷ []) ∙ rw (string_quote_is b q) refl)
     go false q = o q
 
--- the bytes of the first token
-front_is : (mode : Bool) (rest : List ℕ) (kind : TokenKind) (len : ℕ) → (f : IsFirstToken mode rest kind len) →
-    take len rest ≡ bytes_of f.token
-front_is mode rest kind len f =
-    subst (λ x. take len x ≡ bytes_of f.token) f.bytes
-    (subst (λ n. take n (bytes_of f.token ++ drop len rest) ≡ bytes_of f.token) f.len_is
-    (take-append_seam (bytes_of f.token) (drop len rest)))
-
 -- what the code finds in the bytes of the first token
 abbrev pub IsTold : List ℕ → Option ℕ → Type 0
 IsTold bytes found =
@@ -253,7 +242,7 @@ IsTold bytes found =
 told_first : (mode : Bool) (rest : List ℕ) (kind : TokenKind) (len : ℕ) (found : Option ℕ) →
     (f : IsFirstToken mode rest kind len) → IsTold (take len rest) found → found ≡ backslash_in 0 f.token
 told_first mode rest kind len found f h =
-    let i = subst (λ x. IsTold x found) (front_is mode rest kind len f) h in
+    let i = subst (λ x. IsTold x found) (first_bytes mode rest kind len f) h in
     told f.token (drop len rest) mode f.holds found i.0 i.1
 
 pub passed_more : (mode : Bool) (query rest : List ℕ) (kind : TokenKind) (len : ℕ) → PassedSoFar mode query rest →

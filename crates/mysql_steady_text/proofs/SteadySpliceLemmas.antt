@@ -189,7 +189,7 @@ module _ (mode : Bool) (text : List ℕ) (ts : List Token) (literals : List (Lis
 
 -- ---- the text is steady
 
-all_both : (xs ys : List ℕ) → list_all is_steady xs ≡ true → list_all is_steady ys ≡ true → list_all is_steady (xs ++ ys) ≡ true
+pub all_both : (xs ys : List ℕ) → list_all is_steady xs ≡ true → list_all is_steady ys ≡ true → list_all is_steady (xs ++ ys) ≡ true
 all_both xs ys h k = list_all-append is_steady xs ys ∙ and_from _ _ h k
 
 token_steady : (t : Token) (ts : List Token) (more : List ℕ) → list_all is_steady (bytes_of t ++ text_of ts) ≡ true →

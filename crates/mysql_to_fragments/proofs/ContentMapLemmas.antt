@@ -6,7 +6,7 @@ use Rattle.std.specs.FinMap as finite
 use Rattle.std.specs.Global.{Vec}
 use Rattle.std.specs.Ordering.{nat_cmp, eq_by_cmp}
 use Rattle.std.specs.Cmp.{unsigned_ties}
-use Rattle.std.specs.Cmp.Lexicographic.{slice_cmp, pointwise, bytes_decides, lists_ties, nat_list_cmp_total, nat_list_eq_equiv}
+use Rattle.std.specs.Cmp.Lexicographic.{slice_cmp, pointwise, lists_ties, nat_list_cmp_total}
 use Rattle.std.specs.FinMap.{find, get, get-from_entries, insert, get-insert, same_map, slice_cmp-IsAntisymmetric, nat_cmp-IsAntisymmetric}
 use Rattle.std.specs.Map.{lookup, KeepsOthers}
 use Rattle.mysql_wire_part.specs.Answer.{IsAnswer, IsExpectedRefusal}
@@ -19,6 +19,7 @@ use Rattle.mysql_fragments.specs.declared.fragment.Fragment.{Fragment}
 use Rattle.mysql_to_fragments.specs.FragmentContent.{content_of}
 use Rattle.mysql_to_fragments.specs.Arguments.{SaidFragment}
 use Rattle.mysql_to_fragments.specs.NamedContents.{ContentMap, content_map, entry_content, with_new}
+use Rattle.mysql_params_core.proofs.InsertLemmas.{lookup-bytes}
 
 -- the content of a choice
 of_choice : (b : Bool) (f : Fragment) (o : Option Fragment) → cond b (Some (content_of f)) (option_map content_of o) ≡ option_map content_of (cond b (Some f) o)
@@ -42,19 +43,9 @@ is_some-mapped f None = refl
 is_some-mapped f (Some x) = refl
 
 module _ (es fs : List (Vec ℕ × Fragment)) (k : Vec ℕ) (v : Fragment) (keeps : KeepsOthers key_eq (key_eq k) es fs) (inserted : lookup (key_eq k) fs ≡ Some v) where
-  lookup-other : (q : List ℕ) → has_bytes q k ≡ false → lookup (has_bytes q) fs ≡ lookup (has_bytes q) es
-  unfolding KeepsOthers
-  lookup-other q apart =
-      keeps (has_bytes q) (λ x y t. nat_list_eq_equiv.congr q x.items y.items t)
-      (λ x t. ap (pointwise nat_eq q) (sym ((bytes_decides k.items x.items).0 t)) ∙ apart)
-
-  lookup-bytes : (q : List ℕ) (b : Bool) → has_bytes q k ≡ b → lookup (has_bytes q) fs ≡ cond b (Some v) (lookup (has_bytes q) es)
-  lookup-bytes q true e = ap (λ bs. lookup (λ (x : Vec ℕ). pointwise nat_eq bs x.items) fs) ((bytes_decides q k.items).0 e) ∙ inserted
-  lookup-bytes q false e = lookup-other q e
-
   pub content_map-insert : content_map fs ≡ insert (content_map es) k.items (content_of v)
   content_map-insert = same_map nat_list_cmp_total (slice_cmp-IsAntisymmetric nat_cmp-IsAntisymmetric) _ _ (λ q.
-      get-content_map fs q ∙ ap (option_map content_of) (lookup-bytes q (has_bytes q k) refl)
+      get-content_map fs q ∙ ap (option_map content_of) (lookup-bytes es fs k v keeps inserted q (has_bytes q k) refl)
       ∙ sym (of_choice (has_bytes q k) v (lookup (has_bytes q) es))
       ∙ ap (λ b. cond b (Some (content_of v)) (option_map content_of (lookup (has_bytes q) es))) (lists_ties nat_cmp unsigned_ties q k.items)
       ∙ ap (cond (eq_by_cmp (slice_cmp nat_cmp) q k.items) (Some (content_of v))) (sym (get-content_map es q))

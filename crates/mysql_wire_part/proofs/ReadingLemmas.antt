@@ -10,7 +10,7 @@ use Rattle.mysql_wire_part.specs.Reading.{read_bytes, read_number}
 drop-append : (k : ℕ) (xs rest : List ℕ) → length xs ≡ k → drop k (xs ++ rest) ≡ rest
 drop-append k xs rest same = ap (λ n. drop n (xs ++ rest)) (sym same) ∙ drop-append_seam xs rest
 
-take-append : (k : ℕ) (xs rest : List ℕ) → length xs ≡ k → take k (xs ++ rest) ≡ xs
+pub take-append : (k : ℕ) (xs rest : List ℕ) → length xs ≡ k → take k (xs ++ rest) ≡ xs
 take-append k xs rest same = ap (λ n. take n (xs ++ rest)) (sym same) ∙ take-append_seam xs rest
 
 are_enough : (k : ℕ) (xs rest : List ℕ) → length xs ≡ k → leb k (length (xs ++ rest)) ≡ true

@@ -1,7 +1,7 @@
 use Rattle.std.proofs.Common.{◌≡◌, false, ap, sym, ◌∙◌, Ok}
 use Rattle.std.specs.FinMap.{contains_key, insert}
 use Rattle.mysql_fragments.specs.GivenFragments.{fragment_map}
-use Rattle.mysql_bind_core.proofs.EntryLemmas.{fragment_map-insert}
+use Rattle.mysql_fragments.proofs.FragmentMapLemmas.{fragment_map-insert}
 use Rattle.mysql_bind_core.proofs.assignment.insert_fragment.Goals as goal
 
 pub returns-clause-made : goal.returns-clause-made

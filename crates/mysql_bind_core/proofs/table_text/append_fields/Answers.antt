@@ -1,8 +1,9 @@
 use Rattle.std.proofs.Common.{subst, sym}
 use Rattle.mysql_records.specs.Seen.{lent_fields_seen}
 use Rattle.mysql_bind_core.specs.Tables.{AreCellsOf}
-use Rattle.mysql_bind_core.proofs.ScriptLemmas.{if_err, on_ok}
 use Rattle.mysql_bind_core.proofs.TableLemmas.{refusal_of_record, text_of_record}
+use Rattle.mysql_bind_core.proofs.CellRowLemmas.{on_ok}
+use Rattle.mysql_bind_core.proofs.BindingLemmas.{if_err}
 use Rattle.mysql_bind_core.proofs.table_text.append_fields.Goals as goal
 
 pub returns-clause-appended : goal.returns-clause-appended

@@ -1,7 +1,7 @@
 use Rattle.std.proofs.Common.{ap, ◌∙◌}
 use Rattle.std.specs.FinMap.{insert}
 use Rattle.mysql_fragments.specs.GivenFragments.{fragment_map}
-use Rattle.mysql_flat_params.proofs.FragmentMapLemmas.{fragment_map-insert}
+use Rattle.mysql_fragments.proofs.FragmentMapLemmas.{fragment_map-insert}
 use Rattle.mysql_flat_params.proofs.fragments_form.insert_named.Goals as goal
 
 pub returns-clause-inserted : goal.returns-clause-inserted

@@ -4,7 +4,8 @@ use Rattle.mysql_flat_params.specs.IntoRoom.{IsBindOutcome, IsBoundForm}
 use Rattle.mysql_flat_params.specs.Outcomes.{IfDone}
 use Rattle.mysql_flat_params.specs.declared.outcome.Outcome.{Outcome}
 use Rattle.mysql_flat_params.proofs.IntoRoomLemmas.{first_stands}
-use Rattle.mysql_flat_params.proofs.PlaceTableLemmas.{can_have, misses_other, never_refused, never_true, never_unfit, of_query, one_refusal, own_spans, own_table, text_told, text_at_front}
+use Rattle.mysql_flat_params.proofs.PlaceTableLemmas.{can_have, misses_other, never_true, never_unfit, of_query, one_refusal, own_spans, own_table, text_told, text_at_front}
+use Rattle.mysql_binding.proofs.CauseLemmas.{never_refused}
 use Rattle.mysql_flat_params.proofs.place_table.bind_by_table_into.Goals as goal
 
 pub returns-in_default-clause-outcome : goal.returns-in_default-clause-outcome

@@ -7,7 +7,8 @@ use Rattle.mysql_binding.proofs.FoundPlacesLemmas.{none_passed, one_passed}
 use Rattle.mysql_binding.proofs.NameListLemmas.{listed_all, listed_more, listed_none, name_left}
 use Rattle.mysql_binding.proofs.SurveyedQueryLemmas.{begin_with}
 use Rattle.mysql_fragments.specs.GivenFragments.{fragments_at, missing}
-use Rattle.mysql_flat_params.proofs.PlacedLemmas.{all_found, found_more, none_found, not_found, unmixed_too}
+use Rattle.mysql_flat_params.proofs.PlacedLemmas.{found_more, none_found, not_found, unmixed_too}
+use Rattle.mysql_fragments.proofs.PlaceLemmas.{at_found}
 use Rattle.mysql_flat_params.proofs.placed.named_fragments.Goals as goal
 
 pub loop-rest-init : goal.loop-rest-init
@@ -67,4 +68,4 @@ returns-clause-placed c = λ fragments all.
     let (listed_names, listed, long, found) = c.loop-rest.invariant.0 in
     let o = listed_all _ _ _ _ listed_names listed (omega (arith, long, c.loop-rest-test.false, c.loop-rest.list.ok.0)) in
     let (said, are_found, are_said) = found fragments all in
-    (o.0, o.1, (said, subst (λ ns. fragments_at fragments ns ≡ Ok said) o.2 (all_found fragments listed_names said are_found), are_said))
+    (o.0, o.1, (said, subst (λ ns. fragments_at fragments ns ≡ Ok said) o.2 (at_found fragments listed_names said are_found), are_said))

@@ -1,7 +1,8 @@
 use Rattle.std.specs.Prelude.{true}
 use Rattle.std.proofs.Common.{refl, sym, ◌∙◌}
 use Rattle.mysql_named_params.proofs.TokensExistLemmas.{tokens_exist}
-use Rattle.mysql_flat_params.proofs.SteadyRoomLemmas.{agree_without_backslash, agree_without_unsteady}
+use Rattle.mysql_flat_params.proofs.SteadyRoomLemmas.{agree_without_unsteady}
+use Rattle.mysql_steady_text.proofs.BothModesAnswerLemmas.{agree}
 use Rattle.mysql_flat_params.proofs.steady_room.byte_refusal.Goals as goal
 
 pub returns-in-Some-clause-told : goal.returns-in-Some-clause-told
@@ -37,4 +38,4 @@ returns-in-None-first_backslash-clause-told c mode =
 
 pub returns-in-None-first_backslash-clause-agree : goal.returns-in-None-first_backslash-clause-agree
 returns-in-None-first_backslash-clause-agree c = λ none.
-    agree_without_backslash c.args.query.now c.first_backslash.result (c.first_backslash.ensures true) c.in-None-first_backslash.is
+    agree c.args.query.now c.first_backslash.result (c.first_backslash.ensures true) c.in-None-first_backslash.is

@@ -7,6 +7,7 @@ use Rattle.mysql_binding.specs.FirstCause.{first_cause}
 use Rattle.mysql_binding.proofs.AppendedTextLemmas.{handed_on}
 use Rattle.mysql_binding.proofs.MeasuredTextLemmas.{measured_length, front_text}
 use Rattle.mysql_binding.proofs.SpanBindLemmas.{own_given_text}
+use Rattle.mysql_binding.proofs.CauseLemmas.{never_refused}
 use Rattle.mysql_binding.proofs.binding.spans.bind_spans_into.Goals as goal
 
 pub returns-then-room-len-clause-text : goal.returns-then-room-len-clause-text
@@ -19,13 +20,6 @@ returns-clause-text g c = λ mode own.
     front_text mode (g.F.LiteralForm.literal c.args.form.now) (g.F.LiteralForm.IsKnown c.args.form.now) c.args.spanned.now.query.now (given_by_borrowed c.args.params) c.in_ok-measured.measured.len
     c.fill_spans.new.room c.args.room.now (omega (arith, c.if-room-len.false)) (omega (arith, c.fill_spans.auto.room, c.if-room-len.false, length-take-le c.in_ok-measured.measured.len c.args.room.now (omega (arith, c.if-room-len.false))))
     (own_given_text c.args.spanned.now.survey c.args.spanned.now.spans.now mode c.args.spanned.now.query.now own (g.F.LiteralForm.literal c.args.form.now) (g.F.LiteralForm.IsKnown c.args.form.now) (given_by_borrowed c.args.params) c.in_ok-measured.measured c.fill_spans.new.room (c.in_ok-measured.ensures.measured mode own) c.fill_spans.ensures)
-
--- what is measured isn't refused
-never : {T E X : Type 0} → (a : T) (e : E) → ◌≡◌ {A = Result T E} (Ok a) (Err e) → X
-never {T = T} {E = E} a e h = absurd (apart h)
-  where
-    apart : ◌≡◌ {A = Result T E} (Ok a) (Err e) → ⊥
-    apart h = cc
 
 -- an error that is handed on is the same of whatever would be there without it
 same_error : {T U E : Type 0} → (r : Result U E) (e f : E) → IsErrAnd r (λ t. t ≡ e) → ◌≡◌ {A = Result T E} (Err e) (Err f) → ◌≡◌ {A = Result U E} r (Err f)
@@ -47,9 +41,9 @@ returns-in_err-measured-clause-refused g c = λ mode own.
 pub returns-then-room-len-clause-mixed : goal.returns-then-room-len-clause-mixed
 returns-then-room-len-clause-mixed g c = λ mode own.
     let o = c.in_ok-measured.ensures.mixed mode own in
-    (o.0, o.1, λ both. never _ _ (o.2 both))
+    (o.0, o.1, λ both. never_refused _ _ (o.2 both))
 
 pub returns-clause-mixed : goal.returns-clause-mixed
 returns-clause-mixed g c = λ mode own.
     let o = c.in_ok-measured.ensures.mixed mode own in
-    (o.0, o.1, λ both. never _ _ (o.2 both))
+    (o.0, o.1, λ both. never_refused _ _ (o.2 both))
