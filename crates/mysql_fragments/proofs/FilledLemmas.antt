@@ -28,11 +28,11 @@ use Rattle.mysql_binding.proofs.CauseLemmas.{or_none, map_none}
 use Rattle.mysql_binding.proofs.PieceLemmas.{bound_none, joined_text-pieces_from, joined_text_is}
 use Rattle.mysql_binding.proofs.ValueLiteralLemmas.{none_step, has_literal}
 use Rattle.mysql_fragments.specs.Expanded.{IsBoundFragments, IsExpanded}
-use Rattle.mysql_fragments.specs.FilledText.{ArePlaced, IsFilledQuery, filled_item, filled_items, filled_row, filled_text}
+use Rattle.mysql_fragments.specs.FilledText.{ArePlaced, IsFilledQuery}
 use Rattle.mysql_fragments.specs.FragmentErrors.{first_fault_from}
 use Rattle.mysql_fragments.specs.FragmentFaults.{fault_of, item_fault, items_fault, list_fault, row_fault, rows_fault, rows_fault_from}
 use Rattle.mysql_fragments.specs.FragmentShape.{IsFragment}
-use Rattle.mysql_fragments.specs.FragmentText.{all_values, fragment_text, fragment_values, item_text, item_values, items_text, joined, row_text}
+use Rattle.mysql_fragments.specs.FragmentText.{all_values, filled_item, filled_items, filled_row, filled_text, fragment_text, fragment_values, item_text, item_values, items_text, joined, row_text}
 use Rattle.mysql_fragments.specs.GivenFragments.{GivenFragments}
 use Rattle.mysql_fragments.specs.declared.fragment.Item.{Item}
 use Rattle.mysql_fragments.specs.declared.fragment.Item.TheVariants as item

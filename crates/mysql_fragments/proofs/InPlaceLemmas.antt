@@ -30,8 +30,7 @@ use Rattle.mysql_fragments.specs.Expanded.{IsBoundFragments}
 use Rattle.mysql_fragments.specs.FragmentErrors.{first_fault_from, first_float_from, has_float, is_float_item}
 use Rattle.mysql_fragments.specs.FragmentFaults.{digit_count, fault_of, is_decimal, item_fault, items_fault, list_fault, names_fault, number_fault, row_fault, rows_fault, rows_fault_from}
 use Rattle.mysql_fragments.specs.FragmentsInPlace.{ReadsAsNumber, ReadsAsDouble, ItemReadsAsItself, AreReadAsItems, read_last_item, read_more_items, AreReadAsRows, read_last_row, read_more_rows, ReadsAsItself, ReadAsThemselves}
-use Rattle.mysql_fragments.specs.FilledText.{filled_item, filled_items, filled_row, filled_text}
-use Rattle.mysql_fragments.specs.FragmentText.{all_values, identifier_text, joined}
+use Rattle.mysql_fragments.specs.FragmentText.{all_values, filled_item, filled_items, filled_row, filled_text, identifier_text, joined}
 use Rattle.mysql_fragments.specs.GivenFragments.{GivenFragments}
 use Rattle.mysql_fragments.specs.ReadFragment.{AreReadAsNames, read_exact}
 use Rattle.mysql_fragments.specs.declared.fragment.Item.{Item}

@@ -31,8 +31,8 @@ use Rattle.mysql_binding.proofs.TextLengthLemmas.{pieces_len-plain_len}
 use Rattle.mysql_fragments.specs.BorrowedFragments.{AreSaid}
 use Rattle.mysql_fragments.specs.BorrowedText.{borrowed_text, borrowed_values}
 use Rattle.mysql_fragments.specs.Expanded.{IsBoundFragments}
-use Rattle.mysql_fragments.specs.FilledText.{ArePlaced, IsFilledQuery, filled_text}
-use Rattle.mysql_fragments.specs.FragmentText.{all_values}
+use Rattle.mysql_fragments.specs.FilledText.{ArePlaced, IsFilledQuery}
+use Rattle.mysql_fragments.specs.FragmentText.{all_values, filled_text}
 use Rattle.mysql_fragments.specs.FragmentsInRoom.{HasFilledLength, IsTooLong}
 use Rattle.mysql_fragments.specs.GivenFragments.{GivenFragments}
 use Rattle.mysql_fragments.specs.declared.fragment.Fragment.{Fragment}

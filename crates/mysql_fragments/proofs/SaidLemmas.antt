@@ -13,10 +13,9 @@ use Rattle.mysql_value_core.specs.declared.value.ValueRef.{ValueRef}
 use Rattle.mysql_values.specs.declared.value.Value.{Value}
 use Rattle.mysql_fragments.specs.BorrowedFragments.{AreSaid, Says, cell_item, cell_rows}
 use Rattle.mysql_fragments.specs.BorrowedText.{borrowed_fault, borrowed_text, borrowed_values, cells_fault, first_borrowed_fault_from, first_borrowed_float_from, has_borrowed_float}
-use Rattle.mysql_fragments.specs.FilledText.{filled_items, filled_text}
 use Rattle.mysql_fragments.specs.FragmentErrors.{first_fault_from, first_float_from, has_float, is_float_item}
 use Rattle.mysql_fragments.specs.FragmentFaults.{fault_of, items_fault, list_fault, row_fault, rows_fault, rows_fault_from}
-use Rattle.mysql_fragments.specs.FragmentText.{all_values, fragment_values, item_values, joined}
+use Rattle.mysql_fragments.specs.FragmentText.{all_values, filled_items, filled_text, fragment_values, item_values, joined}
 use Rattle.mysql_fragments.specs.declared.fragment.Item.{Item}
 use Rattle.mysql_fragments.specs.declared.fragment.Fragment.{Fragment}
 use Rattle.mysql_fragments.specs.declared.fragment_ref.FragmentRef.{FragmentRef}

@@ -8,10 +8,9 @@ use Rattle.mysql_values.specs.BorrowedValue.{owned}
 use Rattle.mysql_values.specs.Literal.{is_float}
 use Rattle.mysql_values.specs.declared.value.Value.{Value}
 use Rattle.mysql_fragments.specs.BorrowedFragments.{cell_item, cell_rows}
-use Rattle.mysql_fragments.specs.FilledText.{filled_items, filled_text}
 use Rattle.mysql_fragments.specs.FragmentErrors.{has_float, is_float_item}
 use Rattle.mysql_fragments.specs.FragmentFaults.{fault_of}
-use Rattle.mysql_fragments.specs.FragmentText.{fragment_values, item_values, joined}
+use Rattle.mysql_fragments.specs.FragmentText.{filled_items, filled_text, fragment_values, item_values, joined}
 use Rattle.mysql_fragments.specs.declared.fragment_ref.FragmentRef.{FragmentRef}
 use Rattle.mysql_fragments.specs.declared.fragment_ref.FragmentRef.TheVariants as borrowed
 use Rattle.mysql_fragments.specs.declared.fragments_error.FragmentFault.{FragmentFault}

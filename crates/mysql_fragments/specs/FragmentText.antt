@@ -1,6 +1,6 @@
--- The text of a fragment with a mark for each of its values, and these values, in order (MySQL
--- Reference Manual, "Numeric Literals", "Schema Object Names", "Comparison Functions and
--- Operators", "VALUES Statement").
+-- The text of a fragment with a given text for each of its values, that with a mark for each, and
+-- these values, in order (MySQL Reference Manual, "Numeric Literals", "Schema Object Names",
+-- "Comparison Functions and Operators", "VALUES Statement").
 use Rattle.std.specs.Prelude.{◌==◌, ℕ, List, [], ◌∷◌, ◌++◌, if◌then◌else◌, map, codes, length}
 use Rattle.std.specs.List.{flat_map}
 use Rattle.std.specs.Global.{Vec}
@@ -30,31 +30,51 @@ doubled (b ∷ bs) = if b == backquote then b ∷ b ∷ doubled bs else b ∷ do
 abbrev pub identifier_text : List ℕ → List ℕ
 identifier_text name = codes "`" ++ (doubled name ++ codes "`")
 
--- an item: a mark for a value, a number as it is written
-abbrev pub item_text : Item → List ℕ
-item_text (item.Value value) = codes "?"
-item_text (item.Decimal number) = number.items
-item_text (item.Double double) = double_text double
+-- an item: this text of a value, a number as it is written
+abbrev pub filled_item : (Value → List ℕ) → Item → List ℕ
+filled_item write (item.Value value) = write value
+filled_item write (item.Decimal number) = number.items
+filled_item write (item.Double double) = double_text double
 
 -- items with commas between them
-abbrev pub items_text : List Item → List ℕ
-items_text items = joined (codes ", ") (map item_text items)
+abbrev pub filled_items : (Value → List ℕ) → List Item → List ℕ
+filled_items write items = joined (codes ", ") (map (filled_item write) items)
 
 -- a row: its items in brackets
-abbrev pub row_text : Vec Item → List ℕ
-row_text row = codes "(" ++ (items_text row.items ++ codes ")")
+abbrev pub filled_row : (Value → List ℕ) → Vec Item → List ℕ
+filled_row write row = codes "(" ++ (filled_items write row.items ++ codes ")")
 
--- the text of a fragment
-abbrev pub fragment_text : Fragment → List ℕ
-fragment_text (one.Value value) = codes "?"
-fragment_text (one.Decimal number) = number.items
-fragment_text (one.Double double) = double_text double
-fragment_text (one.List items) = items_text items.items
-fragment_text (one.Rows rows) = joined (codes ", ") (map row_text rows.items)
-fragment_text (one.Identifier name) = identifier_text name.items
-fragment_text (one.Qualified names) =
+-- a fragment, with this text of each of its values
+abbrev pub filled_text : (Value → List ℕ) → Fragment → List ℕ
+filled_text write (one.Value value) = write value
+filled_text write (one.Decimal number) = number.items
+filled_text write (one.Double double) = double_text double
+filled_text write (one.List items) = filled_items write items.items
+filled_text write (one.Rows rows) = joined (codes ", ") (map (filled_row write) rows.items)
+filled_text write (one.Identifier name) = identifier_text name.items
+filled_text write (one.Qualified names) =
     joined (codes ".") (map (λ name. identifier_text name.items) names.items)
-fragment_text (one.Keyword keyword) = keyword.word.items
+filled_text write (one.Keyword keyword) = keyword.word.items
+
+-- the mark of each value
+abbrev pub mark : Value → List ℕ
+mark value = codes "?"
+
+-- an item, with a mark for a value
+abbrev pub item_text : Item → List ℕ
+item_text = filled_item mark
+
+-- items, with a mark for each value
+abbrev pub items_text : List Item → List ℕ
+items_text = filled_items mark
+
+-- a row, with a mark for each value
+abbrev pub row_text : Vec Item → List ℕ
+row_text = filled_row mark
+
+-- the text of a fragment, with a mark for each value
+abbrev pub fragment_text : Fragment → List ℕ
+fragment_text = filled_text mark
 
 -- the value of an item, if it is one
 abbrev pub item_values : Item → List Value

@@ -6,7 +6,8 @@ use Rattle.mysql_binding.specs.LiteralForm.{Literals, written_literal}
 use Rattle.mysql_binding.specs.MeasuredText.{IsOfFields}
 use Rattle.mysql_binding.specs.TextInRoom.{HasTextOf}
 use Rattle.mysql_binding.specs.TextLength.{pieces_len}
-use Rattle.mysql_fragments.specs.FilledText.{IsFilledQuery, filled_text}
+use Rattle.mysql_fragments.specs.FilledText.{IsFilledQuery}
+use Rattle.mysql_fragments.specs.FragmentText.{filled_text}
 use Rattle.mysql_fragments.specs.FragmentErrors.{Cause, cause_of}
 use Rattle.mysql_fragments.specs.GivenFragments.{GivenFragments}
 use Rattle.mysql_fragments.specs.declared.fragment.Fragment.{Fragment}

@@ -3,8 +3,7 @@ ghost use Rattle.std.specs.Prelude.{◌≡◌, ◌+◌, ◌++◌, ◌≤◌, cod
 ghost use Rattle.std.specs.List.{flat_map};
 ghost use Rattle.mysql_binding.specs.LiteralForm.{written_literal};
 ghost use Rattle.mysql_binding.specs.PushedLiteral.{AreKnownUnlessFloats};
-ghost use Rattle.mysql_fragments.specs.FilledText.{filled_item, filled_items, filled_row, filled_text};
-ghost use Rattle.mysql_fragments.specs.FragmentText.{fragment_values, item_values, joined};
+ghost use Rattle.mysql_fragments.specs.FragmentText.{filled_item, filled_items, filled_row, filled_text, fragment_values, item_values, joined};
 
 use crate::fragment::{Fragment, Item};
 use crate::names::{append_identifier, append_names, append_separator};

@@ -14,13 +14,13 @@ ghost use Rattle.mysql_fragments.specs.FragmentErrors.{IsCauseOrMemory, cause_of
 ghost use Rattle.mysql_fragments.specs.FragmentText.{all_values, fragment_text};
 ghost use Rattle.mysql_fragments.specs.GivenFragments.{given_fragments};
 
-use crate::filled::filled_query;
+use crate::filled::{filled_query, spliced_text};
 use crate::fragment::{Fragment, Fragments};
 use crate::fragments_error::{FragmentFault, FragmentsError};
 use crate::places::fragments_of_places;
-use crate::written::{has_float, push_fragment, push_values};
+use crate::value_form::Marks;
+use crate::written::{has_float, push_values};
 use mysql_binding::{PlainForm, Survey, SurveyedQuery};
-use mysql_named_params::places::first_place;
 use mysql_values::value::Value;
 use std::alloc::{AllocError, Global};
 
@@ -316,37 +316,9 @@ fn written(
     ensures values { IfOk result (λ expanded.
         expanded.values.items ≡ all_values (referents fragments.now)) }
 {
-    let query = spliced_text(alloc, query, fragments, no_backslash_escape)?;
+    let query = spliced_text(alloc, query, fragments, no_backslash_escape, &Marks)?;
     let values = values_of(alloc, fragments)?;
     Ok(ExpandedQuery { query, values })
-}
-
-// The query with the texts of fragments in its places, of which there are as many.
-fn spliced_text(
-    alloc: Global,
-    query: &[u8],
-    fragments: &[&Fragment],
-    no_backslash_escape: bool,
-) -> Result<Vec<u8>, AllocError>
-    requires { OnTokens no_backslash_escape query.now (λ ts.
-        length (referents fragments.now) ≡ place_count ts) }
-    ensures { IfOk result (λ text. OnTokens no_backslash_escape query.now (λ ts.
-        joined_text (pieces ts) (map fragment_text (referents fragments.now))
-        ≡ Some text.items)) }
-{
-    let mut text = Vec::new(alloc);
-    let mut rest = query;
-    for fragment in fragments {
-        let Some(found) = first_place(rest, no_backslash_escape) else {
-            unreachable!()
-        };
-        let (piece, _, after) = found.cut(rest);
-        text.extend_from_slice(piece)?;
-        push_fragment(&mut text, *fragment)?;
-        rest = after;
-    }
-    text.extend_from_slice(rest)?;
-    Ok(text)
 }
 
 // The values of fragments, in order.

@@ -30,6 +30,7 @@ mod rows_ref;
 mod steady_fragments;
 mod steady_fragments_error;
 mod unsteady;
+mod value_form;
 mod written;
 
 pub use bound_refs::{bind_borrowed_fragments, bind_borrowed_fragments_into};

@@ -1,14 +1,14 @@
 //! The length of a query with fragments in its places and the literals of values in these, before a
 //! byte of it is written. Nothing is allocated. Each length is added to the one so far, and there
 //! is none if the sum is above `isize::MAX`.
-ghost use Rattle.std.specs.Prelude.{◌≡◌, ◌+◌, ◌++◌, ◌^◌, ◌≤◌, [], ◌∷◌, None, IfSome, codes, length, map};
+ghost use Rattle.std.specs.Prelude.{◌≡◌, ◌+◌, ◌^◌, ◌≤◌, [], ◌∷◌, None, IfSome, codes, length, map};
 ghost use Rattle.std.specs.List.{flat_map};
 ghost use Rattle.mysql_values.specs.BorrowedValue.{owned};
 ghost use Rattle.mysql_binding.specs.LiteralForm.{written_literal};
 ghost use Rattle.mysql_binding.specs.MeasuredText.{IsOfFields};
 ghost use Rattle.mysql_binding.specs.PushedLiteral.{AreKnownUnlessFloats};
-ghost use Rattle.mysql_fragments.specs.FilledText.{filled_item, filled_items, filled_row, filled_text, separator_before};
-ghost use Rattle.mysql_fragments.specs.FragmentText.{doubled, fragment_values, identifier_text, item_values, joined};
+ghost use Rattle.mysql_fragments.specs.FilledText.{separator_before};
+ghost use Rattle.mysql_fragments.specs.FragmentText.{doubled, filled_item, filled_items, filled_row, filled_text, fragment_values, identifier_text, item_values, joined};
 
 use crate::fragment::{Fragment, Item};
 use mysql_binding::{LiteralForm, literal_len};

@@ -1,70 +1,85 @@
-//! The text of fragments with marks for their values, and these values.
+//! The text of fragments, with what a form writes for their values, and these values.
 ghost use Rattle.std.specs.Prelude.{◌≡◌, ◌++◌, IfOk, OnErr, codes, map};
 ghost use Rattle.std.specs.Io.{StartsWith};
 ghost use Rattle.std.specs.List.{flat_map, list_any};
 ghost use Rattle.mysql_values.specs.Literal.{is_float};
+ghost use Rattle.mysql_binding.specs.LiteralForm.{written_literal};
+ghost use Rattle.mysql_binding.specs.PushedLiteral.{AreKnownUnlessFloats};
 ghost use Rattle.mysql_fragments.specs.FragmentErrors.{has_float, is_float_item};
-ghost use Rattle.mysql_fragments.specs.FragmentText.{fragment_text, fragment_values, identifier_text, item_text, item_values, items_text, joined, row_text};
+ghost use Rattle.mysql_fragments.specs.FragmentText.{filled_item, filled_items, filled_row, filled_text, fragment_values, identifier_text, item_values, joined};
 
 use crate::fragment::{Fragment, Item};
+use crate::value_form::ValueForm;
 use mysql_values::value::Value;
 use std::alloc::AllocError;
 
-/// Writes the text of a fragment with a mark for each value to the end. If memory is refused, a
+/// Writes the text of a fragment to the end, with its values in a form. If memory is refused, a
 /// part of it may stand behind what stood before.
-pub(crate) fn push_fragment(text: &mut Vec<u8>, fragment: &Fragment) -> Result<(), AllocError>
-    ensures text { IfOk result (λ done.
-        text.new.items ≡ text.old.items ++ fragment_text fragment.now) }
+pub(crate) fn push_fragment<F: ValueForm>(
+    text: &mut Vec<u8>,
+    fragment: &Fragment,
+    form: &F,
+) -> Result<(), AllocError>
+    ensures text { IfOk result (λ done. text.new.items
+        ≡ text.old.items ++ filled_text (written_literal (F.written form.now)) fragment.now) }
+    ensures known { IfOk result (λ done. AreKnownUnlessFloats (F.written form.now)
+        (F.IsKnown form.now) (fragment_values fragment.now)) }
     ensures kept { OnErr result (StartsWith text.new.items text.old.items) }
 {
     match fragment {
-        Fragment::Value(_) => {
-            text.push(b'?')?;
-            Ok(())
-        }
+        Fragment::Value(value) => form.push(text, value),
+        Fragment::List(items) => push_items(text, items.as_slice(), form),
+        Fragment::Rows(rows) => push_rows(text, rows.as_slice(), form),
         Fragment::Decimal(number) => text.extend_from_slice(number.as_slice()),
         Fragment::Double(double) => text.extend_from_slice(double.as_bytes()),
-        Fragment::List(items) => push_items(text, items.as_slice()),
-        Fragment::Rows(rows) => push_rows(text, rows.as_slice()),
         Fragment::Identifier(name) => push_identifier(text, name.as_slice()),
         Fragment::Qualified(names) => push_names(text, names.as_slice()),
         Fragment::Keyword(word) => text.extend_from_slice(word.as_bytes()),
     }
 }
 
-// Writes an item to the end: a mark for a value.
-fn push_item(text: &mut Vec<u8>, item: &Item) -> Result<(), AllocError>
-    ensures text { IfOk result (λ done. text.new.items ≡ text.old.items ++ item_text item.now) }
+// Writes an item to the end: a value in the form.
+fn push_item<F: ValueForm>(text: &mut Vec<u8>, item: &Item, form: &F) -> Result<(), AllocError>
+    ensures text { IfOk result (λ done. text.new.items
+        ≡ text.old.items ++ filled_item (written_literal (F.written form.now)) item.now) }
+    ensures known { IfOk result (λ done. AreKnownUnlessFloats (F.written form.now)
+        (F.IsKnown form.now) (item_values item.now)) }
     ensures kept { OnErr result (StartsWith text.new.items text.old.items) }
 {
     match item {
-        Item::Value(_) => {
-            text.push(b'?')?;
-            Ok(())
-        }
+        Item::Value(value) => form.push(text, value),
         Item::Decimal(number) => text.extend_from_slice(number.as_slice()),
         Item::Double(double) => text.extend_from_slice(double.as_bytes()),
     }
 }
 
 // Writes items with commas between them to the end.
-fn push_items(text: &mut Vec<u8>, items: &[Item]) -> Result<(), AllocError>
-    ensures text { IfOk result (λ done. text.new.items ≡ text.old.items ++ items_text items.now) }
+fn push_items<F: ValueForm>(text: &mut Vec<u8>, items: &[Item], form: &F) -> Result<(), AllocError>
+    ensures text { IfOk result (λ done. text.new.items
+        ≡ text.old.items ++ filled_items (written_literal (F.written form.now)) items.now) }
+    ensures known { IfOk result (λ done. AreKnownUnlessFloats (F.written form.now)
+        (F.IsKnown form.now) (flat_map item_values items.now)) }
     ensures kept { OnErr result (StartsWith text.new.items text.old.items) }
 {
     for (i, item) in items.iter().enumerate() {
         if i > 0 {
             text.extend_from_slice(b", ")?;
         }
-        push_item(text, item)?;
+        push_item(text, item, form)?;
     }
     Ok(())
 }
 
 // Writes rows in brackets with commas between them to the end.
-fn push_rows(text: &mut Vec<u8>, rows: &[Vec<Item>]) -> Result<(), AllocError>
-    ensures text { IfOk result (λ done.
-        text.new.items ≡ text.old.items ++ joined (codes ", ") (map row_text rows.now)) }
+fn push_rows<F: ValueForm>(
+    text: &mut Vec<u8>,
+    rows: &[Vec<Item>],
+    form: &F,
+) -> Result<(), AllocError>
+    ensures text { IfOk result (λ done. text.new.items ≡ text.old.items
+        ++ joined (codes ", ") (map (filled_row (written_literal (F.written form.now))) rows.now)) }
+    ensures known { IfOk result (λ done. AreKnownUnlessFloats (F.written form.now)
+        (F.IsKnown form.now) (flat_map (λ row. flat_map item_values row.items) rows.now)) }
     ensures kept { OnErr result (StartsWith text.new.items text.old.items) }
 {
     for (i, row) in rows.iter().enumerate() {
@@ -72,7 +87,7 @@ fn push_rows(text: &mut Vec<u8>, rows: &[Vec<Item>]) -> Result<(), AllocError>
             text.extend_from_slice(b", ")?;
         }
         text.push(b'(')?;
-        push_items(text, row.as_slice())?;
+        push_items(text, row.as_slice(), form)?;
         text.push(b')')?;
     }
     Ok(())

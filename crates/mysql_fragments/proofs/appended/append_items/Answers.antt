@@ -1,8 +1,7 @@
 use Rattle.std.proofs.Common.{arith}
 use Rattle.std.specs.Prelude.{codes}
 use Rattle.mysql_binding.specs.LiteralForm.{written_literal}
-use Rattle.mysql_fragments.specs.FilledText.{filled_item}
-use Rattle.mysql_fragments.specs.FragmentText.{item_values}
+use Rattle.mysql_fragments.specs.FragmentText.{filled_item, item_values}
 use Rattle.mysql_fragments.proofs.JoinedLemmas.{appended_next, joined_fits, joined_len}
 use Rattle.mysql_fragments.proofs.FilledLemmas.{known_all, known_step}
 use Rattle.mysql_fragments.proofs.appended.append_items.Goals as goal

@@ -3,8 +3,7 @@ use Rattle.std.specs.Prelude.{codes}
 use Rattle.std.specs.List.{flat_map}
 use Rattle.mysql_binding.specs.LiteralForm.{written_literal}
 use Rattle.mysql_binding.specs.PushedLiteral.{AreKnownUnlessFloats}
-use Rattle.mysql_fragments.specs.FilledText.{filled_item}
-use Rattle.mysql_fragments.specs.FragmentText.{item_values, joined}
+use Rattle.mysql_fragments.specs.FragmentText.{filled_item, item_values, joined}
 use Rattle.mysql_fragments.proofs.appended.append_items.Given as goal
 
 abbrev pub invariant-loop-i : goal.invariant-loop-i

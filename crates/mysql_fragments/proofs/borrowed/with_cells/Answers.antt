@@ -5,8 +5,7 @@ use Rattle.mysql_value_core.specs.declared.value.ValueRef.TheVariants.{NULL}
 use Rattle.mysql_binding.specs.LiteralForm.{written_literal}
 use Rattle.mysql_binding.specs.MeasuredText.{IsOfFields}
 use Rattle.mysql_fragments.specs.BorrowedFragments.{cell_item}
-use Rattle.mysql_fragments.specs.FilledText.{filled_item}
-use Rattle.mysql_fragments.specs.FragmentText.{item_values, joined}
+use Rattle.mysql_fragments.specs.FragmentText.{filled_item, item_values, joined}
 use Rattle.mysql_fragments.proofs.FilledLemmas.{known_all, known_step}
 use Rattle.mysql_fragments.proofs.JoinedLemmas.{joined_fits, joined_len}
 use Rattle.mysql_fragments.proofs.CellLemmas.{cell_is}

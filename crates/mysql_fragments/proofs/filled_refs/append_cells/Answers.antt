@@ -4,8 +4,7 @@ use Rattle.std.proofs.lemmas.List.{length-map}
 use Rattle.mysql_value_core.specs.declared.value.ValueRef.TheVariants.{NULL}
 use Rattle.mysql_binding.specs.LiteralForm.{written_literal}
 use Rattle.mysql_fragments.specs.BorrowedFragments.{cell_item}
-use Rattle.mysql_fragments.specs.FilledText.{filled_item}
-use Rattle.mysql_fragments.specs.FragmentText.{item_values}
+use Rattle.mysql_fragments.specs.FragmentText.{filled_item, item_values}
 use Rattle.mysql_fragments.specs.FragmentText.{joined}
 use Rattle.mysql_fragments.proofs.JoinedLemmas.{appended_next, joined_fits, joined_len}
 use Rattle.mysql_fragments.proofs.CellLemmas.{cell_is}

@@ -1,9 +1,8 @@
 use Rattle.std.proofs.Common.{◌≡◌, ◌+◌, ◌++◌, length, map, take}
 use Rattle.std.specs.Prelude.{codes}
 use Rattle.mysql_binding.specs.LiteralForm.{written_literal}
-use Rattle.mysql_fragments.specs.FragmentText.{item_values, joined}
+use Rattle.mysql_fragments.specs.FragmentText.{filled_item, item_values, joined}
 use Rattle.mysql_fragments.specs.BorrowedFragments.{cell_item}
-use Rattle.mysql_fragments.specs.FilledText.{filled_item}
 use Rattle.std.specs.List.{flat_map}
 use Rattle.mysql_binding.specs.PushedLiteral.{AreKnownUnlessFloats}
 use Rattle.mysql_fragments.proofs.filled_refs.append_cells.Given as goal

@@ -2,8 +2,7 @@ use Rattle.std.proofs.Common.{refl, arith}
 use Rattle.std.specs.Prelude.{codes}
 use Rattle.mysql_binding.specs.LiteralForm.{written_literal}
 use Rattle.mysql_binding.specs.MeasuredText.{IsOfFields}
-use Rattle.mysql_fragments.specs.FilledText.{filled_item}
-use Rattle.mysql_fragments.specs.FragmentText.{item_values}
+use Rattle.mysql_fragments.specs.FragmentText.{filled_item, item_values}
 use Rattle.mysql_fragments.proofs.FilledLemmas.{known_all, known_step}
 use Rattle.mysql_fragments.proofs.JoinedLemmas.{joined_fits, joined_len}
 use Rattle.mysql_fragments.proofs.measured.with_items.Goals as goal

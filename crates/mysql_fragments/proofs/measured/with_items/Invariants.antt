@@ -1,8 +1,7 @@
 use Rattle.std.proofs.Common.{◌≡◌, ◌+◌, length, map, take}
 use Rattle.std.specs.Prelude.{codes}
 use Rattle.mysql_binding.specs.LiteralForm.{written_literal}
-use Rattle.mysql_fragments.specs.FilledText.{filled_item}
-use Rattle.mysql_fragments.specs.FragmentText.{joined}
+use Rattle.mysql_fragments.specs.FragmentText.{filled_item, joined}
 use Rattle.std.specs.List.{flat_map}
 use Rattle.mysql_binding.specs.MeasuredText.{IsOfFields}
 use Rattle.mysql_binding.specs.PushedLiteral.{AreKnownUnlessFloats}

@@ -3,8 +3,7 @@ use Rattle.std.specs.Prelude.{codes}
 use Rattle.std.specs.List.{flat_map}
 use Rattle.mysql_binding.specs.LiteralForm.{written_literal}
 use Rattle.mysql_binding.specs.MeasuredText.{IsOfFields}
-use Rattle.mysql_fragments.specs.FilledText.{filled_row}
-use Rattle.mysql_fragments.specs.FragmentText.{item_values}
+use Rattle.mysql_fragments.specs.FragmentText.{filled_row, item_values}
 use Rattle.mysql_fragments.proofs.FilledLemmas.{known_all, known_step}
 use Rattle.mysql_fragments.proofs.JoinedLemmas.{joined_fits, joined_len}
 use Rattle.mysql_fragments.proofs.measured.with_rows.Goals as goal

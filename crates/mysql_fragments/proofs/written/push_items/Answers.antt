@@ -2,24 +2,34 @@ use Rattle.std.proofs.Common.{arith}
 use Rattle.std.specs.Io.{StartsWith}
 use Rattle.std.specs.Prelude.{codes}
 use Rattle.std.proofs.Transfers.{starts_with_of_append, starts_with_of_eq}
-use Rattle.mysql_fragments.specs.FragmentText.{item_text}
+use Rattle.mysql_binding.specs.LiteralForm.{written_literal}
+use Rattle.mysql_fragments.specs.FragmentText.{filled_item, item_values}
 use Rattle.mysql_fragments.proofs.TextLemmas.{joined_step, still_begins}
+use Rattle.mysql_fragments.proofs.FilledLemmas.{known_all, known_step}
 use Rattle.mysql_fragments.proofs.written.push_items.Goals as goal
 use Rattle.mysql_fragments.proofs.written.push_items.Goals.{then-i-gt0+in_ok-extend_from_slice, else-i-gt0}
 
 pub loop-i-preserved : goal.loop-i-preserved
-loop-i-preserved c =
-    joined_step (codes ", ") item_text c.args.items.now c.loop-i.i c.index-items-i.result c.args.text.now.items c.loop-i.text.items c.if-i-gt0.text.items _ c.loop-i-test.true c.index-items-i.is c.loop-i.invariant
-    (λ z. elim c.if-i-gt0.branch [ then-i-gt0+in_ok-extend_from_slice w ↦ absurd (omega (arith, z)) | else-i-gt0 w ↦ cc ])
-    (λ z. elim c.if-i-gt0.branch [ then-i-gt0+in_ok-extend_from_slice w ↦ cc (w.in_ok-extend_from_slice.ensures.items) | else-i-gt0 w ↦ absurd (omega (arith, z)) ])
-    c.in_ok-push_item.ensures.text
+loop-i-preserved g c = (
+  joined_step (codes ", ") (filled_item (written_literal (g.F.ValueForm.written c.args.form.now))) c.args.items.now c.loop-i.i c.index-items-i.result c.args.text.now.items c.loop-i.text.items c.if-i-gt0.text.items _ c.loop-i-test.true c.index-items-i.is c.loop-i.invariant.0
+      (λ z. elim c.if-i-gt0.branch [ then-i-gt0+in_ok-extend_from_slice w ↦ absurd (omega (arith, z)) | else-i-gt0 w ↦ cc ])
+      (λ z. elim c.if-i-gt0.branch [ then-i-gt0+in_ok-extend_from_slice w ↦ cc (w.in_ok-extend_from_slice.ensures.items) | else-i-gt0 w ↦ absurd (omega (arith, z)) ])
+      c.in_ok-push_item.ensures.text,
+  known_step (g.F.ValueForm.written c.args.form.now) (g.F.ValueForm.IsKnown c.args.form.now) item_values c.args.items.now c.loop-i.i c.index-items-i.result
+      c.loop-i-test.true c.index-items-i.is c.loop-i.invariant.1 c.in_ok-push_item.ensures.known,
+)
+
+pub returns-clause-known : goal.returns-clause-known
+returns-clause-known g c =
+    known_all (g.F.ValueForm.written c.args.form.now) (g.F.ValueForm.IsKnown c.args.form.now) item_values c.args.items.now c.loop-i.i
+    (omega (arith, c.loop-i-test.false)) c.loop-i.invariant.1
 
 pub returns-in_err-push_item-clause-kept : goal.returns-in_err-push_item-clause-kept
-returns-in_err-push_item-clause-kept c =
+returns-in_err-push_item-clause-kept g c =
     let before = c.loop-i.text.items in
     let next = c.if-i-gt0.text.items in
     let begun : StartsWith next before = elim c.if-i-gt0.branch [
       | then-i-gt0+in_ok-extend_from_slice w ↦ starts_with_of_append next before (codes ", ") (cc (w.in_ok-extend_from_slice.ensures.items))
       | else-i-gt0 w ↦ starts_with_of_eq next before (cc)
     ] in
-    still_begins _ c.args.text.now.items _ before next _ c.loop-i.invariant begun c.in_err-push_item.ensures.kept
+    still_begins _ c.args.text.now.items _ before next _ c.loop-i.invariant.0 begun c.in_err-push_item.ensures.kept
