@@ -19,12 +19,22 @@ pub enum ReadError {
 }
 
 impl From<io::Error> for ReadError {
+    ghost use Rattle.std.specs.Prelude.{◌≡◌};
+    ghost use Rattle.mysql_io.specs.declared.readers_and_writers.ReadError.TheVariants.{Read};
+
+    ghost from_gives = { λ _ error. error ≡ Read };
+
     fn from(_error: io::Error) -> ReadError {
         ReadError::Read
     }
 }
 
 impl From<AllocError> for ReadError {
+    ghost use Rattle.std.specs.Prelude.{◌≡◌, alloc_error};
+    ghost use Rattle.mysql_io.specs.declared.readers_and_writers.ReadError.TheVariants.{Memory};
+
+    ghost from_gives = { λ _ error. error ≡ Memory alloc_error };
+
     fn from(error: AllocError) -> ReadError {
         ReadError::Memory(error)
     }
