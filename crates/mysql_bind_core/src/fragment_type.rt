@@ -97,6 +97,7 @@ fn list_of_text(alloc: Global, text: &str) -> Result<Option<Fragment>, AllocErro
     ensures { IfOk result (λ found. option_map said found ≡ list_of_json (document text.now)) }
 {
     let mut scratch = Scratch::new(alloc);
+    // A text that is no JSON says no list. The other errors are of memory.
     match Json::parse(alloc, text, &mut scratch) {
         Ok(json) => list_of_json(alloc, &json),
         Err(JsonError::Invalid) => Ok(None),

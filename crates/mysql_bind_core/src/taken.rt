@@ -178,6 +178,7 @@ impl<'q> TakenQuery<'q> {
                 };
                 Ok(bind_surveyed_as(alloc, &surveyed, params, &form)?)
             }
+            // The error of each form is a `BindError`: this one is told as that of steady literals.
             Literals::Steady => match bind_surveyed_as(alloc, &surveyed, params, &SteadyForm) {
                 Ok(text) => Ok(text),
                 Err(error) => Err(Failure::Steady(SteadyTextError::Bind(error))),

@@ -1,5 +1,5 @@
 //! The values that the bytes of a source stand for: copies of the bytes, or where they lie.
-ghost use Rattle.std.specs.Prelude.{◌≡◌, true, IfOk, IsErr, OnErr, option_map};
+ghost use Rattle.std.specs.Prelude.{◌≡◌, true, IfOk, OnErr, option_map};
 ghost use Rattle.mysql_values.specs.BorrowedValue.{owned};
 ghost use Rattle.mysql_bind_core.specs.ValueTypes.{IsSomeBytes, line_of, has_newline, takes_memory, typed_value, hex_value, base64_value, truth_value, int_value, line_value, number_value, text_value, uint_value};
 ghost use Rattle.mysql_bind_core.specs.Cells.{lent_typed_value};
@@ -141,6 +141,7 @@ fn truth_value(bytes: &[u8]) -> Option<Value>
 fn hex_value(alloc: Global, bytes: &[u8]) -> Result<Option<Value>, AllocError>
     ensures { IfOk result (λ value. value ≡ hex_value bytes.now) }
 {
+    // Bytes that aren't such digits have no value; only memory is an error.
     match hex::decode(alloc, bytes) {
         Ok(decoded) => Ok(Some(Value::Bytes(Bytes::from(decoded)))),
         Err(FromHexError::OutOfMemory) => Err(AllocError),
@@ -152,6 +153,7 @@ fn hex_value(alloc: Global, bytes: &[u8]) -> Result<Option<Value>, AllocError>
 fn base64_value(alloc: Global, bytes: &[u8]) -> Result<Option<Value>, AllocError>
     ensures { IfOk result (λ value. value ≡ base64_value bytes.now) }
 {
+    // As above.
     match STANDARD.decode(alloc, bytes) {
         Ok(decoded) => Ok(Some(Value::Bytes(Bytes::from(decoded)))),
         Err(DecodeAllocError::OutOfMemory) => Err(AllocError),

@@ -35,6 +35,7 @@ pub(crate) fn bind_made(
         (tokens_of no_backslash_escape query.now) expected text.items) }
 {
     tokens_exist();
+    // Both conversions have a `requires`, which `From` has not.
     let params = match made {
         Ok(params) => params,
         Err(error) => return Err(memory_of_maker(error)),
@@ -62,6 +63,7 @@ pub(crate) fn bind_made_anywhere(
         IsAnswer given to_params_refusal (Ok expected) ⊤ made → IfOk result (λ text.
         IsAnywhereText query.now (tokens_of mode query.now) expected text.items) }
 {
+    // Both conversions have a `requires`, which `From` has not.
     let params = match made {
         Ok(params) => params,
         Err(error) => return Err(memory_of_maker(error)),

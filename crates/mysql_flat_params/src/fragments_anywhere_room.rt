@@ -103,10 +103,7 @@ fn bind_kept_steady(
 {
     let mut first = [NO_PLACE; KEPT_PLACES];
     let surveyed = SurveyedQuery::new(query, false, &mut first);
-    let placed = match placed_fragments(alloc, &surveyed, kept) {
-        Ok(placed) => placed,
-        Err(error) => return Err(SteadyFragmentsError::Fragments(error)),
-    };
+    let placed = placed_fragments(alloc, &surveyed, kept)?;
     let placed = placed.as_slice();
     if let Some(error) = placed_error(surveyed.survey, placed) {
         return Err(SteadyFragmentsError::Fragments(error));

@@ -103,6 +103,7 @@ impl<'a> ParsedNamedParams<'a> {
         if survey.has_mark {
             return Err(NamedParamsError::Mixed(MixedParamsError));
         }
+        // No other call hands up such an error, so there is no conversion.
         match renamed_query(alloc, query, survey, no_backslash_escape) {
             Ok(parsed) => Ok(parsed),
             Err(error) => Err(NamedParamsError::Memory(error)),

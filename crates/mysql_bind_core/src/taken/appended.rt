@@ -1,7 +1,7 @@
 //! The texts of many rows for one query, each written to the end of a script. What depends on the
 //! query alone, as its places and names, is found once before, and a value is looked for among the
 //! few of its row, without a map.
-ghost use Rattle.std.specs.Prelude.{◌≡◌, ◌++◌, ◌<◌, ℕ, false, true, List, length, map, option_map, IfOk, IfErr, IfSome, IsTrue, IsFalse, OnErr, OnOk};
+ghost use Rattle.std.specs.Prelude.{◌≡◌, ◌++◌, ◌<◌, ℕ, false, true, List, length, map, option_map, IfOk, IfErr, IfSome, IsTrue, OnErr, OnOk};
 ghost use Rattle.mysql_values.specs.BorrowedValue.{owned_values};
 ghost use Rattle.mysql_named_params.specs.Tokens.{OnTokens};
 ghost use Rattle.mysql_named_params.specs.Places.{names};
@@ -9,9 +9,9 @@ ghost use Rattle.mysql_params_core.specs.Given.{Given};
 ghost use Rattle.mysql_params_core.specs.Referents.{referents};
 ghost use Rattle.mysql_binding.specs.AppendedText.{AreFound};
 ghost use Rattle.mysql_query_core.specs.WordErrors.{seen_pair};
-ghost use Rattle.mysql_bind_core.specs.Assignments.{given_of, pairs_of};
+ghost use Rattle.mysql_bind_core.specs.Assignments.{pairs_of};
 ghost use Rattle.mysql_bind_core.specs.Contents.{has_fragment};
-ghost use Rattle.mysql_bind_core.specs.Bound.{IsAssignedText, IsTextFor, IsValuesText, IsWritten};
+ghost use Rattle.mysql_bind_core.specs.Bound.{IsAssignedText, IsTextFor, IsWritten};
 ghost use Rattle.mysql_bind_core.specs.FoundPairs.{AreValuesIn, IsTextAppended, are_distinct, value_in};
 ghost use Rattle.mysql_bind_core.specs.Refusals.{IsRefusal};
 ghost use Rattle.mysql_bind_core.specs.Requests.{mode_of};
@@ -61,10 +61,9 @@ impl<'q> TakenQuery<'q> {
             (IsRefusal self.now.request self.now.query assignments.now) }
         ensures kept { OnErr result (script.new.items ≡ script.old.items) }
     {
-        match self.append_values(alloc, query_names, assignments, script) {
-            Ok(Attempt::Written) => Ok(()),
-            Ok(Attempt::Left) => self.append_text(alloc, assignments, script),
-            Err(error) => Err(Failure::Memory(error)),
+        match self.append_values(alloc, query_names, assignments, script)? {
+            Attempt::Written => Ok(()),
+            Attempt::Left => self.append_text(alloc, assignments, script),
         }
     }
 
@@ -82,13 +81,9 @@ impl<'q> TakenQuery<'q> {
             (IsRefusal self.now.request self.now.query assignments.now) }
         ensures kept { OnErr result (script.new.items ≡ script.old.items) }
     {
-        match self.text(alloc, assignments) {
-            Ok(text) => match script.extend_from_slice(text.as_slice()) {
-                Ok(()) => Ok(()),
-                Err(error) => Err(Failure::Memory(error)),
-            },
-            Err(failure) => Err(failure),
-        }
+        let text = self.text(alloc, assignments)?;
+        script.extend_from_slice(text.as_slice())?;
+        Ok(())
     }
 
     // Writes the text of a few values with names, each of which comes once. It leaves others, a
@@ -177,12 +172,9 @@ impl<'q> TakenQuery<'q> {
         }
         // Called for what it ensures: the request takes the query, which so has no mark.
         self.request();
-        match values_in(alloc, query_names, pairs) {
-            Ok(found) => match found {
-                Some(values) => self.append_found(alloc, values, script),
-                None => Ok(Attempt::Left),
-            },
-            Err(error) => Err(error),
+        match values_in(alloc, query_names, pairs)? {
+            Some(values) => self.append_found(alloc, values, script),
+            None => Ok(Attempt::Left),
         }
     }
 

@@ -15,7 +15,7 @@ append_found-requires c =
     let found =
     found_on (mode_of c.args.self.now.request.literals) c.args.self.now.query (map seen_pair c.args.pairs.now) (referents c.args.query_names.now) (owned_values c.in-Some.values.items)
     (omega (arith, some, length-map c.args.pairs.now seen_pair)) (c.if-not-are_some_and_distinct.ensures.distinct refl)
-    (omega (arith, asked, length-map c.args.query_names.now (λ r. r.now))) (rw c.in-Some.is at c.in-Ok.ensures)
+    (omega (arith, asked, length-map c.args.query_names.now (λ r. r.now))) (rw c.in-Some.is at c.in_ok-values.ensures)
     (unmixed c.args.self.now.request c.args.self.now.query c.request.ensures.taken (mode_of c.args.self.now.request.literals) refl) c.requires.names in
     (found.0, found.2)
 
@@ -26,7 +26,7 @@ returns-in-Some-clause-bound c =
     let found =
     found_on (mode_of c.args.self.now.request.literals) c.args.self.now.query (map seen_pair c.args.pairs.now) (referents c.args.query_names.now) (owned_values c.in-Some.values.items)
     (omega (arith, some, length-map c.args.pairs.now seen_pair)) (c.if-not-are_some_and_distinct.ensures.distinct refl)
-    (omega (arith, asked, length-map c.args.query_names.now (λ r. r.now))) (rw c.in-Some.is at c.in-Ok.ensures)
+    (omega (arith, asked, length-map c.args.query_names.now (λ r. r.now))) (rw c.in-Some.is at c.in_ok-values.ensures)
     (unmixed c.args.self.now.request c.args.self.now.query c.request.ensures.taken (mode_of c.args.self.now.request.literals) refl) c.requires.names in
     done_so c.append_found.result _ _
     (pairs_appended c.args.self.now.request c.args.self.now.query (owned_values c.in-Some.values.items) c.args.script.now.items c.append_found.new.script.items (map seen_pair c.args.pairs.now) (mode_of c.args.self.now.request.literals) found)
