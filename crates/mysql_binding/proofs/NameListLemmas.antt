@@ -57,7 +57,7 @@ module _ (mode : Bool) (query rest : List ℕ) (count : ℕ) (list : List (List 
       ListedSoFar mode query after count (list ++ name ∷ [])
   listed_more place after name found missing o place_is after_is name_is =
       let p = parted mode rest s.left found s.rest_tokens o in
-      let is = name_found mode rest s.left found (s.no_marks (omega (arith, missing))) p in
+      let is = name_found _ rest s.left found (s.no_marks (omega (arith, missing))) p in
       let names_left : names s.left ≡ drop 1 (bytes_of p.place) ∷ names p.back = ap names p.tokens_are ∙ names_at_name p.front p.place p.back p.no_place is in
       let bytes_are : place ≡ bytes_of p.place = place_is ∙ sym p.place_bytes in
       let item : name ≡ drop 1 (bytes_of p.place) = name_is ∙ (take_rest place 1 ∙ ap (drop 1) bytes_are) in

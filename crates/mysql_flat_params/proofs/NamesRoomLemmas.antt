@@ -52,7 +52,7 @@ module _ (mode : Bool) (query rest text row : List ℕ) (s : GatheredSoFar mode 
     g = parted mode rest s.left found s.rest_tokens o
 
     is_name : place_kind g.place ≡ Some kind.Name
-    is_name = name_found mode rest s.left found s.no_marks g
+    is_name = name_found _ rest s.left found s.no_marks g
 
     text_next : text_of (with_marks s.left) ≡ run ++ question_mark ∷ text_of (with_marks g.back)
     text_next =
@@ -152,7 +152,7 @@ module _ (mode : Bool) (query rest text row : List ℕ) (text_at row_at : ℕ) (
     p = parted mode rest s.left found s.rest_tokens o
 
     is : place_kind p.place ≡ Some kind.Name
-    is = name_found mode rest s.left found s.no_marks p
+    is = name_found _ rest s.left found s.no_marks p
 
     text_left : text_of (with_marks s.left) ≡ run ++ question_mark ∷ text_of (with_marks p.back)
     text_left =

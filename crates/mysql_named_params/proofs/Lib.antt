@@ -5,6 +5,9 @@ pub mod FirstTokenLemmas
 pub mod TokenRowLemmas
 pub mod CutLemmas
 pub mod TokensExistLemmas
+pub mod WideLemmas
+pub mod WidePlaceLemmas
+pub mod ReadingLemmas
 pub mod FirstPlaceLemmas
 pub mod FoundPlaceLemmas
 pub mod CountLemmas

@@ -12,11 +12,12 @@ use Rattle.mysql_named_params.specs.FirstPlace.{place_kind, IsFirstPlace, BeginP
 use Rattle.mysql_named_params.specs.Parsed.{Parsed, parsed}
 use Rattle.mysql_named_params.specs.declared.places.FoundPlace.{FoundPlace}
 use Rattle.mysql_named_params.specs.declared.places.PlaceKind.{PlaceKind}
+use Rattle.mysql_named_params.specs.declared.places.Reading.{Reading}
 use Rattle.mysql_named_params.specs.declared.places.PlaceKind.TheVariants as kind
 use Rattle.mysql_named_params.proofs.TokenEndLemmas.{slice_from}
 use Rattle.mysql_named_params.proofs.TokenListLemmas.{one_token_list}
 use Rattle.mysql_named_params.proofs.TokenRowLemmas.{text_of-append, AreTokensBefore-after, names-append, marks-append, with_marks-append, with_marks-nameless, place_count-sum}
-use Rattle.mysql_named_params.proofs.FoundPlaceLemmas.{IsPartedAt, parted, names-no_place, names_at_name, marks_at_name, marks_at_mark}
+use Rattle.mysql_named_params.proofs.FoundPlaceLemmas.{IsPartedIn, parted, names-no_place, names_at_name, marks_at_name, marks_at_mark}
 
 -- what is renamed, with what is left of a query
 pub record RenamedSoFar {Z : Type 0} (mode : Bool) (query rest text : List ℕ) (params : List (CowSlice ℕ Z)) : Type 0 where
@@ -79,9 +80,9 @@ kind_cases kind.Name = inl refl
 kind_cases kind.Mark = inr refl
 
 -- tokens without marks have a name at their first place
-pub name_found : (mode : Bool) (text : List ℕ) (ts : List Token) (found : FoundPlace) → marks ts ≡ 0 →
-    (p : IsPartedAt mode text ts found) → place_kind p.place ≡ Some kind.Name
-name_found mode text ts found none p = elim (kind_cases found.kind) [
+pub name_found : (reading : Reading) (text : List ℕ) (ts : List Token) (found : FoundPlace) →
+    marks ts ≡ 0 → (p : IsPartedIn reading text ts found) → place_kind p.place ≡ Some kind.Name
+name_found reading text ts found none p = elim (kind_cases found.kind) [
   | inl e ↦ p.kind_is ∙ ap Some e
   | inr e ↦ absurd (omega (arith, none, ap marks p.tokens_are, marks_at_mark p.front p.place p.back p.no_place (p.kind_is ∙ ap Some e)))
 ]
@@ -96,7 +97,7 @@ module _ {Z : Type 0} (mode : Bool) (query rest text : List ℕ) (params : List 
       IsBorrowedSlice name → RenamedSoFar mode query after text' params'
   renamed_more text' run place after params' name found o run_is place_is after_is text_more params_more name_is name_borrowed =
       let p = parted mode rest r.left found r.rest_tokens o in
-      let is = name_found mode rest r.left found r.no_marks p in
+      let is = name_found _ rest r.left found r.no_marks p in
       let names_left : names r.left ≡ drop 1 (bytes_of p.place) ∷ names p.back = ap names p.tokens_are ∙ names_at_name p.front p.place p.back p.no_place is in
       let bytes_are : place ≡ bytes_of p.place = place_is ∙ sym p.place_bytes in
       let item : cow_slice_items name ≡ drop 1 (bytes_of p.place) = name_is ∙ (take_rest place 1 ∙ ap (drop 1) bytes_are) in

@@ -20,6 +20,13 @@ pub record OpensNothing (text : List ℕ) : Type 0 where
   pub no_block : opens_block_comment text ≡ false
   pub no_start : begins is_start_byte text ≡ false
 
+pub mark_opens_nothing : (rest : List ℕ) → OpensNothing (question_mark ∷ rest)
+mark_opens_nothing rest = record { no_line = no_line rest; no_gap = refl; no_block = refl; no_start = refl }
+  where
+    no_line : (rest : List ℕ) → opens_dash_comment (question_mark ∷ rest) ≡ false
+    no_line [] = refl
+    no_line (w ∷ rest) = refl
+
 -- the second text is the first up to a place, where another follows instead, which opens nothing
 pub data SameUpToPlace : List ℕ → List ℕ → Type 0 where
   at_end : SameUpToPlace [] []

@@ -118,6 +118,6 @@ module _ (mode : Bool) (query rest : List ℕ) (found : FoundPlace) (o : OnToken
   pub name_told : AreTold mode query true false
   name_told =
       let p = parted mode query o.0 found o.1 o in
-      let is = name_found mode query o.0 found markless p in
+      let is = name_found _ query o.0 found markless p in
       let some : names o.0 ≡ drop 1 (bytes_of p.place) ∷ names p.back = ap names p.tokens_are ∙ names_at_name p.front p.place p.back p.no_place is in
       (o.0, o.1, ((λ e. omega (arith, ap length some), λ h. refl), (λ e. absurd (true≢false (sym e)), λ any. absurd (omega (arith, markless, any)))))

@@ -9,6 +9,9 @@ pub mod TokensOf
 pub mod ClosingQuote
 pub mod FirstPlace
 pub mod PlainBytes
+pub mod WideNames
+pub mod WidePlaces
+pub mod Reading
 pub mod Lanes
 pub mod Parsed
 pub mod SameParsed

@@ -1,12 +1,13 @@
 //! Laws of the definitions that the contracts cite, and of equality. The functions that have no
 //! result do nothing: each is called for what it ensures.
-ghost use Rattle.std.specs.Prelude.{◌≡◌, ℕ, ◌+◌, ◌↔◌, Bool, List, [], length, IsTrue};
-ghost use Rattle.mysql_named_params.specs.Tokens.{Token, IsToken, IsTokens};
+ghost use Rattle.std.specs.Prelude.{◌≡◌, ℕ, ◌+◌, ◌↔◌, All, Bool, List, [], length, IsTrue};
+ghost use Rattle.mysql_named_params.specs.Tokens.{Token, IsToken, IsTokens, text_of};
 ghost use Rattle.mysql_named_params.specs.TokensOf.{tokens_of};
 ghost use Rattle.mysql_named_params.specs.Locality.{LooksAlike};
 ghost use Rattle.mysql_named_params.specs.Parsed.{parsed};
 ghost use Rattle.mysql_named_params.specs.Places.{names, marks, with_marks, with_names};
 ghost use Rattle.mysql_named_params.specs.Positions.{positions, HavePlacesAt, AscendFrom};
+ghost use Rattle.mysql_named_params.specs.WideNames.{HasNoCapitals, IsWideName, widened};
 
 use crate::named_params::{MixedParamsError, NamedParamsError, ParsedNamedParams};
 
@@ -47,6 +48,35 @@ pub fn renaming_undone()
 pub fn nameless_is_unchanged()
     ensures unchanged { (mode : Bool) (query : List ℕ) (ts : List Token) →
         IsTokens mode query ts → names ts ≡ [] → (parsed ts).query ≡ query }
+{}
+
+/// With wide names the bytes of a query and its marks stay as they are, and each name is a letter
+/// or `_`, and then letters, digits and `_`.
+pub fn wide_names()
+    ensures bytes { (ts : List Token) → text_of (widened ts) ≡ text_of ts }
+    ensures marks { (ts : List Token) → marks (widened ts) ≡ marks ts }
+    ensures names { (mode : Bool) (query : List ℕ) (ts : List Token) → IsTokens mode query ts →
+        All IsWideName (names (widened ts)) }
+{}
+
+/// No wide name is cut short, and none is overlooked.
+pub fn wide_names_are_whole()
+    ensures whole { (ts : List Token) → HasNoCapitals (widened ts) }
+    ensures again { (ts : List Token) → widened (widened ts) ≡ widened ts }
+{}
+
+/// A query without capitals behind a colon or a name has the tokens of the grammar. So has one
+/// without wide names.
+pub fn names_without_capitals()
+    ensures same { (ts : List Token) → HasNoCapitals ts → widened ts ≡ ts }
+    ensures nameless { (ts : List Token) → names (widened ts) ≡ [] → widened ts ≡ ts }
+{}
+
+/// Locality: with a mark in the place of each wide name a query has the tokens of the grammar that
+/// it had, with that mark in the place of those of the wide name.
+pub fn marked_wide_names()
+    ensures tokens { (mode : Bool) (query : List ℕ) (ts : List Token) → IsTokens mode query ts →
+        IsTokens mode (text_of (with_marks (widened ts))) (with_marks (widened ts)) }
 {}
 
 /// Errors of mixed parameters are equal: there is one.

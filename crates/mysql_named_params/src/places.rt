@@ -1,11 +1,14 @@
 //! The first name or mark of a text, and the number of them in a query. `mysql_binding` and
-//! `mysql_flat_params` go from place to place by `first_place`; no user needs it.
-ghost use Rattle.std.specs.Prelude.{◌≡◌, ◌+◌, ◌≤◌, ◌<◌, None, length, take, drop, IfSome};
+//! `mysql_flat_params` go from place to place by `first_place`; no user needs it. With wide names
+//! they go by `first_place_in`.
+ghost use Rattle.std.specs.Prelude.{◌≡◌, ◌+◌, ◌≤◌, ◌<◌, ◌&&◌, None, length, take, drop, IfSome};
 ghost use Rattle.mysql_named_params.specs.Tokens.{OnTokens};
 ghost use Rattle.mysql_named_params.specs.Places.{names, marks, place_count};
 ghost use Rattle.mysql_named_params.specs.FirstPlace.{IsFirstPlace};
+ghost use Rattle.mysql_named_params.specs.Reading.{OnTokensIn};
+ghost use Rattle.mysql_named_params.specs.WidePlaces.{opens_wide_name};
 
-use crate::tokens::{TokenKind, first_token, plain_end};
+use crate::tokens::{TokenKind, first_token, opens_wide_name, plain_end, wide_len};
 
 /// What stands at a place of a query.
 #[derive(Clone, Copy, Debug, PartialEq, Eq)]
@@ -41,12 +44,49 @@ impl FoundPlace {
     }
 }
 
-/// The first name or mark of a text. Only this function and the searches of `mysql_portable` divide
-/// a text into its tokens.
+/// How a query is read. It is lent to the crates above; no user needs it.
+#[derive(Clone, Copy, Debug, PartialEq, Eq)]
+pub struct Reading {
+    /// Whether a backslash is a byte like any other in strings, as for an `sql_mode` with
+    /// `NO_BACKSLASH_ESCAPES`.
+    pub no_backslash_escape: bool,
+    /// Whether names are wide names, which may have capitals.
+    pub wide_names: bool,
+}
+
+/// The first name or mark of a text. Only this function, `first_place_in` and the searches of
+/// `mysql_portable` divide a text into its tokens.
 pub fn first_place(text: &[u8], no_backslash_escape: bool) -> Option<FoundPlace>
     ensures place { OnTokens no_backslash_escape text.now (λ ts. IfSome result (IsFirstPlace ts)) }
     ensures none { OnTokens no_backslash_escape text.now (λ ts.
         result ≡ None → place_count ts ≡ 0) }
+    ensures in_range { IfSome result (λ found.
+        (0 < found.len) × (found.before + found.len ≤ length text.now)) }
+{
+    first_place_read(
+        text,
+        Reading {
+            no_backslash_escape,
+            wide_names: false,
+        },
+    )
+}
+
+/// The first name or mark of a text in a reading, so that a wide name is one place.
+pub fn first_place_in(text: &[u8], reading: Reading) -> Option<FoundPlace>
+    ensures place { OnTokensIn reading text.now (λ ts. IfSome result (IsFirstPlace ts)) }
+    ensures none { OnTokensIn reading text.now (λ ts. result ≡ None → place_count ts ≡ 0) }
+    ensures in_range { IfSome result (λ found.
+        (0 < found.len) × (found.before + found.len ≤ length text.now)) }
+{
+    first_place_read(text, reading)
+}
+
+// The same. Inline, so that the walk of `first_place` tests for no wide name.
+#[inline(always)]
+fn first_place_read(text: &[u8], reading: Reading) -> Option<FoundPlace>
+    ensures place { OnTokensIn reading text.now (λ ts. IfSome result (IsFirstPlace ts)) }
+    ensures none { OnTokensIn reading text.now (λ ts. result ≡ None → place_count ts ≡ 0) }
     ensures in_range { IfSome result (λ found.
         (0 < found.len) × (found.before + found.len ≤ length text.now)) }
 {
@@ -56,7 +96,15 @@ pub fn first_place(text: &[u8], no_backslash_escape: bool) -> Option<FoundPlace>
         if at == text.len() {
             return None;
         }
-        let (kind, len) = first_token(&text[at..], no_backslash_escape);
+        let rest = &text[at..];
+        if opens_wide_name_in(rest, reading) {
+            return Some(FoundPlace {
+                before: at,
+                kind: PlaceKind::Name,
+                len: 1 + wide_len(&rest[1..]),
+            });
+        }
+        let (kind, len) = first_token(rest, reading.no_backslash_escape);
         match kind {
             TokenKind::Name => return Some(FoundPlace {
                 before: at,
@@ -72,6 +120,14 @@ pub fn first_place(text: &[u8], no_backslash_escape: bool) -> Option<FoundPlace>
         }
     }
     None
+}
+
+// Whether the text begins with a wide name, and the reading has them.
+#[inline(always)]
+fn opens_wide_name_in(text: &[u8], reading: Reading) -> bool
+    ensures { result ≡ (reading.wide_names && opens_wide_name text.now) }
+{
+    reading.wide_names && opens_wide_name(text)
 }
 
 /// The number of names and of marks in a query.

@@ -4,6 +4,8 @@ ghost use Rattle.std.specs.Prelude.{◌≡◌, ◌<◌, ◌≤◌, length, take,
 ghost use Rattle.mysql_named_params.specs.Bytes.{is_white_space, is_start_byte, is_name_byte, begins};
 ghost use Rattle.mysql_named_params.specs.FirstToken.{IsNameFront, IsFirstToken, opens_dash_comment, opens_block_comment};
 ghost use Rattle.mysql_named_params.specs.PlainBytes.{is_always_plain, AreAlwaysPlain};
+ghost use Rattle.mysql_named_params.specs.WideNames.{is_wide_byte};
+ghost use Rattle.mysql_named_params.specs.WidePlaces.{opens_wide_name, wide_len};
 
 use crate::ends::string::string_len;
 use crate::ends::{len_up_to_byte, len_up_to_close};
@@ -68,6 +70,55 @@ impl ByteSet for NameBytes {
         let not_lower = bytes.simd_lt(u8x16::splat(b'a')) | bytes.simd_gt(u8x16::splat(b'z'));
         let not_digit = bytes.simd_lt(u8x16::splat(b'0')) | bytes.simd_gt(u8x16::splat(b'9'));
         let others = (not_lower & not_digit) & bytes.simd_ne(u8x16::splat(b'_'));
+        first_set(others.to_bitmask())
+    }
+}
+
+// Whether the byte continues a wide name.
+fn is_wide_byte(byte: u8) -> bool
+    ensures { result ≡ is_wide_byte byte }
+{
+    is_name_byte(byte) || byte.is_ascii_uppercase()
+}
+
+/// Whether the text begins with a wide name and its colon.
+pub(crate) fn opens_wide_name(text: &[u8]) -> bool
+    ensures { result ≡ opens_wide_name text.now }
+{
+    match text {
+        [b':', first, ..] => is_start_byte(*first) || first.is_ascii_uppercase(),
+        _ => false,
+    }
+}
+
+/// How many bytes at the front of the text continue a wide name.
+pub(crate) fn wide_len(text: &[u8]) -> usize
+    ensures in_range { result ≤ length text.now }
+    ensures len { result ≡ wide_len text.now }
+{
+    run_end(WideBytes, text, 0, text.len())
+}
+
+// The bytes that continue a wide name.
+#[derive(Clone, Copy)]
+struct WideBytes;
+
+impl ByteSet for WideBytes {
+    ghost contains = { λ _. is_wide_byte };
+
+    #[inline(always)]
+    fn contains(self, byte: u8) -> bool {
+        is_wide_byte(byte)
+    }
+
+    #[inline(always)]
+    fn first_other(self, text: &[u8], at: usize) -> Option<usize> {
+        let bytes = u8x16::from_slice(&text[at..]);
+        let not_lower = bytes.simd_lt(u8x16::splat(b'a')) | bytes.simd_gt(u8x16::splat(b'z'));
+        let not_upper = bytes.simd_lt(u8x16::splat(b'A')) | bytes.simd_gt(u8x16::splat(b'Z'));
+        let not_digit = bytes.simd_lt(u8x16::splat(b'0')) | bytes.simd_gt(u8x16::splat(b'9'));
+        let not_letter = not_lower & not_upper;
+        let others = (not_letter & not_digit) & bytes.simd_ne(u8x16::splat(b'_'));
         first_set(others.to_bitmask())
     }
 }

@@ -42,3 +42,5 @@ mod shared;
 mod spellings;
 #[cfg(test)]
 mod steady;
+#[cfg(test)]
+mod wide_places;
