@@ -1,6 +1,6 @@
 //! The first name or mark of a text, and the number of them in a query. `mysql_binding` and
-//! `mysql_flat_params` go from place to place by `first_place`; no user needs it. With wide names
-//! they go by `first_place_in`.
+//! `mysql_flat_params` go from place to place by `first_place`; no user needs it. `first_place_in`
+//! finds wide names too, and no crate above calls it yet.
 ghost use Rattle.std.specs.Prelude.{◌≡◌, ◌+◌, ◌≤◌, ◌<◌, ◌&&◌, None, length, take, drop, IfSome};
 ghost use Rattle.mysql_named_params.specs.Tokens.{OnTokens};
 ghost use Rattle.mysql_named_params.specs.Places.{names, marks, place_count};
