@@ -7,6 +7,7 @@ use crate::rewritten::in_single_quotes;
 use crate::values::Values;
 use mysql_bind_core::{Failure, Request, TakenQuery};
 use mysql_binding::SurveyedQuery;
+use mysql_named_params::places::Reading;
 use mysql_named_params::tokens::first_token;
 use mysql_portable::client::first_unportable_in_client;
 use mysql_portable::portable::{Construct, Unportable};
@@ -67,7 +68,11 @@ pub fn add_joined(
 
 // Whether the first name of a text, behind which at most one byte stands, doesn't stand alone.
 fn is_joined(text: &[u8], mode: bool) -> bool {
-    let survey = SurveyedQuery::new(text, mode, &mut []).survey;
+    let reading = Reading {
+        no_backslash_escape: mode,
+        wide_names: false,
+    };
+    let survey = SurveyedQuery::new(text, reading, &mut []).survey;
     matches!(survey.not_alone, Some((0, _)))
 }
 

@@ -5,13 +5,15 @@ use Rattle.mysql_values.specs.declared.value.Value.{Value}
 use Rattle.mysql_values.specs.Literal.{literal_of}
 use Rattle.mysql_named_params.specs.Tokens.{OnTokens}
 use Rattle.mysql_named_params.proofs.TokenListLemmas.{one_token_list}
+use Rattle.mysql_named_params.specs.Reading.{grammar_reading}
+use Rattle.mysql_named_params.specs.declared.places.Reading.{Reading}
 use Rattle.mysql_portable.specs.Steady.{IsSteady}
 use Rattle.mysql_portable.specs.FirstUnportableInClient.{IsPortableInClient}
 use Rattle.mysql_portable.proofs.SteadyLemmas.{steady_other}
 use Rattle.mysql_params_core.specs.Given.{Given}
 use Rattle.mysql_binding.specs.AppendedText.{AreFound, IsAppended}
 use Rattle.mysql_binding.specs.FirstCause.{mixed_cause}
-use Rattle.mysql_binding.specs.LiteralForm.{IsPlainLiteral}
+use Rattle.mysql_binding.specs.LiteralForm.{IsPlainLiteral, LiteralFacts, Literals}
 use Rattle.mysql_binding.specs.WrittenText.{IsGivenText}
 use Rattle.mysql_binding.proofs.BoundTextLemmas.{is_bound_text}
 use Rattle.mysql_binding.proofs.CauseLemmas.{mixed_none}
@@ -68,7 +70,7 @@ module _ (request : Request) (query : List ℕ) (given : Given) (text : List ℕ
       OnTokens (mode_of request.literals) query (λ ts. IsTextFor request.literals request.portability query ts given text)
   plain_for mode e o =
       subst (λ l. OnTokens (mode_of l) query (λ ts. IsTextFor l request.portability query ts given text)) (sym e)
-      (o.0, o.1, is_bound_text mode query o.0 given text o.1 o.2)
+      (o.0, o.1, is_bound_text (grammar_reading mode) query o.0 given text o.1 o.2)
 
   -- with steady literals
   pub steady_for : IsTaken request query → request.literals ≡ Steady →
@@ -90,6 +92,14 @@ module _ (request : Request) (query : List ℕ) (given : Given) (text : List ℕ
           let portable : IsPortableInClient o.0 = subst IsPortableInClient (one_token_list false query p.0 o.0 p.1 o.1) p.2 in
           (o.0, o.1, is_anywhere_text query o.0 given text (steady_other false true query o.0 steady o.1) steady portable.portable one)
 
+-- a text that is appended to a query as it is surveyed is appended to the query in its mode
+pub appended_as : (literal : Literals) (IsKnown : LiteralFacts) (reading : Reading) (mode : Bool) (seen query : List ℕ) (values : List Value) (before after : List ℕ) →
+    reading ≡ grammar_reading mode → seen ≡ query → IsAppended literal IsKnown reading seen values before after →
+    IsAppended literal IsKnown (grammar_reading mode) query values before after
+appended_as literal IsKnown reading mode seen query values before after r q a =
+    subst (λ (x : Reading). IsAppended literal IsKnown x query values before after) r
+    (subst (λ (x : List ℕ). IsAppended literal IsKnown reading x values before after) q a)
+
 module _ (request : Request) (query : List ℕ) (values : List Value) (before after : List ℕ) where
   -- after these bytes stands the text that is asked for, whatever gives these values
   abbrev pub AppendedFor : Bool → Type 0
@@ -97,7 +107,7 @@ module _ (request : Request) (query : List ℕ) (values : List Value) (before af
       OnTokens (mode_of request.literals) query (λ ts. IsTextFor request.literals request.portability query ts given text))
 
   pub plain_appended : (mode plain : Bool) → request.literals ≡ Plain plain → mode ≡ mode_of request.literals →
-      IsAppended (literal_of plain) (IsPlainLiteral plain) mode query values before after → AppendedFor mode
+      IsAppended (literal_of plain) (IsPlainLiteral plain) (grammar_reading mode) query values before after → AppendedFor mode
   plain_appended mode plain e m a =
       let same : mode ≡ plain = m ∙ ap mode_of e in (
         a.text,
@@ -107,7 +117,7 @@ module _ (request : Request) (query : List ℕ) (values : List Value) (before af
       )
 
   pub steady_appended : (mode : Bool) → request.literals ≡ Steady → mode ≡ mode_of request.literals → IsTaken request query →
-      IsAppended steady_literal_of IsSteadyFor mode query values before after → AppendedFor mode
+      IsAppended steady_literal_of IsSteadyFor (grammar_reading mode) query values before after → AppendedFor mode
   steady_appended mode e m taken a =
       let same : mode ≡ false = m ∙ ap mode_of e in (
         a.text,

@@ -14,6 +14,7 @@ use Rattle.mysql_values.specs.declared.value.Value.{Value}
 use Rattle.mysql_values.specs.ValueOf.{Meaning}
 use Rattle.mysql_named_params.specs.Places.{names}
 use Rattle.mysql_named_params.specs.Tokens.{OnTokens}
+use Rattle.mysql_named_params.specs.Reading.{grammar_reading}
 use Rattle.mysql_params_core.specs.Given.{Given, ValueMap, named}
 use Rattle.mysql_params_core.specs.Lookup.{lookup}
 use Rattle.mysql_params_core.specs.Made.{by_name, with_pair}
@@ -125,9 +126,9 @@ found_on mode query pairs ns values some distinct many found unmixed listed =
     let looked : lookup (named m.0) ns ≡ Ok values = lookup_named m.0 ns values many (same_found m.0 pairs m.2 ns ∙ found) in (
       named m.0,
       m.1,
-      on_map mode query (λ ts. (mixed_cause ts ≡ None) × (ns ≡ names ts)) (AreFound (named m.0) values)
+      on_map (grammar_reading mode) query (λ ts. (mixed_cause ts ≡ None) × (ns ≡ names ts)) (AreFound (named m.0) values)
           (λ ts is h. (h.0, ap (lookup (named m.0)) (sym h.1) ∙ looked))
-          (on_both mode query (λ ts. mixed_cause ts ≡ None) (λ ts. ns ≡ names ts) unmixed listed),
+          (on_both (grammar_reading mode) query (λ ts. mixed_cause ts ≡ None) (λ ts. ns ≡ names ts) unmixed listed),
     )
 
 -- one name more

@@ -3,6 +3,8 @@ use Rattle.std.proofs.Common.{◌≡◌, ◌∙◌, ℕ, Bool, List, None, refl,
 use Rattle.mysql_values.specs.Literal.{literal_of}
 use Rattle.mysql_named_params.specs.Tokens.{Token, IsTokens, OnTokens}
 use Rattle.mysql_named_params.proofs.TokenListLemmas.{one_token_list}
+use Rattle.mysql_named_params.specs.Reading.{OnTokensIn, grammar_reading}
+use Rattle.mysql_named_params.specs.declared.places.Reading.{Reading}
 use Rattle.mysql_portable.specs.FirstUnportableInClient.{IsPortableInClient}
 use Rattle.mysql_portable.proofs.SteadyLemmas.{none_unsteady}
 use Rattle.mysql_portable.proofs.UnportableLemmas.{portable_has_none}
@@ -54,11 +56,17 @@ module _ (request : Request) (parsed : QueryInMode) (seen : RequestedQuery) (i :
 
   -- ---- the text that is bound to a survey of the query
 
-  module _ (surveyed : SurveyedQuery) (q : surveyed.query.now ≡ parsed.query) (m : surveyed.no_backslash_escape ≡ parsed.mode) (given : Given) where
+  module _ (surveyed : SurveyedQuery) (q : surveyed.query.now ≡ parsed.query) (m : surveyed.reading ≡ grammar_reading parsed.mode) (given : Given) where
     -- what holds of the tokens of the query as it is surveyed
     from_survey : (P : List Token → Type 0) → OnSurveyed surveyed P → OnTokens (mode_of request.literals) parsed.query P
     from_survey P o =
-        subst (λ b. OnTokens b parsed.query P) (m ∙ i.mode) (subst (λ x. OnTokens surveyed.no_backslash_escape x P) q o)
+        subst (λ b. OnTokens b parsed.query P) i.mode
+        (subst (λ (r : Reading). OnTokensIn r parsed.query P) m (subst (λ x. OnTokensIn surveyed.reading x P) q o))
+
+    pub to_survey : (P : List Token → Type 0) → OnTokens parsed.mode parsed.query P → OnSurveyed surveyed P
+    to_survey P o =
+        subst (λ x. OnTokensIn surveyed.reading x P) (sym q)
+        (subst (λ (r : Reading). OnTokensIn r parsed.query P) (sym m) o)
 
     pub plain_text : (mode : Bool) (text : List ℕ) → request.literals ≡ Plain mode →
         OnSurveyed surveyed (λ ts. IsGivenText (literal_of mode) (IsPlainLiteral mode) ts given text) →

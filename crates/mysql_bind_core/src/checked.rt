@@ -4,6 +4,7 @@ ghost use Rattle.std.specs.Prelude.{◌≡◌, ◌≢◌, ◌++◌, IfErr, OnOk,
 ghost use Rattle.mysql_sql_text.specs.StringUnits.{is_escape};
 ghost use Rattle.mysql_named_params.specs.Bytes.{is_string_quote};
 ghost use Rattle.mysql_named_params.specs.Tokens.{OnTokens, IsStringTail};
+ghost use Rattle.mysql_named_params.specs.Reading.{grammar_reading};
 ghost use Rattle.mysql_bind_core.specs.Bound.{IsClosed, IsNamed, IsPortableIfWanted, IsSteadyIfWanted, IsTaken};
 ghost use Rattle.mysql_bind_core.specs.Refusals.{IsQueryRefusal};
 ghost use Rattle.mysql_bind_core.specs.Requests.{mode_of};
@@ -19,7 +20,7 @@ use mysql_portable::steady::first_unsteady;
 
 // Whether the request takes a query that is surveyed in its mode.
 pub(crate) fn check_surveyed(query: &SurveyedQuery<'_>, request: Request) -> Result<(), Failure>
-    requires mode { query.now.no_backslash_escape ≡ mode_of request.literals }
+    requires reading { query.now.reading ≡ grammar_reading (mode_of request.literals) }
     ensures taken { OnOk result (IsTaken request query.now.query.now) }
     ensures refused { IfErr result (IsQueryRefusal request query.now.query.now) }
     ensures only { IfErr result (λ e. e ≢ Failure.Write) }
@@ -33,7 +34,7 @@ pub(crate) fn check_surveyed(query: &SurveyedQuery<'_>, request: Request) -> Res
 
 // Whether the query doesn't end within a token.
 fn check_end(query: &SurveyedQuery<'_>, request: Request) -> Result<(), Failure>
-    requires mode { query.now.no_backslash_escape ≡ mode_of request.literals }
+    requires reading { query.now.reading ≡ grammar_reading (mode_of request.literals) }
     ensures closed { OnOk result (IsClosed request query.now.query.now) }
     ensures refused { IfErr result (IsQueryRefusal request query.now.query.now) }
     ensures only { IfErr result (λ e. e ≢ Failure.Write) }
@@ -106,7 +107,7 @@ fn check_portable(query: &[u8], request: Request) -> Result<(), Failure>
 
 // Whether each place of the query has a name.
 fn check_named(query: &SurveyedQuery<'_>, request: Request) -> Result<(), Failure>
-    requires mode { query.now.no_backslash_escape ≡ mode_of request.literals }
+    requires reading { query.now.reading ≡ grammar_reading (mode_of request.literals) }
     requires closed { IsClosed request query.now.query.now }
     requires steady { IsSteadyIfWanted request query.now.query.now }
     requires portable { IsPortableIfWanted request query.now.query.now }
@@ -126,14 +127,17 @@ fn check_named(query: &SurveyedQuery<'_>, request: Request) -> Result<(), Failur
 // comment without its end. No place is open, so only what follows the last place that is known is
 // looked at. The bytes of the last token tell, so no memory is needed.
 pub(crate) fn open_end(surveyed: &SurveyedQuery<'_>) -> Option<usize>
-    ensures { OnTokens surveyed.now.no_backslash_escape (surveyed.now.query.now ++ end)
+    requires { surveyed.now.reading
+        ≡ grammar_reading surveyed.now.reading.no_backslash_escape }
+    ensures { OnTokens surveyed.now.reading.no_backslash_escape (surveyed.now.query.now ++ end)
         (λ ts. result ≡ long_end ts) }
 {
-    let mode = surveyed.no_backslash_escape;
+    let reading = surveyed.reading;
+    let mode = reading.no_backslash_escape;
     let mut rest = surveyed.query;
     let mut passed = 0;
     'places: while passed < surveyed.known.len() {
-        let Some(found) = place_after(surveyed.known, passed, rest, mode) else {
+        let Some(found) = place_after(surveyed.known, passed, rest, reading) else {
             break;
         };
         let (_, _, after) = found.cut(rest);

@@ -24,6 +24,7 @@ use mysql_binding::{
     KEPT_PLACES, NO_PLACE, ParsedQuery, PlainForm, SurveyedQuery, bind_surveyed_as,
 };
 use mysql_io::readers_and_writers::write_whole;
+use mysql_named_params::places::Reading;
 use mysql_params_core::params::{BorrowedParams, NamedPairs};
 use mysql_portable::client::first_unportable_in_client;
 use mysql_portable::portable::Unportable;
@@ -197,7 +198,11 @@ pub fn check_query(alloc: Global, query: &[u8], request: Request) -> Result<(), 
 {
     let mode = request.literals.no_backslash_escape();
     let mut first = [NO_PLACE; KEPT_PLACES];
-    check_surveyed(&SurveyedQuery::new(query, mode, &mut first), request)
+    let reading = Reading {
+        no_backslash_escape: mode,
+        wide_names: false,
+    };
+    check_surveyed(&SurveyedQuery::new(query, reading, &mut first), request)
 }
 
 // Writes the whole text.

@@ -1,9 +1,11 @@
 -- A text that is written to the end of another one.
-use Rattle.std.specs.Prelude.{Bool, Result, Ok, Err, IfErr, IsErrAnd, option_map}
+use Rattle.std.specs.Prelude.{Result, Ok, Err, IfErr, IsErrAnd, option_map}
 use Rattle.std.proofs.Common.{◌≡◌, ◌≤◌, ℕ, List, ◌++◌, length, take, drop, take_all, Option, Some, None, refl, sym, ap, ◌∙◌, subst, arith}
 use Rattle.std.proofs.lemmas.List.{take-append-le}
 use Rattle.mysql_values.specs.declared.value.Value.{Value}
-use Rattle.mysql_named_params.specs.Tokens.{Token, OnTokens}
+use Rattle.mysql_named_params.specs.Tokens.{Token}
+use Rattle.mysql_named_params.specs.Reading.{OnTokensIn}
+use Rattle.mysql_named_params.specs.declared.places.Reading.{Reading}
 use Rattle.mysql_params_core.specs.Given.{Given}
 use Rattle.mysql_binding.specs.AppendedText.{AreFound}
 use Rattle.mysql_binding.specs.BindErrors.{IsCauseOrMemory, cause_of}
@@ -17,28 +19,28 @@ use Rattle.mysql_binding.proofs.CauseLemmas.{on_both, on_map}
 use Rattle.mysql_binding.proofs.MeasuredTextLemmas.{whole_vector}
 
 -- values that are found, if there is no later cause
-pub found_looked_up : (mode : Bool) (query : List ℕ) (given : Given) (survey : Survey) (values : List Value) →
-    OnTokens mode query (IsSurvey survey) → OnTokens mode query (AreFound given values) →
+pub found_looked_up : (reading : Reading) (query : List ℕ) (given : Given) (survey : Survey) (values : List Value) →
+    OnTokensIn reading query (IsSurvey survey) → OnTokensIn reading query (AreFound given values) →
     ((ts : List Token) → IsSurvey survey ts → None ≡ option_map Some (later_cause ts values)) →
-    OnTokens mode query (λ ts. IsLookedUp ts given values)
-found_looked_up mode query given survey values surveyed found later =
-    on_map mode query (λ ts. IsSurvey survey ts × AreFound given values ts) (λ ts. IsLookedUp ts given values)
+    OnTokensIn reading query (λ ts. IsLookedUp ts given values)
+found_looked_up reading query given survey values surveyed found later =
+    on_map reading query (λ ts. IsSurvey survey ts × AreFound given values ts) (λ ts. IsLookedUp ts given values)
     (λ ts is h. (h.1.0, h.1.1, no_cause_is (later_cause ts values) (later ts h.0)))
-    (on_both mode query (IsSurvey survey) (AreFound given values) surveyed found)
+    (on_both reading query (IsSurvey survey) (AreFound given values) surveyed found)
   where
     no_cause_is : (r : Option Cause) → None ≡ option_map Some r → r ≡ None
     no_cause_is None e = refl
     no_cause_is (Some why) e = cc
 
 -- values that are refused for a later cause
-pub found_refused : (mode : Bool) (query : List ℕ) (given : Given) (survey : Survey) (values : List Value) (error : BindError) →
-    OnTokens mode query (IsSurvey survey) → OnTokens mode query (AreFound given values) →
+pub found_refused : (reading : Reading) (query : List ℕ) (given : Given) (survey : Survey) (values : List Value) (error : BindError) →
+    OnTokensIn reading query (IsSurvey survey) → OnTokensIn reading query (AreFound given values) →
     ((ts : List Token) → IsSurvey survey ts → Some (cause_of error) ≡ option_map Some (later_cause ts values)) →
-    OnTokens mode query (λ ts. IsCauseOrMemory (first_cause ts given) error)
-found_refused mode query given survey values error surveyed found later =
-    on_map mode query (λ ts. IsSurvey survey ts × AreFound given values ts) (λ ts. IsCauseOrMemory (first_cause ts given) error)
+    OnTokensIn reading query (λ ts. IsCauseOrMemory (first_cause ts given) error)
+found_refused reading query given survey values error surveyed found later =
+    on_map reading query (λ ts. IsSurvey survey ts × AreFound given values ts) (λ ts. IsCauseOrMemory (first_cause ts given) error)
     (λ ts is h. cause_after_values ts given values error h.1.0 h.1.1 (later_cause ts values) refl (later ts h.0))
-    (on_both mode query (IsSurvey survey) (AreFound given values) surveyed found)
+    (on_both reading query (IsSurvey survey) (AreFound given values) surveyed found)
 
 -- an error that is handed on
 pub handed_on : {A E : Type 0} (P : E → Type 0) (r : Result A E) (e : E) → IsErrAnd r (λ t. t ≡ e) → P e → IfErr r P

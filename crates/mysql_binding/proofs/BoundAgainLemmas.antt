@@ -4,11 +4,13 @@ use Rattle.std.proofs.Common.{◌≡◌, Bool, ℕ, ◌+◌, List, [], ◌∷◌
 use Rattle.std.proofs.lemmas.List.{nil_from_length}
 use Rattle.mysql_values.specs.Content.{content_of}
 use Rattle.mysql_sql_text.specs.ReadLiteral.{read_literal}
-use Rattle.mysql_named_params.specs.Tokens.{Token, IsTokens, OnTokens, bytes_of, Name, Mark}
+use Rattle.mysql_named_params.specs.Tokens.{Token, IsTokens, bytes_of, Name, Mark}
 use Rattle.mysql_named_params.specs.Places.{names, marks, with_marks, place_count}
 use Rattle.mysql_named_params.proofs.TokenRowLemmas.{place_count-sum}
-use Rattle.mysql_named_params.proofs.ReparsedLemmas.{IsTokens-with_marks, names-with_marks}
+use Rattle.mysql_named_params.proofs.ReparsedLemmas.{marked_reading, names_in_reading, names-with_marks}
 use Rattle.mysql_named_params.proofs.TokenListLemmas.{one_token_list}
+use Rattle.mysql_named_params.specs.Reading.{IsTokensIn, OnTokensIn}
+use Rattle.mysql_named_params.specs.declared.places.Reading.{Reading}
 use Rattle.mysql_params_core.specs.Given.{Given, empty, positional}
 use Rattle.mysql_params_core.specs.Lookup.{lookup}
 use Rattle.mysql_binding.specs.BoundAgain.{IsSameBoundAgain, IsSameByPosition}
@@ -88,17 +90,18 @@ with_literal_tokens-with_marks (Mark ∷ ts) [] e = absurd (omega arith)
 with_literal_tokens-with_marks (Mark ∷ ts) (list ∷ lists) e = ap (λ us. list ++ us) (with_literal_tokens-with_marks ts lists (omega arith))
 with_literal_tokens-with_marks (t ∷ ts) lists e = ap (λ us. t ∷ us) (with_literal_tokens-with_marks ts lists e)
 
-pub by_position_is_the_same : (mode : Bool) (query text : List ℕ) (ts : List Token) (given : Given) →
-    IsTokens mode query ts → (bound : IsBoundText mode ts given text) →
-    IsBoundText mode (with_marks ts) (positional bound.values) text
-by_position_is_the_same mode query text ts given is bound =
+pub by_position_is_the_same : (reading : Reading) (query text : List ℕ) (ts : List Token) (given : Given) →
+    IsTokensIn reading query ts → (bound : IsBoundText reading.no_backslash_escape ts given text) →
+    IsBoundText reading.no_backslash_escape (with_marks ts) (positional bound.values) text
+by_position_is_the_same reading query text ts given is bound =
+    let mode = reading.no_backslash_escape in
     let parts = no_cause_parts ts given bound.values bound.no_cause bound.looked_up in
     let room = value_each ts given bound.values parts.0 bound.looked_up parts.1 in
     let count = joined_text_count [] ts bound.literals text bound.text_is in
     let lists : length bound.literal_tokens ≡ place_count ts = as_many_lists mode bound.literals bound.literal_tokens bound.tokens_of_literals ∙ count in
     let same : pieces (with_marks ts) ≡ pieces ts = pieces-with_marks [] ts in
     record {
-      no_cause = no_cause_renamed mode ts bound.values is.each room (no_place_out ts bound.values parts.1) (no_float_cause ts bound.values parts.1);
+      no_cause = no_cause_renamed ts bound.values (names_in_reading reading query ts is) room (no_place_out ts bound.values parts.1) (no_float_cause ts bound.values parts.1);
       values = bound.values;
       looked_up = ap (lookup (positional bound.values)) (names-with_marks ts);
       literals = bound.literals;
@@ -116,19 +119,21 @@ by_position_is_the_same mode query text ts given is bound =
 
 -- ---- as the calls that bind promise it
 
-pub same_bound_again : (mode : Bool) (query text : List ℕ) (given : Given) →
-    OnTokens mode query (λ ts. IsBoundText mode ts given text) → IsSameBoundAgain mode text
-same_bound_again mode query text given o =
+pub same_bound_again : (reading : Reading) (query text : List ℕ) (given : Given) →
+    OnTokensIn reading query (λ ts. IsBoundText reading.no_backslash_escape ts given text) →
+    IsSameBoundAgain reading.no_backslash_escape text
+same_bound_again reading query text given o =
+    let mode = reading.no_backslash_escape in
     let us = with_literal_tokens o.0 o.2.literal_tokens in
     let is : IsTokens mode text us = o.2.isolated in
     (us, is, (no_place_is_left mode o.0 us given text o.2 is, bound_again_is_the_same mode o.0 us given text o.2 is))
 
-pub same_by_position : (mode : Bool) (query text : List ℕ) (given : Given) →
-    OnTokens mode query (λ ts. IsBoundText mode ts given text) →
-    OnTokens mode query (λ ts. IsSameByPosition mode ts given text)
-same_by_position mode query text given o =
-    let by_position = by_position_is_the_same mode query text o.0 given o.1 o.2 in
-    (o.0, o.1, (o.2.values, o.2.looked_up, (with_marks o.0, IsTokens-with_marks mode query o.0 o.1, by_position)))
+pub same_by_position : (reading : Reading) (query text : List ℕ) (given : Given) →
+    OnTokensIn reading query (λ ts. IsBoundText reading.no_backslash_escape ts given text) →
+    OnTokensIn reading query (λ ts. IsSameByPosition reading.no_backslash_escape ts given text)
+same_by_position reading query text given o =
+    let by_position = by_position_is_the_same reading query text o.0 given o.1 o.2 in
+    (o.0, o.1, (o.2.values, o.2.looked_up, (with_marks o.0, marked_reading reading query o.0 o.1, by_position)))
 
 -- ---- equal texts
 

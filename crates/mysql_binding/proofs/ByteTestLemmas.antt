@@ -4,7 +4,8 @@ use Rattle.std.specs.List.{list_all}
 use Rattle.std.proofs.lemmas.Bool.{and_parts, or_cases, eqb-true}
 use Rattle.std.proofs.lemmas.Bool.Decides.{nat_tests}
 use Rattle.mysql_sql_text.specs.LiteralEnd.{BeginsWithout, continues_literal}
-use Rattle.mysql_named_params.specs.Bytes.{is_name_byte, is_white_space}
+use Rattle.mysql_named_params.specs.Bytes.{is_white_space}
+use Rattle.mysql_named_params.specs.WideNames.{is_wide_byte}
 use Rattle.mysql_binding.specs.StandsAlone.{is_one_of, signs_before, signs_after, may_stand_before, may_stand_after, none_or_first}
 
 fails : (b : Bool) → not b ≡ true → b ≡ false
@@ -33,19 +34,19 @@ behind_ends b h =
       | inr e ↦ one_of_failing continues_literal signs_after b refl e
     ]
 
-space_in_no_name : (b : ℕ) → is_white_space b ≡ true → is_name_byte b ≡ false
+space_in_no_name : (b : ℕ) → is_white_space b ≡ true → is_wide_byte b ≡ false
 space_in_no_name b h = grind (arith, nat_tests)
 
 -- what may stand before a place is no byte of a name
-before_in_no_name : (b : ℕ) → may_stand_before b ≡ true → is_name_byte b ≡ false
+before_in_no_name : (b : ℕ) → may_stand_before b ≡ true → is_wide_byte b ≡ false
 before_in_no_name b h =
     elim (or_cases (is_white_space b) _ h) [
       | inl e ↦ space_in_no_name b e
-      | inr e ↦ one_of_failing is_name_byte signs_before b refl e
+      | inr e ↦ one_of_failing is_wide_byte signs_before b refl e
     ]
 
-pub name_byte_not_before : (b : ℕ) → is_name_byte b ≡ true → may_stand_before b ≡ false
-name_byte_not_before b h = go (may_stand_before b) refl
+pub wide_byte_not_before : (b : ℕ) → is_wide_byte b ≡ true → may_stand_before b ≡ false
+wide_byte_not_before b h = go (may_stand_before b) refl
   where
     go : (t : Bool) → may_stand_before b ≡ t → t ≡ false
     go true e = absurd (true≢false (sym h ∙ before_in_no_name b e))

@@ -2,16 +2,19 @@
 use Rattle.std.specs.Prelude.{Result, Ok, Err, ok_or, option_map, nat_lt}
 use Rattle.std.specs.Option.{option_or, option_and_then}
 use Rattle.std.specs.FinMap.{get}
-use Rattle.std.proofs.Common.{◌≡◌, ◌≢◌, ◌⊎◌, ◌==◌, inl, inr, Bool, true, false, ℕ, zero, suc, ◌+◌, ◌<◌, List, [], ◌∷◌, length, refl, sym, ap, ◌∙◌, arith, subst, Option, Some, None, eq-eqb, true≢false}
+use Rattle.std.proofs.Common.{◌≡◌, ◌≢◌, ◌⊎◌, ◌==◌, inl, inr, Bool, true, false, ℕ, zero, suc, ◌+◌, ◌<◌, All, List, [], ◌∷◌, length, refl, sym, ap, ◌∙◌, arith, subst, Option, Some, None, eq-eqb, true≢false}
 use Rattle.std.proofs.lemmas.Bool.{cases_Bool, eqb-true, and_from, and_parts, ltb-true}
 use Rattle.std.proofs.lemmas.Bool.Decides.{nat_tests}
 use Rattle.std.proofs.lemmas.List.{nil_from_length}
 use Rattle.mysql_values.specs.declared.value.Value.{Value}
-use Rattle.mysql_named_params.specs.Tokens.{Token, IsTokens, OnTokens, AreTokensBefore}
+use Rattle.mysql_named_params.specs.Tokens.{Token}
 use Rattle.mysql_named_params.specs.Places.{names, marks, with_marks, place_count, has_both, HasName, HasMark}
 use Rattle.mysql_named_params.proofs.TokenRowLemmas.{place_count-sum}
 use Rattle.mysql_named_params.proofs.ReparsedLemmas.{names-with_marks, marks-with_marks}
-use Rattle.mysql_named_params.proofs.TokenListLemmas.{one_token_list}
+use Rattle.mysql_named_params.specs.Reading.{IsTokensIn, OnTokensIn}
+use Rattle.mysql_named_params.specs.WideNames.{IsWideName}
+use Rattle.mysql_named_params.specs.declared.places.Reading.{Reading}
+use Rattle.mysql_named_params.proofs.ReadingLemmas.{one_reading}
 use Rattle.mysql_params_core.specs.Given.{Given, ValueMap, empty, named, positional}
 use Rattle.mysql_params_core.specs.Lookup.{lookup, values_at}
 use Rattle.mysql_binding.specs.FirstCause.{Cause, mixed_query, mark_count, not_alone, float_value, mixed_cause, mark_count_differs, count_cause, not_alone_cause, first_float, float_cause, later_cause, cause_after_lookup, first_cause}
@@ -22,14 +25,14 @@ use Rattle.mysql_binding.proofs.RenamedPlaceLemmas.{first_not_alone-with_marks, 
 
 -- ---- what several calls say of the tokens of one query
 
-pub on_both : (mode : Bool) (query : List ℕ) (P Q : List Token → Type 0) →
-    OnTokens mode query P → OnTokens mode query Q → OnTokens mode query (λ ts. P ts × Q ts)
-on_both mode query P Q a b = (a.0, a.1, (a.2, subst Q (one_token_list mode query b.0 a.0 b.1 a.1) b.2))
+pub on_both : (reading : Reading) (query : List ℕ) (P Q : List Token → Type 0) →
+    OnTokensIn reading query P → OnTokensIn reading query Q → OnTokensIn reading query (λ ts. P ts × Q ts)
+on_both reading query P Q a b = (a.0, a.1, (a.2, subst Q (one_reading reading query b.0 a.0 b.1 a.1) b.2))
 
-pub on_map : (mode : Bool) (query : List ℕ) (P Q : List Token → Type 0) →
-    ((ts : List Token) → IsTokens mode query ts → P ts → Q ts) →
-    OnTokens mode query P → OnTokens mode query Q
-on_map mode query P Q f a = (a.0, a.1, f a.0 a.1 a.2)
+pub on_map : (reading : Reading) (query : List ℕ) (P Q : List Token → Type 0) →
+    ((ts : List Token) → IsTokensIn reading query ts → P ts → Q ts) →
+    OnTokensIn reading query P → OnTokensIn reading query Q
+on_map reading query P Q f a = (a.0, a.1, f a.0 a.1 a.2)
 
 -- ---- options
 
@@ -182,10 +185,10 @@ no_cause_left us h =
     (no_later us [] count (no_place_alone us 0 [] h) refl)
 
 -- nor one to refuse the renamed query with as many values
-pub no_cause_renamed : (mode : Bool) (ts : List Token) (values : List Value) →
-    AreTokensBefore mode [] ts → length values ≡ place_count ts → first_not_alone ts ≡ None →
+pub no_cause_renamed : (ts : List Token) (values : List Value) →
+    All IsWideName (names ts) → length values ≡ place_count ts → first_not_alone ts ≡ None →
     float_cause values ≡ None → first_cause (with_marks ts) (positional values) ≡ None
-no_cause_renamed mode ts values each room alone floats =
+no_cause_renamed ts values each room alone floats =
     let all : place_count ts ≡ length (names ts) + marks ts = place_count-sum ts in
     let sum : marks (with_marks ts) ≡ marks ts + length (names ts) = marks-with_marks ts in
     let same : marks (with_marks ts) ≡ length values = omega (arith, all, sum, room) in
@@ -193,7 +196,7 @@ no_cause_renamed mode ts values each room alone floats =
     let count : count_cause (with_marks ts) values ≡ None = count_none (with_marks ts) values (ap (λ ns. mark_count_differs (length ns) (marks (with_marks ts)) (length values)) none ∙ counts_same _ _ same) in
     first_by (with_marks ts) (positional values) values None
     (mixed_none (with_marks ts) (λ both. absurd (omega (arith, both.0, ap length none)))) (ap (lookup (positional values)) none)
-    (no_later (with_marks ts) values count (first_not_alone-with_marks mode ts 0 0 [] [] each (λ e. e) alone) floats)
+    (no_later (with_marks ts) values count (first_not_alone-with_marks ts 0 0 [] [] each (λ e. e) alone) floats)
 
 -- ---- a value for each place
 

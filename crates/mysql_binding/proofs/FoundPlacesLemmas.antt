@@ -1,18 +1,18 @@
 -- Places that are known, and those that are left after one.
-use Rattle.std.specs.Prelude.{Bool}
 use Rattle.std.proofs.Common.{◌≡◌, ◌⊎◌, inl, inr, ℕ, ◌+◌, ◌<◌, ◌≤◌, List, [], ◌∷◌, ◌++◌, length, length-append, drop, get_or, Some, refl, sym, ap, ◌∙◌, subst, arith, add-one, drop-cons, drop-drop, append_assoc, append-nil, length-drop, take, take_all, set, length-set}
 use Rattle.std.proofs.Math.Nat.{eq-or-lt_of_le}
 use Rattle.std.proofs.Math.Seq.{take-append_seam}
 use Rattle.std.proofs.lemmas.List.{drop_all, length-take-le, nil_from_length, take_more_set}
-use Rattle.mysql_named_params.specs.Tokens.{Token, IsTokens, OnTokens, bytes_of, text_of, Name, Mark}
+use Rattle.mysql_named_params.specs.Tokens.{Token, bytes_of, text_of, Name, Mark}
 use Rattle.mysql_named_params.specs.Places.{place_count}
 use Rattle.mysql_named_params.specs.FirstPlace.{place_kind, IsFirstPlace}
 use Rattle.mysql_named_params.specs.declared.places.FoundPlace.{FoundPlace}
 use Rattle.mysql_named_params.specs.declared.places.PlaceKind.{PlaceKind}
 use Rattle.mysql_named_params.specs.declared.places.PlaceKind.TheVariants as kind
-use Rattle.mysql_named_params.proofs.FoundPlaceLemmas.{IsPartedAt, parted}
-use Rattle.mysql_named_params.proofs.TokensExistLemmas.{tokens_exist}
-use Rattle.mysql_named_params.proofs.TokenListLemmas.{one_token_list}
+use Rattle.mysql_named_params.proofs.FoundPlaceLemmas.{IsPartedIn, parted_in}
+use Rattle.mysql_named_params.specs.Reading.{IsTokensIn, OnTokensIn}
+use Rattle.mysql_named_params.specs.declared.places.Reading.{Reading}
+use Rattle.mysql_named_params.proofs.ReadingLemmas.{one_reading, reading_exists}
 use Rattle.mysql_binding.specs.FoundPlaces.{found_from, found_places, BeginWithPlaces}
 
 -- the tokens up to the first of the places, itself and those after it
@@ -50,7 +50,7 @@ found_rest before (Name name ∷ front) place k back found more none is e = absu
 found_rest before (Mark ∷ front) place k back found more none is e = absurd (omega arith)
 found_rest before (t ∷ front) place k back found more none is e = found_rest (before + length (bytes_of t)) front place k back found more none is e
 
-module _ (mode : Bool) (rest : List ℕ) (places : List FoundPlace) (i : ℕ) (o : OnTokens mode rest (BeginWithPlaces (drop i places))) where
+module _ (reading : Reading) (rest : List ℕ) (places : List FoundPlace) (i : ℕ) (o : OnTokensIn reading rest (BeginWithPlaces (drop i places))) where
   module _ (found d : FoundPlace) (below : i < length places) (found_is : found ≡ get_or places i d) where
     first_is : found ∷ (drop (i + 1) places ++ o.2.0) ≡ found_places o.0
     first_is =
@@ -58,40 +58,40 @@ module _ (mode : Bool) (rest : List ℕ) (places : List FoundPlace) (i : ℕ) (o
         ap (λ x. x ++ o.2.0) (sym cut) ∙ o.2.1
 
     -- a place that is known is the first of the rest
-    pub found_before : OnTokens mode rest (λ us. IsFirstPlace us found)
+    pub found_before : OnTokensIn reading rest (λ us. IsFirstPlace us found)
     found_before =
         let h = found_first 0 o.0 found _ (sym first_is) in
         (o.0, o.1, record { front = h.front; place = h.place; back = h.back; split = h.split; is_first = h.is_first; before_is = omega (arith, h.before_is); kind_is = h.kind_is; len_is = h.len_is })
 
-    pub places_after : OnTokens mode (drop (found.before + found.len) rest) (BeginWithPlaces (drop (i + 1) places))
+    pub places_after : OnTokensIn reading (drop (found.before + found.len) rest) (BeginWithPlaces (drop (i + 1) places))
     places_after =
-        let p = parted mode rest o.0 found o.1 found_before in
+        let p = parted_in reading rest o.0 found o.1 found_before in
         (p.back, p.rest_tokens, (o.2.0, found_rest 0 p.front p.place found.kind p.back found _ p.no_place p.kind_is (ap found_places (sym p.tokens_are) ∙ sym first_is)))
 
   -- after the last known place, none is known
-  pub none_after : (found : FoundPlace) → length places ≤ i → OnTokens mode rest (λ us. IsFirstPlace us found) →
-      OnTokens mode (drop (found.before + found.len) rest) (BeginWithPlaces (drop (i + 1) places))
+  pub none_after : (found : FoundPlace) → length places ≤ i → OnTokensIn reading rest (λ us. IsFirstPlace us found) →
+      OnTokensIn reading (drop (found.before + found.len) rest) (BeginWithPlaces (drop (i + 1) places))
   none_after found past first =
-      let p = parted mode rest o.0 found o.1 first in
+      let p = parted_in reading rest o.0 found o.1 first in
       (p.back, p.rest_tokens, (found_places p.back, ap (λ x. x ++ found_places p.back) (drop_all (i + 1) places (omega (arith, past)))))
 
 -- the rest after a place, as it is cut
-pub rest_after : (mode : Bool) (rest after : List ℕ) (k : ℕ) (P : List Token → Type 0) → after ≡ drop k rest →
-    OnTokens mode (drop k rest) P → OnTokens mode after P
-rest_after mode rest after k P e o = subst (λ x. OnTokens mode x P) (sym e) o
+pub rest_after : (reading : Reading) (rest after : List ℕ) (k : ℕ) (P : List Token → Type 0) → after ≡ drop k rest →
+    OnTokensIn reading (drop k rest) P → OnTokensIn reading after P
+rest_after reading rest after k P e o = subst (λ x. OnTokensIn reading x P) (sym e) o
 
 -- places are known after as many of them as are listed
-pub none_passed : {X : Type 0} (mode : Bool) (query : List ℕ) (known : List FoundPlace) (list : List X) → list ≡ [] →
-    OnTokens mode query (BeginWithPlaces known) → OnTokens mode query (BeginWithPlaces (drop (length list) known))
-none_passed mode query known list e o = subst (λ n. OnTokens mode query (BeginWithPlaces (drop n known))) (sym (ap length e)) o
+pub none_passed : {X : Type 0} (reading : Reading) (query : List ℕ) (known : List FoundPlace) (list : List X) → list ≡ [] →
+    OnTokensIn reading query (BeginWithPlaces known) → OnTokensIn reading query (BeginWithPlaces (drop (length list) known))
+none_passed reading query known list e o = subst (λ n. OnTokensIn reading query (BeginWithPlaces (drop n known))) (sym (ap length e)) o
 
-pub one_passed : {X : Type 0} (mode : Bool) (rest after : List ℕ) (known : List FoundPlace) (k i : ℕ) (list list' : List X) (x : X) →
+pub one_passed : {X : Type 0} (reading : Reading) (rest after : List ℕ) (known : List FoundPlace) (k i : ℕ) (list list' : List X) (x : X) →
     list' ≡ list ++ x ∷ [] → after ≡ drop k rest → i ≡ length list →
-    OnTokens mode (drop k rest) (BeginWithPlaces (drop (i + 1) known)) →
-    OnTokens mode after (BeginWithPlaces (drop (length list') known))
-one_passed mode rest after known k i list list' x more after_is i_is o =
+    OnTokensIn reading (drop k rest) (BeginWithPlaces (drop (i + 1) known)) →
+    OnTokensIn reading after (BeginWithPlaces (drop (length list') known))
+one_passed reading rest after known k i list list' x more after_is i_is o =
     let n : i + 1 ≡ length list' = omega (arith, i_is, ap length more, length-append list (x ∷ [])) in
-    subst (λ m. OnTokens mode after (BeginWithPlaces (drop m known))) n (rest_after mode rest after k (BeginWithPlaces (drop (i + 1) known)) after_is o)
+    subst (λ m. OnTokensIn reading after (BeginWithPlaces (drop m known))) n (rest_after reading rest after k (BeginWithPlaces (drop (i + 1) known)) after_is o)
 
 -- ---- all places
 
@@ -116,13 +116,13 @@ found_here before (Mark ∷ front) place back found none b k l = absurd (omega a
 found_here before (t ∷ front) place back found none b k l =
     found_here (before + length (bytes_of t)) front place back found none (omega (arith, b, length-append (bytes_of t) (text_of front))) k l
 
-front_len : (mode : Bool) (rest : List ℕ) (left : List Token) (found : FoundPlace) (p : IsPartedAt mode rest left found) →
+front_len : (reading : Reading) (rest : List ℕ) (left : List Token) (found : FoundPlace) (p : IsPartedIn reading rest left found) →
     0 + length (text_of p.front) ≡ found.before
-front_len mode rest left found p = omega (arith, ap length p.front_text, length-take-le found.before rest (omega (arith, p.in_range)))
+front_len reading rest left found p = omega (arith, ap length p.front_text, length-take-le found.before rest (omega (arith, p.in_range)))
 
-place_len : (mode : Bool) (rest : List ℕ) (left : List Token) (found : FoundPlace) (p : IsPartedAt mode rest left found) →
+place_len : (reading : Reading) (rest : List ℕ) (left : List Token) (found : FoundPlace) (p : IsPartedIn reading rest left found) →
     length (bytes_of p.place) ≡ found.len
-place_len mode rest left found p = omega (arith, ap length p.place_bytes, length-take-le found.len (drop found.before rest) (omega (arith, p.in_range, length-drop found.before rest)))
+place_len reading rest left found p = omega (arith, ap length p.place_bytes, length-take-le found.len (drop found.before rest) (omega (arith, p.in_range, length-drop found.before rest)))
 
 pub found_count : (before : ℕ) (ts : List Token) → length (found_from before ts) ≡ place_count ts
 found_count before [] = refl
@@ -131,17 +131,17 @@ found_count before (Mark ∷ ts) = omega (arith, found_count 0 ts)
 found_count before (t ∷ ts) = found_count (before + length (bytes_of t)) ts
 
 -- with those of the rest, the places so far are those of the query, which has so many
-pub record CollectedSoFar (mode : Bool) (query rest : List ℕ) (count : ℕ) (places : List FoundPlace) : Type 0 where
+pub record CollectedSoFar (reading : Reading) (query rest : List ℕ) (count : ℕ) (places : List FoundPlace) : Type 0 where
   pub all : List Token
-  pub tokens : IsTokens mode query all
+  pub tokens : IsTokensIn reading query all
   pub left : List Token
-  pub rest_tokens : IsTokens mode rest left
+  pub rest_tokens : IsTokensIn reading rest left
   pub places_are : places ++ found_places left ≡ found_places all
   pub count_is : length places + place_count left ≡ count
 
-pub collected_none : (mode : Bool) (query : List ℕ) (count : ℕ) (places : List FoundPlace) →
-    OnTokens mode query (λ ts. count ≡ place_count ts) → places ≡ [] → CollectedSoFar mode query query count places
-collected_none mode query count places o e = record {
+pub collected_none : (reading : Reading) (query : List ℕ) (count : ℕ) (places : List FoundPlace) →
+    OnTokensIn reading query (λ ts. count ≡ place_count ts) → places ≡ [] → CollectedSoFar reading query query count places
+collected_none reading query count places o e = record {
   all = o.0;
   tokens = o.1;
   left = o.0;
@@ -150,66 +150,66 @@ collected_none mode query count places o e = record {
   count_is = omega (arith, o.2, ap length e);
 }
 
-module _ (mode : Bool) (query rest : List ℕ) (count : ℕ) (places : List FoundPlace) (s : CollectedSoFar mode query rest count places) where
+module _ (reading : Reading) (query rest : List ℕ) (count : ℕ) (places : List FoundPlace) (s : CollectedSoFar reading query rest count places) where
   -- as long as places are missing, one is found
-  pub place_left : length places < count → OnTokens mode rest (λ us. place_count us ≡ 0) → ⊥
+  pub place_left : length places < count → OnTokensIn reading rest (λ us. place_count us ≡ 0) → ⊥
   place_left missing o =
-      let same : o.0 ≡ s.left = one_token_list mode rest o.0 s.left o.1 s.rest_tokens in
+      let same : o.0 ≡ s.left = one_reading reading rest o.0 s.left o.1 s.rest_tokens in
       omega (arith, missing, s.count_is, ap place_count same, o.2)
 
   -- one place more
   pub collected_more : (after : List ℕ) (places' : List FoundPlace) (found : FoundPlace) →
-      OnTokens mode rest (λ us. IsFirstPlace us found) → after ≡ drop (found.before + found.len) rest →
-      places' ≡ places ++ found ∷ [] → CollectedSoFar mode query after count places'
+      OnTokensIn reading rest (λ us. IsFirstPlace us found) → after ≡ drop (found.before + found.len) rest →
+      places' ≡ places ++ found ∷ [] → CollectedSoFar reading query after count places'
   collected_more after places' found o after_is more =
-      let p = parted mode rest s.left found s.rest_tokens o in
-      let here : found_places s.left ≡ found ∷ found_places p.back = ap found_places p.tokens_are ∙ found_here 0 p.front p.place p.back found p.no_place (front_len mode rest s.left found p) p.kind_is (place_len mode rest s.left found p) in
+      let p = parted_in reading rest s.left found s.rest_tokens o in
+      let here : found_places s.left ≡ found ∷ found_places p.back = ap found_places p.tokens_are ∙ found_here 0 p.front p.place p.back found p.no_place (front_len reading rest s.left found p) p.kind_is (place_len reading rest s.left found p) in
       record {
         all = s.all;
         tokens = s.tokens;
         left = p.back;
-        rest_tokens = subst (λ x. IsTokens mode x p.back) (sym after_is) p.rest_tokens;
+        rest_tokens = subst (λ x. IsTokensIn reading x p.back) (sym after_is) p.rest_tokens;
         places_are = ap (λ x. x ++ found_places p.back) more ∙ (append_assoc places (found ∷ []) (found_places p.back) ∙ (ap (λ x. places ++ x) (sym here) ∙ s.places_are));
         count_is = omega (arith, s.count_is, found_count 0 s.left, ap length here, found_count 0 p.back, ap length more, length-append places (found ∷ []));
       }
 
   -- once all are collected
-  pub collected_all : count ≤ length places → OnTokens mode query (λ ts. places ≡ found_places ts)
+  pub collected_all : count ≤ length places → OnTokensIn reading query (λ ts. places ≡ found_places ts)
   collected_all all_collected =
       let none : found_places s.left ≡ [] = nil_from_length (found_places s.left) (omega (arith, all_collected, s.count_is, found_count 0 s.left)) in
       (s.all, s.tokens, sym (append-nil places) ∙ (ap (λ x. places ++ x) (sym none) ∙ s.places_are))
 
 -- ---- the first places, kept as far as there is room
 
-pub record KeptSoFar (mode : Bool) (query : List ℕ) (at kept : ℕ) (first : List FoundPlace) : Type 0 where
+pub record KeptSoFar (reading : Reading) (query : List ℕ) (at kept : ℕ) (first : List FoundPlace) : Type 0 where
   pub all : List Token
-  pub tokens : IsTokens mode query all
+  pub tokens : IsTokensIn reading query all
   pub left : List Token
-  pub rest_tokens : IsTokens mode (drop at query) left
+  pub rest_tokens : IsTokensIn reading (drop at query) left
   pub more : List FoundPlace
   pub kept_are : take kept first ++ more ≡ found_places all
   pub next : kept < length first → more ≡ found_places left
   pub in_range : kept ≤ length first
 
-pub kept_none : (mode : Bool) (query : List ℕ) (first : List FoundPlace) → KeptSoFar mode query 0 0 first
-kept_none mode query first =
-    let ts = tokens_exist mode query in
+pub kept_none : (reading : Reading) (query : List ℕ) (first : List FoundPlace) → KeptSoFar reading query 0 0 first
+kept_none reading query first =
+    let ts = reading_exists reading query in
     record { all = ts.0; tokens = ts.1; left = ts.0; rest_tokens = ts.1; more = found_places ts.0; kept_are = refl; next = λ r. refl; in_range = omega arith }
 
-module _ (mode : Bool) (query rest : List ℕ) (at kept : ℕ) (first : List FoundPlace) (found : FoundPlace) (s : KeptSoFar mode query at kept first) (rest_is : rest ≡ drop at query) (o : OnTokens mode rest (λ us. IsFirstPlace us found)) (at' : ℕ) (at_is : at' ≡ at + found.before + found.len) where
-  kept_parted : IsPartedAt mode (drop at query) s.left found
-  kept_parted = parted mode (drop at query) s.left found s.rest_tokens (subst (λ x. OnTokens mode x (λ us. IsFirstPlace us found)) rest_is o)
+module _ (reading : Reading) (query rest : List ℕ) (at kept : ℕ) (first : List FoundPlace) (found : FoundPlace) (s : KeptSoFar reading query at kept first) (rest_is : rest ≡ drop at query) (o : OnTokensIn reading rest (λ us. IsFirstPlace us found)) (at' : ℕ) (at_is : at' ≡ at + found.before + found.len) where
+  kept_parted : IsPartedIn reading (drop at query) s.left found
+  kept_parted = parted_in reading (drop at query) s.left found s.rest_tokens (subst (λ x. OnTokensIn reading x (λ us. IsFirstPlace us found)) rest_is o)
 
-  kept_rest : IsTokens mode (drop at' query) kept_parted.back
-  kept_rest = subst (λ x. IsTokens mode x kept_parted.back) (drop-drop (found.before + found.len) at query ∙ ap (λ n. drop n query) (omega (arith, at_is))) kept_parted.rest_tokens
+  kept_rest : IsTokensIn reading (drop at' query) kept_parted.back
+  kept_rest = subst (λ x. IsTokensIn reading x kept_parted.back) (drop-drop (found.before + found.len) at query ∙ ap (λ n. drop n query) (omega (arith, at_is))) kept_parted.rest_tokens
 
-  pub kept_full : length first ≤ kept → KeptSoFar mode query at' kept first
+  pub kept_full : length first ≤ kept → KeptSoFar reading query at' kept first
   kept_full full = record { all = s.all; tokens = s.tokens; left = kept_parted.back; rest_tokens = kept_rest; more = s.more; kept_are = s.kept_are; next = λ r. absurd (omega (arith, r, full)); in_range = s.in_range }
 
-  pub kept_more : kept < length first → KeptSoFar mode query at' (kept + 1) (set first kept found)
+  pub kept_more : kept < length first → KeptSoFar reading query at' (kept + 1) (set first kept found)
   kept_more room =
       let p = kept_parted in
-      let here : found_places s.left ≡ found ∷ found_places p.back = ap found_places p.tokens_are ∙ found_here 0 p.front p.place p.back found p.no_place (front_len mode (drop at query) s.left found p) p.kind_is (place_len mode (drop at query) s.left found p) in
+      let here : found_places s.left ≡ found ∷ found_places p.back = ap found_places p.tokens_are ∙ found_here 0 p.front p.place p.back found p.no_place (front_len reading (drop at query) s.left found p) p.kind_is (place_len reading (drop at query) s.left found p) in
       record {
         all = s.all;
         tokens = s.tokens;
@@ -222,17 +222,17 @@ module _ (mode : Bool) (query rest : List ℕ) (at kept : ℕ) (first : List Fou
       }
 
 -- once no place is left, those that are kept are the first, as many as there is room for
-pub kept_all : (mode : Bool) (query : List ℕ) (at kept : ℕ) (first : List FoundPlace) → KeptSoFar mode query at kept first →
-    (rest : List ℕ) → rest ≡ drop at query → OnTokens mode rest (λ us. place_count us ≡ 0) →
-    OnTokens mode query (λ ts. take kept first ≡ take (length first) (found_places ts))
-kept_all mode query at kept first s rest rest_is o = (s.all, s.tokens, by (eq-or-lt_of_le s.in_range))
+pub kept_all : (reading : Reading) (query : List ℕ) (at kept : ℕ) (first : List FoundPlace) → KeptSoFar reading query at kept first →
+    (rest : List ℕ) → rest ≡ drop at query → OnTokensIn reading rest (λ us. place_count us ≡ 0) →
+    OnTokensIn reading query (λ ts. take kept first ≡ take (length first) (found_places ts))
+kept_all reading query at kept first s rest rest_is o = (s.all, s.tokens, by (eq-or-lt_of_le s.in_range))
   where
     kept_len : length (take kept first) ≡ kept
     kept_len = length-take-le kept first s.in_range
 
     none_left : found_places s.left ≡ []
     none_left =
-        let same : o.0 ≡ s.left = one_token_list mode (drop at query) o.0 s.left (subst (λ x. IsTokens mode x o.0) rest_is o.1) s.rest_tokens in
+        let same : o.0 ≡ s.left = one_reading reading (drop at query) o.0 s.left (subst (λ x. IsTokensIn reading x o.0) rest_is o.1) s.rest_tokens in
         nil_from_length (found_places s.left) (omega (arith, found_count 0 s.left, ap place_count same, o.2))
 
     by : (kept ≡ length first) ⊎ (kept < length first) → take kept first ≡ take (length first) (found_places s.all)
@@ -242,6 +242,6 @@ kept_all mode query at kept first s rest rest_is o = (s.all, s.tokens, by (eq-or
         all ∙ sym (take_all (length first) (found_places s.all) (omega (arith, ap length all, kept_len, room)))
 
 -- all places of a query
-pub all_begin : (mode : Bool) (query : List ℕ) (places : List FoundPlace) →
-    OnTokens mode query (λ ts. places ≡ found_places ts) → OnTokens mode query (BeginWithPlaces places)
-all_begin mode query places o = (o.0, o.1, ([], append-nil places ∙ o.2))
+pub all_begin : (reading : Reading) (query : List ℕ) (places : List FoundPlace) →
+    OnTokensIn reading query (λ ts. places ≡ found_places ts) → OnTokensIn reading query (BeginWithPlaces places)
+all_begin reading query places o = (o.0, o.1, ([], append-nil places ∙ o.2))

@@ -36,3 +36,5 @@ pub mod SplicedInClientLemmas
 pub mod SentTextLemmas
 pub mod SentLiteralLemmas
 pub mod BoundSentLemmas
+pub mod FoundQueryLemmas
+pub mod OneTextLemmas

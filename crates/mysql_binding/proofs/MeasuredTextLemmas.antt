@@ -1,5 +1,5 @@
 -- The text that is written from what was measured, and its length.
-use Rattle.std.specs.Prelude.{Bool, Ok, Err, IfErr, IfOk, Result, option_map, ◌^◌}
+use Rattle.std.specs.Prelude.{Ok, Err, IfErr, IfOk, Result, option_map, ◌^◌}
 use Rattle.mysql_value_core.specs.declared.value.ValueRef.{ValueRef}
 use Rattle.std.specs.List.{All, sum, sum_by}
 use Rattle.std.proofs.Common.{◌≡◌, ℕ, ◌+◌, ◌<◌, ◌≤◌, List, [], ◌∷◌, ◌++◌, length, take, drop, take_all, length-append, map, Option, Some, None, refl, sym, ap, ◌∙◌, subst, arith}
@@ -10,8 +10,10 @@ use Rattle.std.proofs.lemmas.Slice.{drop-append-drop}
 use Rattle.mysql_values.specs.declared.value.Value.{Value}
 use Rattle.mysql_values.specs.Value.{FieldsInRange}
 use Rattle.mysql_values.specs.Literal.{is_float}
-use Rattle.mysql_named_params.specs.Tokens.{Token, OnTokens, bytes_of, Name, Mark}
+use Rattle.mysql_named_params.specs.Tokens.{Token, bytes_of, Name, Mark}
 use Rattle.mysql_named_params.specs.Places.{place_count}
+use Rattle.mysql_named_params.specs.Reading.{OnTokensIn}
+use Rattle.mysql_named_params.specs.declared.places.Reading.{Reading}
 use Rattle.mysql_params_core.specs.Given.{Given}
 use Rattle.mysql_values.specs.BorrowedValue.{owned_values}
 use Rattle.mysql_binding.specs.AppendedText.{AreFound}
@@ -108,15 +110,15 @@ module _ (literal : Literals) (ts : List Token) (given : Given) (measured : Meas
   )
 
 -- what is measured, as the code finds it
-pub is_measured : (mode : Bool) (literal : Literals) (query : List ℕ) (given : Given) (survey : Survey) (values : List ValueRef) (measured : MeasuredText) →
-    OnTokens mode query (IsSurvey survey) → OnTokens mode query (λ ts. IsLookedUp ts given (owned_values values)) →
+pub is_measured : (reading : Reading) (literal : Literals) (query : List ℕ) (given : Given) (survey : Survey) (values : List ValueRef) (measured : MeasuredText) →
+    OnTokensIn reading query (IsSurvey survey) → OnTokensIn reading query (λ ts. IsLookedUp ts given (owned_values values)) →
     measured.values.items ≡ values → All FieldsInRange (owned_values values) →
     measured.lens.items ≡ map (literal_len literal) (owned_values values) →
     measured.len ≡ survey.piece_bytes + sum measured.lens.items → measured.len < 2 ^ 63 →
-    OnTokens mode query (λ ts. IsMeasured literal ts given measured)
-is_measured mode literal query given survey values measured surveyed known same range lens len fits =
-    let looked : OnTokens mode query (λ ts. IsLookedUp ts given (owned_values measured.values.items)) = subst (λ vs. OnTokens mode query (λ ts. IsLookedUp ts given (owned_values vs))) (sym same) known in
-    on_map mode query (λ ts. IsSurvey survey ts × IsLookedUp ts given (owned_values measured.values.items)) (λ ts. IsMeasured literal ts given measured)
+    OnTokensIn reading query (λ ts. IsMeasured literal ts given measured)
+is_measured reading literal query given survey values measured surveyed known same range lens len fits =
+    let looked : OnTokensIn reading query (λ ts. IsLookedUp ts given (owned_values measured.values.items)) = subst (λ vs. OnTokensIn reading query (λ ts. IsLookedUp ts given (owned_values vs))) (sym same) known in
+    on_map reading query (λ ts. IsSurvey survey ts × IsLookedUp ts given (owned_values measured.values.items)) (λ ts. IsMeasured literal ts given measured)
     (λ ts is h. record {
       looked_up = h.1;
       in_range = subst (λ vs. All FieldsInRange (owned_values vs)) (sym same) range;
@@ -124,28 +126,28 @@ is_measured mode literal query given survey values measured surveyed known same 
       len_is = len ∙ ap (λ n. n + sum measured.lens.items) h.0.3;
       fits = fits;
     })
-    (on_both mode query (IsSurvey survey) (λ ts. IsLookedUp ts given (owned_values measured.values.items)) surveyed looked)
+    (on_both reading query (IsSurvey survey) (λ ts. IsLookedUp ts given (owned_values measured.values.items)) surveyed looked)
 
 -- ---- what the text is filled from
 
-module _ (mode : Bool) (literal : Literals) (query : List ℕ) (given : Given) (measured : MeasuredText) (o : OnTokens mode query (λ ts. IsMeasured literal ts given measured)) where
+module _ (reading : Reading) (literal : Literals) (query : List ℕ) (given : Given) (measured : MeasuredText) (o : OnTokensIn reading query (λ ts. IsMeasured literal ts given measured)) where
   pub fill_no_float : first_float (owned_values measured.values.items) ≡ None
   fill_no_float = no_float_among o.0 given (owned_values measured.values.items) o.2.looked_up
 
-  pub fill_places : OnTokens mode query (λ ts. length (owned_values measured.values.items) ≡ place_count ts)
+  pub fill_places : OnTokensIn reading query (λ ts. length (owned_values measured.values.items) ≡ place_count ts)
   fill_places = (o.0, o.1, value_for_each literal o.0 given measured o.2)
 
   pub fill_lens : measured.lens.items ≡ map (literal_len literal) (owned_values measured.values.items)
   fill_lens = o.2.lens_are
 
-  pub fill_room : (room : List ℕ) → length room ≡ measured.len → OnTokens mode query (λ ts. length room ≡ pieces_len ts + sum measured.lens.items)
+  pub fill_room : (room : List ℕ) → length room ≡ measured.len → OnTokensIn reading query (λ ts. length room ≡ pieces_len ts + sum measured.lens.items)
   fill_room room exact = (o.0, o.1, exact ∙ o.2.len_is)
 
   pub filled_text : (IsKnown : LiteralFacts) (text : List ℕ) →
-      OnTokens mode query (λ ts. IsWrittenText literal IsKnown ts (owned_values measured.values.items) text) →
-      OnTokens mode query (λ ts. IsGivenText literal IsKnown ts given text)
+      OnTokensIn reading query (λ ts. IsWrittenText literal IsKnown ts (owned_values measured.values.items) text) →
+      OnTokensIn reading query (λ ts. IsGivenText literal IsKnown ts given text)
   filled_text IsKnown text written =
-      given_on mode literal IsKnown query given (owned_values measured.values.items) text (o.0, o.1, o.2.looked_up) written
+      given_on reading literal IsKnown query given (owned_values measured.values.items) text (o.0, o.1, o.2.looked_up) written
 
 -- ---- where it stands
 
@@ -154,25 +156,25 @@ pub whole_vector : (text items : List ℕ) (n : ℕ) → length text ≡ n → t
 whole_vector text items n e = take-append-le n text (drop (length text) items) (omega (arith, e)) ∙ take_all n text (omega (arith, e))
 
 -- the front of a room that is written over
-pub front_text : (mode : Bool) (literal : Literals) (IsKnown : LiteralFacts) (query : List ℕ) (given : Given) (len : ℕ) (text room : List ℕ) →
-    len ≤ length room → length text ≡ len → OnTokens mode query (λ ts. IsGivenText literal IsKnown ts given text) →
-    OnTokens mode query (λ ts. IsTextInRoom (IsGivenText literal IsKnown ts given) (HasGivenLength literal ts given) room (text ++ drop len room) (Written len))
-front_text mode literal IsKnown query given len text room fits long o =
+pub front_text : (reading : Reading) (literal : Literals) (IsKnown : LiteralFacts) (query : List ℕ) (given : Given) (len : ℕ) (text room : List ℕ) →
+    len ≤ length room → length text ≡ len → OnTokensIn reading query (λ ts. IsGivenText literal IsKnown ts given text) →
+    OnTokensIn reading query (λ ts. IsTextInRoom (IsGivenText literal IsKnown ts given) (HasGivenLength literal ts given) room (text ++ drop len room) (Written len))
+front_text reading literal IsKnown query given len text room fits long o =
     let front : take len (text ++ drop len room) ≡ text = take-append-le len text (drop len room) (omega (arith, long)) ∙ take_all len text (omega (arith, long)) in
     (o.0, o.1, (fits, subst (IsGivenText literal IsKnown o.0 given) (sym front) o.2, drop-append-drop len room text len (omega arith) long))
 
 -- ---- values that are found, as `measured_values` tells of them
 
-pub measured_found : {E : Type 0} (mode : Bool) (query : List ℕ) (literal : Literals) (given : Given) (survey : Survey) (vs : List Value) (r : Result MeasuredText E) →
-    IfOk r (λ measured. (mode : Bool) (query : List ℕ) (given : Given) → OnTokens mode query (IsSurvey survey) → OnTokens mode query (AreFound given vs) → OnTokens mode query (λ ts. IsMeasured literal ts given measured)) →
-    OnTokens mode query (IsSurvey survey) → OnTokens mode query (AreFound given vs) →
-    OnTokens mode query (λ ts. IfOk r (IsMeasured literal ts given))
-measured_found mode query literal given survey vs (Ok measured) told surveyed found = told mode query given surveyed found
-measured_found mode query literal given survey vs (Err e) told surveyed found = (surveyed.0, surveyed.1, tt)
+pub measured_found : {E : Type 0} (reading : Reading) (query : List ℕ) (literal : Literals) (given : Given) (survey : Survey) (vs : List Value) (r : Result MeasuredText E) →
+    IfOk r (λ measured. (reading : Reading) (query : List ℕ) (given : Given) → OnTokensIn reading query (IsSurvey survey) → OnTokensIn reading query (AreFound given vs) → OnTokensIn reading query (λ ts. IsMeasured literal ts given measured)) →
+    OnTokensIn reading query (IsSurvey survey) → OnTokensIn reading query (AreFound given vs) →
+    OnTokensIn reading query (λ ts. IfOk r (IsMeasured literal ts given))
+measured_found reading query literal given survey vs (Ok measured) told surveyed found = told reading query given surveyed found
+measured_found reading query literal given survey vs (Err e) told surveyed found = (surveyed.0, surveyed.1, tt)
 
-pub measured_refused : {A : Type 0} (mode : Bool) (query : List ℕ) (given : Given) (survey : Survey) (vs : List Value) (r : Result A BindError) →
-    IfErr r (λ error. (mode : Bool) (query : List ℕ) (given : Given) → OnTokens mode query (IsSurvey survey) → OnTokens mode query (AreFound given vs) → OnTokens mode query (λ ts. IsCauseOrMemory (first_cause ts given) error)) →
-    OnTokens mode query (IsSurvey survey) → OnTokens mode query (AreFound given vs) →
-    OnTokens mode query (λ ts. IfErr r (IsCauseOrMemory (first_cause ts given)))
-measured_refused mode query given survey vs (Ok a) told surveyed found = (surveyed.0, surveyed.1, tt)
-measured_refused mode query given survey vs (Err e) told surveyed found = told mode query given surveyed found
+pub measured_refused : {A : Type 0} (reading : Reading) (query : List ℕ) (given : Given) (survey : Survey) (vs : List Value) (r : Result A BindError) →
+    IfErr r (λ error. (reading : Reading) (query : List ℕ) (given : Given) → OnTokensIn reading query (IsSurvey survey) → OnTokensIn reading query (AreFound given vs) → OnTokensIn reading query (λ ts. IsCauseOrMemory (first_cause ts given) error)) →
+    OnTokensIn reading query (IsSurvey survey) → OnTokensIn reading query (AreFound given vs) →
+    OnTokensIn reading query (λ ts. IfErr r (IsCauseOrMemory (first_cause ts given)))
+measured_refused reading query given survey vs (Ok a) told surveyed found = (surveyed.0, surveyed.1, tt)
+measured_refused reading query given survey vs (Err e) told surveyed found = told reading query given surveyed found

@@ -1,9 +1,8 @@
 -- What is bound by the spans of a query's places is what is bound to the query.
-use Rattle.std.specs.Prelude.{Bool, Option, None, Ok, Err, IfOk, Result}
+use Rattle.std.specs.Prelude.{Option, None, Ok, Err, IfOk, Result}
 use Rattle.std.proofs.Common.{◌≡◌, ◌⊎◌, inl, inr, ℕ, zero, suc, ◌<◌, false, List, [], ◌∷◌, length, map, take, take_all, Some, refl, sym, ap, ◌∙◌, arith}
 use Rattle.std.proofs.lemmas.List.{nil_from_length}
 use Rattle.mysql_values.specs.declared.value.Value.{Value}
-use Rattle.mysql_named_params.specs.Tokens.{OnTokens}
 use Rattle.mysql_named_params.specs.Places.{names, marks, place_count}
 use Rattle.mysql_params_core.specs.Given.{Given}
 use Rattle.mysql_params_core.specs.Lookup.{LookupRefusal, lookup}
@@ -22,7 +21,9 @@ use Rattle.mysql_binding.specs.declared.binding.literals.MeasuredText.{MeasuredT
 use Rattle.mysql_binding.specs.declared.binding.spanned.SpannedQuery.{SpannedQuery}
 use Rattle.mysql_binding.specs.declared.binding.spans.PlaceSpan.{PlaceSpan}
 use Rattle.mysql_binding.specs.declared.binding.survey.Survey.{Survey}
-use Rattle.mysql_named_params.proofs.TokenListLemmas.{one_token_list}
+use Rattle.mysql_named_params.specs.Reading.{OnTokensIn}
+use Rattle.mysql_named_params.specs.declared.places.Reading.{Reading}
+use Rattle.mysql_named_params.proofs.ReadingLemmas.{one_reading}
 use Rattle.mysql_binding.proofs.BoundText.{bound}
 use Rattle.mysql_binding.proofs.BoundTextLemmas.{looked_up_names, refused_lookup, unmixed_survey}
 use Rattle.mysql_binding.proofs.CauseLemmas.{lookup_each, mixed_none_of, same_counts, unmixed}
@@ -95,13 +96,13 @@ ready_spans literal spanned given values never looked (Ok measured) o = record {
 
 -- ---- the spans of a query
 
-module _ (survey : Survey) (spans : List PlaceSpan) (mode : Bool) (query : List ℕ) (own : AreSpansOf survey spans mode query) where
-  pub own_surveyed : OnTokens mode query (IsSurvey survey)
+module _ (survey : Survey) (spans : List PlaceSpan) (reading : Reading) (query : List ℕ) (own : AreSpansOf survey spans reading query) where
+  pub own_surveyed : OnTokensIn reading query (IsSurvey survey)
   own_surveyed = (own.0, own.1, own.2.0)
 
   module _ (never : 0 < survey.names × 0 < survey.marks → ⊥) where
     -- the names of the query are those at the places
-    own_listed : OnTokens mode query (λ ts. names_at (take survey.names spans) query ≡ names ts)
+    own_listed : OnTokensIn reading query (λ ts. names_at (take survey.names spans) query ≡ names ts)
     own_listed = (own.0, own.1, listed (unmixed own.0 (mixed_none_of own.0 survey.names survey.marks own.2.0.0 own.2.0.1 never)))
       where
         listed : (length (names own.0) ≡ 0) ⊎ (marks own.0 ≡ 0) → names_at (take survey.names spans) query ≡ names own.0
@@ -109,39 +110,39 @@ module _ (survey : Survey) (spans : List PlaceSpan) (mode : Bool) (query : List 
             let zero_names : survey.names ≡ 0 = own.2.0.0 ∙ none in
             ap (λ n. names_at (take n spans) query) zero_names ∙ sym (nil_from_length (names own.0) none)
         listed (inr none) =
-            let fit = own_survey survey spans mode query own in
+            let fit = own_survey survey spans reading query own in
             let all : take survey.names spans ≡ spans = take_all survey.names spans (omega (arith, fit.count, own.2.0.1, none)) in
-            ap (λ x. names_at x query) all ∙ own_names_are survey spans mode query own none
+            ap (λ x. names_at x query) all ∙ own_names_are survey spans reading query own none
 
     pub own_lookup_refused : (given : Given) (error : BindError) → IsLookupError given (names_at (take survey.names spans) query) error →
-        OnTokens mode query (λ ts. IsCauseOrMemory (first_cause ts given) error)
+        OnTokensIn reading query (λ ts. IsCauseOrMemory (first_cause ts given) error)
     own_lookup_refused given error (inl memory) = (own.0, own.1, inl memory)
     own_lookup_refused given error (inr r) =
-        refused_lookup mode query given survey.names (names_at (take survey.names spans) query) error (unmixed_survey mode query survey own_surveyed never) own_listed r
+        refused_lookup reading query given survey.names (names_at (take survey.names spans) query) error (unmixed_survey reading query survey own_surveyed never) own_listed r
 
     pub own_looked_up : (given : Given) (values : List Value) → lookup given (names_at (take survey.names spans) query) ≡ Ok values →
-        OnTokens mode query (λ ts. lookup given (names ts) ≡ Ok values)
-    own_looked_up given values looked = looked_up_names mode query given (names_at (take survey.names spans) query) values own_listed looked
+        OnTokensIn reading query (λ ts. lookup given (names ts) ≡ Ok values)
+    own_looked_up given values looked = looked_up_names reading query given (names_at (take survey.names spans) query) values own_listed looked
 
     pub own_found : (given : Given) (values : List Value) → lookup given (names_at (take survey.names spans) query) ≡ Ok values →
-        OnTokens mode query (AreFound given values)
+        OnTokensIn reading query (AreFound given values)
     own_found given values looked =
-        found_on mode query given values (unmixed_query mode query survey (survey_of mode query survey own_surveyed) never) (own_looked_up given values looked)
+        found_on reading query given values (unmixed_query reading query survey (survey_of reading query survey own_surveyed) never) (own_looked_up given values looked)
 
   -- the text in the room is that of the query
   pub own_given_text : (literal : Literals) (IsKnown : LiteralFacts) (given : Given) (measured : MeasuredText) (text : List ℕ) →
-      OnTokens mode query (λ ts. IsMeasured literal ts given measured) →
+      OnTokensIn reading query (λ ts. IsMeasured literal ts given measured) →
       IsTextAt literal IsKnown spans query (owned_values measured.values.items) text →
-      OnTokens mode query (λ ts. IsGivenText literal IsKnown ts given text)
+      OnTokensIn reading query (λ ts. IsGivenText literal IsKnown ts given text)
   own_given_text literal IsKnown given measured text is at =
       let values = owned_values measured.values.items in
-      let places : OnTokens mode query (λ ts. length values ≡ place_count ts) = fill_places mode literal query given measured is in
-      let same : places.0 ≡ own.0 = one_token_list mode query places.0 own.0 places.1 own.1 in
+      let places : OnTokensIn reading query (λ ts. length values ≡ place_count ts) = fill_places reading literal query given measured is in
+      let same : places.0 ≡ own.0 = one_reading reading query places.0 own.0 places.1 own.1 in
       let each : length at.0 ≡ place_count own.0 = as_many_texts literal IsKnown values at.0 at.1 ∙ (places.2 ∙ ap place_count same) in
-      let text_is : text ≡ bound own.0 at.0 = at.2 ∙ own_text_is survey spans mode query own at.0 each in
+      let text_is : text ≡ bound own.0 at.0 = at.2 ∙ own_text_is survey spans reading query own at.0 each in
       let written : IsWrittenText literal IsKnown own.0 values text = record {
         literals = at.0;
         written = at.1;
         text_is = joined_text-pieces_from [] own.0 at.0 each ∙ ap Some (sym text_is);
       } in
-      filled_text mode literal query given measured is IsKnown text (own.0, own.1, written)
+      filled_text reading literal query given measured is IsKnown text (own.0, own.1, written)

@@ -1,17 +1,18 @@
 -- Where the places of a query stand, as numbers, and what is written by them.
-use Rattle.std.specs.Prelude.{Bool}
 use Rattle.std.proofs.Common.{◌≡◌, ℕ, ◌+◌, ◌<◌, ◌≤◌, List, [], ◌∷◌, ◌++◌, length, length-append, map, take, drop, drop-cons, drop-drop, add-one, get_or, refl, sym, ap, ◌∙◌, subst, arith, append_assoc}
 use Rattle.std.proofs.lemmas.List.{length-map}
-use Rattle.mysql_named_params.specs.Tokens.{Token, OnTokens, bytes_of, text_of, Name, Mark}
+use Rattle.mysql_named_params.specs.Tokens.{Token, bytes_of, text_of, Name, Mark}
 use Rattle.mysql_named_params.specs.Places.{names, marks, place_count}
 use Rattle.mysql_named_params.specs.declared.places.FoundPlace.{FoundPlace}
-use Rattle.mysql_named_params.proofs.TokenListLemmas.{one_token_list}
 use Rattle.mysql_binding.specs.FoundPlaces.{found_from, found_places}
 use Rattle.mysql_binding.specs.PlaceSpans.{AreSpansOf, FitIn, FitSurvey, names_at, outside_len, span_of, text_at}
 use Rattle.mysql_binding.specs.declared.binding.spans.PlaceSpan.{PlaceSpan}
 use Rattle.mysql_binding.specs.declared.binding.survey.Survey.{Survey}
 use Rattle.mysql_binding.proofs.BoundText.{bound}
 use Rattle.mysql_named_params.proofs.TokenRowLemmas.{place_count-sum}
+use Rattle.mysql_named_params.specs.Reading.{OnTokensIn}
+use Rattle.mysql_named_params.specs.declared.places.Reading.{Reading}
+use Rattle.mysql_named_params.proofs.ReadingLemmas.{one_reading, reading_text}
 use Rattle.mysql_binding.proofs.FoundPlacesLemmas.{found_count}
 use Rattle.mysql_binding.proofs.TextLengthLemmas.{plain_len, pieces_len-plain_len}
 
@@ -95,12 +96,12 @@ own_text piece (t ∷ ts) literals each =
     let same : text_at (spans_in (length piece + length (bytes_of t)) ts) (piece ++ (bytes_of t ++ text_of ts)) literals ≡ text_at (spans_in (length (piece ++ bytes_of t)) ts) ((piece ++ bytes_of t) ++ text_of ts) literals = rw (append_assoc piece (bytes_of t) (text_of ts), length-append piece (bytes_of t)) refl in
     same ∙ (own_text (piece ++ bytes_of t) ts literals each ∙ append_assoc piece (bytes_of t) (bound ts literals))
 
-module _ (survey : Survey) (spans : List PlaceSpan) (mode : Bool) (query : List ℕ) (o : AreSpansOf survey spans mode query) where
+module _ (survey : Survey) (spans : List PlaceSpan) (reading : Reading) (query : List ℕ) (o : AreSpansOf survey spans reading query) where
   own_spans : spans ≡ spans_in 0 o.0
   own_spans = o.2.1
 
   own_query : query ≡ text_of o.0
-  own_query = sym o.1.text
+  own_query = sym (reading_text reading query o.0 o.1)
 
   -- the spans of a query can be those of its bytes
   pub own_survey : FitSurvey survey spans query
@@ -131,9 +132,9 @@ pub record CountedSoFar (text rest : List ℕ) (spans : List PlaceSpan) (i len :
   pub below : len + length rest ≤ length text
 
 -- there are as many places as were counted
-pub as_many_places : (mode : Bool) (query : List ℕ) (count : ℕ) (places : List FoundPlace) →
-    OnTokens mode query (λ ts. count ≡ place_count ts) → OnTokens mode query (λ ts. places ≡ found_places ts) →
+pub as_many_places : (reading : Reading) (query : List ℕ) (count : ℕ) (places : List FoundPlace) →
+    OnTokensIn reading query (λ ts. count ≡ place_count ts) → OnTokensIn reading query (λ ts. places ≡ found_places ts) →
     count ≡ length places
-as_many_places mode query count places o found =
-    let same : found.0 ≡ o.0 = one_token_list mode query found.0 o.0 found.1 o.1 in
+as_many_places reading query count places o found =
+    let same : found.0 ≡ o.0 = one_reading reading query found.0 o.0 found.1 o.1 in
     omega (arith, o.2, ap length found.2, found_count 0 found.0, ap place_count same)

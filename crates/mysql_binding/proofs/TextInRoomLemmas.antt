@@ -7,7 +7,9 @@ use Rattle.mysql_values.specs.Literal.{literal_of}
 use Rattle.mysql_values.specs.ReadBack.{ReadsAs}
 use Rattle.mysql_value_core.proofs.LiteralLemmas.{literal_shape, literal_reads}
 use Rattle.mysql_sql_text.specs.LiteralShape.{IsLiteral}
-use Rattle.mysql_named_params.specs.Tokens.{Token, IsTokens, OnTokens}
+use Rattle.mysql_named_params.specs.Tokens.{Token}
+use Rattle.mysql_named_params.specs.Reading.{IsTokensIn, OnTokensIn}
+use Rattle.mysql_named_params.specs.declared.places.Reading.{Reading}
 use Rattle.mysql_params_core.specs.Given.{Given}
 use Rattle.mysql_binding.specs.Isolation.{IsBoundText}
 use Rattle.mysql_binding.specs.LiteralForm.{Literals, LiteralFacts, AreWrittenAs, IsPlainLiteral}
@@ -54,17 +56,17 @@ plain_known mode v text range is = (
 )
 
 -- the length of a bound text, before it is made
-pub bound_length : (mode : Bool) (query : List ℕ) (ts : List Token) (given : Given) (len : ℕ) → IsTokens mode query ts →
-    HasGivenLength (literal_of mode) ts given len → HasTextOf (IsBoundText mode ts given) len
-bound_length mode query ts given len is (text, g, long) =
-    (text, is_bound_text mode query ts given text is (known_text (literal_of mode) (IsPlainLiteral mode) (plain_known mode) ts given text g), long)
+pub bound_length : (reading : Reading) (query : List ℕ) (ts : List Token) (given : Given) (len : ℕ) → IsTokensIn reading query ts →
+    HasGivenLength (literal_of reading.no_backslash_escape) ts given len → HasTextOf (IsBoundText reading.no_backslash_escape ts given) len
+bound_length reading query ts given len is (text, g, long) =
+    (text, is_bound_text reading query ts given text is (known_text (literal_of reading.no_backslash_escape) (IsPlainLiteral reading.no_backslash_escape) (plain_known reading.no_backslash_escape) ts given text g), long)
 
-pub bound_in_room : {E : Type 0} (mode : Bool) (query : List ℕ) (given : Given) (old new : List ℕ) (r : Result TextInRoom E) →
-    OnTokens mode query (λ ts. IfOk r (IsTextInRoom (IsGivenText (literal_of mode) (IsPlainLiteral mode) ts given) (HasGivenLength (literal_of mode) ts given) old new)) →
-    OnTokens mode query (λ ts. IfOk r (IsTextInRoom (IsBoundText mode ts given) (HasTextOf (IsBoundText mode ts given)) old new))
-bound_in_room mode query given old new (Ok text) o = (
+pub bound_in_room : {E : Type 0} (reading : Reading) (query : List ℕ) (given : Given) (old new : List ℕ) (r : Result TextInRoom E) →
+    OnTokensIn reading query (λ ts. IfOk r (IsTextInRoom (IsGivenText (literal_of reading.no_backslash_escape) (IsPlainLiteral reading.no_backslash_escape) ts given) (HasGivenLength (literal_of reading.no_backslash_escape) ts given) old new)) →
+    OnTokensIn reading query (λ ts. IfOk r (IsTextInRoom (IsBoundText reading.no_backslash_escape ts given) (HasTextOf (IsBoundText reading.no_backslash_escape ts given)) old new))
+bound_in_room reading query given old new (Ok text) o = (
   o.0,
   o.1,
-  each_in_room _ _ _ old new text (λ x g. is_bound_text mode query o.0 given x o.1 g) (λ len. bound_length mode query o.0 given len o.1) o.2,
+  each_in_room _ _ _ old new text (λ x g. is_bound_text reading query o.0 given x o.1 g) (λ len. bound_length reading query o.0 given len o.1) o.2,
 )
-bound_in_room mode query given old new (Err e) o = (o.0, o.1, tt)
+bound_in_room reading query given old new (Err e) o = (o.0, o.1, tt)

@@ -1,9 +1,11 @@
 -- The text of values that are looked up, written to the end of another text: for
 -- `append_parsed`, which is lent to the crates above.
-use Rattle.std.specs.Prelude.{◌≡◌, ◌++◌, ℕ, Bool, List, None, Ok}
+use Rattle.std.specs.Prelude.{◌≡◌, ◌++◌, ℕ, List, None, Ok}
 use Rattle.mysql_values.specs.declared.value.Value.{Value}
-use Rattle.mysql_named_params.specs.Tokens.{Token, OnTokens}
+use Rattle.mysql_named_params.specs.Tokens.{Token}
 use Rattle.mysql_named_params.specs.NamesAndMarks.{names}
+use Rattle.mysql_named_params.specs.Reading.{OnTokensIn}
+use Rattle.mysql_named_params.specs.declared.places.Reading.{Reading}
 use Rattle.mysql_params_core.specs.GivenValues.{Given}
 use Rattle.mysql_params_core.specs.LookupValues.{lookup}
 use Rattle.mysql_binding.specs.FirstCause.{mixed_cause}
@@ -15,9 +17,9 @@ abbrev pub AreFound : Given → List Value → List Token → Type 0
 AreFound given values ts = (mixed_cause ts ≡ None) × (lookup given (names ts) ≡ Ok values)
 
 -- after these bytes stands the text of the query with these values, and nothing else
-pub record IsAppended (literal : Literals) (IsKnown : LiteralFacts) (mode : Bool)
+pub record IsAppended (literal : Literals) (IsKnown : LiteralFacts) (reading : Reading)
     (query : List ℕ) (values : List Value) (before after : List ℕ) : Type 0 where
   pub text : List ℕ
   pub bytes : after ≡ before ++ text
-  pub of_given : (given : Given) → OnTokens mode query (AreFound given values) →
-      OnTokens mode query (λ ts. IsGivenText literal IsKnown ts given text)
+  pub of_given : (given : Given) → OnTokensIn reading query (AreFound given values) →
+      OnTokensIn reading query (λ ts. IsGivenText literal IsKnown ts given text)

@@ -2,7 +2,8 @@
 use Rattle.std.specs.Prelude.{◌≡◌, ◌≤◌, ◌<◌, ◌⊎◌, ◌++◌, ℕ, Bool, List, Ok, alloc_error, length, map}
 use Rattle.std.specs.Borrow.{Bor}
 use Rattle.mysql_values.specs.declared.value.ValueRef.{ValueRef}
-use Rattle.mysql_named_params.specs.Tokens.{OnTokens}
+use Rattle.mysql_named_params.specs.Reading.{OnTokensIn, grammar_reading, wide_reading}
+use Rattle.mysql_named_params.specs.declared.places.Reading.{Reading}
 use Rattle.mysql_params_core.specs.GivenValues.{Given}
 use Rattle.mysql_params_core.specs.Made.{few_pairs, pairs_made, seen_pair, IsFirstRedefined}
 use Rattle.mysql_binding.specs.BindErrors.{IsCauseOrMemory, AreEqualBindErrors}
@@ -29,16 +30,31 @@ IsMemoryOfMany pairs error = (few_pairs < length pairs) × (error ≡ Memory all
 -- the pairs make no parameters, since the name of this pair stands before it too; or they make
 -- parameters, and the error is the first cause to refuse these for the query, or out of memory; or
 -- they are many, and out of memory comes before they are told apart
+abbrev pub IsPairsRefusalIn : Reading → List ℕ → List (Bor (List ℕ) × ValueRef) → BindPairsError
+    → Type 0
+IsPairsRefusalIn reading query pairs (Redefined index) = IsFirstRedefined pairs index
+IsPairsRefusalIn reading query pairs (Bind error) =
+    IsMemoryOfMany pairs error ⊎ OfPairs pairs (λ given.
+    OnTokensIn reading query (λ ts. IsCauseOrMemory (first_cause ts given) error))
+
+-- the same by the names of the grammar
 abbrev pub IsPairsRefusal : Bool → List ℕ → List (Bor (List ℕ) × ValueRef) → BindPairsError
     → Type 0
-IsPairsRefusal mode query pairs (Redefined index) = IsFirstRedefined pairs index
-IsPairsRefusal mode query pairs (Bind error) = IsMemoryOfMany pairs error ⊎ OfPairs pairs (λ given.
-    OnTokens mode query (λ ts. IsCauseOrMemory (first_cause ts given) error))
+IsPairsRefusal mode = IsPairsRefusalIn (grammar_reading mode)
+
+-- the same by wide names
+abbrev pub IsWidePairsRefusal : Bool → List ℕ → List (Bor (List ℕ) × ValueRef) → BindPairsError
+    → Type 0
+IsWidePairsRefusal mode = IsPairsRefusalIn (wide_reading mode)
 
 -- after these bytes stands the bound text of the query, and nothing else
+abbrev pub IsBoundAfterIn : Reading → List ℕ → Given → (before after : List ℕ) → Type 0
+IsBoundAfterIn reading query given before after = (text : List ℕ) × (after ≡ before ++ text)
+    × OnTokensIn reading query (λ ts. IsBoundText reading.no_backslash_escape ts given text)
+
+-- the same by the names of the grammar
 abbrev pub IsBoundAfter : Bool → List ℕ → Given → (before after : List ℕ) → Type 0
-IsBoundAfter mode query given before after = (text : List ℕ) × (after ≡ before ++ text)
-    × OnTokens mode query (λ ts. IsBoundText mode ts given text)
+IsBoundAfter mode = IsBoundAfterIn (grammar_reading mode)
 
 -- the same variant, and the same fields
 abbrev pub AreEqualBindPairsErrors : BindPairsError → BindPairsError → Type 0

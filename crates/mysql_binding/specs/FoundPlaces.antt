@@ -1,9 +1,11 @@
 -- The places of a query, each as it is found after the one before it: for the invariants of
 -- `ParsedQuery` and of `SurveyedQuery`, which is lent to the crates above.
-use Rattle.std.specs.Prelude.{◌≡◌, ◌+◌, ◌++◌, ℕ, Bool, List, [], ◌∷◌, length, take}
-use Rattle.mysql_named_params.specs.Tokens.{Token, IsTokens, bytes_of, Name, Mark}
+use Rattle.std.specs.Prelude.{◌≡◌, ◌+◌, ◌++◌, ℕ, List, [], ◌∷◌, length, take}
+use Rattle.mysql_named_params.specs.Tokens.{Token, bytes_of, Name, Mark}
 use Rattle.mysql_named_params.specs.declared.places.FoundPlace.{FoundPlace}
 use Rattle.mysql_named_params.specs.declared.places.PlaceKind.TheVariants as kind
+use Rattle.mysql_named_params.specs.Reading.{IsTokensIn}
+use Rattle.mysql_named_params.specs.declared.places.Reading.{Reading}
 
 -- each place, with the number of bytes between it and the place before it, or the front; `before`
 -- bytes of them stand before these tokens
@@ -24,7 +26,7 @@ found_places = found_from 0
 abbrev pub BeginWithPlaces : List FoundPlace → List Token → Type 0
 BeginWithPlaces places ts = (more : List FoundPlace) × (places ++ more ≡ found_places ts)
 
--- the places are the first of the query in the mode, as many as they are
-abbrev pub AreFirstPlaces : Bool → List ℕ → List FoundPlace → Type 0
-AreFirstPlaces mode query places = (ts : List Token) → IsTokens mode query ts →
+-- the places are the first of the query in the reading, as many as they are
+abbrev pub AreFirstPlaces : Reading → List ℕ → List FoundPlace → Type 0
+AreFirstPlaces reading query places = (ts : List Token) → IsTokensIn reading query ts →
     places ≡ take (length places) (found_places ts)

@@ -1,9 +1,12 @@
--- What contracts see of a parsed query: the query and the mode in which it is read.
+-- What contracts see of a query that is parsed once: the query and the mode in which it is read;
+-- and what is kept of its places.
 use Rattle.std.specs.Prelude.{◌≡◌, ℕ, Bool, List, ◌&&◌, nat_eq}
 use Rattle.std.proofs.Math.Bool.{beq}
 use Rattle.std.specs.Cmp.Lexicographic.{pointwise}
-use Rattle.mysql_named_params.specs.Tokens.{OnTokens}
 use Rattle.mysql_named_params.specs.declared.places.FoundPlace.{FoundPlace}
+use Rattle.mysql_named_params.specs.Tokens.{Token}
+use Rattle.mysql_named_params.specs.Reading.{IsTokensIn}
+use Rattle.mysql_named_params.specs.declared.places.Reading.{Reading}
 use Rattle.mysql_binding.specs.FoundPlaces.{found_places}
 use Rattle.mysql_binding.specs.Survey.{IsSurvey}
 use Rattle.mysql_binding.specs.declared.binding.survey.Survey.{Survey}
@@ -13,10 +16,10 @@ pub record QueryInMode : Type 0 where
   pub mode : Bool
   pub query : List ℕ
 
--- the survey and the places are those of the query in the mode: the invariant of `ParsedQuery`
-abbrev pub AreParsed : Survey → List FoundPlace → Bool → List ℕ → Type 0
-AreParsed survey places mode query =
-    OnTokens mode query (λ ts. IsSurvey survey ts × (places ≡ found_places ts))
+-- the survey and the places are those of the query in the reading
+abbrev pub AreParsed : Survey → List FoundPlace → Reading → List ℕ → Type 0
+AreParsed survey places reading query = (ts : List Token) → IsTokensIn reading query ts →
+    IsSurvey survey ts × (places ≡ found_places ts)
 
 -- the two are equal, as a test
 abbrev pub same_query : QueryInMode → QueryInMode → Bool

@@ -1,11 +1,12 @@
 -- Where the places of a query stand, as plain numbers that a caller keeps: for `place_spans` and
 -- `SpannedQuery`, which are lent to the crate above.
-use Rattle.std.specs.Prelude.{◌≡◌, ◌+◌, ◌++◌, ◌<◌, ◌≤◌, ℕ, Bool, List, [], ◌∷◌, length, map, take, drop, None, ⊤}
+use Rattle.std.specs.Prelude.{◌≡◌, ◌+◌, ◌++◌, ◌<◌, ◌≤◌, ℕ, List, [], ◌∷◌, length, map, take, drop, None, ⊤}
 use Rattle.std.specs.Coded.{Unit-prop, le_prop}
 use Rattle.std.specs.List.{sum}
 use Rattle.mysql_values.specs.declared.value.Value.{Value}
-use Rattle.mysql_named_params.specs.Tokens.{OnTokens}
 use Rattle.mysql_named_params.specs.declared.places.FoundPlace.{FoundPlace}
+use Rattle.mysql_named_params.specs.Reading.{OnTokensIn}
+use Rattle.mysql_named_params.specs.declared.places.Reading.{Reading}
 use Rattle.mysql_values.specs.BorrowedValue.{owned_values}
 use Rattle.mysql_binding.specs.FirstCause.{first_float}
 use Rattle.mysql_binding.specs.FoundPlaces.{found_places}
@@ -21,10 +22,10 @@ use Rattle.mysql_binding.specs.declared.binding.survey.Survey.{Survey}
 abbrev pub span_of : FoundPlace → PlaceSpan
 span_of found = record { before = found.before; len = found.len }
 
--- the survey and the spans are those of the query in the mode
-abbrev pub AreSpansOf : Survey → List PlaceSpan → Bool → List ℕ → Type 0
-AreSpansOf survey spans mode query =
-    OnTokens mode query (λ ts. IsSurvey survey ts × (spans ≡ map span_of (found_places ts)))
+-- the survey and the spans are those of the query in the reading
+abbrev pub AreSpansOf : Survey → List PlaceSpan → Reading → List ℕ → Type 0
+AreSpansOf survey spans reading query =
+    OnTokensIn reading query (λ ts. IsSurvey survey ts × (spans ≡ map span_of (found_places ts)))
 
 -- what is left of the bytes after a place
 abbrev pub after_span : PlaceSpan → List ℕ → List ℕ

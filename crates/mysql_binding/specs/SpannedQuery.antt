@@ -1,6 +1,7 @@
 -- What contracts say of a query whose places are given by plain numbers, which is lent to the crate
 -- above.
-use Rattle.std.specs.Prelude.{◌≡◌, Bool, List, ℕ, take, Some, Err}
+use Rattle.std.specs.Prelude.{◌≡◌, List, ℕ, take, Some, Err}
+use Rattle.mysql_named_params.specs.declared.places.Reading.{Reading}
 use Rattle.mysql_params_core.specs.GivenValues.{Given}
 use Rattle.mysql_params_core.specs.LookupValues.{LookupRefusal, lookup}
 use Rattle.mysql_binding.specs.BindErrors.{cause_of}
@@ -9,9 +10,10 @@ use Rattle.mysql_binding.specs.PlaceSpans.{AreSpansOf, names_at}
 use Rattle.mysql_binding.specs.declared.bind_error.BindError.{BindError}
 use Rattle.mysql_binding.specs.declared.binding.spanned.SpannedQuery.{SpannedQuery}
 
--- the survey and the spans are those of the query in the mode
-abbrev pub HasOwnSpans : SpannedQuery → Bool → Type 0
-HasOwnSpans spanned mode = AreSpansOf spanned.survey spanned.spans.now mode spanned.query.now
+-- the survey and the spans are those of the query in the reading
+abbrev pub HasOwnSpans : SpannedQuery → Reading → Type 0
+HasOwnSpans spanned reading =
+    AreSpansOf spanned.survey spanned.spans.now reading spanned.query.now
 
 -- what stands in the first places, as many as the survey has names, each without its first byte
 abbrev pub spanned_names : SpannedQuery → List (List ℕ)

@@ -1,8 +1,10 @@
 -- What is known of the places of a query before values are looked up: for the invariants of
 -- `ParsedQuery` and of `SurveyedQuery`, which is lent to the crates above.
-use Rattle.std.specs.Prelude.{◌≡◌, ℕ, Bool, List, length}
-use Rattle.mysql_named_params.specs.Tokens.{Token, IsTokens}
+use Rattle.std.specs.Prelude.{◌≡◌, ℕ, List, length}
+use Rattle.mysql_named_params.specs.Tokens.{Token}
 use Rattle.mysql_named_params.specs.NamesAndMarks.{names, marks}
+use Rattle.mysql_named_params.specs.Reading.{IsTokensIn}
+use Rattle.mysql_named_params.specs.declared.places.Reading.{Reading}
 use Rattle.mysql_binding.specs.FirstNotAlone.{first_not_alone}
 use Rattle.mysql_binding.specs.TextLength.{pieces_len}
 use Rattle.mysql_binding.specs.declared.binding.survey.Survey.{Survey}
@@ -14,6 +16,7 @@ IsSurvey survey ts =
     (survey.names ≡ length (names ts)) × (survey.marks ≡ marks ts)
     × (survey.not_alone ≡ first_not_alone ts) × (survey.piece_bytes ≡ pieces_len ts)
 
--- the survey is that of the query in the mode
-abbrev pub IsSurveyOf : Bool → List ℕ → Survey → Type 0
-IsSurveyOf mode query survey = (ts : List Token) → IsTokens mode query ts → IsSurvey survey ts
+-- the survey is that of the query in the reading
+abbrev pub IsSurveyOf : Reading → List ℕ → Survey → Type 0
+IsSurveyOf reading query survey =
+    (ts : List Token) → IsTokensIn reading query ts → IsSurvey survey ts

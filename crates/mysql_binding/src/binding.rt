@@ -1,7 +1,9 @@
 //! Queries with the literals of values in the places of names and marks.
-ghost use Rattle.std.specs.Prelude.{◌≡◌, false, ℕ, Bool, List, None, Ok, Some, IfErr, IfOk, IfSome, IsErrOf, length, option_map};
+ghost use Rattle.std.specs.Prelude.{◌≡◌, false, ℕ, List, None, Ok, Some, IfErr, IfOk, IfSome, IsErrOf, length, option_map};
 ghost use Rattle.mysql_sql_text.specs.StringUnits.{with_backslashes};
 ghost use Rattle.mysql_named_params.specs.Tokens.{OnTokens, Token};
+ghost use Rattle.mysql_named_params.specs.Reading.{OnTokensIn};
+ghost use Rattle.mysql_named_params.specs.declared.places.Reading.{Reading};
 ghost use Rattle.mysql_named_params.specs.Places.{names, HasName, HasMark};
 ghost use Rattle.mysql_params_core.specs.Given.{Given, given};
 ghost use Rattle.mysql_params_core.specs.GivenBorrowed.{given_by_borrowed};
@@ -20,6 +22,7 @@ ghost use Rattle.mysql_binding.specs.WrittenText.{IsGivenText};
 
 mod form;
 mod found;
+mod found_query;
 mod literals;
 mod names;
 mod pairs;
@@ -29,6 +32,8 @@ mod spanned;
 mod spans;
 mod survey;
 mod text;
+mod wide;
+mod wide_query;
 
 use crate::bind_error::BindError;
 pub use crate::binding::form::{LiteralForm, PlainForm};
@@ -36,16 +41,24 @@ use crate::binding::found::found_values;
 pub use crate::binding::found::{all_places, place_after};
 use crate::binding::literals::{first_float, with_lengths};
 pub use crate::binding::literals::{MeasuredText, literal_len, push_literal, put_literal};
-use crate::binding::names::query_names;
-pub use crate::binding::pairs::{bind_pairs, bind_pairs_into, bind_values, bind_values_into};
-pub use crate::binding::parsed_query::{ParsedQuery, append_parsed};
+pub use crate::binding::names::query_names;
+pub use crate::binding::pairs::{
+    bind_pairs, bind_pairs_in, bind_pairs_into, bind_pairs_into_in, bind_values, bind_values_into,
+    bind_values_into_in,
+};
+pub use crate::binding::parsed_query::ParsedQuery;
 pub use crate::binding::room::{TextInRoom, bind_surveyed_into};
 pub use crate::binding::spanned::SpannedQuery;
 pub use crate::binding::spans::{PlaceSpan, bind_spans_into, place_spans};
 pub use crate::binding::survey::{Survey, SurveyedQuery};
 use crate::binding::text::written_text;
-pub use crate::binding::text::{append_piece, fill_measured};
-use mysql_named_params::places::{FoundPlace, PlaceKind};
+pub use crate::binding::text::{append_piece, append_surveyed, fill_measured};
+pub use crate::binding::wide::{
+    bind_wide, bind_wide_in, bind_wide_pairs, bind_wide_pairs_into, bind_wide_values,
+    bind_wide_values_into,
+};
+pub use crate::binding::wide_query::WideQuery;
+use mysql_named_params::places::{FoundPlace, PlaceKind, Reading};
 use mysql_params_core::params::{BorrowedParams, Params, place_values};
 use mysql_values::value::ValueRef;
 use std::alloc::Global;
@@ -86,7 +99,11 @@ pub fn bind_text_in(
     ensures mixed { OnTokens no_backslash_escape query.now (λ ts.
         HasName ts × HasMark ts → IsErrOf result BindError.Mixed) }
 {
-    bind_borrowed_in(alloc, query, params.borrowed(), no_backslash_escape)
+    let reading = Reading {
+        no_backslash_escape,
+        wide_names: false,
+    };
+    bind_borrowed_in(alloc, query, params.borrowed(), reading)
 }
 
 /// The query with the literal of a value in the place of each name and mark, in the mode in which a
@@ -120,48 +137,51 @@ pub const NO_PLACE: FoundPlace = FoundPlace {
     len: 0,
 };
 
-/// [`bind_text_in`] with borrowed parameters, lent to the crate above.
+/// [`bind_text_in`] with borrowed parameters, of a query in any reading. It is lent to the crates
+/// above.
 pub fn bind_borrowed_in(
     alloc: Global,
     query: &[u8],
     params: BorrowedParams<'_, '_>,
-    no_backslash_escape: bool,
+    reading: Reading,
 ) -> Result<Vec<u8>, BindError>
-    ensures bound { OnTokens no_backslash_escape query.now (λ ts. IfOk result (λ text.
-        IsBoundText no_backslash_escape ts (given_by_borrowed params.entry) text.items)) }
-    ensures refused { OnTokens no_backslash_escape query.now (λ ts. IfErr result
+    ensures bound { OnTokensIn reading query.now (λ ts. IfOk result (λ text.
+        IsBoundText reading.no_backslash_escape ts (given_by_borrowed params.entry) text.items)) }
+    ensures refused { OnTokensIn reading query.now (λ ts. IfErr result
         (IsCauseOrMemory (first_cause ts (given_by_borrowed params.entry)))) }
-    ensures bound_again { IfOk result (λ text. IsSameBoundAgain no_backslash_escape text.items) }
-    ensures by_position { OnTokens no_backslash_escape query.now (λ ts. IfOk result (λ text.
-        IsSameByPosition no_backslash_escape ts (given_by_borrowed params.entry) text.items)) }
-    ensures mixed { OnTokens no_backslash_escape query.now (λ ts.
+    ensures bound_again { IfOk result (λ text.
+        IsSameBoundAgain reading.no_backslash_escape text.items) }
+    ensures by_position { OnTokensIn reading query.now (λ ts. IfOk result (λ text.
+        IsSameByPosition reading.no_backslash_escape ts (given_by_borrowed params.entry)
+        text.items)) }
+    ensures mixed { OnTokensIn reading query.now (λ ts.
         HasName ts × HasMark ts → IsErrOf result BindError.Mixed) }
 {
     let form = PlainForm {
-        no_backslash_escape,
+        no_backslash_escape: reading.no_backslash_escape,
     };
-    bind_borrowed_as(alloc, query, params, no_backslash_escape, &form)
+    bind_borrowed_as(alloc, query, params, reading, &form)
 }
 
-/// The text of a query in a mode, with the literals of the values in any form: the body of
+/// The text of a query in a reading, with the literals of the values in any form: the body of
 /// [`bind_borrowed_in`], lent to the crate above. It refuses what that refuses.
 pub fn bind_borrowed_as<F: LiteralForm>(
     alloc: Global,
     query: &[u8],
     params: BorrowedParams<'_, '_>,
-    no_backslash_escape: bool,
+    reading: Reading,
     form: &F,
 ) -> Result<Vec<u8>, BindError>
-    ensures text { OnTokens no_backslash_escape query.now (λ ts. IfOk result (λ text.
+    ensures text { OnTokensIn reading query.now (λ ts. IfOk result (λ text.
         IsGivenText (F.literal form.now) (F.IsKnown form.now) ts (given_by_borrowed params.entry)
         text.items)) }
-    ensures refused { OnTokens no_backslash_escape query.now (λ ts. IfErr result
+    ensures refused { OnTokensIn reading query.now (λ ts. IfErr result
         (IsCauseOrMemory (first_cause ts (given_by_borrowed params.entry)))) }
-    ensures mixed { OnTokens no_backslash_escape query.now (λ ts.
+    ensures mixed { OnTokensIn reading query.now (λ ts.
         HasName ts × HasMark ts → IsErrOf result BindError.Mixed) }
 {
     let mut first = [NO_PLACE; KEPT_PLACES];
-    let surveyed = SurveyedQuery::new(query, no_backslash_escape, &mut first);
+    let surveyed = SurveyedQuery::new(query, reading, &mut first);
     let survey = surveyed.survey;
     if survey.names > surveyed.known.len() && survey.marks == 0 {
         return bind_many_names(alloc, &surveyed, params, form);
@@ -199,20 +219,20 @@ pub fn bind_surveyed(
     params: BorrowedParams<'_, '_>,
 ) -> Result<Vec<u8>, BindError>
     ensures bound { OnSurveyed surveyed.now (λ ts. IfOk result (λ text.
-        IsBoundText surveyed.now.no_backslash_escape ts (given_by_borrowed params.entry)
+        IsBoundText surveyed.now.reading.no_backslash_escape ts (given_by_borrowed params.entry)
         text.items)) }
     ensures refused { OnSurveyed surveyed.now (λ ts. IfErr result
         (IsCauseOrMemory (first_cause ts (given_by_borrowed params.entry)))) }
     ensures bound_again { IfOk result (λ text.
-        IsSameBoundAgain surveyed.now.no_backslash_escape text.items) }
+        IsSameBoundAgain surveyed.now.reading.no_backslash_escape text.items) }
     ensures by_position { OnSurveyed surveyed.now (λ ts. IfOk result (λ text.
-        IsSameByPosition surveyed.now.no_backslash_escape ts (given_by_borrowed params.entry)
-        text.items)) }
+        IsSameByPosition surveyed.now.reading.no_backslash_escape ts
+        (given_by_borrowed params.entry) text.items)) }
     ensures mixed { OnSurveyed surveyed.now (λ ts.
         HasName ts × HasMark ts → IsErrOf result BindError.Mixed) }
 {
     let form = PlainForm {
-        no_backslash_escape: surveyed.no_backslash_escape,
+        no_backslash_escape: surveyed.reading.no_backslash_escape,
     };
     bind_surveyed_as(alloc, surveyed, params, &form)
 }
@@ -270,14 +290,14 @@ pub fn measured_values<'p, F: LiteralForm>(
     values: Vec<ValueRef<'p>>,
     form: &F,
 ) -> Result<MeasuredText<'p>, BindError>
-    ensures measured { IfOk result (λ measured. (mode : Bool) (query : List ℕ) (given : Given) →
-        OnTokens mode query (IsSurvey survey) →
-        OnTokens mode query (AreFound given (owned_values values.entry.items)) →
-        OnTokens mode query (λ ts. IsMeasured (F.literal form.now) ts given measured)) }
-    ensures refused { IfErr result (λ error. (mode : Bool) (query : List ℕ) (given : Given) →
-        OnTokens mode query (IsSurvey survey) →
-        OnTokens mode query (AreFound given (owned_values values.entry.items)) →
-        OnTokens mode query (λ ts. IsCauseOrMemory (first_cause ts given) error)) }
+    ensures measured { IfOk result (λ measured. (reading : Reading) (query : List ℕ)
+        (given : Given) → OnTokensIn reading query (IsSurvey survey) →
+        OnTokensIn reading query (AreFound given (owned_values values.entry.items)) →
+        OnTokensIn reading query (λ ts. IsMeasured (F.literal form.now) ts given measured)) }
+    ensures refused { IfErr result (λ error. (reading : Reading) (query : List ℕ) (given : Given) →
+        OnTokensIn reading query (IsSurvey survey) →
+        OnTokensIn reading query (AreFound given (owned_values values.entry.items)) →
+        OnTokensIn reading query (λ ts. IsCauseOrMemory (first_cause ts given) error)) }
     ensures in_survey { IfOk result
         (IsOfSurvey (F.literal form.now) survey (owned_values values.entry.items)) }
     ensures no_lookup { IfErr result (λ error. (refusal : LookupRefusal) →

@@ -6,6 +6,7 @@ ghost use Rattle.mysql_sql_text.specs.StringUnits.{with_backslashes};
 ghost use Rattle.mysql_named_params.specs.Tokens.{Token, IsTokens, text_of};
 ghost use Rattle.mysql_named_params.specs.Places.{place_count, with_marks};
 ghost use Rattle.mysql_named_params.specs.Positions.{positions};
+ghost use Rattle.mysql_named_params.specs.WideNames.{HasNoCapitals, widened};
 ghost use Rattle.mysql_portable.specs.Portable.{AreReadAlike, IsPortable, IsReadAs};
 ghost use Rattle.mysql_portable.specs.Server.{Server, IsReadOn};
 ghost use Rattle.mysql_portable.specs.Quiet.{IsHonest, DecidesWithin};
@@ -16,6 +17,7 @@ ghost use Rattle.mysql_params_core.specs.Given.{Given, empty, positional};
 ghost use Rattle.mysql_binding.specs.BindErrors.{AreEqualBindErrors};
 ghost use Rattle.mysql_binding.specs.BoundPairs.{AreEqualBindPairsErrors};
 ghost use Rattle.mysql_binding.specs.BoundStatements.{statements_with_literals};
+ghost use Rattle.mysql_binding.specs.FirstCause.{first_cause};
 ghost use Rattle.mysql_binding.specs.Isolation.{IsBoundText};
 ghost use Rattle.mysql_binding.specs.Pieces.{pieces, joined_text};
 ghost use Rattle.mysql_binding.specs.Replaced.{AreLiterals, AreTokensOf, with_literal_tokens};
@@ -24,7 +26,7 @@ ghost use Rattle.mysql_binding.specs.StandsAlone.{AllAlone, IsFirstNotAlone, fir
 
 use crate::bind_error::BindError;
 use crate::bind_pairs_error::BindPairsError;
-use crate::binding::ParsedQuery;
+use crate::binding::{ParsedQuery, WideQuery};
 
 /// Whatever texts of the shape of literals stand in the places of a query, the tokens are the
 /// query's, with those of each text in place of its name or mark, and no place is left among them.
@@ -132,6 +134,22 @@ pub fn by_position_is_the_same()
         IsBoundText mode (with_marks ts) (positional bound.values) text }
 {}
 
+/// A query has one bound text for what is given to it.
+pub fn one_bound_text()
+    ensures same { (mode : Bool) (ts : List Token) (given : Given) (a b : List ℕ) →
+        IsBoundText mode ts given a → IsBoundText mode ts given b → a ≡ b }
+{}
+
+/// A query without capitals behind a colon or a name is refused by wide names for the same cause
+/// as by the names of the grammar, and else gives the same text.
+pub fn wide_names_without_capitals()
+    ensures cause { (ts : List Token) (given : Given) → HasNoCapitals ts →
+        first_cause (widened ts) given ≡ first_cause ts given }
+    ensures text { (mode : Bool) (ts : List Token) (given : Given) (a b : List ℕ) →
+        HasNoCapitals ts → IsBoundText mode ts given a → IsBoundText mode (widened ts) given b →
+        a ≡ b }
+{}
+
 /// If one query gives the same text for two sets of parameters, their values have the same contents
 /// at every place.
 pub fn equal_texts_say_the_same()
@@ -176,6 +194,14 @@ pub fn bind_pairs_error_equality(a: &BindPairsError, b: &BindPairsError) -> bool
 pub fn parsed_query_equality(a: &ParsedQuery<'_>, b: &ParsedQuery<'_>) -> bool
     ensures same { IsTrue result ↔ (a.now ≡ b.now) }
     ensures member { result ≡ ⟦<ParsedQuery<'static> as PartialEq>⟧.eq a.now b.now }
+{
+    a == b
+}
+
+/// Queries with wide names are equal if and only if mode and query are.
+pub fn wide_query_equality(a: &WideQuery<'_>, b: &WideQuery<'_>) -> bool
+    ensures same { IsTrue result ↔ (a.now ≡ b.now) }
+    ensures member { result ≡ ⟦<WideQuery<'static> as PartialEq>⟧.eq a.now b.now }
 {
     a == b
 }

@@ -27,4 +27,6 @@ mod stands_alone;
 #[cfg(test)]
 mod steady_text;
 #[cfg(test)]
+mod wide_names;
+#[cfg(test)]
 mod without_backslashes;

@@ -1,6 +1,8 @@
 //! Parameters and refusals as plain data, and what they stand for; the calls that bind.
 use mysql_params::params::{MissingNamedParameterError, Params, ParamsConfusionError, ParamsError};
-use mysql_params::{BindError, ParsedQuery, bind_text, bind_text_in};
+use mysql_params::{
+    BindError, ParsedQuery, WideQuery, bind_text, bind_text_in, bind_wide, bind_wide_in,
+};
 use mysql_values::bytes::Bytes;
 use mysql_values::value::Value;
 use std::alloc::Global;
@@ -146,6 +148,12 @@ pub(crate) enum Spelling {
     BindTextIn(bool),
     /// `bind` of the query that `ParsedQuery::parse_in` parsed with this flag.
     Parsed(bool),
+    /// `bind_wide`.
+    BindWide,
+    /// `bind_wide_in` with this flag.
+    BindWideIn(bool),
+    /// `bind` of the query that `WideQuery::parse_in` parsed with this flag.
+    WideParsed(bool),
 }
 
 /// The calls that bind in the mode in which a backslash escapes.
@@ -170,6 +178,15 @@ pub(crate) const EITHER_MODE: &[Spelling] = &[
     Spelling::Parsed(true),
 ];
 
+/// Every call that binds by wide names.
+pub(crate) const WIDE: &[Spelling] = &[
+    Spelling::BindWide,
+    Spelling::BindWideIn(false),
+    Spelling::BindWideIn(true),
+    Spelling::WideParsed(false),
+    Spelling::WideParsed(true),
+];
+
 impl Spelling {
     /// The name of the call in messages.
     fn name(self) -> &'static str {
@@ -179,6 +196,11 @@ impl Spelling {
             Spelling::BindTextIn(true) => "bind_text_in(true)",
             Spelling::Parsed(false) => "parse_in(false)",
             Spelling::Parsed(true) => "parse_in(true)",
+            Spelling::BindWide => "bind_wide",
+            Spelling::BindWideIn(false) => "bind_wide_in(false)",
+            Spelling::BindWideIn(true) => "bind_wide_in(true)",
+            Spelling::WideParsed(false) => "WideQuery(false)",
+            Spelling::WideParsed(true) => "WideQuery(true)",
         }
     }
 
@@ -193,6 +215,12 @@ impl Spelling {
             Spelling::BindText => bind_text(alloc, query, params),
             Spelling::BindTextIn(mode) => bind_text_in(alloc, query, params, mode),
             Spelling::Parsed(mode) => match ParsedQuery::parse_in(alloc, query, mode) {
+                Ok(parsed) => parsed.bind(alloc, params),
+                Err(error) => Err(BindError::Memory(error)),
+            },
+            Spelling::BindWide => bind_wide(alloc, query, params),
+            Spelling::BindWideIn(mode) => bind_wide_in(alloc, query, params, mode),
+            Spelling::WideParsed(mode) => match WideQuery::parse_in(alloc, query, mode) {
                 Ok(parsed) => parsed.bind(alloc, params),
                 Err(error) => Err(BindError::Memory(error)),
             },

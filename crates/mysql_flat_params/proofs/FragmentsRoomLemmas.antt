@@ -5,8 +5,10 @@ use Rattle.std.specs.List.{Contains}
 use Rattle.std.specs.FinMap.{get}
 use Rattle.std.proofs.Common.{arith, ◌≡◌, inl, inr, ℕ, suc, Bool, false, List, [], ◌∷◌, length, subst, sym, take, ap, ◌∙◌}
 use Rattle.std.proofs.lemmas.List.{length-take-le}
-use Rattle.mysql_named_params.specs.Tokens.{OnTokens, Token}
+use Rattle.mysql_named_params.specs.Tokens.{Token}
 use Rattle.mysql_named_params.specs.Places.{names, marks, has_both}
+use Rattle.mysql_named_params.specs.Reading.{OnTokensIn}
+use Rattle.mysql_named_params.specs.declared.places.Reading.{Reading}
 use Rattle.mysql_binding.specs.FirstCause.{mark_count_differs}
 use Rattle.mysql_binding.specs.StandsAlone.{first_not_alone}
 use Rattle.mysql_fragments.specs.FragmentErrors.{Cause, IsCauseOrMemory, cause_of, cause_of_places, count_cause, fault_cause, faulty, first_cause, first_fault_from, float_cause, float_value, later_cause, literal_float, mark_count, mixed_query, not_alone, not_alone_cause, refused_fragments}
@@ -20,13 +22,13 @@ use Rattle.mysql_binding.specs.TextInRoom.{HasTextOf, IsTextInRoom}
 use Rattle.mysql_binding.specs.declared.binding.room.TextInRoom.{TextInRoom}
 use Rattle.mysql_binding.specs.declared.binding.room.TextInRoom.TheVariants.{Written, TooShort}
 use Rattle.mysql_fragments.specs.Expanded.{IsBoundFragments}
-use Rattle.mysql_flat_params.specs.IntoRoom.{IsMissingName}
+use Rattle.mysql_flat_params.specs.IntoRoom.{IsMissingNameIn}
 use Rattle.mysql_flat_params.specs.Outcomes as values
 use Rattle.mysql_flat_params.specs.Outcomes.{text_outcome}
 use Rattle.mysql_flat_params.specs.declared.outcome.Outcome.{Outcome}
 use Rattle.mysql_flat_params.specs.declared.outcome.Outcome.TheVariants as outcome
 use Rattle.mysql_flat_params.specs.FlatFragments.{IsFormReading}
-use Rattle.mysql_flat_params.specs.FragmentsIntoRoom.{IsBoundForm, IsOutcomeAsValues, IsRefusedFor}
+use Rattle.mysql_flat_params.specs.FragmentsIntoRoom.{IsBoundFormIn, IsOutcomeAsValuesIn, IsRefusedForIn}
 
 -- ---- a missing name is one of the query's
 
@@ -111,43 +113,43 @@ module _ (error : FragmentsError) (cause : Cause) (is : cause_of error ≡ Some 
       cc
   cause_is_first first (inr why) = why.1 ∙ (sym why.2 ∙ is)
 
-  pub refused_for : (mode : Bool) (query form : List ℕ) (given : GivenFragments) → IsFormReading form (Ok given) →
-      OnTokens mode query (λ ts. IsCauseOrMemory (first_cause true ts given) error) → IsRefusedFor mode query form cause
-  refused_for mode query form given reads o = (given, reads, (o.0, o.1, cause_is_first (first_cause true o.0 given) o.2))
+  pub refused_for : (reading : Reading) (query form : List ℕ) (given : GivenFragments) → IsFormReading form (Ok given) →
+      OnTokensIn reading query (λ ts. IsCauseOrMemory (first_cause true ts given) error) → IsRefusedForIn reading query form cause
+  refused_for reading query form given reads o = (given, reads, (o.0, o.1, cause_is_first (first_cause true o.0 given) o.2))
 
 -- the cause of an error that holds a missing name
 pub is_missing : (why : FragmentsError) (held : MissingNamedParameterError) (name : List ℕ) → why ≡ error.Missing held → name ≡ held.0.items →
     cause_of why ≡ Some (refused_fragments (missing name))
 is_missing why held name is name_is = ap cause_of is ∙ ap (λ n. Some (refused_fragments (missing n))) (sym name_is)
 
-pub name_is_there : (mode : Bool) (query name : List ℕ) (error : FragmentsError) → cause_of error ≡ Some (refused_fragments (missing name)) →
-    ((given : GivenFragments) × OnTokens mode query (λ ts. IsCauseOrMemory (first_cause true ts given) error)) →
-    OnTokens mode query (λ ts. Contains (names ts) name)
-name_is_there mode query name error is (given, o) =
+pub name_is_there : (reading : Reading) (query name : List ℕ) (error : FragmentsError) → cause_of error ≡ Some (refused_fragments (missing name)) →
+    ((given : GivenFragments) × OnTokensIn reading query (λ ts. IsCauseOrMemory (first_cause true ts given) error)) →
+    OnTokensIn reading query (λ ts. Contains (names ts) name)
+name_is_there reading query name error is (given, o) =
     (o.0, o.1, missing_is_name o.0 given name (cause_is_first error (refused_fragments (missing name)) is (first_cause true o.0 given) o.2))
 
 -- the outcome tells where it is
-pub missing_told : (mode : Bool) (query form name : List ℕ) (told : Outcome) → IsRefusedFor mode query form (refused_fragments (missing name)) →
-    IsMissingName mode query name told → IsOutcomeAsValues mode query form told
-missing_told mode query form name (outcome.Missing place position len) refused is = (name, refused, is)
-missing_told mode query form name told refused is = absurd is
+pub missing_told : (reading : Reading) (query form name : List ℕ) (told : Outcome) → IsRefusedForIn reading query form (refused_fragments (missing name)) →
+    IsMissingNameIn reading query name told → IsOutcomeAsValuesIn reading query form told
+missing_told reading query form name (outcome.Missing place position len) refused is = (name, refused, is)
+missing_told reading query form name told refused is = absurd is
 
 -- ---- a text in the room
 
-module _ (mode : Bool) (query form : List ℕ) (given : GivenFragments) (reads : IsFormReading form (Ok given)) (old new : List ℕ) (text : TextInRoom)
-    (h : OnTokens mode query (λ ts. IsTextInRoom (IsBoundFragments mode ts given) (HasTextOf (IsBoundFragments mode ts given)) old new text)) where
-  pub bound_told : length new ≡ length old → (outcome : Outcome) → outcome ≡ text_outcome text → IsOutcomeAsValues mode query form outcome
-  bound_told same outcome is = subst (IsOutcomeAsValues mode query form) (sym is) (told text h)
+module _ (reading : Reading) (query form : List ℕ) (given : GivenFragments) (reads : IsFormReading form (Ok given)) (old new : List ℕ) (text : TextInRoom)
+    (h : OnTokensIn reading query (λ ts. IsTextInRoom (IsBoundFragments reading.no_backslash_escape ts given) (HasTextOf (IsBoundFragments reading.no_backslash_escape ts given)) old new text)) where
+  pub bound_told : length new ≡ length old → (outcome : Outcome) → outcome ≡ text_outcome text → IsOutcomeAsValuesIn reading query form outcome
+  bound_told same outcome is = subst (IsOutcomeAsValuesIn reading query form) (sym is) (told text h)
     where
-      told : (text : TextInRoom) → OnTokens mode query (λ ts. IsTextInRoom (IsBoundFragments mode ts given) (HasTextOf (IsBoundFragments mode ts given)) old new text) →
-          IsOutcomeAsValues mode query form (text_outcome text)
+      told : (text : TextInRoom) → OnTokensIn reading query (λ ts. IsTextInRoom (IsBoundFragments reading.no_backslash_escape ts given) (HasTextOf (IsBoundFragments reading.no_backslash_escape ts given)) old new text) →
+          IsOutcomeAsValuesIn reading query form (text_outcome text)
       told (Written len) (ts, is, (fits, bound, rest)) = (take len new, (given, reads, (ts, is, bound)), length-take-le len new (omega (arith, fits, same)))
       told (TooShort len) (ts, is, (short, (bound, is_bound, long), rest)) = (bound, (given, reads, (ts, is, is_bound)), long)
 
-  pub bound_written : (outcome : Outcome) → outcome ≡ text_outcome text → values.IfDone outcome (λ len. IsBoundForm mode query form (take len new))
-  bound_written outcome is = subst (λ o. values.IfDone o (λ len. IsBoundForm mode query form (take len new))) (sym is) (written text h)
+  pub bound_written : (outcome : Outcome) → outcome ≡ text_outcome text → values.IfDone outcome (λ len. IsBoundFormIn reading query form (take len new))
+  bound_written outcome is = subst (λ o. values.IfDone o (λ len. IsBoundFormIn reading query form (take len new))) (sym is) (written text h)
     where
-      written : (text : TextInRoom) → OnTokens mode query (λ ts. IsTextInRoom (IsBoundFragments mode ts given) (HasTextOf (IsBoundFragments mode ts given)) old new text) →
-          values.IfDone (text_outcome text) (λ len. IsBoundForm mode query form (take len new))
+      written : (text : TextInRoom) → OnTokensIn reading query (λ ts. IsTextInRoom (IsBoundFragments reading.no_backslash_escape ts given) (HasTextOf (IsBoundFragments reading.no_backslash_escape ts given)) old new text) →
+          values.IfDone (text_outcome text) (λ len. IsBoundFormIn reading query form (take len new))
       written (Written len) (ts, is, (fits, bound, rest)) = (given, reads, (ts, is, bound))
       written (TooShort len) o = tt

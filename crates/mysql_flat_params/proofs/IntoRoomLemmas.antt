@@ -1,11 +1,12 @@
 -- What an outcome says, by what the calls below returned.
 use Rattle.std.specs.Prelude.{Option, Some, None, Result, Ok, Err, IfSome, IsOk, alloc_error, option_map}
 use Rattle.std.specs.List.{Contains}
-use Rattle.std.proofs.Common.{arith, ◌≡◌, ◌⊎◌, ◌<◌, inl, inr, ℕ, zero, suc, Bool, List, [], ◌∷◌, length, take, refl, sym, ap, ◌∙◌, subst}
-use Rattle.mysql_named_params.specs.Tokens.{OnTokens}
+use Rattle.std.proofs.Common.{arith, ◌≡◌, ◌⊎◌, ◌<◌, inl, inr, ℕ, zero, suc, List, [], ◌∷◌, length, take, refl, sym, ap, ◌∙◌, subst}
 use Rattle.mysql_named_params.specs.Places.{names, marks, HasName, HasMark}
 use Rattle.mysql_named_params.specs.Parsed.{Parsed, parsed}
-use Rattle.mysql_named_params.proofs.TokenListLemmas.{one_token_list}
+use Rattle.mysql_named_params.proofs.ReadingLemmas.{one_reading as one_query_reading}
+use Rattle.mysql_named_params.specs.Reading.{OnTokensIn}
+use Rattle.mysql_named_params.specs.declared.places.Reading.{Reading}
 use Rattle.mysql_params_core.specs.Given.{Given, empty}
 use Rattle.mysql_params_core.specs.Lookup.{missing}
 use Rattle.mysql_params_core.specs.Errors.{lookup_refusal}
@@ -21,7 +22,7 @@ use Rattle.mysql_flat_params.specs.FormErrors.{IsFormRefusal}
 use Rattle.mysql_flat_params.specs.declared.form_error.FormError.{FormError}
 use Rattle.mysql_flat_params.specs.declared.form_error.FormError.TheVariants.{Memory}
 use Rattle.mysql_flat_params.proofs.FormLemmas.{one_reading}
-use Rattle.mysql_flat_params.specs.IntoRoom.{IsBindOutcome, IsInRoom, IsMissingName, IsNamesAnswer, IsNamesOutcome, IsRefusedFor}
+use Rattle.mysql_flat_params.specs.IntoRoom.{IsBindOutcomeIn, IsInRoom, IsMissingNameIn, IsNamesAnswerIn, IsNamesOutcomeIn, IsRefusedForIn}
 use Rattle.mysql_flat_params.specs.NamesAnswer.{names_answer}
 use Rattle.mysql_flat_params.specs.Outcomes.{IfDone}
 use Rattle.mysql_flat_params.specs.declared.outcome.Outcome.{Outcome}
@@ -36,9 +37,9 @@ module _ (error : BindError) (cause : Cause) (is : cause_of error ≡ Some cause
       cc
   cause_is_first first (inr why) = why.1 ∙ (sym why.2 ∙ is)
 
-  pub refused_for : (mode : Bool) (query form : List ℕ) (given : Given) → IsFormReading form (Ok given) →
-      OnTokens mode query (λ ts. IsCauseOrMemory (first_cause ts given) error) → IsRefusedFor mode query form cause
-  refused_for mode query form given reads o = (given, reads, (o.0, o.1, cause_is_first (first_cause o.0 given) o.2))
+  pub refused_for : (reading : Reading) (query form : List ℕ) (given : Given) → IsFormReading form (Ok given) →
+      OnTokensIn reading query (λ ts. IsCauseOrMemory (first_cause ts given) error) → IsRefusedForIn reading query form cause
+  refused_for reading query form given reads o = (given, reads, (o.0, o.1, cause_is_first (first_cause o.0 given) o.2))
 
 -- the cause of an error that holds a missing name
 pub is_missing : (error : BindError) (why : ParamsError) (held : MissingNamedParameterError) (name : List ℕ) →
@@ -49,25 +50,25 @@ is_missing error why held name is why_is name_is =
     ∙ ap (λ n. Some (refused_params (missing n))) (sym name_is))
 
 -- a name that is missing is one of the query's
-pub name_is_there : (mode : Bool) (query name : List ℕ) (error : BindError) → cause_of error ≡ Some (refused_params (missing name)) →
-    ((given : Given) × OnTokens mode query (λ ts. IsCauseOrMemory (first_cause ts given) error)) →
-    OnTokens mode query (λ ts. Contains (names ts) name)
-name_is_there mode query name error is (given, o) =
+pub name_is_there : (reading : Reading) (query name : List ℕ) (error : BindError) → cause_of error ≡ Some (refused_params (missing name)) →
+    ((given : Given) × OnTokensIn reading query (λ ts. IsCauseOrMemory (first_cause ts given) error)) →
+    OnTokensIn reading query (λ ts. Contains (names ts) name)
+name_is_there reading query name error is (given, o) =
     (o.0, o.1, missing_is_name o.0 given name (cause_is_first error (refused_params (missing name)) is (first_cause o.0 given) o.2))
 
-pub name_is_not_there : (mode : Bool) (query name : List ℕ) → OnTokens mode query (λ ts. Contains (names ts) name) →
-    OnTokens mode query (λ ts. Contains (names ts) name → ⊥) → ⊥
-name_is_not_there mode query name o none =
-    let same : o.0 ≡ none.0 = one_token_list mode query o.0 none.0 o.1 none.1 in
+pub name_is_not_there : (reading : Reading) (query name : List ℕ) → OnTokensIn reading query (λ ts. Contains (names ts) name) →
+    OnTokensIn reading query (λ ts. Contains (names ts) name → ⊥) → ⊥
+name_is_not_there reading query name o none =
+    let same : o.0 ≡ none.0 = one_query_reading reading query o.0 none.0 o.1 none.1 in
     none.2 (subst (λ ts. Contains (names ts) name) same o.2)
 
 -- the outcome tells where it is
-pub missing_told : (mode : Bool) (query form name : List ℕ) (told : Option Outcome) → IsRefusedFor mode query form (refused_params (missing name)) →
-    IfSome told (IsMissingName mode query name) → IfSome told (IsBindOutcome mode query form)
-missing_told mode query form name None refused at = tt
-missing_told mode query form name (Some outcome) refused at = here outcome at
+pub missing_told : (reading : Reading) (query form name : List ℕ) (told : Option Outcome) → IsRefusedForIn reading query form (refused_params (missing name)) →
+    IfSome told (IsMissingNameIn reading query name) → IfSome told (IsBindOutcomeIn reading query form)
+missing_told reading query form name None refused at = tt
+missing_told reading query form name (Some outcome) refused at = here outcome at
   where
-    here : (outcome : Outcome) → IsMissingName mode query name outcome → IsBindOutcome mode query form outcome
+    here : (outcome : Outcome) → IsMissingNameIn reading query name outcome → IsBindOutcomeIn reading query form outcome
     here (Missing place position len) at = (name, refused, at)
     here outcome at = absurd at
 
@@ -96,18 +97,18 @@ first_stands form given reads = first_read (length form) 0 empty form (Ok given)
 -- ---- names
 
 -- a query that is not refused has no names or no marks
-pub unmixed : {X E : Type 0} (mode : Bool) (query : List ℕ) (x : X) (e : E) →
-    OnTokens mode query (λ ts. HasName ts × HasMark ts → ◌≡◌ {A = Result X E} (Ok x) (Err e)) →
-    OnTokens mode query (λ ts. HasName ts × HasMark ts → ⊥)
-unmixed {X = X} {E = E} mode query x e o = (o.0, o.1, λ both. never (o.2 both))
+pub unmixed : {X E : Type 0} (reading : Reading) (query : List ℕ) (x : X) (e : E) →
+    OnTokensIn reading query (λ ts. HasName ts × HasMark ts → ◌≡◌ {A = Result X E} (Ok x) (Err e)) →
+    OnTokensIn reading query (λ ts. HasName ts × HasMark ts → ⊥)
+unmixed {X = X} {E = E} reading query x e o = (o.0, o.1, λ both. never (o.2 both))
   where
     never : ◌≡◌ {A = Result X E} (Ok x) (Err e) → ⊥
     never h = cc
 
-pub is_names_answer : (mode : Bool) (query text : List ℕ) (p : Parsed) → OnTokens mode query (λ ts. p ≡ parsed ts) →
-    OnTokens mode query (λ ts. HasName ts × HasMark ts → ⊥) → text ≡ names_answer p → IsNamesAnswer mode query text
-is_names_answer mode query text p o unmixed is =
-    let same : unmixed.0 ≡ o.0 = one_token_list mode query unmixed.0 o.0 unmixed.1 o.1 in
+pub is_names_answer : (reading : Reading) (query text : List ℕ) (p : Parsed) → OnTokensIn reading query (λ ts. p ≡ parsed ts) →
+    OnTokensIn reading query (λ ts. HasName ts × HasMark ts → ⊥) → text ≡ names_answer p → IsNamesAnswerIn reading query text
+is_names_answer reading query text p o unmixed is =
+    let same : unmixed.0 ≡ o.0 = one_query_reading reading query unmixed.0 o.0 unmixed.1 o.1 in
     (o.0, o.1, (subst (λ ts. HasName ts × HasMark ts → ⊥) same unmixed.2, is ∙ ap names_answer o.2))
 
 one_or_more : {A : Type 0} (xs : List A) → (xs ≡ [] → ⊥) → 0 < length xs
@@ -119,23 +120,23 @@ none_at_all zero none = refl
 none_at_all (suc n) none = absurd (none (omega arith))
 
 -- a query that is not refused and has names has no marks
-pub names_alone : (mode : Bool) (query : List ℕ) (p : Parsed) → OnTokens mode query (λ ts. p ≡ parsed ts) →
-    OnTokens mode query (λ ts. HasName ts × HasMark ts → ⊥) → (p.params ≡ [] → ⊥) →
-    OnTokens mode query (λ ts. HasName ts × (marks ts ≡ 0))
-names_alone mode query p o unmixed named =
-    let same : unmixed.0 ≡ o.0 = one_token_list mode query unmixed.0 o.0 unmixed.1 o.1 in
+pub names_alone : (reading : Reading) (query : List ℕ) (p : Parsed) → OnTokensIn reading query (λ ts. p ≡ parsed ts) →
+    OnTokensIn reading query (λ ts. HasName ts × HasMark ts → ⊥) → (p.params ≡ [] → ⊥) →
+    OnTokensIn reading query (λ ts. HasName ts × (marks ts ≡ 0))
+names_alone reading query p o unmixed named =
+    let same : unmixed.0 ≡ o.0 = one_query_reading reading query unmixed.0 o.0 unmixed.1 o.1 in
     let not_both : HasName o.0 × HasMark o.0 → ⊥ = subst (λ ts. HasName ts × HasMark ts → ⊥) same unmixed.2 in
     let name : HasName o.0 = one_or_more (names o.0) (λ none. named (ap (λ q. q.params) o.2 ∙ none)) in
     (o.0, o.1, (name, none_at_all (marks o.0) (λ mark. not_both (name, mark))))
 
-module _ (mode : Bool) (query answer old new : List ℕ) where
-  pub names_told : (outcome : Outcome) → IsNamesAnswer mode query answer → IsInRoom answer old new outcome → IsNamesOutcome mode query outcome
+module _ (reading : Reading) (query answer old new : List ℕ) where
+  pub names_told : (outcome : Outcome) → IsNamesAnswerIn reading query answer → IsInRoom answer old new outcome → IsNamesOutcomeIn reading query outcome
   names_told (Done len) is room = (answer, is, room.0)
   names_told (Room len) is room = (answer, is, room.0)
   names_told outcome is room = absurd room
 
-  pub names_written : (outcome : Outcome) → IsNamesAnswer mode query answer → IsInRoom answer old new outcome →
-      IfDone outcome (λ len. IsNamesAnswer mode query (take len new))
-  names_written (Done len) is room = subst (IsNamesAnswer mode query) (sym room.2) is
+  pub names_written : (outcome : Outcome) → IsNamesAnswerIn reading query answer → IsInRoom answer old new outcome →
+      IfDone outcome (λ len. IsNamesAnswerIn reading query (take len new))
+  names_written (Done len) is room = subst (IsNamesAnswerIn reading query) (sym room.2) is
   names_written (Room len) is room = tt
   names_written outcome is room = absurd room

@@ -1,16 +1,21 @@
 -- Tokens with marks in place of their names, and those names, at the first place.
 use Rattle.std.proofs.Common.{◌≡◌, ℕ, ◌+◌, ◌*◌, ◌^◌, ◌<◌, ◌≤◌, List, [], ◌∷◌, ◌++◌, length, drop, Some, refl, ap, ◌∙◌, arith, ltb, length-append}
-use Rattle.std.specs.Prelude.{Bool}
+use Rattle.std.specs.List.{All}
+use Rattle.std.proofs.lemmas.List.Elements.{All-head}
 use Rattle.std.proofs.lemmas.Bool.{cond_both, ltb-false}
 use Rattle.mysql_wire_part.specs.Lenenc.{length_spelling, lenenc_spelling}
 use Rattle.mysql_named_params.specs.Bytes.{question_mark}
-use Rattle.mysql_named_params.specs.Tokens.{Token, IsToken, bytes_of, text_of, Name, Mark}
-use Rattle.mysql_named_params.specs.Places.{place_count, with_marks}
+use Rattle.mysql_named_params.specs.Tokens.{Token, bytes_of, text_of, Name, Mark}
+use Rattle.mysql_named_params.specs.Places.{names, place_count, with_marks}
 use Rattle.mysql_named_params.specs.FirstPlace.{place_kind}
 use Rattle.mysql_named_params.specs.declared.places.PlaceKind.{PlaceKind}
 use Rattle.mysql_named_params.specs.declared.places.PlaceKind.TheVariants as kind
+use Rattle.mysql_named_params.specs.WideNames.{IsWideName}
 use Rattle.mysql_named_params.proofs.FoundPlaceLemmas.{names-no_place}
+use Rattle.mysql_named_params.proofs.ReparsedLemmas.{names_in_reading}
 use Rattle.mysql_named_params.proofs.TokenRowLemmas.{text_of-append, with_marks-append, with_marks-nameless}
+use Rattle.mysql_named_params.specs.Reading.{IsTokensIn}
+use Rattle.mysql_named_params.specs.declared.places.Reading.{Reading}
 
 -- a mark in place of the first name or mark
 pub text-with_marks_at_place : (front : List Token) (place : Token) (k : PlaceKind) (back : List Token) →
@@ -32,13 +37,19 @@ length-with_marks_at_place front place k back no_place is =
     ap length (text-with_marks_at_place front place k back no_place is)
     ∙ (length-append (text_of front) (question_mark ∷ text_of (with_marks back)) ∙ omega arith)
 
+wide_has_byte : (name : List ℕ) → IsWideName name → 0 < length name
+wide_has_byte [] is = absurd is
+wide_has_byte (b ∷ bs) is = omega arith
+
 -- a name has a byte
-pub name_has_byte : (mode : Bool) (t : Token) (rest : List ℕ) → place_kind t ≡ Some kind.Name →
-    IsToken mode t rest → 0 < length (drop 1 (bytes_of t))
-name_has_byte mode (Name []) rest e is = absurd is.0
-name_has_byte mode (Name (b ∷ bs)) rest e is = omega arith
-name_has_byte mode Mark rest e is = cc
-name_has_byte mode t rest e is = cc
+pub name_has_byte : (reading : Reading) (text : List ℕ) (t : Token) (back : List Token) → place_kind t ≡ Some kind.Name →
+    IsTokensIn reading text (t ∷ back) → 0 < length (drop 1 (bytes_of t))
+name_has_byte reading text t back e is = by t e (names_in_reading reading text (t ∷ back) is)
+  where
+    by : (t : Token) → place_kind t ≡ Some kind.Name → All IsWideName (names (t ∷ back)) → 0 < length (drop 1 (bytes_of t))
+    by (Name name) e all = wide_has_byte name (All-head IsWideName name (names back) all)
+    by Mark e all = cc
+    by t e all = cc
 
 -- ---- lengths of length-encoded strings
 

@@ -1,29 +1,29 @@
 -- The places of a query that are searched for a name, and those that are left.
-use Rattle.std.specs.Prelude.{Bool}
 use Rattle.std.specs.List.{Contains}
 use Rattle.std.proofs.Common.{◌≡◌, inl, inr, ℕ, zero, suc, ◌+◌, ◌-◌, ◌≤◌, List, [], ◌∷◌, ◌++◌, length, take, drop, Some, refl, sym, ap, ◌∙◌, subst, arith, append_assoc, append-nil, length-drop, length-append}
 use Rattle.std.proofs.lemmas.List.{length-take-le}
 use Rattle.std.proofs.lemmas.List.Elements.{Contains-append_cases}
-use Rattle.mysql_named_params.specs.Tokens.{Token, bytes_of, text_of, IsTokens, OnTokens, Name, Mark}
+use Rattle.mysql_named_params.specs.Tokens.{Token, bytes_of, text_of, Name, Mark}
 use Rattle.mysql_named_params.specs.Places.{names, place_count}
 use Rattle.mysql_named_params.specs.FirstPlace.{place_kind, IsFirstPlace}
 use Rattle.mysql_named_params.specs.declared.places.FoundPlace.{FoundPlace}
 use Rattle.mysql_named_params.specs.declared.places.PlaceKind.{PlaceKind}
 use Rattle.mysql_named_params.specs.declared.places.PlaceKind.TheVariants as kind
-use Rattle.mysql_named_params.proofs.TokenListLemmas.{one_token_list}
-use Rattle.mysql_named_params.proofs.TokensExistLemmas.{tokens_exist}
 use Rattle.mysql_named_params.proofs.TokenRowLemmas.{text_of-append, names-append, place_count-append}
-use Rattle.mysql_named_params.proofs.FoundPlaceLemmas.{IsPartedAt, parted, names-no_place}
+use Rattle.mysql_named_params.proofs.FoundPlaceLemmas.{IsPartedIn, parted_in, names-no_place}
+use Rattle.mysql_named_params.specs.Reading.{IsTokensIn, OnTokensIn}
+use Rattle.mysql_named_params.specs.declared.places.Reading.{Reading}
+use Rattle.mysql_named_params.proofs.ReadingLemmas.{one_reading, reading_exists}
 use Rattle.mysql_flat_params.specs.NamePlace.{IsFirstOfName}
 
 -- the tokens before the bytes that are left don't have the name
-pub record SearchedSoFar (mode : Bool) (query rest name : List ℕ) (place : ℕ) : Type 0 where
+pub record SearchedSoFar (reading : Reading) (query rest name : List ℕ) (place : ℕ) : Type 0 where
   pub all : List Token
-  pub tokens : IsTokens mode query all
+  pub tokens : IsTokensIn reading query all
   pub front : List Token
   pub left : List Token
   pub split : front ++ left ≡ all
-  pub rest_tokens : IsTokens mode rest left
+  pub rest_tokens : IsTokensIn reading rest left
   pub without : Contains (names front) name → ⊥
   pub number : place_count front ≡ place
   pub text : length (text_of front) + length rest ≡ length query
@@ -33,9 +33,9 @@ pub record SearchedSoFar (mode : Bool) (query rest name : List ℕ) (place : ℕ
 nothing_in : {X : Type 0} (x : X) → Contains [] x → ⊥
 nothing_in x c = omega (arith, c.1)
 
-pub searched_none : (mode : Bool) (query name : List ℕ) → SearchedSoFar mode query query name 0
-searched_none mode query name =
-    let ts = tokens_exist mode query in
+pub searched_none : (reading : Reading) (query name : List ℕ) → SearchedSoFar reading query query name 0
+searched_none reading query name =
+    let ts = reading_exists reading query in
     record { all = ts.0; tokens = ts.1; front = []; left = ts.0; split = refl; rest_tokens = ts.1; without = nothing_in name; number = refl; text = omega arith; room = omega arith }
 
 one_place : (t : Token) (k : PlaceKind) → place_kind t ≡ Some k → place_count (t ∷ []) ≡ 1
@@ -65,20 +65,20 @@ other_name t name other c = nothing_in name c
 neither : (xs ys : List (List ℕ)) (name : List ℕ) → (Contains xs name → ⊥) → (Contains ys name → ⊥) → Contains (xs ++ ys) name → ⊥
 neither xs ys name no_x no_y c = elim (Contains-append_cases xs ys name c) [ inl x ↦ no_x x | inr y ↦ no_y y ]
 
-module _ (mode : Bool) (query rest name : List ℕ) (place : ℕ) (s : SearchedSoFar mode query rest name place) where
+module _ (reading : Reading) (query rest name : List ℕ) (place : ℕ) (s : SearchedSoFar reading query rest name place) where
   -- if no place is left, the query doesn't have the name
-  pub searched_all : OnTokens mode rest (λ us. place_count us ≡ 0) →
-      OnTokens mode query (λ ts. Contains (names ts) name → ⊥)
+  pub searched_all : OnTokensIn reading rest (λ us. place_count us ≡ 0) →
+      OnTokensIn reading query (λ ts. Contains (names ts) name → ⊥)
   searched_all o =
-      let same : o.0 ≡ s.left = one_token_list mode rest o.0 s.left o.1 s.rest_tokens in
+      let same : o.0 ≡ s.left = one_reading reading rest o.0 s.left o.1 s.rest_tokens in
       let none : names s.left ≡ [] = names-no_place s.left (sym (ap place_count same) ∙ o.2) in
       let front_alone : names s.all ≡ names s.front = ap names (sym s.split) ∙ (names-append s.front s.left ∙ (ap (λ x. names s.front ++ x) none ∙ append-nil (names s.front))) in
       (s.all, s.tokens, λ c. s.without (subst (λ x. Contains x name) front_alone c))
 
-  module _ (found : FoundPlace) (o : OnTokens mode rest (λ us. IsFirstPlace us found)) (bytes after : List ℕ)
+  module _ (found : FoundPlace) (o : OnTokensIn reading rest (λ us. IsFirstPlace us found)) (bytes after : List ℕ)
       (bytes_are : bytes ≡ take found.len (drop found.before rest)) (after_is : after ≡ drop (found.before + found.len) rest) where
-    abbrev p : IsPartedAt mode rest s.left found
-    p = parted mode rest s.left found s.rest_tokens o
+    abbrev p : IsPartedIn reading rest s.left found
+    p = parted_in reading rest s.left found s.rest_tokens o
 
     abbrev before : List Token
     before = s.front ++ p.front
@@ -108,7 +108,7 @@ module _ (mode : Bool) (query rest name : List ℕ) (place : ℕ) (s : SearchedS
 
     -- this place is the name
     pub searched_found : (position : ℕ) → found.kind ≡ kind.Name → drop 1 bytes ≡ name → position ≡ length query - length rest + found.before + 1 →
-        OnTokens mode query (λ ts. IsFirstOfName ts name place position)
+        OnTokensIn reading query (λ ts. IsFirstOfName ts name place position)
     searched_found position is_name same position_is =
         let this : p.place ≡ Name name = name_is p.place (p.kind_is ∙ ap Some is_name) ∙ ap (λ x. Name x) (ap (drop 1) (sym place_bytes) ∙ same) in (
           s.all,
@@ -124,14 +124,14 @@ module _ (mode : Bool) (query rest name : List ℕ) (place : ℕ) (s : SearchedS
         )
 
     -- this place is not
-    pub searched_more : ((found.kind ≡ kind.Name) × (drop 1 bytes ≡ name) → ⊥) → SearchedSoFar mode query after name (place + 1)
+    pub searched_more : ((found.kind ≡ kind.Name) × (drop 1 bytes ≡ name) → ⊥) → SearchedSoFar reading query after name (place + 1)
     searched_more other = record {
       all = s.all;
       tokens = s.tokens;
       front = before ++ p.place ∷ [];
       left = p.back;
       split = append_assoc before (p.place ∷ []) p.back ∙ split;
-      rest_tokens = subst (λ x. IsTokens mode x p.back) (sym after_is) p.rest_tokens;
+      rest_tokens = subst (λ x. IsTokensIn reading x p.back) (sym after_is) p.rest_tokens;
       without = subst (λ x. Contains x name → ⊥) (sym (names-append before (p.place ∷ [])))
           (neither (names before) (names (p.place ∷ [])) name without
           (other_name p.place name (λ h. other (some_same (sym p.kind_is ∙ h.0), ap (drop 1) place_bytes ∙ h.1))));

@@ -1,21 +1,30 @@
 -- A query with marks in place of its names, and those names, that are written so far.
-use Rattle.std.specs.Prelude.{Bool}
-use Rattle.std.proofs.Common.{◌≡◌, ℕ, true, false, ◌+◌, ◌-◌, ◌≤◌, ◌<◌, List, [], ◌∷◌, ◌++◌, length, take, drop, Some, refl, sym, ap, ◌∙◌, subst, arith, append_assoc, append-nil, length-append, take_all, take_at}
+use Rattle.std.specs.Prelude.{Bool, None}
+use Rattle.std.specs.List.{list_all}
+use Rattle.std.proofs.Common.{◌≡◌, ◌==◌, ℕ, true, not, get_or, ◌+◌, ◌-◌, ◌≤◌, ◌<◌, List, [], ◌∷◌, ◌++◌, length, take, drop, Some, refl, sym, ap, ◌∙◌, subst, arith, append_assoc, append-nil, length-append, take_all, take_at}
+use Rattle.std.proofs.lemmas.Bool.{and_parts}
 use Rattle.std.proofs.lemmas.List.{length-take-le, nil_from_length}
+use Rattle.std.proofs.lemmas.List.Elements.{All-from_get_or}
+use Rattle.std.proofs.lemmas.List.Folds.{list_all-append}
+use Rattle.std.proofs.lemmas.List.Sums.{list_all-from_AllPass}
+use Rattle.memchr.specs.Find.{IsFirstByte, is_byte}
 use Rattle.mysql_wire_part.specs.Lenenc.{length_spelling, lenenc_spelling}
-use Rattle.mysql_named_params.specs.Bytes.{question_mark}
-use Rattle.mysql_named_params.specs.Tokens.{Token, IsTokens, OnTokens, text_of}
+use Rattle.mysql_named_params.specs.Bytes.{colon, question_mark}
+use Rattle.mysql_named_params.specs.Tokens.{Token, bytes_of, text_of, Name, Mark}
 use Rattle.mysql_named_params.specs.Places.{names, marks, place_count, with_marks, HasName, HasMark}
 use Rattle.mysql_named_params.specs.Parsed.{parsed}
 use Rattle.mysql_named_params.specs.FirstPlace.{place_kind, IsFirstPlace}
 use Rattle.mysql_named_params.specs.declared.places.FoundPlace.{FoundPlace}
 use Rattle.mysql_named_params.specs.declared.places.PlaceKind.TheVariants as kind
-use Rattle.mysql_named_params.proofs.TokenListLemmas.{one_token_list}
 use Rattle.mysql_named_params.proofs.TokenRowLemmas.{place_count-sum, with_marks-nameless}
+use Rattle.mysql_named_params.proofs.ClosingQuoteLemmas.{fails}
 use Rattle.mysql_named_params.proofs.RenameLemmas.{name_found}
-use Rattle.mysql_named_params.proofs.SurveyLemmas.{AreTold, told_no_mark}
-use Rattle.mysql_named_params.proofs.FoundPlaceLemmas.{IsPartedAt, parted, names_at_name, marks_at_name}
-use Rattle.mysql_flat_params.specs.IntoRoom.{IsInRoom, IsInRoomOrMemory, IsNamesAnswer, IsNamesOutcome}
+use Rattle.mysql_named_params.proofs.SurveyLemmas.{is_other}
+use Rattle.mysql_named_params.proofs.FoundPlaceLemmas.{IsPartedIn, parted_in, names_at_name, marks_after, marks_at_name}
+use Rattle.mysql_named_params.specs.Reading.{IsTokensIn, OnTokensIn}
+use Rattle.mysql_named_params.specs.declared.places.Reading.{Reading}
+use Rattle.mysql_named_params.proofs.ReadingLemmas.{one_reading, reading_text}
+use Rattle.mysql_flat_params.specs.IntoRoom.{IsInRoom, IsInRoomOrMemory, IsNamesAnswerIn, IsNamesOutcomeIn}
 use Rattle.mysql_flat_params.specs.NamesAnswer.{lenenc_row, names_answer}
 use Rattle.mysql_flat_params.specs.NamesSurvey.{IsNamesSurvey}
 use Rattle.mysql_flat_params.specs.declared.names_room.NamesSurvey.{NamesSurvey}
@@ -25,17 +34,17 @@ use Rattle.mysql_flat_params.specs.declared.outcome.Outcome.TheVariants.{Done, R
 use Rattle.mysql_flat_params.proofs.MarkedLemmas.{text-with_marks_at_place}
 
 -- text and row are gathered, except for what is left
-pub record GatheredSoFar (mode : Bool) (query rest text row : List ℕ) : Type 0 where
+pub record GatheredSoFar (reading : Reading) (query rest text row : List ℕ) : Type 0 where
   pub all : List Token
-  pub tokens : IsTokens mode query all
+  pub tokens : IsTokensIn reading query all
   pub left : List Token
-  pub rest_tokens : IsTokens mode rest left
+  pub rest_tokens : IsTokensIn reading rest left
   pub no_marks : marks left ≡ 0
   pub text_is : text ++ text_of (with_marks left) ≡ text_of (with_marks all)
   pub row_is : row ++ lenenc_row (names left) ≡ lenenc_row (names all)
 
-pub gathered_none : (mode : Bool) (query text row : List ℕ) → OnTokens mode query (λ ts. marks ts ≡ 0) → text ≡ [] → row ≡ [] → GatheredSoFar mode query query text row
-gathered_none mode query text row o no_text no_row = record {
+pub gathered_none : (reading : Reading) (query text row : List ℕ) → OnTokensIn reading query (λ ts. marks ts ≡ 0) → text ≡ [] → row ≡ [] → GatheredSoFar reading query query text row
+gathered_none reading query text row o no_text no_row = record {
   all = o.0;
   tokens = o.1;
   left = o.0;
@@ -45,14 +54,14 @@ gathered_none mode query text row o no_text no_row = record {
   row_is = ap (λ x. x ++ lenenc_row (names o.0)) no_row;
 }
 
-module _ (mode : Bool) (query rest text row : List ℕ) (s : GatheredSoFar mode query rest text row) where
-  module _ (found : FoundPlace) (o : OnTokens mode rest (λ us. IsFirstPlace us found)) (run place after name : List ℕ) (run_is : run ≡ take found.before rest)
+module _ (reading : Reading) (query rest text row : List ℕ) (s : GatheredSoFar reading query rest text row) where
+  module _ (found : FoundPlace) (o : OnTokensIn reading rest (λ us. IsFirstPlace us found)) (run place after name : List ℕ) (run_is : run ≡ take found.before rest)
       (place_is : place ≡ take found.len (drop found.before rest)) (after_is : after ≡ drop (found.before + found.len) rest) (name_is : name ≡ drop 1 place) where
-    abbrev g : IsPartedAt mode rest s.left found
-    g = parted mode rest s.left found s.rest_tokens o
+    abbrev g : IsPartedIn reading rest s.left found
+    g = parted_in reading rest s.left found s.rest_tokens o
 
     is_name : place_kind g.place ≡ Some kind.Name
-    is_name = name_found _ rest s.left found s.no_marks g
+    is_name = name_found reading rest s.left found s.no_marks g
 
     text_next : text_of (with_marks s.left) ≡ run ++ question_mark ∷ text_of (with_marks g.back)
     text_next =
@@ -65,12 +74,12 @@ module _ (mode : Bool) (query rest text row : List ℕ) (s : GatheredSoFar mode 
         ap lenenc_row (ap names g.tokens_are ∙ (names_at_name g.front g.place g.back g.no_place is_name
         ∙ ap (λ n. n ∷ names g.back) (ap (drop 1) (g.place_bytes ∙ sym place_is) ∙ sym name_is)))
 
-    pub gathered_more : (text' row' : List ℕ) → text' ≡ (text ++ run) ++ question_mark ∷ [] → row' ≡ row ++ lenenc_spelling name → GatheredSoFar mode query after text' row'
+    pub gathered_more : (text' row' : List ℕ) → text' ≡ (text ++ run) ++ question_mark ∷ [] → row' ≡ row ++ lenenc_spelling name → GatheredSoFar reading query after text' row'
     gathered_more text' row' text_more row_more = record {
       all = s.all;
       tokens = s.tokens;
       left = g.back;
-      rest_tokens = subst (λ x. IsTokens mode x g.back) (sym after_is) g.rest_tokens;
+      rest_tokens = subst (λ x. IsTokensIn reading x g.back) (sym after_is) g.rest_tokens;
       no_marks = sym (marks_at_name g.front g.place g.back g.no_place is_name) ∙ (ap marks (sym g.tokens_are) ∙ s.no_marks);
       text_is =
           ap (λ x. x ++ text_of (with_marks g.back)) text_more
@@ -84,12 +93,12 @@ module _ (mode : Bool) (query rest text row : List ℕ) (s : GatheredSoFar mode 
     }
 
   -- if no place is left, the rest follows as it is, and the row is whole
-  pub gathered_all : OnTokens mode rest (λ us. place_count us ≡ 0) → (text' : List ℕ) → text' ≡ text ++ rest →
-      OnTokens mode query (λ ts. (text' ≡ text_of (with_marks ts)) × (row ≡ lenenc_row (names ts)))
+  pub gathered_all : OnTokensIn reading rest (λ us. place_count us ≡ 0) → (text' : List ℕ) → text' ≡ text ++ rest →
+      OnTokensIn reading query (λ ts. (text' ≡ text_of (with_marks ts)) × (row ≡ lenenc_row (names ts)))
   gathered_all o text' text_more =
-      let same : o.0 ≡ s.left = one_token_list mode rest o.0 s.left o.1 s.rest_tokens in
+      let same : o.0 ≡ s.left = one_reading reading rest o.0 s.left o.1 s.rest_tokens in
       let none : length (names s.left) ≡ 0 = omega (arith, ap place_count same, o.2, place_count-sum s.left) in
-      let rest_is : rest ≡ text_of (with_marks s.left) = sym (ap text_of (with_marks-nameless s.left none) ∙ s.rest_tokens.text) in
+      let rest_is : rest ≡ text_of (with_marks s.left) = sym (ap text_of (with_marks-nameless s.left none) ∙ reading_text reading rest s.left s.rest_tokens) in
       let no_row : lenenc_row (names s.left) ≡ [] = ap lenenc_row (nil_from_length (names s.left) none) in (
         s.all,
         s.tokens,
@@ -100,11 +109,11 @@ module _ (mode : Bool) (query rest text row : List ℕ) (s : GatheredSoFar mode 
       )
 
 -- text and row are written as far as the indices, and have room for what is left
-pub record NamedSoFar (mode : Bool) (query rest text row : List ℕ) (text_at row_at : ℕ) : Type 0 where
+pub record NamedSoFar (reading : Reading) (query rest text row : List ℕ) (text_at row_at : ℕ) : Type 0 where
   pub all : List Token
-  pub tokens : IsTokens mode query all
+  pub tokens : IsTokensIn reading query all
   pub left : List Token
-  pub rest_tokens : IsTokens mode rest left
+  pub rest_tokens : IsTokensIn reading rest left
   pub no_marks : marks left ≡ 0
   pub text_is : take text_at text ++ text_of (with_marks left) ≡ text_of (with_marks all)
   pub row_is : take row_at row ++ lenenc_row (names left) ≡ lenenc_row (names all)
@@ -113,12 +122,12 @@ pub record NamedSoFar (mode : Bool) (query rest text row : List ℕ) (text_at ro
   pub text_in_range : text_at ≤ length text
   pub row_in_range : row_at ≤ length row
 
-pub named_none : (mode : Bool) (query text row : List ℕ) → OnTokens mode query (λ ts. marks ts ≡ 0) →
-    OnTokens mode query (λ ts. length text ≡ length (text_of (with_marks ts))) →
-    OnTokens mode query (λ ts. length row ≡ length (lenenc_row (names ts))) → NamedSoFar mode query query text row 0 0
-named_none mode query text row o t r =
-    let same_t : t.0 ≡ o.0 = one_token_list mode query t.0 o.0 t.1 o.1 in
-    let same_r : r.0 ≡ o.0 = one_token_list mode query r.0 o.0 r.1 o.1 in
+pub named_none : (reading : Reading) (query text row : List ℕ) → OnTokensIn reading query (λ ts. marks ts ≡ 0) →
+    OnTokensIn reading query (λ ts. length text ≡ length (text_of (with_marks ts))) →
+    OnTokensIn reading query (λ ts. length row ≡ length (lenenc_row (names ts))) → NamedSoFar reading query query text row 0 0
+named_none reading query text row o t r =
+    let same_t : t.0 ≡ o.0 = one_reading reading query t.0 o.0 t.1 o.1 in
+    let same_r : r.0 ≡ o.0 = one_reading reading query r.0 o.0 r.1 o.1 in
     record {
       all = o.0;
       tokens = o.1;
@@ -133,7 +142,7 @@ named_none mode query text row o t r =
       row_in_range = omega arith;
     }
 
-module _ (mode : Bool) (query rest text row : List ℕ) (text_at row_at : ℕ) (s : NamedSoFar mode query rest text row text_at row_at) where
+module _ (reading : Reading) (query rest text row : List ℕ) (text_at row_at : ℕ) (s : NamedSoFar reading query rest text row text_at row_at) where
   text_filled : length (take text_at text) ≡ text_at
   text_filled = length-take-le text_at text s.text_in_range
 
@@ -146,13 +155,13 @@ module _ (mode : Bool) (query rest text row : List ℕ) (text_at row_at : ℕ) (
   row_room : row_at + length (lenenc_row (names s.left)) ≡ length row
   row_room = omega (arith, row_filled, ap length s.row_is, length-append (take row_at row) (lenenc_row (names s.left)), s.row_length)
 
-  module _ (found : FoundPlace) (o : OnTokens mode rest (λ us. IsFirstPlace us found)) (run place after name : List ℕ) (run_is : run ≡ take found.before rest)
+  module _ (found : FoundPlace) (o : OnTokensIn reading rest (λ us. IsFirstPlace us found)) (run place after name : List ℕ) (run_is : run ≡ take found.before rest)
       (place_is : place ≡ take found.len (drop found.before rest)) (after_is : after ≡ drop (found.before + found.len) rest) (name_is : name ≡ drop 1 place) where
-    abbrev p : IsPartedAt mode rest s.left found
-    p = parted mode rest s.left found s.rest_tokens o
+    abbrev p : IsPartedIn reading rest s.left found
+    p = parted_in reading rest s.left found s.rest_tokens o
 
     is : place_kind p.place ≡ Some kind.Name
-    is = name_found _ rest s.left found s.no_marks p
+    is = name_found reading rest s.left found s.no_marks p
 
     text_left : text_of (with_marks s.left) ≡ run ++ question_mark ∷ text_of (with_marks p.back)
     text_left =
@@ -183,12 +192,12 @@ module _ (mode : Bool) (query rest text row : List ℕ) (text_at row_at : ℕ) (
 
       pub named_more : (text'' row' : List ℕ) (at'' row_at' : ℕ) → at'' ≡ at' + 1 → length text'' ≡ length text' → take at'' text'' ≡ take at' text' ++ question_mark ∷ [] →
           row_at' ≡ row_at + length (lenenc_spelling name) → length row' ≡ length row → take row_at' row' ≡ take row_at row ++ lenenc_spelling name →
-          NamedSoFar mode query after text'' row' at'' row_at'
+          NamedSoFar reading query after text'' row' at'' row_at'
       named_more text'' row' at'' row_at' at''_is same' marked row_at'_is same_row row_written = record {
         all = s.all;
         tokens = s.tokens;
         left = p.back;
-        rest_tokens = subst (λ x. IsTokens mode x p.back) (sym after_is) p.rest_tokens;
+        rest_tokens = subst (λ x. IsTokensIn reading x p.back) (sym after_is) p.rest_tokens;
         no_marks = sym (marks_at_name p.front p.place p.back p.no_place is) ∙ (ap marks (sym p.tokens_are) ∙ s.no_marks);
         text_is =
             ap (λ x. x ++ text_of (with_marks p.back)) (marked ∙ ap (λ x. x ++ question_mark ∷ []) written)
@@ -206,20 +215,20 @@ module _ (mode : Bool) (query rest text row : List ℕ) (text_at row_at : ℕ) (
       }
 
   -- if no place is left, the rest follows as it is, and the row is written
-  module _ (o : OnTokens mode rest (λ us. place_count us ≡ 0)) where
+  module _ (o : OnTokensIn reading rest (λ us. place_count us ≡ 0)) where
     nameless : length (names s.left) ≡ 0
     nameless =
-        let same : o.0 ≡ s.left = one_token_list mode rest o.0 s.left o.1 s.rest_tokens in
+        let same : o.0 ≡ s.left = one_reading reading rest o.0 s.left o.1 s.rest_tokens in
         omega (arith, ap place_count same, o.2, place_count-sum s.left)
 
     rest_text : text_of (with_marks s.left) ≡ rest
-    rest_text = ap text_of (with_marks-nameless s.left nameless) ∙ s.rest_tokens.text
+    rest_text = ap text_of (with_marks-nameless s.left nameless) ∙ reading_text reading rest s.left s.rest_tokens
 
     pub rest_fits : text_at + length rest ≡ length text
     rest_fits = omega (arith, text_room, ap length rest_text)
 
     pub text_named : (text' : List ℕ) (at' : ℕ) → at' ≡ text_at + length rest → length text' ≡ length text → take at' text' ≡ take text_at text ++ rest →
-        OnTokens mode query (λ ts. text' ≡ text_of (with_marks ts))
+        OnTokensIn reading query (λ ts. text' ≡ text_of (with_marks ts))
     text_named text' at' at'_is same written = (
       s.all,
       s.tokens,
@@ -227,7 +236,7 @@ module _ (mode : Bool) (query rest text row : List ℕ) (text_at row_at : ℕ) (
           ∙ (written ∙ (ap (λ x. take text_at text ++ x) (sym rest_text) ∙ s.text_is)),
     )
 
-    pub row_named : OnTokens mode query (λ ts. row ≡ lenenc_row (names ts))
+    pub row_named : OnTokensIn reading query (λ ts. row ≡ lenenc_row (names ts))
     row_named =
         let none : lenenc_row (names s.left) ≡ [] = ap lenenc_row (nil_from_length (names s.left) nameless) in (
           s.all,
@@ -239,11 +248,11 @@ module _ (mode : Bool) (query rest text row : List ℕ) (text_at row_at : ℕ) (
 -- ---- the answer
 
 -- without names it is the query
-pub nameless_answer : (mode : Bool) (query : List ℕ) (survey : NamesSurvey) → OnTokens mode query (IsNamesSurvey survey) → survey.names ≡ 0 →
-    OnTokens mode query (λ ts. lenenc_spelling query ≡ names_answer (parsed ts))
-nameless_answer mode query survey o none =
+pub nameless_answer : (reading : Reading) (query : List ℕ) (survey : NamesSurvey) → OnTokensIn reading query (IsNamesSurvey survey) → survey.names ≡ 0 →
+    OnTokensIn reading query (λ ts. lenenc_spelling query ≡ names_answer (parsed ts))
+nameless_answer reading query survey o none =
     let nameless : length (names o.0) ≡ 0 = sym o.2.0 ∙ none in
-    let text : text_of (with_marks o.0) ≡ query = ap text_of (with_marks-nameless o.0 nameless) ∙ o.1.text in (
+    let text : text_of (with_marks o.0) ≡ query = ap text_of (with_marks-nameless o.0 nameless) ∙ reading_text reading query o.0 o.1 in (
       o.0,
       o.1,
       sym (append-nil (lenenc_spelling query))
@@ -251,7 +260,7 @@ nameless_answer mode query survey o none =
           ∙ ap (λ x. lenenc_spelling x ++ lenenc_row (names o.0)) (sym text)),
     )
 
-module _ (mode : Bool) (query : List ℕ) (survey : NamesSurvey) (o : OnTokens mode query (IsNamesSurvey survey)) (marked : survey.marked_len ≤ length query) (end : ℕ)
+module _ (reading : Reading) (query : List ℕ) (survey : NamesSurvey) (o : OnTokensIn reading query (IsNamesSurvey survey)) (marked : survey.marked_len ≤ length query) (end : ℕ)
     (end_is : end ≡ length (lenenc_spelling (take survey.marked_len query))) where
   abbrev n : ℕ
   n = survey.marked_len
@@ -267,19 +276,19 @@ module _ (mode : Bool) (query : List ℕ) (survey : NamesSurvey) (o : OnTokens m
       length-append (lenenc_spelling (text_of (with_marks o.0))) (lenenc_row (names o.0))
       ∙ omega (arith, length-append (length_spelling (length (text_of (with_marks o.0)))) (text_of (with_marks o.0)), ap (λ k. length (length_spelling k)) o.2.2, o.2.2, o.2.3, end_length)
 
-  pub slice_length : (slice : List ℕ) → OnTokens mode query (λ ts. length slice ≡ length (names_answer (parsed ts))) → length slice ≡ end + survey.row_len
+  pub slice_length : (slice : List ℕ) → OnTokensIn reading query (λ ts. length slice ≡ length (names_answer (parsed ts))) → length slice ≡ end + survey.row_len
   slice_length slice exact =
-      exact.2 ∙ (ap (λ ts. length (names_answer (parsed ts))) (one_token_list mode query exact.0 o.0 exact.1 o.1) ∙ answer_length)
+      exact.2 ∙ (ap (λ ts. length (names_answer (parsed ts))) (one_reading reading query exact.0 o.0 exact.1 o.1) ∙ answer_length)
 
-  pub row_length : (row : List ℕ) → length row ≡ survey.row_len → OnTokens mode query (λ ts. length row ≡ length (lenenc_row (names ts)))
+  pub row_length : (row : List ℕ) → length row ≡ survey.row_len → OnTokensIn reading query (λ ts. length row ≡ length (lenenc_row (names ts)))
   row_length row is = (o.0, o.1, is ∙ o.2.3)
 
   pub joined_answer : (head text row : List ℕ) → head ≡ take (end - n) (lenenc_spelling (take n query)) →
-      OnTokens mode query (λ ts. text ≡ text_of (with_marks ts)) → OnTokens mode query (λ ts. row ≡ lenenc_row (names ts)) →
-      OnTokens mode query (λ ts. (head ++ text) ++ row ≡ names_answer (parsed ts))
+      OnTokensIn reading query (λ ts. text ≡ text_of (with_marks ts)) → OnTokensIn reading query (λ ts. row ≡ lenenc_row (names ts)) →
+      OnTokensIn reading query (λ ts. (head ++ text) ++ row ≡ names_answer (parsed ts))
   joined_answer head text row head_is t r =
-      let text_is : text ≡ text_of (with_marks o.0) = t.2 ∙ ap (λ ts. text_of (with_marks ts)) (one_token_list mode query t.0 o.0 t.1 o.1) in
-      let row_is : row ≡ lenenc_row (names o.0) = r.2 ∙ ap (λ ts. lenenc_row (names ts)) (one_token_list mode query r.0 o.0 r.1 o.1) in
+      let text_is : text ≡ text_of (with_marks o.0) = t.2 ∙ ap (λ ts. text_of (with_marks ts)) (one_reading reading query t.0 o.0 t.1 o.1) in
+      let row_is : row ≡ lenenc_row (names o.0) = r.2 ∙ ap (λ ts. lenenc_row (names ts)) (one_reading reading query r.0 o.0 r.1 o.1) in
       let spelled : head ≡ length_spelling (length (text_of (with_marks o.0))) =
       head_is ∙ (take_at (length_spelling (length (take n query))) (take n query) (end - n) (ap (λ k. length (length_spelling k)) front_length ∙ omega (arith, end_length))
       ∙ ap length_spelling (front_length ∙ o.2.2)) in (
@@ -291,57 +300,76 @@ module _ (mode : Bool) (query : List ℕ) (survey : NamesSurvey) (o : OnTokens m
       )
 
 -- what is in the room is the answer to a query that is not mixed
-pub answered : (mode : Bool) (query old new : List ℕ) (survey : NamesSurvey) (outcome : Outcome) → OnTokens mode query (IsNamesSurvey survey) →
-    ((0 < survey.names) × (0 < survey.marks) → ⊥) → OnTokens mode query (λ ts. IsInRoom (names_answer (parsed ts)) old new outcome) →
-    (text : List ℕ) × IsNamesAnswer mode query text × IsInRoom text old new outcome
-answered mode query old new survey outcome o unmixed a =
-    let same : o.0 ≡ a.0 = one_token_list mode query o.0 a.0 o.1 a.1 in
+pub answered : (reading : Reading) (query old new : List ℕ) (survey : NamesSurvey) (outcome : Outcome) → OnTokensIn reading query (IsNamesSurvey survey) →
+    ((0 < survey.names) × (0 < survey.marks) → ⊥) → OnTokensIn reading query (λ ts. IsInRoom (names_answer (parsed ts)) old new outcome) →
+    (text : List ℕ) × IsNamesAnswerIn reading query text × IsInRoom text old new outcome
+answered reading query old new survey outcome o unmixed a =
+    let same : o.0 ≡ a.0 = one_reading reading query o.0 a.0 o.1 a.1 in
     let is : (survey.names ≡ length (names a.0)) × (survey.marks ≡ marks a.0) =
     subst (λ ts. (survey.names ≡ length (names ts)) × (survey.marks ≡ marks ts)) same (o.2.0, o.2.1) in
     let not_both : HasName a.0 × HasMark a.0 → ⊥ = λ both. unmixed (omega (arith, both.0, is.0), omega (arith, both.1, is.1)) in
     (names_answer (parsed a.0), (a.0, a.1, (not_both, refl)), a.2)
 
-pub answer_is : (mode : Bool) (query text written : List ℕ) → written ≡ text →
-    OnTokens mode query (λ ts. text ≡ names_answer (parsed ts)) → OnTokens mode query (λ ts. written ≡ names_answer (parsed ts))
-answer_is mode query text written is o = (o.0, o.1, is ∙ o.2)
+pub answer_is : (reading : Reading) (query text written : List ℕ) → written ≡ text →
+    OnTokensIn reading query (λ ts. text ≡ names_answer (parsed ts)) → OnTokensIn reading query (λ ts. written ≡ names_answer (parsed ts))
+answer_is reading query text written is o = (o.0, o.1, is ∙ o.2)
 
-pub same_length : (mode : Bool) (query slice text : List ℕ) → OnTokens mode query (λ ts. length slice ≡ length (names_answer (parsed ts))) →
-    OnTokens mode query (λ ts. text ≡ names_answer (parsed ts)) → length slice ≡ length text
-same_length mode query slice text exact o =
-    let same : exact.0 ≡ o.0 = one_token_list mode query exact.0 o.0 exact.1 o.1 in
+pub same_length : (reading : Reading) (query slice text : List ℕ) → OnTokensIn reading query (λ ts. length slice ≡ length (names_answer (parsed ts))) →
+    OnTokensIn reading query (λ ts. text ≡ names_answer (parsed ts)) → length slice ≡ length text
+same_length reading query slice text exact o =
+    let same : exact.0 ≡ o.0 = one_reading reading query exact.0 o.0 exact.1 o.1 in
     exact.2 ∙ (ap (λ ts. length (names_answer (parsed ts))) same ∙ sym (ap length o.2))
 
 -- both texts of the answer are in the room, or memory was refused
-pub both_are_answer : (mode : Bool) (query text row old new : List ℕ) (outcome : Outcome) →
-    OnTokens mode query (λ ts. (text ≡ text_of (with_marks ts)) × (row ≡ lenenc_row (names ts))) →
-    IsInRoomOrMemory (lenenc_spelling text ++ row) old new outcome → OnTokens mode query (λ ts. IsInRoomOrMemory (names_answer (parsed ts)) old new outcome)
-both_are_answer mode query text row old new outcome o in_room = (
+pub both_are_answer : (reading : Reading) (query text row old new : List ℕ) (outcome : Outcome) →
+    OnTokensIn reading query (λ ts. (text ≡ text_of (with_marks ts)) × (row ≡ lenenc_row (names ts))) →
+    IsInRoomOrMemory (lenenc_spelling text ++ row) old new outcome → OnTokensIn reading query (λ ts. IsInRoomOrMemory (names_answer (parsed ts)) old new outcome)
+both_are_answer reading query text row old new outcome o in_room = (
   o.0,
   o.1,
   subst (λ x. IsInRoomOrMemory x old new outcome) (ap (λ x. lenenc_spelling x ++ row) o.2.0 ∙ ap (λ x. lenenc_spelling (text_of (with_marks o.0)) ++ x) o.2.1) in_room,
 )
 
-module _ (mode : Bool) (query old new : List ℕ) where
+module _ (reading : Reading) (query old new : List ℕ) where
   -- a query without marks is not mixed
-  answer_of : (ts : List Token) → IsTokens mode query ts → marks ts ≡ 0 → IsNamesAnswer mode query (names_answer (parsed ts))
+  answer_of : (ts : List Token) → IsTokensIn reading query ts → marks ts ≡ 0 → IsNamesAnswerIn reading query (names_answer (parsed ts))
   answer_of ts is none = (ts, is, ((λ both. omega (arith, both.1, none)), refl))
 
-  pub gathered_told : (outcome : Outcome) → OnTokens mode query (λ ts. marks ts ≡ 0) →
-      OnTokens mode query (λ ts. IsInRoomOrMemory (names_answer (parsed ts)) old new outcome) →
-      IsNamesOutcome mode query outcome × IfDone outcome (λ len. IsNamesAnswer mode query (take len new))
+  pub gathered_told : (outcome : Outcome) → OnTokensIn reading query (λ ts. marks ts ≡ 0) →
+      OnTokensIn reading query (λ ts. IsInRoomOrMemory (names_answer (parsed ts)) old new outcome) →
+      IsNamesOutcomeIn reading query outcome × IfDone outcome (λ len. IsNamesAnswerIn reading query (take len new))
   gathered_told outcome m o =
-      let same : m.0 ≡ o.0 = one_token_list mode query m.0 o.0 m.1 o.1 in
-      let is : IsNamesAnswer mode query (names_answer (parsed o.0)) = answer_of o.0 o.1 (ap marks (sym same) ∙ m.2) in
+      let same : m.0 ≡ o.0 = one_reading reading query m.0 o.0 m.1 o.1 in
+      let is : IsNamesAnswerIn reading query (names_answer (parsed o.0)) = answer_of o.0 o.1 (ap marks (sym same) ∙ m.2) in
       by_outcome outcome (names_answer (parsed o.0)) is o.2
     where
-      by_outcome : (outcome : Outcome) (answer : List ℕ) → IsNamesAnswer mode query answer → IsInRoomOrMemory answer old new outcome →
-          IsNamesOutcome mode query outcome × IfDone outcome (λ len. IsNamesAnswer mode query (take len new))
-      by_outcome (Done len) answer answers room = ((answer, answers, room.0), subst (IsNamesAnswer mode query) (sym room.2) answers)
+      by_outcome : (outcome : Outcome) (answer : List ℕ) → IsNamesAnswerIn reading query answer → IsInRoomOrMemory answer old new outcome →
+          IsNamesOutcomeIn reading query outcome × IfDone outcome (λ len. IsNamesAnswerIn reading query (take len new))
+      by_outcome (Done len) answer answers room = ((answer, answers, room.0), subst (IsNamesAnswerIn reading query) (sym room.2) answers)
       by_outcome (Room len) answer answers room = ((answer, answers, room.0), tt)
       by_outcome OutOfMemory answer answers room = (tt, tt)
       by_outcome outcome answer answers room = absurd room
 
--- without a byte `?` from the first name on there are no marks
-pub names_alone_told : (mode : Bool) (query : List ℕ) → AreTold mode query true false →
-    OnTokens mode query (λ ts. ◌≡◌ {A = Bool} true true → HasName ts × (marks ts ≡ 0))
-names_alone_told mode query o = (o.0, o.1, λ _. (o.2.0.0 refl, told_no_mark mode query true false o.0 o refl o.1))
+-- ---- without a byte `?` from the first place on there are no marks
+
+marks-other : (ts : List Token) → list_all is_other (text_of ts) ≡ true → marks ts ≡ 0
+marks-other [] h = refl
+marks-other (Mark ∷ ts) h = cc
+marks-other (Name name ∷ ts) h = marks-other ts (and_parts _ _ (sym (list_all-append is_other (colon ∷ name) (text_of ts)) ∙ h)).1
+marks-other (t ∷ ts) h = marks-other ts (and_parts _ _ (sym (list_all-append is_other (bytes_of t) (text_of ts)) ∙ h)).1
+
+all_other : (text : List ℕ) → IsFirstByte (is_byte question_mark) text None → list_all is_other text ≡ true
+all_other text nowhere =
+    list_all-from_AllPass is_other text (All-from_get_or (λ b. is_other b ≡ true) text 0 (λ k lt. ap not (fails (get_or text k 0 == question_mark) (nowhere k (omega arith) lt))))
+
+pub names_alone_told : (reading : Reading) (query rest : List ℕ) (found : FoundPlace) → OnTokensIn reading query (λ ts. IsFirstPlace ts found) →
+    rest ≡ drop found.before query → IsFirstByte (is_byte question_mark) rest None →
+    OnTokensIn reading query (λ ts. ◌≡◌ {A = Bool} true true → HasName ts × (marks ts ≡ 0))
+names_alone_told reading query rest found o rest_is nowhere =
+    let p = parted_in reading query o.0 found o.1 o in
+    let others : list_all is_other (text_of (p.place ∷ p.back)) ≡ true =
+    ap (list_all is_other) (reading_text reading (drop found.before query) (p.place ∷ p.back) p.place_tokens ∙ sym rest_is) ∙ all_other rest nowhere in
+    let markless : marks o.0 ≡ 0 = ap marks p.tokens_are ∙ (marks_after p.front p.place p.back p.no_place ∙ marks-other (p.place ∷ p.back) others) in
+    let is = name_found reading query o.0 found markless p in
+    let some : names o.0 ≡ drop 1 (bytes_of p.place) ∷ names p.back = ap names p.tokens_are ∙ names_at_name p.front p.place p.back p.no_place is in
+    (o.0, o.1, λ _. (omega (arith, ap length some), markless))

@@ -1,26 +1,26 @@
 -- The names of a query that are surveyed so far, and those that are left.
-use Rattle.std.specs.Prelude.{Bool}
 use Rattle.std.proofs.Common.{◌≡◌, ℕ, ◌+◌, ◌*◌, ◌≤◌, ◌<◌, List, ◌∷◌, length, take, drop, Some, sym, ap, ◌∙◌, subst, arith, length-append, length-drop}
 use Rattle.std.proofs.lemmas.List.{length-take-le, nil_from_length}
 use Rattle.mysql_wire_part.specs.Lenenc.{lenenc_spelling}
-use Rattle.mysql_named_params.specs.Tokens.{Token, IsTokens, OnTokens, bytes_of, text_of}
+use Rattle.mysql_named_params.specs.Tokens.{Token, bytes_of, text_of}
 use Rattle.mysql_named_params.specs.Places.{names, marks, place_count, with_marks}
 use Rattle.mysql_named_params.specs.FirstPlace.{place_kind, IsFirstPlace}
 use Rattle.mysql_named_params.specs.declared.places.FoundPlace.{FoundPlace}
 use Rattle.mysql_named_params.specs.declared.places.PlaceKind.TheVariants as kind
-use Rattle.mysql_named_params.proofs.TokenListLemmas.{one_token_list}
-use Rattle.mysql_named_params.proofs.TokensExistLemmas.{tokens_exist}
 use Rattle.mysql_named_params.proofs.TokenRowLemmas.{place_count-sum, with_marks-nameless}
-use Rattle.mysql_named_params.proofs.FoundPlaceLemmas.{IsPartedAt, parted, names_at_name, marks_at_name, names_at_mark, marks_at_mark}
+use Rattle.mysql_named_params.proofs.FoundPlaceLemmas.{IsPartedIn, parted_in, names_at_name, marks_at_name, names_at_mark, marks_at_mark}
+use Rattle.mysql_named_params.specs.Reading.{IsTokensIn, OnTokensIn}
+use Rattle.mysql_named_params.specs.declared.places.Reading.{Reading}
+use Rattle.mysql_named_params.proofs.ReadingLemmas.{one_reading, reading_exists, reading_text}
 use Rattle.mysql_flat_params.specs.NamesAnswer.{lenenc_row}
 use Rattle.mysql_flat_params.proofs.MarkedLemmas.{length-with_marks_at_place, name_has_byte, lenenc_small}
 
 -- with those that are left, so many names, marks and bytes are those of the query
-pub record SurveyedSoFar (mode : Bool) (query rest : List ℕ) (name_count mark_count marked_len row_len : ℕ) : Type 0 where
+pub record SurveyedSoFar (reading : Reading) (query rest : List ℕ) (name_count mark_count marked_len row_len : ℕ) : Type 0 where
   pub all : List Token
-  pub tokens : IsTokens mode query all
+  pub tokens : IsTokensIn reading query all
   pub left : List Token
-  pub rest_tokens : IsTokens mode rest left
+  pub rest_tokens : IsTokensIn reading rest left
   pub names_are : name_count + length (names left) ≡ length (names all)
   pub marks_are : mark_count + marks left ≡ marks all
   pub marked_is : marked_len + length (text_of (with_marks left)) ≡ length (text_of (with_marks all))
@@ -30,15 +30,15 @@ pub record SurveyedSoFar (mode : Bool) (query rest : List ℕ) (name_count mark_
   pub marked_room : marked_len + length rest ≤ length query
   pub small : 2 * (marked_len + row_len) + 3 * length rest ≤ 3 * length query
 
-pub surveyed_none : (mode : Bool) (query : List ℕ) → SurveyedSoFar mode query query 0 0 0 0
-surveyed_none mode query =
-    let ts = tokens_exist mode query in
+pub surveyed_none : (reading : Reading) (query : List ℕ) → SurveyedSoFar reading query query 0 0 0 0
+surveyed_none reading query =
+    let ts = reading_exists reading query in
     record { all = ts.0; tokens = ts.1; left = ts.0; rest_tokens = ts.1; names_are = omega arith; marks_are = omega arith; marked_is = omega arith; row_is = omega arith; room = omega arith; marked_room = omega arith; small = omega arith }
 
-module _ (mode : Bool) (query rest : List ℕ) (i j m r : ℕ) (s : SurveyedSoFar mode query rest i j m r) where
-  module _ (found : FoundPlace) (o : OnTokens mode rest (λ us. IsFirstPlace us found)) where
-    abbrev p : IsPartedAt mode rest s.left found
-    p = parted mode rest s.left found s.rest_tokens o
+module _ (reading : Reading) (query rest : List ℕ) (i j m r : ℕ) (s : SurveyedSoFar reading query rest i j m r) where
+  module _ (found : FoundPlace) (o : OnTokensIn reading rest (λ us. IsFirstPlace us found)) where
+    abbrev p : IsPartedIn reading rest s.left found
+    p = parted_in reading rest s.left found s.rest_tokens o
 
     pub place_in_range : (0 < found.len) × (found.before + found.len ≤ length rest)
     place_in_range = (p.has_length, p.in_range)
@@ -81,15 +81,15 @@ module _ (mode : Bool) (query rest : List ℕ) (i j m r : ℕ) (s : SurveyedSoFa
         -- what a name takes in the answer
         pub name_small : 2 * (length (lenenc_spelling name) + 1) ≤ 3 * found.len
         name_small =
-            omega (arith, name_length, lenenc_small name (omega (arith, name_has_byte mode p.place _ is p.place_tokens.each.0, ap length name_bytes)))
+            omega (arith, name_length, lenenc_small name (omega (arith, name_has_byte reading _ p.place p.back is p.place_tokens, ap length name_bytes)))
 
         pub surveyed_name : (i' j' m' r' : ℕ) → i' ≡ i + 1 → j' ≡ j → m' ≡ m + (found.before + 1) → r' ≡ r + length (lenenc_spelling name) →
-            SurveyedSoFar mode query after i' j' m' r'
+            SurveyedSoFar reading query after i' j' m' r'
         surveyed_name i' j' m' r' i_is j_is m_is r_is = record {
           all = s.all;
           tokens = s.tokens;
           left = p.back;
-          rest_tokens = subst (λ x. IsTokens mode x p.back) (sym after_is) p.rest_tokens;
+          rest_tokens = subst (λ x. IsTokensIn reading x p.back) (sym after_is) p.rest_tokens;
           names_are = omega (arith, i_is, ap length names_here, s.names_are);
           marks_are = omega (arith, j_is, ap marks p.tokens_are, marks_at_name p.front p.place p.back p.no_place is, s.marks_are);
           marked_is = omega (arith, m_is, marked_here, s.marked_is);
@@ -100,7 +100,7 @@ module _ (mode : Bool) (query rest : List ℕ) (i j m r : ℕ) (s : SurveyedSoFa
         }
 
       pub surveyed_mark : (i' j' m' r' : ℕ) → found.kind ≡ kind.Mark → i' ≡ i → j' ≡ j + 1 → m' ≡ m + (found.before + 1) → r' ≡ r →
-          SurveyedSoFar mode query after i' j' m' r'
+          SurveyedSoFar reading query after i' j' m' r'
       surveyed_mark i' j' m' r' e i_is j_is m_is r_is =
           let is = p.kind_is ∙ ap Some e in
           let names_here : names s.left ≡ names p.back = ap names p.tokens_are ∙ names_at_mark p.front p.place p.back p.no_place is in
@@ -108,7 +108,7 @@ module _ (mode : Bool) (query rest : List ℕ) (i j m r : ℕ) (s : SurveyedSoFa
             all = s.all;
             tokens = s.tokens;
             left = p.back;
-            rest_tokens = subst (λ x. IsTokens mode x p.back) (sym after_is) p.rest_tokens;
+            rest_tokens = subst (λ x. IsTokensIn reading x p.back) (sym after_is) p.rest_tokens;
             names_are = omega (arith, i_is, ap length names_here, s.names_are);
             marks_are = omega (arith, j_is, ap marks p.tokens_are, marks_at_mark p.front p.place p.back p.no_place is, s.marks_are);
             marked_is = omega (arith, m_is, marked_here, s.marked_is);
@@ -119,12 +119,12 @@ module _ (mode : Bool) (query rest : List ℕ) (i j m r : ℕ) (s : SurveyedSoFa
           }
 
   -- if no place is left, all are surveyed
-  pub surveyed_all : (m' : ℕ) → m' ≡ m + length rest → OnTokens mode rest (λ us. place_count us ≡ 0) →
-      OnTokens mode query (λ ts. (i ≡ length (names ts)) × (j ≡ marks ts) × (m' ≡ length (text_of (with_marks ts))) × (r ≡ length (lenenc_row (names ts))))
+  pub surveyed_all : (m' : ℕ) → m' ≡ m + length rest → OnTokensIn reading rest (λ us. place_count us ≡ 0) →
+      OnTokensIn reading query (λ ts. (i ≡ length (names ts)) × (j ≡ marks ts) × (m' ≡ length (text_of (with_marks ts))) × (r ≡ length (lenenc_row (names ts))))
   surveyed_all m' m_is o =
-      let same : o.0 ≡ s.left = one_token_list mode rest o.0 s.left o.1 s.rest_tokens in
+      let same : o.0 ≡ s.left = one_reading reading rest o.0 s.left o.1 s.rest_tokens in
       let none : place_count s.left ≡ 0 = sym (ap place_count same) ∙ o.2 in
       let nameless : length (names s.left) ≡ 0 = omega (arith, none, place_count-sum s.left) in
-      let left_len : length (text_of (with_marks s.left)) ≡ length rest = ap (λ x. length (text_of x)) (with_marks-nameless s.left nameless) ∙ ap length s.rest_tokens.text in
+      let left_len : length (text_of (with_marks s.left)) ≡ length rest = ap (λ x. length (text_of x)) (with_marks-nameless s.left nameless) ∙ ap length (reading_text reading rest s.left s.rest_tokens) in
       let no_row : length (lenenc_row (names s.left)) ≡ 0 = ap (λ ns. length (lenenc_row ns)) (nil_from_length (names s.left) nameless) in
       (s.all, s.tokens, (omega (arith, nameless, s.names_are), omega (arith, none, place_count-sum s.left, s.marks_are), omega (arith, m_is, left_len, s.marked_is), omega (arith, no_row, s.row_is)))

@@ -3,9 +3,11 @@ use Rattle.std.specs.Prelude.{Bool, Ok, Err, Result, Option, Some, None, option_
 use Rattle.std.specs.Borrow.{Bor}
 use Rattle.std.specs.FinMap.{get}
 use Rattle.std.proofs.Common.{◌≡◌, ◌+◌, ◌<◌, ℕ, zero, suc, List, [], ◌∷◌, ◌++◌, map, length, take, get_or, arith, inr, refl, sym, ap, ◌∙◌, subst, true, false, if◌then◌else◌}
-use Rattle.mysql_named_params.specs.Tokens.{Token, OnTokens}
+use Rattle.mysql_named_params.specs.Tokens.{Token}
 use Rattle.mysql_named_params.specs.Places.{has_both, names}
-use Rattle.mysql_named_params.proofs.TokenListLemmas.{one_token_list}
+use Rattle.mysql_named_params.specs.Reading.{OnTokensIn}
+use Rattle.mysql_named_params.specs.declared.places.Reading.{Reading}
+use Rattle.mysql_named_params.proofs.ReadingLemmas.{one_reading}
 use Rattle.std.proofs.lemmas.List.{map-append}
 use Rattle.mysql_fragments.specs.BorrowedFragments.{AreSaid, Says}
 use Rattle.mysql_binding.specs.FirstCause as bound_cause
@@ -110,58 +112,58 @@ unmixed_too ts none = by (has_both ts) none
     by true e = cc
     by false e = refl
 
-module _ (mode : Bool) (query : List ℕ) (given : GivenFragments) (m : FragmentMap) (is : given ≡ named m) (count : ℕ) (some : count ≡ 0 → ⊥)
-    (o : OnTokens mode query (λ ts. (count ≡ length (names ts)) × (mixed_cause ts ≡ None))) where
+module _ (reading : Reading) (query : List ℕ) (given : GivenFragments) (m : FragmentMap) (is : given ≡ named m) (count : ℕ) (some : count ≡ 0 → ⊥)
+    (o : OnTokensIn reading query (λ ts. (count ≡ length (names ts)) × (mixed_cause ts ≡ None))) where
   same_for : (ts : List Token) → o.0 ≡ ts → fragments_for given (names ts) ≡ fragments_at m (names ts)
   same_for ts same = named_some given m (names ts) is (λ none. some (o.2.0 ∙ (ap (λ us. length (names us)) same ∙ none)))
 
   pub named_placed : {A E : Type 0} (items : A → List FragmentRef) (r : Result A E) →
-      OnTokens mode query (λ ts. IfOk r (λ list. (said : List Fragment) × (fragments_at m (names ts) ≡ Ok said) × AreSaid (items list) said)) →
-      OnTokens mode query (λ ts. IfOk r (λ list. (mixed_cause ts ≡ None) × (said : List Fragment) × (fragments_for given (names ts) ≡ Ok said) × AreSaid (items list) said))
+      OnTokensIn reading query (λ ts. IfOk r (λ list. (said : List Fragment) × (fragments_at m (names ts) ≡ Ok said) × AreSaid (items list) said)) →
+      OnTokensIn reading query (λ ts. IfOk r (λ list. (mixed_cause ts ≡ None) × (said : List Fragment) × (fragments_for given (names ts) ≡ Ok said) × AreSaid (items list) said))
   named_placed items (Ok list) p =
-      let same : o.0 ≡ p.0 = one_token_list mode query o.0 p.0 o.1 p.1 in
+      let same : o.0 ≡ p.0 = one_reading reading query o.0 p.0 o.1 p.1 in
       (p.0, p.1, (subst (λ ts. mixed_cause ts ≡ None) same o.2.1, p.2.0, same_for p.0 same ∙ p.2.1, p.2.2))
   named_placed items (Err error) p = (p.0, p.1, tt)
 
   pub named_refusal : {A E : Type 0} (IsRefused : Result (List Fragment) PlaceRefusal → E → Type 0) (r : Result A E) →
-      OnTokens mode query (λ ts. IfErr r (IsRefused (fragments_at m (names ts)))) → OnTokens mode query (λ ts. IfErr r (IsRefused (fragments_for given (names ts))))
+      OnTokensIn reading query (λ ts. IfErr r (IsRefused (fragments_at m (names ts)))) → OnTokensIn reading query (λ ts. IfErr r (IsRefused (fragments_for given (names ts))))
   named_refusal IsRefused (Ok list) p = (p.0, p.1, tt)
   named_refusal IsRefused (Err error) p =
-      (p.0, p.1, subst (λ x. IsRefused x error) (sym (same_for p.0 (one_token_list mode query o.0 p.0 o.1 p.1))) p.2)
+      (p.0, p.1, subst (λ x. IsRefused x error) (sym (same_for p.0 (one_reading reading query o.0 p.0 o.1 p.1))) p.2)
 
 -- the refusal is the first cause
-pub cause_refusal : {A : Type 0} (r : Result A FragmentsError) (mode : Bool) (query : List ℕ) (given : GivenFragments) (survey : Survey) →
-    OnTokens mode query (IsSurvey survey) → (0 < survey.names × 0 < survey.marks → ⊥) →
-    OnTokens mode query (λ ts. IfErr r (IsPlaceRefusal (fragments_for given (names ts)))) →
-    OnTokens mode query (λ ts. IfErr r (IsCauseOrMemory (first_cause true ts given)))
-cause_refusal (Ok list) mode query given survey o apart p = (o.0, o.1, tt)
-cause_refusal (Err error) mode query given survey o apart p = refused_places true mode query given survey o apart error p
+pub cause_refusal : {A : Type 0} (r : Result A FragmentsError) (reading : Reading) (query : List ℕ) (given : GivenFragments) (survey : Survey) →
+    OnTokensIn reading query (IsSurvey survey) → (0 < survey.names × 0 < survey.marks → ⊥) →
+    OnTokensIn reading query (λ ts. IfErr r (IsPlaceRefusal (fragments_for given (names ts)))) →
+    OnTokensIn reading query (λ ts. IfErr r (IsCauseOrMemory (first_cause true ts given)))
+cause_refusal (Ok list) reading query given survey o apart p = (o.0, o.1, tt)
+cause_refusal (Err error) reading query given survey o apart p = refused_places true reading query given survey o apart error p
 
 -- ---- the causes after the fragments for the places are known, and the text
 
 -- the fragments for the places of a query are given to it, and these borrowed ones say them
-abbrev pub ArePlacedAs : (mode : Bool) (query : List ℕ) → GivenFragments → List FragmentRef → Type 0
-ArePlacedAs mode query given list = OnTokens mode query (λ ts. (mixed_cause ts ≡ None) × (said : List Fragment)
+abbrev pub ArePlacedAs : (reading : Reading) (query : List ℕ) → GivenFragments → List FragmentRef → Type 0
+ArePlacedAs reading query given list = OnTokensIn reading query (λ ts. (mixed_cause ts ≡ None) × (said : List Fragment)
     × (fragments_for given (names ts) ≡ Ok said) × AreSaid list said)
 
-module _ (mode : Bool) (query : List ℕ) (survey : Survey) (o : OnTokens mode query (IsSurvey survey)) (given : GivenFragments) (list : List FragmentRef)
-    (p : ArePlacedAs mode query given list) where
+module _ (reading : Reading) (query : List ℕ) (survey : Survey) (o : OnTokensIn reading query (IsSurvey survey)) (given : GivenFragments) (list : List FragmentRef)
+    (p : ArePlacedAs reading query given list) where
   survey_on : IsSurvey survey p.0
-  survey_on = subst (IsSurvey survey) (one_token_list mode query o.0 p.0 o.1 p.1) o.2
+  survey_on = subst (IsSurvey survey) (one_reading reading query o.0 p.0 o.1 p.1) o.2
 
   pub refused_later : (error : FragmentsError) →
       ((ts : List Token) (said : List Fragment) → AreSaid list said → IsSurvey survey ts → Some (cause_of error) ≡ option_map Some (later_cause true ts said)) →
-      OnTokens mode query (λ ts. IsCauseOrMemory (first_cause true ts given) error)
+      OnTokensIn reading query (λ ts. IsCauseOrMemory (first_cause true ts given) error)
   refused_later error cause =
       let (ts, is, (unmixed, said, looked, are)) = p in
       let (why, later, told) = some_cause (cause_of error) (later_cause true ts said) (cause ts said are survey_on) in
       (ts, is, inr (why, first_by true ts given said (Some why) unmixed looked later, told))
 
   module _ (none : (ts : List Token) (said : List Fragment) → AreSaid list said → IsSurvey survey ts → None ≡ option_map (λ x. Some x) (later_cause true ts said)) where
-    pub none_later : OnTokens mode query (λ ts. ArePlaced true ts given p.2.1)
+    pub none_later : OnTokensIn reading query (λ ts. ArePlaced true ts given p.2.1)
     none_later =
         let (ts, is, (unmixed, said, looked, are)) = p in
         (ts, is, record { unmixed = unmixed; given_to_places = looked; no_later = no_error (later_cause true ts said) (none ts said are survey_on) })
 
     pub as_many_placed : survey.names + survey.marks ≡ length list
-    as_many_placed = placed_count mode query survey given list p.2.1 p.2.3 o none_later
+    as_many_placed = placed_count reading query survey given list p.2.1 p.2.3 o none_later

@@ -16,11 +16,12 @@ use Rattle.std.proofs.lemmas.Option.{get_or_from_slice_get, slice_get_within, sl
 use Rattle.mysql_value_core.specs.declared.value.Value.{Value}
 use Rattle.mysql_value_core.specs.declared.value.ValueRef.{ValueRef}
 use Rattle.mysql_values.specs.BorrowedValue.{owned, owned_values}
-use Rattle.mysql_named_params.specs.Tokens.{OnTokens}
 use Rattle.mysql_named_params.specs.Places.{names, place_count}
 use Rattle.mysql_named_params.specs.FirstPlace.{IsFirstPlace}
 use Rattle.mysql_named_params.specs.declared.places.FoundPlace.{FoundPlace}
 use Rattle.mysql_named_params.proofs.TokenEndLemmas.{slice_from}
+use Rattle.mysql_named_params.specs.Reading.{OnTokensIn}
+use Rattle.mysql_named_params.specs.declared.places.Reading.{Reading}
 use Rattle.mysql_params_core.specs.Given.{ValueMap, empty, named}
 use Rattle.mysql_params_core.specs.GivenBorrowed.{pair_map}
 use Rattle.mysql_params_core.specs.Lookup.{lookup, values_at}
@@ -107,10 +108,10 @@ lookup_found : (entries : ValueMap) (wanted : List (List ℕ)) (values : List Va
 lookup_found entries [] values some is = absurd (some refl)
 lookup_found entries (name ∷ wanted) values some is = rw is refl
 
-pub found_in_query : (mode : Bool) (query : List ℕ) (found : FoundNames) (values : List ValueRef) →
-    AreFoundNames mode query found → AreValuesAt found.pairs.items found.places.items values →
-    OnTokens mode query (AreFound (named (pair_map found.pairs.items)) (owned_values values))
-found_in_query mode query found values names_found has =
+pub found_in_query : (reading : Reading) (query : List ℕ) (found : FoundNames) (values : List ValueRef) →
+    AreFoundNames reading query found → AreValuesAt found.pairs.items found.places.items values →
+    OnTokensIn reading query (AreFound (named (pair_map found.pairs.items)) (owned_values values))
+found_in_query reading query found values names_found has =
     let (ts, is, (unmixed, some, at)) = names_found.at_places in (
       ts,
       is,
@@ -279,67 +280,67 @@ numbers_pushed numbers numbers' pairs items pair pushed same new is =
 -- ---- names that were found
 
 -- with other values they are still found
-pub found_kept : (mode : Bool) (query : List ℕ) (found more : FoundNames) → AreFoundNames mode query found →
+pub found_kept : (reading : Reading) (query : List ℕ) (found more : FoundNames) → AreFoundNames reading query found →
     names_of_pairs more.pairs.items ≡ names_of_pairs found.pairs.items → more.places.items ≡ found.places.items →
-    AreFoundNames mode query more
-found_kept mode query found more f same places = record {
+    AreFoundNames reading query more
+found_kept reading query found more f same places = record {
   some = omega (arith, f.some, ap length same, length-map more.pairs.items (λ (p : Pair). p.0.now), length-map found.pairs.items (λ (p : Pair). p.0.now));
   own = subst AreOwnNames (sym same) f.own;
-  at_places = subst (λ ns. OnTokens mode query (λ ts. (mixed_cause ts ≡ None) × (names ts ≢ []) × AreAtPlaces ns more.places.items (names ts))) (sym same)
-      (subst (λ ps. OnTokens mode query (λ ts. (mixed_cause ts ≡ None) × (names ts ≢ []) × AreAtPlaces (names_of_pairs found.pairs.items) ps (names ts))) (sym places) f.at_places);
+  at_places = subst (λ ns. OnTokensIn reading query (λ ts. (mixed_cause ts ≡ None) × (names ts ≢ []) × AreAtPlaces ns more.places.items (names ts))) (sym same)
+      (subst (λ ps. OnTokensIn reading query (λ ts. (mixed_cause ts ≡ None) × (names ts ≢ []) × AreAtPlaces (names_of_pairs found.pairs.items) ps (names ts))) (sym places) f.at_places);
 }
 
 -- a query with names and without marks
-pub some_unmixed : (mode : Bool) (query : List ℕ) (survey : Survey) → OnTokens mode query (IsSurvey survey) → survey.names ≢ 0 → survey.marks ≤ 0 →
-    OnTokens mode query (λ ts. (mixed_cause ts ≡ None) × (names ts ≢ []))
-some_unmixed mode query survey surveyed some none =
-    on_map mode query (IsSurvey survey) (λ ts. (mixed_cause ts ≡ None) × (names ts ≢ []))
+pub some_unmixed : (reading : Reading) (query : List ℕ) (survey : Survey) → OnTokensIn reading query (IsSurvey survey) → survey.names ≢ 0 → survey.marks ≤ 0 →
+    OnTokensIn reading query (λ ts. (mixed_cause ts ≡ None) × (names ts ≢ []))
+some_unmixed reading query survey surveyed some none =
+    on_map reading query (IsSurvey survey) (λ ts. (mixed_cause ts ≡ None) × (names ts ≢ []))
     (λ ts is h. (
       mixed_none_of ts survey.names survey.marks h.0 h.1 (omega arith),
       λ e. some (h.0 ∙ ap length e),
     )) surveyed
 
-pub places_found : (mode : Bool) (query : List ℕ) (ns : List (List ℕ)) (places : List ℕ) →
-    OnTokens mode query (λ ts. (mixed_cause ts ≡ None) × (names ts ≢ [])) → OnTokens mode query (λ ts. AreAtPlaces ns places (names ts)) →
-    OnTokens mode query (λ ts. (mixed_cause ts ≡ None) × (names ts ≢ []) × AreAtPlaces ns places (names ts))
-places_found mode query ns places some at =
-    on_map mode query (λ ts. ((mixed_cause ts ≡ None) × (names ts ≢ [])) × AreAtPlaces ns places (names ts))
+pub places_found : (reading : Reading) (query : List ℕ) (ns : List (List ℕ)) (places : List ℕ) →
+    OnTokensIn reading query (λ ts. (mixed_cause ts ≡ None) × (names ts ≢ [])) → OnTokensIn reading query (λ ts. AreAtPlaces ns places (names ts)) →
+    OnTokensIn reading query (λ ts. (mixed_cause ts ≡ None) × (names ts ≢ []) × AreAtPlaces ns places (names ts))
+places_found reading query ns places some at =
+    on_map reading query (λ ts. ((mixed_cause ts ≡ None) × (names ts ≢ [])) × AreAtPlaces ns places (names ts))
     (λ ts. (mixed_cause ts ≡ None) × (names ts ≢ []) × AreAtPlaces ns places (names ts))
     (λ ts is h. (h.0.0, h.0.1, h.1))
-    (on_both mode query (λ ts. (mixed_cause ts ≡ None) × (names ts ≢ [])) (λ ts. AreAtPlaces ns places (names ts)) some at)
+    (on_both reading query (λ ts. (mixed_cause ts ≡ None) × (names ts ≢ [])) (λ ts. AreAtPlaces ns places (names ts)) some at)
 
 -- ---- the places of a query
 
 -- at the indices so far stand the names that are listed so far
-pub record NumberedSoFar (mode : Bool) (query rest : List ℕ) (count : ℕ) (ns : List (List ℕ)) (places : List ℕ) : Type 0 where
+pub record NumberedSoFar (reading : Reading) (query rest : List ℕ) (count : ℕ) (ns : List (List ℕ)) (places : List ℕ) : Type 0 where
   pub list : List (List ℕ)
-  pub listed : ListedSoFar mode query rest count list
+  pub listed : ListedSoFar reading query rest count list
   pub numbered : map (slice_get ns) places ≡ map Some list
 
-pub numbered_none : (mode : Bool) (query : List ℕ) (count : ℕ) (ns : List (List ℕ)) (places : List ℕ) →
-    OnTokens mode query (λ ts. (count ≡ length (names ts)) × (mixed_cause ts ≡ None)) → places ≡ [] →
-    NumberedSoFar mode query query count ns places
-numbered_none mode query count ns places o nil = record {
+pub numbered_none : (reading : Reading) (query : List ℕ) (count : ℕ) (ns : List (List ℕ)) (places : List ℕ) →
+    OnTokensIn reading query (λ ts. (count ≡ length (names ts)) × (mixed_cause ts ≡ None)) → places ≡ [] →
+    NumberedSoFar reading query query count ns places
+numbered_none reading query count ns places o nil = record {
   list = [];
-  listed = listed_none mode query count [] o refl;
+  listed = listed_none reading query count [] o refl;
   numbered = ap (map (slice_get ns)) nil;
 }
 
-module _ (mode : Bool) (query rest : List ℕ) (count : ℕ) (ns : List (List ℕ)) (places : List ℕ) (s : NumberedSoFar mode query rest count ns places) where
+module _ (reading : Reading) (query rest : List ℕ) (count : ℕ) (ns : List (List ℕ)) (places : List ℕ) (s : NumberedSoFar reading query rest count ns places) where
   as_long : length s.list ≡ length places
   as_long = sym (length-map s.list Some) ∙ (sym (ap length s.numbered) ∙ length-map places (slice_get ns))
 
-  pub number_left : length places < count → OnTokens mode rest (λ us. place_count us ≡ 0) → ⊥
-  number_left missing o = name_left mode query rest count s.list s.listed (omega (arith, missing, as_long)) o
+  pub number_left : length places < count → OnTokensIn reading rest (λ us. place_count us ≡ 0) → ⊥
+  number_left missing o = name_left reading query rest count s.list s.listed (omega (arith, missing, as_long)) o
 
   pub numbered_more : (place after : List ℕ) (places' : List ℕ) (number : ℕ) (name : List ℕ) (found : FoundPlace) →
-      length places < count → OnTokens mode rest (λ us. IsFirstPlace us found) →
+      length places < count → OnTokensIn reading rest (λ us. IsFirstPlace us found) →
       place ≡ take found.len (drop found.before rest) → after ≡ drop (found.before + found.len) rest →
       places' ≡ places ++ number ∷ [] → name ≡ slice_from 1 place → slice_get ns number ≡ Some name →
-      NumberedSoFar mode query after count ns places'
+      NumberedSoFar reading query after count ns places'
   numbered_more place after places' number name found missing o place_is after_is more name_is at = record {
     list = s.list ++ name ∷ [];
-    listed = listed_more mode query rest count s.list s.listed place after name found
+    listed = listed_more reading query rest count s.list s.listed place after name found
         (omega (arith, missing, as_long)) o place_is after_is name_is;
     numbered = ap (map (slice_get ns)) more
         ∙ (map-append (slice_get ns) places (number ∷ [])
@@ -348,9 +349,9 @@ module _ (mode : Bool) (query rest : List ℕ) (count : ℕ) (ns : List (List �
         ∙ sym (map-append Some s.list (name ∷ [])))));
   }
 
-  pub numbered_all : count ≤ length places → OnTokens mode query (λ ts. AreAtPlaces ns places (names ts))
+  pub numbered_all : count ≤ length places → OnTokensIn reading query (λ ts. AreAtPlaces ns places (names ts))
   numbered_all done =
-      let (ts, is, names_are) = listed_all mode query rest count s.list s.listed (omega (arith, done, as_long)) in
+      let (ts, is, names_are) = listed_all reading query rest count s.list s.listed (omega (arith, done, as_long)) in
       (ts, is, s.numbered ∙ ap (map Some) names_are)
 
 -- ---- the values at places

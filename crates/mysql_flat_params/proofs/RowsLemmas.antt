@@ -3,11 +3,13 @@ use Rattle.std.specs.Prelude.{nat_le, nat_lt, Result, Ok, Err, ⊤, ◌==◌}
 use Rattle.std.proofs.Common.{◌≡◌, ℕ, zero, suc, ◌+◌, ◌-◌, ◌<◌, ◌≤◌, Bool, true, false, List, [], ◌∷◌, ◌++◌, length, take, drop, if◌then◌else◌, refl, sym, ap, ◌∙◌, subst, arith, append-nil, length-append}
 use Rattle.std.proofs.Math.Seq.{take-append-add, drop-append-add}
 use Rattle.std.proofs.lemmas.List.{length-drop, length-take-le, take-append-drop, drop-drop, drop_all}
-use Rattle.mysql_wire_part.specs.Reading.{ReadRefusal, Reading, read_bytes, read_number, and_then_read}
+use Rattle.mysql_named_params.specs.declared.places.Reading.{Reading}
+use Rattle.mysql_wire_part.specs.Reading.{ReadRefusal, read_bytes, read_number, and_then_read}
+use Rattle.mysql_wire_part.specs.Reading as wire
 use Rattle.mysql_wire_part.specs.Lenenc.{lenenc_spelling, read_length, read_lenenc, least_lead, lead_of_two, lead_of_three, lead_of_eight}
-use Rattle.mysql_flat_params.specs.BoundRows.{IsBoundRow, AreBoundRows, no_row, row_after, IsRowRefusal, IsRowsOutcome}
+use Rattle.mysql_flat_params.specs.BoundRows.{IsBoundRowIn, AreBoundRowsIn, no_row, row_after, IsRowRefusalIn, IsRowsOutcomeIn}
 use Rattle.mysql_flat_params.specs.RowInRoom.{IsFormInRoom, IsRowInRoom}
-use Rattle.mysql_flat_params.specs.IntoRoom.{IsBindOutcome}
+use Rattle.mysql_flat_params.specs.IntoRoom.{IsBindOutcomeIn}
 use Rattle.mysql_flat_params.specs.declared.outcome.Outcome.{Outcome}
 use Rattle.mysql_flat_params.specs.declared.outcome.Outcome.TheVariants.{Done, OutOfMemory, Room}
 use Rattle.mysql_flat_params.specs.Outcomes.{HasNoAnswer, IfDone, IfTooLong}
@@ -33,7 +35,7 @@ rest_length b bytes =
     (rest_if (b ∷ bytes) (b == lead_of_three) _ _ (rest_number 3 b bytes)
     (rest_if (b ∷ bytes) (b == lead_of_eight) _ _ (rest_number 8 b bytes) tt)))
 
-rest_then : (bytes : List ℕ) (read : Reading ℕ) → IsRest bytes read → IsRest bytes (and_then_read read read_bytes)
+rest_then : (bytes : List ℕ) (read : wire.Reading ℕ) → IsRest bytes read → IsRest bytes (and_then_read read read_bytes)
 rest_then bytes (Ok read) (n, is) =
     rest_if bytes (nat_le read.0 (length read.1)) _ _ (n + read.0, ap (drop read.0) is ∙ drop-drop read.0 n bytes) tt
 rest_then bytes (Err refusal) h = tt
@@ -53,39 +55,39 @@ lenenc_rest (b ∷ bytes) text next is =
     let (n, rest) : IsRest {X = List ℕ} {E = ReadRefusal} (b ∷ bytes) (Ok (text, next)) = subst (IsRest {X = List ℕ} {E = ReadRefusal} (b ∷ bytes)) is (rest_then (b ∷ bytes) (read_length (b ∷ bytes)) (rest_length b bytes)) in
     rest ∙ (sym (drop_end n (b ∷ bytes)) ∙ ap (λ r. drop (length (b ∷ bytes) - length r) (b ∷ bytes)) (sym rest))
 
-module _ (mode : Bool) (query bytes form next old new : List ℕ) (is : read_lenenc bytes ≡ Ok (form, next)) where
+module _ (reading : Reading) (query bytes form next old new : List ℕ) (is : read_lenenc bytes ≡ Ok (form, next)) where
   read_so : read_lenenc bytes ≡ Ok (form, drop (length bytes - length next) bytes)
   read_so = is ∙ ap (λ r. Ok (form, r)) (lenenc_rest bytes form next is)
 
   -- a row whose form is read
-  pub row_in_room : (outcome : Outcome) → IsFormInRoom mode query form old new outcome →
-      IsRowInRoom mode query bytes old new (length bytes - length next) outcome
+  pub row_in_room : (outcome : Outcome) → IsFormInRoom reading query form old new outcome →
+      IsRowInRoom reading query bytes old new (length bytes - length next) outcome
   row_in_room (Done len) (text, bound, room) =
       let within : length form + length next < length bytes = lenenc_within bytes form next is in
       (omega arith, omega arith, (text, (form, read_so, bound), room))
   row_in_room (Room len) (text, bound, room) = ((text, next, (form, is, bound), room.0), room.1, room.2)
   row_in_room OutOfMemory h = h.1
-  row_in_room outcome h = (subst (λ r. IsRowRefusal mode query r outcome) (sym is) h.0, h.1)
+  row_in_room outcome h = (subst (λ r. IsRowRefusalIn reading query r outcome) (sym is) h.0, h.1)
 
 -- a refusal leaves the room
-pub refused_in_room : (mode : Bool) (query form old : List ℕ) (outcome : Outcome) → HasNoAnswer outcome → IsBindOutcome mode query form outcome →
-    IsFormInRoom mode query form old old outcome
-refused_in_room mode query form old (Done len) none h = absurd none
-refused_in_room mode query form old (Room len) none h = absurd none
-refused_in_room mode query form old outcome none h = (h, refl)
+pub refused_in_room : (reading : Reading) (query form old : List ℕ) (outcome : Outcome) → HasNoAnswer outcome → IsBindOutcomeIn reading query form outcome →
+    IsFormInRoom reading query form old old outcome
+refused_in_room reading query form old (Done len) none h = absurd none
+refused_in_room reading query form old (Room len) none h = absurd none
+refused_in_room reading query form old outcome none h = (h, refl)
 
 -- how far rows are bound: the room was `old`, and is `room`
-pub record RowsSoFar (mode : Bool) (query forms old room : List ℕ) (count read written : ℕ) : Type 0 where
-  pub rows : AreBoundRows mode query forms count (take written room) (drop read forms)
+pub record RowsSoFar (reading : Reading) (query forms old room : List ℕ) (count read written : ℕ) : Type 0 where
+  pub rows : AreBoundRowsIn reading query forms count (take written room) (drop read forms)
   pub read_in_range : read ≤ length forms
   pub few : count ≤ read
   pub written_in_range : written ≤ length room
   pub same_length : length room ≡ length old
   pub rest : drop written room ≡ drop written old
 
-pub no_rows : (mode : Bool) (query forms old : List ℕ) → RowsSoFar mode query forms old old 0 0 0
-no_rows mode query forms old = record {
-  rows = no_row mode query forms;
+pub no_rows : (reading : Reading) (query forms old : List ℕ) → RowsSoFar reading query forms old old 0 0 0
+no_rows reading query forms old = record {
+  rows = no_row reading query forms;
   read_in_range = omega arith;
   few = omega arith;
   written_in_range = omega arith;
@@ -93,13 +95,13 @@ no_rows mode query forms old = record {
   rest = refl;
 }
 
-module _ (mode : Bool) (query forms old room : List ℕ) (count read written : ℕ) (s : RowsSoFar mode query forms old room count read written) where
+module _ (reading : Reading) (query forms old room : List ℕ) (count read written : ℕ) (s : RowsSoFar reading query forms old room count read written) where
   front_length : length (take written room) ≡ written
   front_length = length-take-le written room s.written_in_range
 
   -- the row after them, whose text is written behind theirs
   module _ (taken len : ℕ) (new text : List ℕ) (positive : 0 < taken) (within : taken ≤ length (drop read forms))
-      (bound : IsBoundRow mode query (drop read forms) text (drop taken (drop read forms))) (fits : len ≤ length (drop written room))
+      (bound : IsBoundRowIn reading query (drop read forms) text (drop taken (drop read forms))) (fits : len ≤ length (drop written room))
       (front : take len new ≡ lenenc_spelling text) (back : drop len new ≡ drop len (drop written room)) where
     texts_are : take (written + len) (take written room ++ new) ≡ take written room ++ lenenc_spelling text
     texts_are =
@@ -114,14 +116,14 @@ module _ (mode : Bool) (query forms old room : List ℕ) (count read written : �
         ∙ (ap (drop len) s.rest ∙ drop-drop len written old)))
 
     one_more : (room' : List ℕ) → room' ≡ take written room ++ new → length room' ≡ length room →
-        RowsSoFar mode query forms old room' (count + 1) (read + taken) (written + len)
+        RowsSoFar reading query forms old room' (count + 1) (read + taken) (written + len)
     one_more room' is same = record {
       rows =
-          subst (λ texts. AreBoundRows mode query forms (count + 1) texts (drop (read + taken) forms))
+          subst (λ texts. AreBoundRowsIn reading query forms (count + 1) texts (drop (read + taken) forms))
           (sym (ap (take (written + len)) is ∙ texts_are))
-          (subst (λ next. AreBoundRows mode query forms (count + 1) (take written room ++ lenenc_spelling text) next)
+          (subst (λ next. AreBoundRowsIn reading query forms (count + 1) (take written room ++ lenenc_spelling text) next)
           (drop-drop taken read forms)
-          (row_after mode query forms count (take written room) (drop read forms) text (drop taken (drop read forms)) s.rows bound));
+          (row_after reading query forms count (take written room) (drop read forms) text (drop taken (drop read forms)) s.rows bound));
       read_in_range = omega (arith, within, length-drop read forms, s.read_in_range);
       few = omega (arith, positive, s.few);
       written_in_range = omega (arith, fits, length-drop written room, s.written_in_range, same);
@@ -142,32 +144,32 @@ module _ (mode : Bool) (query forms old room : List ℕ) (count read written : �
   room_kept new same = room_is new ∙ (ap (λ x. take written room ++ x) same ∙ take-append-drop written room)
 
   module _ (bytes part new : List ℕ) (bytes_are : bytes ≡ drop read forms) (part_is : part ≡ drop written room) (taken : ℕ) where
-    row_after_them : (outcome : Outcome) → IsRowInRoom mode query bytes part new taken outcome →
-        IsRowInRoom mode query (drop read forms) (drop written room) new taken outcome
+    row_after_them : (outcome : Outcome) → IsRowInRoom reading query bytes part new taken outcome →
+        IsRowInRoom reading query (drop read forms) (drop written room) new taken outcome
     row_after_them outcome row =
-        subst (λ p. IsRowInRoom mode query (drop read forms) p new taken outcome) part_is
-        (subst (λ b. IsRowInRoom mode query b part new taken outcome) bytes_are row)
+        subst (λ p. IsRowInRoom reading query (drop read forms) p new taken outcome) part_is
+        (subst (λ b. IsRowInRoom reading query b part new taken outcome) bytes_are row)
 
-    more : (len : ℕ) → IsRowInRoom mode query (drop read forms) (drop written room) new taken (Done len) →
-        length (room_with new) ≡ length room → RowsSoFar mode query forms old (room_with new) (count + 1) (read + taken) (written + len)
+    more : (len : ℕ) → IsRowInRoom reading query (drop read forms) (drop written room) new taken (Done len) →
+        length (room_with new) ≡ length room → RowsSoFar reading query forms old (room_with new) (count + 1) (read + taken) (written + len)
     more len (positive, within, (text, bound, (long, fits, front, back))) same =
         one_more taken len new text positive within bound fits front back (room_with new) (room_is new) same
 
-    pub row_more : (len : ℕ) (outcome : Outcome) → outcome ≡ Done len → IsRowInRoom mode query bytes part new taken outcome →
-        length new ≡ length part → RowsSoFar mode query forms old (room_with new) (count + 1) (read + taken) (written + len)
+    pub row_more : (len : ℕ) (outcome : Outcome) → outcome ≡ Done len → IsRowInRoom reading query bytes part new taken outcome →
+        length new ≡ length part → RowsSoFar reading query forms old (room_with new) (count + 1) (read + taken) (written + len)
     row_more len outcome is row same =
-        more len (subst (λ o. IsRowInRoom mode query (drop read forms) (drop written room) new taken o) is (row_after_them outcome row))
+        more len (subst (λ o. IsRowInRoom reading query (drop read forms) (drop written room) new taken o) is (row_after_them outcome row))
         (ap length (room_is new)
         ∙ (length-append (take written room) new
         ∙ omega (arith, same, ap length part_is, front_length, length-drop written room, s.written_in_range)))
 
     -- what is told of the row after them, if it isn't bound
     abbrev Told : Outcome → Type 0
-    Told outcome = IsRowsOutcome mode query (drop read forms) outcome × IfDone outcome (λ len. len ≡ written)
+    Told outcome = IsRowsOutcomeIn reading query (drop read forms) outcome × IfDone outcome (λ len. len ≡ written)
         × IfTooLong outcome (λ len. length old < written + len) × (new ≡ drop written room)
 
     told : read < length forms → (outcome : Outcome) → ((len : ℕ) → outcome ≡ Done len → ⊥) →
-        IsRowInRoom mode query (drop read forms) (drop written room) new taken outcome → Told outcome
+        IsRowInRoom reading query (drop read forms) (drop written room) new taken outcome → Told outcome
     told some (Done len) not row = absurd (not len refl)
     told some (Room len) not (row, long, same) =
         (row, tt, omega (arith, long, length-drop written room, s.written_in_range, s.same_length), same)
@@ -175,5 +177,5 @@ module _ (mode : Bool) (query forms old room : List ℕ) (count read written : �
     told some outcome not row = (row.0, tt, tt, row.1)
 
     pub row_told : read < length forms → (outcome : Outcome) → ((len : ℕ) → outcome ≡ Done len → ⊥) →
-        IsRowInRoom mode query bytes part new taken outcome → Told outcome
+        IsRowInRoom reading query bytes part new taken outcome → Told outcome
     row_told some outcome not row = told some outcome not (row_after_them outcome row)

@@ -4,6 +4,7 @@ use Rattle.std.specs.Option.{option_or}
 use Rattle.std.proofs.Common.{◌≡◌, ℕ, List, Some, None, length, take, refl, sym, ◌∙◌, subst, arith}
 use Rattle.std.proofs.lemmas.List.{length-take-le}
 use Rattle.mysql_named_params.specs.Tokens.{Token, IsTokens, OnTokens}
+use Rattle.mysql_named_params.specs.Reading.{grammar_reading}
 use Rattle.mysql_named_params.proofs.TokensExistLemmas.{tokens_exist}
 use Rattle.mysql_portable.specs.FirstUnportable.{first_unportable}
 use Rattle.mysql_portable.specs.Steady.{first_unsteady, IsSteady}
@@ -54,7 +55,7 @@ pub both_told : (steadiness : Steadiness) (query : List ℕ) (told : Option Outc
     OnTokens true query (λ ts. found ≡ first_unportable ts) → (mode : Bool) →
     OnTokens mode query (λ ts. (byte_refusal steadiness query ts ≡ None) × (first_unportable ts ≡ found))
 both_told steadiness query told found t agreed none f mode =
-    let o = on_both mode query (λ ts. told ≡ byte_refusal steadiness query ts) (λ ts. found ≡ first_unportable ts) (t mode)
+    let o = on_both (grammar_reading mode) query (λ ts. told ≡ byte_refusal steadiness query ts) (λ ts. found ≡ first_unportable ts) (t mode)
     (in_each_mode query (λ ts. found ≡ first_unportable ts) agreed f mode) in
     (o.0, o.1, (sym o.2.0 ∙ none, sym o.2.1))
 
@@ -66,7 +67,7 @@ module _ (query : List ℕ) (given : Given) (ts : List Token) (is : IsTokens tru
   bound_as Anywhere none text g = λ mode.
       let n = none_told variant.Unsteady (first_unsteady query) (first_unportable ts) none in
       let steady = (none_unsteady query).0 n.0 in
-      let o = on_both mode query (λ us. first_unportable us ≡ None) (λ us. IsSteadyText us given text)
+      let o = on_both (grammar_reading mode) query (λ us. first_unportable us ≡ None) (λ us. IsSteadyText us given text)
       (ts, steady_other true mode query ts steady is, n.1)
       (steady_given query given text steady (ts, steady_other true false query ts steady is, g) mode) in
       (o.0, o.1, is_anywhere_text query o.0 given text (steady_other mode true query o.0 steady o.1) steady (none_is_portable o.0 o.2.0) o.2.1)
@@ -85,7 +86,7 @@ pub steady_in_room : (steadiness : Steadiness) (query : List ℕ) (given : Given
     OnTokens true query (λ ts. IsTextInRoom (IsGivenText steady_literal_of IsSteadyFor ts given) (HasGivenLength steady_literal_of ts given) old new text) →
     IsTextInRoom (IsBoundAs steadiness query given) (HasTextOf (IsBoundAs steadiness query given)) old new text
 steady_in_room steadiness query given old new text none h =
-    let (ts, is, both) = on_both true query (λ ts. refusal_as steadiness query ts ≡ None) (λ ts. IsTextInRoom (IsGivenText steady_literal_of IsSteadyFor ts given) (HasGivenLength steady_literal_of ts given) old new text) none h in
+    let (ts, is, both) = on_both (grammar_reading true) query (λ ts. refusal_as steadiness query ts ≡ None) (λ ts. IsTextInRoom (IsGivenText steady_literal_of IsSteadyFor ts given) (HasGivenLength steady_literal_of ts given) old new text) none h in
     each_in_room _ _ _ old new text (bound_as query given ts is steadiness both.0) (length_as query given ts is steadiness both.0) both.1
 
 -- ---- as an outcome

@@ -1,12 +1,13 @@
 -- A text as a length-encoded string in a room that the caller lends.
-use Rattle.std.specs.Prelude.{Bool, Ok}
+use Rattle.std.specs.Prelude.{Ok}
 use Rattle.std.proofs.Common.{◌≡◌, ◌+◌, ◌≤◌, ◌<◌, ℕ, List, ◌++◌, length, length-append, take, drop, refl, sym, ap, ◌∙◌, arith}
 use Rattle.std.proofs.Math.Seq.{take-append-add, take-append_seam, drop-append-add, drop-append_seam}
 use Rattle.std.proofs.lemmas.List.{drop-drop}
+use Rattle.mysql_named_params.specs.Reading.{OnTokensIn}
+use Rattle.mysql_named_params.specs.declared.places.Reading.{Reading}
 use Rattle.mysql_wire_part.specs.Lenenc.{length_spelling, lenenc_spelling}
 use Rattle.mysql_values.specs.Literal.{literal_of}
 use Rattle.mysql_value_core.proofs.LiteralLemmas.{is_none-literal_of}
-use Rattle.mysql_named_params.specs.Tokens.{OnTokens}
 use Rattle.mysql_params_core.specs.Given.{Given}
 use Rattle.mysql_binding.specs.LiteralForm.{IsPlainLiteral}
 use Rattle.mysql_binding.specs.MeasuredText.{IsMeasured}
@@ -28,21 +29,21 @@ string_length text count n count_is long =
     ∙ omega (arith, ap (λ k. length (length_spelling k)) long, count_is, long)
 
 -- a room that is too short
-pub string_too_long : (mode : Bool) (query : List ℕ) (given : Given) (measured : MeasuredText) (room : List ℕ) (count : ℕ) →
+pub string_too_long : (reading : Reading) (query : List ℕ) (given : Given) (measured : MeasuredText) (room : List ℕ) (count : ℕ) →
     count ≡ length (length_spelling measured.len) → length room < count + measured.len →
-    OnTokens mode query (λ ts. IsMeasured (literal_of mode) ts given measured) →
-    IsStringInRoom mode query given room room (Room (count + measured.len))
-string_too_long mode query given measured room count count_is long (ts, is, m) =
-    let (text, bound, len) = bound_length mode query ts given measured.len is (measured_length (literal_of mode) ts given measured m (is_none-literal_of mode)) in
+    OnTokensIn reading query (λ ts. IsMeasured (literal_of reading.no_backslash_escape) ts given measured) →
+    IsStringInRoom reading query given room room (Room (count + measured.len))
+string_too_long reading query given measured room count count_is long (ts, is, m) =
+    let (text, bound, len) = bound_length reading query ts given measured.len is (measured_length (literal_of reading.no_backslash_escape) ts given measured m (is_none-literal_of reading.no_backslash_escape)) in
     (text, (ts, is, bound), (string_length text count measured.len count_is len, long, refl))
 
 -- a room that is written to
-pub string_written : (mode : Bool) (query : List ℕ) (given : Given) (front text back room : List ℕ) (count n : ℕ) →
+pub string_written : (reading : Reading) (query : List ℕ) (given : Given) (front text back room : List ℕ) (count n : ℕ) →
     front ≡ length_spelling n → count ≡ length (length_spelling n) → length text ≡ n → back ≡ drop count room →
     count + n ≤ length room →
-    OnTokens mode query (λ ts. IsGivenText (literal_of mode) (IsPlainLiteral mode) ts given text) →
-    IsStringInRoom mode query given room (front ++ (text ++ drop n back)) (Done (count + n))
-string_written mode query given front text back room count n front_is count_is long back_is fits (ts, is, g) =
+    OnTokensIn reading query (λ ts. IsGivenText (literal_of reading.no_backslash_escape) (IsPlainLiteral reading.no_backslash_escape) ts given text) →
+    IsStringInRoom reading query given room (front ++ (text ++ drop n back)) (Done (count + n))
+string_written reading query given front text back room count n front_is count_is long back_is fits (ts, is, g) =
     let counted : count ≡ length front = count_is ∙ ap length (sym front_is) in
     let spelled : front ++ text ≡ lenenc_spelling text = ap (λ x. x ++ text) (front_is ∙ ap length_spelling (sym long)) in
     let whole : List ℕ = front ++ (text ++ drop n back) in
@@ -57,11 +58,11 @@ string_written mode query given front text back room count n front_is count_is l
     ∙ (ap (λ k. drop k (text ++ drop n back)) (sym long)
     ∙ (drop-append_seam text (drop n back)
     ∙ (ap (drop n) back_is ∙ drop-drop n count room)))) in
-    (text, (ts, is, is_bound_text mode query ts given text is g), (string_length text count n count_is long, fits, taken, dropped))
+    (text, (ts, is, is_bound_text reading query ts given text is g), (string_length text count n count_is long, fits, taken, dropped))
 
 -- the string is that of a form
-pub form_in_room : (mode : Bool) (query form : List ℕ) (given : Given) (old new : List ℕ) → IsFormReading form (Ok given) →
-    (outcome : Outcome) → IsStringInRoom mode query given old new outcome → IsFormInRoom mode query form old new outcome
-form_in_room mode query form given old new reads (Done len) (text, bound, room) = (text, (given, reads, bound), room)
-form_in_room mode query form given old new reads (Room len) (text, bound, room) = (text, (given, reads, bound), room)
-form_in_room mode query form given old new reads outcome (text, bound, room) = absurd room
+pub form_in_room : (reading : Reading) (query form : List ℕ) (given : Given) (old new : List ℕ) → IsFormReading form (Ok given) →
+    (outcome : Outcome) → IsStringInRoom reading query given old new outcome → IsFormInRoom reading query form old new outcome
+form_in_room reading query form given old new reads (Done len) (text, bound, room) = (text, (given, reads, bound), room)
+form_in_room reading query form given old new reads (Room len) (text, bound, room) = (text, (given, reads, bound), room)
+form_in_room reading query form given old new reads outcome (text, bound, room) = absurd room

@@ -1,7 +1,8 @@
--- What an answer in a caller's room says of the query, in a mode, and the form.
+-- What an answer in a caller's room says of the query, in a reading, and the form.
 use Rattle.std.specs.Prelude.{◌≡◌, ◌≤◌, ◌<◌, ℕ, Bool, List, length, take, drop, Some, Ok, Err, ⊤}
 use Rattle.std.specs.List.{Contains}
-use Rattle.mysql_named_params.specs.Tokens.{OnTokens}
+use Rattle.mysql_named_params.specs.Reading.{OnTokensIn, grammar_reading}
+use Rattle.mysql_named_params.specs.declared.places.Reading.{Reading}
 use Rattle.mysql_named_params.specs.NamesAndMarks.{names}
 use Rattle.mysql_named_params.specs.Places.{HasName, HasMark}
 use Rattle.mysql_named_params.specs.Parsed.{parsed}
@@ -34,87 +35,128 @@ IsInRoomOrMemory answer old new OutOfMemory = new ≡ old
 IsInRoomOrMemory answer old new outcome = IsInRoom answer old new outcome
 
 -- the outcome tells the first place of this name
+abbrev pub IsMissingNameIn : (reading : Reading) (query name : List ℕ) → Outcome → Type 0
+IsMissingNameIn reading query name (Missing place position len) = (length name ≡ len)
+    × OnTokensIn reading query (λ ts. IsFirstOfName ts name place position)
+IsMissingNameIn reading query name outcome = ⊥
+
+-- the same by the names of the grammar
 abbrev pub IsMissingName : (mode : Bool) (query name : List ℕ) → Outcome → Type 0
-IsMissingName mode query name (Missing place position len) = (length name ≡ len)
-    × OnTokens mode query (λ ts. IsFirstOfName ts name place position)
-IsMissingName mode query name outcome = ⊥
+IsMissingName mode = IsMissingNameIn (grammar_reading mode)
 
 -- the error is that a name has no value, and the query doesn't have this name
-abbrev pub MissesOtherName : (mode : Bool) (query : List ℕ) → BindError → Type 0
-MissesOtherName mode query error = (name : List ℕ)
+abbrev pub MissesOtherNameIn : (reading : Reading) (query : List ℕ) → BindError → Type 0
+MissesOtherNameIn reading query error = (name : List ℕ)
     × (cause_of error ≡ Some (refused_params (missing name)))
-    × OnTokens mode query (λ ts. Contains (names ts) name → ⊥)
+    × OnTokensIn reading query (λ ts. Contains (names ts) name → ⊥)
+
+-- the same by the names of the grammar
+abbrev pub MissesOtherName : (mode : Bool) (query : List ℕ) → BindError → Type 0
+MissesOtherName mode = MissesOtherNameIn (grammar_reading mode)
 
 -- the form says parameters, and this is the query bound to them
+abbrev pub IsBoundFormIn : (reading : Reading) (query form text : List ℕ) → Type 0
+IsBoundFormIn reading query form text = (given : Given) × IsFormReading form (Ok given)
+    × OnTokensIn reading query (λ ts. IsBoundText reading.no_backslash_escape ts given text)
+
+-- the same by the names of the grammar
 abbrev pub IsBoundForm : (mode : Bool) (query form text : List ℕ) → Type 0
-IsBoundForm mode query form text = (given : Given) × IsFormReading form (Ok given)
-    × OnTokens mode query (λ ts. IsBoundText mode ts given text)
+IsBoundForm mode = IsBoundFormIn (grammar_reading mode)
 
 -- the form says parameters, for which binding to the query is refused, and this is the first cause
+abbrev pub IsRefusedForIn : (reading : Reading) (query form : List ℕ) → Cause → Type 0
+IsRefusedForIn reading query form cause = (given : Given) × IsFormReading form (Ok given)
+    × OnTokensIn reading query (λ ts. first_cause ts given ≡ Some cause)
+
+-- the same by the names of the grammar
 abbrev pub IsRefusedFor : (mode : Bool) (query form : List ℕ) → Cause → Type 0
-IsRefusedFor mode query form cause = (given : Given) × IsFormReading form (Ok given)
-    × OnTokens mode query (λ ts. first_cause ts given ≡ Some cause)
+IsRefusedFor mode = IsRefusedForIn (grammar_reading mode)
 
 -- the query bound to what the form says has this length
+abbrev pub HasBoundLengthIn : (reading : Reading) (query form : List ℕ) → ℕ → Type 0
+HasBoundLengthIn reading query form len =
+    (text : List ℕ) × IsBoundFormIn reading query form text × (length text ≡ len)
+
+-- the same by the names of the grammar
 abbrev pub HasBoundLength : (mode : Bool) (query form : List ℕ) → ℕ → Type 0
-HasBoundLength mode query form len =
-    (text : List ℕ) × IsBoundForm mode query form text × (length text ≡ len)
+HasBoundLength mode = HasBoundLengthIn (grammar_reading mode)
 
 -- what an outcome of binding says of the query and the form
-abbrev pub IsBindOutcome : (mode : Bool) (query form : List ℕ) → Outcome → Type 0
+abbrev pub IsBindOutcomeIn : (reading : Reading) (query form : List ℕ) → Outcome → Type 0
 -- the bound text has this length
-IsBindOutcome mode query form (Done len) = HasBoundLength mode query form len
-IsBindOutcome mode query form (Room len) = HasBoundLength mode query form len
+IsBindOutcomeIn reading query form (Done len) = HasBoundLengthIn reading query form len
+IsBindOutcomeIn reading query form (Room len) = HasBoundLengthIn reading query form len
 -- out of memory says nothing
-IsBindOutcome mode query form OutOfMemory = ⊤
+IsBindOutcomeIn reading query form OutOfMemory = ⊤
 -- the form is refused for this
-IsBindOutcome mode query form (FormEnd place position) =
+IsBindOutcomeIn reading query form (FormEnd place position) =
     IsFormReading form (Err (form_end place position))
-IsBindOutcome mode query form (FormLengthLead place position lead) =
+IsBindOutcomeIn reading query form (FormLengthLead place position lead) =
     IsFormReading form (Err (length_lead place position lead))
-IsBindOutcome mode query form (FormType place position number) =
+IsBindOutcomeIn reading query form (FormType place position number) =
     IsFormReading form (Err (unread_type place position number))
-IsBindOutcome mode query form (FormMixed place position) =
+IsBindOutcomeIn reading query form (FormMixed place position) =
     IsFormReading form (Err (mixed_form place position))
-IsBindOutcome mode query form (FormRepeated place position len) =
+IsBindOutcomeIn reading query form (FormRepeated place position len) =
     IsFormReading form (Err (repeated_name place position len))
 -- the form is not refused, and this is the first cause
-IsBindOutcome mode query form Mixed = IsRefusedFor mode query form mixed_query
-IsBindOutcome mode query form (Missing place position len) =
-    (name : List ℕ) × IsRefusedFor mode query form (refused_params (missing name))
-    × IsMissingName mode query name (Missing place position len)
-IsBindOutcome mode query form NamedForPositional =
-    IsRefusedFor mode query form (refused_params (confused NamedParamsForPositionalQuery))
-IsBindOutcome mode query form PositionalForNamed =
-    IsRefusedFor mode query form (refused_params (confused PositionalParamsForNamedQuery))
-IsBindOutcome mode query form (MarkCount marks values) =
-    IsRefusedFor mode query form (mark_count marks values)
-IsBindOutcome mode query form (NotAlone place position) =
-    IsRefusedFor mode query form (not_alone place position)
-IsBindOutcome mode query form (Float place) = IsRefusedFor mode query form (float_value place)
+IsBindOutcomeIn reading query form Mixed = IsRefusedForIn reading query form mixed_query
+IsBindOutcomeIn reading query form (Missing place position len) =
+    (name : List ℕ) × IsRefusedForIn reading query form (refused_params (missing name))
+    × IsMissingNameIn reading query name (Missing place position len)
+IsBindOutcomeIn reading query form NamedForPositional =
+    IsRefusedForIn reading query form (refused_params (confused NamedParamsForPositionalQuery))
+IsBindOutcomeIn reading query form PositionalForNamed =
+    IsRefusedForIn reading query form (refused_params (confused PositionalParamsForNamedQuery))
+IsBindOutcomeIn reading query form (MarkCount marks values) =
+    IsRefusedForIn reading query form (mark_count marks values)
+IsBindOutcomeIn reading query form (NotAlone place position) =
+    IsRefusedForIn reading query form (not_alone place position)
+IsBindOutcomeIn reading query form (Float place) =
+    IsRefusedForIn reading query form (float_value place)
 -- nothing else is refused
-IsBindOutcome mode query form (Unsteady position) = ⊥
-IsBindOutcome mode query form (Unportable number position) = ⊥
-IsBindOutcome mode query form (Backslash position) = ⊥
+IsBindOutcomeIn reading query form (Unsteady position) = ⊥
+IsBindOutcomeIn reading query form (Unportable number position) = ⊥
+IsBindOutcomeIn reading query form (Backslash position) = ⊥
+
+-- the same by the names of the grammar
+abbrev pub IsBindOutcome : (mode : Bool) (query form : List ℕ) → Outcome → Type 0
+IsBindOutcome mode = IsBindOutcomeIn (grammar_reading mode)
 
 -- the query has no names or no marks, and this is answered to it
-abbrev pub IsNamesAnswer : (mode : Bool) (query text : List ℕ) → Type 0
-IsNamesAnswer mode query text = OnTokens mode query (λ ts.
+abbrev pub IsNamesAnswerIn : (reading : Reading) (query text : List ℕ) → Type 0
+IsNamesAnswerIn reading query text = OnTokensIn reading query (λ ts.
     (HasName ts × HasMark ts → ⊥) × (text ≡ names_answer (parsed ts)))
 
--- the answer to the query has this length
-abbrev pub HasNamesLength : (mode : Bool) (query : List ℕ) → ℕ → Type 0
-HasNamesLength mode query len =
-    (text : List ℕ) × IsNamesAnswer mode query text × (length text ≡ len)
+-- the same by the names of the grammar
+abbrev pub IsNamesAnswer : (mode : Bool) (query text : List ℕ) → Type 0
+IsNamesAnswer mode = IsNamesAnswerIn (grammar_reading mode)
 
--- if the query has a name and a mark in this mode, this holds
+-- the answer to the query has this length
+abbrev pub HasNamesLengthIn : (reading : Reading) (query : List ℕ) → ℕ → Type 0
+HasNamesLengthIn reading query len =
+    (text : List ℕ) × IsNamesAnswerIn reading query text × (length text ≡ len)
+
+-- the same by the names of the grammar
+abbrev pub HasNamesLength : (mode : Bool) (query : List ℕ) → ℕ → Type 0
+HasNamesLength mode = HasNamesLengthIn (grammar_reading mode)
+
+-- if the query has a name and a mark in this reading, this holds
+abbrev pub IfMixedIn : (reading : Reading) (query : List ℕ) → Type 0 → Type 0
+IfMixedIn reading query P = OnTokensIn reading query (λ ts. HasName ts × HasMark ts → P)
+
+-- the same by the names of the grammar
 abbrev pub IfMixed : (mode : Bool) (query : List ℕ) → Type 0 → Type 0
-IfMixed mode query P = OnTokens mode query (λ ts. HasName ts × HasMark ts → P)
+IfMixed mode = IfMixedIn (grammar_reading mode)
 
 -- what an outcome of asking for names says of the query; it is none of the others
+abbrev pub IsNamesOutcomeIn : (reading : Reading) (query : List ℕ) → Outcome → Type 0
+IsNamesOutcomeIn reading query (Done len) = HasNamesLengthIn reading query len
+IsNamesOutcomeIn reading query (Room len) = HasNamesLengthIn reading query len
+IsNamesOutcomeIn reading query OutOfMemory = ⊤
+IsNamesOutcomeIn reading query Mixed = OnTokensIn reading query (λ ts. HasName ts × HasMark ts)
+IsNamesOutcomeIn reading query outcome = ⊥
+
+-- the same by the names of the grammar
 abbrev pub IsNamesOutcome : (mode : Bool) (query : List ℕ) → Outcome → Type 0
-IsNamesOutcome mode query (Done len) = HasNamesLength mode query len
-IsNamesOutcome mode query (Room len) = HasNamesLength mode query len
-IsNamesOutcome mode query OutOfMemory = ⊤
-IsNamesOutcome mode query Mixed = OnTokens mode query (λ ts. HasName ts × HasMark ts)
-IsNamesOutcome mode query outcome = ⊥
+IsNamesOutcome mode = IsNamesOutcomeIn (grammar_reading mode)

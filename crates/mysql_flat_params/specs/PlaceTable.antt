@@ -1,7 +1,8 @@
 -- A table of the places of a query, as plain numbers that the caller keeps.
 use Rattle.std.specs.Prelude.{◌≡◌, ◌≤◌, ℕ, ℤ, pos, Bool, List, nat_eq, if◌then◌else◌, Some, None, Ok, Err, length, take, drop, ⊤}
 use Rattle.std.specs.List.{Contains}
-use Rattle.mysql_named_params.specs.Tokens.{OnTokens}
+use Rattle.mysql_named_params.specs.Reading.{OnTokensIn, grammar_reading}
+use Rattle.mysql_named_params.specs.declared.places.Reading.{Reading}
 use Rattle.mysql_named_params.specs.NamesAndMarks.{names}
 use Rattle.mysql_named_params.specs.Places.{place_count}
 use Rattle.mysql_params_core.specs.GivenValues.{Given}
@@ -10,12 +11,13 @@ use Rattle.mysql_binding.specs.PlaceSpans.{AreSpansOf, FitSurvey, names_at}
 use Rattle.mysql_binding.specs.declared.binding.spans.PlaceSpan.{PlaceSpan}
 use Rattle.mysql_binding.specs.declared.binding.survey.Survey.{Survey}
 use Rattle.mysql_flat_params.specs.FlatForm.{IsFormReading}
-use Rattle.mysql_flat_params.specs.IntoRoom.{IsBindOutcome}
+use Rattle.mysql_flat_params.specs.IntoRoom.{IsBindOutcomeIn}
 use Rattle.mysql_flat_params.specs.Outcomes as outcomes
 use Rattle.mysql_flat_params.specs.Outcomes.{no_fields}
 use Rattle.mysql_flat_params.specs.declared.outcome.Outcome.{Outcome}
 use Rattle.mysql_flat_params.specs.declared.outcome.Outcome.TheVariants.{Done, OutOfMemory, Room}
 use Rattle.mysql_flat_params.specs.declared.outcome.Report.{Report}
+use Rattle.mysql_flat_params.specs.declared.place_table.ReadTemplate.{ReadTemplate}
 use Rattle.mysql_flat_params.specs.declared.place_table.TableHead.{TableHead}
 use Rattle.mysql_flat_params.specs.declared.place_table.TableOutcome.{TableOutcome}
 use Rattle.mysql_flat_params.specs.declared.place_table.Template.{Template}
@@ -30,50 +32,90 @@ survey_of head = record {
   piece_bytes = head.piece_bytes;
 }
 
--- head and places are the table of the query in the mode
+-- head and places are the table of the query in the reading
+abbrev pub IsTableOfIn : TableHead → List PlaceSpan → Reading → List ℕ → Type 0
+IsTableOfIn head places = AreSpansOf (survey_of head) places
+
+-- the same by the names of the grammar
 abbrev pub IsTableOf : TableHead → List PlaceSpan → Bool → List ℕ → Type 0
-IsTableOf head places = AreSpansOf (survey_of head) places
+IsTableOf head places mode = IsTableOfIn head places (grammar_reading mode)
+
+-- the template as one that is read by the names of the grammar
+abbrev pub read_template : Template → ReadTemplate
+read_template template = record {
+  query = template.query;
+  reading = grammar_reading template.no_backslash_escape;
+  head = template.head;
+  places = template.places;
+}
+
+-- the table is that of the query in its reading
+abbrev pub HasOwnTableIn : ReadTemplate → Type 0
+HasOwnTableIn template =
+    IsTableOfIn template.head template.places.now template.reading template.query.now
 
 -- the table is that of the query in its mode
 abbrev pub HasOwnTable : Template → Type 0
-HasOwnTable template =
-    IsTableOf template.head template.places.now template.no_backslash_escape template.query.now
+HasOwnTable template = HasOwnTableIn (read_template template)
 
 -- by its numbers the table is one that the query can have
-abbrev pub CanHaveTable : Template → Type 0
-CanHaveTable template = FitSurvey (survey_of template.head) template.places.now template.query.now
+abbrev pub CanHaveTableIn : ReadTemplate → Type 0
+CanHaveTableIn template =
+    FitSurvey (survey_of template.head) template.places.now template.query.now
 
--- the table of the query in the mode is made: its head, and its places at the front of the room,
+-- the same by the names of the grammar
+abbrev pub CanHaveTable : Template → Type 0
+CanHaveTable template = CanHaveTableIn (read_template template)
+
+-- the table of the query in the reading is made: its head, and its places at the front of the room,
 -- behind which nothing is changed
+abbrev pub IsMadeTableIn : (reading : Reading) (query : List ℕ) → TableHead →
+    (old new : List PlaceSpan) → ℕ → Type 0
+IsMadeTableIn reading query head old new len = (len ≤ length old)
+    × IsTableOfIn head (take len new) reading query × (drop len new ≡ drop len old)
+
+-- the same by the names of the grammar
 abbrev pub IsMadeTable : (mode : Bool) (query : List ℕ) → TableHead → (old new : List PlaceSpan) → ℕ
     → Type 0
-IsMadeTable mode query head old new len = (len ≤ length old)
-    × IsTableOf head (take len new) mode query × (drop len new ≡ drop len old)
+IsMadeTable mode = IsMadeTableIn (grammar_reading mode)
 
 -- what an outcome of making the table says of the query
-abbrev pub IsTableOutcome : (mode : Bool) (query : List ℕ) → Outcome → Type 0
+abbrev pub IsTableOutcomeIn : (reading : Reading) (query : List ℕ) → Outcome → Type 0
 -- it has so many places
-IsTableOutcome mode query (Done len) = OnTokens mode query (λ ts. len ≡ place_count ts)
-IsTableOutcome mode query (Room len) = OnTokens mode query (λ ts. len ≡ place_count ts)
+IsTableOutcomeIn reading query (Done len) = OnTokensIn reading query (λ ts. len ≡ place_count ts)
+IsTableOutcomeIn reading query (Room len) = OnTokensIn reading query (λ ts. len ≡ place_count ts)
 -- it has some
-IsTableOutcome mode query OutOfMemory = OnTokens mode query (λ ts. place_count ts ≡ 0 → ⊥)
+IsTableOutcomeIn reading query OutOfMemory =
+    OnTokensIn reading query (λ ts. place_count ts ≡ 0 → ⊥)
 -- it is none of the others
-IsTableOutcome mode query outcome = ⊥
+IsTableOutcomeIn reading query outcome = ⊥
+
+-- the same by the names of the grammar
+abbrev pub IsTableOutcome : (mode : Bool) (query : List ℕ) → Outcome → Type 0
+IsTableOutcome mode = IsTableOutcomeIn (grammar_reading mode)
 
 -- what an outcome of binding by the table of a query says of the query and the form
+abbrev pub IsTableBindOutcomeIn : (reading : Reading) (query form : List ℕ) → TableOutcome → Type 0
+IsTableBindOutcomeIn reading query form (AsQuery outcome) =
+    IsBindOutcomeIn reading query form outcome
+IsTableBindOutcomeIn reading query form OtherTable = ⊥
+
+-- the same by the names of the grammar
 abbrev pub IsTableBindOutcome : (mode : Bool) (query form : List ℕ) → TableOutcome → Type 0
-IsTableBindOutcome mode query form (AsQuery outcome) = IsBindOutcome mode query form outcome
-IsTableBindOutcome mode query form OtherTable = ⊥
+IsTableBindOutcome mode = IsTableBindOutcomeIn (grammar_reading mode)
 
 -- The form says parameters, of which one is missing for what stands in the first places, as many as
--- there are names by the head. It is missing for a name that the query doesn't have in the mode.
-abbrev pub MissesOtherPlace : Template → (form : List ℕ) → Type 0
-MissesOtherPlace template form = (given : Given) × (name : List ℕ)
+-- there are names by the head. It is missing for a name that the query doesn't have in the reading.
+abbrev pub MissesOtherPlaceIn : ReadTemplate → (form : List ℕ) → Type 0
+MissesOtherPlaceIn template form = (given : Given) × (name : List ℕ)
     × IsFormReading form (Ok given)
     × (lookup given (names_at (take template.head.names template.places.now) template.query.now)
     ≡ Err (missing name))
-    × OnTokens template.no_backslash_escape template.query.now (λ ts.
-    Contains (names ts) name → ⊥)
+    × OnTokensIn template.reading template.query.now (λ ts. Contains (names ts) name → ⊥)
+
+-- the same by the names of the grammar
+abbrev pub MissesOtherPlace : Template → (form : List ℕ) → Type 0
+MissesOtherPlace template = MissesOtherPlaceIn (read_template template)
 
 -- the number of an outcome: those of binding to a query, and one more
 abbrev pub number_of : TableOutcome → ℕ

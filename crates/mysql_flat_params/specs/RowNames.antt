@@ -5,7 +5,8 @@ use Rattle.std.specs.Cmp.Lexicographic.{pointwise}
 use Rattle.std.specs.Borrow.{Bor}
 use Rattle.mysql_value_core.specs.declared.value.Value.{Value}
 use Rattle.mysql_value_core.specs.declared.value.ValueRef.{ValueRef}
-use Rattle.mysql_named_params.specs.Tokens.{OnTokens}
+use Rattle.mysql_named_params.specs.Reading.{OnTokensIn}
+use Rattle.mysql_named_params.specs.declared.places.Reading.{Reading}
 use Rattle.mysql_named_params.specs.NamesAndMarks.{names}
 use Rattle.mysql_params_core.specs.GivenValues.{Given, empty, named}
 use Rattle.mysql_params_core.specs.GivenBorrowed.{pair_map}
@@ -40,10 +41,10 @@ AreValuesAt pairs places values = map (slice_get (values_of_pairs pairs)) places
 
 -- The names are those of a form by name, and each name of the query, which has no marks, is found
 -- among them.
-pub record AreFoundNames (mode : Bool) (query : List ℕ) (found : FoundNames) : Type 0 where
+pub record AreFoundNames (reading : Reading) (query : List ℕ) (found : FoundNames) : Type 0 where
   pub some : 0 < length found.pairs.items
   pub own : AreOwnNames (names_of_pairs found.pairs.items)
-  pub at_places : OnTokens mode query (λ ts. (mixed_cause ts ≡ None) × (names ts ≢ [])
+  pub at_places : OnTokensIn reading query (λ ts. (mixed_cause ts ≡ None) × (names ts ≢ [])
       × AreAtPlaces (names_of_pairs found.pairs.items) found.places.items (names ts))
 
 -- the form says just these pairs

@@ -21,10 +21,17 @@ use mysql_binding::{KEPT_PLACES, NO_PLACE, SurveyedQuery, TextInRoom};
 use mysql_fragments::{
     FragmentsError, SteadyFragmentsError, bind_placed_into, first_unsteady_fragment, placed_error,
 };
+use mysql_named_params::places::Reading;
 use mysql_portable::portable::first_unportable;
 use mysql_portable::steady::first_unsteady;
 use mysql_steady_text::SteadyForm;
 use std::alloc::{AllocError, Global};
+
+// A steady query has the same tokens in both modes, so it is read in one of them.
+const EITHER_MODE: Reading = Reading {
+    no_backslash_escape: false,
+    wide_names: false,
+};
 
 /// Binds into a query what a form says, as
 /// [`bind_fragments_anywhere`](mysql_fragments::bind_fragments_anywhere) binds the form's
@@ -102,7 +109,7 @@ fn bind_kept_steady(
     ensures unchanged { OnErr result (room.new ≡ room.old) }
 {
     let mut first = [NO_PLACE; KEPT_PLACES];
-    let surveyed = SurveyedQuery::new(query, false, &mut first);
+    let surveyed = SurveyedQuery::new(query, EITHER_MODE, &mut first);
     let placed = placed_fragments(alloc, &surveyed, kept)?;
     let placed = placed.as_slice();
     if let Some(error) = placed_error(surveyed.survey, placed) {
@@ -134,7 +141,7 @@ fn anywhere_outcome(query: &[u8], error: SteadyFragmentsError) -> FragmentsOutco
                 position: found.at,
             })
         }
-        SteadyFragmentsError::Fragments(error) => fragments_outcome(query, error, false),
+        SteadyFragmentsError::Fragments(error) => fragments_outcome(query, error, EITHER_MODE),
         SteadyFragmentsError::UnsteadyFragment { place } => {
             FragmentsOutcome::UnsteadyFragment { place }
         }

@@ -1,26 +1,27 @@
 //! The text that is bound to fragments, in a room that the caller lends.
 ghost use Rattle.std.specs.Prelude.{◌≡◌, ◌≤◌, ◌<◌, List, ℕ, [], Ok, IfErr, IfOk, IsErrOf, OnErr, length, take, drop, true};
 ghost use Rattle.std.specs.List.{Contains};
-ghost use Rattle.mysql_named_params.specs.Tokens.{OnTokens};
+ghost use Rattle.mysql_named_params.specs.Reading.{OnTokensIn};
 ghost use Rattle.mysql_named_params.specs.Places.{HasMark, HasName, names};
 ghost use Rattle.mysql_binding.specs.TextInRoom.{HasTextOf, IsTextInRoom};
 ghost use Rattle.mysql_fragments.specs.Expanded.{IsBoundFragments};
 ghost use Rattle.mysql_fragments.specs.FragmentErrors.{IsCauseOrMemory, first_cause};
 ghost use Rattle.mysql_fragments.specs.GivenFragments.{GivenFragments};
-ghost use Rattle.mysql_flat_params.specs.IntoRoom.{IfMixed, IsMissingName};
+ghost use Rattle.mysql_flat_params.specs.IntoRoom.{IfMixed, IfMixedIn, IsMissingNameIn};
 ghost use Rattle.mysql_flat_params.specs.FlatFragments.{IsFormReading};
 ghost use Rattle.mysql_flat_params.specs.FormInPlace.{IsGivenAs};
-ghost use Rattle.mysql_flat_params.specs.FragmentsIntoRoom.{IsBoundForm, IsFragmentsOutcome};
+ghost use Rattle.mysql_flat_params.specs.FragmentsIntoRoom.{IsBoundForm, IsBoundFormIn, IsFragmentsOutcome, IsFragmentsOutcomeIn};
 ghost use Rattle.mysql_flat_params.specs.FragmentsOutcomes.{HasNoAnswer, IfDone, IfTooLong, UnlessDone};
 
 use crate::fragments_in_place::{FormInPlace, form_in_place};
 use crate::fragments_outcome::FragmentsOutcome;
 use crate::into_room::{form_outcome, text_outcome};
-use crate::missing_place::name_place;
+use crate::missing_place::name_place_read;
 use crate::outcome::Outcome;
 use crate::placed::placed_fragments;
 use mysql_binding::{KEPT_PLACES, NO_PLACE, PlainForm, SurveyedQuery, TextInRoom};
 use mysql_fragments::{FragmentsError, bind_placed_into, placed_error};
+use mysql_named_params::places::Reading;
 use mysql_params_core::params::ParamsConfusionError;
 use std::alloc::{AllocError, Global};
 
@@ -57,13 +58,41 @@ pub fn bind_fragments_into(
     ensures too_long { IfTooLong result (λ len. length room.old < len) }
     ensures unchanged { UnlessDone result (room.new ≡ room.old) }
 {
+    let reading = Reading {
+        no_backslash_escape,
+        wide_names: false,
+    };
+    bind_fragments_into_read(alloc, query, form, reading, room)
+}
+
+/// [`bind_fragments_into`] of a query in any reading. All is as there, over the names of the
+/// reading.
+pub fn bind_fragments_into_read(
+    alloc: Global,
+    query: &[u8],
+    form: &[u8],
+    reading: Reading,
+    room: &mut [u8],
+) -> FragmentsOutcome
+    ensures outcome { IsFragmentsOutcomeIn reading query.now form.now result }
+    ensures written { IfDone result (λ len.
+        IsBoundFormIn reading query.now form.now (take len room.new)) }
+
+    // The empty form over a query with a name and a mark is refused without allocating.
+    ensures mixed { form.now ≡ [] → IfMixedIn reading query.now
+        (result ≡ FragmentsOutcome.AsValues Outcome.Mixed) }
+    ensures rest { IfDone result (λ len.
+        (len ≤ length room.old) × (drop len room.new ≡ drop len room.old)) }
+    ensures too_long { IfTooLong result (λ len. length room.old < len) }
+    ensures unchanged { UnlessDone result (room.new ≡ room.old) }
+{
     let kept = match form_in_place(alloc, form) {
         Ok(kept) => kept,
         Err(error) => return FragmentsOutcome::AsValues(form_outcome(error)),
     };
-    match bind_kept(alloc, query, &kept, no_backslash_escape, room) {
+    match bind_kept(alloc, query, &kept, reading, room) {
         Ok(text) => FragmentsOutcome::AsValues(text_outcome(text)),
-        Err(error) => fragments_outcome(query, error, no_backslash_escape),
+        Err(error) => fragments_outcome(query, error, reading),
     }
 }
 
@@ -72,30 +101,30 @@ fn bind_kept(
     alloc: Global,
     query: &[u8],
     kept: &FormInPlace<'_>,
-    no_backslash_escape: bool,
+    reading: Reading,
     room: &mut [u8],
 ) -> Result<TextInRoom, FragmentsError>
     requires { (given : GivenFragments) × IsGivenAs kept.now given }
     ensures bound { (given : GivenFragments) → IsGivenAs kept.now given →
-        OnTokens no_backslash_escape query.now (λ ts. IfOk result (IsTextInRoom
-        (IsBoundFragments no_backslash_escape ts given)
-        (HasTextOf (IsBoundFragments no_backslash_escape ts given)) room.old room.new)) }
+        OnTokensIn reading query.now (λ ts. IfOk result (IsTextInRoom
+        (IsBoundFragments reading.no_backslash_escape ts given)
+        (HasTextOf (IsBoundFragments reading.no_backslash_escape ts given)) room.old room.new)) }
     ensures refused { (given : GivenFragments) → IsGivenAs kept.now given →
-        OnTokens no_backslash_escape query.now (λ ts. IfErr result
+        OnTokensIn reading query.now (λ ts. IfErr result
         (IsCauseOrMemory (first_cause true ts given))) }
-    ensures mixed { OnTokens no_backslash_escape query.now (λ ts.
+    ensures mixed { OnTokensIn reading query.now (λ ts.
         HasName ts × HasMark ts → IsErrOf result FragmentsError.Mixed) }
     ensures unchanged { OnErr result (room.new ≡ room.old) }
 {
     let mut first = [NO_PLACE; KEPT_PLACES];
-    let surveyed = SurveyedQuery::new(query, no_backslash_escape, &mut first);
+    let surveyed = SurveyedQuery::new(query, reading, &mut first);
     let placed = placed_fragments(alloc, &surveyed, kept)?;
     let placed = placed.as_slice();
     if let Some(error) = placed_error(surveyed.survey, placed) {
         return Err(error);
     }
     let form = PlainForm {
-        no_backslash_escape,
+        no_backslash_escape: reading.no_backslash_escape,
     };
     match bind_placed_into(&surveyed, placed, &form, room) {
         Some(text) => Ok(text),
@@ -107,14 +136,14 @@ fn bind_kept(
 pub(crate) fn fragments_outcome(
     query: &[u8],
     error: FragmentsError,
-    no_backslash_escape: bool,
+    reading: Reading,
 ) -> FragmentsOutcome
-    requires { (given : GivenFragments) × OnTokens no_backslash_escape query.now (λ ts.
+    requires { (given : GivenFragments) × OnTokensIn reading query.now (λ ts.
         IsCauseOrMemory (first_cause true ts given) error) }
     ensures outcome { (form : List ℕ) (given : GivenFragments) → IsFormReading form (Ok given) →
-        OnTokens no_backslash_escape query.now (λ ts.
+        OnTokensIn reading query.now (λ ts.
         IsCauseOrMemory (first_cause true ts given) error) →
-        IsFragmentsOutcome no_backslash_escape query.now form result }
+        IsFragmentsOutcomeIn reading query.now form result }
     ensures mixed { error ≡ FragmentsError.Mixed →
         result ≡ FragmentsOutcome.AsValues Outcome.Mixed }
     ensures no_answer { HasNoAnswer result }
@@ -123,7 +152,7 @@ pub(crate) fn fragments_outcome(
         FragmentsError::Fault { place, fault } => return FragmentsOutcome::Fault { place, fault },
         FragmentsError::Mixed => Outcome::Mixed,
         FragmentsError::Missing(missing) => {
-            missing_outcome(query, missing.0.as_slice(), no_backslash_escape)
+            missing_outcome(query, missing.0.as_slice(), reading)
         }
         FragmentsError::Confusion(ParamsConfusionError::NamedParamsForPositionalQuery) => {
             Outcome::NamedForPositional
@@ -145,11 +174,11 @@ pub(crate) fn fragments_outcome(
 }
 
 // The refusal of a name of this query that has no fragment.
-fn missing_outcome(query: &[u8], name: &[u8], no_backslash_escape: bool) -> Outcome
-    requires { OnTokens no_backslash_escape query.now (λ ts. Contains (names ts) name.now) }
-    ensures { IsMissingName no_backslash_escape query.now name.now result }
+fn missing_outcome(query: &[u8], name: &[u8], reading: Reading) -> Outcome
+    requires { OnTokensIn reading query.now (λ ts. Contains (names ts) name.now) }
+    ensures { IsMissingNameIn reading query.now name.now result }
 {
-    match name_place(query, name, no_backslash_escape) {
+    match name_place_read(query, name, reading) {
         Some((place, position)) => Outcome::Missing {
             place,
             position,

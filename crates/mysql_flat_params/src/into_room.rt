@@ -1,7 +1,8 @@
 //! The bound text, in a room that the caller lends.
-ghost use Rattle.std.specs.Prelude.{◌≡◌, ◌≢◌, ◌⊎◌, ◌+◌, ◌≤◌, ◌<◌, ◌++◌, ℕ, Bool, List, [], ◌∷◌, None, Some, Ok, length, take, drop, map, IfErr, IfOk, IfSome, IsErrOf, OnErr, alloc_error};
+ghost use Rattle.std.specs.Prelude.{◌≡◌, ◌≢◌, ◌⊎◌, ◌+◌, ◌≤◌, ◌<◌, ◌++◌, ℕ, List, [], ◌∷◌, None, Some, Ok, length, take, drop, map, IfErr, IfOk, IfSome, IsErrOf, OnErr, alloc_error};
 ghost use Rattle.std.specs.List.{Contains};
-ghost use Rattle.mysql_named_params.specs.Tokens.{OnTokens};
+ghost use Rattle.mysql_named_params.specs.Reading.{OnTokensIn};
+ghost use Rattle.mysql_named_params.specs.declared.places.Reading.{Reading};
 ghost use Rattle.mysql_named_params.specs.Places.{HasMark, HasName, names};
 ghost use Rattle.mysql_params_core.specs.Given.{Given};
 ghost use Rattle.mysql_params_core.specs.GivenBorrowed.{given_by_borrowed};
@@ -14,8 +15,8 @@ ghost use Rattle.mysql_flat_params.specs.FormErrors.{IsFormRefusal};
 ghost use Rattle.mysql_flat_params.specs.FormParams.{given_in_place, pairs_in_place};
 ghost use Rattle.mysql_flat_params.specs.FragmentsAnywhereIntoRoom.{IsAnywhereAsValues};
 ghost use Rattle.mysql_flat_params.specs.FragmentsFormErrors as fragments;
-ghost use Rattle.mysql_flat_params.specs.FragmentsIntoRoom.{IsOutcomeAsValues};
-ghost use Rattle.mysql_flat_params.specs.IntoRoom.{IfMixed, IsBindOutcome, IsBoundForm, IsMissingName, MissesOtherName};
+ghost use Rattle.mysql_flat_params.specs.FragmentsIntoRoom.{IsOutcomeAsValuesIn};
+ghost use Rattle.mysql_flat_params.specs.IntoRoom.{IfMixed, IfMixedIn, IsBindOutcome, IsBindOutcomeIn, IsBoundForm, IsBoundFormIn, IsMissingNameIn, MissesOtherNameIn};
 ghost use Rattle.mysql_flat_params.specs.Outcomes.{HasNoAnswer, IfDone, IfTooLong, UnlessDone, text_outcome};
 ghost use Rattle.mysql_flat_params.specs.Steadiness.{IsBoundAs, refusal_as};
 ghost use Rattle.mysql_flat_params.specs.SteadyIntoRoom.{IsSteadyOutcome};
@@ -24,11 +25,12 @@ ghost use Rattle.mysql_flat_params.specs.declared.steady_room.Steadiness as stea
 use crate::form::{FormParams, form_params};
 use crate::form_error::FormError;
 use crate::form_names::NamesInPlace;
-use crate::missing_place::name_place;
+use crate::missing_place::name_place_read;
 use crate::outcome::Outcome;
 use mysql_binding::{
     BindError, KEPT_PLACES, NO_PLACE, PlainForm, SurveyedQuery, TextInRoom, bind_surveyed_into,
 };
+use mysql_named_params::places::Reading;
 use mysql_params_core::params::{BorrowedParams, NamedPairs, ParamsConfusionError, ParamsError};
 use std::alloc::Global;
 
@@ -66,13 +68,44 @@ pub fn bind_into(
     ensures too_long { IfTooLong result (λ len. length room.old < len) }
     ensures unchanged { UnlessDone result (room.new ≡ room.old) }
 {
+    let reading = Reading {
+        no_backslash_escape,
+        wide_names: false,
+    };
+    bind_into_read(alloc, query, form, reading, room)
+}
+
+/// [`bind_into`] of a query in any reading. All is as there, over the names of the reading.
+pub fn bind_into_read(
+    alloc: Global,
+    query: &[u8],
+    form: &[u8],
+    reading: Reading,
+    room: &mut [u8],
+) -> Outcome
+    ensures outcome { IsBindOutcomeIn reading query.now form.now result }
+    ensures written { IfDone result (λ len.
+        IsBoundFormIn reading query.now form.now (take len room.new)) }
+
+    // The empty form over a query with a name and a mark is refused without allocating.
+    ensures mixed { form.now ≡ [] →
+        IfMixedIn reading query.now (result ≡ Outcome.Mixed) }
+
+    // A form that is refused for its first parameter is refused without allocating.
+    ensures memory { result ≡ Outcome.OutOfMemory →
+        (form.now ≡ []) ⊎ HasFirstParameter form.now }
+    ensures rest { IfDone result (λ len.
+        (len ≤ length room.old) × (drop len room.new ≡ drop len room.old)) }
+    ensures too_long { IfTooLong result (λ len. length room.old < len) }
+    ensures unchanged { UnlessDone result (room.new ≡ room.old) }
+{
     let params = match form_params::<NamesInPlace>(alloc, form, Vec::new(alloc)) {
         Ok(params) => params,
         Err(error) => return form_outcome(error),
     };
-    match bind_params(alloc, query, params, no_backslash_escape, room) {
+    match bind_params(alloc, query, params, reading, room) {
         Ok(text) => text_outcome(text),
-        Err(error) => bind_outcome(query, error, no_backslash_escape),
+        Err(error) => bind_outcome(query, error, reading),
     }
 }
 
@@ -81,24 +114,24 @@ fn bind_params(
     alloc: Global,
     query: &[u8],
     params: ParamsInPlace<'_>,
-    no_backslash_escape: bool,
+    reading: Reading,
     room: &mut [u8],
 ) -> Result<TextInRoom, BindError>
-    ensures bound { OnTokens no_backslash_escape query.now (λ ts. IfOk result (IsTextInRoom
-        (IsBoundText no_backslash_escape ts (given_in_place params.entry))
-        (HasTextOf (IsBoundText no_backslash_escape ts (given_in_place params.entry)))
+    ensures bound { OnTokensIn reading query.now (λ ts. IfOk result (IsTextInRoom
+        (IsBoundText reading.no_backslash_escape ts (given_in_place params.entry))
+        (HasTextOf (IsBoundText reading.no_backslash_escape ts (given_in_place params.entry)))
         room.old room.new)) }
-    ensures refused { OnTokens no_backslash_escape query.now (λ ts. IfErr result
+    ensures refused { OnTokensIn reading query.now (λ ts. IfErr result
         (IsCauseOrMemory (first_cause ts (given_in_place params.entry)))) }
-    ensures mixed { OnTokens no_backslash_escape query.now (λ ts.
+    ensures mixed { OnTokensIn reading query.now (λ ts.
         HasName ts × HasMark ts → IsErrOf result BindError.Mixed) }
     ensures unchanged { OnErr result (room.new ≡ room.old) }
 {
     let form = PlainForm {
-        no_backslash_escape,
+        no_backslash_escape: reading.no_backslash_escape,
     };
     let mut first = [NO_PLACE; KEPT_PLACES];
-    let surveyed = SurveyedQuery::new(query, no_backslash_escape, &mut first);
+    let surveyed = SurveyedQuery::new(query, reading, &mut first);
     let pairs = named_pairs(&params);
     let borrowed = borrowed_params(&params, &pairs);
     bind_surveyed_into(alloc, &surveyed, borrowed, &form, room)
@@ -145,13 +178,13 @@ pub(crate) fn borrowed_params<'p, 'f>(
 
 // A refusal of a form.
 pub(crate) fn form_outcome(error: FormError) -> Outcome
-    ensures outcome { (mode : Bool) (query form : List ℕ) → IsFormRefusal form error →
-        IsBindOutcome mode query form result }
+    ensures outcome { (reading : Reading) (query form : List ℕ) → IsFormRefusal form error →
+        IsBindOutcomeIn reading query form result }
     ensures steady { (which : steadiness.Steadiness) (query form : List ℕ) →
         IsFormRefusal form error →
         IsSteadyOutcome (IsBoundAs which query) (refusal_as which query) query form result }
-    ensures fragments { (mode : Bool) (query form : List ℕ) →
-        fragments.IsFormRefusal form error → IsOutcomeAsValues mode query form result }
+    ensures fragments { (reading : Reading) (query form : List ℕ) →
+        fragments.IsFormRefusal form error → IsOutcomeAsValuesIn reading query form result }
     ensures fragments_anywhere { (query form : List ℕ) → fragments.IsFormRefusal form error →
         IsAnywhereAsValues query form result }
     ensures memory { result ≡ Outcome.OutOfMemory → error ≡ FormError.Memory alloc_error }
@@ -192,42 +225,38 @@ pub(crate) fn form_outcome(error: FormError) -> Outcome
 }
 
 // A refusal of binding to this query.
-pub(crate) fn bind_outcome(query: &[u8], error: BindError, no_backslash_escape: bool) -> Outcome
-    requires { (given : Given) × OnTokens no_backslash_escape query.now (λ ts.
+pub(crate) fn bind_outcome(query: &[u8], error: BindError, reading: Reading) -> Outcome
+    requires { (given : Given) × OnTokensIn reading query.now (λ ts.
         IsCauseOrMemory (first_cause ts given) error) }
     ensures outcome { (form : List ℕ) (given : Given) → IsFormReading form (Ok given) →
-        OnTokens no_backslash_escape query.now (λ ts.
+        OnTokensIn reading query.now (λ ts.
         IsCauseOrMemory (first_cause ts given) error) →
-        IsBindOutcome no_backslash_escape query.now form result }
+        IsBindOutcomeIn reading query.now form result }
     ensures mixed { error ≡ BindError.Mixed → result ≡ Outcome.Mixed }
     ensures no_answer { HasNoAnswer result }
 {
-    match told_outcome(query, error, no_backslash_escape) {
+    match told_outcome(query, error, reading) {
         Some(outcome) => outcome,
         None => unreachable!(),
     }
 }
 
 // What is told of a refusal by this query; none if it misses a name that the query doesn't have.
-pub(crate) fn told_outcome(
-    query: &[u8],
-    error: BindError,
-    no_backslash_escape: bool,
-) -> Option<Outcome>
+pub(crate) fn told_outcome(query: &[u8], error: BindError, reading: Reading) -> Option<Outcome>
     ensures outcome { (form : List ℕ) (given : Given) → IsFormReading form (Ok given) →
-        OnTokens no_backslash_escape query.now (λ ts.
+        OnTokensIn reading query.now (λ ts.
         IsCauseOrMemory (first_cause ts given) error) →
-        IfSome result (IsBindOutcome no_backslash_escape query.now form) }
-    ensures none { ((given : Given) × OnTokens no_backslash_escape query.now (λ ts.
+        IfSome result (IsBindOutcomeIn reading query.now form) }
+    ensures none { ((given : Given) × OnTokensIn reading query.now (λ ts.
         IsCauseOrMemory (first_cause ts given) error)) → result ≡ None → ⊥ }
-    ensures other { result ≡ None → MissesOtherName no_backslash_escape query.now error }
+    ensures other { result ≡ None → MissesOtherNameIn reading query.now error }
     ensures mixed { error ≡ BindError.Mixed → result ≡ Some Outcome.Mixed }
     ensures no_answer { IfSome result HasNoAnswer }
 {
     match error {
         BindError::Mixed => Some(Outcome::Mixed),
         BindError::Params(ParamsError::Missing(missing)) => {
-            missing_outcome(query, missing.0.as_slice(), no_backslash_escape)
+            missing_outcome(query, missing.0.as_slice(), reading)
         }
         BindError::Params(
             ParamsError::Confusion(ParamsConfusionError::NamedParamsForPositionalQuery),
@@ -247,14 +276,14 @@ pub(crate) fn told_outcome(
 }
 
 // The refusal of a name that has no value; none if the query doesn't have it.
-fn missing_outcome(query: &[u8], name: &[u8], no_backslash_escape: bool) -> Option<Outcome>
-    ensures some { IfSome result (IsMissingName no_backslash_escape query.now name.now) }
+fn missing_outcome(query: &[u8], name: &[u8], reading: Reading) -> Option<Outcome>
+    ensures some { IfSome result (IsMissingNameIn reading query.now name.now) }
     ensures none { result ≡ None →
-        OnTokens no_backslash_escape query.now (λ ts. Contains (names ts) name.now) → ⊥ }
+        OnTokensIn reading query.now (λ ts. Contains (names ts) name.now) → ⊥ }
     ensures absent { result ≡ None →
-        OnTokens no_backslash_escape query.now (λ ts. Contains (names ts) name.now → ⊥) }
+        OnTokensIn reading query.now (λ ts. Contains (names ts) name.now → ⊥) }
 {
-    match name_place(query, name, no_backslash_escape) {
+    match name_place_read(query, name, reading) {
         Some((place, position)) => Some(Outcome::Missing {
             place,
             position,

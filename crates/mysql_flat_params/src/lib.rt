@@ -13,6 +13,10 @@
 //! [`form_fragments`] reads the form of fragments: lists, rows, exact numbers, doubles, identifiers
 //! and keywords. [`bind_fragments_into`] and [`bind_fragments_anywhere_into`] bind what it says,
 //! and say by a [`FragmentsOutcome`] why they refuse.
+//!
+//! A function whose name ends in `_read` is the one without this end for a query in any
+//! [`Reading`], so also by the wide names of [`bind_wide_in`](mysql_binding::bind_wide_in), which
+//! may have capitals. It has the same outcomes.
 #![tactic(auto)]
 
 mod column_number;
@@ -49,14 +53,18 @@ pub use form_error::FormError;
 pub use fragments_anywhere_room::bind_fragments_anywhere_into;
 pub use fragments_form::form_fragments;
 pub use fragments_outcome::FragmentsOutcome;
-pub use fragments_room::bind_fragments_into;
-pub use into_room::bind_into;
-pub use missing_place::name_place;
+pub use fragments_room::{bind_fragments_into, bind_fragments_into_read};
+pub use into_room::{bind_into, bind_into_read};
+pub use missing_place::{name_place, name_place_read};
 pub use mysql_binding::PlaceSpan;
-pub use names_room::names_into;
+pub use mysql_named_params::places::Reading;
+pub use names_room::{names_into, names_into_read};
 pub use outcome::{Outcome, Report};
-pub use place_table::{TableHead, TableOutcome, Template, bind_by_table_into, table_into};
-pub use rows::{Rows, bind_rows_into};
+pub use place_table::{
+    ReadTemplate, TableHead, TableOutcome, Template, bind_by_table_into, bind_by_table_into_read,
+    table_into, table_into_read,
+};
+pub use rows::{Rows, bind_rows_into, bind_rows_into_read};
 pub use steady_room::{bind_anywhere_into, bind_in_both_modes_into};
 pub use unportable::{
     construct_number, report_first_unportable, report_first_unportable_in_client,

@@ -2,10 +2,11 @@
 ghost use Rattle.std.specs.Prelude.{◌≡◌, ◌<◌, ◌↔◌, None, length, drop, IfSome, IsTrue};
 ghost use Rattle.std.specs.List.{Contains};
 ghost use Rattle.mysql_named_params.specs.Tokens.{OnTokens};
+ghost use Rattle.mysql_named_params.specs.Reading.{OnTokensIn};
 ghost use Rattle.mysql_named_params.specs.Places.{names};
 ghost use Rattle.mysql_flat_params.specs.NamePlace.{IsFirstOfName};
 
-use mysql_named_params::places::{PlaceKind, first_place};
+use mysql_named_params::places::{PlaceKind, Reading, first_place_in};
 
 /// The first place of a query that has this name: its number, and the index of the name's first
 /// byte, after the colon.
@@ -15,9 +16,23 @@ pub fn name_place(query: &[u8], name: &[u8], no_backslash_escape: bool) -> Optio
     ensures none { OnTokens no_backslash_escape query.now (λ ts.
         result ≡ None → Contains (names ts) name.now → ⊥) }
 {
+    let reading = Reading {
+        no_backslash_escape,
+        wide_names: false,
+    };
+    name_place_read(query, name, reading)
+}
+
+/// [`name_place`] of a query in any reading.
+pub fn name_place_read(query: &[u8], name: &[u8], reading: Reading) -> Option<(usize, usize)>
+    ensures found { OnTokensIn reading query.now (λ ts. IfSome result (λ found.
+        IsFirstOfName ts name.now found.0 found.1)) }
+    ensures none { OnTokensIn reading query.now (λ ts.
+        result ≡ None → Contains (names ts) name.now → ⊥) }
+{
     let mut place = 0;
     let mut rest = query;
-    while let Some(found) = first_place(rest, no_backslash_escape) {
+    while let Some(found) = first_place_in(rest, reading) {
         let (_, bytes, after) = found.cut(rest);
         if is_this_name(found.kind, bytes, name) {
             return Some((place, query.len() - rest.len() + found.before + 1));

@@ -7,16 +7,17 @@ ghost use Rattle.std.specs.Prelude.{◌≡◌, ◌≢◌, ◌+◌, ◌*◌, ◌�
 ghost use Rattle.mysql_wire_part.specs.Lenenc.{lenenc_spelling};
 ghost use Rattle.mysql_named_params.specs.Bytes.{question_mark};
 ghost use Rattle.mysql_named_params.specs.Tokens.{OnTokens, text_of};
+ghost use Rattle.mysql_named_params.specs.Reading.{OnTokensIn};
 ghost use Rattle.mysql_named_params.specs.Places.{names, marks, with_marks, HasName};
 ghost use Rattle.mysql_named_params.specs.Parsed.{parsed};
-ghost use Rattle.mysql_flat_params.specs.IntoRoom.{IfMixed, IsInRoom, IsInRoomOrMemory, IsNamesAnswer, IsNamesOutcome};
+ghost use Rattle.mysql_flat_params.specs.IntoRoom.{IfMixed, IfMixedIn, IsInRoom, IsInRoomOrMemory, IsNamesAnswer, IsNamesAnswerIn, IsNamesOutcome, IsNamesOutcomeIn};
 ghost use Rattle.mysql_flat_params.specs.NamesAnswer.{lenenc_row, names_answer};
 ghost use Rattle.mysql_flat_params.specs.NamesSurvey.{IsNamesSurvey};
 ghost use Rattle.mysql_flat_params.specs.Outcomes.{IfDone, IfTooLong, UnlessDone};
 
 use crate::outcome::Outcome;
 use memchr::memchr;
-use mysql_named_params::places::{PlaceKind, first_place};
+use mysql_named_params::places::{PlaceKind, Reading, first_place_in};
 use mysql_wire_part::{fill_lenenc_str, lenenc_str_len, put_lenenc_str};
 use std::alloc::{AllocError, Global};
 
@@ -51,22 +52,47 @@ pub fn names_into(
     ensures too_long { IfTooLong result (λ len. length room.old < len) }
     ensures unchanged { UnlessDone result (room.new ≡ room.old) }
 {
-    if query.len() < room.len() && has_names_alone(query, no_backslash_escape) {
-        return gathered_in_room(alloc, query, no_backslash_escape, room);
+    let reading = Reading {
+        no_backslash_escape,
+        wide_names: false,
+    };
+    names_into_read(alloc, query, reading, room)
+}
+
+/// [`names_into`] of a query in any reading. All is as there, over the names of the reading.
+pub fn names_into_read(alloc: Global, query: &[u8], reading: Reading, room: &mut [u8]) -> Outcome
+    ensures outcome { IsNamesOutcomeIn reading query.now result }
+    ensures written { IfDone result (λ len.
+        IsNamesAnswerIn reading query.now (take len room.new)) }
+
+    // A query with a name and a mark is refused without allocating.
+    ensures mixed { IfMixedIn reading query.now (result ≡ Outcome.Mixed) }
+
+    // Only a query with names and without marks allocates.
+    ensures memory { OnTokensIn reading query.now (λ ts.
+        result ≡ Outcome.OutOfMemory → HasName ts × (marks ts ≡ 0)) }
+    ensures short_room { result ≡ Outcome.OutOfMemory → length query.now < length room.old }
+    ensures rest { IfDone result (λ len.
+        (len ≤ length room.old) × (drop len room.new ≡ drop len room.old)) }
+    ensures too_long { IfTooLong result (λ len. length room.old < len) }
+    ensures unchanged { UnlessDone result (room.new ≡ room.old) }
+{
+    if query.len() < room.len() && has_names_alone(query, reading) {
+        return gathered_in_room(alloc, query, reading, room);
     }
-    let survey = names_survey(query, no_backslash_escape);
+    let survey = names_survey(query, reading);
     if survey.names > 0 && survey.marks > 0 {
         return Outcome::Mixed;
     }
-    answer_in_room(query, survey, no_backslash_escape, room)
+    answer_in_room(query, survey, reading, room)
 }
 
 // Whether the query has a name and, from its first place on, no byte `?`: then it has no marks.
-fn has_names_alone(query: &[u8], no_backslash_escape: bool) -> bool
-    ensures { OnTokens no_backslash_escape query.now (λ ts.
+fn has_names_alone(query: &[u8], reading: Reading) -> bool
+    ensures { OnTokensIn reading query.now (λ ts.
         result ≡ true → HasName ts × (marks ts ≡ 0)) }
 {
-    let Some(first) = first_place(query, no_backslash_escape) else {
+    let Some(first) = first_place_in(query, reading) else {
         return false;
     };
     let Some(_) = memchr(b'?', &query[first.before..]) else {
@@ -77,17 +103,12 @@ fn has_names_alone(query: &[u8], no_backslash_escape: bool) -> bool
 
 // Gathers the answer to a query without marks, and writes it to the front of the room, if the room
 // is long enough.
-fn gathered_in_room(
-    alloc: Global,
-    query: &[u8],
-    no_backslash_escape: bool,
-    room: &mut [u8],
-) -> Outcome
-    requires { OnTokens no_backslash_escape query.now (λ ts. marks ts ≡ 0) }
-    ensures { OnTokens no_backslash_escape query.now (λ ts.
+fn gathered_in_room(alloc: Global, query: &[u8], reading: Reading, room: &mut [u8]) -> Outcome
+    requires { OnTokensIn reading query.now (λ ts. marks ts ≡ 0) }
+    ensures { OnTokensIn reading query.now (λ ts.
         IsInRoomOrMemory (names_answer (parsed ts)) room.old room.new result) }
 {
-    match gathered_names(alloc, query, no_backslash_escape) {
+    match gathered_names(alloc, query, reading) {
         Ok((text, row)) => both_in_room(text.as_slice(), row.as_slice(), room),
         Err(_) => Outcome::OutOfMemory,
     }
@@ -98,17 +119,17 @@ fn gathered_in_room(
 fn gathered_names(
     alloc: Global,
     query: &[u8],
-    no_backslash_escape: bool,
+    reading: Reading,
 ) -> Result<(Vec<u8>, Vec<u8>), AllocError>
-    requires { OnTokens no_backslash_escape query.now (λ ts. marks ts ≡ 0) }
-    ensures { IfOk result (λ gathered. OnTokens no_backslash_escape query.now (λ ts.
+    requires { OnTokensIn reading query.now (λ ts. marks ts ≡ 0) }
+    ensures { IfOk result (λ gathered. OnTokensIn reading query.now (λ ts.
         (gathered.0.items ≡ text_of (with_marks ts))
         × (gathered.1.items ≡ lenenc_row (names ts)))) }
 {
     let mut text = Vec::with_capacity(alloc, query.len())?;
     let mut row = Vec::new(alloc);
     let mut rest = query;
-    while let Some(found) = first_place(rest, no_backslash_escape) {
+    while let Some(found) = first_place_in(rest, reading) {
         let (before, place, after) = found.cut(rest);
         text.extend_from_slice(before)?;
         text.push(b'?')?;
@@ -160,8 +181,8 @@ struct NamesSurvey {
 
 // The survey of a query. A name, with its colon, has at least two bytes, and takes at most half as
 // many again in the answer.
-fn names_survey(query: &[u8], no_backslash_escape: bool) -> NamesSurvey
-    ensures survey { OnTokens no_backslash_escape query.now (IsNamesSurvey result) }
+fn names_survey(query: &[u8], reading: Reading) -> NamesSurvey
+    ensures survey { OnTokensIn reading query.now (IsNamesSurvey result) }
     ensures marked { result.marked_len ≤ length query.now }
     ensures small { 2 * (result.marked_len + result.row_len) ≤ 3 * length query.now }
 {
@@ -170,7 +191,7 @@ fn names_survey(query: &[u8], no_backslash_escape: bool) -> NamesSurvey
     let mut marked_len = 0;
     let mut row_len = 0;
     let mut rest = query;
-    while let Some(found) = first_place(rest, no_backslash_escape) {
+    while let Some(found) = first_place_in(rest, reading) {
         let (_, place, after) = found.cut(rest);
         marked_len += found.before + 1;
         match found.kind {
@@ -192,24 +213,19 @@ fn names_survey(query: &[u8], no_backslash_escape: bool) -> NamesSurvey
 
 // Writes the answer to a query that has no names or no marks to the front of the room, if the room
 // is long enough.
-fn answer_in_room(
-    query: &[u8],
-    survey: NamesSurvey,
-    no_backslash_escape: bool,
-    room: &mut [u8],
-) -> Outcome
-    requires survey { OnTokens no_backslash_escape query.now (IsNamesSurvey survey) }
+fn answer_in_room(query: &[u8], survey: NamesSurvey, reading: Reading, room: &mut [u8]) -> Outcome
+    requires survey { OnTokensIn reading query.now (IsNamesSurvey survey) }
     requires marked { survey.marked_len ≤ length query.now }
     requires small { 2 * (survey.marked_len + survey.row_len) ≤ 3 * length query.now }
     requires unmixed { 0 < survey.names → survey.marks ≡ 0 }
-    ensures { OnTokens no_backslash_escape query.now (λ ts.
+    ensures { OnTokensIn reading query.now (λ ts.
         IsInRoom (names_answer (parsed ts)) room.old room.new result) }
 {
     let len = marked_end(query, survey) + survey.row_len;
     if room.len() < len {
         return Outcome::Room { len };
     }
-    fill_answer(query, survey, no_backslash_escape, &mut room[..len]);
+    fill_answer(query, survey, reading, &mut room[..len]);
     Outcome::Done { len }
 }
 
@@ -222,13 +238,13 @@ fn marked_end(query: &[u8], survey: NamesSurvey) -> usize
 }
 
 // Fills the slice with the answer to a query that has no names or no marks.
-fn fill_answer(query: &[u8], survey: NamesSurvey, no_backslash_escape: bool, slice: &mut [u8])
-    requires survey { OnTokens no_backslash_escape query.now (IsNamesSurvey survey) }
+fn fill_answer(query: &[u8], survey: NamesSurvey, reading: Reading, slice: &mut [u8])
+    requires survey { OnTokensIn reading query.now (IsNamesSurvey survey) }
     requires marked { survey.marked_len ≤ length query.now }
     requires unmixed { 0 < survey.names → survey.marks ≡ 0 }
-    requires exact { OnTokens no_backslash_escape query.now (λ ts.
+    requires exact { OnTokensIn reading query.now (λ ts.
         length slice.old ≡ length (names_answer (parsed ts))) }
-    ensures { OnTokens no_backslash_escape query.now (λ ts.
+    ensures { OnTokensIn reading query.now (λ ts.
         slice.new ≡ names_answer (parsed ts)) }
 {
     if survey.names == 0 {
@@ -241,25 +257,25 @@ fn fill_answer(query: &[u8], survey: NamesSurvey, no_backslash_escape: bool, sli
     // written over.
     fill_lenenc_str(marked, &query[..survey.marked_len]);
     let (_, text) = marked.split_at_mut(end - survey.marked_len);
-    fill_names(query, no_backslash_escape, text, row);
+    fill_names(query, reading, text, row);
 }
 
 // Fills one slice with a query that has no marks, with a mark in place of each name, and the other
 // with the names, each as a length-encoded string.
-fn fill_names(query: &[u8], no_backslash_escape: bool, text: &mut [u8], row: &mut [u8])
-    requires no_marks { OnTokens no_backslash_escape query.now (λ ts. marks ts ≡ 0) }
-    requires text { OnTokens no_backslash_escape query.now (λ ts.
+fn fill_names(query: &[u8], reading: Reading, text: &mut [u8], row: &mut [u8])
+    requires no_marks { OnTokensIn reading query.now (λ ts. marks ts ≡ 0) }
+    requires text { OnTokensIn reading query.now (λ ts.
         length text.old ≡ length (text_of (with_marks ts))) }
-    requires row { OnTokens no_backslash_escape query.now (λ ts.
+    requires row { OnTokensIn reading query.now (λ ts.
         length row.old ≡ length (lenenc_row (names ts))) }
-    ensures text { OnTokens no_backslash_escape query.now (λ ts.
+    ensures text { OnTokensIn reading query.now (λ ts.
         text.new ≡ text_of (with_marks ts)) }
-    ensures row { OnTokens no_backslash_escape query.now (λ ts. row.new ≡ lenenc_row (names ts)) }
+    ensures row { OnTokensIn reading query.now (λ ts. row.new ≡ lenenc_row (names ts)) }
 {
     let mut text_at = 0;
     let mut row_at = 0;
     let mut rest = query;
-    while let Some(found) = first_place(rest, no_backslash_escape) {
+    while let Some(found) = first_place_in(rest, reading) {
         let (before, place, after) = found.cut(rest);
         text_at = append_bytes(text, text_at, before);
         text_at = append_mark(text, text_at);

@@ -1,6 +1,6 @@
 //! A table of the places of a query, made once and kept by the caller, and binding by it.
 ghost use Rattle.std.specs.Prelude.{◌≡◌, ◌⊎◌, ◌+◌, ◌≤◌, ◌<◌, ℕ, List, [], None, Some, Ok, pos, length, take, drop, IfErr, IfOk, IfSome, IsErrOf, OnErr};
-ghost use Rattle.mysql_named_params.specs.Tokens.{OnTokens};
+ghost use Rattle.mysql_named_params.specs.Reading.{OnTokensIn};
 ghost use Rattle.mysql_named_params.specs.Places.{HasMark, HasName};
 ghost use Rattle.mysql_params_core.specs.Given.{Given};
 ghost use Rattle.mysql_binding.specs.BindErrors.{IsCauseOrMemory};
@@ -11,9 +11,9 @@ ghost use Rattle.mysql_binding.specs.SpannedQuery.{HasOwnSpans, RefusesNames};
 ghost use Rattle.mysql_binding.specs.TextInRoom.{HasTextOf, IsTextInRoom};
 ghost use Rattle.mysql_flat_params.specs.FlatForm.{HasFirstParameter, IsFormReading};
 ghost use Rattle.mysql_flat_params.specs.FormParams.{given_in_place};
-ghost use Rattle.mysql_flat_params.specs.IntoRoom.{IfMixed, IsBoundForm, MissesOtherName};
+ghost use Rattle.mysql_flat_params.specs.IntoRoom.{IfMixed, IfMixedIn, IsBoundForm, IsBoundFormIn, MissesOtherNameIn};
 ghost use Rattle.mysql_flat_params.specs.Outcomes as outcomes;
-ghost use Rattle.mysql_flat_params.specs.PlaceTable.{CanHaveTable, HasOwnTable, IfDone, IfTooLong, IsMadeTable, IsTableBindOutcome, IsTableOutcome, MissesOtherPlace, UnlessDone, number_of, report_of, survey_of};
+ghost use Rattle.mysql_flat_params.specs.PlaceTable.{CanHaveTable, CanHaveTableIn, HasOwnTable, HasOwnTableIn, IfDone, IfTooLong, IsMadeTable, IsMadeTableIn, IsTableBindOutcome, IsTableBindOutcomeIn, IsTableOutcome, IsTableOutcomeIn, MissesOtherPlace, MissesOtherPlaceIn, UnlessDone, number_of, report_of, survey_of};
 
 use crate::form::form_params;
 use crate::form_names::NamesInPlace;
@@ -25,6 +25,7 @@ use mysql_binding::{
     BindError, KEPT_PLACES, NO_PLACE, PlaceSpan, PlainForm, SpannedQuery, Survey, SurveyedQuery,
     TextInRoom, bind_spans_into, place_spans,
 };
+use mysql_named_params::places::Reading;
 use std::alloc::Global;
 
 /// What a table says of a query's places together.
@@ -53,6 +54,19 @@ pub struct Template<'q> {
     pub query: &'q [u8],
     /// The mode in which the query is read.
     pub no_backslash_escape: bool,
+    /// The head of the table.
+    pub head: TableHead,
+    /// The places of the table.
+    pub places: &'q [PlaceSpan],
+}
+
+/// A [`Template`] of a query in any reading, which has to be that of the table.
+#[derive(Clone, Copy, Debug)]
+pub struct ReadTemplate<'q> {
+    /// The query.
+    pub query: &'q [u8],
+    /// How the query is read.
+    pub reading: Reading,
     /// The head of the table.
     pub head: TableHead,
     /// The places of the table.
@@ -111,8 +125,31 @@ pub fn table_into(
     ensures unchanged { outcomes.UnlessDone result
         ((head.new ≡ head.old) × (room.new ≡ room.old)) }
 {
+    let reading = Reading {
+        no_backslash_escape,
+        wide_names: false,
+    };
+    table_into_read(alloc, query, reading, head, room)
+}
+
+/// [`table_into`] of a query in any reading. The table doesn't say in which: bind by it in the same
+/// one, by [`bind_by_table_into_read`].
+pub fn table_into_read(
+    alloc: Global,
+    query: &[u8],
+    reading: Reading,
+    head: &mut TableHead,
+    room: &mut [PlaceSpan],
+) -> Outcome
+    ensures outcome { IsTableOutcomeIn reading query.now result }
+    ensures made { outcomes.IfDone result
+        (IsMadeTableIn reading query.now head.new room.old room.new) }
+    ensures too_long { outcomes.IfTooLong result (λ len. length room.old < len) }
+    ensures unchanged { outcomes.UnlessDone result
+        ((head.new ≡ head.old) × (room.new ≡ room.old)) }
+{
     let mut first = [NO_PLACE; KEPT_PLACES];
-    let surveyed = SurveyedQuery::new(query, no_backslash_escape, &mut first);
+    let surveyed = SurveyedQuery::new(query, reading, &mut first);
     let survey = surveyed.survey;
     let len = survey.names + survey.marks;
     if len == 0 {
@@ -209,6 +246,54 @@ pub fn bind_by_table_into(
     ensures too_long { IfTooLong result (λ len. length room.old < len) }
     ensures unchanged { UnlessDone result (room.new ≡ room.old) }
 {
+    let template = ReadTemplate {
+        query: template.query,
+        reading: Reading {
+            no_backslash_escape: template.no_backslash_escape,
+            wide_names: false,
+        },
+        head: template.head,
+        places: template.places,
+    };
+    bind_by_table_into_read(alloc, &template, form, room)
+}
+
+/// [`bind_by_table_into`] of a query in any reading, exactly as
+/// [`bind_into_read`](crate::bind_into_read) binds in the reading of the table. What is said there
+/// of a table of another mode stands here of a table of another reading.
+pub fn bind_by_table_into_read(
+    alloc: Global,
+    template: &ReadTemplate<'_>,
+    form: &[u8],
+    room: &mut [u8],
+) -> TableOutcome
+    ensures outcome { HasOwnTableIn template.now →
+        IsTableBindOutcomeIn template.now.reading template.now.query.now form.now
+        result }
+    ensures written { HasOwnTableIn template.now → IfDone result (λ len.
+        IsBoundFormIn template.now.reading template.now.query.now form.now
+        (take len room.new)) }
+
+    // A table that the query can't have by its numbers is told before the form is read.
+    ensures unfit { (CanHaveTableIn template.now → ⊥) → result ≡ TableOutcome.OtherTable }
+
+    // One that it can have is told only if what is missing is no name of the query.
+    ensures other { result ≡ TableOutcome.OtherTable → CanHaveTableIn template.now →
+        MissesOtherPlaceIn template.now form.now }
+
+    // The empty form over a query with a name and a mark is refused without allocating.
+    ensures mixed { HasOwnTableIn template.now → form.now ≡ [] →
+        IfMixedIn template.now.reading template.now.query.now
+        (result ≡ TableOutcome.AsQuery Outcome.Mixed) }
+
+    // A form that is refused for its first parameter is refused without allocating.
+    ensures memory { result ≡ TableOutcome.AsQuery Outcome.OutOfMemory →
+        (form.now ≡ []) ⊎ HasFirstParameter form.now }
+    ensures rest { IfDone result (λ len.
+        (len ≤ length room.old) × (drop len room.new ≡ drop len room.old)) }
+    ensures too_long { IfTooLong result (λ len. length room.old < len) }
+    ensures unchanged { UnlessDone result (room.new ≡ room.old) }
+{
     let survey = survey_of(template.head);
     let Some(spanned) = SpannedQuery::try_new(template.query, survey, template.places) else {
         return TableOutcome::OtherTable;
@@ -217,10 +302,9 @@ pub fn bind_by_table_into(
         Ok(params) => params,
         Err(error) => return TableOutcome::AsQuery(form_outcome(error)),
     };
-    let mode = template.no_backslash_escape;
-    match bind_places(alloc, &spanned, params, mode, room) {
+    match bind_places(alloc, &spanned, params, template.reading, room) {
         Ok(text) => TableOutcome::AsQuery(text_outcome(text)),
-        Err(error) => table_outcome(template.query, error, mode),
+        Err(error) => table_outcome(template.query, error, template.reading),
     }
 }
 
@@ -229,26 +313,26 @@ fn bind_places(
     alloc: Global,
     spanned: &SpannedQuery<'_>,
     params: ParamsInPlace<'_>,
-    no_backslash_escape: bool,
+    reading: Reading,
     room: &mut [u8],
 ) -> Result<TextInRoom, BindError>
-    ensures bound { HasOwnSpans spanned.now no_backslash_escape →
-        OnTokens no_backslash_escape spanned.now.query.now (λ ts. IfOk result (IsTextInRoom
-        (IsBoundText no_backslash_escape ts (given_in_place params.entry))
-        (HasTextOf (IsBoundText no_backslash_escape ts (given_in_place params.entry)))
+    ensures bound { HasOwnSpans spanned.now reading →
+        OnTokensIn reading spanned.now.query.now (λ ts. IfOk result (IsTextInRoom
+        (IsBoundText reading.no_backslash_escape ts (given_in_place params.entry))
+        (HasTextOf (IsBoundText reading.no_backslash_escape ts (given_in_place params.entry)))
         room.old room.new)) }
-    ensures refused { HasOwnSpans spanned.now no_backslash_escape →
-        OnTokens no_backslash_escape spanned.now.query.now (λ ts. IfErr result
+    ensures refused { HasOwnSpans spanned.now reading →
+        OnTokensIn reading spanned.now.query.now (λ ts. IfErr result
         (IsCauseOrMemory (first_cause ts (given_in_place params.entry)))) }
-    ensures mixed { HasOwnSpans spanned.now no_backslash_escape →
-        OnTokens no_backslash_escape spanned.now.query.now (λ ts.
+    ensures mixed { HasOwnSpans spanned.now reading →
+        OnTokensIn reading spanned.now.query.now (λ ts.
         HasName ts × HasMark ts → IsErrOf result BindError.Mixed) }
     ensures lookup { IfErr result (RefusesNames spanned.now (given_in_place params.entry)) }
     ensures in_room { IfOk result (StaysInRoom room.old room.new) }
     ensures unchanged { OnErr result (room.new ≡ room.old) }
 {
     let form = PlainForm {
-        no_backslash_escape,
+        no_backslash_escape: reading.no_backslash_escape,
     };
     let pairs = named_pairs(&params);
     let borrowed = borrowed_params(&params, &pairs);
@@ -257,18 +341,18 @@ fn bind_places(
 
 // A refusal of binding by a table; if it misses a name that the query doesn't have, the table is
 // that of another one.
-fn table_outcome(query: &[u8], error: BindError, no_backslash_escape: bool) -> TableOutcome
+fn table_outcome(query: &[u8], error: BindError, reading: Reading) -> TableOutcome
     ensures outcome { (form : List ℕ) (given : Given) → IsFormReading form (Ok given) →
-        OnTokens no_backslash_escape query.now (λ ts.
+        OnTokensIn reading query.now (λ ts.
         IsCauseOrMemory (first_cause ts given) error) →
-        IsTableBindOutcome no_backslash_escape query.now form result }
+        IsTableBindOutcomeIn reading query.now form result }
     ensures other { result ≡ TableOutcome.OtherTable →
-        MissesOtherName no_backslash_escape query.now error }
+        MissesOtherNameIn reading query.now error }
     ensures mixed { error ≡ BindError.Mixed → result ≡ TableOutcome.AsQuery Outcome.Mixed }
     ensures not_done { IfDone result (λ len. ⊥) }
     ensures not_too_long { IfTooLong result (λ len. ⊥) }
 {
-    match told_outcome(query, error, no_backslash_escape) {
+    match told_outcome(query, error, reading) {
         Some(outcome) => TableOutcome::AsQuery(outcome),
         None => TableOutcome::OtherTable,
     }

@@ -86,12 +86,11 @@ fn named_fragments<'p>(
         OnSurveyed surveyed.now (λ ts. IfErr result
         (IsPlaceRefusal (fragments_at fragments (names ts)))) }
 {
-    let mode = surveyed.no_backslash_escape;
     let count = surveyed.survey.names;
     let mut list = Vec::with_capacity(alloc, count)?;
     let mut rest = surveyed.query;
     while list.len() < count {
-        let Some(found) = place_after(surveyed.known, list.len(), rest, mode) else {
+        let Some(found) = place_after(surveyed.known, list.len(), rest, surveyed.reading) else {
             unreachable!()
         };
         let (_, place, after) = found.cut(rest);

@@ -47,7 +47,7 @@ impl<'f> FoundNames<'f> {
         form: &'f [u8],
     ) -> Option<FoundNames<'f>>
         ensures { IfSome result (AreFoundNames
-            surveyed.now.no_backslash_escape surveyed.now.query.now) }
+            surveyed.now.reading surveyed.now.query.now) }
     {
         if surveyed.survey.names == 0 || surveyed.survey.marks > 0 {
             return None;
@@ -146,12 +146,12 @@ impl<'f> RowMemory<'f> {
         form: &'f [u8],
     ) -> Option<FoundNames<'f>>
         requires found { IfSome self.old.found (AreFoundNames
-            surveyed.now.no_backslash_escape surveyed.now.query.now) }
+            surveyed.now.reading surveyed.now.query.now) }
         ensures names { IfSome result (λ found. AreFoundNames
-            surveyed.now.no_backslash_escape surveyed.now.query.now found
+            surveyed.now.reading surveyed.now.query.now found
             × IsFormOfPairs form.now found.pairs.items) }
         ensures found { IfSome self.new.found (AreFoundNames
-            surveyed.now.no_backslash_escape surveyed.now.query.now) }
+            surveyed.now.reading surveyed.now.query.now) }
     {
         let Some(mut found) = self.found.take() else {
             return self.new_names(alloc, surveyed, form);
@@ -172,7 +172,7 @@ impl<'f> RowMemory<'f> {
         form: &'f [u8],
     ) -> Option<FoundNames<'f>>
         ensures names { IfSome result (λ found. AreFoundNames
-            surveyed.now.no_backslash_escape surveyed.now.query.now found
+            surveyed.now.reading surveyed.now.query.now found
             × IsFormOfPairs form.now found.pairs.items) }
         ensures kept { self.new.found ≡ self.old.found }
     {
@@ -358,14 +358,13 @@ fn numbers_of_places(
     ensures { IfSome result (λ places. OnSurveyed surveyed.now (λ ts.
         AreAtPlaces (names_of_pairs pairs.now) places.items (names ts))) }
 {
-    let mode = surveyed.no_backslash_escape;
     let count = surveyed.survey.names;
     let Ok(mut places) = Vec::with_capacity(alloc, count) else {
         return None;
     };
     let mut rest = surveyed.query;
     while places.len() < count {
-        let Some(found) = place_after(surveyed.known, places.len(), rest, mode) else {
+        let Some(found) = place_after(surveyed.known, places.len(), rest, surveyed.reading) else {
             unreachable!()
         };
         let (_, place, after) = found.cut(rest);

@@ -6,7 +6,7 @@ ghost use Rattle.mysql_values.specs.Literal.{literal_of};
 ghost use Rattle.mysql_params_core.specs.Given.{Given};
 ghost use Rattle.mysql_binding.specs.MeasuredText.{IsMeasured};
 ghost use Rattle.mysql_binding.specs.SurveyedQuery.{OnSurveyed};
-ghost use Rattle.mysql_flat_params.specs.BoundRows.{AreBoundRows, IsRowsOutcome, unread_row};
+ghost use Rattle.mysql_flat_params.specs.BoundRows.{AreBoundRows, AreBoundRowsIn, IsRowsOutcome, IsRowsOutcomeIn, unread_row};
 ghost use Rattle.mysql_flat_params.specs.FlatForm.{IsFormReading};
 ghost use Rattle.mysql_flat_params.specs.FormParams.{given_in_place};
 ghost use Rattle.mysql_flat_params.specs.Outcomes.{IfDone, IfTooLong};
@@ -23,6 +23,7 @@ use mysql_binding::{
     KEPT_PLACES, MeasuredText, NO_PLACE, PlainForm, SurveyedQuery, all_places, fill_measured,
     measured_text, measured_values,
 };
+use mysql_named_params::places::Reading;
 use mysql_values::value::ValueRef;
 use mysql_wire_part::{ParseBuf, WireError};
 use std::alloc::Global;
@@ -75,11 +76,37 @@ pub fn bind_rows_into(
     ensures rest { (result.0.written ≤ length room.old)
         × (drop result.0.written room.new ≡ drop result.0.written room.old) }
 {
+    let reading = Reading {
+        no_backslash_escape,
+        wide_names: false,
+    };
+    bind_rows_into_read(alloc, query, forms, reading, room)
+}
+
+/// [`bind_rows_into`] of a query in any reading. Each row gives what
+/// [`bind_into_read`](crate::bind_into_read) gives for its form.
+pub fn bind_rows_into_read(
+    alloc: Global,
+    query: &[u8],
+    forms: &[u8],
+    reading: Reading,
+    room: &mut [u8],
+) -> (Rows, Outcome)
+    ensures rows { AreBoundRowsIn reading query.now forms.now result.0.count
+        (take result.0.written room.new) (drop result.0.read forms.now) }
+    ensures outcome { IsRowsOutcomeIn reading query.now
+        (drop result.0.read forms.now) result.1 }
+    ensures read { result.0.read ≤ length forms.now }
+    ensures done { IfDone result.1 (λ len. len ≡ result.0.written) }
+    ensures too_long { IfTooLong result.1 (λ len. length room.old < result.0.written + len) }
+    ensures rest { (result.0.written ≤ length room.old)
+        × (drop result.0.written room.new ≡ drop result.0.written room.old) }
+{
     if forms.is_empty() {
         return (NO_ROWS, Outcome::Done { len: 0 });
     }
     let mut first = [NO_PLACE; KEPT_PLACES];
-    let surveyed = SurveyedQuery::new(query, no_backslash_escape, &mut first);
+    let surveyed = SurveyedQuery::new(query, reading, &mut first);
     if surveyed.survey.names + surveyed.survey.marks <= KEPT_PLACES {
         return bind_rows(alloc, &surveyed, forms, room);
     }
@@ -96,10 +123,10 @@ fn bind_rows(
     forms: &[u8],
     room: &mut [u8],
 ) -> (Rows, Outcome)
-    ensures rows { AreBoundRows surveyed.now.no_backslash_escape surveyed.now.query.now
+    ensures rows { AreBoundRowsIn surveyed.now.reading surveyed.now.query.now
         forms.now result.0.count
         (take result.0.written room.new) (drop result.0.read forms.now) }
-    ensures outcome { IsRowsOutcome surveyed.now.no_backslash_escape surveyed.now.query.now
+    ensures outcome { IsRowsOutcomeIn surveyed.now.reading surveyed.now.query.now
         (drop result.0.read forms.now) result.1 }
     ensures read { result.0.read ≤ length forms.now }
     ensures done { IfDone result.1 (λ len. len ≡ result.0.written) }
@@ -153,13 +180,13 @@ fn bind_row<'f>(
     room: &mut [u8],
 ) -> (Outcome, usize)
     requires found { IfSome memory.old.found (AreFoundNames
-        surveyed.now.no_backslash_escape surveyed.now.query.now) }
+        surveyed.now.reading surveyed.now.query.now) }
     requires some { 0 < length forms.now }
-    ensures row { IsRowInRoom surveyed.now.no_backslash_escape surveyed.now.query.now forms.now
+    ensures row { IsRowInRoom surveyed.now.reading surveyed.now.query.now forms.now
         room.old room.new
         result.1 result.0 }
     ensures found { IfSome memory.new.found (AreFoundNames
-        surveyed.now.no_backslash_escape surveyed.now.query.now) }
+        surveyed.now.reading surveyed.now.query.now) }
 {
     let mut rest = ParseBuf(forms);
     let form = match rest.eat_lenenc_str() {
@@ -182,11 +209,11 @@ fn bind_form<'f>(
     room: &mut [u8],
 ) -> Outcome
     requires found { IfSome memory.old.found (AreFoundNames
-        surveyed.now.no_backslash_escape surveyed.now.query.now) }
-    ensures form { IsFormInRoom surveyed.now.no_backslash_escape surveyed.now.query.now form.now
+        surveyed.now.reading surveyed.now.query.now) }
+    ensures form { IsFormInRoom surveyed.now.reading surveyed.now.query.now form.now
         room.old room.new result }
     ensures found { IfSome memory.new.found (AreFoundNames
-        surveyed.now.no_backslash_escape surveyed.now.query.now) }
+        surveyed.now.reading surveyed.now.query.now) }
 {
     let Some(found) = memory.names_of(alloc, surveyed, form) else {
         return bind_other(alloc, surveyed, form, &mut memory.spare, room);
@@ -202,26 +229,26 @@ fn bind_found<'f>(
     memory: &mut RowMemory<'f>,
     room: &mut [u8],
 ) -> Outcome
-    requires found { AreFoundNames surveyed.now.no_backslash_escape surveyed.now.query.now found }
+    requires found { AreFoundNames surveyed.now.reading surveyed.now.query.now found }
     requires kept { IfSome memory.old.found (AreFoundNames
-        surveyed.now.no_backslash_escape surveyed.now.query.now) }
+        surveyed.now.reading surveyed.now.query.now) }
     ensures form { (form : List ℕ) → IsFormOfPairs form found.entry.pairs.items →
-        IsFormInRoom surveyed.now.no_backslash_escape surveyed.now.query.now form
+        IsFormInRoom surveyed.now.reading surveyed.now.query.now form
         room.old room.new result }
     ensures found { IfSome memory.new.found (AreFoundNames
-        surveyed.now.no_backslash_escape surveyed.now.query.now) }
+        surveyed.now.reading surveyed.now.query.now) }
 {
     let spare = mem::replace(&mut memory.spare, Vec::new(alloc));
     let Some(values) = found.place_values(spare) else {
         return Outcome::OutOfMemory;
     };
     let literals = PlainForm {
-        no_backslash_escape: surveyed.no_backslash_escape,
+        no_backslash_escape: surveyed.reading.no_backslash_escape,
     };
     let measured = match measured_values(alloc, surveyed.survey, values, &literals) {
         Ok(measured) => measured,
         Err(error) => {
-            return bind_outcome(surveyed.query, error, surveyed.no_backslash_escape);
+            return bind_outcome(surveyed.query, error, surveyed.reading);
         }
     };
     let outcome = fill_string(surveyed, &measured, room);
@@ -238,7 +265,7 @@ fn bind_other<'f>(
     spare: &mut Vec<ValueRef<'f>>,
     room: &mut [u8],
 ) -> Outcome
-    ensures { IsFormInRoom surveyed.now.no_backslash_escape surveyed.now.query.now form.now
+    ensures { IsFormInRoom surveyed.now.reading surveyed.now.query.now form.now
         room.old room.new result }
 {
     let lent = mem::replace(spare, Vec::new(alloc));
@@ -268,16 +295,16 @@ fn bind_read(
     room: &mut [u8],
 ) -> Outcome
     ensures { (form : List ℕ) → IsFormReading form (Ok (given_in_place params.now)) →
-        IsFormInRoom surveyed.now.no_backslash_escape surveyed.now.query.now form
+        IsFormInRoom surveyed.now.reading surveyed.now.query.now form
         room.old room.new result }
 {
     let pairs = named_pairs(params);
     let plain = PlainForm {
-        no_backslash_escape: surveyed.no_backslash_escape,
+        no_backslash_escape: surveyed.reading.no_backslash_escape,
     };
     match measured_text(alloc, surveyed, borrowed_params(params, &pairs), &plain) {
         Ok(measured) => fill_string(surveyed, &measured, room),
-        Err(error) => bind_outcome(surveyed.query, error, surveyed.no_backslash_escape),
+        Err(error) => bind_outcome(surveyed.query, error, surveyed.reading),
     }
 }
 
@@ -289,10 +316,10 @@ fn fill_string(
     room: &mut [u8],
 ) -> Outcome
     requires measured { (given : Given) × OnSurveyed surveyed.now (λ ts.
-        IsMeasured (literal_of surveyed.now.no_backslash_escape) ts given measured.now) }
+        IsMeasured (literal_of surveyed.now.reading.no_backslash_escape) ts given measured.now) }
     ensures { (given : Given) → OnSurveyed surveyed.now (λ ts.
-        IsMeasured (literal_of surveyed.now.no_backslash_escape) ts given measured.now) →
-        IsStringInRoom surveyed.now.no_backslash_escape surveyed.now.query.now given
+        IsMeasured (literal_of surveyed.now.reading.no_backslash_escape) ts given measured.now) →
+        IsStringInRoom surveyed.now.reading surveyed.now.query.now given
         room.old room.new result }
 {
     let (lead, count) = length_lead(measured.len as u64);
@@ -303,7 +330,7 @@ fn fill_string(
     let (front, back) = room.split_at_mut(count);
     front.copy_from_slice(&lead[..count]);
     let form = PlainForm {
-        no_backslash_escape: surveyed.no_backslash_escape,
+        no_backslash_escape: surveyed.reading.no_backslash_escape,
     };
     fill_measured(surveyed, measured, &form, &mut back[..measured.len]);
     Outcome::Done { len }

@@ -29,11 +29,18 @@ use crate::unportable::construct_number;
 use mysql_binding::{
     BindError, KEPT_PLACES, NO_PLACE, SurveyedQuery, TextInRoom, bind_surveyed_into,
 };
+use mysql_named_params::places::Reading;
 use mysql_portable::portable::first_unportable;
 use mysql_portable::steady::first_unsteady;
 use mysql_steady_text::SteadyForm;
 use mysql_steady_text::first_backslash::first_backslash;
 use std::alloc::Global;
+
+// A query that isn't refused has the same tokens in both modes, so it is read in one of them.
+const EITHER_MODE: Reading = Reading {
+    no_backslash_escape: true,
+    wide_names: false,
+};
 
 /// Binds into a query what a form says, as
 /// [`bind_text_anywhere`](mysql_steady_text::bind_text_anywhere) binds the form's parameters, and
@@ -144,7 +151,7 @@ fn bind_steady_into(
     }
     match bind_params_steady(alloc, query, params, room) {
         Ok(text) => text_outcome(text),
-        Err(error) => bind_outcome(query, error, true),
+        Err(error) => bind_outcome(query, error, EITHER_MODE),
     }
 }
 
@@ -219,7 +226,7 @@ fn bind_params_steady(
     ensures unchanged { OnErr result (room.new ≡ room.old) }
 {
     let mut first = [NO_PLACE; KEPT_PLACES];
-    let surveyed = SurveyedQuery::new(query, true, &mut first);
+    let surveyed = SurveyedQuery::new(query, EITHER_MODE, &mut first);
     let pairs = named_pairs(&params);
     let borrowed = borrowed_params(&params, &pairs);
     bind_surveyed_into(alloc, &surveyed, borrowed, &SteadyForm, room)

@@ -34,4 +34,6 @@ mod tables;
 #[cfg(test)]
 mod types;
 #[cfg(test)]
+mod wide_names;
+#[cfg(test)]
 mod without_backslashes;

@@ -1,11 +1,13 @@
 -- The text that is bound to borrowed fragments, and why there is none.
-use Rattle.std.specs.Prelude.{Bool, IsErrOf, Ok, Err, Option, Result, Some, None, option_map, alloc_error}
+use Rattle.std.specs.Prelude.{IsErrOf, Ok, Err, Option, Result, Some, None, option_map, alloc_error}
 use Rattle.std.specs.List.{flat_map}
 use Rattle.std.specs.Option.{option_or}
 use Rattle.std.proofs.Common.{◌≡◌, ◌<◌, ℕ, true, List, [], ◌∷◌, length, map, arith, inl, inr, refl, sym, ap, subst}
-use Rattle.mysql_named_params.specs.Tokens.{Token, OnTokens}
+use Rattle.mysql_named_params.specs.Tokens.{Token}
 use Rattle.mysql_named_params.specs.Places.{names, HasName, HasMark}
-use Rattle.mysql_named_params.proofs.TokenListLemmas.{one_token_list}
+use Rattle.mysql_named_params.specs.Reading.{OnTokensIn}
+use Rattle.mysql_named_params.specs.declared.places.Reading.{Reading}
+use Rattle.mysql_named_params.proofs.ReadingLemmas.{one_reading}
 use Rattle.mysql_params_core.specs.declared.params.errors.ParamsConfusionError.TheVariants.{PositionalParamsForNamedQuery}
 use Rattle.mysql_binding.specs.LiteralForm.{IsPlainLiteral, written_literal}
 use Rattle.mysql_binding.specs.Pieces.{pieces, joined_text}
@@ -63,50 +65,50 @@ module _ (ts : List Token) (said : List Fragment) where
       by_names [] e = (refl, e)
       by_names (n ∷ ns) e = cc
 
-module _ (mode : Bool) (query : List ℕ) (survey : Survey) (o : OnTokens mode query (IsSurvey survey)) (fragments : List FragmentRef) (said : List Fragment) (s : AreSaid fragments said) where
+module _ (reading : Reading) (query : List ℕ) (survey : Survey) (o : OnTokensIn reading query (IsSurvey survey)) (fragments : List FragmentRef) (said : List Fragment) (s : AreSaid fragments said) where
   pub borrowed_refused : (error : FragmentsError) →
       ((ts : List Token) (said : List Fragment) → AreSaid fragments said → IsSurvey survey ts → Some (cause_of error) ≡ option_map Some (first_cause true ts (positional said))) →
-      OnTokens mode query (λ ts. IsCauseElseMemory (first_cause true ts (positional said)) error)
+      OnTokensIn reading query (λ ts. IsCauseElseMemory (first_cause true ts (positional said)) error)
   borrowed_refused error e = (o.0, o.1, inr (some_cause (cause_of error) (first_cause true o.0 (positional said)) (e o.0 said s o.2)))
 
   pub borrowed_memory : ((ts : List Token) (said : List Fragment) → AreSaid fragments said → IsSurvey survey ts → None ≡ option_map (λ x. Some x) (first_cause true ts (positional said))) →
-      OnTokens mode query (λ ts. IsCauseElseMemory (first_cause true ts (positional said)) (Memory alloc_error))
+      OnTokensIn reading query (λ ts. IsCauseElseMemory (first_cause true ts (positional said)) (Memory alloc_error))
   borrowed_memory none = (o.0, o.1, inl (no_error _ (none o.0 said s o.2), refl))
 
   pub borrowed_bound : (text : List ℕ) →
       ((ts : List Token) (said : List Fragment) → AreSaid fragments said → IsSurvey survey ts → None ≡ option_map (λ x. Some x) (first_cause true ts (positional said))) →
-      OnTokens mode query (λ ts. joined_text (pieces ts) (map (borrowed_text (written_literal (literal_of mode))) fragments) ≡ Some text) →
-      AreKnownUnlessFloats (literal_of mode) (IsPlainLiteral mode) (flat_map borrowed_values fragments) →
-      OnTokens mode query (λ ts. IsBoundFragments mode ts (positional said) text)
+      OnTokensIn reading query (λ ts. joined_text (pieces ts) (map (borrowed_text (written_literal (literal_of reading.no_backslash_escape))) fragments) ≡ Some text) →
+      AreKnownUnlessFloats (literal_of reading.no_backslash_escape) (IsPlainLiteral reading.no_backslash_escape) (flat_map borrowed_values fragments) →
+      OnTokensIn reading query (λ ts. IsBoundFragments reading.no_backslash_escape ts (positional said) text)
   borrowed_bound text none joined known =
-      bound_on mode query (positional said) text
-      (filled_on (literal_of mode) (IsPlainLiteral mode) mode query (positional said) said text (o.0, o.1, placed_by o.0 said (none o.0 said s o.2))
-      (subst (λ ls. OnTokens mode query (λ ts. joined_text (pieces ts) ls ≡ Some text)) (sym (said_texts (written_literal (literal_of mode)) fragments said s)) joined)
-      (subst (AreKnownUnlessFloats (literal_of mode) (IsPlainLiteral mode)) (sym (said_all_values fragments said s)) known))
+      bound_on reading query (positional said) text
+      (filled_on (literal_of reading.no_backslash_escape) (IsPlainLiteral reading.no_backslash_escape) reading query (positional said) said text (o.0, o.1, placed_by o.0 said (none o.0 said s o.2))
+      (subst (λ ls. OnTokensIn reading query (λ ts. joined_text (pieces ts) ls ≡ Some text)) (sym (said_texts (written_literal (literal_of reading.no_backslash_escape)) fragments said s)) joined)
+      (subst (AreKnownUnlessFloats (literal_of reading.no_backslash_escape) (IsPlainLiteral reading.no_backslash_escape)) (sym (said_all_values fragments said s)) known))
 
   -- ---- in a room
 
   pub refused_in_room : (error : FragmentsError) →
       ((ts : List Token) (said : List Fragment) → AreSaid fragments said → IsSurvey survey ts → Some (cause_of error) ≡ option_map Some (first_cause true ts (positional said))) →
-      OnTokens mode query (λ ts. IsCauseOrTooLong (first_cause true ts (positional said)) (IsTooLong (literal_of mode) ts said) error)
+      OnTokensIn reading query (λ ts. IsCauseOrTooLong (first_cause true ts (positional said)) (IsTooLong (literal_of reading.no_backslash_escape) ts said) error)
   refused_in_room error e = (o.0, o.1, inr (some_cause (cause_of error) (first_cause true o.0 (positional said)) (e o.0 said s o.2)))
 
   module _ (none : (ts : List Token) (said : List Fragment) → AreSaid fragments said → IsSurvey survey ts → None ≡ option_map (λ x. Some x) (first_cause true ts (positional said))) where
-    pub placed_on : OnTokens mode query (λ ts. ArePlaced true ts (positional said) said)
+    pub placed_on : OnTokensIn reading query (λ ts. ArePlaced true ts (positional said) said)
     placed_on = (o.0, o.1, placed_by o.0 said (none o.0 said s o.2))
 
-    pub too_long_in_room : OnTokens mode query (λ ts. IsTooLong (literal_of mode) ts said) →
-        OnTokens mode query (λ ts. IsCauseOrTooLong (first_cause true ts (positional said)) (IsTooLong (literal_of mode) ts said) (Memory alloc_error))
+    pub too_long_in_room : OnTokensIn reading query (λ ts. IsTooLong (literal_of reading.no_backslash_escape) ts said) →
+        OnTokensIn reading query (λ ts. IsCauseOrTooLong (first_cause true ts (positional said)) (IsTooLong (literal_of reading.no_backslash_escape) ts said) (Memory alloc_error))
     too_long_in_room t =
-        let same : t.0 ≡ o.0 = one_token_list mode query t.0 o.0 t.1 o.1 in
-        (o.0, o.1, inl (no_error _ (none o.0 said s o.2), subst (λ ts. IsTooLong (literal_of mode) ts said) same t.2, refl))
+        let same : t.0 ≡ o.0 = one_reading reading query t.0 o.0 t.1 o.1 in
+        (o.0, o.1, inl (no_error _ (none o.0 said s o.2), subst (λ ts. IsTooLong (literal_of reading.no_backslash_escape) ts said) same t.2, refl))
 
 -- ---- names and marks in one query
 
-pub mixed_told : {A : Type 0} (mode : Bool) (query : List ℕ) (survey : Survey) → OnTokens mode query (IsSurvey survey) → (error : FragmentsError) →
+pub mixed_told : {A : Type 0} (reading : Reading) (query : List ℕ) (survey : Survey) → OnTokensIn reading query (IsSurvey survey) → (error : FragmentsError) →
     (0 < survey.names → 0 < survey.marks → Some error ≡ Some Mixed) →
-    OnTokens mode query (λ ts. HasName ts × HasMark ts → IsErrOf {T = A} (Err error) Mixed)
-mixed_told {A = A} mode query survey o error told = (o.0, o.1, λ both. same (told (omega (arith, both.0, o.2.0)) (omega (arith, both.1, o.2.1))))
+    OnTokensIn reading query (λ ts. HasName ts × HasMark ts → IsErrOf {T = A} (Err error) Mixed)
+mixed_told {A = A} reading query survey o error told = (o.0, o.1, λ both. same (told (omega (arith, both.0, o.2.0)) (omega (arith, both.1, o.2.1))))
   where
     same : Some error ≡ Some Mixed → IsErrOf {T = A} (Err error) Mixed
     same e =
@@ -114,10 +116,10 @@ mixed_told {A = A} mode query survey o error told = (o.0, o.1, λ both. same (to
         ap (λ x. Err x) it
 
 -- where nothing is told of a query, it has not both
-pub never_mixed : {A : Type 0} (mode : Bool) (query : List ℕ) (survey : Survey) → OnTokens mode query (IsSurvey survey) → (r : Result A FragmentsError) →
+pub never_mixed : {A : Type 0} (reading : Reading) (query : List ℕ) (survey : Survey) → OnTokensIn reading query (IsSurvey survey) → (r : Result A FragmentsError) →
     (0 < survey.names → 0 < survey.marks → None ≡ Some Mixed) →
-    OnTokens mode query (λ ts. HasName ts × HasMark ts → IsErrOf r Mixed)
-never_mixed mode query survey o r told = (o.0, o.1, λ both. never (told (omega (arith, both.0, o.2.0)) (omega (arith, both.1, o.2.1))))
+    OnTokensIn reading query (λ ts. HasName ts × HasMark ts → IsErrOf r Mixed)
+never_mixed reading query survey o r told = (o.0, o.1, λ both. never (told (omega (arith, both.0, o.2.0)) (omega (arith, both.1, o.2.1))))
   where
     never : {X : Type 0} → ◌≡◌ {A = Option FragmentsError} None (Some Mixed) → X
     never e = cc

@@ -1,15 +1,18 @@
 -- Queries with fragments, as the code writes them.
 use Rattle.std.specs.Prelude.{Bool, Ok, option_map}
 use Rattle.std.specs.Option.{option_or}
-use Rattle.std.proofs.Common.{◌≡◌, ◌+◌, ◌++◌, ◌<◌, ◌≤◌, ℕ, true, false, List, [], ◌∷◌, length, map, take, drop, get_or, Some, None, arith, inl, inr, refl, sym, ap, ◌∙◌, subst, append_assoc, add-one, drop-cons, eq-eqb}
+use Rattle.std.proofs.Common.{◌≡◌, ◌+◌, ◌++◌, ◌<◌, ◌≤◌, ℕ, All, true, false, List, [], ◌∷◌, length, map, take, drop, get_or, Some, None, arith, inl, inr, refl, sym, ap, ◌∙◌, subst, append_assoc, add-one, drop-cons, eq-eqb}
 use Rattle.std.proofs.lemmas.List.{drop_all, length-map, get_or-map}
 use Rattle.mysql_values.specs.declared.value.Value.{Value}
-use Rattle.mysql_named_params.specs.Tokens.{Token, IsTokens, OnTokens, text_of}
+use Rattle.mysql_named_params.specs.Tokens.{Token, text_of}
 use Rattle.mysql_named_params.specs.Places.{names, marks, place_count, HasName, HasMark}
 use Rattle.mysql_named_params.specs.FirstPlace.{IsFirstPlace}
+use Rattle.mysql_named_params.specs.Reading.{IsTokensIn, OnTokensIn}
+use Rattle.mysql_named_params.specs.WideNames.{IsWideName}
 use Rattle.mysql_named_params.specs.declared.places.FoundPlace.{FoundPlace}
-use Rattle.mysql_named_params.proofs.FoundPlaceLemmas.{parted}
-use Rattle.mysql_named_params.proofs.TokenListLemmas.{one_token_list}
+use Rattle.mysql_named_params.specs.declared.places.Reading.{Reading}
+use Rattle.mysql_named_params.proofs.FoundPlaceLemmas.{parted_in}
+use Rattle.mysql_named_params.proofs.ReadingLemmas.{one_reading, reading_text}
 use Rattle.mysql_named_params.proofs.TokenRowLemmas.{place_count-append}
 use Rattle.mysql_params_core.specs.Given.{positional}
 use Rattle.mysql_params_core.specs.Lookup.{lookup}
@@ -33,14 +36,14 @@ use Rattle.mysql_fragments.specs.declared.fragments_error.FragmentsError.{Fragme
 use Rattle.mysql_fragments.specs.declared.fragments_error.FragmentsError.TheVariants.{Mixed}
 use Rattle.mysql_fragments.proofs.CauseLemmas.{mixed_none, mixed_some, no_later_parts, first_by, first_refused, fragment_each, no_first_float, some_cause, no_error}
 use Rattle.mysql_fragments.proofs.ShapeLemmas.{fragment_shapes, mark_sum}
-use Rattle.mysql_fragments.proofs.SplicedFragmentLemmas.{as_many, fragment_lists, fragments_isolated, fragments_nameless, fragments_marks, fragments_stand_alone}
+use Rattle.mysql_fragments.proofs.SplicedFragmentLemmas.{as_many, fragment_lists, fragments_isolated_in, fragments_nameless, fragments_marks, fragments_stand_alone}
 use Rattle.mysql_binding.proofs.WrittenTextLemmas.{bound-place, place_count-place}
 
 -- ---- the causes
 
-module _ (as_literals mode : Bool) (query : List ℕ) (given : GivenFragments) (survey : Survey) (o : OnTokens mode query (IsSurvey survey)) where
+module _ (as_literals : Bool) (reading : Reading) (query : List ℕ) (given : GivenFragments) (survey : Survey) (o : OnTokensIn reading query (IsSurvey survey)) where
   pub mixed_refused : 0 < survey.names → 0 < survey.marks →
-      OnTokens mode query (λ ts. IsCauseOrMemory (first_cause as_literals ts given) Mixed)
+      OnTokensIn reading query (λ ts. IsCauseOrMemory (first_cause as_literals ts given) Mixed)
   mixed_refused some more =
       let both : HasName o.0 × HasMark o.0 = (omega (arith, some, o.2.0), omega (arith, more, o.2.1)) in
       (o.0, o.1, inr (mixed_query, ap (λ x. option_or x (cause_of_places as_literals o.0 (fragments_for given (names o.0)))) (mixed_some o.0 both), refl))
@@ -49,14 +52,14 @@ module _ (as_literals mode : Bool) (query : List ℕ) (given : GivenFragments) (
     not_both_on : HasName o.0 × HasMark o.0 → ⊥
     not_both_on both = not_both (omega (arith, both.0, o.2.0), omega (arith, both.1, o.2.1))
 
-    pub unmixed_on : OnTokens mode query (λ ts. (survey.names ≡ length (names ts)) × (mixed_cause ts ≡ None))
+    pub unmixed_on : OnTokensIn reading query (λ ts. (survey.names ≡ length (names ts)) × (mixed_cause ts ≡ None))
     unmixed_on = (o.0, o.1, (o.2.0, mixed_none o.0 not_both_on))
 
     pub refused_places : (error : FragmentsError) →
-        OnTokens mode query (λ ts. IsPlaceRefusal (fragments_for given (names ts)) error) →
-        OnTokens mode query (λ ts. IsCauseOrMemory (first_cause as_literals ts given) error)
+        OnTokensIn reading query (λ ts. IsPlaceRefusal (fragments_for given (names ts)) error) →
+        OnTokensIn reading query (λ ts. IsCauseOrMemory (first_cause as_literals ts given) error)
     refused_places error p =
-        let r : IsPlaceRefusal (fragments_for given (names o.0)) error = subst (λ ts. IsPlaceRefusal (fragments_for given (names ts)) error) (one_token_list mode query p.0 o.0 p.1 o.1) p.2 in (
+        let r : IsPlaceRefusal (fragments_for given (names o.0)) error = subst (λ ts. IsPlaceRefusal (fragments_for given (names ts)) error) (one_reading reading query p.0 o.0 p.1 o.1) p.2 in (
           o.0,
           o.1,
           elim r [
@@ -65,13 +68,13 @@ module _ (as_literals mode : Bool) (query : List ℕ) (given : GivenFragments) (
           ],
         )
 
-    module _ (fragments : List Fragment) (f : OnTokens mode query (λ ts. fragments_for given (names ts) ≡ Ok fragments)) where
+    module _ (fragments : List Fragment) (f : OnTokensIn reading query (λ ts. fragments_for given (names ts) ≡ Ok fragments)) where
       looked : fragments_for given (names o.0) ≡ Ok fragments
-      looked = subst (λ ts. fragments_for given (names ts) ≡ Ok fragments) (one_token_list mode query f.0 o.0 f.1 o.1) f.2
+      looked = subst (λ ts. fragments_for given (names ts) ≡ Ok fragments) (one_reading reading query f.0 o.0 f.1 o.1) f.2
 
       pub refused_later : (error : FragmentsError) →
           ((ts : List Token) → IsSurvey survey ts → Some (cause_of error) ≡ option_map Some (later_cause as_literals ts fragments)) →
-          OnTokens mode query (λ ts. IsCauseOrMemory (first_cause as_literals ts given) error)
+          OnTokensIn reading query (λ ts. IsCauseOrMemory (first_cause as_literals ts given) error)
       refused_later error e =
           let s = some_cause (cause_of error) (later_cause as_literals o.0 fragments) (e o.0 o.2) in
           (o.0, o.1, inr (s.0, first_by as_literals o.0 given fragments (Some s.0) (mixed_none o.0 not_both_on) looked s.1, s.2))
@@ -80,7 +83,7 @@ module _ (as_literals mode : Bool) (query : List ℕ) (given : GivenFragments) (
         none_later : later_cause as_literals o.0 fragments ≡ None
         none_later = no_error _ (none o.0 o.2)
 
-        pub placed_on : OnTokens mode query (λ ts. ArePlaced as_literals ts given fragments)
+        pub placed_on : OnTokensIn reading query (λ ts. ArePlaced as_literals ts given fragments)
         placed_on = (o.0, o.1, record { unmixed = mixed_none o.0 not_both_on; given_to_places = looked; no_later = none_later })
 
 -- ---- fragments that nothing refuses
@@ -88,16 +91,17 @@ module _ (as_literals mode : Bool) (query : List ℕ) (given : GivenFragments) (
 not_both_of : (ts : List Token) → mixed_cause ts ≡ None → HasName ts × HasMark ts → ⊥
 not_both_of ts e both = let bad : Some mixed_query ≡ None = sym (mixed_some ts both) ∙ e in cc
 
-module _ (as_literals mode : Bool) (query : List ℕ) (ts : List Token) (given : GivenFragments) (fragments : List Fragment) (is : IsTokens mode query ts) (p : ArePlaced as_literals ts given fragments) where
+module _ (as_literals : Bool) (reading : Reading) (query : List ℕ) (ts : List Token) (given : GivenFragments) (fragments : List Fragment) (is : IsTokensIn reading query ts) (p : ArePlaced as_literals ts given fragments) where
   placed_each : length fragments ≡ place_count ts
   placed_each = fragment_each ts given fragments (not_both_of ts p.unmixed) p.given_to_places (no_later_parts as_literals ts fragments p.no_later).0
 
   -- the expanded query, if this is its text
   with_text : (text : List ℕ) → joined_text (pieces ts) (map fragment_text fragments) ≡ Some text →
-      (x : IsExpanded as_literals mode ts given text) × (x.fragments ≡ fragments)
+      (x : IsExpanded as_literals reading.no_backslash_escape ts given text) × (x.fragments ≡ fragments)
   with_text text exact =
       let texts : List (List ℕ) = map fragment_text fragments in
       let parts = no_later_parts as_literals ts fragments p.no_later in
+      let mode = reading.no_backslash_escape in
       let shapes = fragment_shapes mode 0 fragments parts.3 in
       let lists = fragment_lists mode (map mark_number fragments) texts shapes in (
         record {
@@ -108,47 +112,47 @@ module _ (as_literals mode : Bool) (query : List ℕ) (ts : List Token) (given :
           text_is = exact;
           lists = lists.0;
           tokens_of_fragments = lists.1;
-          isolated = fragments_isolated mode text ts (map mark_number fragments) texts lists.0 parts.1 shapes lists.1 exact query is;
+          isolated = fragments_isolated_in reading query text ts (map mark_number fragments) texts lists.0 is parts.1 shapes lists.1 exact;
         },
         refl,
       )
 
   -- there is one
-  pub is_expanded : (text : List ℕ) × (x : IsExpanded as_literals mode ts given text) × (x.fragments ≡ fragments)
+  pub is_expanded : (text : List ℕ) × (x : IsExpanded as_literals reading.no_backslash_escape ts given text) × (x.fragments ≡ fragments)
   is_expanded =
       let texts : List (List ℕ) = map fragment_text fragments in
       let x = with_text (bound ts texts) (joined_text-pieces_from [] ts texts (length-map fragments fragment_text ∙ placed_each)) in
       (bound ts texts, x.0, x.1)
 
-module _ (as_literals mode : Bool) (query : List ℕ) (given : GivenFragments) (fragments : List Fragment) (p : OnTokens mode query (λ ts. ArePlaced as_literals ts given fragments)) where
-  pub each_on : OnTokens mode query (λ ts. length fragments ≡ place_count ts)
-  each_on = (p.0, p.1, placed_each as_literals mode query p.0 given fragments p.1 p.2)
+module _ (as_literals : Bool) (reading : Reading) (query : List ℕ) (given : GivenFragments) (fragments : List Fragment) (p : OnTokensIn reading query (λ ts. ArePlaced as_literals ts given fragments)) where
+  pub each_on : OnTokensIn reading query (λ ts. length fragments ≡ place_count ts)
+  each_on = (p.0, p.1, placed_each as_literals reading query p.0 given fragments p.1 p.2)
 
   pub expanded_on : (text : List ℕ) (values : List Value) →
-      OnTokens mode query (λ ts. joined_text (pieces ts) (map fragment_text fragments) ≡ Some text) →
-      values ≡ all_values fragments → OnTokens mode query (λ ts. IsExpandedQuery as_literals mode ts given text values)
+      OnTokensIn reading query (λ ts. joined_text (pieces ts) (map fragment_text fragments) ≡ Some text) →
+      values ≡ all_values fragments → OnTokensIn reading query (λ ts. IsExpandedQuery as_literals reading.no_backslash_escape ts given text values)
   expanded_on text values j v =
       let exact : joined_text (pieces p.0) (map fragment_text fragments) ≡ Some text =
-      subst (λ ts. joined_text (pieces ts) (map fragment_text fragments) ≡ Some text) (one_token_list mode query j.0 p.0 j.1 p.1) j.2 in
-      let x = with_text as_literals mode query p.0 given fragments p.1 p.2 text exact in
+      subst (λ ts. joined_text (pieces ts) (map fragment_text fragments) ≡ Some text) (one_reading reading query j.0 p.0 j.1 p.1) j.2 in
+      let x = with_text as_literals reading query p.0 given fragments p.1 p.2 text exact in
       (p.0, p.1, record { expanded = x.0; values_are = v ∙ ap all_values (sym x.1) })
 
 -- ---- the query with fragments, written as far as a rest of it
 
 -- (with this text of each fragment, which may be a borrowed one)
-pub record SplicedSoFar {X : Type 0} (mode : Bool) (write : X → List ℕ) (query rest : List ℕ) (fragments : List X) (i : ℕ) (text : List ℕ) : Type 0 where
+pub record SplicedSoFar {X : Type 0} (reading : Reading) (write : X → List ℕ) (query rest : List ℕ) (fragments : List X) (i : ℕ) (text : List ℕ) : Type 0 where
   pub all : List Token
-  pub tokens : IsTokens mode query all
+  pub tokens : IsTokensIn reading query all
   pub left : List Token
-  pub rest_tokens : IsTokens mode rest left
+  pub rest_tokens : IsTokensIn reading rest left
   pub places_left : i + place_count left ≡ length fragments
   pub room : length fragments ≡ place_count all
   pub text_is : text ++ bound left (drop i (map write fragments)) ≡ bound all (map write fragments)
 
-pub spliced_none : {X : Type 0} (mode : Bool) (write : X → List ℕ) (query : List ℕ) (fragments : List X) (text : List ℕ) →
-    OnTokens mode query (λ ts. length fragments ≡ place_count ts) → text ≡ [] →
-    SplicedSoFar mode write query query fragments 0 text
-spliced_none mode write query fragments text o nil = record {
+pub spliced_none : {X : Type 0} (reading : Reading) (write : X → List ℕ) (query : List ℕ) (fragments : List X) (text : List ℕ) →
+    OnTokensIn reading query (λ ts. length fragments ≡ place_count ts) → text ≡ [] →
+    SplicedSoFar reading write query query fragments 0 text
+spliced_none reading write query fragments text o nil = record {
   all = o.0;
   tokens = o.1;
   left = o.0;
@@ -158,20 +162,20 @@ spliced_none mode write query fragments text o nil = record {
   text_is = ap (λ x. x ++ bound o.0 (map write fragments)) nil;
 }
 
-module _ {X : Type 0} (mode : Bool) (write : X → List ℕ) (query rest : List ℕ) (fragments : List X) (i : ℕ) (text : List ℕ) (s : SplicedSoFar mode write query rest fragments i text) where
+module _ {X : Type 0} (reading : Reading) (write : X → List ℕ) (query rest : List ℕ) (fragments : List X) (i : ℕ) (text : List ℕ) (s : SplicedSoFar reading write query rest fragments i text) where
   -- as long as fragments are left, a place is found
-  pub place_left : i < length fragments → OnTokens mode rest (λ us. place_count us ≡ 0) → ⊥
+  pub place_left : i < length fragments → OnTokensIn reading rest (λ us. place_count us ≡ 0) → ⊥
   place_left below o =
-      let same : o.0 ≡ s.left = one_token_list mode rest o.0 s.left o.1 s.rest_tokens in
+      let same : o.0 ≡ s.left = one_reading reading rest o.0 s.left o.1 s.rest_tokens in
       omega (arith, below, s.places_left, ap place_count same, o.2)
 
   pub spliced_more : (run after text1 text2 : List ℕ) (fragment : X) (found : FoundPlace) →
       i < length fragments → fragment ≡ get_or fragments i fragment →
-      OnTokens mode rest (λ us. IsFirstPlace us found) → run ≡ take found.before rest →
+      OnTokensIn reading rest (λ us. IsFirstPlace us found) → run ≡ take found.before rest →
       after ≡ drop (found.before + found.len) rest → text1 ≡ text ++ run →
-      text2 ≡ text1 ++ write fragment → SplicedSoFar mode write query after fragments (i + 1) text2
+      text2 ≡ text1 ++ write fragment → SplicedSoFar reading write query after fragments (i + 1) text2
   spliced_more run after text1 text2 fragment found below fragment_is o run_is after_is more more' =
-      let p = parted mode rest s.left found s.rest_tokens o in
+      let p = parted_in reading rest s.left found s.rest_tokens o in
       let after_rest : drop (found.before + found.len) rest ≡ after = sym after_is in
       let texts : List (List ℕ) = map write fragments in
       let below_texts : i < length texts = omega (arith, below, length-map fragments write) in
@@ -183,7 +187,7 @@ module _ {X : Type 0} (mode : Bool) (write : X → List ℕ) (query rest : List 
         all = s.all;
         tokens = s.tokens;
         left = p.back;
-        rest_tokens = subst (λ x. IsTokens mode x p.back) after_rest p.rest_tokens;
+        rest_tokens = subst (λ x. IsTokensIn reading x p.back) after_rest p.rest_tokens;
         places_left = omega (arith, s.places_left, places);
         room = s.room;
         text_is =
@@ -196,11 +200,11 @@ module _ {X : Type 0} (mode : Bool) (write : X → List ℕ) (query rest : List 
       }
 
   pub spliced_all : length fragments ≤ i → (text' : List ℕ) → text' ≡ text ++ rest →
-      OnTokens mode query (λ ts. joined_text (pieces ts) (map write fragments) ≡ Some text')
+      OnTokensIn reading query (λ ts. joined_text (pieces ts) (map write fragments) ≡ Some text')
   spliced_all done text' more =
       let none : place_count s.left ≡ 0 = omega (arith, s.places_left, done) in
       let no_texts : drop i (map write fragments) ≡ [] = drop_all i (map write fragments) (omega (arith, done, length-map fragments write)) in
-      let rest_is : rest ≡ bound s.left (drop i (map write fragments)) = sym s.rest_tokens.text ∙ (sym (bound_none s.left none) ∙ ap (bound s.left) (sym no_texts)) in
+      let rest_is : rest ≡ bound s.left (drop i (map write fragments)) = sym (reading_text reading rest s.left s.rest_tokens) ∙ (sym (bound_none s.left none) ∙ ap (bound s.left) (sym no_texts)) in
       let text_is : text' ≡ bound s.all (map write fragments) = more ∙ (ap (λ x. text ++ x) rest_is ∙ s.text_is) in
       (s.all, s.tokens, joined_text-pieces_from [] s.all (map write fragments) (length-map fragments write ∙ s.room) ∙ ap Some (sym text_is))
 
@@ -233,21 +237,21 @@ module _ (as_literals mode : Bool) (ts : List Token) (given : GivenFragments) (t
   expanded_marks =
       fragments_marks mode ts (map mark_number x.fragments) (map fragment_text x.fragments) x.lists x.shapes x.tokens_of_fragments many_of ∙ mark_sum x.fragments
 
-  marks_alone : (query : List ℕ) → IsTokens mode query ts → first_not_alone (with_literal_tokens ts x.lists) ≡ None
-  marks_alone query is =
-      fragments_stand_alone mode query ts (map mark_number x.fragments) (map fragment_text x.fragments) x.lists is x.shapes x.tokens_of_fragments many_of expanded_alone
+  marks_alone : All IsWideName (names ts) → first_not_alone (with_literal_tokens ts x.lists) ≡ None
+  marks_alone wide =
+      fragments_stand_alone mode ts (map mark_number x.fragments) (map fragment_text x.fragments) x.lists wide x.shapes x.tokens_of_fragments many_of expanded_alone
 
 -- there is no cause to refuse the values of an expanded query
-pub no_cause_expanded : (mode : Bool) (ts : List Token) (given : GivenFragments) (query text : List ℕ) → IsTokens mode query ts →
+pub no_cause_expanded : (mode : Bool) (ts : List Token) (given : GivenFragments) (text : List ℕ) → All IsWideName (names ts) →
     (x : IsExpanded true mode ts given text) →
     bound_cause.first_cause (with_literal_tokens ts x.lists) (positional (all_values x.fragments)) ≡ None
-no_cause_expanded mode ts given query text is x =
+no_cause_expanded mode ts given text wide x =
     let us : List Token = with_literal_tokens ts x.lists in
     let values : List Value = all_values x.fragments in
     let none : names us ≡ [] = expanded_nameless true mode ts given text x in
     bound_lemmas.first_by us (positional values) values None
     (bound_lemmas.mixed_none us (λ both. absurd (omega (arith, both.0, ap length none)))) (ap (lookup (positional values)) none)
-    (no_later us values none (expanded_marks true mode ts given text x) (marks_alone true mode ts given text x query is) (no_first_float x.fragments (expanded_parts true mode ts given text x).1))
+    (no_later us values none (expanded_marks true mode ts given text x) (marks_alone true mode ts given text x wide) (no_first_float x.fragments (expanded_parts true mode ts given text x).1))
   where
     no_later : (us : List Token) (values : List Value) → names us ≡ [] → marks us ≡ length values → first_not_alone us ≡ None →
         bound_cause.first_float values ≡ None → bound_cause.later_cause us values ≡ None

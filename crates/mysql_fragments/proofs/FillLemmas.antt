@@ -1,13 +1,13 @@
 -- A text of a fixed length that is filled with a query and fragments as far as an index.
-use Rattle.std.specs.Prelude.{Bool}
 use Rattle.std.specs.List.{sum_by}
 use Rattle.std.proofs.Common.{◌≡◌, ℕ, ◌+◌, ◌<◌, ◌≤◌, List, ◌++◌, length, length-append, map, take, drop, get_or, Some, refl, sym, ap, ◌∙◌, subst, arith, take_all}
 use Rattle.std.proofs.lemmas.List.{length-map, length-take-le}
-use Rattle.mysql_named_params.specs.Tokens.{OnTokens}
 use Rattle.mysql_named_params.specs.Places.{place_count}
 use Rattle.mysql_named_params.specs.FirstPlace.{IsFirstPlace}
 use Rattle.mysql_named_params.specs.declared.places.FoundPlace.{FoundPlace}
-use Rattle.mysql_named_params.proofs.TokenListLemmas.{one_token_list}
+use Rattle.mysql_named_params.specs.Reading.{OnTokensIn}
+use Rattle.mysql_named_params.specs.declared.places.Reading.{Reading}
+use Rattle.mysql_named_params.proofs.ReadingLemmas.{one_reading}
 use Rattle.mysql_binding.specs.Pieces.{pieces, joined_text}
 use Rattle.mysql_binding.specs.TextLength.{pieces_len}
 use Rattle.mysql_binding.proofs.BoundText.{bound}
@@ -17,24 +17,24 @@ use Rattle.mysql_binding.proofs.TextLengthLemmas.{pieces_len-plain_len}
 use Rattle.mysql_fragments.proofs.ExpandedLemmas.{SplicedSoFar, spliced_none, place_left, spliced_more, spliced_all}
 
 -- the whole text has this length
-abbrev HasLength : {X : Type 0} → Bool → (X → List ℕ) → List ℕ → List X → ℕ → Type 0
-HasLength mode write query fragments n = OnTokens mode query (λ ts. n ≡ length (bound ts (map write fragments)))
+abbrev HasLength : {X : Type 0} → Reading → (X → List ℕ) → List ℕ → List X → ℕ → Type 0
+HasLength reading write query fragments n = OnTokensIn reading query (λ ts. n ≡ length (bound ts (map write fragments)))
 
 -- the text is written as far as the index, and has room for what is left
-pub record FilledSoFar {X : Type 0} (mode : Bool) (write : X → List ℕ) (query rest : List ℕ) (fragments : List X) (i : ℕ) (text : List ℕ) (at : ℕ) : Type 0 where
-  pub so_far : SplicedSoFar mode write query rest fragments i (take at text)
+pub record FilledSoFar {X : Type 0} (reading : Reading) (write : X → List ℕ) (query rest : List ℕ) (fragments : List X) (i : ℕ) (text : List ℕ) (at : ℕ) : Type 0 where
+  pub so_far : SplicedSoFar reading write query rest fragments i (take at text)
   pub in_range : at ≤ length text
-  pub whole : OnTokens mode query (λ ts. length text ≡ length (bound ts (map write fragments)))
+  pub whole : OnTokensIn reading query (λ ts. length text ≡ length (bound ts (map write fragments)))
 
-pub filled_none : {X : Type 0} (mode : Bool) (write : X → List ℕ) (query : List ℕ) (fragments : List X) (text : List ℕ) →
-    OnTokens mode query (λ ts. length fragments ≡ place_count ts) →
-    OnTokens mode query (λ ts. length text ≡ pieces_len ts + sum_by length (map write fragments)) →
-    FilledSoFar mode write query query fragments 0 text 0
-filled_none mode write query fragments text o room = record {
-  so_far = spliced_none mode write query fragments (take 0 text) o refl;
+pub filled_none : {X : Type 0} (reading : Reading) (write : X → List ℕ) (query : List ℕ) (fragments : List X) (text : List ℕ) →
+    OnTokensIn reading query (λ ts. length fragments ≡ place_count ts) →
+    OnTokensIn reading query (λ ts. length text ≡ pieces_len ts + sum_by length (map write fragments)) →
+    FilledSoFar reading write query query fragments 0 text 0
+filled_none reading write query fragments text o room = record {
+  so_far = spliced_none reading write query fragments (take 0 text) o refl;
   in_range = omega arith;
   whole =
-      let same : room.0 ≡ o.0 = one_token_list mode query room.0 o.0 room.1 o.1 in
+      let same : room.0 ≡ o.0 = one_reading reading query room.0 o.0 room.1 o.1 in
       let all : length text ≡ pieces_len o.0 + sum_by length (map write fragments) = subst (λ ts. length text ≡ pieces_len ts + sum_by length (map write fragments)) same room.2 in (
         o.0,
         o.1,
@@ -43,10 +43,10 @@ filled_none mode write query fragments text o room = record {
 }
 
 -- what is written so far is no longer than the whole
-front_fits : {X : Type 0} (mode : Bool) (write : X → List ℕ) (query rest : List ℕ) (fragments : List X) (i : ℕ) (front : List ℕ) (n : ℕ) →
-    SplicedSoFar mode write query rest fragments i front → HasLength mode write query fragments n → length front ≤ n
-front_fits mode write query rest fragments i front n s whole =
-    let same : whole.0 ≡ s.all = one_token_list mode query whole.0 s.all whole.1 s.tokens in
+front_fits : {X : Type 0} (reading : Reading) (write : X → List ℕ) (query rest : List ℕ) (fragments : List X) (i : ℕ) (front : List ℕ) (n : ℕ) →
+    SplicedSoFar reading write query rest fragments i front → HasLength reading write query fragments n → length front ≤ n
+front_fits reading write query rest fragments i front n s whole =
+    let same : whole.0 ≡ s.all = one_reading reading query whole.0 s.all whole.1 s.tokens in
     omega (
       arith,
       whole.2,
@@ -56,11 +56,11 @@ front_fits mode write query rest fragments i front n s whole =
     )
 
 -- once the fragments are written, the rest of the query is what is missing of the whole
-whole_text : {X : Type 0} (mode : Bool) (write : X → List ℕ) (query : List ℕ) (fragments : List X) (text : List ℕ) (n : ℕ) →
-    OnTokens mode query (λ ts. joined_text (pieces ts) (map write fragments) ≡ Some text) →
-    HasLength mode write query fragments n → length text ≡ n
-whole_text mode write query fragments text n j whole =
-    let same : whole.0 ≡ j.0 = one_token_list mode query whole.0 j.0 whole.1 j.1 in
+whole_text : {X : Type 0} (reading : Reading) (write : X → List ℕ) (query : List ℕ) (fragments : List X) (text : List ℕ) (n : ℕ) →
+    OnTokensIn reading query (λ ts. joined_text (pieces ts) (map write fragments) ≡ Some text) →
+    HasLength reading write query fragments n → length text ≡ n
+whole_text reading write query fragments text n j whole =
+    let same : whole.0 ≡ j.0 = one_reading reading query whole.0 j.0 whole.1 j.1 in
     omega (
       arith,
       whole.2,
@@ -68,24 +68,24 @@ whole_text mode write query fragments text n j whole =
       ap length (joined_text_is j.0 (map write fragments) text j.2),
     )
 
-module _ {X : Type 0} (mode : Bool) (write : X → List ℕ) (query rest : List ℕ) (fragments : List X) (i : ℕ) (text : List ℕ) (at : ℕ) (s : FilledSoFar mode write query rest fragments i text at) where
+module _ {X : Type 0} (reading : Reading) (write : X → List ℕ) (query rest : List ℕ) (fragments : List X) (i : ℕ) (text : List ℕ) (at : ℕ) (s : FilledSoFar reading write query rest fragments i text at) where
   filled : length (take at text) ≡ at
   filled = length-take-le at text s.in_range
 
   module _ (below : i < length fragments) where
     -- as long as fragments are left, a place is found
-    pub fill_place_left : OnTokens mode rest (λ us. place_count us ≡ 0) → ⊥
-    fill_place_left o = place_left mode write query rest fragments i (take at text) s.so_far below o
+    pub fill_place_left : OnTokensIn reading rest (λ us. place_count us ≡ 0) → ⊥
+    fill_place_left o = place_left reading write query rest fragments i (take at text) s.so_far below o
 
-    module _ (fragment : X) (fragment_is : fragment ≡ get_or fragments i fragment) (found : FoundPlace) (o : OnTokens mode rest (λ us. IsFirstPlace us found)) (run : List ℕ) (run_is : run ≡ take found.before rest) where
+    module _ (fragment : X) (fragment_is : fragment ≡ get_or fragments i fragment) (found : FoundPlace) (o : OnTokensIn reading rest (λ us. IsFirstPlace us found)) (run : List ℕ) (run_is : run ≡ take found.before rest) where
       both_fit : at + (length run + length (write fragment)) ≤ length text
       both_fit =
-          let more = spliced_more mode write query rest fragments i (take at text) s.so_far run (drop (found.before + found.len) rest) (take at text ++ run) ((take at text ++ run) ++ write fragment) fragment found
+          let more = spliced_more reading write query rest fragments i (take at text) s.so_far run (drop (found.before + found.len) rest) (take at text ++ run) ((take at text ++ run) ++ write fragment) fragment found
           below fragment_is o run_is refl refl refl in
           omega (
             arith,
             filled,
-            front_fits mode write query (drop (found.before + found.len) rest) fragments (i + 1) ((take at text ++ run) ++ write fragment) (length text) more s.whole,
+            front_fits reading write query (drop (found.before + found.len) rest) fragments (i + 1) ((take at text ++ run) ++ write fragment) (length text) more s.whole,
             length-append (take at text ++ run) (write fragment),
             length-append (take at text) run,
           )
@@ -100,27 +100,27 @@ module _ {X : Type 0} (mode : Bool) (write : X → List ℕ) (query rest : List 
         pub filled_more : (after text'' : List ℕ) (at'' : ℕ) → after ≡ drop (found.before + found.len) rest →
             at'' ≡ at' + length (write fragment) → length text'' ≡ length text' →
             take at'' text'' ≡ take at' text' ++ write fragment →
-            FilledSoFar mode write query after fragments (i + 1) text'' at''
+            FilledSoFar reading write query after fragments (i + 1) text'' at''
         filled_more after text'' at'' after_is at''_is same' written = record {
           so_far =
-              spliced_more mode write query rest fragments i (take at text) s.so_far run after (take at' text') (take at'' text'') fragment found
+              spliced_more reading write query rest fragments i (take at text) s.so_far run after (take at' text') (take at'' text'') fragment found
               below fragment_is o run_is after_is piece written;
           in_range = omega (arith, fragment_fits, at''_is, same');
           whole = (s.whole.0, s.whole.1, same' ∙ (same ∙ s.whole.2));
         }
 
   module _ (done : length fragments ≤ i) where
-    all_joined : OnTokens mode query (λ ts. joined_text (pieces ts) (map write fragments) ≡ Some (take at text ++ rest))
-    all_joined = spliced_all mode write query rest fragments i (take at text) s.so_far done (take at text ++ rest) refl
+    all_joined : OnTokensIn reading query (λ ts. joined_text (pieces ts) (map write fragments) ≡ Some (take at text ++ rest))
+    all_joined = spliced_all reading write query rest fragments i (take at text) s.so_far done (take at text ++ rest) refl
 
     -- once all fragments are written, the rest has exactly its room
     pub last_fits : at + length rest ≡ length text
     last_fits =
-        omega (arith, filled, length-append (take at text) rest, whole_text mode write query fragments (take at text ++ rest) (length text) all_joined s.whole)
+        omega (arith, filled, length-append (take at text) rest, whole_text reading write query fragments (take at text ++ rest) (length text) all_joined s.whole)
 
     pub filled_all : (text' : List ℕ) (at' : ℕ) → at' ≡ at + length rest → length text' ≡ length text →
         take at' text' ≡ take at text ++ rest →
-        OnTokens mode query (λ ts. joined_text (pieces ts) (map write fragments) ≡ Some text')
+        OnTokensIn reading query (λ ts. joined_text (pieces ts) (map write fragments) ≡ Some text')
     filled_all text' at' at'_is same written =
         let all : take at' text' ≡ text' = take_all at' text' (omega (arith, last_fits, at'_is, same)) in
-        subst (λ t. OnTokens mode query (λ ts. joined_text (pieces ts) (map write fragments) ≡ Some t)) (sym written ∙ all) all_joined
+        subst (λ t. OnTokensIn reading query (λ ts. joined_text (pieces ts) (map write fragments) ≡ Some t)) (sym written ∙ all) all_joined

@@ -1,16 +1,21 @@
 -- The text that is written at once, with literals in place of the values of fragments, is the one that
 -- binding gives for the expanded query and these values.
-use Rattle.std.specs.Prelude.{Bool, codes, Option, option_map, Result, Ok, Err, IfOk, IfSome, ⊤}
+use Rattle.std.specs.Prelude.{Bool, codes, Option, option_map, IfSome, ⊤}
 use Rattle.std.specs.List.{flat_map}
 use Rattle.std.specs.Global.{Vec}
 use Rattle.std.specs.Str.{byte}
-use Rattle.std.proofs.Common.{◌≡◌, ◌+◌, ◌++◌, ◌<◌, ◌≤◌, ℕ, true, List, [], ◌∷◌, length, map, take, take_all, get_or, Some, None, arith, refl, sym, ap, ◌∙◌, subst, append_assoc, append-nil, length-append}
+use Rattle.std.proofs.Common.{◌≡◌, ◌+◌, ◌++◌, ◌<◌, ◌≤◌, ℕ, All, true, List, [], ◌∷◌, length, map, take, take_all, get_or, Some, None, arith, refl, sym, ap, ◌∙◌, subst, append_assoc, append-nil, length-append}
 use Rattle.std.proofs.lemmas.List.{length-map, map-append, take_more}
 use Rattle.mysql_values.specs.declared.value.Value.{Value}
 use Rattle.mysql_values.specs.Value.{FieldsInRange}
 use Rattle.mysql_values.specs.Literal.{literal_of}
-use Rattle.mysql_named_params.specs.Tokens.{Token, IsTokens, OnTokens, bytes_of, Name, Mark, Plain}
+use Rattle.mysql_named_params.specs.Tokens.{Token, IsTokens, bytes_of, Name, Mark, Plain}
 use Rattle.mysql_named_params.specs.Places.{names, marks, place_count}
+use Rattle.mysql_named_params.specs.Reading.{OnTokensIn, grammar_reading}
+use Rattle.mysql_named_params.specs.WideNames.{IsWideName}
+use Rattle.mysql_named_params.specs.declared.places.Reading.{Reading}
+use Rattle.mysql_named_params.proofs.ReadingLemmas.{one_reading}
+use Rattle.mysql_named_params.proofs.ReparsedLemmas.{names_in_reading}
 use Rattle.mysql_named_params.proofs.TokenListLemmas.{one_token_list}
 use Rattle.mysql_named_params.proofs.TokenRowLemmas.{place_count-sum}
 use Rattle.mysql_params_core.specs.Given.{positional}
@@ -256,12 +261,12 @@ known_all literal IsKnown f xs i done = subst (λ ys. AreKnownUnlessFloats liter
 
 -- ---- the text
 
-is_filled : (literal : Literals) (IsKnown : LiteralFacts) (mode : Bool) (query : List ℕ) (ts : List Token) (given : GivenFragments) (expanded text : List ℕ) →
-    IsTokens mode query ts → (x : IsExpanded true mode ts given expanded) →
+is_filled : (literal : Literals) (IsKnown : LiteralFacts) (mode : Bool) (ts : List Token) (given : GivenFragments) (expanded text : List ℕ) →
+    All IsWideName (names ts) → (x : IsExpanded true mode ts given expanded) →
     joined_text (pieces ts) (map (filled_text (written_literal literal)) x.fragments) ≡ Some text →
     AreKnownUnlessFloats literal IsKnown (all_values x.fragments) →
     IsGivenText literal IsKnown (with_literal_tokens ts x.lists) (positional (all_values x.fragments)) text
-is_filled literal IsKnown mode query ts given expanded text is x joined known =
+is_filled literal IsKnown mode ts given expanded text wide x joined known =
     let write : Value → List ℕ = written_literal literal in
     let values : List Value = all_values x.fragments in
     let us : List Token = with_literal_tokens ts x.lists in
@@ -272,7 +277,7 @@ is_filled literal IsKnown mode query ts given expanded text is x joined known =
     let text_is : text ≡ bound us (map write values) =
     joined_text_is ts (map (filled_text write) x.fragments) text joined ∙ sym (filled_bound mode write 0 ts x.fragments x.lists parts.2 x.tokens_of_fragments parts.0) in
     record {
-      no_cause = no_cause_expanded mode ts given query expanded is x;
+      no_cause = no_cause_expanded mode ts given expanded wide x;
       values = values;
       looked_up = ap (lookup (positional values)) none;
       written_text = record {
@@ -283,41 +288,33 @@ is_filled literal IsKnown mode query ts given expanded text is x joined known =
     }
 
 -- as the code writes it
-pub filled_on : (literal : Literals) (IsKnown : LiteralFacts) (mode : Bool) (query : List ℕ) (given : GivenFragments) (fragments : List Fragment) (text : List ℕ) →
-    OnTokens mode query (λ ts. ArePlaced true ts given fragments) →
-    OnTokens mode query (λ ts. joined_text (pieces ts) (map (filled_text (written_literal literal)) fragments) ≡ Some text) →
+pub filled_on : (literal : Literals) (IsKnown : LiteralFacts) (reading : Reading) (query : List ℕ) (given : GivenFragments) (fragments : List Fragment) (text : List ℕ) →
+    OnTokensIn reading query (λ ts. ArePlaced true ts given fragments) →
+    OnTokensIn reading query (λ ts. joined_text (pieces ts) (map (filled_text (written_literal literal)) fragments) ≡ Some text) →
     AreKnownUnlessFloats literal IsKnown (all_values fragments) →
-    OnTokens mode query (λ ts. IsFilledQuery literal IsKnown mode ts given text)
-filled_on literal IsKnown mode query given fragments text p j known =
+    OnTokensIn reading query (λ ts. IsFilledQuery literal IsKnown reading.no_backslash_escape ts given text)
+filled_on literal IsKnown reading query given fragments text p j known =
     let ts : List Token = p.0 in
-    let x = is_expanded true mode query ts given fragments p.1 p.2 in
+    let x = is_expanded true reading query ts given fragments p.1 p.2 in
     let joined : joined_text (pieces ts) (map (filled_text (written_literal literal)) fragments) ≡ Some text =
-    subst (λ us. joined_text (pieces us) (map (filled_text (written_literal literal)) fragments) ≡ Some text) (one_token_list mode query j.0 ts j.1 p.1) j.2 in (
+    subst (λ us. joined_text (pieces us) (map (filled_text (written_literal literal)) fragments) ≡ Some text) (one_reading reading query j.0 ts j.1 p.1) j.2 in (
       ts,
       p.1,
       record {
         query = x.0;
         expanded = x.1;
         filled =
-            is_filled literal IsKnown mode query ts given x.0 text p.1 x.1
+            is_filled literal IsKnown reading.no_backslash_escape ts given x.0 text (names_in_reading reading query ts p.1) x.1
             (subst (λ fs. joined_text (pieces ts) (map (filled_text (written_literal literal)) fs) ≡ Some text) (sym x.2) joined)
             (subst (λ fs. AreKnownUnlessFloats literal IsKnown (all_values fs)) (sym x.2) known);
       },
     )
 
-pub filled_result : {A E : Type 0} (items : A → List ℕ) (literal : Literals) (IsKnown : LiteralFacts) (mode : Bool) (query : List ℕ) (fragments : List Fragment) (r : Result A E) →
-    IfOk r (λ text. OnTokens mode query (λ ts. joined_text (pieces ts) (map (filled_text (written_literal literal)) fragments) ≡ Some (items text))) →
-    IfOk r (λ text. AreKnownUnlessFloats literal IsKnown (all_values fragments)) →
-    IfOk r (λ text. (given : GivenFragments) → OnTokens mode query (λ ts. ArePlaced true ts given fragments) →
-    OnTokens mode query (λ ts. IsFilledQuery literal IsKnown mode ts given (items text)))
-filled_result items literal IsKnown mode query fragments (Ok text) j known = λ given p. filled_on literal IsKnown mode query given fragments (items text) p j known
-filled_result items literal IsKnown mode query fragments (Err error) j known = tt
-
 -- with plain literals it is the text that is bound
-pub bound_on : (mode : Bool) (query : List ℕ) (given : GivenFragments) (text : List ℕ) →
-    OnTokens mode query (λ ts. IsFilledQuery (literal_of mode) (IsPlainLiteral mode) mode ts given text) →
-    OnTokens mode query (λ ts. IsBoundFragments mode ts given text)
-bound_on mode query given text o =
+pub bound_on : (reading : Reading) (query : List ℕ) (given : GivenFragments) (text : List ℕ) →
+    OnTokensIn reading query (λ ts. IsFilledQuery (literal_of reading.no_backslash_escape) (IsPlainLiteral reading.no_backslash_escape) reading.no_backslash_escape ts given text) →
+    OnTokensIn reading query (λ ts. IsBoundFragments reading.no_backslash_escape ts given text)
+bound_on reading query given text o =
     let f = o.2 in
     let x = f.expanded in (
       o.0,
@@ -325,6 +322,6 @@ bound_on mode query given text o =
       record {
         query = f.query;
         expanded = x;
-        bound = is_bound_text mode f.query (with_literal_tokens o.0 x.lists) (positional (all_values x.fragments)) text x.isolated f.filled;
+        bound = is_bound_text (grammar_reading reading.no_backslash_escape) f.query (with_literal_tokens o.0 x.lists) (positional (all_values x.fragments)) text x.isolated f.filled;
       },
     )

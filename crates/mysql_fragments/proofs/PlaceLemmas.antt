@@ -1,8 +1,7 @@
 -- The fragments of names.
-use Rattle.std.proofs.Common.{◌≡◌, ◌<◌, ◌+◌, ℕ, List, [], ◌∷◌, ◌++◌, map, length, take, get_or, cond, refl, sym, ap, ◌∙◌, arith, zero, suc}
-use Rattle.std.specs.Prelude.{Bool, Some, None, Ok, Err, Result, IfOk, nat_eq}
+use Rattle.std.proofs.Common.{◌≡◌, ◌<◌, ◌+◌, ℕ, List, [], ◌∷◌, ◌++◌, map, length, take, get_or, cond, refl, sym, ap, ◌∙◌, subst, arith, zero, suc}
+use Rattle.std.specs.Prelude.{Some, None, Ok, Err, Result, IfErr, IfOk, nat_eq}
 use Rattle.std.proofs.Common.{inl, inr}
-use Rattle.mysql_named_params.specs.Tokens.{OnTokens}
 use Rattle.mysql_named_params.specs.Places.{names}
 use Rattle.mysql_params_core.specs.declared.params.errors.ParamsConfusionError.TheVariants.{NamedParamsForPositionalQuery, PositionalParamsForNamedQuery}
 use Rattle.mysql_fragments.specs.FragmentErrors.{IsMissingOrMemory, IsPlaceRefusal}
@@ -15,7 +14,9 @@ use Rattle.std.specs.Ordering.{nat_cmp}
 use Rattle.std.specs.Cmp.{unsigned_ties}
 use Rattle.std.specs.Cmp.Lexicographic.{slice_cmp, pointwise, lists_ties, nat_list_cmp_total}
 use Rattle.std.proofs.lemmas.List.{get_or-map, length-map, map-append, take_all}
-use Rattle.mysql_named_params.proofs.TokenListLemmas.{one_token_list}
+use Rattle.mysql_named_params.specs.Reading.{OnTokensIn}
+use Rattle.mysql_named_params.specs.declared.places.Reading.{Reading}
+use Rattle.mysql_named_params.proofs.ReadingLemmas.{one_reading}
 use Rattle.mysql_params_core.specs.Referents.{referents}
 use Rattle.mysql_params_core.proofs.BorrowedLemmas.{take-referents, referents-push}
 use Rattle.mysql_fragments.specs.declared.fragment.Fragment.{Fragment}
@@ -103,11 +104,29 @@ pub named_some : (given : GivenFragments) (m : FragmentMap) (ns : List (List ℕ
 named_some given m [] e some = absurd (some refl)
 named_some given m (n ∷ ns) e some = ap (λ g. fragments_for g (n ∷ ns)) e
 
-module _ {A E : Type 0} (fragments : A → List Fragment) (mode : Bool) (query : List ℕ) (given : GivenFragments) (m : FragmentMap) (e : given ≡ named m) (count : ℕ) (some : count ≡ 0 → ⊥) where
-  pub named_on : (r : Result A E) → OnTokens mode query (λ ts. count ≡ length (names ts)) →
-      IfOk r (λ list. OnTokens mode query (λ ts. fragments_at m (names ts) ≡ Ok (fragments list))) →
-      IfOk r (λ list. OnTokens mode query (λ ts. fragments_for given (names ts) ≡ Ok (fragments list)))
+module _ {A E : Type 0} (fragments : A → List Fragment) (reading : Reading) (query : List ℕ) (given : GivenFragments) (m : FragmentMap) (e : given ≡ named m) (count : ℕ) (some : count ≡ 0 → ⊥) where
+  pub named_on : (r : Result A E) → OnTokensIn reading query (λ ts. count ≡ length (names ts)) →
+      IfOk r (λ list. OnTokensIn reading query (λ ts. fragments_at m (names ts) ≡ Ok (fragments list))) →
+      IfOk r (λ list. OnTokensIn reading query (λ ts. fragments_for given (names ts) ≡ Ok (fragments list)))
   named_on (Ok list) c o =
-      let same : length (names o.0) ≡ count = ap (λ ts. length (names ts)) (one_token_list mode query o.0 c.0 o.1 c.1) ∙ sym c.2 in
+      let same : length (names o.0) ≡ count = ap (λ ts. length (names ts)) (one_reading reading query o.0 c.0 o.1 c.1) ∙ sym c.2 in
       (o.0, o.1, named_some given m (names o.0) e (λ z. some (sym same ∙ z)) ∙ o.2)
   named_on (Err error) c o = tt
+
+-- an error of the fragments by name is one of what is given
+pub named_told : {A : Type 0} (reading : Reading) (query : List ℕ) (given : GivenFragments) (m : FragmentMap) → given ≡ named m →
+    (count : ℕ) → (count ≡ 0 → ⊥) → OnTokensIn reading query (λ ts. count ≡ length (names ts)) → (r : Result A FragmentsError) →
+    IfErr r (λ error. OnTokensIn reading query (λ ts. IsPlaceRefusal (fragments_at m (names ts)) error)) →
+    IfErr r (λ error. OnTokensIn reading query (λ ts. IsPlaceRefusal (fragments_for given (names ts)) error))
+named_told reading query given m e count some c (Ok list) o = tt
+named_told reading query given m e count some c (Err error) o =
+    let same : length (names o.0) ≡ count = ap (λ ts. length (names ts)) (one_reading reading query o.0 c.0 o.1 c.1) ∙ sym c.2 in
+    (o.0, o.1, subst (λ x. IsPlaceRefusal x error) (sym (named_some given m (names o.0) e (λ z. some (sym same ∙ z)))) o.2)
+
+-- an error of listed names is one of the names of the query
+pub listed_told : {A : Type 0} (reading : Reading) (query : List ℕ) (m : FragmentMap) (ns : List (List ℕ)) →
+    OnTokensIn reading query (λ ts. ns ≡ names ts) → (r : Result A FragmentsError) →
+    IfErr r (IsPlaceRefusal (fragments_at m ns)) →
+    IfErr r (λ error. OnTokensIn reading query (λ ts. IsPlaceRefusal (fragments_at m (names ts)) error))
+listed_told reading query m ns o (Ok list) h = tt
+listed_told reading query m ns o (Err error) h = (o.0, o.1, subst (λ x. IsPlaceRefusal (fragments_at m x) error) o.2 h)

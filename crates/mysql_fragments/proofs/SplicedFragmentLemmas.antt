@@ -1,12 +1,18 @@
 -- Fragments in the places of a query that stand alone: an instance of the splice law.
 use Rattle.std.specs.Prelude.{Bool}
-use Rattle.std.proofs.Common.{◌≡◌, ◌+◌, ◌++◌, ℕ, true, false, List, [], ◌∷◌, length, Some, None, arith, refl, ap, ◌∙◌, sym, subst, true≢false}
+use Rattle.std.proofs.Common.{◌≡◌, ◌+◌, ◌++◌, ℕ, All, true, List, [], ◌∷◌, length, Some, None, arith, refl, ap, ◌∙◌, sym, subst, true≢false}
 use Rattle.std.proofs.lemmas.Bool.{and_parts}
+use Rattle.std.proofs.lemmas.List.Elements.{All-tail}
 use Rattle.mysql_named_params.specs.Bytes.{colon, question_mark, space}
-use Rattle.mysql_named_params.specs.Tokens.{Token, IsToken, IsTokens, AreTokensBefore, text_of, bytes_of, Name, Mark}
-use Rattle.mysql_named_params.specs.Places.{names, marks, place_count}
+use Rattle.mysql_named_params.specs.Tokens.{Token, IsTokens, text_of, bytes_of, Name, Mark}
+use Rattle.mysql_named_params.specs.Places.{names, marks, place_count, with_marks}
+use Rattle.mysql_named_params.specs.Reading.{IsTokensIn}
+use Rattle.mysql_named_params.specs.WideNames.{IsWideName}
+use Rattle.mysql_named_params.specs.declared.places.Reading.{Reading}
+use Rattle.mysql_named_params.proofs.ReparsedLemmas.{marked_reading, names_in_reading}
 use Rattle.mysql_named_params.proofs.TokenListLemmas.{one_token_list}
 use Rattle.mysql_named_params.proofs.TokenRowLemmas.{names-append, marks-append}
+use Rattle.mysql_named_params.proofs.WideLemmas.{start_wide}
 use Rattle.mysql_portable.specs.Portable.{AreReadAlikeBefore, IsReadAs}
 use Rattle.mysql_portable.specs.Quiet.{IsHonest, DecidesWithin}
 use Rattle.mysql_portable.specs.Server.{Server, IsReadOn}
@@ -14,8 +20,9 @@ use Rattle.mysql_portable.specs.FirstUnportableInClient.{AreSentAsTheyAre}
 use Rattle.mysql_binding.specs.Pieces.{pieces, joined_text}
 use Rattle.mysql_binding.specs.Replaced.{AreTokensOf, with_literal_tokens}
 use Rattle.mysql_binding.specs.StandsAlone.{may_stand_before, none_or_last, first_not_alone, first_not_alone_from}
+use Rattle.mysql_binding.proofs.BoundAgainLemmas.{pieces-with_marks, with_literal_tokens-with_marks}
 use Rattle.mysql_binding.proofs.BoundStatementLemmas.{StayWithin}
-use Rattle.mysql_binding.proofs.ByteTestLemmas.{name_byte_not_before}
+use Rattle.mysql_binding.proofs.ByteTestLemmas.{wide_byte_not_before}
 use Rattle.mysql_binding.proofs.ContentsLemmas.{alone_parts}
 use Rattle.mysql_binding.proofs.PieceLemmas.{joined_text_count}
 use Rattle.mysql_binding.proofs.SpliceLemmas.{AtPlaces, Each, HoldsAlone, IsSpliced, IsSettled, alone, as_many_lists, first_stays, isolated_splice, spliced_portable, spliced_text}
@@ -28,7 +35,7 @@ use Rattle.mysql_fragments.specs.SentFragments.{BeginNoWords}
 use Rattle.mysql_sql_text.specs.InLine.{AreInLine}
 use Rattle.mysql_binding.proofs.SentLiteralLemmas.{sent_alone}
 use Rattle.mysql_binding.proofs.SentTextLemmas.{IsSentAt, spliced_sent}
-use Rattle.mysql_binding.proofs.RenamedPlaceLemmas.{last-append, name_last, as_well-append}
+use Rattle.mysql_binding.proofs.RenamedPlaceLemmas.{last-append, name_last, as_well-append, first_not_alone-with_marks}
 
 -- the tokens of a fragment, read alone
 pub fragment_list : (mode : Bool) (n : ℕ) (text : List ℕ) (list : List Token) → IsFragment mode n text →
@@ -118,6 +125,19 @@ module _ (mode : Bool) (text : List ℕ) (ts : List Token) (counts : List ℕ) (
           spliced_read server mode ts vs lists honest h.each p spliced settled
           (subst (λ x. IsReadOn server mode x vs) (sym (spliced_text mode ts texts lists text a e)) v)
 
+-- the tokens of the text of a query that is read in any reading: those of the query with marks, with
+-- the same fragments in their places
+pub fragments_isolated_in : (reading : Reading) (query text : List ℕ) (ts : List Token) (counts : List ℕ) (texts : List (List ℕ))
+    (lists : List (List Token)) → IsTokensIn reading query ts → first_not_alone ts ≡ None →
+    AreFragments reading.no_backslash_escape counts texts → AreTokensOf reading.no_backslash_escape texts lists →
+    joined_text (pieces ts) texts ≡ Some text → IsTokens reading.no_backslash_escape text (with_literal_tokens ts lists)
+fragments_isolated_in reading query text ts counts texts lists is n s a e =
+    let mode = reading.no_backslash_escape in
+    let alone = first_not_alone-with_marks ts 0 0 [] [] (names_in_reading reading query ts is) (λ k. k) n in
+    let exact = ap (λ ps. joined_text ps texts) (pieces-with_marks [] ts) ∙ e in
+    subst (IsTokens mode text) (with_literal_tokens-with_marks ts lists (as_many mode text ts counts texts lists n s a e))
+    (fragments_isolated mode text (with_marks ts) counts texts lists alone s a exact (text_of (with_marks ts)) (marked_reading reading query ts is))
+
 -- ---- their places
 
 -- no name is left
@@ -172,39 +192,38 @@ abbrev EndsAsWell : List ℕ → List ℕ → Type 0
 EndsAsWell before after = none_or_last may_stand_before before ≡ true → none_or_last may_stand_before after ≡ true
 
 -- what ends in a name may not stand before a place
-name_ends : (mode : Bool) (xs name rest : List ℕ) → IsToken mode (Name name) rest →
-    none_or_last may_stand_before (xs ++ colon ∷ name) ≡ true → ⊥
-name_ends mode xs [] rest t h = absurd t.0
-name_ends mode xs (b ∷ bs) rest t h =
-    true≢false (sym h ∙ (last-append may_stand_before xs colon (b ∷ bs) ∙ name_last b bs (name_byte_not_before b (rw t.0.0 refl)) t.0.1))
+name_ends : (xs name : List ℕ) → IsWideName name → none_or_last may_stand_before (xs ++ colon ∷ name) ≡ true → ⊥
+name_ends xs [] is h = absurd is
+name_ends xs (b ∷ bs) is h =
+    true≢false (sym h ∙ (last-append may_stand_before xs colon (b ∷ bs) ∙ name_last b bs (wide_byte_not_before b (start_wide b is.0)) is.1))
 
 -- after a place anything ends as well
-after_place : (mode : Bool) (ts : List Token) (lists : List (List Token)) (place place' : ℕ) (before before' : List ℕ) →
-    AreTokensBefore mode [] ts → Each StandAlone lists → length lists ≡ place_count ts →
+after_place : (ts : List Token) (lists : List (List Token)) (place place' : ℕ) (before before' : List ℕ) →
+    All IsWideName (names ts) → Each StandAlone lists → length lists ≡ place_count ts →
     EndsAsWell before before' → first_not_alone_from place before ts ≡ None →
     first_not_alone_from place' before' (with_literal_tokens ts lists) ≡ None
-after_place mode [] lists place place' before before' h s l e n = refl
-after_place mode (Name name ∷ ts) [] place place' before before' h s l e n = absurd (omega arith)
-after_place mode (Name name ∷ ts) (list ∷ lists) place place' before before' h s l e n =
+after_place [] lists place place' before before' h s l e n = refl
+after_place (Name name ∷ ts) [] place place' before before' h s l e n = absurd (omega arith)
+after_place (Name name ∷ ts) (list ∷ lists) place place' before before' h s l e n =
     let p = alone_parts _ _ _ n in
     let q = and_parts (none_or_last may_stand_before before) _ p.0 in
     s.0 (with_literal_tokens ts lists) (first_stays ts lists q.1)
-    (λ place'' before''. after_place mode ts lists (place + 1) place'' (before ++ bytes_of (Name name)) before'' h.1 s.1 (omega arith)
-    (λ k. absurd (name_ends mode before name (text_of ts) h.0 k)) p.1)
+    (λ place'' before''. after_place ts lists (place + 1) place'' (before ++ bytes_of (Name name)) before'' (All-tail IsWideName name (names ts) h) s.1 (omega arith)
+    (λ k. absurd (name_ends before name (h 0 name (omega arith)) k)) p.1)
     place' before' (e q.0)
-after_place mode (Mark ∷ ts) [] place place' before before' h s l e n = absurd (omega arith)
-after_place mode (Mark ∷ ts) (list ∷ lists) place place' before before' h s l e n =
+after_place (Mark ∷ ts) [] place place' before before' h s l e n = absurd (omega arith)
+after_place (Mark ∷ ts) (list ∷ lists) place place' before before' h s l e n =
     let p = alone_parts _ _ _ n in
     let q = and_parts (none_or_last may_stand_before before) _ p.0 in
     s.0 (with_literal_tokens ts lists) (first_stays ts lists q.1)
-    (λ place'' before''. after_place mode ts lists (place + 1) place'' (before ++ bytes_of Mark) before'' h.1 s.1 (omega arith)
+    (λ place'' before''. after_place ts lists (place + 1) place'' (before ++ bytes_of Mark) before'' h s.1 (omega arith)
     (λ k. absurd (true≢false (sym k ∙ last-append may_stand_before before question_mark []))) p.1)
     place' before' (e q.0)
-after_place mode (t ∷ ts) lists place place' before before' h s l e n =
-    after_place mode ts lists place place' (before ++ bytes_of t) (before' ++ bytes_of t) h.1 s l (as_well-append before before' _ _) n
+after_place (t ∷ ts) lists place place' before before' h s l e n =
+    after_place ts lists place place' (before ++ bytes_of t) (before' ++ bytes_of t) h s l (as_well-append before before' _ _) n
 
-pub fragments_stand_alone : (mode : Bool) (query : List ℕ) (ts : List Token) (counts : List ℕ) (texts : List (List ℕ))
-    (lists : List (List Token)) → IsTokens mode query ts → AreFragments mode counts texts → AreTokensOf mode texts lists →
+pub fragments_stand_alone : (mode : Bool) (ts : List Token) (counts : List ℕ) (texts : List (List ℕ))
+    (lists : List (List Token)) → All IsWideName (names ts) → AreFragments mode counts texts → AreTokensOf mode texts lists →
     length lists ≡ place_count ts → first_not_alone ts ≡ None → first_not_alone (with_literal_tokens ts lists) ≡ None
-fragments_stand_alone mode query ts counts texts lists is s a l n =
-    after_place mode ts lists 0 0 [] [] is.each (each_list mode StandAlone (λ n text list f. f.list_alone) counts texts lists s a) l (λ k. k) n
+fragments_stand_alone mode ts counts texts lists wide s a l n =
+    after_place ts lists 0 0 [] [] wide (each_list mode StandAlone (λ n text list f. f.list_alone) counts texts lists s a) l (λ k. k) n

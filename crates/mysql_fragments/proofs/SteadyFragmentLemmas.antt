@@ -5,6 +5,7 @@ use Rattle.std.specs.List.{list_all}
 use Rattle.std.specs.Option.{is_some}
 use Rattle.std.proofs.Common.{◌≡◌, ◌+◌, ℕ, true, false, List, [], ◌∷◌, map, length, Option, Some, None, arith, inl, inr, refl, sym, ap, ◌∙◌, subst, true≢false}
 use Rattle.std.proofs.lemmas.Bool.{cases_Bool}
+use Rattle.mysql_named_params.specs.Reading.{grammar_reading}
 use Rattle.mysql_named_params.specs.Tokens.{Token, IsTokens, OnTokens, bytes_of, text_of, Name, Mark}
 use Rattle.mysql_named_params.specs.Places.{names, place_count}
 use Rattle.mysql_named_params.proofs.TokenListLemmas.{one_token_list}
@@ -186,7 +187,7 @@ pub anywhere_fragments : {A E : Type 0} (items : A → List ℕ) (r : Result A E
     ((mode : Bool) → OnTokens mode query (λ ts. IfOk r (λ text. IsSteadyFragments ts given (items text)))) →
     (mode : Bool) → OnTokens mode query (λ ts. IfOk r (λ text. IsAnywhereFragments query ts given (items text)))
 anywhere_fragments items (Ok text) query given steady p b mode =
-    let o = on_both false query IsPortable (λ ts. IsSteadyFragments ts given (items text)) p (b false) in
+    let o = on_both (grammar_reading false) query IsPortable (λ ts. IsSteadyFragments ts given (items text)) p (b false) in
     (o.0, steady_other false mode query o.0 steady o.1, is_anywhere_fragments query o.0 given (items text) o.1 steady o.2.0 o.2.1)
 anywhere_fragments items (Err e) query given steady p b mode = nothing_said mode query
 
@@ -198,10 +199,10 @@ refused_fragments_answer (Ok text) mode query given unportable steady p b = noth
 refused_fragments_answer (Err (Unsteady at)) mode query given unportable steady p b = absurd b.2
 refused_fragments_answer (Err (error.Unportable found)) mode query given unportable steady p b = absurd b.2
 refused_fragments_answer (Err (Fragments e)) mode query given unportable steady p b =
-    on_map mode query (λ ts. (unportable ts ≡ None) × IsFragmentsRefusal ts given (Fragments e)) (λ ts. IsSteadyRefusal query (unportable ts) ts given (Fragments e))
+    on_map (grammar_reading mode) query (λ ts. (unportable ts ≡ None) × IsFragmentsRefusal ts given (Fragments e)) (λ ts. IsSteadyRefusal query (unportable ts) ts given (Fragments e))
     (λ ts is h. (steady, h.0, h.1))
-    (on_both mode query (λ ts. unportable ts ≡ None) (λ ts. IsFragmentsRefusal ts given (Fragments e)) p b)
+    (on_both (grammar_reading mode) query (λ ts. unportable ts ≡ None) (λ ts. IsFragmentsRefusal ts given (Fragments e)) p b)
 refused_fragments_answer (Err (UnsteadyFragment place)) mode query given unportable steady p b =
-    on_map mode query (λ ts. (unportable ts ≡ None) × IsFragmentsRefusal ts given (UnsteadyFragment place)) (λ ts. IsSteadyRefusal query (unportable ts) ts given (UnsteadyFragment place))
+    on_map (grammar_reading mode) query (λ ts. (unportable ts ≡ None) × IsFragmentsRefusal ts given (UnsteadyFragment place)) (λ ts. IsSteadyRefusal query (unportable ts) ts given (UnsteadyFragment place))
     (λ ts is h. (steady, h.0, h.1))
-    (on_both mode query (λ ts. unportable ts ≡ None) (λ ts. IsFragmentsRefusal ts given (UnsteadyFragment place)) p b)
+    (on_both (grammar_reading mode) query (λ ts. unportable ts ≡ None) (λ ts. IsFragmentsRefusal ts given (UnsteadyFragment place)) p b)

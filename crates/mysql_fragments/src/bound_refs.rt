@@ -2,6 +2,7 @@
 ghost use Rattle.std.specs.Prelude.{◌≡◌, ◌+◌, ◌<◌, true, List, None, Some, IfErr, IfOk, IsErrOf, OnErr, length, option_map};
 ghost use Rattle.mysql_values.specs.Literal.{literal_of};
 ghost use Rattle.mysql_named_params.specs.Tokens.{OnTokens, Token};
+ghost use Rattle.mysql_named_params.specs.Reading.{OnTokensIn};
 ghost use Rattle.mysql_named_params.specs.Places.{HasName, HasMark};
 ghost use Rattle.mysql_binding.specs.Survey.{IsSurvey};
 ghost use Rattle.mysql_binding.specs.TextInRoom.{HasTextOf, IsTextInRoom};
@@ -17,6 +18,7 @@ use crate::fragment_ref::FragmentRef;
 use crate::fragments_error::FragmentsError;
 use crate::placed_refs::{bind_placed_into, placed_error};
 use mysql_binding::{KEPT_PLACES, NO_PLACE, PlainForm, Survey, SurveyedQuery, TextInRoom};
+use mysql_named_params::places::Reading;
 use mysql_params_core::params::ParamsConfusionError;
 use std::alloc::{AllocError, Global};
 
@@ -48,13 +50,36 @@ pub fn bind_borrowed_fragments(
     ensures mixed { OnTokens no_backslash_escape query.now (λ ts.
         HasName ts × HasMark ts → IsErrOf result FragmentsError.Mixed) }
 {
+    let reading = Reading {
+        no_backslash_escape,
+        wide_names: false,
+    };
+    bind_borrowed_in(alloc, query, fragments, reading)
+}
+
+/// The body of [`bind_borrowed_fragments`], for a query in any reading.
+pub(crate) fn bind_borrowed_in(
+    alloc: Global,
+    query: &[u8],
+    fragments: &[FragmentRef<'_>],
+    reading: Reading,
+) -> Result<Vec<u8>, FragmentsError>
+    ensures bound { (said : List said_fragment.Fragment) → AreSaid fragments.now said →
+        OnTokensIn reading query.now (λ ts. IfOk result (λ text.
+        IsBoundFragments reading.no_backslash_escape ts (positional said) text.items)) }
+    ensures refused { (said : List said_fragment.Fragment) → AreSaid fragments.now said →
+        OnTokensIn reading query.now (λ ts. IfErr result
+        (IsCauseElseMemory (first_cause true ts (positional said)))) }
+    ensures mixed { OnTokensIn reading query.now (λ ts.
+        HasName ts × HasMark ts → IsErrOf result FragmentsError.Mixed) }
+{
     let mut first = [NO_PLACE; KEPT_PLACES];
-    let surveyed = SurveyedQuery::new(query, no_backslash_escape, &mut first);
+    let surveyed = SurveyedQuery::new(query, reading, &mut first);
     if let Some(error) = borrowed_error(surveyed.survey, fragments) {
         return Err(error);
     }
     let form = PlainForm {
-        no_backslash_escape,
+        no_backslash_escape: reading.no_backslash_escape,
     };
     Ok(filled_borrowed(alloc, &surveyed, fragments, &form)?)
 }
@@ -83,13 +108,40 @@ pub fn bind_borrowed_fragments_into(
         HasName ts × HasMark ts → IsErrOf result FragmentsError.Mixed) }
     ensures unchanged { OnErr result (room.new ≡ room.old) }
 {
+    let reading = Reading {
+        no_backslash_escape,
+        wide_names: false,
+    };
+    bind_borrowed_into_in(query, fragments, reading, room)
+}
+
+/// The body of [`bind_borrowed_fragments_into`], for a query in any reading.
+pub(crate) fn bind_borrowed_into_in(
+    query: &[u8],
+    fragments: &[FragmentRef<'_>],
+    reading: Reading,
+    room: &mut [u8],
+) -> Result<TextInRoom, FragmentsError>
+    ensures bound { (said : List said_fragment.Fragment) → AreSaid fragments.now said →
+        OnTokensIn reading query.now (λ ts. IfOk result (IsTextInRoom
+        (IsBoundFragments reading.no_backslash_escape ts (positional said))
+        (HasTextOf (IsBoundFragments reading.no_backslash_escape ts (positional said)))
+        room.old room.new)) }
+    ensures refused { (said : List said_fragment.Fragment) → AreSaid fragments.now said →
+        OnTokensIn reading query.now (λ ts. IfErr result
+        (IsCauseOrTooLong (first_cause true ts (positional said))
+        (IsTooLong (literal_of reading.no_backslash_escape) ts said))) }
+    ensures mixed { OnTokensIn reading query.now (λ ts.
+        HasName ts × HasMark ts → IsErrOf result FragmentsError.Mixed) }
+    ensures unchanged { OnErr result (room.new ≡ room.old) }
+{
     let mut first = [NO_PLACE; KEPT_PLACES];
-    let surveyed = SurveyedQuery::new(query, no_backslash_escape, &mut first);
+    let surveyed = SurveyedQuery::new(query, reading, &mut first);
     if let Some(error) = borrowed_error(surveyed.survey, fragments) {
         return Err(error);
     }
     let form = PlainForm {
-        no_backslash_escape,
+        no_backslash_escape: reading.no_backslash_escape,
     };
     match bind_placed_into(&surveyed, fragments, &form, room) {
         Some(text) => Ok(text),

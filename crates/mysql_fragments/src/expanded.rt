@@ -2,6 +2,7 @@
 ghost use Rattle.std.specs.Prelude.{◌≡◌, false, true, List, None, Some, IfErr, IfOk, IsErrOf, length, map, option_map};
 ghost use Rattle.mysql_sql_text.specs.StringUnits.{with_backslashes};
 ghost use Rattle.mysql_named_params.specs.Tokens.{OnTokens, Token};
+ghost use Rattle.mysql_named_params.specs.Reading.{OnTokensIn};
 ghost use Rattle.mysql_named_params.specs.Places.{HasName, HasMark, place_count};
 ghost use Rattle.mysql_params_core.specs.Referents.{referents};
 ghost use Rattle.mysql_binding.specs.FirstCause.{mark_count_differs};
@@ -21,6 +22,7 @@ use crate::places::fragments_of_places;
 use crate::value_form::Marks;
 use crate::written::{has_float, push_values};
 use mysql_binding::{PlainForm, Survey, SurveyedQuery};
+use mysql_named_params::places::Reading;
 use mysql_values::value::Value;
 use std::alloc::{AllocError, Global};
 
@@ -64,7 +66,11 @@ pub fn expanded_query_in(
     ensures mixed { OnTokens no_backslash_escape query.now (λ ts.
         HasName ts × HasMark ts → IsErrOf result FragmentsError.Mixed) }
 {
-    expanded(alloc, query, fragments, no_backslash_escape, false)
+    let reading = Reading {
+        no_backslash_escape,
+        wide_names: false,
+    };
+    expanded(alloc, query, fragments, reading, false)
 }
 
 /// The query with fragments in its places, in the mode in which a backslash escapes:
@@ -114,12 +120,11 @@ pub fn bind_fragments_in(
     ensures mixed { OnTokens no_backslash_escape query.now (λ ts.
         HasName ts × HasMark ts → IsErrOf result FragmentsError.Mixed) }
 {
-    let list = placed_fragments(alloc, query, fragments, no_backslash_escape, true)?;
-    let form = PlainForm {
+    let reading = Reading {
         no_backslash_escape,
+        wide_names: false,
     };
-    let text = filled_query(alloc, query, list.as_slice(), no_backslash_escape, &form)?;
-    Ok(text)
+    bound_fragments(alloc, query, fragments, reading)
 }
 
 /// The query with a fragment in the place of each name and mark, in the mode in which a backslash
@@ -158,49 +163,76 @@ pub fn expanded_for_literals(
     ensures mixed { OnTokens no_backslash_escape query.now (λ ts.
         HasName ts × HasMark ts → IsErrOf result FragmentsError.Mixed) }
 {
-    expanded(alloc, query, fragments, no_backslash_escape, true)
+    let reading = Reading {
+        no_backslash_escape,
+        wide_names: false,
+    };
+    expanded(alloc, query, fragments, reading, true)
 }
 
-// The body of `expanded_query_in`, and of `expanded_for_literals` if the values are to be written
-// as literals, which floats don't have.
-fn expanded(
+/// The body of [`bind_fragments_in`], for a query in any reading.
+pub(crate) fn bound_fragments(
     alloc: Global,
     query: &[u8],
     fragments: &Fragments,
-    no_backslash_escape: bool,
-    as_literals: bool,
-) -> Result<ExpandedQuery, FragmentsError>
-    ensures expanded { OnTokens no_backslash_escape query.now (λ ts. IfOk result (λ expanded.
-        IsExpandedQuery as_literals no_backslash_escape ts (given_fragments fragments.now)
-        expanded.query.items expanded.values.items)) }
-    ensures refused { OnTokens no_backslash_escape query.now (λ ts. IfErr result
-        (IsCauseOrMemory (first_cause as_literals ts (given_fragments fragments.now)))) }
-    ensures mixed { OnTokens no_backslash_escape query.now (λ ts.
+    reading: Reading,
+) -> Result<Vec<u8>, FragmentsError>
+    ensures bound { OnTokensIn reading query.now (λ ts. IfOk result (λ text.
+        IsBoundFragments reading.no_backslash_escape ts (given_fragments fragments.now)
+        text.items)) }
+    ensures refused { OnTokensIn reading query.now (λ ts. IfErr result
+        (IsCauseOrMemory (first_cause true ts (given_fragments fragments.now)))) }
+    ensures mixed { OnTokensIn reading query.now (λ ts.
         HasName ts × HasMark ts → IsErrOf result FragmentsError.Mixed) }
 {
-    let list = placed_fragments(alloc, query, fragments, no_backslash_escape, as_literals)?;
-    let expanded = written(alloc, query, list.as_slice(), no_backslash_escape)?;
+    let list = placed_fragments(alloc, query, fragments, reading, true)?;
+    let form = PlainForm {
+        no_backslash_escape: reading.no_backslash_escape,
+    };
+    let text = filled_query(alloc, query, list.as_slice(), reading, &form)?;
+    Ok(text)
+}
+
+/// The body of [`expanded_query_in`], and of [`expanded_for_literals`] if the values are to be
+/// written as literals, which floats don't have; for a query in any reading.
+pub(crate) fn expanded(
+    alloc: Global,
+    query: &[u8],
+    fragments: &Fragments,
+    reading: Reading,
+    as_literals: bool,
+) -> Result<ExpandedQuery, FragmentsError>
+    ensures expanded { OnTokensIn reading query.now (λ ts. IfOk result (λ expanded.
+        IsExpandedQuery as_literals reading.no_backslash_escape ts (given_fragments fragments.now)
+        expanded.query.items expanded.values.items)) }
+    ensures refused { OnTokensIn reading query.now (λ ts. IfErr result
+        (IsCauseOrMemory (first_cause as_literals ts (given_fragments fragments.now)))) }
+    ensures mixed { OnTokensIn reading query.now (λ ts.
+        HasName ts × HasMark ts → IsErrOf result FragmentsError.Mixed) }
+{
+    let list = placed_fragments(alloc, query, fragments, reading, as_literals)?;
+    let expanded = written(alloc, query, list.as_slice(), reading)?;
     Ok(expanded)
 }
 
-/// References to the fragments for the places of a query, if none of the causes refuses them for
-/// which [`expanded_query_in`] does, and [`bind_fragments_in`] if the values are to be written as
-/// literals.
+/// References to the fragments for the places of a query in a reading, if none of the causes
+/// refuses them for which [`expanded_query_in`] does, and [`bind_fragments_in`] if the values are
+/// to be written as literals.
 pub(crate) fn placed_fragments<'f>(
     alloc: Global,
     query: &[u8],
     fragments: &'f Fragments,
-    no_backslash_escape: bool,
+    reading: Reading,
     as_literals: bool,
 ) -> Result<Vec<&'f Fragment>, FragmentsError>
-    ensures placed { OnTokens no_backslash_escape query.now (λ ts. IfOk result (λ list.
+    ensures placed { OnTokensIn reading query.now (λ ts. IfOk result (λ list.
         ArePlaced as_literals ts (given_fragments fragments.now) (referents list.items))) }
-    ensures refused { OnTokens no_backslash_escape query.now (λ ts. IfErr result
+    ensures refused { OnTokensIn reading query.now (λ ts. IfErr result
         (IsCauseOrMemory (first_cause as_literals ts (given_fragments fragments.now)))) }
-    ensures mixed { OnTokens no_backslash_escape query.now (λ ts.
+    ensures mixed { OnTokensIn reading query.now (λ ts.
         HasName ts × HasMark ts → IsErrOf result FragmentsError.Mixed) }
 {
-    let surveyed = SurveyedQuery::new(query, no_backslash_escape, &mut []);
+    let surveyed = SurveyedQuery::new(query, reading, &mut []);
     placed_surveyed(alloc, &surveyed, fragments, as_literals)
 }
 
@@ -222,13 +254,7 @@ fn placed_surveyed<'f>(
     if survey.names > 0 && survey.marks > 0 {
         return Err(FragmentsError::Mixed);
     }
-    let list = fragments_of_places(
-        alloc,
-        surveyed.query,
-        survey.names,
-        fragments,
-        surveyed.no_backslash_escape,
-    )?;
+    let list = fragments_of_places(alloc, surveyed, fragments)?;
     match later_error(survey, list.as_slice(), as_literals) {
         Some(error) => Err(error),
         None => Ok(list),
@@ -306,17 +332,17 @@ fn written(
     alloc: Global,
     query: &[u8],
     fragments: &[&Fragment],
-    no_backslash_escape: bool,
+    reading: Reading,
 ) -> Result<ExpandedQuery, AllocError>
-    requires { OnTokens no_backslash_escape query.now (λ ts.
+    requires { OnTokensIn reading query.now (λ ts.
         length (referents fragments.now) ≡ place_count ts) }
-    ensures text { OnTokens no_backslash_escape query.now (λ ts. IfOk result (λ expanded.
+    ensures text { OnTokensIn reading query.now (λ ts. IfOk result (λ expanded.
         joined_text (pieces ts) (map fragment_text (referents fragments.now))
         ≡ Some expanded.query.items)) }
     ensures values { IfOk result (λ expanded.
         expanded.values.items ≡ all_values (referents fragments.now)) }
 {
-    let query = spliced_text(alloc, query, fragments, no_backslash_escape, &Marks)?;
+    let query = spliced_text(alloc, query, fragments, reading, &Marks)?;
     let values = values_of(alloc, fragments)?;
     Ok(ExpandedQuery { query, values })
 }

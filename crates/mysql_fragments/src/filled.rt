@@ -1,7 +1,7 @@
 //! Queries with fragments in their places. The literals of values are written at once: no text with
 //! marks is made and read again, and no value is copied.
 ghost use Rattle.std.specs.Prelude.{◌≡◌, true, Some, IfOk, length, map};
-ghost use Rattle.mysql_named_params.specs.Tokens.{OnTokens};
+ghost use Rattle.mysql_named_params.specs.Reading.{OnTokensIn};
 ghost use Rattle.mysql_named_params.specs.Places.{place_count};
 ghost use Rattle.mysql_params_core.specs.Referents.{referents};
 ghost use Rattle.mysql_binding.specs.LiteralForm.{written_literal};
@@ -15,7 +15,7 @@ use crate::fragment::Fragment;
 use crate::value_form::ValueForm;
 use crate::written::push_fragment;
 use mysql_binding::LiteralForm;
-use mysql_named_params::places::first_place;
+use mysql_named_params::places::{Reading, first_place_in};
 use std::alloc::{AllocError, Global};
 
 /// The query with these fragments in its places and the literals of their values in a form.
@@ -23,18 +23,18 @@ pub(crate) fn filled_query<F: LiteralForm>(
     alloc: Global,
     query: &[u8],
     fragments: &[&Fragment],
-    no_backslash_escape: bool,
+    reading: Reading,
     form: &F,
 ) -> Result<Vec<u8>, AllocError>
-    requires { (given : GivenFragments) × OnTokens no_backslash_escape query.now (λ ts.
+    requires { (given : GivenFragments) × OnTokensIn reading query.now (λ ts.
         ArePlaced true ts given (referents fragments.now)) }
     ensures { IfOk result (λ text. (given : GivenFragments) →
-        OnTokens no_backslash_escape query.now (λ ts.
+        OnTokensIn reading query.now (λ ts.
         ArePlaced true ts given (referents fragments.now)) →
-        OnTokens no_backslash_escape query.now (λ ts. IsFilledQuery (F.literal form.now)
-        (F.IsKnown form.now) no_backslash_escape ts given text.items)) }
+        OnTokensIn reading query.now (λ ts. IsFilledQuery (F.literal form.now)
+        (F.IsKnown form.now) reading.no_backslash_escape ts given text.items)) }
 {
-    let text = spliced_text(alloc, query, fragments, no_backslash_escape, form)?;
+    let text = spliced_text(alloc, query, fragments, reading, form)?;
 
     // The text grew into more room than it needs. A caller may keep it, so it gets just its own.
     let text = Vec::from_slice(alloc, text.as_slice())?;
@@ -47,12 +47,12 @@ pub(crate) fn spliced_text<F: ValueForm>(
     alloc: Global,
     query: &[u8],
     fragments: &[&Fragment],
-    no_backslash_escape: bool,
+    reading: Reading,
     form: &F,
 ) -> Result<Vec<u8>, AllocError>
-    requires { OnTokens no_backslash_escape query.now (λ ts.
+    requires { OnTokensIn reading query.now (λ ts.
         length (referents fragments.now) ≡ place_count ts) }
-    ensures text { IfOk result (λ text. OnTokens no_backslash_escape query.now (λ ts.
+    ensures text { IfOk result (λ text. OnTokensIn reading query.now (λ ts.
         joined_text (pieces ts)
         (map (filled_text (written_literal (F.written form.now))) (referents fragments.now))
         ≡ Some text.items)) }
@@ -62,7 +62,7 @@ pub(crate) fn spliced_text<F: ValueForm>(
     let mut text = Vec::new(alloc);
     let mut rest = query;
     for fragment in fragments {
-        let Some(found) = first_place(rest, no_backslash_escape) else {
+        let Some(found) = first_place_in(rest, reading) else {
             unreachable!()
         };
         let (piece, _, after) = found.cut(rest);

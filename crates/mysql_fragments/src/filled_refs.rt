@@ -62,11 +62,10 @@ pub(crate) fn fill_borrowed<F: LiteralForm>(
     ensures known { AreKnownUnlessFloats (F.literal form.now) (F.IsKnown form.now)
         (flat_map borrowed_values fragments.now) }
 {
-    let mode = surveyed.no_backslash_escape;
     let mut rest = surveyed.query;
     let mut at = 0;
     for (i, fragment) in fragments.iter().enumerate() {
-        let Some(found) = place_after(surveyed.known, i, rest, mode) else {
+        let Some(found) = place_after(surveyed.known, i, rest, surveyed.reading) else {
             unreachable!()
         };
         let (piece, _, after) = found.cut(rest);

@@ -4,7 +4,8 @@
 //! the mode in which a backslash escapes. [`expanded_query_in`] gives the query with marks and the
 //! values, as a prepared statement wants them. `specs/Expanded.antt` says what they promise.
 //! [`bind_borrowed_fragments`] copies nothing of what it binds, and
-//! [`bind_borrowed_fragments_into`] allocates nothing.
+//! [`bind_borrowed_fragments_into`] allocates nothing. [`bind_wide_fragments_in`] and the calls
+//! beside it read names with capitals too.
 //!
 //! [`bind_fragments_anywhere`] gives text that every server reads alike, in either mode and over
 //! every character set, and [`bind_fragments_in_any_mode`] does so for one server: values stand in
@@ -31,6 +32,7 @@ mod steady_fragments;
 mod steady_fragments_error;
 mod unsteady;
 mod value_form;
+mod wide;
 mod written;
 
 pub use bound_refs::{bind_borrowed_fragments, bind_borrowed_fragments_into};
@@ -47,3 +49,7 @@ pub use rows_ref::RowsRef;
 pub use steady_fragments::{bind_fragments_anywhere, bind_fragments_in_any_mode};
 pub use steady_fragments_error::SteadyFragmentsError;
 pub use unsteady::first_unsteady_fragment;
+pub use wide::{
+    bind_wide_borrowed_fragments, bind_wide_borrowed_fragments_into, bind_wide_fragments,
+    bind_wide_fragments_in, expanded_wide_query_in,
+};

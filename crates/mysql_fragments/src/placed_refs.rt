@@ -64,9 +64,9 @@ pub fn bind_placed_into<F: LiteralForm>(
         AreSaid placed.now said →
         OnSurveyed surveyed.now (λ ts. ArePlaced true ts given said) →
         OnSurveyed surveyed.now (λ ts. IfSome result (IsTextInRoom
-        (IsFilledQuery (F.literal form.now) (F.IsKnown form.now) surveyed.now.no_backslash_escape
-        ts given)
-        (HasFilledLength (F.literal form.now) surveyed.now.no_backslash_escape ts given)
+        (IsFilledQuery (F.literal form.now) (F.IsKnown form.now)
+        surveyed.now.reading.no_backslash_escape ts given)
+        (HasFilledLength (F.literal form.now) surveyed.now.reading.no_backslash_escape ts given)
         room.old room.new)) }
     ensures too_long { result ≡ None → (said : List said_fragment.Fragment) →
         AreSaid placed.now said → OnSurveyed surveyed.now (λ ts.

@@ -1,34 +1,32 @@
 //! The fragments for the places of a query.
-ghost use Rattle.std.specs.Prelude.{◌≡◌, None, Ok, IfErr, IfOk, length};
-ghost use Rattle.mysql_named_params.specs.Tokens.{OnTokens};
+ghost use Rattle.std.specs.Prelude.{◌≡◌, None, Ok, IfErr, IfOk};
 ghost use Rattle.mysql_named_params.specs.Places.{names};
 ghost use Rattle.mysql_params_core.specs.Referents.{referents};
-ghost use Rattle.mysql_fragments.specs.FragmentErrors.{IsMissingOrMemory, IsPlaceRefusal, mixed_cause};
+ghost use Rattle.mysql_binding.specs.FirstCause.{mixed_cause};
+ghost use Rattle.mysql_binding.specs.SurveyedQuery.{OnSurveyed};
+ghost use Rattle.mysql_fragments.specs.FragmentErrors.{IsMissingOrMemory, IsPlaceRefusal};
 ghost use Rattle.mysql_fragments.specs.GivenFragments.{fragment_map, fragments_at, fragments_for, given_fragments};
 
 use crate::fragment::{Fragment, Fragments};
 use crate::fragments_error::FragmentsError;
-use mysql_binding::ParsedQuery;
+use mysql_binding::{SurveyedQuery, query_names};
 use mysql_params_core::params::{MissingNamedParameterError, ParamsConfusionError};
 use std::alloc::{AllocError, Global};
 use std::collections::HashMap;
 
-/// References to the fragments for the places of a query with this many names, and no marks beside
-/// them.
+/// References to the fragments for the places of a query without both names and marks.
 pub(crate) fn fragments_of_places<'f>(
     alloc: Global,
-    query: &[u8],
-    name_count: usize,
+    surveyed: &SurveyedQuery<'_>,
     fragments: &'f Fragments,
-    no_backslash_escape: bool,
 ) -> Result<Vec<&'f Fragment>, FragmentsError>
-    requires { OnTokens no_backslash_escape query.now (λ ts.
-        (name_count ≡ length (names ts)) × (mixed_cause ts ≡ None)) }
-    ensures fragments { IfOk result (λ list. OnTokens no_backslash_escape query.now (λ ts.
+    requires unmixed { OnSurveyed surveyed.now (λ ts. mixed_cause ts ≡ None) }
+    ensures fragments { IfOk result (λ list. OnSurveyed surveyed.now (λ ts.
         fragments_for (given_fragments fragments.now) (names ts) ≡ Ok (referents list.items))) }
-    ensures refused { IfErr result (λ error. OnTokens no_backslash_escape query.now (λ ts.
+    ensures refused { IfErr result (λ error. OnSurveyed surveyed.now (λ ts.
         IsPlaceRefusal (fragments_for (given_fragments fragments.now) (names ts)) error)) }
 {
+    let name_count = surveyed.survey.names;
     match fragments {
         Fragments::Positional(list) => {
             if name_count == 0 {
@@ -42,7 +40,7 @@ pub(crate) fn fragments_of_places<'f>(
             if name_count == 0 {
                 Err(FragmentsError::Confusion(ParamsConfusionError::NamedParamsForPositionalQuery))
             } else {
-                fragments_of_names(alloc, query, entries, no_backslash_escape)
+                fragments_of_names(alloc, surveyed, entries)
             }
         }
     }
@@ -59,25 +57,19 @@ fn references<'f>(alloc: Global, fragments: &'f [Fragment]) -> Result<Vec<&'f Fr
     Ok(list)
 }
 
-// References to the fragments of the names of a query without marks.
+// References to the fragments of the names of a query without both names and marks.
 fn fragments_of_names<'f>(
     alloc: Global,
-    query: &[u8],
+    surveyed: &SurveyedQuery<'_>,
     entries: &'f HashMap<Vec<u8>, Fragment>,
-    no_backslash_escape: bool,
 ) -> Result<Vec<&'f Fragment>, FragmentsError>
-    requires { OnTokens no_backslash_escape query.now (λ ts. mixed_cause ts ≡ None) }
-    ensures fragments { IfOk result (λ list. OnTokens no_backslash_escape query.now (λ ts.
+    requires unmixed { OnSurveyed surveyed.now (λ ts. mixed_cause ts ≡ None) }
+    ensures fragments { IfOk result (λ list. OnSurveyed surveyed.now (λ ts.
         fragments_at (fragment_map entries.now.entries) (names ts) ≡ Ok (referents list.items))) }
-    ensures refused { IfErr result (λ error. OnTokens no_backslash_escape query.now (λ ts.
+    ensures refused { IfErr result (λ error. OnSurveyed surveyed.now (λ ts.
         IsPlaceRefusal (fragments_at (fragment_map entries.now.entries) (names ts)) error)) }
 {
-    let parsed = ParsedQuery::parse_in(alloc, query, no_backslash_escape)?;
-    // The query has no marks, so this is out of memory.
-    let names = match parsed.names(alloc) {
-        Ok(names) => names,
-        Err(_) => return Err(FragmentsError::Memory(AllocError)),
-    };
+    let names = query_names(alloc, surveyed)?;
     listed_fragments(alloc, names.as_slice(), entries)
 }
 

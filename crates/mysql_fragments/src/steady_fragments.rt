@@ -15,6 +15,7 @@ use crate::fragment::Fragments;
 use crate::fragments_error::FragmentsError;
 use crate::steady_fragments_error::SteadyFragmentsError;
 use crate::unsteady::first_unsteady_place;
+use mysql_named_params::places::Reading;
 use mysql_portable::portable::first_unportable;
 use mysql_portable::steady::first_unsteady;
 use mysql_steady_text::SteadyForm;
@@ -109,10 +110,14 @@ fn bind_steady_fragments(
     ensures mixed { (mode : Bool) → OnTokens mode query.now (λ ts. HasName ts × HasMark ts →
         IsErrOf result (SteadyFragmentsError.Fragments FragmentsError.Mixed)) }
 {
-    let list = placed_fragments(alloc, query, fragments, false, true)?;
+    let reading = Reading {
+        no_backslash_escape: false,
+        wide_names: false,
+    };
+    let list = placed_fragments(alloc, query, fragments, reading, true)?;
     if let Some(place) = first_unsteady_place(list.as_slice()) {
         return Err(SteadyFragmentsError::UnsteadyFragment { place });
     }
-    let text = filled_query(alloc, query, list.as_slice(), false, &SteadyForm)?;
+    let text = filled_query(alloc, query, list.as_slice(), reading, &SteadyForm)?;
     Ok(text)
 }

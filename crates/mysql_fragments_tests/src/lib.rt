@@ -27,3 +27,5 @@ mod steady_bound;
 mod steady_refused;
 #[cfg(test)]
 mod steady_shared;
+#[cfg(test)]
+mod wide_names;

@@ -4,7 +4,7 @@ use mysql_binding::{NO_PLACE, PlainForm, Survey, SurveyedQuery};
 use mysql_fragments::{
     FragmentFault, FragmentRef, FragmentsError, TextInRoom, bind_placed_into, placed_error,
 };
-use mysql_named_params::places::FoundPlace;
+use mysql_named_params::places::{FoundPlace, Reading};
 use mysql_values::value::ValueRef;
 
 const QUERY: &[u8] = b"a IN (:list) OR b = :text";
@@ -13,10 +13,15 @@ const LIST: &[ValueRef<'static>] = &[ValueRef::Int(1), ValueRef::NULL];
 
 const TEXT: ValueRef<'static> = ValueRef::Bytes(b"it's");
 
+const READING: Reading = Reading {
+    no_backslash_escape: true,
+    wide_names: false,
+};
+
 const WANTED: &[u8] = b"a IN (1, NULL) OR b = 'it''s'";
 
 fn told_of(room: &mut [u8], first: &mut [FoundPlace]) -> Option<TextInRoom> {
-    let surveyed = SurveyedQuery::new(QUERY, true, first);
+    let surveyed = SurveyedQuery::new(QUERY, READING, first);
     if surveyed.survey.names != 2 || surveyed.survey.marks != 0 {
         return None;
     }
@@ -50,7 +55,7 @@ fn names_in_a_room_that_is_too_short(rt: HostRuntime) {
 }
 
 fn survey(query: &[u8]) -> Survey {
-    SurveyedQuery::new(query, true, &mut []).survey
+    SurveyedQuery::new(query, READING, &mut []).survey
 }
 
 #[test]

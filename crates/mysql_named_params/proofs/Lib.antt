@@ -23,3 +23,4 @@ pub mod JumpLemmas
 pub mod RestLemmas
 pub mod LocalityLemmas
 pub mod ReparsedLemmas
+pub mod LoweredLemmas

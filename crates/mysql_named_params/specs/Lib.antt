@@ -11,6 +11,7 @@ pub mod FirstPlace
 pub mod PlainBytes
 pub mod WideNames
 pub mod WidePlaces
+pub mod LoweredNames
 pub mod Reading
 pub mod Lanes
 pub mod Parsed

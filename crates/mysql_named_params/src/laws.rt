@@ -4,6 +4,7 @@ ghost use Rattle.std.specs.Prelude.{◌≡◌, ℕ, ◌+◌, ◌↔◌, All, Boo
 ghost use Rattle.mysql_named_params.specs.Tokens.{Token, IsToken, IsTokens, text_of};
 ghost use Rattle.mysql_named_params.specs.TokensOf.{tokens_of};
 ghost use Rattle.mysql_named_params.specs.Locality.{LooksAlike};
+ghost use Rattle.mysql_named_params.specs.LoweredNames.{lower_names};
 ghost use Rattle.mysql_named_params.specs.Parsed.{parsed};
 ghost use Rattle.mysql_named_params.specs.Places.{names, marks, with_marks, with_names};
 ghost use Rattle.mysql_named_params.specs.Positions.{positions, HavePlacesAt, AscendFrom};
@@ -77,6 +78,16 @@ pub fn names_without_capitals()
 pub fn marked_wide_names()
     ensures tokens { (mode : Bool) (query : List ℕ) (ts : List Token) → IsTokens mode query ts →
         IsTokens mode (text_of (with_marks (widened ts))) (with_marks (widened ts)) }
+{}
+
+/// With its wide names in lower case a query has tokens of the grammar: those that it had, with
+/// these names. Names in lower case have as many bytes, and marks in their place are the same.
+pub fn lowered_names()
+    ensures tokens { (mode : Bool) (query : List ℕ) (ts : List Token) → IsTokens mode query ts →
+        IsTokens mode (text_of (lower_names (widened ts))) (lower_names (widened ts)) }
+    ensures marks { (ts : List Token) → with_marks (lower_names ts) ≡ with_marks ts }
+    ensures len { (ts : List Token) →
+        length (text_of (lower_names ts)) ≡ length (text_of ts) }
 {}
 
 /// Errors of mixed parameters are equal: there is one.

@@ -8,6 +8,7 @@
 mod ends;
 pub mod lanes;
 pub mod laws;
+pub mod lowered;
 pub mod named_params;
 pub mod places;
 pub mod tokens;

@@ -1,6 +1,5 @@
-//! The first name or mark of a text, and the number of them in a query. `mysql_binding` and
-//! `mysql_flat_params` go from place to place by `first_place`; no user needs it. `first_place_in`
-//! finds wide names too, and no crate above calls it yet.
+//! The first name or mark of a text, and the number of them in a query. The crates above go from
+//! place to place by `first_place_in`; no user needs it.
 ghost use Rattle.std.specs.Prelude.{◌≡◌, ◌+◌, ◌≤◌, ◌<◌, ◌&&◌, None, length, take, drop, IfSome};
 ghost use Rattle.mysql_named_params.specs.Tokens.{OnTokens};
 ghost use Rattle.mysql_named_params.specs.Places.{names, marks, place_count};
@@ -79,10 +78,19 @@ pub fn first_place_in(text: &[u8], reading: Reading) -> Option<FoundPlace>
     ensures in_range { IfSome result (λ found.
         (0 < found.len) × (found.before + found.len ≤ length text.now)) }
 {
-    first_place_read(text, reading)
+    if !reading.wide_names {
+        return first_place(text, reading.no_backslash_escape);
+    }
+    first_place_read(
+        text,
+        Reading {
+            no_backslash_escape: reading.no_backslash_escape,
+            wide_names: true,
+        },
+    )
 }
 
-// The same. Inline, so that the walk of `first_place` tests for no wide name.
+// The same. Inline, so that the walk without wide names tests for none.
 #[inline(always)]
 fn first_place_read(text: &[u8], reading: Reading) -> Option<FoundPlace>
     ensures place { OnTokensIn reading text.now (λ ts. IfSome result (IsFirstPlace ts)) }

@@ -5,7 +5,8 @@ pub use mysql_binding::laws::{
     bind_error_equality, bind_pairs_error_equality, bound_again_is_the_same, bound_texts_are_sent,
     bound_texts_in_clients, bound_texts_on_servers, by_position_is_the_same,
     equal_texts_say_the_same, first_not_alone_is_first, isolation, no_place_is_left,
-    parsed_query_equality, position_of_first_not_alone,
+    one_bound_text, parsed_query_equality, position_of_first_not_alone,
+    wide_names_without_capitals, wide_query_equality,
 };
 pub use mysql_float_literal::laws::{
     doubles_read_before_others, ends_of_doubles, is_double_is_shape,
@@ -17,8 +18,9 @@ pub use mysql_fragments::laws::{
     steady_fragments_are_sent, steady_fragments_in_clients, values_bind_as_text,
 };
 pub use mysql_named_params::laws::{
-    locality, mixed_error_equality, named_params_error_equality, nameless_is_unchanged,
-    one_token_list, parsed_equality, positions_of_places, renaming_undone, tokens_exist,
+    locality, lowered_names, marked_wide_names, mixed_error_equality, named_params_error_equality,
+    nameless_is_unchanged, names_without_capitals, one_token_list, parsed_equality,
+    positions_of_places, renaming_undone, tokens_exist, wide_names, wide_names_are_whole,
 };
 pub use mysql_params_core::laws::{
     into_positional_error_equality, lookups_agree, missing_named_parameter_error_equality,

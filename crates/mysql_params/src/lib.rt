@@ -7,6 +7,7 @@
 //! that no mode and no character set reads otherwise, and [`bind_text_in_both_modes`] one that no
 //! mode does, to a query that may hold bytes from 128 on. [`bind_pairs`] and [`bind_values`] take
 //! names and values that are borrowed, and two such stand beside each of these calls.
+//! [`bind_wide`] and the calls with `wide` in their names take names with capitals.
 //! [`first_unportable`] finds what servers read in different ways or with which a value would join
 //! a number, before a query is bound; [`first_unportable_in_client`] also what the client `mysql`
 //! or `mariadb` reads or sends otherwise; [`first_unsteady`] the first byte that a mode or a
@@ -25,16 +26,19 @@ pub mod named_params;
 pub mod params;
 
 pub use mysql_binding::{
-    BindError, BindPairsError, ParsedQuery, TextInRoom, bind_pairs, bind_pairs_into, bind_text,
-    bind_text_in, bind_values, bind_values_into,
+    BindError, BindPairsError, ParsedQuery, TextInRoom, WideQuery, bind_pairs, bind_pairs_into,
+    bind_text, bind_text_in, bind_values, bind_values_into, bind_wide, bind_wide_in,
+    bind_wide_pairs, bind_wide_pairs_into, bind_wide_values, bind_wide_values_into,
 };
 pub use mysql_portable::client::first_unportable_in_client;
 pub use mysql_portable::portable::{Construct, Unportable, first_unportable};
 pub use mysql_portable::steady::first_unsteady;
+pub use mysql_portable::wide::{first_unportable_in_client_wide, first_unportable_wide};
 pub use mysql_query_core::{RunError, run, words_of};
 pub use mysql_steady_text::{
     BothModesError, BothModesPairsError, SteadyPairsError, SteadyTextError, bind_pairs_anywhere,
     bind_pairs_in_any_mode, bind_pairs_in_both_modes, bind_text_anywhere, bind_text_in_any_mode,
     bind_text_in_both_modes, bind_values_anywhere, bind_values_in_any_mode,
-    bind_values_in_both_modes,
+    bind_values_in_both_modes, bind_wide_anywhere, bind_wide_in_any_mode,
+    bind_wide_values_anywhere, bind_wide_values_in_any_mode,
 };

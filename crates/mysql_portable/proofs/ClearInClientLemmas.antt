@@ -1,17 +1,17 @@
 -- A query that is clear in a client is portable there: no construct of a client stands in it.
-use Rattle.std.specs.Prelude.{Bool, cond, not, codes, nat_le, ⊤}
+use Rattle.std.specs.Prelude.{Bool, cond, not, codes, nat_le}
 use Rattle.std.proofs.Common.{◌≡◌, ◌==◌, ◌&&◌, ◌||◌, ℕ, true, false, List, [], ◌∷◌, ◌++◌, Some, None, refl, sym, ap, ◌∙◌, subst, arith, append-nil, true≢false}
 use Rattle.std.specs.List.{list_all, list_any}
 use Rattle.std.specs.Str.{byte}
 use Rattle.std.proofs.lemmas.Bool.Decides.{nat_tests}
-use Rattle.std.proofs.lemmas.Bool.{and_parts, or_parts, not-true, not-false}
-use Rattle.mysql_named_params.specs.Bytes.{asterisk, backquote, carriage_return, colon, dash, hash, newline, question_mark, slash, space, is_extension, begins}
-use Rattle.mysql_named_params.specs.Tokens.{Token, bytes_of, text_of, IsTokens, OnTokens, QuotedString, QuotedIdentifier, HashComment, DashComment, BlockComment, Name, Mark, Plain}
+use Rattle.std.proofs.lemmas.Bool.{and_parts, or_parts, not-true}
+use Rattle.mysql_named_params.specs.Bytes.{asterisk, backquote, dash, hash, newline, slash, space, begins}
+use Rattle.mysql_named_params.specs.Tokens.{Token, bytes_of, text_of, OnTokens, QuotedString, QuotedIdentifier, HashComment, DashComment, BlockComment, Name, Mark, Plain}
 use Rattle.mysql_named_params.proofs.TokensExistLemmas.{tokens_exist}
 use Rattle.mysql_portable.specs.Clear.{begins_client_line, begins_opener_after, is_in_doubt, is_in_doubt_for, is_in_doubt_in_client, is_clear_after, is_clear_in_client}
 use Rattle.mysql_portable.specs.Client.{begins_opener, begins_end, holds_opener, HoldNoOpener}
 use Rattle.mysql_portable.specs.FirstUnportableInClient.{AreSentAsTheyAreFrom, IsPortableInClient}
-use Rattle.mysql_portable.specs.FoundInClient.{begins_statement, begins_line, begins_delimiter_line, begins_no_word, begins_word, closes_before_joined, drops_line, ends_line, escapes_newline, found_at_byte, found_in_client, found_in_comment, found_in_quotes, found_in_token, is_client_word, is_joined, letter_of, stand_before_comment}
+use Rattle.mysql_portable.specs.FoundInClient.{begins_statement, begins_line, begins_delimiter_line, begins_no_word, begins_word, closes_before_joined, drops_line, escapes_newline, found_at_byte, found_in_client, found_in_comment, found_in_quotes, found_in_token, is_client_word, is_joined, letter_of, stand_before_comment}
 use Rattle.mysql_portable.specs.Server.{begins_special}
 use Rattle.mysql_portable.specs.Steady.{is_steady}
 use Rattle.mysql_portable.specs.declared.portable.Construct.TheVariants as construct

@@ -20,3 +20,4 @@ pub mod ClientTextLemmas
 pub mod ClearLemmas
 pub mod ClearWalkLemmas
 pub mod ClearInClientLemmas
+pub mod WideUnportableLemmas

@@ -14,3 +14,4 @@ mod no_construct;
 mod nothing_in_quotes;
 pub mod portable;
 pub mod steady;
+pub mod wide;

@@ -7,8 +7,10 @@ use Rattle.mysql_values.specs.Content.{content_of}
 use Rattle.mysql_named_params.specs.Tokens.{Token, IsTokens}
 use Rattle.mysql_named_params.specs.Places.{names, marks, with_marks, place_count}
 use Rattle.mysql_named_params.proofs.TokenRowLemmas.{place_count-sum}
-use Rattle.mysql_named_params.proofs.ReparsedLemmas.{IsTokens-with_marks, names-with_marks}
+use Rattle.mysql_named_params.proofs.ReparsedLemmas.{marked_reading, names-with_marks, names_in_reading}
 use Rattle.mysql_named_params.proofs.TokenListLemmas.{one_token_list}
+use Rattle.mysql_named_params.specs.Reading.{IsTokensIn}
+use Rattle.mysql_named_params.specs.declared.places.Reading.{Reading}
 use Rattle.mysql_portable.specs.Steady.{HoldNoEscapes}
 use Rattle.mysql_portable.proofs.OtherModeLemmas.{tokens_other}
 use Rattle.mysql_params_core.specs.Given.{Given, empty, positional}
@@ -66,9 +68,9 @@ bound_again_is_the_same mode ts us given text t is =
 
 -- ---- by position
 
-pub by_position_is_the_same : (mode : Bool) (query text : List ℕ) (ts : List Token) (given : Given) → IsTokens mode query ts →
+pub by_position_is_the_same : (reading : Reading) (query text : List ℕ) (ts : List Token) (given : Given) → IsTokensIn reading query ts →
     (t : IsTextInBothModes ts given text) → IsTextInBothModes (with_marks ts) (positional t.values) text
-by_position_is_the_same mode query text ts given is t =
+by_position_is_the_same reading query text ts given is t =
     let parts = no_cause_parts ts given t.values t.no_cause t.looked_up in
     let room = value_each ts given t.values parts.0 t.looked_up parts.1 in
     let lists : length t.literal_tokens ≡ place_count ts = as_many_lists true t.literals t.literal_tokens (t.tokens_of_literals true) ∙ joined_text_count [] ts t.literals text t.text_is in
@@ -82,7 +84,7 @@ by_position_is_the_same mode query text ts given is t =
       isolated = λ other. subst (IsTokens other text) (sym tokens) (t.isolated other);
       reads_in_place = λ other. subst (λ ps. AreReadInPlace (read_steady_literal other) ps t.literals t.contents) (sym same) (t.reads_in_place other);
       no_escapes = subst HoldNoEscapes (sym tokens) t.no_escapes;
-      no_cause = no_cause_renamed mode ts t.values is.each room (no_place_out ts t.values parts.1) (no_float_cause ts t.values parts.1);
+      no_cause = no_cause_renamed ts t.values (names_in_reading reading query ts is) room (no_place_out ts t.values parts.1) (no_float_cause ts t.values parts.1);
       looked_up = ap (lookup (positional t.values)) (names-with_marks ts);
       written = t.written;
       shapes = t.shapes;
@@ -110,7 +112,7 @@ again_of ts given text t mode =
     let us = with_literal_tokens ts t.literal_tokens in
     (us, t.isolated mode, (places_of ts given text t, bound_again_is_the_same mode ts us given text t (t.isolated mode)))
 
-pub positioned_of : (mode : Bool) (query : List ℕ) (ts : List Token) (given : Given) (text : List ℕ) → IsTokens mode query ts →
-    IsTextInBothModes ts given text → IsByPositionInBothModes mode ts given text
-positioned_of mode query ts given text is t =
-    (t.values, t.looked_up, (with_marks ts, IsTokens-with_marks mode query ts is, by_position_is_the_same mode query text ts given is t))
+pub positioned_of : (reading : Reading) (query : List ℕ) (ts : List Token) (given : Given) (text : List ℕ) → IsTokensIn reading query ts →
+    IsTextInBothModes ts given text → IsByPositionInBothModes reading.no_backslash_escape ts given text
+positioned_of reading query ts given text is t =
+    (t.values, t.looked_up, (with_marks ts, marked_reading reading query ts is, by_position_is_the_same reading query text ts given is t))

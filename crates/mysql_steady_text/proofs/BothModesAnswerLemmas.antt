@@ -2,6 +2,7 @@
 use Rattle.std.specs.Prelude.{Bool, Result, Ok, Err, IfOk}
 use Rattle.std.proofs.Common.{◌≡◌, ℕ, true, List, Option, None, sym, ◌∙◌}
 use Rattle.mysql_named_params.specs.Tokens.{Token, OnTokens}
+use Rattle.mysql_named_params.specs.Reading.{grammar_reading}
 use Rattle.mysql_portable.specs.FirstUnportable.{first_unportable}
 use Rattle.mysql_portable.specs.Steady.{HoldNoEscapes}
 use Rattle.mysql_portable.specs.declared.portable.Unportable.{Unportable}
@@ -30,7 +31,7 @@ agree query found o none = (o.0, o.1, hold_no_escapes o.0 0 (sym o.2 ∙ none))
 pub in_each_mode : (query : List ℕ) (P : List Token → Type 0) → Agree query → OnTokens true query P → (mode : Bool) →
     OnTokens mode query P
 in_each_mode query P none o mode =
-    let b = on_both true query HoldNoEscapes P none o in
+    let b = on_both (grammar_reading true) query HoldNoEscapes P none o in
     (b.0, tokens_other true mode query b.0 b.2.0 b.1, b.2.1)
 
 -- without a backslash in a string, and with this first construct, or none
@@ -39,7 +40,7 @@ pub told_of : (query : List ℕ) (found : Option ℕ) (unportable : Option Unpor
     OnTokens true query (λ ts. unportable ≡ first_unportable ts) → (mode : Bool) →
     OnTokens mode query (λ ts. (first_backslash ts ≡ None) × (first_unportable ts ≡ unportable))
 told_of query found unportable b none u mode =
-    let o = on_both mode query (λ ts. found ≡ first_backslash ts) (λ ts. unportable ≡ first_unportable ts) (b mode)
+    let o = on_both (grammar_reading mode) query (λ ts. found ≡ first_backslash ts) (λ ts. unportable ≡ first_unportable ts) (b mode)
     (in_each_mode query (λ ts. unportable ≡ first_unportable ts) (agree query found (b true) none) u mode) in
     (o.0, o.1, (sym o.2.0 ∙ none, sym o.2.1))
 
@@ -47,7 +48,7 @@ pub bound_answer : {A E : Type 0} (items : A → List ℕ) (query : List ℕ) (g
     OnTokens true query (λ ts. IfOk r (λ text. IsGivenText steady_literal_of IsSteadyFor ts given (items text))) →
     OnTokens true query (λ ts. IfOk r (λ text. IsTextInBothModes ts given (items text)))
 bound_answer items query given none (Ok text) o =
-    let b = on_both true query HoldNoEscapes (λ ts. IsGivenText steady_literal_of IsSteadyFor ts given (items text)) none o in
+    let b = on_both (grammar_reading true) query HoldNoEscapes (λ ts. IsGivenText steady_literal_of IsSteadyFor ts given (items text)) none o in
     (b.0, b.1, in_both_modes query b.0 given (items text) b.1 b.2.0 b.2.1)
 bound_answer items query given none (Err e) o = o
 
@@ -56,7 +57,7 @@ module _ (query : List ℕ) (given : Given) (text : List ℕ) (none : Agree quer
   pub portable_answer : OnTokens true query (λ ts. first_unportable ts ≡ None) → (mode : Bool) →
       OnTokens mode query (λ ts. IsPortableInBothModes query ts given text)
   portable_answer p mode =
-      let b = on_both true query HoldNoEscapes (λ ts. (first_unportable ts ≡ None) × IsTextInBothModes ts given text) none (on_both true query (λ ts. first_unportable ts ≡ None) (λ ts. IsTextInBothModes ts given text) p o) in (
+      let b = on_both (grammar_reading true) query HoldNoEscapes (λ ts. (first_unportable ts ≡ None) × IsTextInBothModes ts given text) none (on_both (grammar_reading true) query (λ ts. first_unportable ts ≡ None) (λ ts. IsTextInBothModes ts given text) p o) in (
         b.0,
         tokens_other true mode query b.0 b.2.0 b.1,
         portable_in_both query b.0 given text (λ other. tokens_other true other query b.0 b.2.0 b.1) (none_is_portable b.0 b.2.1.0) b.2.1.1,
@@ -65,4 +66,4 @@ module _ (query : List ℕ) (given : Given) (text : List ℕ) (none : Agree quer
   pub positioned_answer : (mode : Bool) → OnTokens mode query (λ ts. IsByPositionInBothModes mode ts given text)
   positioned_answer mode =
       let b = in_each_mode query (λ ts. IsTextInBothModes ts given text) none o mode in
-      (b.0, b.1, positioned_of mode query b.0 given text b.1 b.2)
+      (b.0, b.1, positioned_of (grammar_reading mode) query b.0 given text b.1 b.2)

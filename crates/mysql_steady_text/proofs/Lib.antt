@@ -10,3 +10,4 @@ pub mod BothModesAnswerLemmas
 pub mod QueryRefusalLemmas
 pub mod SteadyLiteralLemmas
 pub mod FormLemmas
+pub mod WideSteadyLemmas

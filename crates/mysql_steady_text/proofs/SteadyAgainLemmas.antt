@@ -5,6 +5,8 @@ use Rattle.std.proofs.Common.{◌≡◌, ℕ, List, map}
 use Rattle.mysql_values.specs.Content.{content_of}
 use Rattle.mysql_named_params.specs.Tokens.{Token, IsTokens, OnTokens}
 use Rattle.mysql_named_params.specs.Places.{with_marks, place_count}
+use Rattle.mysql_named_params.specs.Reading.{IsTokensIn, grammar_reading}
+use Rattle.mysql_named_params.specs.declared.places.Reading.{Reading}
 use Rattle.mysql_params_core.specs.Given.{Given, empty, positional}
 use Rattle.mysql_steady_text.specs.SteadyAgain.{IsSteadyBoundAgain, IsSteadyByPosition}
 use Rattle.mysql_steady_text.specs.SteadyText.{IsSteadyText}
@@ -22,10 +24,10 @@ pub bound_again_is_the_same : (mode : Bool) (ts us : List Token) (given : Given)
 bound_again_is_the_same mode ts us given text t is =
     steady_of us empty text (both.bound_again_is_the_same mode ts us given text (both_of ts given text t) is) t.steady
 
-pub by_position_is_the_same : (mode : Bool) (query text : List ℕ) (ts : List Token) (given : Given) → IsTokens mode query ts →
+pub by_position_is_the_same : (reading : Reading) (query text : List ℕ) (ts : List Token) (given : Given) → IsTokensIn reading query ts →
     (t : IsSteadyText ts given text) → IsSteadyText (with_marks ts) (positional t.values) text
-by_position_is_the_same mode query text ts given is t =
-    steady_of (with_marks ts) (positional t.values) text (both.by_position_is_the_same mode query text ts given is (both_of ts given text t)) t.steady
+by_position_is_the_same reading query text ts given is t =
+    steady_of (with_marks ts) (positional t.values) text (both.by_position_is_the_same reading query text ts given is (both_of ts given text t)) t.steady
 
 pub equal_texts_say_the_same : (mode : Bool) (query text : List ℕ) (ts us : List Token) (a b : Given) →
     IsTokens mode query ts → IsTokens mode query us → (x : IsSteadyText ts a text) → (y : IsSteadyText us b text) →
@@ -35,15 +37,15 @@ equal_texts_say_the_same mode query text ts us a b is is' x y =
 
 -- ---- as the calls promise it
 
-again_of : (ts : List Token) (given : Given) (text : List ℕ) → IsSteadyText ts given text → IsSteadyBoundAgain text
+pub again_of : (ts : List Token) (given : Given) (text : List ℕ) → IsSteadyText ts given text → IsSteadyBoundAgain text
 again_of ts given text t mode =
     let o = both.again_of ts given text (both_of ts given text t) mode in
     (o.0, o.1, (o.2.0, steady_of o.0 empty text o.2.1 t.steady))
 
-positioned_of : (mode : Bool) (query : List ℕ) (ts : List Token) (given : Given) (text : List ℕ) → IsTokens mode query ts →
-    IsSteadyText ts given text → IsSteadyByPosition mode ts given text
-positioned_of mode query ts given text is t =
-    let o = both.positioned_of mode query ts given text is (both_of ts given text t) in
+pub positioned_of : (reading : Reading) (query : List ℕ) (ts : List Token) (given : Given) (text : List ℕ) → IsTokensIn reading query ts →
+    IsSteadyText ts given text → IsSteadyByPosition reading.no_backslash_escape ts given text
+positioned_of reading query ts given text is t =
+    let o = both.positioned_of reading query ts given text is (both_of ts given text t) in
     (o.0, o.1, (o.2.0, o.2.1, steady_of o.2.0 (positional o.0) text o.2.2 t.steady))
 
 module _ {A E : Type 0} (items : A → List ℕ) (query : List ℕ) (given : Given) where
@@ -54,5 +56,5 @@ module _ {A E : Type 0} (items : A → List ℕ) (query : List ℕ) (given : Giv
 
   pub answer_by_position : (mode : Bool) (r : Result A E) → OnTokens mode query (λ ts. IfOk r (λ text. IsSteadyText ts given (items text))) →
       OnTokens mode query (λ ts. IfOk r (λ text. IsSteadyByPosition mode ts given (items text)))
-  answer_by_position mode (Ok text) o = (o.0, o.1, positioned_of mode query o.0 given (items text) o.1 o.2)
+  answer_by_position mode (Ok text) o = (o.0, o.1, positioned_of (grammar_reading mode) query o.0 given (items text) o.1 o.2)
   answer_by_position mode (Err e) o = o

@@ -1,9 +1,7 @@
 -- Steady literals that stand in one line are sent as they are.
 use Rattle.std.specs.Prelude.{Bool, codes}
 use Rattle.std.specs.List.{list_all}
-use Rattle.std.proofs.Common.{◌≡◌, ◌++◌, ℕ, true, List, [], ◌∷◌, None, Some, arith, refl, ◌∙◌}
-use Rattle.std.proofs.lemmas.Bool.{and_from, and_parts}
-use Rattle.std.proofs.lemmas.Bool.Decides.{nat_tests}
+use Rattle.std.proofs.Common.{◌≡◌, ◌++◌, ℕ, true, List, [], ◌∷◌, None, Some, refl, ◌∙◌}
 use Rattle.mysql_sql_text.specs.InLine.{AreInLine, is_in_line}
 use Rattle.mysql_sql_text.specs.LiteralShape.{hexadecimal_literal}
 use Rattle.mysql_named_params.specs.Bytes.{space, underscore}

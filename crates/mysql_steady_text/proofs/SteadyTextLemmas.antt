@@ -3,6 +3,7 @@ use Rattle.std.specs.Prelude.{Bool, Result, Ok, Err, IfOk, IfErr}
 use Rattle.std.proofs.Common.{◌≡◌, ℕ, true, false, List, Option, None, sym, subst}
 use Rattle.std.specs.List.{list_all}
 use Rattle.mysql_named_params.specs.Tokens.{Token, IsTokens, OnTokens}
+use Rattle.mysql_named_params.specs.Reading.{grammar_reading}
 use Rattle.mysql_portable.specs.Portable.{IsPortable}
 use Rattle.mysql_portable.specs.Server.{IsReadOn}
 use Rattle.mysql_portable.specs.Steady.{first_unsteady, is_steady, IsSteady, HoldNoEscapes}
@@ -119,7 +120,7 @@ pub anywhere_answer : {A E : Type 0} (items : A → List ℕ) (r : Result A E) (
     ((mode : Bool) → OnTokens mode query (λ ts. IfOk r (λ text. IsSteadyText ts given (items text)))) →
     (mode : Bool) → OnTokens mode query (λ ts. IfOk r (λ text. IsAnywhereText query ts given (items text)))
 anywhere_answer items (Ok text) query given steady p b mode =
-    let o = on_both true query IsPortable (λ ts. IsSteadyText ts given (items text)) (in_either query IsPortable false true steady p) (b true) in
+    let o = on_both (grammar_reading true) query IsPortable (λ ts. IsSteadyText ts given (items text)) (in_either query IsPortable false true steady p) (b true) in
     (o.0, steady_other true mode query o.0 steady o.1, is_anywhere_text query o.0 given (items text) o.1 steady o.2.0 o.2.1)
 anywhere_answer items (Err e) query given steady p b mode = nothing_said mode query
 
@@ -131,6 +132,6 @@ refused_answer (Ok text) mode query given unportable steady p b = nothing_said m
 refused_answer (Err (Unsteady at)) mode query given unportable steady p b = absurd b.2
 refused_answer (Err (error.Unportable found)) mode query given unportable steady p b = absurd b.2
 refused_answer (Err (Bind e)) mode query given unportable steady p b =
-    on_map mode query (λ ts. (unportable ts ≡ None) × IsCauseOrMemory (first_cause ts given) e) (λ ts. IsSteadyRefusal query (unportable ts) (first_cause ts given) (Bind e))
+    on_map (grammar_reading mode) query (λ ts. (unportable ts ≡ None) × IsCauseOrMemory (first_cause ts given) e) (λ ts. IsSteadyRefusal query (unportable ts) (first_cause ts given) (Bind e))
     (λ ts is h. (steady, h.0, h.1))
-    (on_both mode query (λ ts. unportable ts ≡ None) (λ ts. IsCauseOrMemory (first_cause ts given) e) p b)
+    (on_both (grammar_reading mode) query (λ ts. unportable ts ≡ None) (λ ts. IsCauseOrMemory (first_cause ts given) e) p b)

@@ -11,3 +11,4 @@ pub mod SteadyLiteral
 pub mod SteadyShape
 pub mod SteadyReader
 pub mod ReadSteadyLiteral
+pub mod WideAnywhere

@@ -17,6 +17,7 @@ use crate::both_modes_error::BothModesError;
 use crate::first_backslash::first_backslash;
 use crate::steady_literal::SteadyForm;
 use mysql_binding::{BindError, bind_borrowed_as};
+use mysql_named_params::places::Reading;
 use mysql_params_core::params::{BorrowedParams, Params};
 use mysql_portable::portable::first_unportable;
 use std::alloc::Global;
@@ -113,5 +114,9 @@ fn bind_agreed(
     ensures mixed { OnTokens true query.now (λ ts.
         HasName ts × HasMark ts → IsErrOf result BindError.Mixed) }
 {
-    bind_borrowed_as(alloc, query, params, true, &SteadyForm)
+    let reading = Reading {
+        no_backslash_escape: true,
+        wide_names: false,
+    };
+    bind_borrowed_as(alloc, query, params, reading, &SteadyForm)
 }

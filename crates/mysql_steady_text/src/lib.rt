@@ -19,6 +19,7 @@ pub mod steady_literal;
 mod steady_pairs_error;
 mod steady_text;
 mod steady_text_error;
+mod wide;
 
 pub use both_modes::bind_text_in_both_modes;
 pub use both_modes_error::BothModesError;
@@ -33,3 +34,7 @@ pub use steady_text::{
     bind_borrowed_anywhere, bind_steady, bind_text_anywhere, bind_text_in_any_mode, query_refusal,
 };
 pub use steady_text_error::SteadyTextError;
+pub use wide::{
+    bind_borrowed_wide_anywhere, bind_wide_anywhere, bind_wide_in_any_mode, bind_wide_steady,
+    bind_wide_values_anywhere, bind_wide_values_in_any_mode,
+};

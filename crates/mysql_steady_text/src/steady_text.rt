@@ -17,6 +17,7 @@ ghost use Rattle.mysql_steady_text.specs.QueryRefusal.{query_refusal};
 use crate::steady_literal::SteadyForm;
 use crate::steady_text_error::SteadyTextError;
 use mysql_binding::{BindError, bind_borrowed_as};
+use mysql_named_params::places::Reading;
 use mysql_params_core::params::{BorrowedParams, Params};
 use mysql_portable::clear::is_clear;
 use mysql_portable::portable::first_unportable;
@@ -162,7 +163,11 @@ pub fn bind_steady(
     ensures mixed { (mode : Bool) → OnTokens mode query.now (λ ts. HasName ts × HasMark ts →
         IsErrOf result (SteadyTextError.Bind BindError.Mixed)) }
 {
-    Ok(bind_borrowed_as(alloc, query, params, false, &SteadyForm)?)
+    let reading = Reading {
+        no_backslash_escape: false,
+        wide_names: false,
+    };
+    Ok(bind_borrowed_as(alloc, query, params, reading, &SteadyForm)?)
 }
 
 /// The refusal of a query for which [`bind_text_anywhere`](crate::bind_text_anywhere) needn't look

@@ -21,7 +21,7 @@ use crate::failure::Failure;
 use crate::laws::values_are_sent;
 use crate::request::Literals;
 use crate::taken::{TakenQuery, found_in_text};
-use mysql_binding::{BindError, PlainForm, append_parsed};
+use mysql_binding::{BindError, PlainForm, append_surveyed};
 use mysql_steady_text::SteadyForm;
 use mysql_values::value::{Value, ValueRef};
 use std::alloc::{AllocError, Global};
@@ -198,6 +198,7 @@ impl<'q> TakenQuery<'q> {
             script.new.items ≡ script.old.items) }
         ensures refused { OnErr result (script.new.items ≡ script.old.items) }
     {
+        let surveyed = self.parsed.surveyed();
         match self.request.literals {
             Literals::Plain {
                 no_backslash_escape,
@@ -205,15 +206,11 @@ impl<'q> TakenQuery<'q> {
                 let form = PlainForm {
                     no_backslash_escape,
                 };
-                attempt_of(append_parsed(alloc, &self.parsed, values, &form, script))
+                attempt_of(append_surveyed(alloc, &surveyed, values, &form, script))
             }
-            Literals::Steady => attempt_of(append_parsed(
-                alloc,
-                &self.parsed,
-                values,
-                &SteadyForm,
-                script,
-            )),
+            Literals::Steady => {
+                attempt_of(append_surveyed(alloc, &surveyed, values, &SteadyForm, script))
+            }
         }
     }
 }

@@ -3,7 +3,7 @@
 ghost use Rattle.std.specs.Prelude.{◌≡◌, ◌≢◌, ◌+◌, ◌<◌, ◌≤◌, None, IfOk, IfSome, OnErr, drop, length, Ok};
 ghost use Rattle.mysql_named_params.specs.FirstPlace.{IsFirstPlace};
 ghost use Rattle.mysql_named_params.specs.Places.{place_count, names};
-ghost use Rattle.mysql_named_params.specs.Tokens.{OnTokens};
+ghost use Rattle.mysql_named_params.specs.Reading.{OnTokensIn};
 ghost use Rattle.mysql_binding.specs.FoundPlaces.{BeginWithPlaces, found_places};
 ghost use Rattle.mysql_binding.specs.SurveyedQuery.{OnSurveyed};
 ghost use Rattle.mysql_binding.specs.FirstCause.{mixed_cause};
@@ -13,7 +13,7 @@ ghost use Rattle.mysql_params_core.specs.Lookup.{lookup};
 ghost use Rattle.mysql_values.specs.BorrowedValue.{owned_values};
 
 use crate::binding::survey::SurveyedQuery;
-use mysql_named_params::places::{FoundPlace, first_place};
+use mysql_named_params::places::{FoundPlace, Reading, first_place_in};
 use mysql_params_core::params::{BorrowedParams, NamedValues};
 use mysql_values::value::ValueRef;
 use std::alloc::{AllocError, Global};
@@ -24,22 +24,22 @@ pub fn place_after(
     known: &[FoundPlace],
     i: usize,
     rest: &[u8],
-    no_backslash_escape: bool,
+    reading: Reading,
 ) -> Option<FoundPlace>
-    requires { OnTokens no_backslash_escape rest.now (BeginWithPlaces (drop i known.now)) }
-    ensures place { OnTokens no_backslash_escape rest.now (λ ts. IfSome result (IsFirstPlace ts)) }
-    ensures none { OnTokens no_backslash_escape rest.now (λ ts.
+    requires { OnTokensIn reading rest.now (BeginWithPlaces (drop i known.now)) }
+    ensures place { OnTokensIn reading rest.now (λ ts. IfSome result (IsFirstPlace ts)) }
+    ensures none { OnTokensIn reading rest.now (λ ts.
         result ≡ None → place_count ts ≡ 0) }
     ensures in_range { IfSome result (λ found.
         (0 < found.len) × (found.before + found.len ≤ length rest.now)) }
     ensures next { IfSome result (λ found.
-        OnTokens no_backslash_escape (drop (found.before + found.len) rest.now)
+        OnTokensIn reading (drop (found.before + found.len) rest.now)
         (BeginWithPlaces (drop (i + 1) known.now))) }
 {
     if i < known.len() {
         return Some(known[i]);
     }
-    match first_place(rest, no_backslash_escape) {
+    match first_place_in(rest, reading) {
         Some(found) => Some(found),
         None => None,
     }
@@ -54,12 +54,11 @@ pub fn all_places(
         places.items ≡ found_places ts)) }
     ensures memory { OnErr result (surveyed.now.survey.names + surveyed.now.survey.marks ≢ 0) }
 {
-    let mode = surveyed.no_backslash_escape;
     let count = surveyed.survey.names + surveyed.survey.marks;
     let mut places = Vec::with_capacity(alloc, count)?;
     let mut rest = surveyed.query;
     while places.len() < count {
-        let Some(found) = place_after(surveyed.known, places.len(), rest, mode) else {
+        let Some(found) = place_after(surveyed.known, places.len(), rest, surveyed.reading) else {
             unreachable!()
         };
         let (_, _, after) = found.cut(rest);
@@ -108,12 +107,11 @@ fn values_in<'p, M: NamedValues>(
     ensures { IfOk result (λ found. IfSome found (λ values. OnSurveyed surveyed.now (λ ts.
         lookup (named (M.values entries.now)) (names ts) ≡ Ok (owned_values values.items)))) }
 {
-    let mode = surveyed.no_backslash_escape;
     let count = surveyed.survey.names;
     let mut values = Vec::with_capacity(alloc, count)?;
     let mut rest = surveyed.query;
     while values.len() < count {
-        let Some(found) = place_after(surveyed.known, values.len(), rest, mode) else {
+        let Some(found) = place_after(surveyed.known, values.len(), rest, surveyed.reading) else {
             unreachable!()
         };
         let (_, place, after) = found.cut(rest);

@@ -9,8 +9,9 @@ use crate::binding::found::place_after;
 use crate::binding::survey::SurveyedQuery;
 use std::alloc::{AllocError, Global};
 
-/// The names of a query without both names and marks: slices of the query.
-pub(super) fn query_names<'q>(
+/// The names of a query without both names and marks: slices of the query. It is lent to the crates
+/// above.
+pub fn query_names<'q>(
     alloc: Global,
     surveyed: &SurveyedQuery<'q>,
 ) -> Result<Vec<&'q [u8]>, AllocError>
@@ -19,12 +20,11 @@ pub(super) fn query_names<'q>(
         referents list.items ≡ names ts)) }
     ensures memory { OnErr result (surveyed.now.survey.names ≢ 0) }
 {
-    let mode = surveyed.no_backslash_escape;
     let count = surveyed.survey.names;
     let mut list = Vec::with_capacity(alloc, count)?;
     let mut rest = surveyed.query;
     while list.len() < count {
-        let Some(found) = place_after(surveyed.known, list.len(), rest, mode) else {
+        let Some(found) = place_after(surveyed.known, list.len(), rest, surveyed.reading) else {
             unreachable!()
         };
         let (_, place, after) = found.cut(rest);

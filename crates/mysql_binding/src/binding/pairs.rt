@@ -1,6 +1,8 @@
 //! Queries bound from names and values that are borrowed.
-ghost use Rattle.std.specs.Prelude.{◌≡◌, ℕ, Bool, List, None, Ok, map, IfErr, IfOk, IfSome, IsErrOf, OnErr};
+ghost use Rattle.std.specs.Prelude.{◌≡◌, ℕ, List, None, Ok, map, IfErr, IfOk, IfSome, IsErrOf, OnErr};
 ghost use Rattle.mysql_named_params.specs.Tokens.{OnTokens};
+ghost use Rattle.mysql_named_params.specs.Reading.{OnTokensIn};
+ghost use Rattle.mysql_named_params.specs.declared.places.Reading.{Reading};
 ghost use Rattle.mysql_named_params.specs.Places.{HasMark, HasName};
 ghost use Rattle.mysql_params_core.specs.Given.{named, positional};
 ghost use Rattle.mysql_params_core.specs.GivenBorrowed.{pair_map};
@@ -8,7 +10,7 @@ ghost use Rattle.mysql_params_core.specs.Made.{pairs_made, seen_pair};
 ghost use Rattle.mysql_values.specs.BorrowedValue.{owned_values};
 ghost use Rattle.mysql_binding.specs.BindErrors.{IsCauseOrMemory};
 ghost use Rattle.mysql_binding.specs.BoundAgain.{IsSameBoundAgain, IsSameByPosition};
-ghost use Rattle.mysql_binding.specs.BoundPairs.{IfFewPairs, IsPairsRefusal, OfPairs};
+ghost use Rattle.mysql_binding.specs.BoundPairs.{IfFewPairs, IsPairsRefusal, IsPairsRefusalIn, OfPairs};
 ghost use Rattle.mysql_binding.specs.FirstCause.{first_cause};
 ghost use Rattle.mysql_binding.specs.Isolation.{IsBoundText};
 ghost use Rattle.mysql_binding.specs.TextInRoom.{HasTextOf, IsTextInRoom};
@@ -19,6 +21,7 @@ use crate::binding::form::PlainForm;
 use crate::binding::room::{TextInRoom, bind_surveyed_into};
 use crate::binding::survey::SurveyedQuery;
 use crate::binding::{KEPT_PLACES, NO_PLACE, bind_borrowed_in};
+use mysql_named_params::places::Reading;
 use mysql_params_core::params::{BorrowedParams, NamedPairs};
 use mysql_values::value::ValueRef;
 use std::alloc::Global;
@@ -49,12 +52,11 @@ pub fn bind_pairs(
     ensures mixed { IfFewPairs pairs.now (λ given. OnTokens no_backslash_escape query.now (λ ts.
         HasName ts × HasMark ts → IsErrOf result (BindPairsError.Bind BindError.Mixed))) }
 {
-    let named = NamedPairs(pairs);
-    if let Some(error) = pairs_refusal(alloc, &named) {
-        return Err(error);
-    }
-    let params = BorrowedParams::Pairs(&named);
-    Ok(bind_borrowed_in(alloc, query, params, no_backslash_escape)?)
+    let reading = Reading {
+        no_backslash_escape,
+        wide_names: false,
+    };
+    bind_pairs_in(alloc, query, pairs, reading)
 }
 
 /// [`bind_text_in`](crate::bind_text_in) of borrowed values by position: no value is copied. It
@@ -78,12 +80,11 @@ pub fn bind_values(
     ensures mixed { OnTokens no_backslash_escape query.now (λ ts.
         HasName ts × HasMark ts → IsErrOf result BindError.Mixed) }
 {
-    bind_borrowed_in(
-        alloc,
-        query,
-        BorrowedParams::Values(values),
+    let reading = Reading {
         no_backslash_escape,
-    )
+        wide_names: false,
+    };
+    bind_borrowed_in(alloc, query, BorrowedParams::Values(values), reading)
 }
 
 /// [`bind_pairs`] into a room: the text is written to its front, without a vector for it, or its
@@ -105,17 +106,11 @@ pub fn bind_pairs_into(
         HasName ts × HasMark ts → IsErrOf result (BindPairsError.Bind BindError.Mixed))) }
     ensures unchanged { OnErr result (room.new ≡ room.old) }
 {
-    let named = NamedPairs(pairs);
-    if let Some(error) = pairs_refusal(alloc, &named) {
-        return Err(error);
-    }
-    let form = PlainForm {
+    let reading = Reading {
         no_backslash_escape,
+        wide_names: false,
     };
-    let mut first = [NO_PLACE; KEPT_PLACES];
-    let surveyed = SurveyedQuery::new(query, no_backslash_escape, &mut first);
-    let params = BorrowedParams::Pairs(&named);
-    Ok(bind_surveyed_into(alloc, &surveyed, params, &form, room)?)
+    bind_pairs_into_in(alloc, query, pairs, reading, room)
 }
 
 /// [`bind_values`] into a room: the text is written to its front, without a vector for it, or its
@@ -138,11 +133,94 @@ pub fn bind_values_into(
         HasName ts × HasMark ts → IsErrOf result BindError.Mixed) }
     ensures unchanged { OnErr result (room.new ≡ room.old) }
 {
-    let form = PlainForm {
+    let reading = Reading {
         no_backslash_escape,
+        wide_names: false,
+    };
+    bind_values_into_in(alloc, query, values, reading, room)
+}
+
+/// [`bind_pairs`] of a query in any reading, lent to the crates above.
+pub fn bind_pairs_in(
+    alloc: Global,
+    query: &[u8],
+    pairs: &[(&[u8], ValueRef<'_>)],
+    reading: Reading,
+) -> Result<Vec<u8>, BindPairsError>
+    ensures bound { IfOk result (λ text. OfPairs pairs.now (λ given.
+        OnTokensIn reading query.now (λ ts.
+        IsBoundText reading.no_backslash_escape ts given text.items))) }
+    ensures refused { IfErr result (IsPairsRefusalIn reading query.now pairs.now) }
+    ensures bound_again { IfOk result (λ text.
+        IsSameBoundAgain reading.no_backslash_escape text.items) }
+    ensures by_position { IfOk result (λ text. OfPairs pairs.now (λ given.
+        OnTokensIn reading query.now (λ ts.
+        IsSameByPosition reading.no_backslash_escape ts given text.items))) }
+    ensures mixed { IfFewPairs pairs.now (λ given. OnTokensIn reading query.now (λ ts.
+        HasName ts × HasMark ts → IsErrOf result (BindPairsError.Bind BindError.Mixed))) }
+{
+    let named = NamedPairs(pairs);
+    if let Some(error) = pairs_refusal(alloc, &named) {
+        return Err(error);
+    }
+    let params = BorrowedParams::Pairs(&named);
+    Ok(bind_borrowed_in(alloc, query, params, reading)?)
+}
+
+/// [`bind_pairs_into`] of a query in any reading, lent to the crates above.
+pub fn bind_pairs_into_in(
+    alloc: Global,
+    query: &[u8],
+    pairs: &[(&[u8], ValueRef<'_>)],
+    reading: Reading,
+    room: &mut [u8],
+) -> Result<TextInRoom, BindPairsError>
+    ensures bound { IfOk result (λ told. OfPairs pairs.now (λ given.
+        OnTokensIn reading query.now (λ ts. IsTextInRoom
+        (IsBoundText reading.no_backslash_escape ts given)
+        (HasTextOf (IsBoundText reading.no_backslash_escape ts given)) room.old room.new told))) }
+    ensures refused { IfErr result (IsPairsRefusalIn reading query.now pairs.now) }
+    ensures mixed { IfFewPairs pairs.now (λ given. OnTokensIn reading query.now (λ ts.
+        HasName ts × HasMark ts → IsErrOf result (BindPairsError.Bind BindError.Mixed))) }
+    ensures unchanged { OnErr result (room.new ≡ room.old) }
+{
+    let named = NamedPairs(pairs);
+    if let Some(error) = pairs_refusal(alloc, &named) {
+        return Err(error);
+    }
+    let form = PlainForm {
+        no_backslash_escape: reading.no_backslash_escape,
     };
     let mut first = [NO_PLACE; KEPT_PLACES];
-    let surveyed = SurveyedQuery::new(query, no_backslash_escape, &mut first);
+    let surveyed = SurveyedQuery::new(query, reading, &mut first);
+    let params = BorrowedParams::Pairs(&named);
+    Ok(bind_surveyed_into(alloc, &surveyed, params, &form, room)?)
+}
+
+/// [`bind_values_into`] of a query in any reading, lent to the crates above.
+pub fn bind_values_into_in(
+    alloc: Global,
+    query: &[u8],
+    values: &[ValueRef<'_>],
+    reading: Reading,
+    room: &mut [u8],
+) -> Result<TextInRoom, BindError>
+    ensures bound { OnTokensIn reading query.now (λ ts. IfOk result (IsTextInRoom
+        (IsBoundText reading.no_backslash_escape ts (positional (owned_values values.now)))
+        (HasTextOf
+        (IsBoundText reading.no_backslash_escape ts (positional (owned_values values.now))))
+        room.old room.new)) }
+    ensures refused { OnTokensIn reading query.now (λ ts. IfErr result
+        (IsCauseOrMemory (first_cause ts (positional (owned_values values.now))))) }
+    ensures mixed { OnTokensIn reading query.now (λ ts.
+        HasName ts × HasMark ts → IsErrOf result BindError.Mixed) }
+    ensures unchanged { OnErr result (room.new ≡ room.old) }
+{
+    let form = PlainForm {
+        no_backslash_escape: reading.no_backslash_escape,
+    };
+    let mut first = [NO_PLACE; KEPT_PLACES];
+    let surveyed = SurveyedQuery::new(query, reading, &mut first);
     let params = BorrowedParams::Values(values);
     bind_surveyed_into(alloc, &surveyed, params, &form, room)
 }
@@ -152,8 +230,8 @@ pub fn bind_values_into(
 pub(super) fn pairs_refusal(alloc: Global, pairs: &NamedPairs<'_>) -> Option<BindPairsError>
     ensures none { result ≡ None →
         pairs_made (map seen_pair pairs.now.0.now) ≡ Ok (named (pair_map pairs.now.0.now)) }
-    ensures some { IfSome result (λ error. (mode : Bool) (query : List ℕ) →
-        IsPairsRefusal mode query pairs.now.0.now error) }
+    ensures some { IfSome result (λ error. (reading : Reading) (query : List ℕ) →
+        IsPairsRefusalIn reading query pairs.now.0.now error) }
     ensures few { IfSome result (λ error. IfFewPairs pairs.now.0.now (λ given. ⊥)) }
 {
     match pairs.first_redefined(alloc) {

@@ -1,41 +1,35 @@
 //! Queries that are parsed once and bound many times.
-ghost use Rattle.std.specs.Prelude.{◌≡◌, ◌≢◌, ◌↔◌, None, IfErr, IfOk, IsErrOf, IsTrue, OnErr, OnOk, alloc_error};
+ghost use Rattle.std.specs.Prelude.{◌≡◌, ◌≢◌, ◌↔◌, None, IfErr, IfOk, IsErrOf, IsTrue, OnErr, alloc_error};
 ghost use Rattle.std.specs.Cmp.{partial_equiv_from_equiv};
 ghost use Rattle.mysql_sql_text.specs.StringUnits.{with_backslashes};
 ghost use Rattle.mysql_named_params.specs.NamedParamsErrors.{mixed};
 ghost use Rattle.mysql_named_params.specs.Tokens.{OnTokens};
+ghost use Rattle.mysql_named_params.specs.Reading.{grammar_reading};
 ghost use Rattle.mysql_named_params.specs.Places.{HasName, HasMark, marks, names, place_count};
 ghost use Rattle.mysql_portable.specs.Portable.{IsPortable};
 ghost use Rattle.mysql_portable.specs.FirstUnportable.{first_unportable};
-ghost use Rattle.mysql_params_core.specs.Given.{Given, given};
+ghost use Rattle.mysql_params_core.specs.Given.{given};
 ghost use Rattle.mysql_params_core.specs.Referents.{referents};
-ghost use Rattle.mysql_binding.specs.AppendedText.{AreFound, IsAppended};
 ghost use Rattle.mysql_binding.specs.BindErrors.{IsCauseOrMemory};
 ghost use Rattle.mysql_binding.specs.BoundAgain.{IsSameBoundAgain, IsSameByPosition};
 ghost use Rattle.mysql_binding.specs.FirstCause.{first_cause};
 ghost use Rattle.mysql_binding.specs.FoundPlaces.{found_places};
 ghost use Rattle.mysql_binding.specs.Isolation.{IsBoundText};
-ghost use Rattle.mysql_binding.specs.ParsedQuery.{AreParsed, same_query};
+ghost use Rattle.mysql_binding.specs.ParsedQuery.{same_query};
 ghost use Rattle.mysql_binding.specs.SameQuery.{same_query_is_equivalence};
 ghost use Rattle.mysql_binding.specs.Survey.{IsSurvey};
-ghost use Rattle.mysql_values.specs.BorrowedValue.{owned_values};
 
 mod pairs;
 
 use crate::bind_error::BindError;
-use crate::binding::form::LiteralForm;
-use crate::binding::found::all_places;
-use crate::binding::names::query_names;
-use crate::binding::survey::{Survey, SurveyedQuery};
-use crate::binding::text::append_measured;
-use crate::binding::{KEPT_PLACES, NO_PLACE, bind_surveyed, measured_values};
-use mysql_named_params::named_params::{MixedParamsError, NamedParamsError};
-use mysql_named_params::places::FoundPlace;
+use crate::binding::bind_surveyed;
+use crate::binding::found_query::FoundQuery;
+use crate::binding::survey::SurveyedQuery;
+use mysql_named_params::named_params::NamedParamsError;
+use mysql_named_params::places::Reading;
 use mysql_params_core::params::Params;
 use mysql_portable::portable::{Unportable, first_unportable};
-use mysql_values::value::ValueRef;
 use std::alloc::{AllocError, Global};
-use std::borrow::CowSlice;
 use std::marker::Model;
 
 /// A query whose places were found, to be bound many times.
@@ -44,25 +38,22 @@ use std::marker::Model;
 /// changes nothing, so many threads can do so at once.
 #[derive(Debug, Drop)]
 pub struct ParsedQuery<'q> {
-    query: CowSlice<'q, u8>,
-    no_backslash_escape: bool,
-    survey: Survey,
-    places: Vec<FoundPlace>,
+    found: FoundQuery<'q>,
 }
 
 impl<'q> Model for ParsedQuery<'q> {
+    ghost use Rattle.std.specs.Prelude.{◌≡◌, false};
     ghost use Rattle.std.specs.Cow.{cow_slice_items};
-    ghost use Rattle.mysql_binding.specs.ParsedQuery.{QueryInMode, AreParsed};
+    ghost use Rattle.mysql_binding.specs.ParsedQuery.{QueryInMode};
 
     ghost Value = { QueryInMode };
 
     ghost view = { λ p. record {
-      mode = p.no_backslash_escape;
-      query = cow_slice_items p.query;
+      mode = p.found.reading.no_backslash_escape;
+      query = cow_slice_items p.found.query;
     } };
 
-    ghost invariant = { λ p.
-        AreParsed p.survey p.places.items p.no_backslash_escape (cow_slice_items p.query) };
+    ghost invariant = { λ p. p.found.reading.wide_names ≡ false };
 }
 
 impl<'q> ParsedQuery<'q> {
@@ -81,13 +72,12 @@ impl<'q> ParsedQuery<'q> {
         ensures memory { OnErr result (OnTokens no_backslash_escape query.now (λ ts.
             place_count ts ≢ 0)) }
     {
-        let (survey, places) = survey_and_places(alloc, query, no_backslash_escape)?;
-        Ok(ParsedQuery {
-            query: CowSlice::Borrowed(query),
+        let reading = Reading {
             no_backslash_escape,
-            survey,
-            places,
-        })
+            wide_names: false,
+        };
+        let found = FoundQuery::parse(alloc, query, reading)?;
+        Ok(ParsedQuery { found })
     }
 
     /// Finds the names and marks of a query in the mode in which a backslash escapes:
@@ -109,12 +99,8 @@ impl<'q> ParsedQuery<'q> {
     pub fn into_owned(self, alloc: Global) -> Result<ParsedQuery<'static>, AllocError>
         ensures { IfOk result (λ p. p ≡ self.entry) }
     {
-        Ok(ParsedQuery {
-            query: CowSlice::Owned(self.query.into_owned(alloc)?),
-            no_backslash_escape: self.no_backslash_escape,
-            survey: self.survey,
-            places: self.places,
-        })
+        let found = self.found.into_owned(alloc)?;
+        Ok(ParsedQuery { found })
     }
 
     /// A copy, on the allocator that the places hold. It is borrowed as before, or owns a copy of
@@ -122,17 +108,8 @@ impl<'q> ParsedQuery<'q> {
     pub fn clone(&self) -> Result<ParsedQuery<'q>, AllocError>
         ensures { IfOk result (λ copy. copy ≡ self.now) }
     {
-        let alloc = *self.places.allocator();
-        let query = match &self.query {
-            CowSlice::Borrowed(query) => CowSlice::Borrowed(*query),
-            CowSlice::Owned(query) => { CowSlice::Owned(Vec::from_slice(alloc, query.as_slice())?) }
-        };
-        Ok(ParsedQuery {
-            query,
-            no_backslash_escape: self.no_backslash_escape,
-            survey: self.survey,
-            places: Vec::from_slice(alloc, self.places.as_slice())?,
-        })
+        let found = self.found.clone()?;
+        Ok(ParsedQuery { found })
     }
 
     /// The query with the literal of a value in the place of each name and mark, exactly as
@@ -157,14 +134,14 @@ impl<'q> ParsedQuery<'q> {
     pub fn query(&self) -> &[u8]
         ensures { result.now ≡ self.now.query }
     {
-        self.query.as_slice()
+        self.found.query.as_slice()
     }
 
     /// The mode in which the query is read.
     pub fn no_backslash_escape(&self) -> bool
         ensures { result ≡ self.now.mode }
     {
-        self.no_backslash_escape
+        self.found.reading.no_backslash_escape
     }
 
     /// The names without the colon, in the order of the query, with repeats: slices of it. Beside
@@ -181,17 +158,14 @@ impl<'q> ParsedQuery<'q> {
         ensures memory { OnTokens self.now.mode self.now.query (λ ts.
             IsErrOf result (NamedParamsError.Memory alloc_error) → HasName ts × (marks ts ≡ 0)) }
     {
-        if self.survey.names > 0 && self.survey.marks > 0 {
-            return Err(NamedParamsError::Mixed(MixedParamsError));
-        }
-        query_names(alloc, &self.surveyed()).map_err(NamedParamsError::Memory)
+        self.found.names(alloc)
     }
 
     /// The number of the query's marks.
     pub fn marks(&self) -> usize
         ensures { OnTokens self.now.mode self.now.query (λ ts. result ≡ marks ts) }
     {
-        self.survey.marks
+        self.found.survey.marks
     }
 
     /// The first construct for which the query isn't portable. This walks the query: the walk for
@@ -202,24 +176,19 @@ impl<'q> ParsedQuery<'q> {
         ensures none { OnTokens self.now.mode self.now.query (λ ts.
             (result ≡ None) ↔ IsPortable ts) }
     {
-        first_unportable(self.query.as_slice(), self.no_backslash_escape)
+        first_unportable(self.query(), self.no_backslash_escape())
     }
 
     /// The query with its survey and all of its places. It is lent to the crates above; no user
     /// needs it.
     pub fn surveyed(&self) -> SurveyedQuery<'_>
         ensures query { result.query.now ≡ self.now.query }
-        ensures mode { result.no_backslash_escape ≡ self.now.mode }
+        ensures reading { result.reading ≡ grammar_reading self.now.mode }
         ensures places { OnTokens self.now.mode self.now.query (λ ts.
             result.known.now ≡ found_places ts) }
         ensures survey { OnTokens self.now.mode self.now.query (IsSurvey result.survey) }
     {
-        SurveyedQuery {
-            query: self.query.as_slice(),
-            no_backslash_escape: self.no_backslash_escape,
-            survey: self.survey,
-            known: self.places.as_slice(),
-        }
+        self.found.surveyed()
     }
 }
 
@@ -232,55 +201,11 @@ impl<'q> PartialEq for ParsedQuery<'q> {
         ensures test { result ≡ same_query self.now other.now }
         ensures equal { IsTrue result ↔ (self.now ≡ other.now) }
     {
-        self.no_backslash_escape == other.no_backslash_escape && self.query == other.query
+        self.found.reading.no_backslash_escape == other.found.reading.no_backslash_escape
+            && self.found.query == other.found.query
     }
 }
 
 impl<'q> Eq for ParsedQuery<'q> {
     ghost laws = { same_query_is_equivalence };
-}
-
-/// Writes the text of a parsed query with these values, which are looked up, to the end of another
-/// text, in any form of literals. It refuses what [`bind_borrowed_as`](crate::bind_borrowed_as)
-/// refuses once the values are looked up, and then the text stays as it is. It is lent to the
-/// crates above: of many texts of one query none needs a map of values.
-pub fn append_parsed<F: LiteralForm>(
-    alloc: Global,
-    query: &ParsedQuery<'_>,
-    values: Vec<ValueRef<'_>>,
-    form: &F,
-    text: &mut Vec<u8>,
-) -> Result<(), BindError>
-    requires { (given : Given) × OnTokens query.now.mode query.now.query
-        (AreFound given (owned_values values.items)) }
-    ensures appended { OnOk result (IsAppended (F.literal form.now) (F.IsKnown form.now)
-        query.now.mode query.now.query (owned_values values.entry.items)
-        text.old.items text.new.items) }
-    ensures refused { IfErr result (λ error. (given : Given) →
-        OnTokens query.now.mode query.now.query
-        (AreFound given (owned_values values.entry.items)) →
-        OnTokens query.now.mode query.now.query (λ ts.
-        IsCauseOrMemory (first_cause ts given) error)) }
-    ensures kept { OnErr result (text.new.items ≡ text.old.items) }
-{
-    let surveyed = query.surveyed();
-    let measured = measured_values(alloc, surveyed.survey, values, form)?;
-    Ok(append_measured(&surveyed, &measured, form, text)?)
-}
-
-// The survey and the places of a query.
-fn survey_and_places(
-    alloc: Global,
-    query: &[u8],
-    no_backslash_escape: bool,
-) -> Result<(Survey, Vec<FoundPlace>), AllocError>
-    ensures parsed { IfOk result (λ found.
-        AreParsed found.0 found.1.items no_backslash_escape query.now) }
-    ensures memory { OnErr result (OnTokens no_backslash_escape query.now (λ ts.
-        place_count ts ≢ 0)) }
-{
-    let mut first = [NO_PLACE; KEPT_PLACES];
-    let surveyed = SurveyedQuery::new(query, no_backslash_escape, &mut first);
-    let places = all_places(alloc, &surveyed)?;
-    Ok((surveyed.survey, places))
 }

@@ -1,5 +1,6 @@
 //! Queries whose places are given by plain numbers that fit together.
-ghost use Rattle.std.specs.Prelude.{◌≡◌, ◌↔◌, ◌+◌, Bool, None, length, take, IfSome, IsSome};
+ghost use Rattle.std.specs.Prelude.{◌≡◌, ◌↔◌, ◌+◌, None, length, take, IfSome, IsSome};
+ghost use Rattle.mysql_named_params.specs.declared.places.Reading.{Reading};
 ghost use Rattle.mysql_binding.specs.PlaceSpans.{AreSpansOf, FitIn, FitIn-prop, FitSurvey, outside_len};
 
 use crate::binding::spans::PlaceSpan;
@@ -30,7 +31,8 @@ impl<'q> SpannedQuery<'q> {
         spans: &'q [PlaceSpan],
     ) -> Option<SpannedQuery<'q>>
         ensures fit { IsSome result ↔ FitSurvey survey spans.now query.now }
-        ensures own { (mode : Bool) → AreSpansOf survey spans.now mode query.now → IsSome result }
+        ensures own { (reading : Reading) →
+            AreSpansOf survey spans.now reading query.now → IsSome result }
         ensures query { IfSome result (λ spanned. spanned.query.now ≡ query.now) }
         ensures survey { IfSome result (λ spanned. spanned.survey ≡ survey) }
         ensures spans { IfSome result (λ spanned. spanned.spans.now ≡ spans.now) }

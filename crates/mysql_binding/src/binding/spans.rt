@@ -1,7 +1,8 @@
 //! Where the places of a query stand, as plain numbers that a caller keeps, and binding by them
 //! without a walk of the query.
-ghost use Rattle.std.specs.Prelude.{◌≡◌, ◌+◌, ◌<◌, ◌≤◌, Bool, Ok, length, map, take, drop, IfErr, IfOk, IfSome, IsErrOf, OnErr, OnOk};
-ghost use Rattle.mysql_named_params.specs.Tokens.{OnTokens};
+ghost use Rattle.std.specs.Prelude.{◌≡◌, ◌+◌, ◌<◌, ◌≤◌, Ok, length, map, take, drop, IfErr, IfOk, IfSome, IsErrOf, OnErr, OnOk};
+ghost use Rattle.mysql_named_params.specs.Reading.{OnTokensIn};
+ghost use Rattle.mysql_named_params.specs.declared.places.Reading.{Reading};
 ghost use Rattle.mysql_named_params.specs.Places.{HasMark, HasName};
 ghost use Rattle.mysql_params_core.specs.Given.{named};
 ghost use Rattle.mysql_params_core.specs.GivenBorrowed.{given_by_borrowed};
@@ -87,8 +88,8 @@ fn write_spans(places: &[FoundPlace], room: &mut [PlaceSpan])
 }
 
 /// [`bind_surveyed_into`](crate::bind_surveyed_into) by the spans of a query's places, lent to the
-/// crate above: the text, or the refusal, of the query in the mode that has this survey and these
-/// spans. No byte of the query is looked at; only those outside of its places are copied.
+/// crate above: the text, or the refusal, of the query in the reading that has this survey and
+/// these spans. No byte of the query is looked at; only those outside of its places are copied.
 ///
 /// With a survey, or spans, that aren't the query's, any text or refusal may come, but nothing is
 /// written behind the text, and after a refusal the room is as before. A missing name, or values of
@@ -100,16 +101,16 @@ pub fn bind_spans_into<F: LiteralForm>(
     form: &F,
     room: &mut [u8],
 ) -> Result<TextInRoom, BindError>
-    ensures text { (mode : Bool) → HasOwnSpans spanned.now mode →
-        OnTokens mode spanned.now.query.now (λ ts. IfOk result (IsTextInRoom
+    ensures text { (reading : Reading) → HasOwnSpans spanned.now reading →
+        OnTokensIn reading spanned.now.query.now (λ ts. IfOk result (IsTextInRoom
         (IsGivenText (F.literal form.now) (F.IsKnown form.now) ts (given_by_borrowed params.entry))
         (HasGivenLength (F.literal form.now) ts (given_by_borrowed params.entry))
         room.old room.new)) }
-    ensures refused { (mode : Bool) → HasOwnSpans spanned.now mode →
-        OnTokens mode spanned.now.query.now (λ ts. IfErr result
+    ensures refused { (reading : Reading) → HasOwnSpans spanned.now reading →
+        OnTokensIn reading spanned.now.query.now (λ ts. IfErr result
         (IsCauseOrMemory (first_cause ts (given_by_borrowed params.entry)))) }
-    ensures mixed { (mode : Bool) → HasOwnSpans spanned.now mode →
-        OnTokens mode spanned.now.query.now (λ ts.
+    ensures mixed { (reading : Reading) → HasOwnSpans spanned.now reading →
+        OnTokensIn reading spanned.now.query.now (λ ts.
         HasName ts × HasMark ts → IsErrOf result BindError.Mixed) }
     ensures lookup { IfErr result (RefusesNames spanned.now (given_by_borrowed params.entry)) }
     ensures in_room { IfOk result (StaysInRoom room.old room.new) }
@@ -133,14 +134,14 @@ fn measured_spans<'p, F: LiteralForm>(
 ) -> Result<MeasuredText<'p>, BindError>
     ensures ready { IfOk result
         (IsReady (F.literal form.now) spanned.now.spans.now spanned.now.query.now) }
-    ensures measured { (mode : Bool) → HasOwnSpans spanned.now mode →
-        OnTokens mode spanned.now.query.now (λ ts. IfOk result
+    ensures measured { (reading : Reading) → HasOwnSpans spanned.now reading →
+        OnTokensIn reading spanned.now.query.now (λ ts. IfOk result
         (IsMeasured (F.literal form.now) ts (given_by_borrowed params.entry))) }
-    ensures refused { (mode : Bool) → HasOwnSpans spanned.now mode →
-        OnTokens mode spanned.now.query.now (λ ts. IfErr result
+    ensures refused { (reading : Reading) → HasOwnSpans spanned.now reading →
+        OnTokensIn reading spanned.now.query.now (λ ts. IfErr result
         (IsCauseOrMemory (first_cause ts (given_by_borrowed params.entry)))) }
-    ensures mixed { (mode : Bool) → HasOwnSpans spanned.now mode →
-        OnTokens mode spanned.now.query.now (λ ts.
+    ensures mixed { (reading : Reading) → HasOwnSpans spanned.now reading →
+        OnTokensIn reading spanned.now.query.now (λ ts.
         HasName ts × HasMark ts → IsErrOf result BindError.Mixed) }
     ensures lookup { IfErr result (RefusesNames spanned.now (given_by_borrowed params.entry)) }
 {

@@ -1,46 +1,42 @@
 //! What is known of a query and its places before values are looked up, found in one walk that
 //! allocates nothing; and the bytes that may stand beside a place.
 ghost use Rattle.std.specs.Prelude.{◌≡◌, ◌+◌, ◌≤◌, length, take, None, Some, drop, if◌then◌else◌};
-ghost use Rattle.mysql_named_params.specs.Tokens.{OnTokens};
+ghost use Rattle.mysql_named_params.specs.Reading.{OnTokensIn};
 ghost use Rattle.mysql_binding.specs.FoundPlaces.{AreFirstPlaces, found_places};
 ghost use Rattle.mysql_binding.specs.Survey.{IsSurvey, IsSurveyOf};
 ghost use Rattle.mysql_binding.specs.StandsAlone.{stands_alone, may_stand_before, may_stand_after, none_or_first, none_or_last};
 
-use mysql_named_params::places::{FoundPlace, PlaceKind, first_place};
+use mysql_named_params::places::{FoundPlace, PlaceKind, Reading, first_place_in};
 
-/// A query, the mode in which it is read, and what one walk found out of its places. It is lent to
-/// the crates above; no user needs it.
+/// A query, how it is read, and what one walk found out of its places. It is lent to the crates
+/// above; no user needs it.
 #[derive(Clone, Copy, Debug)]
 pub struct SurveyedQuery<'q> {
     /// The query.
     pub query: &'q [u8],
-    /// The mode in which the query is read.
-    pub no_backslash_escape: bool,
+    /// How the query is read.
+    pub reading: Reading,
     /// How many places it has, and the first that doesn't stand alone.
     pub survey: Survey,
     /// Its first places, as many as were kept.
     pub known: &'q [FoundPlace],
-    pub ghost surveyed: { IsSurveyOf no_backslash_escape query.now survey },
+    pub ghost surveyed: { IsSurveyOf reading query.now survey },
     pub ghost in_query: { survey.names + survey.marks ≤ length query.now },
-    pub ghost first: { AreFirstPlaces no_backslash_escape query.now known.now },
+    pub ghost first: { AreFirstPlaces reading query.now known.now },
 }
 
 impl<'q> SurveyedQuery<'q> {
-    /// Surveys a query in a mode, and keeps as many of its first places as there is room for.
-    pub fn new(
-        query: &'q [u8],
-        no_backslash_escape: bool,
-        room: &'q mut [FoundPlace],
-    ) -> SurveyedQuery<'q>
+    /// Surveys a query in a reading, and keeps as many of its first places as there is room for.
+    pub fn new(query: &'q [u8], reading: Reading, room: &'q mut [FoundPlace]) -> SurveyedQuery<'q>
         ensures query { result.query.now ≡ query.now }
-        ensures mode { result.no_backslash_escape ≡ no_backslash_escape }
-        ensures known { OnTokens no_backslash_escape query.now (λ ts.
+        ensures reading { result.reading ≡ reading }
+        ensures known { OnTokensIn reading query.now (λ ts.
             result.known.now ≡ take (length room.old) (found_places ts)) }
     {
-        let (survey, kept) = place_survey(query, room, no_backslash_escape);
+        let (survey, kept) = place_survey(query, room, reading);
         SurveyedQuery {
             query,
-            no_backslash_escape,
+            reading,
             survey,
             known: &room[..kept],
         }
@@ -49,22 +45,21 @@ impl<'q> SurveyedQuery<'q> {
     /// What the walk found out of its places.
     pub fn survey(&self) -> Survey
         ensures same { result ≡ self.now.survey }
-        ensures survey { OnTokens self.now.no_backslash_escape self.now.query.now
-            (IsSurvey result) }
+        ensures survey { OnTokensIn self.now.reading self.now.query.now (IsSurvey result) }
     {
         self.survey
     }
 
     /// The same query, with these as its first places.
     pub fn with_places<'p>(&'p self, places: &'p [FoundPlace]) -> SurveyedQuery<'p>
-        requires { AreFirstPlaces self.now.no_backslash_escape self.now.query.now places.now }
+        requires { AreFirstPlaces self.now.reading self.now.query.now places.now }
         ensures query { result.query.now ≡ self.now.query.now }
-        ensures mode { result.no_backslash_escape ≡ self.now.no_backslash_escape }
+        ensures reading { result.reading ≡ self.now.reading }
         ensures known { result.known.now ≡ places.now }
     {
         SurveyedQuery {
             query: self.query,
-            no_backslash_escape: self.no_backslash_escape,
+            reading: self.reading,
             survey: self.survey,
             known: places,
         }
@@ -85,14 +80,10 @@ pub struct Survey {
 }
 
 /// The survey of a query, and how many of its first places were kept: as many as there is room for.
-pub fn place_survey(
-    query: &[u8],
-    first: &mut [FoundPlace],
-    no_backslash_escape: bool,
-) -> (Survey, usize)
-    ensures survey { OnTokens no_backslash_escape query.now (IsSurvey result.0) }
+pub fn place_survey(query: &[u8], first: &mut [FoundPlace], reading: Reading) -> (Survey, usize)
+    ensures survey { OnTokensIn reading query.now (IsSurvey result.0) }
     ensures in_query { result.0.names + result.0.marks ≤ length query.now }
-    ensures kept { OnTokens no_backslash_escape query.now (λ ts.
+    ensures kept { OnTokensIn reading query.now (λ ts.
         take result.1 first.new ≡ take (length first.new) (found_places ts)) }
     ensures in_room { result.1 ≤ length first.new }
 {
@@ -102,7 +93,7 @@ pub fn place_survey(
     let mut piece_bytes = 0;
     let mut kept = 0;
     let mut at = 0;
-    while let Some(found) = first_place(&query[at..], no_backslash_escape) {
+    while let Some(found) = first_place_in(&query[at..], reading) {
         let start = at + found.before;
         let end = start + found.len;
         let here = not_alone_at(query, names + marks, start, end);

@@ -1,19 +1,23 @@
 //! The text of a query with the literals of values in its places: a slice of exactly its length.
-ghost use Rattle.std.specs.Prelude.{◌≡◌, ◌+◌, ◌++◌, ◌≤◌, ℕ, List, None, IfOk, OnOk, OnErr, length, map, take};
+ghost use Rattle.std.specs.Prelude.{◌≡◌, ◌+◌, ◌++◌, ◌≤◌, ℕ, List, None, IfErr, IfOk, OnOk, OnErr, length, map, take};
 ghost use Rattle.std.specs.List.{sum};
 ghost use Rattle.mysql_named_params.specs.Places.{place_count};
 ghost use Rattle.mysql_params_core.specs.Given.{Given};
 ghost use Rattle.mysql_values.specs.BorrowedValue.{owned_values};
-ghost use Rattle.mysql_binding.specs.FirstCause.{first_float};
+ghost use Rattle.mysql_binding.specs.AppendedText.{AreFound, IsAppended};
+ghost use Rattle.mysql_binding.specs.BindErrors.{IsCauseOrMemory};
+ghost use Rattle.mysql_binding.specs.FirstCause.{first_cause, first_float};
 ghost use Rattle.mysql_binding.specs.LiteralForm.{literal_len};
 ghost use Rattle.mysql_binding.specs.MeasuredText.{IsMeasured};
 ghost use Rattle.mysql_binding.specs.SurveyedQuery.{OnSurveyed};
 ghost use Rattle.mysql_binding.specs.TextLength.{pieces_len};
 ghost use Rattle.mysql_binding.specs.WrittenText.{IsGivenText, IsWrittenText};
 
+use crate::bind_error::BindError;
 use crate::binding::form::LiteralForm;
 use crate::binding::found::place_after;
 use crate::binding::literals::{MeasuredText, append_literal};
+use crate::binding::measured_values;
 use crate::binding::survey::SurveyedQuery;
 use mysql_values::value::ValueRef;
 use std::alloc::{AllocError, Global};
@@ -88,6 +92,32 @@ pub(super) fn append_measured<F: LiteralForm>(
     Ok(())
 }
 
+/// Writes the text of a query that is surveyed with these values, which are looked up, to the end
+/// of another text, in any form of literals. It refuses what
+/// [`bind_surveyed_as`](crate::bind_surveyed_as) refuses once the values are looked up, and then
+/// the text stays as it is. It is lent to the crates above: of many texts of one query none needs a
+/// map of values.
+pub fn append_surveyed<F: LiteralForm>(
+    alloc: Global,
+    surveyed: &SurveyedQuery<'_>,
+    values: Vec<ValueRef<'_>>,
+    form: &F,
+    text: &mut Vec<u8>,
+) -> Result<(), BindError>
+    requires { (given : Given) × OnSurveyed surveyed.now
+        (AreFound given (owned_values values.items)) }
+    ensures appended { OnOk result (IsAppended (F.literal form.now) (F.IsKnown form.now)
+        surveyed.now.reading surveyed.now.query.now (owned_values values.entry.items)
+        text.old.items text.new.items) }
+    ensures refused { IfErr result (λ error. (given : Given) →
+        OnSurveyed surveyed.now (AreFound given (owned_values values.entry.items)) →
+        OnSurveyed surveyed.now (λ ts. IsCauseOrMemory (first_cause ts given) error)) }
+    ensures kept { OnErr result (text.new.items ≡ text.old.items) }
+{
+    let measured = measured_values(alloc, surveyed.survey, values, form)?;
+    Ok(append_measured(surveyed, &measured, form, text)?)
+}
+
 // Writes the text of a query that is measured into another from this index on, and returns the
 // index after it. What stands before it is kept.
 fn fill_after<F: LiteralForm>(
@@ -132,11 +162,10 @@ fn fill_text<F: LiteralForm>(
         IsWrittenText (F.literal form.now) (F.IsKnown form.now) ts (owned_values values.now)
         text.new) }
 {
-    let mode = surveyed.no_backslash_escape;
     let mut rest = surveyed.query;
     let mut at = 0;
     for (i, value) in values.iter().enumerate() {
-        let Some(found) = place_after(surveyed.known, i, rest, mode) else {
+        let Some(found) = place_after(surveyed.known, i, rest, surveyed.reading) else {
             unreachable!()
         };
         let (piece, _, after) = found.cut(rest);

@@ -1,5 +1,7 @@
 use Rattle.std.proofs.Common.{◌+◌, ℕ, List, arith, drop, rules, subst, sym}
-use Rattle.mysql_named_params.specs.Tokens.{OnTokens}
+use Rattle.mysql_named_params.specs.FirstPlace.{IsFirstPlace}
+use Rattle.mysql_named_params.specs.Reading.{OnTokensIn}
+use Rattle.mysql_named_params.specs.declared.places.Reading.{Reading}
 use Rattle.mysql_binding.specs.FoundPlaces.{BeginWithPlaces}
 use Rattle.mysql_binding.proofs.SurveyedQueryLemmas.{begin_with}
 use Rattle.mysql_bind_core.proofs.QueryEndLemmas.{passed_none, passed_more, passed_place, ends_with_place, last_end, end_alone, first_is_whole}
@@ -23,10 +25,12 @@ returns c = end_alone _ _ _ c.tokens.invariant (search rules)
 
 pub returns-then-is_empty : goal.returns-then-is_empty
 returns-then-is_empty c =
-    ends_with_place _ _ _ _ _ c.places.invariant.0 c.in-Some.ensures.place c.cut.ensures.after (search rules)
+    ends_with_place _ _ _ _ _ c.places.invariant.0
+    (subst (λ (r : Reading). OnTokensIn r c.places.rest.now (λ us. IsFirstPlace us c.in-Some.found)) c.requires c.in-Some.ensures.place) c.cut.ensures.after (search rules)
 
 pub places-preserved : goal.places-preserved
 places-preserved c = (
-  passed_place _ _ _ _ _ c.places.invariant.0 c.in-Some.ensures.place c.cut.ensures.after (search rules),
-  subst (λ (x : List ℕ). OnTokens c.args.surveyed.now.no_backslash_escape x (BeginWithPlaces (drop (c.places.passed + 1) c.args.surveyed.now.known.now))) (sym c.cut.ensures.after) c.in-Some.ensures.next,
+  passed_place _ _ _ _ _ c.places.invariant.0
+      (subst (λ (r : Reading). OnTokensIn r c.places.rest.now (λ us. IsFirstPlace us c.in-Some.found)) c.requires c.in-Some.ensures.place) c.cut.ensures.after (search rules),
+  subst (λ (x : List ℕ). OnTokensIn c.args.surveyed.now.reading x (BeginWithPlaces (drop (c.places.passed + 1) c.args.surveyed.now.known.now))) (sym c.cut.ensures.after) c.in-Some.ensures.next,
 )

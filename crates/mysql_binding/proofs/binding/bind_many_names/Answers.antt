@@ -25,4 +25,4 @@ returns-in_err-places-clause-mixed g c =
     (o.0, o.1, λ both. absurd (omega (arith, both.1, o.2.1, c.requires.no_marks)))
 
 pub returns-clause-refused : goal.returns-clause-refused
-returns-clause-refused g c = rw (c.with_places-surveyed.ensures.query, c.with_places-surveyed.ensures.mode) at c.bind_surveyed_as.ensures.refused
+returns-clause-refused g c = rw (c.with_places-surveyed.ensures.query, c.with_places-surveyed.ensures.reading) at c.bind_surveyed_as.ensures.refused

@@ -4,12 +4,12 @@ use Rattle.mysql_binding.proofs.binding.bind_surveyed.Goals as goal
 
 pub returns-clause-bound : goal.returns-clause-bound
 returns-clause-bound c =
-    answer_bound (λ text. text.items) c.args.surveyed.now.no_backslash_escape c.args.surveyed.now.query.now (given_by_borrowed c.args.params) c.bind_surveyed_as.result c.bind_surveyed_as.ensures.text
+    answer_bound (λ text. text.items) c.args.surveyed.now.reading c.args.surveyed.now.query.now (given_by_borrowed c.args.params) c.bind_surveyed_as.result c.bind_surveyed_as.ensures.text
 
 pub returns-clause-bound_again : goal.returns-clause-bound_again
 returns-clause-bound_again c =
-    answer_bound_again (λ text. text.items) c.args.surveyed.now.no_backslash_escape c.args.surveyed.now.query.now (given_by_borrowed c.args.params) c.bind_surveyed_as.result c.bind_surveyed_as.ensures.text
+    answer_bound_again (λ text. text.items) c.args.surveyed.now.reading c.args.surveyed.now.query.now (given_by_borrowed c.args.params) c.bind_surveyed_as.result c.bind_surveyed_as.ensures.text
 
 pub returns-clause-by_position : goal.returns-clause-by_position
 returns-clause-by_position c =
-    answer_by_position (λ text. text.items) c.args.surveyed.now.no_backslash_escape c.args.surveyed.now.query.now (given_by_borrowed c.args.params) c.bind_surveyed_as.result c.bind_surveyed_as.ensures.text
+    answer_by_position (λ text. text.items) c.args.surveyed.now.reading c.args.surveyed.now.query.now (given_by_borrowed c.args.params) c.bind_surveyed_as.result c.bind_surveyed_as.ensures.text

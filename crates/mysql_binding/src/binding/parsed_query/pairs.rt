@@ -3,7 +3,6 @@ ghost use Rattle.std.specs.Prelude.{◌≡◌, IfErr, IfOk, IsErrOf, OnErr, OnOk
 ghost use Rattle.mysql_named_params.specs.Tokens.{OnTokens};
 ghost use Rattle.mysql_named_params.specs.Places.{HasMark, HasName};
 ghost use Rattle.mysql_params_core.specs.Given.{positional};
-ghost use Rattle.mysql_params_core.specs.GivenBorrowed.{given_by_borrowed};
 ghost use Rattle.mysql_values.specs.BorrowedValue.{owned_values};
 ghost use Rattle.mysql_binding.specs.BindErrors.{IsCauseOrMemory};
 ghost use Rattle.mysql_binding.specs.BoundAgain.{IsSameBoundAgain, IsSameByPosition};
@@ -13,11 +12,9 @@ ghost use Rattle.mysql_binding.specs.Isolation.{IsBoundText};
 
 use crate::bind_error::BindError;
 use crate::bind_pairs_error::BindPairsError;
-use crate::binding::form::PlainForm;
+use crate::binding::bind_surveyed;
 use crate::binding::pairs::pairs_refusal;
 use crate::binding::parsed_query::ParsedQuery;
-use crate::binding::text::append_measured;
-use crate::binding::{bind_surveyed, measured_text};
 use mysql_params_core::params::{BorrowedParams, NamedPairs};
 use mysql_values::value::ValueRef;
 use std::alloc::Global;
@@ -93,7 +90,8 @@ impl<'q> ParsedQuery<'q> {
         if let Some(error) = pairs_refusal(alloc, &named) {
             return Err(error);
         }
-        Ok(self.append_borrowed(alloc, BorrowedParams::Pairs(&named), text)?)
+        let params = BorrowedParams::Pairs(&named);
+        Ok(self.found.append(alloc, params, text)?)
     }
 
     /// [`bind_values`](ParsedQuery::bind_values) to the end of another text. The bound text takes
@@ -112,29 +110,7 @@ impl<'q> ParsedQuery<'q> {
             HasName ts × HasMark ts → IsErrOf result BindError.Mixed) }
         ensures kept { OnErr result (text.new.items ≡ text.old.items) }
     {
-        self.append_borrowed(alloc, BorrowedParams::Values(values), text)
-    }
-
-    // The text of the query with borrowed parameters, to the end of another text.
-    fn append_borrowed(
-        &self,
-        alloc: Global,
-        params: BorrowedParams<'_, '_>,
-        text: &mut Vec<u8>,
-    ) -> Result<(), BindError>
-        ensures appended { OnOk result (IsBoundAfter self.now.mode self.now.query
-            (given_by_borrowed params.entry) text.old.items text.new.items) }
-        ensures refused { OnTokens self.now.mode self.now.query (λ ts. IfErr result
-            (IsCauseOrMemory (first_cause ts (given_by_borrowed params.entry)))) }
-        ensures mixed { OnTokens self.now.mode self.now.query (λ ts.
-            HasName ts × HasMark ts → IsErrOf result BindError.Mixed) }
-        ensures kept { OnErr result (text.new.items ≡ text.old.items) }
-    {
-        let surveyed = self.surveyed();
-        let form = PlainForm {
-            no_backslash_escape: surveyed.no_backslash_escape,
-        };
-        let measured = measured_text(alloc, &surveyed, params, &form)?;
-        Ok(append_measured(&surveyed, &measured, &form, text)?)
+        let params = BorrowedParams::Values(values);
+        self.found.append(alloc, params, text)
     }
 }

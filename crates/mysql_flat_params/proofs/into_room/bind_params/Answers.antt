@@ -1,6 +1,6 @@
 use Rattle.std.proofs.Common.{subst}
 use Rattle.std.specs.Prelude.{IfErr, IfOk}
-use Rattle.mysql_named_params.specs.Tokens.{OnTokens}
+use Rattle.mysql_named_params.specs.Reading.{OnTokensIn}
 use Rattle.mysql_params_core.specs.Given.{Given}
 use Rattle.mysql_params_core.specs.GivenBorrowed.{given_by_borrowed}
 use Rattle.mysql_binding.specs.BindErrors.{IsCauseOrMemory}
@@ -12,11 +12,11 @@ use Rattle.mysql_flat_params.proofs.into_room.bind_params.Goals as goal
 
 pub returns-clause-bound : goal.returns-clause-bound
 returns-clause-bound c =
-    subst (λ (g : Given). OnTokens c.args.no_backslash_escape c.args.query.now (λ ts. IfOk c.bind_surveyed_into.result (IsTextInRoom (IsBoundText c.args.no_backslash_escape ts g) (HasTextOf (IsBoundText c.args.no_backslash_escape ts g)) c.args.room.now c.bind_surveyed_into.new.room)))
+    subst (λ (g : Given). OnTokensIn c.args.reading c.args.query.now (λ ts. IfOk c.bind_surveyed_into.result (IsTextInRoom (IsBoundText c.args.reading.no_backslash_escape ts g) (HasTextOf (IsBoundText c.args.reading.no_backslash_escape ts g)) c.args.room.now c.bind_surveyed_into.new.room)))
     c.borrowed_params-borrowed.ensures
-    (bound_in_room c.args.no_backslash_escape c.args.query.now (given_by_borrowed c.borrowed_params-borrowed.result) c.args.room.now c.bind_surveyed_into.new.room c.bind_surveyed_into.result (rw (c.new-surveyed.ensures.query, c.new-surveyed.ensures.mode) at c.bind_surveyed_into.ensures.text))
+    (bound_in_room c.args.reading c.args.query.now (given_by_borrowed c.borrowed_params-borrowed.result) c.args.room.now c.bind_surveyed_into.new.room c.bind_surveyed_into.result (rw (c.new-surveyed.ensures.query, c.new-surveyed.ensures.reading) at c.bind_surveyed_into.ensures.text))
 
 pub returns-clause-refused : goal.returns-clause-refused
 returns-clause-refused c =
-    subst (λ (g : Given). OnTokens c.args.no_backslash_escape c.args.query.now (λ ts. IfErr c.bind_surveyed_into.result (IsCauseOrMemory (first_cause ts g))))
-    c.borrowed_params-borrowed.ensures (rw (c.new-surveyed.ensures.query, c.new-surveyed.ensures.mode) at c.bind_surveyed_into.ensures.refused)
+    subst (λ (g : Given). OnTokensIn c.args.reading c.args.query.now (λ ts. IfErr c.bind_surveyed_into.result (IsCauseOrMemory (first_cause ts g))))
+    c.borrowed_params-borrowed.ensures (rw (c.new-surveyed.ensures.query, c.new-surveyed.ensures.reading) at c.bind_surveyed_into.ensures.refused)

@@ -3,7 +3,7 @@ use Rattle.mysql_flat_params.proofs.NamesRoomLemmas.{GatheredSoFar}
 use Rattle.mysql_flat_params.proofs.names_room.gathered_names.Given as goal
 
 abbrev pub invariant-loop-found : goal.invariant-loop-found
-invariant-loop-found l = GatheredSoFar l.no_backslash_escape l.query l.rest l.text.items l.row.items
+invariant-loop-found l = GatheredSoFar l.reading l.query l.rest l.text.items l.row.items
 
 abbrev pub decreases-loop-found : goal.decreases-loop-found
 decreases-loop-found l = length l.rest

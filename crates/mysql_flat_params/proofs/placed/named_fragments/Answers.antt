@@ -59,7 +59,7 @@ loop-rest-preserved c =
         found_more c.args.entries.now.entries listed_names c.loop-rest.list.items name found c.in-Some-get.fragment.now c.lent.result _
             c.in-Some-get.ensures.value c.lent.ensures pushed,
       ),
-      one_passed c.args.surveyed.now.no_backslash_escape c.loop-rest.rest.now _ c.args.surveyed.now.known.now (c.in-Some.found.before + c.in-Some.found.len) c.len-in-loop-rest.result _ _ _
+      one_passed c.args.surveyed.now.reading c.loop-rest.rest.now _ c.args.surveyed.now.known.now (c.in-Some.found.before + c.in-Some.found.len) c.len-in-loop-rest.result _ _ _
           pushed c.cut.ensures.after (omega arith) c.in-Some.ensures.next,
     )
 

@@ -23,5 +23,5 @@ pub loop-rest-preserved : goal.loop-rest-preserved
 loop-rest-preserved c = (
   numbered_more _ _ _ _ _ _ c.loop-rest.invariant.0 _ _ _ c.in_ok-number.number _ _ (omega arith) c.in-Some.ensures.place
       c.cut.ensures.place c.cut.ensures.after c.in-Ok-push.ensures.items refl c.in_ok-number.ensures,
-  one_passed c.args.surveyed.now.no_backslash_escape c.loop-rest.rest.now _ c.args.surveyed.now.known.now (c.in-Some.found.before + c.in-Some.found.len) c.len-in-loop-rest.result _ _ _ c.in-Ok-push.ensures.items c.cut.ensures.after (omega arith) c.in-Some.ensures.next,
+  one_passed c.args.surveyed.now.reading c.loop-rest.rest.now _ c.args.surveyed.now.known.now (c.in-Some.found.before + c.in-Some.found.len) c.len-in-loop-rest.result _ _ _ c.in-Ok-push.ensures.items c.cut.ensures.after (omega arith) c.in-Some.ensures.next,
 )

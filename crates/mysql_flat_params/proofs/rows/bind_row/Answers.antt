@@ -10,6 +10,6 @@ overflow_sub-result c =
 
 pub returns-clause-row : goal.returns-clause-row
 returns-clause-row c =
-    subst (λ n. IsRowInRoom c.args.surveyed.now.no_backslash_escape c.args.surveyed.now.query.now c.args.forms.now c.args.room.now c.bind_form-outcome.new.room (length c.args.forms.now - n) c.bind_form-outcome.result)
+    subst (λ n. IsRowInRoom c.args.surveyed.now.reading c.args.surveyed.now.query.now c.args.forms.now c.args.room.now c.bind_form-outcome.new.room (length c.args.forms.now - n) c.bind_form-outcome.result)
     (sym c.len.ensures.count)
-    (row_in_room c.args.surveyed.now.no_backslash_escape c.args.surveyed.now.query.now c.args.forms.now c.in-Ok.form.now c.eat_lenenc_str.new.self.0.now c.args.room.now c.bind_form-outcome.new.room c.in-Ok.ensures.read c.bind_form-outcome.result c.bind_form-outcome.ensures.form)
+    (row_in_room c.args.surveyed.now.reading c.args.surveyed.now.query.now c.args.forms.now c.in-Ok.form.now c.eat_lenenc_str.new.self.0.now c.args.room.now c.bind_form-outcome.new.room c.in-Ok.ensures.read c.bind_form-outcome.result c.bind_form-outcome.ensures.form)

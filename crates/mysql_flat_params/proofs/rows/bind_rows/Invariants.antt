@@ -6,8 +6,8 @@ use Rattle.mysql_flat_params.proofs.rows.bind_rows.Given as goal
 
 abbrev pub invariant-loop-read : goal.invariant-loop-read
 invariant-loop-read l =
-    RowsSoFar l.surveyed.no_backslash_escape l.surveyed.query.now l.forms l.fn.room l.room l.count l.read l.written
-    × IfSome l.memory.found (AreFoundNames l.surveyed.no_backslash_escape l.surveyed.query.now)
+    RowsSoFar l.surveyed.reading l.surveyed.query.now l.forms l.fn.room l.room l.count l.read l.written
+    × IfSome l.memory.found (AreFoundNames l.surveyed.reading l.surveyed.query.now)
 
 abbrev pub decreases-loop-read : goal.decreases-loop-read
 decreases-loop-read l = length l.forms - l.read

@@ -14,9 +14,9 @@ use Rattle.mysql_flat_params.proofs.steady_room.bind_params_steady.Goals as goal
 pub returns-clause-text : goal.returns-clause-text
 returns-clause-text c =
     subst (λ (g : Given). OnTokens true c.args.query.now (λ ts. IfOk c.bind_surveyed_into.result (IsTextInRoom (IsGivenText steady_literal_of IsSteadyFor ts g) (HasGivenLength steady_literal_of ts g) c.args.room.now c.bind_surveyed_into.new.room)))
-    c.borrowed_params-borrowed.ensures (rw (c.new-surveyed.ensures.query, c.new-surveyed.ensures.mode) at c.bind_surveyed_into.ensures.text)
+    c.borrowed_params-borrowed.ensures (rw (c.new-surveyed.ensures.query, c.new-surveyed.ensures.reading) at c.bind_surveyed_into.ensures.text)
 
 pub returns-clause-refused : goal.returns-clause-refused
 returns-clause-refused c =
     subst (λ (g : Given). OnTokens true c.args.query.now (λ ts. IfErr c.bind_surveyed_into.result (IsCauseOrMemory (first_cause ts g))))
-    c.borrowed_params-borrowed.ensures (rw (c.new-surveyed.ensures.query, c.new-surveyed.ensures.mode) at c.bind_surveyed_into.ensures.refused)
+    c.borrowed_params-borrowed.ensures (rw (c.new-surveyed.ensures.query, c.new-surveyed.ensures.reading) at c.bind_surveyed_into.ensures.refused)

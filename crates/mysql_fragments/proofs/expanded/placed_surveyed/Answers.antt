@@ -1,10 +1,10 @@
 use Rattle.std.proofs.Common.{arith, refl}
 use Rattle.mysql_params_core.specs.Referents.{referents}
 use Rattle.mysql_binding.proofs.AppendedTextLemmas.{handed_on}
-use Rattle.mysql_binding.proofs.SurveyedQueryLemmas.{on_survey}
+use Rattle.mysql_binding.proofs.SurveyedQueryLemmas.{on_survey, unmixed_query}
 use Rattle.mysql_fragments.specs.FragmentErrors.{IsCauseOrMemory, first_cause}
 use Rattle.mysql_fragments.specs.GivenFragments.{given_fragments}
-use Rattle.mysql_fragments.proofs.ExpandedLemmas.{mixed_refused, refused_places, refused_later, placed_on, unmixed_on}
+use Rattle.mysql_fragments.proofs.ExpandedLemmas.{mixed_refused, refused_places, refused_later, placed_on}
 use Rattle.mysql_fragments.proofs.expanded.placed_surveyed.Goals.{else-survey-gt0-via-then-survey-gt0+else-survey-gt0-2, else-survey-gt0-via-else-survey-gt0}
 use Rattle.mysql_fragments.proofs.expanded.placed_surveyed.Goals as goal
 
@@ -43,9 +43,11 @@ returns-in_err-list-clause-mixed c =
     (o.0, o.1, λ both. elim c.else-survey-gt0.branch [ else-survey-gt0-via-then-survey-gt0+else-survey-gt0-2 w ↦ absurd (omega (arith, both.1, o.2.1, w.if-survey-gt0-2.false)) | else-survey-gt0-via-else-survey-gt0 w ↦ absurd (omega (arith, both.0, o.2.0, w.if-survey-gt0.false)) ])
 
 pub fragments_of_places-requires : goal.fragments_of_places-requires
-fragments_of_places-requires c =
-    unmixed_on c.args.as_literals _ _ (given_fragments c.args.fragments.now) c.args.surveyed.now.survey (on_survey _ _ _ c.args.surveyed.now.surveyed)
-    (λ both. elim c.else-survey-gt0.branch [ else-survey-gt0-via-then-survey-gt0+else-survey-gt0-2 w ↦ omega (arith, both.1, w.if-survey-gt0-2.false) | else-survey-gt0-via-else-survey-gt0 w ↦ omega (arith, both.0, w.if-survey-gt0.false) ])
+fragments_of_places-requires c = record {
+  unmixed =
+      unmixed_query _ _ c.args.surveyed.now.survey c.args.surveyed.now.surveyed
+      (λ both. elim c.else-survey-gt0.branch [ else-survey-gt0-via-then-survey-gt0+else-survey-gt0-2 w ↦ omega (arith, both.1, w.if-survey-gt0-2.false) | else-survey-gt0-via-else-survey-gt0 w ↦ omega (arith, both.0, w.if-survey-gt0.false) ]);
+}
 
 pub returns-then-survey-gt0-2-clause-placed : goal.returns-then-survey-gt0-2-clause-placed
 returns-then-survey-gt0-2-clause-placed c =

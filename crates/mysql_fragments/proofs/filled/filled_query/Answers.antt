@@ -1,6 +1,6 @@
 use Rattle.std.specs.Prelude.{Some, map}
 use Rattle.std.proofs.Common.{◌≡◌, ◌∙◌, true, subst, sym}
-use Rattle.mysql_named_params.specs.Tokens.{OnTokens}
+use Rattle.mysql_named_params.specs.Reading.{OnTokensIn}
 use Rattle.mysql_params_core.specs.Referents.{referents}
 use Rattle.mysql_binding.specs.LiteralForm.{written_literal}
 use Rattle.mysql_binding.specs.Pieces.{pieces, joined_text}
@@ -16,8 +16,8 @@ pub returns : goal.returns
 returns g c = λ given placed.
     let literal = g.F.LiteralForm.literal c.args.form.now in
     let fragments = referents c.args.fragments.now in
-    let mode = c.args.no_backslash_escape in
+    let reading = c.args.reading in
     let kept : c.in_ok-text-2.text.items ≡ c.in_ok-text.text.items = c.in_ok-text-2.ensures.items ∙ c.as_slice.ensures.value in
-    filled_on literal (g.F.LiteralForm.IsKnown c.args.form.now) mode c.args.query.now given fragments c.in_ok-text-2.text.items placed
-    (subst (λ items. OnTokens mode c.args.query.now (λ ts. joined_text (pieces ts) (map (filled_text (written_literal literal)) fragments) ≡ Some items)) (sym kept) c.in_ok-text.ensures.text)
+    filled_on literal (g.F.LiteralForm.IsKnown c.args.form.now) reading c.args.query.now given fragments c.in_ok-text-2.text.items placed
+    (subst (λ items. OnTokensIn reading c.args.query.now (λ ts. joined_text (pieces ts) (map (filled_text (written_literal literal)) fragments) ≡ Some items)) (sym kept) c.in_ok-text.ensures.text)
     c.in_ok-text.ensures.known

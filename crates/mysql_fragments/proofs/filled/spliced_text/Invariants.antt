@@ -8,5 +8,5 @@ use Rattle.mysql_fragments.proofs.filled.spliced_text.Given as goal
 
 abbrev pub invariant-loop-fragment : goal.invariant-loop-fragment
 invariant-loop-fragment g l =
-    SplicedSoFar l.no_backslash_escape (filled_text (written_literal (g.F.ValueForm.written l.form))) l.query l.rest (referents l.fragments) l.fragment-index l.text.items
+    SplicedSoFar l.reading (filled_text (written_literal (g.F.ValueForm.written l.form))) l.query l.rest (referents l.fragments) l.fragment-index l.text.items
     × AreKnownUnlessFloats (g.F.ValueForm.written l.form) (g.F.ValueForm.IsKnown l.form) (all_values (take l.fragment-index (referents l.fragments)))

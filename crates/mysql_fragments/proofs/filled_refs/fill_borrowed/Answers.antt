@@ -29,7 +29,7 @@ loop-i-preserved g c = (
   filled_more _ _ _ _ c.args.fragments.now _ _ _ c.loop-i.invariant.0 c.loop-i-test.true _ c.index-fragments-i.is _ c.in-Some.ensures.place _ c.cut.ensures.before
       _ _ c.append_piece-at.ensures.next c.append_piece-at.auto.text c.append_piece-at.ensures.front _ _ _ c.cut.ensures.after
       c.append_borrowed-at.ensures.next c.append_borrowed-at.auto.text c.append_borrowed-at.ensures.front,
-  rest_after c.args.surveyed.now.no_backslash_escape c.loop-i.rest.now _ (c.in-Some.found.before + c.in-Some.found.len) (BeginWithPlaces (drop (c.loop-i.i + 1) c.args.surveyed.now.known.now)) c.cut.ensures.after c.in-Some.ensures.next,
+  rest_after c.args.surveyed.now.reading c.loop-i.rest.now _ (c.in-Some.found.before + c.in-Some.found.len) (BeginWithPlaces (drop (c.loop-i.i + 1) c.args.surveyed.now.known.now)) c.cut.ensures.after c.in-Some.ensures.next,
   known_step (g.F.LiteralForm.literal c.args.form.now) (g.F.LiteralForm.IsKnown c.args.form.now) borrowed_values c.args.fragments.now c.loop-i.i c.index-fragments-i.result
       c.loop-i-test.true c.index-fragments-i.is c.loop-i.invariant.2 c.append_borrowed-at.ensures.known,
 )

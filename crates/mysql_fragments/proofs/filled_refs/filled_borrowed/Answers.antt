@@ -5,7 +5,7 @@ use Rattle.mysql_fragments.proofs.filled_refs.filled_borrowed.Goals as goal
 
 pub fill_borrowed-requires-clause-places : goal.fill_borrowed-requires-clause-places
 fill_borrowed-requires-clause-places g c =
-    places_of c.args.surveyed.now.no_backslash_escape c.args.surveyed.now.query.now c.args.surveyed.now.survey c.args.fragments.now (on_survey _ _ _ c.args.surveyed.now.surveyed) c.requires.places
+    places_of c.args.surveyed.now.reading c.args.surveyed.now.query.now c.args.surveyed.now.survey c.args.fragments.now (on_survey _ _ _ c.args.surveyed.now.surveyed) c.requires.places
 
 pub fill_borrowed-requires-clause-room : goal.fill_borrowed-requires-clause-room
 fill_borrowed-requires-clause-room g c =

@@ -1,5 +1,5 @@
 use Rattle.std.specs.List.{list_all}
-use Rattle.std.proofs.Common.{◌≡◌, get_or, subst}
+use Rattle.std.proofs.Common.{◌≡◌, subst}
 use Rattle.mysql_portable.specs.Steady.{is_steady}
 use Rattle.mysql_fragments.specs.BorrowedFragments.{Says}
 use Rattle.mysql_fragments.specs.FragmentText.{fragment_text}

@@ -1,4 +1,4 @@
-use Rattle.std.proofs.Common.{◌≡◌, ◌∙◌, ℕ, Bool, true, false, leb, cond, drop, map, take, w8, refl, sym, ap, arith}
+use Rattle.std.proofs.Common.{◌∙◌, ℕ, true, false, leb, cond, drop, map, take, w8, refl, sym, ap, arith}
 use Rattle.std.specs.Simd.Lanes.{mask_l}
 use Rattle.std.proofs.lemmas.Simd.{zip2_splat, zip2_splat_left, length-chunk, chunk-fits}
 use lib.Lanes.{chunk}

@@ -1,5 +1,6 @@
 use Rattle.std.specs.Prelude.{true}
 use Rattle.std.proofs.Common.{sym, ◌∙◌, rules}
+use Rattle.mysql_named_params.specs.Reading.{grammar_reading}
 use Rattle.mysql_binding.proofs.CauseLemmas.{on_both}
 use Rattle.mysql_steady_text.proofs.BothModesTextLemmas.{nothing_said, is_handed_on}
 use Rattle.mysql_steady_text.proofs.BothModesAgainLemmas.{again_of}
@@ -111,7 +112,7 @@ returns-in_err-bind_agreed-clause-refused c mode =
     rw (is_handed_on c.from_residual.result _ c.from_residual.ensures.1) (
     let o = told_of c.args.query.now c.first_backslash.result c.first_unportable.result c.first_backslash.ensures c.in_default.is c.first_unportable.ensures.first mode in
     let e = in_each_mode c.args.query.now _ (agree c.args.query.now c.first_backslash.result (c.first_backslash.ensures true) c.in_default.is) c.in_err-bind_agreed.ensures.refused mode in
-    let b = on_both mode c.args.query.now _ _ o e in
+    let b = on_both (grammar_reading mode) c.args.query.now _ _ o e in
     (b.0, b.1, (b.2.0.0, b.2.0.1 ∙ c.in_default-first_unportable.is, b.2.1)))
 
 pub returns-in_err-bind_agreed-clause-by_position : goal.returns-in_err-bind_agreed-clause-by_position

@@ -33,7 +33,7 @@ returns-in_err-bind_surveyed_as-in-Plain-clause-refused c =
     (of_text (map seen_pair pairs) params (ok_or-found (pairs_of c.args.assignments.now) (map seen_pair pairs) c.in_ok-pairs.ensures)
     (borrowed_give pairs c.as_slice.result.now c.in_ok-borrowed.borrowed.items c.as_slice-2.result.now params c.as_slice.ensures.value c.as_slice-2.ensures.value
     c.in_ok-borrowed.ensures c.in_ok-params.ensures.given)
-    (plain_refusal t.request t.parsed c.args.self.now c.self.invariant c.self.view_is s.result s.ensures.query s.ensures.mode params
+    (plain_refusal t.request t.parsed c.args.self.now c.self.invariant c.self.view_is s.result s.ensures.query s.ensures.reading params
     c.in-Plain.no_backslash_escape error c.in-Plain.is c.in_err-bind_surveyed_as-in-Plain.ensures.refused))
 
 pub returns-in-Plain-clause-bound : goal.returns-in-Plain-clause-bound
@@ -50,7 +50,7 @@ returns-in-Plain-clause-bound c =
           borrowed_give pairs c.as_slice.result.now c.in_ok-borrowed.borrowed.items c.as_slice-2.result.now params c.as_slice.ensures.value c.as_slice-2.ensures.value
           c.in_ok-borrowed.ensures c.in_ok-params.ensures.given;
       bound =
-          plain_text t.request t.parsed c.args.self.now c.self.invariant c.self.view_is s.result s.ensures.query s.ensures.mode params
+          plain_text t.request t.parsed c.args.self.now c.self.invariant c.self.view_is s.result s.ensures.query s.ensures.reading params
           c.in-Plain.no_backslash_escape _ c.in-Plain.is c.in_ok-bind_surveyed_as-in-Plain.ensures.text;
     }
 
@@ -68,7 +68,7 @@ returns-in-Ok-clause-bound c =
           borrowed_give pairs c.as_slice.result.now c.in_ok-borrowed.borrowed.items c.as_slice-2.result.now params c.as_slice.ensures.value c.as_slice-2.ensures.value
           c.in_ok-borrowed.ensures c.in_ok-params.ensures.given;
       bound =
-          steady_text t.request t.parsed c.args.self.now c.self.invariant c.self.view_is s.result s.ensures.query s.ensures.mode params
+          steady_text t.request t.parsed c.args.self.now c.self.invariant c.self.view_is s.result s.ensures.query s.ensures.reading params
           c.in-Ok.text.items c.in-Steady.is c.in-Ok.ensures.text;
     }
 
@@ -81,5 +81,5 @@ returns-clause-refused c =
     of_text (map seen_pair pairs) params (ok_or-found (pairs_of c.args.assignments.now) (map seen_pair pairs) c.in_ok-pairs.ensures)
     (borrowed_give pairs c.as_slice.result.now c.in_ok-borrowed.borrowed.items c.as_slice-2.result.now params c.as_slice.ensures.value c.as_slice-2.ensures.value
     c.in_ok-borrowed.ensures c.in_ok-params.ensures.given)
-    (steady_refusal t.request t.parsed c.args.self.now c.self.invariant c.self.view_is s.result s.ensures.query s.ensures.mode params
+    (steady_refusal t.request t.parsed c.args.self.now c.self.invariant c.self.view_is s.result s.ensures.query s.ensures.reading params
     c.in-Err.error c.in-Steady.is c.in-Err.ensures.refused)

@@ -34,7 +34,7 @@ loop-rest-preserved g c =
             c.cut.ensures.place c.cut.ensures.after refl,
         looked_up_more (named (g.M.NamedValues.values c.args.entries.now)) so_far.0 _ c.loop-rest.values.items _ _ so_far.2 (looked_up_in_map _ _ _ c.in-Some-value_of.ensures) c.in_ok-push.ensures.items,
       ),
-      one_passed c.args.surveyed.now.no_backslash_escape c.loop-rest.rest.now _ c.args.surveyed.now.known.now (c.in-Some.found.before + c.in-Some.found.len) c.len-in-loop-rest.result _ _ _ c.in_ok-push.ensures.items c.cut.ensures.after (omega arith) c.in-Some.ensures.next,
+      one_passed c.args.surveyed.now.reading c.loop-rest.rest.now _ c.args.surveyed.now.known.now (c.in-Some.found.before + c.in-Some.found.len) c.len-in-loop-rest.result _ _ _ c.in_ok-push.ensures.items c.cut.ensures.after (omega arith) c.in-Some.ensures.next,
     )
 
 pub returns : goal.returns

@@ -1,5 +1,5 @@
 use Rattle.std.proofs.Common.{ℕ, List, length, ◌-◌, drop}
-use Rattle.mysql_named_params.specs.Tokens.{OnTokens}
+use Rattle.mysql_named_params.specs.Reading.{OnTokensIn}
 use Rattle.mysql_params_core.specs.Given.{named}
 use Rattle.mysql_values.specs.BorrowedValue.{owned_values}
 use Rattle.mysql_binding.specs.FoundPlaces.{BeginWithPlaces}
@@ -10,9 +10,9 @@ use Rattle.mysql_binding.proofs.binding.found.values_in.Given as goal
 -- the names so far, which no list has in memory, and their values
 abbrev pub invariant-loop-rest : goal.invariant-loop-rest
 invariant-loop-rest g l =
-    ((list : List (List ℕ)) × ListedSoFar l.surveyed.no_backslash_escape l.surveyed.query.now l.rest l.count list
+    ((list : List (List ℕ)) × ListedSoFar l.surveyed.reading l.surveyed.query.now l.rest l.count list
     × AreLookedUp (named (g.M.NamedValues.values l.entries)) list (owned_values l.values.items))
-    × OnTokens l.surveyed.no_backslash_escape l.rest (BeginWithPlaces (drop (length l.values.items) l.surveyed.known.now))
+    × OnTokensIn l.surveyed.reading l.rest (BeginWithPlaces (drop (length l.values.items) l.surveyed.known.now))
 
 abbrev pub decreases-loop-rest : goal.decreases-loop-rest
 decreases-loop-rest g l = l.count - length l.values.items

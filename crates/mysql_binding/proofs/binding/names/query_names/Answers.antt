@@ -23,9 +23,9 @@ returns-clause-names c = listed_all _ _ _ _ _ c.loop-rest.invariant.0 (omega (ar
 
 pub loop-rest-preserved : goal.loop-rest-preserved
 loop-rest-preserved c = (
-  subst (λ ns. ListedSoFar c.args.surveyed.now.no_backslash_escape c.args.surveyed.now.query.now c.cut.result.2.now c.args.surveyed.now.survey.names ns)
+  subst (λ ns. ListedSoFar c.args.surveyed.now.reading c.args.surveyed.now.query.now c.cut.result.2.now c.args.surveyed.now.survey.names ns)
       (sym (ap referents c.in_ok-push.ensures.items ∙ referents-push c.loop-rest.list.items _))
       (listed_more _ _ _ _ _ c.loop-rest.invariant.0 _ _ _ _ (omega (arith, referents_length c.loop-rest.list.items)) c.in-Some.ensures.place
       c.cut.ensures.place c.cut.ensures.after refl),
-  one_passed c.args.surveyed.now.no_backslash_escape c.loop-rest.rest.now _ c.args.surveyed.now.known.now (c.in-Some.found.before + c.in-Some.found.len) c.len-in-loop-rest.result _ _ _ c.in_ok-push.ensures.items c.cut.ensures.after (omega arith) c.in-Some.ensures.next,
+  one_passed c.args.surveyed.now.reading c.loop-rest.rest.now _ c.args.surveyed.now.known.now (c.in-Some.found.before + c.in-Some.found.len) c.len-in-loop-rest.result _ _ _ c.in_ok-push.ensures.items c.cut.ensures.after (omega arith) c.in-Some.ensures.next,
 )

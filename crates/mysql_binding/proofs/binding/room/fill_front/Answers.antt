@@ -9,5 +9,5 @@ returns-then-room-len g c = λ given o.
 
 pub returns : goal.returns
 returns g c = λ given o.
-    front_text c.args.surveyed.now.no_backslash_escape (g.F.LiteralForm.literal c.args.form.now) (g.F.LiteralForm.IsKnown c.args.form.now) c.args.surveyed.now.query.now given c.args.measured.now.len
+    front_text c.args.surveyed.now.reading (g.F.LiteralForm.literal c.args.form.now) (g.F.LiteralForm.IsKnown c.args.form.now) c.args.surveyed.now.query.now given c.args.measured.now.len
     c.fill_measured.new.room c.args.room.now (omega (arith, c.if-room-len.false)) (omega (arith, c.fill_measured.auto.room, c.if-room-len.false, length-take-le c.args.measured.now.len c.args.room.now (omega (arith, c.if-room-len.false)))) (c.fill_measured.ensures given o)

@@ -11,9 +11,9 @@ use Rattle.mysql_binding.proofs.binding.spans.measured_spans.Goals.{else-survey-
 use Rattle.mysql_binding.proofs.binding.spans.measured_spans.Goals as goal
 
 pub returns-in_err-values-clause-refused : goal.returns-in_err-values-clause-refused
-returns-in_err-values-clause-refused g c = λ mode own.
+returns-in_err-values-clause-refused g c = λ reading own.
     let given = given_by_borrowed c.args.params in
-    let o = own_lookup_refused c.args.spanned.now.survey c.args.spanned.now.spans.now mode c.args.spanned.now.query.now own
+    let o = own_lookup_refused c.args.spanned.now.survey c.args.spanned.now.spans.now reading c.args.spanned.now.query.now own
     (λ both. elim c.else-survey-gt0.branch as (λ _. ⊥) [ else-survey-gt0-via-then-survey-gt0+else-survey-gt0-2 w ↦ omega (arith, both.1, w.if-survey-gt0-2.false) | else-survey-gt0-via-else-survey-gt0 w ↦ omega (arith, both.0, w.if-survey-gt0.false) ])
     given c.in_err-values.field-0.0 c.in_err-values.ensures.refused in
     (o.0, o.1, handed_on (IsCauseOrMemory (first_cause o.0 given)) c.from_residual.result c.in_err-values.field-0.0 c.from_residual.ensures.1 o.2)
@@ -24,18 +24,18 @@ returns-in_err-values-clause-lookup g c =
     (λ refusal is. refused_names _ _ c.in_err-values.field-0.0 refusal c.in_err-values.ensures.refused is)
 
 pub returns-clause-measured : goal.returns-clause-measured
-returns-clause-measured g c = λ mode own.
-    measured_found mode c.args.spanned.now.query.now (g.F.LiteralForm.literal c.args.form.now) (given_by_borrowed c.args.params) c.args.spanned.now.survey (owned_values c.in_ok-values.values.items) c.measured_values.result
-    c.measured_values.ensures.measured (own_surveyed c.args.spanned.now.survey c.args.spanned.now.spans.now mode c.args.spanned.now.query.now own)
-    (own_found c.args.spanned.now.survey c.args.spanned.now.spans.now mode c.args.spanned.now.query.now own
+returns-clause-measured g c = λ reading own.
+    measured_found reading c.args.spanned.now.query.now (g.F.LiteralForm.literal c.args.form.now) (given_by_borrowed c.args.params) c.args.spanned.now.survey (owned_values c.in_ok-values.values.items) c.measured_values.result
+    c.measured_values.ensures.measured (own_surveyed c.args.spanned.now.survey c.args.spanned.now.spans.now reading c.args.spanned.now.query.now own)
+    (own_found c.args.spanned.now.survey c.args.spanned.now.spans.now reading c.args.spanned.now.query.now own
     (λ both. elim c.else-survey-gt0.branch as (λ _. ⊥) [ else-survey-gt0-via-then-survey-gt0+else-survey-gt0-2 w ↦ omega (arith, both.1, w.if-survey-gt0-2.false) | else-survey-gt0-via-else-survey-gt0 w ↦ omega (arith, both.0, w.if-survey-gt0.false) ])
     (given_by_borrowed c.args.params) (owned_values c.in_ok-values.values.items) c.in_ok-values.ensures.values)
 
 pub returns-clause-refused : goal.returns-clause-refused
-returns-clause-refused g c = λ mode own.
-    measured_refused mode c.args.spanned.now.query.now (given_by_borrowed c.args.params) c.args.spanned.now.survey (owned_values c.in_ok-values.values.items) c.measured_values.result
-    c.measured_values.ensures.refused (own_surveyed c.args.spanned.now.survey c.args.spanned.now.spans.now mode c.args.spanned.now.query.now own)
-    (own_found c.args.spanned.now.survey c.args.spanned.now.spans.now mode c.args.spanned.now.query.now own
+returns-clause-refused g c = λ reading own.
+    measured_refused reading c.args.spanned.now.query.now (given_by_borrowed c.args.params) c.args.spanned.now.survey (owned_values c.in_ok-values.values.items) c.measured_values.result
+    c.measured_values.ensures.refused (own_surveyed c.args.spanned.now.survey c.args.spanned.now.spans.now reading c.args.spanned.now.query.now own)
+    (own_found c.args.spanned.now.survey c.args.spanned.now.spans.now reading c.args.spanned.now.query.now own
     (λ both. elim c.else-survey-gt0.branch as (λ _. ⊥) [ else-survey-gt0-via-then-survey-gt0+else-survey-gt0-2 w ↦ omega (arith, both.1, w.if-survey-gt0-2.false) | else-survey-gt0-via-else-survey-gt0 w ↦ omega (arith, both.0, w.if-survey-gt0.false) ])
     (given_by_borrowed c.args.params) (owned_values c.in_ok-values.values.items) c.in_ok-values.ensures.values)
 

@@ -5,8 +5,8 @@ use Rattle.mysql_binding.proofs.binding.survey.place_survey.Given as goal
 
 abbrev pub invariant-loop-found : goal.invariant-loop-found
 invariant-loop-found l =
-    SurveyedSoFar l.no_backslash_escape l.query l.at l.names l.marks l.not_alone l.piece_bytes
-    × KeptSoFar l.no_backslash_escape l.query l.at l.kept l.first
+    SurveyedSoFar l.reading l.query l.at l.names l.marks l.not_alone l.piece_bytes
+    × KeptSoFar l.reading l.query l.at l.kept l.first
 
 abbrev pub decreases-loop-found : goal.decreases-loop-found
 decreases-loop-found l = length l.query - l.at

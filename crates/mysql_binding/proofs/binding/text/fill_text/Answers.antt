@@ -46,7 +46,7 @@ loop-i-preserved g c = (
       (fill_len _ _ _ _ _ _ _ _ _ c.loop-i.invariant.0 c.loop-i-test.true _ (item_is c.args.values.now c.args.values.now c.loop-i.i NULL c.loop-i-test.true refl) _ c.requires.lens)
       c.append_literal-at.ensures.next (search rules) c.append_literal-at.ensures.literal c.append_literal-at.ensures.known
       c.append_literal-at.ensures.front,
-  rest_after c.args.surveyed.now.no_backslash_escape c.loop-i.rest.now _ (c.in-Some.found.before + c.in-Some.found.len) (BeginWithPlaces (drop (c.loop-i.i + 1) c.args.surveyed.now.known.now)) c.cut.ensures.after c.in-Some.ensures.next,
+  rest_after c.args.surveyed.now.reading c.loop-i.rest.now _ (c.in-Some.found.before + c.in-Some.found.len) (BeginWithPlaces (drop (c.loop-i.i + 1) c.args.surveyed.now.known.now)) c.cut.ensures.after c.in-Some.ensures.next,
 )
 
 pub append_piece-requires : goal.append_piece-requires

@@ -1,0 +1,340 @@
+//! Names with capitals: what is bound by them, what is refused and what is left as it is. The texts
+//! follow the rule of wide names by hand: a `:`, a letter or `_`, and all letters, digits and `_`
+//! that follow, outside of strings, quoted names and comments.
+use crate::shared::{
+    EITHER_MODE, Given, Plain, Refused, WIDE, answer_of, are_bound_by, is_refused_by, is_text,
+    same_in,
+};
+use mysql_params::{
+    BindError, BindPairsError, Construct, SteadyTextError, TextInRoom, Unportable, WideQuery,
+    bind_wide_anywhere, bind_wide_in_any_mode, bind_wide_pairs, bind_wide_pairs_into,
+    bind_wide_values, bind_wide_values_anywhere, bind_wide_values_in_any_mode,
+    bind_wide_values_into, first_unportable_in_client_wide, first_unportable_wide,
+};
+use mysql_values::value::ValueRef;
+use std::alloc::Global;
+use std::process::Abort;
+
+const USER: Given<'static> = Given::Named(&[
+    (b"userId", Plain::Int(7)),
+    (b"ID", Plain::Text(b"x")),
+    (b"_X", Plain::Null),
+    (b"id", Plain::UInt(1)),
+    (b"Id", Plain::UInt(2)),
+]);
+
+const LABELS: Given<'static> = Given::Named(&[
+    (b"BEGIN", Plain::Null),
+    (b"LOOP", Plain::Null),
+    (b"userId", Plain::Null),
+    (b"ID", Plain::Null),
+    (b"id", Plain::Null),
+    (b"Id", Plain::Null),
+]);
+
+#[test]
+fn capitals_begin_names_and_continue_them(rt: HostRuntime) {
+    let rows: &[(&[u8], Given<'_>, &[u8])] = &[
+        (b"SELECT :userId", USER, b"SELECT 7"),
+        (
+            b"WHERE a = :ID AND b=:_X",
+            USER,
+            b"WHERE a = 'x' AND b=NULL",
+        ),
+        // Names are told apart by case.
+        (b":ID,:Id,:id", USER, b"'x',2,1"),
+        (b"-:Id-:id", USER, b"-2-1"),
+        (b"@A:=:Id", USER, b"@A:=2"),
+        (b"/:Id/:id*:Id", USER, b"/2/1*2"),
+        (b":Id--:id", USER, b"2--1"),
+    ];
+    are_bound_by(&rt, rt.alloc(), WIDE, rows);
+}
+
+#[test]
+fn what_begins_no_name_is_left(rt: HostRuntime) {
+    let rows: &[(&[u8], Given<'_>, &[u8])] = &[
+        (
+            b"':ID' \":ID\" `:ID`",
+            Given::Nothing,
+            b"':ID' \":ID\" `:ID`",
+        ),
+        (b"/* :ID */ 1 -- :ID", Given::Nothing, b"/* :ID */ 1 -- :ID"),
+        (b"# :ID\n1", Given::Nothing, b"# :ID\n1"),
+        (b"@a:=1, 1 : A", Given::Nothing, b"@a:=1, 1 : A"),
+        (b":1, :\xc3\x84", Given::Nothing, b":1, :\xc3\x84"),
+        (b"'$.A:B', :Id", USER, b"'$.A:B', 2"),
+        (
+            b"SELECT ?, ':Id'",
+            Given::Positional(&[Plain::Int(5)]),
+            b"SELECT 5, ':Id'",
+        ),
+    ];
+    are_bound_by(&rt, rt.alloc(), WIDE, rows);
+}
+
+// Each of these would go to the server as it is by the names of the grammar, or be refused there
+// for the name in front of the capital.
+#[test]
+fn labels_and_their_like_are_refused(rt: HostRuntime) {
+    let rows: &[(&[u8], Refused<'_>)] = &[
+        (b"lbl:BEGIN", Refused::NotAlone(0, 3)),
+        (b"lbl:LOOP", Refused::NotAlone(0, 3)),
+        (b"x::Id", Refused::NotAlone(0, 2)),
+        (b"::ID", Refused::NotAlone(0, 1)),
+        (b"@:ID", Refused::NotAlone(0, 1)),
+        (b"a:Id", Refused::NotAlone(0, 1)),
+        (b"'x':ID", Refused::NotAlone(0, 3)),
+        (b":id:Id", Refused::NotAlone(0, 0)),
+        (b":ID:id", Refused::NotAlone(0, 0)),
+        (b":userId'x'", Refused::NotAlone(0, 0)),
+        (b":Id, :Id\xc3\x89", Refused::NotAlone(1, 5)),
+        (b":Id$b", Refused::NotAlone(0, 0)),
+    ];
+    for (query, refused) in rows {
+        is_refused_by(&rt, rt.alloc(), WIDE, *query, LABELS, *refused);
+    }
+}
+
+#[test]
+fn causes_in_their_order(rt: HostRuntime) {
+    let floats = Given::Named(&[(b"Ab", Plain::Float)]);
+    let rows: &[(&[u8], Given<'_>, Refused<'_>)] = &[
+        (b"x:Zz ?", Given::Nothing, Refused::Mixed),
+        (b"lbl :BEGIN", USER, Refused::Missing(b"BEGIN")),
+        (b":Id:No", USER, Refused::Missing(b"No")),
+        (b":Ab", Given::Nothing, Refused::Missing(b"Ab")),
+        (
+            b":Ab",
+            Given::Positional(&[Plain::Null]),
+            Refused::PositionalGiven,
+        ),
+        (b"?", USER, Refused::NamedGiven),
+        (b"a:Ab", floats, Refused::NotAlone(0, 1)),
+        (b"1,:Ab", floats, Refused::Float(0)),
+    ];
+    for (query, given, refused) in rows {
+        is_refused_by(&rt, rt.alloc(), WIDE, *query, *given, *refused);
+    }
+}
+
+// A query without capitals behind a colon or a name is bound alike by all calls.
+#[test]
+fn lower_case_is_bound_as_before(rt: HostRuntime) {
+    let rows: &[(&[u8], Given<'_>, &[u8])] = &[
+        (b"SELECT :id, ':id'", USER, b"SELECT 1, ':id'"),
+        (
+            b"INSERT INTO T VALUES (:id,:id)",
+            USER,
+            b"INSERT INTO T VALUES (1,1)",
+        ),
+        (b"SELECT A, B", Given::Nothing, b"SELECT A, B"),
+    ];
+    are_bound_by(&rt, rt.alloc(), EITHER_MODE, rows);
+    are_bound_by(&rt, rt.alloc(), WIDE, rows);
+}
+
+const PAIRS: &[(&[u8], ValueRef<'static>)] = &[
+    (b"Id", ValueRef::Int(3)),
+    (b"x_Y", ValueRef::Bytes(b"it's")),
+];
+
+#[test]
+fn borrowed_pairs(rt: HostRuntime) {
+    let query = b":Id, :x_Y, ':Id'";
+    let wanted = b"3, 'it''s', ':Id'";
+    is_text(
+        &rt,
+        answer_of(&rt, bind_wide_pairs(rt.alloc(), query, PAIRS, true)),
+        wanted,
+    );
+    let parsed = answer_of(&rt, WideQuery::parse_in(rt.alloc(), query, true));
+    is_text(
+        &rt,
+        answer_of(&rt, parsed.bind_pairs(rt.alloc(), PAIRS)),
+        wanted,
+    );
+    let mut script = Vec::new(rt.alloc());
+    answer_of(&rt, parsed.append_pairs(rt.alloc(), PAIRS, &mut script));
+    is_text(&rt, script, wanted);
+    let mut room = [7u8; 17];
+    let told = bind_wide_pairs_into(rt.alloc(), query, PAIRS, true, &mut room);
+    same_in(
+        &rt,
+        answer_of(&rt, told),
+        TextInRoom::Written { len: 17 },
+        &"told",
+    );
+    same_in(&rt, room.as_slice(), wanted, &"a room");
+    let twice = &[
+        (b"A".as_slice(), ValueRef::NULL),
+        (b"A".as_slice(), ValueRef::NULL),
+    ];
+    let refused = bind_wide_pairs(rt.alloc(), query, twice, true);
+    same_in(
+        &rt,
+        refused.err() == Some(BindPairsError::Redefined { index: 1 }),
+        true,
+        &"a name twice",
+    );
+}
+
+#[test]
+fn borrowed_values(rt: HostRuntime) {
+    let values = &[ValueRef::Int(3)];
+    let text = bind_wide_values(rt.alloc(), b"?, ':Id'", values, false);
+    is_text(&rt, answer_of(&rt, text), b"3, ':Id'");
+    let parsed = answer_of(&rt, WideQuery::parse(rt.alloc(), b"?, ':Id'"));
+    is_text(
+        &rt,
+        answer_of(&rt, parsed.bind_values(rt.alloc(), values)),
+        b"3, ':Id'",
+    );
+    let mut script = Vec::new(rt.alloc());
+    answer_of(&rt, parsed.append_values(rt.alloc(), values, &mut script));
+    is_text(&rt, script, b"3, ':Id'");
+    let mut room = [7u8; 4];
+    let told = bind_wide_values_into(rt.alloc(), b"-?", values, false, &mut room);
+    same_in(
+        &rt,
+        answer_of(&rt, told),
+        TextInRoom::Written { len: 2 },
+        &"told",
+    );
+    same_in(&rt, room, [b'-', b'3', 7, 7], &"a room");
+    // Values by position are refused beside a wide name.
+    same_in(
+        &rt,
+        bind_wide_values(rt.alloc(), b":Id", values, false).is_ok(),
+        false,
+        &"a name",
+    );
+}
+
+#[test]
+fn names_and_marks_of_a_parsed_query(rt: HostRuntime) {
+    let parsed = answer_of(
+        &rt,
+        WideQuery::parse(rt.alloc(), b":userId, :ID, ':No', :userId"),
+    );
+    let names = answer_of(&rt, parsed.names(rt.alloc()));
+    same_in(&rt, names.len(), 3, &"names");
+    let wanted = [b"userId".as_slice(), b"ID".as_slice(), b"userId".as_slice()];
+    for (name, wanted) in names.iter().zip(wanted) {
+        same_in(&rt, *name, wanted, &"a name");
+    }
+    same_in(&rt, parsed.marks(), 0, &"marks");
+    same_in(&rt, parsed.no_backslash_escape(), false, &"the mode");
+    let copy = answer_of(&rt, parsed.clone());
+    same_in(&rt, copy == parsed, true, &"a copy");
+    let owned = answer_of(&rt, copy.into_owned(rt.alloc()));
+    same_in(&rt, owned.query(), parsed.query(), &"the query");
+    let other = answer_of(&rt, WideQuery::parse_in(rt.alloc(), owned.query(), true));
+    same_in(&rt, owned == other, false, &"the other mode");
+}
+
+#[test]
+fn places_of_wide_names(rt: HostRuntime) {
+    let parsed = answer_of(&rt, WideQuery::parse(rt.alloc(), b"SELECT :A, ':a', :bC"));
+    let surveyed = parsed.surveyed();
+    same_in(&rt, surveyed.known.len(), 2, &"places");
+    for (place, wanted) in surveyed.known.iter().zip([(7usize, 2usize), (8, 3)]) {
+        same_in(&rt, (place.before, place.len), wanted, &"a place");
+    }
+    same_in(&rt, surveyed.reading.wide_names, true, &"wide names");
+    same_in(&rt, surveyed.survey.names, 2, &"names");
+    same_in(&rt, surveyed.survey.not_alone, None, &"joined places");
+}
+
+// A hint with a name in it isn't portable, since a value stands in it once it is bound.
+#[test]
+fn portability_by_wide_names(rt: HostRuntime) {
+    let rows: &[(&[u8], Option<Unportable>)] = &[
+        (b"SELECT :userId, :ID", None),
+        (b"SELECT /*+ NO_ICP(t) */ :ID", None),
+        (
+            b":ID, /*+ SET_VAR(x=:ID) */ 1",
+            Some(Unportable {
+                construct: Construct::Hint,
+                at: 5,
+            }),
+        ),
+        (
+            b"SELECT 1e+:ID",
+            Some(Unportable {
+                construct: Construct::PlaceAfterExponent,
+                at: 7,
+            }),
+        ),
+        (
+            b"[a], :id",
+            Some(Unportable {
+                construct: Construct::Bracket,
+                at: 0,
+            }),
+        ),
+    ];
+    for (query, wanted) in rows {
+        let found = answer_of(&rt, first_unportable_wide(rt.alloc(), *query, false));
+        same_in(&rt, found, *wanted, query);
+        let found = answer_of(
+            &rt,
+            first_unportable_in_client_wide(rt.alloc(), *query, true),
+        );
+        same_in(&rt, found, *wanted, query);
+    }
+}
+
+const STEADY: &[(&[u8], &[u8])] = &[
+    (b"SELECT :userId", b"SELECT 7"),
+    (b"a = :ID, ':ID'", b"a = _utf8mb4'x', ':ID'"),
+    (b":id-:Id", b"1-2"),
+];
+
+#[test]
+fn steady_texts_by_wide_names(rt: HostRuntime) {
+    for (query, wanted) in STEADY {
+        let params = USER.params(&rt, rt.alloc());
+        is_text(
+            &rt,
+            answer_of(&rt, bind_wide_anywhere(rt.alloc(), *query, params)),
+            *wanted,
+        );
+        let params = USER.params(&rt, rt.alloc());
+        is_text(
+            &rt,
+            answer_of(&rt, bind_wide_in_any_mode(rt.alloc(), *query, params)),
+            *wanted,
+        );
+    }
+    let values = [ValueRef::Bytes(b"it's")];
+    let text = bind_wide_values_anywhere(rt.alloc(), b"? ':A'", &values);
+    is_text(&rt, answer_of(&rt, text), b"_utf8mb4'it''s' ':A'");
+    let text = bind_wide_values_in_any_mode(rt.alloc(), b"? [a]", &values);
+    is_text(&rt, answer_of(&rt, text), b"_utf8mb4'it''s' [a]");
+}
+
+#[test]
+fn steady_texts_refused(rt: HostRuntime) {
+    let rows: &[(&[u8], SteadyTextError)] = &[
+        (b":ID '\\'", SteadyTextError::Unsteady { at: 5 }),
+        (
+            b"/*+ :ID */",
+            SteadyTextError::Unportable(Unportable {
+                construct: Construct::Hint,
+                at: 0,
+            }),
+        ),
+        (
+            b"lbl:LOOP",
+            SteadyTextError::Bind(BindError::NotAlone { place: 0, at: 3 }),
+        ),
+        (b":ID ?", SteadyTextError::Bind(BindError::Mixed)),
+    ];
+    let given = Given::Named(&[(b"ID", Plain::Null), (b"LOOP", Plain::Null)]);
+    for (query, wanted) in rows {
+        let params = given.params(&rt, rt.alloc());
+        let refused = bind_wide_anywhere(rt.alloc(), *query, params).err();
+        same_in(&rt, refused.as_ref() == Some(wanted), true, query);
+    }
+}

@@ -1,0 +1,84 @@
+//! Queries with their names in lower case.
+ghost use Rattle.std.specs.Prelude.{◌≡◌, ◌+◌, ◌-◌, ◌++◌, ◌≤◌, IfOk, drop, length, map, take};
+ghost use Rattle.std.specs.Char.{to_ascii_lowercase};
+ghost use Rattle.std.specs.List.{list_any};
+ghost use Rattle.mysql_named_params.specs.LoweredNames.{have_capitals, lower_names};
+ghost use Rattle.mysql_named_params.specs.Places.{names};
+ghost use Rattle.mysql_named_params.specs.Reading.{OnTokensIn, OnWideTokens};
+ghost use Rattle.mysql_named_params.specs.Tokens.{text_of};
+ghost use Rattle.mysql_named_params.specs.WideNames.{is_capital};
+
+use crate::places::{Reading, first_place_in};
+use std::alloc::{AllocError, Global};
+
+/// Whether one of the wide names of a query has a capital. It allocates nothing, and is lent to the
+/// crates above.
+pub fn has_capitals(query: &[u8], no_backslash_escape: bool) -> bool
+    ensures { OnWideTokens no_backslash_escape query.now (λ ts.
+        result ≡ have_capitals (names ts)) }
+{
+    let reading = Reading {
+        no_backslash_escape,
+        wide_names: true,
+    };
+    let mut rest = query;
+    while let Some(found) = first_place_in(rest, reading) {
+        let (_, place, after) = found.cut(rest);
+        if holds_capital(place) {
+            return true;
+        }
+        rest = after;
+    }
+    false
+}
+
+// Whether a capital stands in the text.
+fn holds_capital(text: &[u8]) -> bool
+    ensures { result ≡ list_any is_capital text.now }
+{
+    text.iter().any(|byte| byte.is_ascii_uppercase())
+}
+
+/// The query with its wide names in lower case, so that they are names of the grammar. All other
+/// bytes stay, and so each position. It is lent to the crates above.
+pub fn lowered_query(
+    alloc: Global,
+    query: &[u8],
+    no_backslash_escape: bool,
+) -> Result<Vec<u8>, AllocError>
+    ensures { IfOk result (λ text. OnWideTokens no_backslash_escape query.now (λ ts.
+        text.items ≡ text_of (lower_names ts))) }
+{
+    let reading = Reading {
+        no_backslash_escape,
+        wide_names: true,
+    };
+    let mut text = Vec::from_slice(alloc, query)?;
+    lower_places(query, reading, text.as_mut_slice());
+    Ok(text)
+}
+
+// Puts the names of a query in lower case, in a copy of it.
+fn lower_places(query: &[u8], reading: Reading, text: &mut [u8])
+    requires { text.old ≡ query.now }
+    ensures { OnTokensIn reading query.now (λ ts. text.new ≡ text_of (lower_names ts)) }
+{
+    let mut at = 0;
+    while let Some(found) = first_place_in(&query[at..], reading) {
+        let start = at + found.before;
+        let end = start + found.len;
+        lower_bytes(text, start, end);
+        at = end;
+    }
+}
+
+// Puts the bytes from `start` to `end` in lower case.
+fn lower_bytes(text: &mut [u8], start: usize, end: usize)
+    requires { (start ≤ end) × (end ≤ length text.old) }
+    ensures front { take end text.new ≡ take start text.old
+        ++ map to_ascii_lowercase (take (end - start) (drop start text.old)) }
+    ensures rest { drop end text.new ≡ drop end text.old }
+    ensures len { length text.new ≡ length text.old }
+{
+    text[start..end].make_ascii_lowercase();
+}

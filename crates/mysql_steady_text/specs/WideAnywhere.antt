@@ -1,0 +1,47 @@
+-- What binding by wide names promises of the text that it gives for any mode and any server, and
+-- what its errors stand for. Portable is the query with its names in lower case: in
+-- `/*+ SET_VAR(x=:A) */` it has a place, as with `:a`, and none as it is.
+use Rattle.std.specs.Prelude.{◌≡◌, ◌⊎◌, ℕ, Bool, List, Option, alloc_error}
+use Rattle.mysql_named_params.specs.LoweredNames.{lower_names}
+use Rattle.mysql_named_params.specs.Tokens.{Token, text_of}
+use Rattle.mysql_portable.specs.CharacterSet.{CharacterSet, seen}
+use Rattle.mysql_portable.specs.Portable.{IsPortable, IsReadAs}
+use Rattle.mysql_portable.specs.Quiet.{IsHonest, DecidesWithin}
+use Rattle.mysql_portable.specs.ServerTokens.{Server, IsReadOn}
+use Rattle.mysql_portable.specs.declared.portable.Unportable.{Unportable}
+use Rattle.mysql_params_core.specs.GivenValues.{Given}
+use Rattle.mysql_binding.specs.FirstCause.{Cause}
+use Rattle.mysql_binding.specs.Replaced.{with_literal_tokens}
+use Rattle.mysql_binding.specs.declared.bind_error.BindError.TheVariants.{Memory}
+use Rattle.mysql_steady_text.specs.SteadyText.{IsSteadyText}
+use Rattle.mysql_steady_text.specs.SteadyTextErrors.{IsSteadyRefusal}
+use Rattle.mysql_steady_text.specs.declared.steady_text_error.SteadyTextError.{SteadyTextError}
+use Rattle.mysql_steady_text.specs.declared.steady_text_error.SteadyTextError.TheVariants.{Bind}
+
+-- the text, for any mode and any server, of a query with these tokens, wide names among them
+pub record IsWideAnywhereText (ts : List Token) (given : Given) (text : List ℕ) : Type 0 where
+  -- It is a text for any mode,
+  pub steady_text : IsSteadyText ts given text
+  -- the query with its names in lower case is portable, and so is the text.
+  pub portable : IsPortable (lower_names ts)
+  pub portable_text : IsPortable (with_literal_tokens ts steady_text.literal_tokens)
+  -- On every honest server, in either mode and over every character set, its tokens are those of
+  -- the query, with those of one literal in place of each name and mark: those that the grammar
+  -- reads, except for `--` before a newline and for what stands in quiet comments;
+  pub read : (server : Server) (mode : Bool) (set : CharacterSet) (vs : List Token) →
+      IsHonest server → IsReadOn server mode (seen set text) vs →
+      IsReadAs (with_literal_tokens ts steady_text.literal_tokens) vs
+  -- and if the server decides about a quiet comment by its own text, exactly those that it reads in
+  -- the query with its names in lower case.
+  pub tokens : (server : Server) (mode : Bool) (set : CharacterSet) (us : List Token) →
+      IsHonest server → DecidesWithin server →
+      IsReadOn server mode (seen set (text_of (lower_names ts))) us →
+      IsReadOn server mode (seen set text)
+      (with_literal_tokens us steady_text.literal_tokens)
+
+-- the error is the first that holds, as without wide names, or out of memory, which may also come
+-- for the copy of the query in lower case
+abbrev pub IsWideSteadyRefusal : List ℕ → Option Unportable → Option Cause → SteadyTextError
+    → Type 0
+IsWideSteadyRefusal query unportable cause error =
+    (error ≡ Bind (Memory alloc_error)) ⊎ IsSteadyRefusal query unportable cause error
