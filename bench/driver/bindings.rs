@@ -58,8 +58,18 @@ const TEXTS: [&[u8]; 43] = [
 /// Pieces that may leave a token open.
 const OPEN: [&[u8]; 12] =
     [b"'", b"\"", b"`", b"\\", b"/*", b"--", b"-- ", b"#", b":", b"'\\", b"/*/", b"'a\\'"];
-const NAMES: [&[u8]; 8] =
-    [b"a", b"b", b"ab", b"a1", b"_", b"_x9", b"name", b"a_long_name_of_28_bytes_in_all"];
+const NAMES: [&[u8]; 10] = [
+    b"a",
+    b"b",
+    b"ab",
+    b"a1",
+    b"_",
+    b"_x9",
+    b"name",
+    b"a_long_name_of_28_bytes_in_all",
+    b"userId",
+    b"A",
+];
 
 /// Compares so many calls of `names`, and as many of `bind`, each in both modes, and of binding for any server.
 pub fn compare(count: u64, differences: &mut Differences) {
@@ -78,14 +88,16 @@ pub fn compare(count: u64, differences: &mut Differences) {
             _ => random.below(1024),
         };
         let room = room_for(&mut random, len);
-        for mode in [Mode::WithBackslashes, Mode::WithoutBackslashes] {
+        for mode in [Mode::WithBackslashes, Mode::WithoutBackslashes, Mode::ByWideNames] {
             differences.compare(Asked::Bind, mode, &query, &form, room);
         }
         // Steady literals are longer: the room may have them all, or miss some.
         let longer = room + random.below(256);
-        differences.compare(Asked::Bind, Mode::Anywhere, &query, &form, longer);
+        for mode in [Mode::Anywhere, Mode::AnywhereByWideNames] {
+            differences.compare(Asked::Bind, mode, &query, &form, longer);
+        }
         let room = query.len() + random.below(query.len() + 2);
-        for mode in [Mode::WithBackslashes, Mode::WithoutBackslashes] {
+        for mode in [Mode::WithBackslashes, Mode::WithoutBackslashes, Mode::ByWideNames] {
             differences.compare(Asked::Names, mode, &query, &[], room);
         }
     }

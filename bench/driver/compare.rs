@@ -7,6 +7,7 @@ use crate::differences::Differences;
 use crate::fragment_bindings;
 use crate::other_mode::WithoutBackslashes;
 use crate::portable;
+use crate::wide_names::WideNames;
 use crate::row_bindings;
 use plain::form;
 use plain::query::next_place;
@@ -18,18 +19,29 @@ use std::time::Instant;
 /// after it, one at both sides; and one that may stand at neither and is plain everywhere.
 const ALPHABET: &[u8] = b"'\"`\\#-/*:?a1 \n\t!(+\xFF";
 
+/// The bytes that begin, continue, or stand beside a wide name, or hide one.
+const WIDE_ALPHABET: &[u8] = b":aA_0'-/? ";
+
 /// Room for each answer to a query of up to 8 bytes.
 const SHORT_ROOM: usize = 256;
 
 /// Compares on every query of up to `longest` bytes, and on so many random bindings, rows,
 /// fragments and queries.
 pub fn compare(longest: usize, count: u64) -> ExitCode {
-    let start = Instant::now();
     let mut differences = Differences::default();
-    let queries = short_queries(longest, &mut differences);
-    let (calls, seconds) = (differences.calls, start.elapsed().as_secs());
-    let letters = ALPHABET.len();
-    println!("{queries} queries of up to {longest} of {letters} bytes: {calls} calls, {seconds} s");
+    let alphabets: [(&str, &[u8], ShortQuery); 2] = [
+        ("", ALPHABET, short_query),
+        (" by wide names", WIDE_ALPHABET, short_query_by_wide_names),
+    ];
+    for (by, alphabet, compare) in alphabets {
+        let (start, calls) = (Instant::now(), differences.calls);
+        let queries = short_queries(alphabet, longest, compare, &mut differences);
+        let (calls, seconds) = (differences.calls - calls, start.elapsed().as_secs());
+        let letters = alphabet.len();
+        println!(
+            "{queries} queries of up to {longest} of {letters} bytes{by}: {calls} calls, {seconds} s"
+        );
+    }
     let kinds: [(&str, fn(u64, &mut Differences)); 3] = [
         ("bindings", bindings::compare),
         ("rows", row_bindings::compare),
@@ -46,19 +58,27 @@ pub fn compare(longest: usize, count: u64) -> ExitCode {
     if is_judged_alike { printed } else { ExitCode::FAILURE }
 }
 
-/// Compares the calls on every query of up to so many bytes; gives their number.
-fn short_queries(longest: usize, differences: &mut Differences) -> u64 {
+/// What is compared of a query, with values for its marks, and one name with its value.
+type ShortQuery = fn(&[u8], &[Vec<u8>], &[u8], &mut Differences);
+
+/// Compares the calls on every query of up to so many of these bytes; gives their number.
+fn short_queries(
+    alphabet: &[u8],
+    longest: usize,
+    compare: ShortQuery,
+    differences: &mut Differences,
+) -> u64 {
     let values = example_values();
     let one_name = named_form(&[b"a"], &values);
     let mut queries = 0;
     for len in 0..=longest {
         let mut letters = vec![0; len];
         loop {
-            let query: Vec<u8> = letters.iter().map(|letter| ALPHABET[*letter]).collect();
-            short_query(&query, &values, &one_name, differences);
+            let query: Vec<u8> = letters.iter().map(|letter| alphabet[*letter]).collect();
+            compare(&query, &values, &one_name, differences);
             queries += 1;
             // The next query, as one counts.
-            let Some(at) = letters.iter().rposition(|letter| letter + 1 < ALPHABET.len()) else {
+            let Some(at) = letters.iter().rposition(|letter| letter + 1 < alphabet.len()) else {
                 break;
             };
             letters[at] += 1;
@@ -70,16 +90,29 @@ fn short_queries(longest: usize, differences: &mut Differences) -> u64 {
 
 /// The query in the mode with backslash escapes, and, if it has a backslash, in the other.
 fn short_query(query: &[u8], values: &[Vec<u8>], one_name: &[u8], differences: &mut Differences) {
-    short_query_in::<Table>(Mode::WithBackslashes, query, values, one_name, differences);
+    let modes = [Mode::WithBackslashes, Mode::Anywhere];
+    short_query_in::<Table>(modes, query, values, one_name, differences);
     if query.contains(&b'\\') {
-        let mode = Mode::WithoutBackslashes;
-        short_query_in::<WithoutBackslashes<Table>>(mode, query, values, one_name, differences);
+        let modes = [Mode::WithoutBackslashes, Mode::Anywhere];
+        short_query_in::<WithoutBackslashes<Table>>(modes, query, values, one_name, differences);
     }
 }
 
-/// Names, and binding with nothing, with one name, with one value, and with what fits the query.
+/// The query by wide names.
+fn short_query_by_wide_names(
+    query: &[u8],
+    values: &[Vec<u8>],
+    one_name: &[u8],
+    differences: &mut Differences,
+) {
+    let modes = [Mode::ByWideNames, Mode::AnywhereByWideNames];
+    short_query_in::<WideNames<Table>>(modes, query, values, one_name, differences);
+}
+
+/// Names, and binding in a mode and for any, with nothing, with one name, with one value, and with
+/// what fits the query.
 fn short_query_in<S: Search>(
-    mode: Mode,
+    [mode, anywhere]: [Mode; 2],
     query: &[u8],
     values: &[Vec<u8>],
     one_name: &[u8],
@@ -89,7 +122,7 @@ fn short_query_in<S: Search>(
     differences.compare(Asked::Names, mode, query, &[], SHORT_ROOM);
     for form in [&[], one_name, one_value.as_slice()] {
         differences.compare(Asked::Bind, mode, query, form, SHORT_ROOM);
-        differences.compare(Asked::Bind, Mode::Anywhere, query, form, SHORT_ROOM);
+        differences.compare(Asked::Bind, anywhere, query, form, SHORT_ROOM);
     }
     let (mut names, mut marks) = (Vec::new(), 0);
     let mut at = 0;
@@ -105,6 +138,9 @@ fn short_query_in<S: Search>(
         let form =
             if marks > 0 { positional_form(marks, values) } else { named_form(&names, values) };
         differences.compare(Asked::Bind, mode, query, &form, SHORT_ROOM);
+        if mode == Mode::ByWideNames {
+            differences.compare(Asked::Bind, anywhere, query, &form, SHORT_ROOM);
+        }
     }
 }
 

@@ -2,6 +2,7 @@
 
 use crate::archive;
 use crate::other_mode::{self, WithoutBackslashes};
+use crate::wide_names::{self, WideNames};
 use plain::all_fragments::{bind_form, bind_form_anywhere};
 use plain::room::Report;
 use plain::rows::Rows;
@@ -24,6 +25,10 @@ pub enum Mode {
     WithoutBackslashes,
     /// Binding for any mode.
     Anywhere,
+    /// With backslashes, by wide names.
+    ByWideNames,
+    /// Binding for any mode by wide names.
+    AnywhereByWideNames,
 }
 
 /// Number, rows and report of a call; the rows are 0 if it isn't one of rows.
@@ -126,8 +131,47 @@ const FRAGMENTS_ANYWHERE: &[Side] = &[
     (BY_16, |query, form, room| single(bind_form_anywhere::<Wide>(query, form, room))),
 ];
 
+const NAMES_WIDE: &[Side] = &[
+    (ARCHIVE, |query, _, room| single(wide_names::archive_names(query, room))),
+    (BY_TABLE, |query, _, room| single(wide_names::names::<Table>(query, room))),
+    (BY_16, |query, _, room| single(wide_names::names::<Wide>(query, room))),
+];
+
+const BIND_WIDE: &[Side] = &[
+    (ARCHIVE, |query, form, room| single(wide_names::archive_bind(query, form, room))),
+    (BY_TABLE, |query, form, room| single(wide_names::bind_form::<Table>(query, form, room))),
+    (BY_16, |query, form, room| single(wide_names::bind_form::<Wide>(query, form, room))),
+];
+
+const BIND_ANYWHERE_WIDE: &[Side] = &[
+    (ARCHIVE, |query, form, room| single(wide_names::archive_bind_anywhere(query, form, room))),
+    (BY_TABLE, |query, form, room| {
+        single(wide_names::bind_form_anywhere::<Table>(query, form, room))
+    }),
+    (BY_16, |query, form, room| single(wide_names::bind_form_anywhere::<Wide>(query, form, room))),
+];
+
+const FRAGMENTS_WIDE: &[Side] = &[
+    (ARCHIVE, |query, form, room| single(wide_names::archive_bind_fragments(query, form, room))),
+    (BY_TABLE, |query, form, room| single(bind_form::<WideNames<Table>>(query, form, room))),
+    (BY_16, |query, form, room| single(bind_form::<WideNames<Wide>>(query, form, room))),
+];
+
+const FRAGMENTS_ANYWHERE_WIDE: &[Side] = &[
+    (ARCHIVE, |query, form, room| {
+        single(wide_names::archive_bind_fragments_anywhere(query, form, room))
+    }),
+    (BY_TABLE, |query, form, room| {
+        single(bind_form_anywhere::<WideNames<Table>>(query, form, room))
+    }),
+    (BY_16, |query, form, room| {
+        single(bind_form_anywhere::<WideNames<Wide>>(query, form, room))
+    }),
+];
+
 /// The sides of a call: the archive, plain Rust by a table, plain Rust by 16 bytes, and then those
-/// that bind by a template. Names and rows for any mode are no call.
+/// that bind by a template. Names and rows for any mode are no call, and rows by wide names aren't
+/// compared.
 pub fn sides(asked: Asked, mode: Mode) -> &'static [Side] {
     match (asked, mode) {
         (Asked::Names, Mode::WithBackslashes) => NAMES,
@@ -140,6 +184,12 @@ pub fn sides(asked: Asked, mode: Mode) -> &'static [Side] {
         (Asked::Fragments, Mode::WithBackslashes) => FRAGMENTS,
         (Asked::Fragments, Mode::WithoutBackslashes) => FRAGMENTS_WITHOUT,
         (Asked::Fragments, Mode::Anywhere) => FRAGMENTS_ANYWHERE,
-        (Asked::Names | Asked::Rows, Mode::Anywhere) => &[],
+        (Asked::Names, Mode::ByWideNames) => NAMES_WIDE,
+        (Asked::Bind, Mode::ByWideNames) => BIND_WIDE,
+        (Asked::Bind, Mode::AnywhereByWideNames) => BIND_ANYWHERE_WIDE,
+        (Asked::Fragments, Mode::ByWideNames) => FRAGMENTS_WIDE,
+        (Asked::Fragments, Mode::AnywhereByWideNames) => FRAGMENTS_ANYWHERE_WIDE,
+        (Asked::Rows, Mode::ByWideNames)
+        | (Asked::Names | Asked::Rows, Mode::Anywhere | Mode::AnywhereByWideNames) => &[],
     }
 }

@@ -29,12 +29,14 @@ pub fn compare(count: u64, differences: &mut Differences) {
         let text = read.and_then(|given| all_fragments::bind::<Table>(&query, &given));
         let len = text.map_or_else(|_| random.below(1024), |text| text.len());
         let room = room_for(&mut random, len);
-        for mode in [Mode::WithBackslashes, Mode::WithoutBackslashes] {
+        for mode in [Mode::WithBackslashes, Mode::WithoutBackslashes, Mode::ByWideNames] {
             differences.compare(Asked::Fragments, mode, &query, &form, room);
         }
         // Steady literals are longer: the room may have them all, or miss some.
         let longer = room + random.below(256);
-        differences.compare(Asked::Fragments, Mode::Anywhere, &query, &form, longer);
+        for mode in [Mode::Anywhere, Mode::AnywhereByWideNames] {
+            differences.compare(Asked::Fragments, mode, &query, &form, longer);
+        }
     }
 }
 

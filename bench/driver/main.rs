@@ -20,6 +20,7 @@ mod row_bindings;
 mod rows;
 mod sides;
 mod time;
+mod wide_names;
 
 use crate::report::Report;
 use crate::time::{Input, best_times};

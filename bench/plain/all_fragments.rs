@@ -5,7 +5,7 @@
 use crate::bind::{BindError, Name, stands_alone};
 use crate::form::{FormError, Rest};
 use crate::portable::first_unportable;
-use crate::query::next_place;
+use crate::query::{lowered, next_place};
 use crate::room::{FAULT, Report, UNSTEADY_FRAGMENT, bind_answer, fill_text, form_answer};
 use crate::search::Search;
 use crate::value::{Value, append_double, append_literal, append_steady_literal, finite_double};
@@ -201,7 +201,7 @@ pub fn bind_anywhere<S: Search>(query: &[u8], given: &Given) -> Result<Vec<u8>, 
     if let Some(position) = query.iter().position(|byte| !is_steady(*byte)) {
         return Err(bind_answer(&BindError::Unsteady { position }));
     }
-    let (number, position) = first_unportable(query, false);
+    let (number, position) = first_unportable(&lowered::<S>(query), false);
     if number != 0 {
         return Err(bind_answer(&BindError::Unportable { number, position }));
     }

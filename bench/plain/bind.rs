@@ -1,7 +1,7 @@
 //! Binding in one scan into one vector, after docs/RULES.md.
 
 use crate::portable::first_unportable;
-use crate::query::next_place;
+use crate::query::{lowered, next_place};
 use crate::search::{Search, set};
 use crate::value::{Params, Value, append_literal, append_steady_literal};
 
@@ -71,7 +71,7 @@ pub fn bind_anywhere<S: Search>(query: &[u8], params: &Params) -> Result<Vec<u8>
     if let Some(position) = query.iter().position(|byte| *byte >= 128 || *byte == b'\\') {
         return Err(BindError::Unsteady { position });
     }
-    match first_unportable(query, false) {
+    match first_unportable(&lowered::<S>(query), false) {
         (0, _) => bind_with::<S>(query, params, append_steady_literal::<S>),
         (number, position) => Err(BindError::Unportable { number, position }),
     }

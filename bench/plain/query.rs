@@ -1,6 +1,7 @@
 //! The places of a query, the renamed query and its names, after docs/RULES.md.
 
 use crate::search::Search;
+use std::borrow::Cow;
 
 const fn class(ranges: &[(u8, u8)]) -> [bool; 256] {
     let mut table = [false; 256];
@@ -26,7 +27,7 @@ pub fn next_place<S: Search>(query: &[u8], mut at: usize) -> Option<(usize, usiz
         match *query.get(at)? {
             b'?' => return Some((at, at + 1)),
             b':' => {
-                let end = name_end(query, at + 1);
+                let end = name_end::<S>(query, at + 1);
                 if end > at + 1 {
                     return Some((at, end));
                 }
@@ -54,15 +55,32 @@ fn after(query: &[u8], at: usize, count: usize) -> usize {
 }
 
 #[inline(always)]
-fn name_end(query: &[u8], from: usize) -> usize {
-    if !matches!(query.get(from), Some(b'a'..=b'z' | b'_')) {
-        return from;
+fn name_end<S: Search>(query: &[u8], from: usize) -> usize {
+    let is_capital = |byte: u8| S::WIDE_NAMES && byte.is_ascii_uppercase();
+    match query.get(from) {
+        Some(b'a'..=b'z' | b'_') => {}
+        Some(byte) if is_capital(*byte) => {}
+        _ => return from,
     }
     let mut at = from + 1;
-    while at < query.len() && IS_NAME_BYTE[query[at] as usize] {
+    while at < query.len() && (IS_NAME_BYTE[query[at] as usize] || is_capital(query[at])) {
         at += 1;
     }
     at
+}
+
+/// The query with its names in lower case, if they may have capitals.
+pub fn lowered<S: Search>(query: &[u8]) -> Cow<'_, [u8]> {
+    if !S::WIDE_NAMES {
+        return Cow::Borrowed(query);
+    }
+    let mut text = query.to_vec();
+    let mut at = 0;
+    while let Some((start, end)) = next_place::<S>(query, at) {
+        text[start..end].make_ascii_lowercase();
+        at = end;
+    }
+    Cow::Owned(text)
 }
 
 #[inline(always)]

@@ -14,6 +14,8 @@ use std::arch::x86_64::{
 pub trait Search {
     /// The mode: whether a backslash is a byte like any other.
     const NO_BACKSLASH_ESCAPE: bool = false;
+    /// Whether names are wide ones, which may have capitals.
+    const WIDE_NAMES: bool = false;
     /// A byte that may begin a token other than a plain byte.
     fn token_start(text: &[u8], from: usize) -> usize;
     /// One of two bytes.

@@ -366,9 +366,15 @@ static bool grow_texts(mysql_params_texts *texts, size_t more)
     return true;
 }
 
-int32_t mysql_params_bind_all_rows(const uint8_t *query, size_t query_len, const uint8_t *forms, size_t forms_len,
-                                   bool no_backslash_escape, mysql_params_texts *texts, mysql_params_rows *rows,
-                                   mysql_params_report *report)
+/* The calls that bind rows, by names without capitals and by wide ones. */
+typedef int32_t rows_call(const uint8_t *query, size_t query_len, const uint8_t *forms, size_t forms_len,
+                          bool no_backslash_escape, uint8_t *room, size_t room_len, mysql_params_rows *rows,
+                          mysql_params_report *report);
+
+/* Binds all rows by a call, into memory that grows. */
+static int32_t bind_growing(rows_call *bind_rows, const uint8_t *query, size_t query_len, const uint8_t *forms,
+                            size_t forms_len, bool no_backslash_escape, mysql_params_texts *texts,
+                            mysql_params_rows *rows, mysql_params_report *report)
 {
     const mysql_params_report nothing = {0, 0, 0, 0, 0, 0};
     const mysql_params_rows none = {0, 0, 0};
@@ -377,8 +383,8 @@ int32_t mysql_params_bind_all_rows(const uint8_t *query, size_t query_len, const
     for (;;) {
         mysql_params_rows some = none;
         uint8_t *room = texts->at == NULL ? &lent : texts->at + texts->len;
-        int32_t number = mysql_params_bind_rows(query, query_len, forms + rows->read, forms_len - rows->read,
-                                                no_backslash_escape, room, texts->room_len - texts->len, &some, report);
+        int32_t number = bind_rows(query, query_len, forms + rows->read, forms_len - rows->read, no_backslash_escape, room,
+                                   texts->room_len - texts->len, &some, report);
         rows->count += some.count;
         rows->read += some.read;
         rows->written += some.written;
@@ -392,6 +398,22 @@ int32_t mysql_params_bind_all_rows(const uint8_t *query, size_t query_len, const
             return MYSQL_PARAMS_OUT_OF_MEMORY;
         }
     }
+}
+
+int32_t mysql_params_bind_all_rows(const uint8_t *query, size_t query_len, const uint8_t *forms, size_t forms_len,
+                                   bool no_backslash_escape, mysql_params_texts *texts, mysql_params_rows *rows,
+                                   mysql_params_report *report)
+{
+    return bind_growing(mysql_params_bind_rows, query, query_len, forms, forms_len, no_backslash_escape, texts, rows,
+                        report);
+}
+
+int32_t mysql_params_bind_all_rows_wide(const uint8_t *query, size_t query_len, const uint8_t *forms, size_t forms_len,
+                                        bool no_backslash_escape, mysql_params_texts *texts, mysql_params_rows *rows,
+                                        mysql_params_report *report)
+{
+    return bind_growing(mysql_params_bind_rows_wide, query, query_len, forms, forms_len, no_backslash_escape, texts, rows,
+                        report);
 }
 
 bool mysql_params_next_string(const uint8_t **answer, size_t *len, mysql_params_string *string)
@@ -661,6 +683,14 @@ static void append_message(line *to, int32_t number, const mysql_params_report *
     }
 }
 
+/* Ends a line by a zero byte, and returns its whole length without that. */
+static size_t end_line(line *to)
+{
+    if (to->room_len > 0)
+        to->bytes[to->len < to->room_len ? to->len : to->room_len - 1] = '\0';
+    return to->len;
+}
+
 size_t mysql_params_message(int32_t number, const mysql_params_report *report,
                             const uint8_t *source, size_t source_len,
                             char *line_room, size_t line_len)
@@ -668,9 +698,16 @@ size_t mysql_params_message(int32_t number, const mysql_params_report *report,
     line to = {line_room, line_len, 0};
     append_message(&to, number, report, source, source_len);
     append_hint(&to, number, report, source, source_len);
-    if (line_len > 0)
-        line_room[to.len < line_len ? to.len : line_len - 1] = '\0';
-    return to.len;
+    return end_line(&to);
+}
+
+size_t mysql_params_message_wide(int32_t number, const mysql_params_report *report,
+                                 const uint8_t *source, size_t source_len,
+                                 char *line_room, size_t line_len)
+{
+    line to = {line_room, line_len, 0};
+    append_message(&to, number, report, source, source_len);
+    return end_line(&to);
 }
 
 const char *mysql_params_construct_message(int32_t construct)
@@ -760,10 +797,22 @@ int32_t mysql_params_bind_form(const uint8_t *query, size_t query_len, const mys
     return bind_into_memory(mysql_params_bind, query, query_len, form, no_backslash_escape, text, report);
 }
 
+int32_t mysql_params_bind_form_wide(const uint8_t *query, size_t query_len, const mysql_params_form *form,
+                                    bool no_backslash_escape, char **text, mysql_params_report *report)
+{
+    return bind_into_memory(mysql_params_bind_wide, query, query_len, form, no_backslash_escape, text, report);
+}
+
 int32_t mysql_params_bind_fragments_form(const uint8_t *query, size_t query_len, const mysql_params_form *form,
                                          bool no_backslash_escape, char **text, mysql_params_report *report)
 {
     return bind_into_memory(mysql_params_bind_fragments, query, query_len, form, no_backslash_escape, text, report);
+}
+
+int32_t mysql_params_bind_fragments_form_wide(const uint8_t *query, size_t query_len, const mysql_params_form *form,
+                                              bool no_backslash_escape, char **text, mysql_params_report *report)
+{
+    return bind_into_memory(mysql_params_bind_fragments_wide, query, query_len, form, no_backslash_escape, text, report);
 }
 
 /* As mysql_params_bind_fragments_anywhere; the mode is not looked at. */
@@ -780,12 +829,28 @@ int32_t mysql_params_bind_fragments_anywhere_form(const uint8_t *query, size_t q
     return bind_into_memory(bind_in_no_mode, query, query_len, form, false, text, report);
 }
 
+/* As mysql_params_bind_fragments_anywhere_wide; the mode is not looked at. */
+static int32_t bind_wide_in_no_mode(const uint8_t *query, size_t query_len, const uint8_t *form, size_t form_len,
+                                    bool no_backslash_escape, uint8_t *room, size_t room_len, mysql_params_report *report)
+{
+    (void)no_backslash_escape;
+    return mysql_params_bind_fragments_anywhere_wide(query, query_len, form, form_len, room, room_len, report);
+}
+
+int32_t mysql_params_bind_fragments_anywhere_form_wide(const uint8_t *query, size_t query_len,
+                                                       const mysql_params_form *form, char **text,
+                                                       mysql_params_report *report)
+{
+    return bind_into_memory(bind_wide_in_no_mode, query, query_len, form, false, text, report);
+}
+
 /* A query and its table, in one block: the places and the query's bytes follow the fields. */
 struct mysql_params_template {
     mysql_params_table_head head;
     size_t places_len;
     size_t query_len;
     bool no_backslash_escape;
+    bool wide_names;
 };
 
 /* Returns the places of a template, which stand after its fields. */
@@ -802,14 +867,20 @@ static const uint8_t *query_of(const mysql_params_template *made)
     return (const uint8_t *)after;
 }
 
-mysql_params_template *mysql_params_template_new(const uint8_t *query, size_t query_len, bool no_backslash_escape)
+/* The calls that make a table, by names without capitals and by wide ones. */
+typedef int32_t table_call(const uint8_t *query, size_t query_len, bool no_backslash_escape, mysql_params_table_head *head,
+                           mysql_params_place *places, size_t places_len, mysql_params_report *report);
+
+/* Makes a template by a call. */
+static mysql_params_template *new_template(table_call *table, const uint8_t *query, size_t query_len,
+                                           bool no_backslash_escape, bool wide_names)
 {
     mysql_params_table_head head = {0, 0, 0, 0, 0, 0};
     mysql_params_place none = {0, 0};
     mysql_params_report report = {0, 0, 0, 0, 0, 0};
     size_t places_len = 0;
     /* With no room it tells the number of the places. */
-    int32_t number = mysql_params_table(query, query_len, no_backslash_escape, &head, &none, 0, &report);
+    int32_t number = table(query, query_len, no_backslash_escape, &head, &none, 0, &report);
     if (number == MYSQL_PARAMS_ROOM)
         places_len = report.len;
     else if (number != MYSQL_PARAMS_DONE)
@@ -824,14 +895,25 @@ mysql_params_template *mysql_params_template_new(const uint8_t *query, size_t qu
     made->places_len = places_len;
     made->query_len = query_len;
     made->no_backslash_escape = no_backslash_escape;
+    made->wide_names = wide_names;
     void *places = made + 1;
     void *copy = (mysql_params_place *)places + places_len;
     memcpy(copy, query, query_len);
-    if (mysql_params_table((uint8_t *)copy, query_len, no_backslash_escape, &made->head, (mysql_params_place *)places,
-                           places_len, &report) == MYSQL_PARAMS_DONE)
+    if (table((uint8_t *)copy, query_len, no_backslash_escape, &made->head, (mysql_params_place *)places, places_len,
+              &report) == MYSQL_PARAMS_DONE)
         return made;
     free(made);
     return NULL;
+}
+
+mysql_params_template *mysql_params_template_new(const uint8_t *query, size_t query_len, bool no_backslash_escape)
+{
+    return new_template(mysql_params_table, query, query_len, no_backslash_escape, false);
+}
+
+mysql_params_template *mysql_params_template_new_wide(const uint8_t *query, size_t query_len, bool no_backslash_escape)
+{
+    return new_template(mysql_params_table_wide, query, query_len, no_backslash_escape, true);
 }
 
 void mysql_params_template_free(mysql_params_template *made)
@@ -848,6 +930,10 @@ const uint8_t *mysql_params_template_query(const mysql_params_template *made, si
 int32_t mysql_params_template_bind(const mysql_params_template *made, const uint8_t *form, size_t form_len,
                                    uint8_t *room, size_t room_len, mysql_params_report *report)
 {
+    if (made->wide_names)
+        return mysql_params_bind_template_wide(query_of(made), made->query_len, &made->head, places_of(made),
+                                               made->places_len, form, form_len, made->no_backslash_escape, room, room_len,
+                                               report);
     return mysql_params_bind_template(query_of(made), made->query_len, &made->head, places_of(made), made->places_len,
                                       form, form_len, made->no_backslash_escape, room, room_len, report);
 }
@@ -874,16 +960,18 @@ int32_t mysql_params_template_bind_rows(const mysql_params_template *made, const
                                         uint8_t *room, size_t room_len, mysql_params_rows *rows,
                                         mysql_params_report *report)
 {
-    return mysql_params_bind_rows(query_of(made), made->query_len, forms, forms_len, made->no_backslash_escape, room,
-                                  room_len, rows, report);
+    rows_call *bind_rows = made->wide_names ? mysql_params_bind_rows_wide : mysql_params_bind_rows;
+    return bind_rows(query_of(made), made->query_len, forms, forms_len, made->no_backslash_escape, room, room_len, rows,
+                     report);
 }
 
 int32_t mysql_params_template_bind_all_rows(const mysql_params_template *made, const uint8_t *forms, size_t forms_len,
                                             mysql_params_texts *texts, mysql_params_rows *rows,
                                             mysql_params_report *report)
 {
-    return mysql_params_bind_all_rows(query_of(made), made->query_len, forms, forms_len, made->no_backslash_escape, texts,
-                                      rows, report);
+    rows_call *bind_rows = made->wide_names ? mysql_params_bind_rows_wide : mysql_params_bind_rows;
+    return bind_growing(bind_rows, query_of(made), made->query_len, forms, forms_len, made->no_backslash_escape, texts,
+                        rows, report);
 }
 
 bool mysql_params_processor_suffices(void)

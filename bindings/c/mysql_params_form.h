@@ -175,6 +175,20 @@ int32_t mysql_params_template_bind(const mysql_params_template *made, const uint
 int32_t mysql_params_template_bind_form(const mysql_params_template *made, const mysql_params_form *form, char **text,
                                         mysql_params_report *report);
 
+/* The same by wide names, as `:userId`: mysql_params.h says what these are. A template of mysql_params_template_new_wide is
+ * bound by the calls above and below, which then read its query so. */
+int32_t mysql_params_bind_form_wide(const uint8_t *query, size_t query_len, const mysql_params_form *form,
+                                    bool no_backslash_escape, char **text, mysql_params_report *report);
+
+int32_t mysql_params_bind_fragments_form_wide(const uint8_t *query, size_t query_len, const mysql_params_form *form,
+                                              bool no_backslash_escape, char **text, mysql_params_report *report);
+
+int32_t mysql_params_bind_fragments_anywhere_form_wide(const uint8_t *query, size_t query_len,
+                                                       const mysql_params_form *form, char **text,
+                                                       mysql_params_report *report);
+
+mysql_params_template *mysql_params_template_new_wide(const uint8_t *query, size_t query_len, bool no_backslash_escape);
+
 /* Appends a row to the forms of mysql_params_bind_rows: a form as a length-encoded string. `forms` is set up as a form is,
  * and has nothing else appended. Returns as the functions above. It appends no row that lacks a parameter, whose own
  * `needed` isn't its `len`: then `needed` of `forms` is SIZE_MAX. The row doesn't overlap the room. */
@@ -197,6 +211,14 @@ int32_t mysql_params_bind_all_rows(const uint8_t *query, size_t query_len,
                                    mysql_params_texts *texts,
                                    mysql_params_rows *rows,
                                    mysql_params_report *report);
+
+/* The same by wide names. */
+int32_t mysql_params_bind_all_rows_wide(const uint8_t *query, size_t query_len,
+                                        const uint8_t *forms, size_t forms_len,
+                                        bool no_backslash_escape,
+                                        mysql_params_texts *texts,
+                                        mysql_params_rows *rows,
+                                        mysql_params_report *report);
 
 /* Binds rows as mysql_params_bind_rows does to the template's query. That finds the places once for all rows by itself, and
  * not by the template's table: each call walks the query once, or twice if it has more than 16 places. */
@@ -232,6 +254,11 @@ bool mysql_params_next_string(const uint8_t **answer, size_t *len, mysql_params_
 size_t mysql_params_message(int32_t number, const mysql_params_report *report,
                             const uint8_t *source, size_t source_len,
                             char *line, size_t line_len);
+
+/* The same for a number of a call by wide names: it doesn't say what names are of. */
+size_t mysql_params_message_wide(int32_t number, const mysql_params_report *report,
+                                 const uint8_t *source, size_t source_len,
+                                 char *line, size_t line_len);
 
 /* Returns what a number of enum mysql_params_construct says, with what to write instead: one line of printable ASCII,
  * ended by a zero byte. Null for MYSQL_PARAMS_PORTABLE, and for what is no number of that enum. */

@@ -105,6 +105,73 @@ typedef struct outcome {
  * or both modes. */
 static enum { NAMES, BIND, BIND_TEMPLATE, BIND_FRAGMENTS, BIND_ANYWHERE, BIND_IN_BOTH_MODES, BIND_FRAGMENTS_ANYWHERE } tried;
 
+/* The calls of the archive, by the names of the grammar or by wide ones. */
+typedef int32_t in_a_mode(const uint8_t *, size_t, const uint8_t *, size_t, bool, uint8_t *, size_t, mysql_params_report *);
+typedef int32_t for_any_server(const uint8_t *, size_t, const uint8_t *, size_t, uint8_t *, size_t, mysql_params_report *);
+
+typedef struct calls {
+    int32_t (*names)(const uint8_t *, size_t, bool, uint8_t *, size_t, mysql_params_report *);
+    in_a_mode *bind;
+    in_a_mode *bind_fragments;
+    for_any_server *bind_anywhere;
+    for_any_server *bind_in_both_modes;
+    for_any_server *bind_fragments_anywhere;
+    mysql_params_template *(*template_new)(const uint8_t *, size_t, bool);
+    int32_t (*bind_rows)(const uint8_t *, size_t, const uint8_t *, size_t, bool, uint8_t *, size_t, mysql_params_rows *,
+                         mysql_params_report *);
+    int32_t (*bind_all_rows)(const uint8_t *, size_t, const uint8_t *, size_t, bool, mysql_params_texts *,
+                             mysql_params_rows *, mysql_params_report *);
+    int32_t (*first_unportable)(const uint8_t *, size_t, bool, mysql_params_report *);
+    int32_t (*first_unportable_in_client)(const uint8_t *, size_t, bool, mysql_params_report *);
+    size_t (*message)(int32_t, const mysql_params_report *, const uint8_t *, size_t, char *, size_t);
+} calls;
+
+static const calls by_grammar = {
+    mysql_params_names,
+    mysql_params_bind,
+    mysql_params_bind_fragments,
+    mysql_params_bind_anywhere,
+    mysql_params_bind_in_both_modes,
+    mysql_params_bind_fragments_anywhere,
+    mysql_params_template_new,
+    mysql_params_bind_rows,
+    mysql_params_bind_all_rows,
+    mysql_params_first_unportable,
+    mysql_params_first_unportable_in_client,
+    mysql_params_message,
+};
+
+static const calls by_wide_names = {
+    mysql_params_names_wide,
+    mysql_params_bind_wide,
+    mysql_params_bind_fragments_wide,
+    mysql_params_bind_anywhere_wide,
+    mysql_params_bind_in_both_modes_wide,
+    mysql_params_bind_fragments_anywhere_wide,
+    mysql_params_template_new_wide,
+    mysql_params_bind_rows_wide,
+    mysql_params_bind_all_rows_wide,
+    mysql_params_first_unportable_wide,
+    mysql_params_first_unportable_in_client_wide,
+    mysql_params_message_wide,
+};
+
+/* Those that are tried. */
+static const calls *by = &by_grammar;
+
+/* Whether a capital may stand in a name: behind a colon, and letters, digits and `_`. */
+static bool may_have_capitals(bytes query)
+{
+    bool inside = false;
+    for (size_t i = 0; i < query.len; i++) {
+        uint8_t byte = query.at[i];
+        if (inside && byte >= 'A' && byte <= 'Z')
+            return true;
+        inside = byte == ':' || (inside && (byte == '_' || (byte >= 'a' && byte <= 'z') || (byte >= '0' && byte <= '9')));
+    }
+    return false;
+}
+
 /* How many allocations of a call succeed: all of them. */
 enum { ALL = -1 };
 
@@ -118,7 +185,7 @@ static outcome call(const test_case *it, size_t room_len, long allocations)
         exit(2);
     memset(is.room, UNTOUCHED, room_len > 0 ? room_len : 1);
     bool mode = it->no_backslash_escape;
-    mysql_params_template *made = mysql_params_template_new(query, it->query.len, mode);
+    mysql_params_template *made = by->template_new(query, it->query.len, mode);
     /* It has a copy of the query. */
     if (tried == BIND_TEMPLATE && it->query.len > 0)
         memset(query, '?', it->query.len);
@@ -128,20 +195,17 @@ static outcome call(const test_case *it, size_t room_len, long allocations)
     if (tried == BIND_TEMPLATE)
         is.number = mysql_params_template_bind(made, form, it->form.len, is.room, room_len, &is.report);
     else if (tried == NAMES)
-        is.number = mysql_params_names(query, it->query.len, mode, is.room, room_len, &is.report);
+        is.number = by->names(query, it->query.len, mode, is.room, room_len, &is.report);
     else if (tried == BIND_ANYWHERE)
-        is.number = mysql_params_bind_anywhere(query, it->query.len, form, it->form.len, is.room, room_len, &is.report);
+        is.number = by->bind_anywhere(query, it->query.len, form, it->form.len, is.room, room_len, &is.report);
     else if (tried == BIND_IN_BOTH_MODES)
-        is.number = mysql_params_bind_in_both_modes(query, it->query.len, form, it->form.len, is.room, room_len,
-                                                    &is.report);
+        is.number = by->bind_in_both_modes(query, it->query.len, form, it->form.len, is.room, room_len, &is.report);
     else if (tried == BIND_FRAGMENTS_ANYWHERE)
-        is.number = mysql_params_bind_fragments_anywhere(query, it->query.len, form, it->form.len, is.room, room_len,
-                                                         &is.report);
+        is.number = by->bind_fragments_anywhere(query, it->query.len, form, it->form.len, is.room, room_len, &is.report);
     else if (tried == BIND_FRAGMENTS)
-        is.number = mysql_params_bind_fragments(query, it->query.len, form, it->form.len, mode, is.room, room_len,
-                                                &is.report);
+        is.number = by->bind_fragments(query, it->query.len, form, it->form.len, mode, is.room, room_len, &is.report);
     else
-        is.number = mysql_params_bind(query, it->query.len, form, it->form.len, mode, is.room, room_len, &is.report);
+        is.number = by->bind(query, it->query.len, form, it->form.len, mode, is.room, room_len, &is.report);
     allocations_left = ALL;
     expect(blocks == before, it, "memory isn't given back");
     mysql_params_template_free(made);
@@ -181,8 +245,11 @@ static void expect_message(const test_case *it, const outcome *is)
                it, "another name is wanted");
     if (it->message.len == 0)
         return;
-    size_t len = mysql_params_message(is->number, &is->report, source.at, source.len, line, sizeof line);
-    expect(len == it->message.len && strcmp(line, (const char *)it->message.at) == 0, it, "another message is wanted");
+    size_t len = by->message(is->number, &is->report, source.at, source.len, line, sizeof line);
+    /* By wide names it doesn't say what names are of. */
+    const char *wanted = (const char *)it->message.at, *advice = strstr(wanted, ": names are of ");
+    size_t wanted_len = by == &by_wide_names && advice != NULL ? (size_t)(advice - wanted) : it->message.len;
+    expect(len == wanted_len && memcmp(line, wanted, wanted_len) == 0, it, "another message is wanted");
 }
 
 /* A case with room enough, exact, one byte too short, and none. */
@@ -257,7 +324,7 @@ static mysql_params_template *template_of(const test_case *it, uint8_t *query)
 {
     if (tried != BIND_TEMPLATE)
         return NULL;
-    mysql_params_template *made = mysql_params_template_new(query, it->query.len, it->no_backslash_escape);
+    mysql_params_template *made = by->template_new(query, it->query.len, it->no_backslash_escape);
     if (made == NULL)
         exit(2);
     if (it->query.len > 0)
@@ -280,8 +347,8 @@ static bool try_rows_in(const test_case *it, size_t room_len, long allocations)
     allocation_refused = false;
     allocations_left = allocations;
     int32_t number =
-        made == NULL ? mysql_params_bind_rows(query, it->query.len, forms, it->forms.len, it->no_backslash_escape, room,
-                                              room_len, &rows, &report)
+        made == NULL ? by->bind_rows(query, it->query.len, forms, it->forms.len, it->no_backslash_escape, room, room_len,
+                                     &rows, &report)
                      : mysql_params_template_bind_rows(made, forms, it->forms.len, room, room_len, &rows, &report);
     allocations_left = ALL;
     expect(blocks == before, it, "memory isn't given back");
@@ -323,8 +390,8 @@ static void try_rows(const test_case *it)
     for (int round = 1; round <= 2; round++) {
         int32_t number =
             made == NULL
-                ? mysql_params_bind_all_rows(query, it->query.len, it->forms.at, it->forms.len, it->no_backslash_escape,
-                                             &texts, &rows, &report)
+                ? by->bind_all_rows(query, it->query.len, it->forms.at, it->forms.len, it->no_backslash_escape, &texts,
+                                    &rows, &report)
                 : mysql_params_template_bind_all_rows(made, it->forms.at, it->forms.len, &texts, &rows, &report);
         expect(number == it->number && same_report(&report, &it->report), it, "another end of all rows is wanted");
         expect(rows.count == it->texts && rows.read == it->read && rows.written == it->answer.len, it,
@@ -385,6 +452,102 @@ static void portable_queries(void)
     test_case it = {0};
     for (size_t i = 0; i < sizeof others / sizeof others[0]; i++)
         expect(mysql_params_construct_message(others[i]) == NULL, &it, "a message of no construct");
+}
+
+/* A case whose query has no capital in a name, which the calls by wide names answer alike. */
+static void try_rooms_alike(const test_case *it)
+{
+    if (!may_have_capitals(it->query))
+        try_rooms(it);
+}
+
+static void try_rows_alike(const test_case *it)
+{
+    if (!may_have_capitals(it->query))
+        try_rows(it);
+}
+
+static void try_construct_alike(const test_case *it)
+{
+    if (!may_have_capitals(it->query))
+        try_construct(it);
+}
+
+/* Memory is asked for only for a copy of a query with a capital in a name. */
+static void try_copied_construct(const test_case *it)
+{
+    mysql_params_report report = {9, 9, 9, 9, 9, 9}, none = {0};
+    allocation_refused = false;
+    allocations_left = 0;
+    int32_t number = first_of_case(it->query.at, it->query.len, it->no_backslash_escape, &report);
+    allocations_left = ALL;
+    expect(allocation_refused == (number == MYSQL_PARAMS_NO_MEMORY), it, "another refusal of memory is wanted");
+    expect(!allocation_refused || same_report(&report, &none), it, "the report isn't empty");
+    number = first_of_case(it->query.at, it->query.len, it->no_backslash_escape, &report);
+    expect(number == it->number && same_report(&report, &it->report), it, "another construct is wanted");
+}
+
+/* The table of a query with capitals, and a text by it. */
+static void tables_by_wide_names(void)
+{
+    static const uint8_t query[] = "SELECT :userId, ':ID', :ID";
+    /* `ID` is NULL, and `userId` the number 7 in one byte. */
+    static const uint8_t form[] = {2, 'I', 'D', 6, 0, 6, 'u', 's', 'e', 'r', 'I', 'd', 1, 0, 7};
+    static const char text[] = "SELECT 7, ':ID', NULL";
+    static const mysql_params_table_head wanted_head = {2, 0, 0, 0, 0, 16};
+    static const mysql_params_place wanted_places[] = {{7, 7}, {9, 3}};
+    mysql_params_table_head head = {9, 9, 9, 9, 9, 9};
+    mysql_params_place places[] = {{9, 9}, {9, 9}};
+    mysql_params_report report = {9, 9, 9, 9, 9, 9};
+    uint8_t room[sizeof text] = {0};
+    test_case it = {0};
+    int32_t number = mysql_params_table_wide(query, sizeof query - 1, false, &head, places, 2, &report);
+    expect(number == MYSQL_PARAMS_DONE && report.len == 2, &it, "the number of places is wanted");
+    expect(memcmp(&head, &wanted_head, sizeof head) == 0, &it, "another head is wanted");
+    expect(memcmp(places, wanted_places, sizeof places) == 0, &it, "other places are wanted");
+    number = mysql_params_bind_template_wide(query, sizeof query - 1, &head, places, 2, form, sizeof form, false, room,
+                                             sizeof text - 1, &report);
+    expect(number == MYSQL_PARAMS_DONE && report.len == sizeof text - 1, &it, "a text is wanted");
+    expect(memcmp(room, text, sizeof text) == 0, &it, "another text is wanted");
+}
+
+/* What is tried of a file, by the calls by wide names. */
+static const struct {
+    int call; /* a value of `tried` */
+    const char *file;
+    const char *wide_file; /* or null */
+} wide_files[] = {
+    {NAMES, "names.txt", "wide/names.txt"},
+    {BIND, "bind.txt", "wide/bind.txt"},
+    {BIND, "forms.txt", NULL},
+    {BIND_TEMPLATE, "bind.txt", "wide/bind.txt"},
+    {BIND_ANYWHERE, "anywhere.txt", "wide/anywhere.txt"},
+    {BIND_IN_BOTH_MODES, "both_modes.txt", "wide/both_modes.txt"},
+    {BIND_FRAGMENTS, "fragments.txt", "wide/fragments.txt"},
+    {BIND_FRAGMENTS_ANYWHERE, "fragments_anywhere.txt", "wide/fragments_anywhere.txt"},
+};
+
+static void wide_names(void)
+{
+    by = &by_wide_names;
+    for (size_t i = 0; i < sizeof wide_files / sizeof wide_files[0]; i++) {
+        tried = wide_files[i].call;
+        each_case(folder, wide_files[i].file, try_rooms_alike);
+        if (wide_files[i].wide_file != NULL)
+            each_case(folder, wide_files[i].wide_file, try_rooms);
+    }
+    tried = BIND;
+    each_case(folder, "rows.txt", try_rows_alike);
+    each_case(folder, "wide/rows.txt", try_rows);
+    tried = BIND_TEMPLATE;
+    each_case(folder, "wide/rows.txt", try_rows);
+    first_of_case = by->first_unportable;
+    each_case(folder, "portable.txt", try_construct_alike);
+    each_case(folder, "wide/portable.txt", try_copied_construct);
+    first_of_case = by->first_unportable_in_client;
+    each_case(folder, "in_client.txt", try_construct_alike);
+    each_case(folder, "wide/in_client.txt", try_copied_construct);
+    by = &by_grammar;
 }
 
 /* Appends a byte, often. */
@@ -1100,6 +1263,13 @@ static void out_of_memory(void)
     each_case(folder, "both_modes.txt", try_without_memory);
     tried = NAMES;
     each_case(folder, "names.txt", try_without_memory);
+    by = &by_wide_names;
+    for (size_t i = 0; i < sizeof wide_files / sizeof wide_files[0]; i++) {
+        tried = wide_files[i].call;
+        if (wide_files[i].wide_file != NULL)
+            each_case(folder, wide_files[i].wide_file, try_without_memory);
+    }
+    by = &by_grammar;
     /* No text is written without any memory. */
     uint8_t form[] = {0, 0xFD, 0, 1, 'x'}, query[] = {'?'};
     test_case it = {0};
@@ -1144,6 +1314,8 @@ int main(int count, char **words)
     all &= passed("rows_in_growing_memory", rows_in_growing_memory);
     all &= passed("rows_that_are_cut", rows_that_are_cut);
     all &= passed("portable_queries", portable_queries);
+    all &= passed("wide_names", wide_names);
+    all &= passed("tables_by_wide_names", tables_by_wide_names);
     all &= passed("names_of_long_queries", names_of_long_queries);
     all &= passed("each_value_of_one_byte", each_value_of_one_byte);
     all &= passed("values_of_each_length", values_of_each_length);

@@ -6,10 +6,13 @@ use crate::shared::{
     same_in,
 };
 use mysql_params::{
-    BindError, BindPairsError, Construct, SteadyTextError, TextInRoom, Unportable, WideQuery,
-    bind_wide_anywhere, bind_wide_in_any_mode, bind_wide_pairs, bind_wide_pairs_into,
+    BindError, BindPairsError, BothModesError, BothModesPairsError, Construct, SteadyPairsError,
+    SteadyTextError, TextInRoom, Unportable, WideQuery, bind_wide_anywhere, bind_wide_in_any_mode,
+    bind_wide_in_both_modes, bind_wide_pairs, bind_wide_pairs_anywhere,
+    bind_wide_pairs_in_any_mode, bind_wide_pairs_in_both_modes, bind_wide_pairs_into,
     bind_wide_values, bind_wide_values_anywhere, bind_wide_values_in_any_mode,
-    bind_wide_values_into, first_unportable_in_client_wide, first_unportable_wide,
+    bind_wide_values_in_both_modes, bind_wide_values_into, first_unportable_in_client_wide,
+    first_unportable_wide,
 };
 use mysql_values::value::ValueRef;
 use std::alloc::Global;
@@ -337,4 +340,56 @@ fn steady_texts_refused(rt: HostRuntime) {
         let refused = bind_wide_anywhere(rt.alloc(), *query, params).err();
         same_in(&rt, refused.as_ref() == Some(wanted), true, query);
     }
+}
+
+#[test]
+fn texts_for_both_modes_by_wide_names(rt: HostRuntime) {
+    let query = b"SELECT `b\xc3\xbc`, :ID, ':ID' FROM t WHERE i = :userId";
+    let wanted = b"SELECT `b\xc3\xbc`, _utf8mb4'x', ':ID' FROM t WHERE i = 7";
+    let params = USER.params(&rt, rt.alloc());
+    let text = bind_wide_in_both_modes(rt.alloc(), query, params);
+    is_text(&rt, answer_of(&rt, text), wanted);
+    let values = [ValueRef::Bytes(b"it's")];
+    let text = bind_wide_values_in_both_modes(rt.alloc(), b"? '\xc3\xbc:A'", &values);
+    is_text(&rt, answer_of(&rt, text), b"_utf8mb4'it''s' '\xc3\xbc:A'");
+    let rows: &[(&[u8], BothModesError)] = &[
+        (b":ID '\\'", BothModesError::Backslash { at: 5 }),
+        (
+            b"/*+ :ID */",
+            BothModesError::Unportable(Unportable {
+                construct: Construct::Hint,
+                at: 0,
+            }),
+        ),
+        (
+            b"lbl:LOOP",
+            BothModesError::Bind(BindError::NotAlone { place: 0, at: 3 }),
+        ),
+        (b":ID ?", BothModesError::Bind(BindError::Mixed)),
+    ];
+    let given = Given::Named(&[(b"ID", Plain::Null), (b"LOOP", Plain::Null)]);
+    for (query, wanted) in rows {
+        let params = given.params(&rt, rt.alloc());
+        let refused = bind_wide_in_both_modes(rt.alloc(), *query, params).err();
+        same_in(&rt, refused.as_ref() == Some(wanted), true, query);
+    }
+}
+
+#[test]
+fn steady_texts_of_borrowed_pairs(rt: HostRuntime) {
+    let query = b":Id, :x_Y, ':Id'";
+    let wanted = b"3, _utf8mb4'it''s', ':Id'";
+    let text = bind_wide_pairs_anywhere(rt.alloc(), query, PAIRS);
+    is_text(&rt, answer_of(&rt, text), wanted);
+    let text = bind_wide_pairs_in_any_mode(rt.alloc(), query, PAIRS);
+    is_text(&rt, answer_of(&rt, text), wanted);
+    let text = bind_wide_pairs_in_both_modes(rt.alloc(), query, PAIRS);
+    is_text(&rt, answer_of(&rt, text), wanted);
+    let twice = [(b"A".as_slice(), ValueRef::NULL), (b"A", ValueRef::NULL)];
+    let refused = bind_wide_pairs_anywhere(rt.alloc(), b":A", &twice).err();
+    let redefined = SteadyPairsError::Redefined { index: 1 };
+    same_in(&rt, refused == Some(redefined), true, &"for any server");
+    let refused = bind_wide_pairs_in_both_modes(rt.alloc(), b":A", &twice).err();
+    let redefined = BothModesPairsError::Redefined { index: 1 };
+    same_in(&rt, refused == Some(redefined), true, &"for both modes");
 }

@@ -23,3 +23,4 @@ pub mod FragmentsAnywhereLemmas
 pub mod FragmentInPlaceLemmas
 pub mod FragmentsInPlaceLemmas
 pub mod PlacedLemmas
+pub mod UnportableNumberLemmas

@@ -1,97 +1,123 @@
 -- What an answer in a caller's room says of the query and the form of fragments if it is a text for
 -- any mode and any server. A steady query has the same tokens in both modes.
-use Rattle.std.specs.Prelude.{◌≡◌, ℕ, Bool, true, List, length, Some, None, Ok, Err, ⊤}
-use Rattle.mysql_named_params.specs.Tokens.{OnTokens}
+use Rattle.std.specs.Prelude.{◌≡◌, ℕ, Bool, true, false, List, length, Some, None, Ok, Err, ⊤}
 use Rattle.mysql_named_params.specs.NamesAndMarks.{names}
-use Rattle.mysql_portable.specs.FirstUnportable.{first_unportable}
+use Rattle.mysql_named_params.specs.Reading.{OnTokensIn, OnWideTokens, reading_with}
+use Rattle.mysql_named_params.specs.Tokens.{OnTokens}
+use Rattle.mysql_named_params.specs.declared.places.Reading.{Reading}
 use Rattle.mysql_fragments.specs.FragmentErrors.{first_cause}
 use Rattle.mysql_fragments.specs.GivenFragments.{GivenFragments, fragments_for}
 use Rattle.mysql_fragments.specs.SteadyFragments.{IsAnywhereFragments, IsSteadyFragments, unsteady_place}
-use Rattle.mysql_fragments.specs.SteadyFragmentsErrors.{IsSteadyRefusal}
-use Rattle.mysql_fragments.specs.declared.steady_fragments_error.SteadyFragmentsError.{SteadyFragmentsError}
+use Rattle.mysql_fragments.specs.WideSteadyFragments.{IsWideAnywhereFragments}
 use Rattle.mysql_flat_params.specs.AnywhereIntoRoom.{anywhere_refusal}
 use Rattle.mysql_flat_params.specs.FlatForm.{form_end, length_lead, unread_type, mixed_form, repeated_name}
 use Rattle.mysql_flat_params.specs.declared.outcome.Outcome.{Outcome}
 use Rattle.mysql_flat_params.specs.declared.outcome.Outcome.TheVariants.{Done, OutOfMemory, Room, FormEnd, FormLengthLead, FormType, FormMixed, FormRepeated, Unsteady, Unportable}
 use Rattle.mysql_flat_params.specs.FlatFragments.{IsFormReading}
-use Rattle.mysql_flat_params.specs.FragmentsIntoRoom.{IsFragmentsOutcome, IsOutcomeAsValues}
+use Rattle.mysql_flat_params.specs.FragmentsIntoRoom.{IsFragmentsOutcomeIn, IsOutcomeAsValuesIn}
+use Rattle.mysql_flat_params.specs.WideSteadyIntoRoom.{portable_tokens}
 use Rattle.mysql_flat_params.specs.declared.fragments_outcome.FragmentsOutcome.{FragmentsOutcome}
 use Rattle.mysql_flat_params.specs.declared.fragments_outcome.FragmentsOutcome.TheVariants.{AsValues, Fault, UnsteadyFragment}
 
--- this is the query bound to the fragments that are given to it, for any mode
-abbrev pub IsSteadyBound : (query : List ℕ) → GivenFragments → (text : List ℕ) → Type 0
-IsSteadyBound query given text =
-    (mode : Bool) → OnTokens mode query (λ ts. IsSteadyFragments ts given text)
+-- this is the query bound to the fragments that are given to it, for any mode, by wide names or by
+-- those of the grammar
+abbrev pub IsSteadyBoundIn : (wide : Bool) (query : List ℕ) → GivenFragments → (text : List ℕ)
+    → Type 0
+IsSteadyBoundIn wide query given text = (mode : Bool) →
+    OnTokensIn (reading_with wide mode) query (λ ts. IsSteadyFragments ts given text)
 
 -- this is the query bound to the fragments that are given to it, for any mode and any server
-abbrev pub IsAnywhereText : (query : List ℕ) → GivenFragments → (text : List ℕ) → Type 0
-IsAnywhereText query given text =
+abbrev pub IsAnywhereTextIn : (wide : Bool) (query : List ℕ) → GivenFragments → (text : List ℕ)
+    → Type 0
+IsAnywhereTextIn false query given text =
     (mode : Bool) → OnTokens mode query (λ ts. IsAnywhereFragments query ts given text)
+IsAnywhereTextIn true query given text =
+    (mode : Bool) → OnWideTokens mode query (λ ts. IsWideAnywhereFragments ts given text)
 
 -- the form says fragments, and this is the query bound so to them
-abbrev pub IsAnywhereForm : (query form text : List ℕ) → Type 0
-IsAnywhereForm query form text = (given : GivenFragments) × IsFormReading form (Ok given)
-    × IsAnywhereText query given text
+abbrev pub IsAnywhereFormIn : (wide : Bool) (query form text : List ℕ) → Type 0
+IsAnywhereFormIn wide query form text = (given : GivenFragments) × IsFormReading form (Ok given)
+    × IsAnywhereTextIn wide query given text
 
 -- the query bound so to what the form says has this length
-abbrev pub HasAnywhereLength : (query form : List ℕ) → ℕ → Type 0
-HasAnywhereLength query form len =
-    (text : List ℕ) × IsAnywhereForm query form text × (length text ≡ len)
+abbrev pub HasAnywhereLengthIn : (wide : Bool) (query form : List ℕ) → ℕ → Type 0
+HasAnywhereLengthIn wide query form len =
+    (text : List ℕ) × IsAnywhereFormIn wide query form text × (length text ≡ len)
 
 -- the form says fragments, and in either mode this is told of the query, which is refused whatever
 -- is given to it
-abbrev pub IsRefusedQuery : (query form : List ℕ) → Outcome → Type 0
-IsRefusedQuery query form told = ((given : GivenFragments) × IsFormReading form (Ok given))
-    × ((mode : Bool) → OnTokens mode query (λ ts. anywhere_refusal query ts ≡ Some told))
+abbrev pub IsRefusedQueryIn : (wide : Bool) (query form : List ℕ) → Outcome → Type 0
+IsRefusedQueryIn wide query form told =
+    ((given : GivenFragments) × IsFormReading form (Ok given)) × ((mode : Bool) →
+    OnTokensIn (reading_with wide mode) query (λ ts.
+    anywhere_refusal query (portable_tokens wide ts) ≡ Some told))
 
 -- in neither mode is anything told of the query whatever is given to it
-abbrev pub IsTakenQuery : List ℕ → Type 0
-IsTakenQuery query =
-    (mode : Bool) → OnTokens mode query (λ ts. anywhere_refusal query ts ≡ None)
+abbrev pub IsTakenQueryIn : (wide : Bool) → List ℕ → Type 0
+IsTakenQueryIn wide query = (mode : Bool) → OnTokensIn (reading_with wide mode) query (λ ts.
+    anywhere_refusal query (portable_tokens wide ts) ≡ None)
 
 -- the form says fragments, for which no cause refuses the query, and that for this place is the
 -- first whose text isn't steady
-abbrev pub IsUnsteadyFor : (mode : Bool) (query form : List ℕ) → ℕ → Type 0
-IsUnsteadyFor mode query form place = (given : GivenFragments) × IsFormReading form (Ok given)
-    × OnTokens mode query (λ ts. (first_cause true ts given ≡ None)
+abbrev pub IsUnsteadyForIn : (reading : Reading) (query form : List ℕ) → ℕ → Type 0
+IsUnsteadyForIn reading query form place =
+    (given : GivenFragments) × IsFormReading form (Ok given)
+    × OnTokensIn reading query (λ ts. (first_cause true ts given ≡ None)
     × (unsteady_place (fragments_for given (names ts)) ≡ Some place))
 
 -- what an outcome that binding values has too says of the query and the form
-abbrev pub IsAnywhereAsValues : (query form : List ℕ) → Outcome → Type 0
+abbrev pub IsAnywhereAsValuesIn : (wide : Bool) (query form : List ℕ) → Outcome → Type 0
 -- the bound text has this length
-IsAnywhereAsValues query form (Done len) = HasAnywhereLength query form len
-IsAnywhereAsValues query form (Room len) = HasAnywhereLength query form len
+IsAnywhereAsValuesIn wide query form (Done len) = HasAnywhereLengthIn wide query form len
+IsAnywhereAsValuesIn wide query form (Room len) = HasAnywhereLengthIn wide query form len
 -- out of memory says nothing
-IsAnywhereAsValues query form OutOfMemory = ⊤
+IsAnywhereAsValuesIn wide query form OutOfMemory = ⊤
 -- the form is refused for this
-IsAnywhereAsValues query form (FormEnd place position) =
+IsAnywhereAsValuesIn wide query form (FormEnd place position) =
     IsFormReading form (Err (form_end place position))
-IsAnywhereAsValues query form (FormLengthLead place position lead) =
+IsAnywhereAsValuesIn wide query form (FormLengthLead place position lead) =
     IsFormReading form (Err (length_lead place position lead))
-IsAnywhereAsValues query form (FormType place position number) =
+IsAnywhereAsValuesIn wide query form (FormType place position number) =
     IsFormReading form (Err (unread_type place position number))
-IsAnywhereAsValues query form (FormMixed place position) =
+IsAnywhereAsValuesIn wide query form (FormMixed place position) =
     IsFormReading form (Err (mixed_form place position))
-IsAnywhereAsValues query form (FormRepeated place position len) =
+IsAnywhereAsValuesIn wide query form (FormRepeated place position len) =
     IsFormReading form (Err (repeated_name place position len))
 -- the form is not refused, and this is told of the query
-IsAnywhereAsValues query form (Unsteady position) =
-    IsRefusedQuery query form (Unsteady position)
-IsAnywhereAsValues query form (Unportable number position) =
-    IsRefusedQuery query form (Unportable number position)
+IsAnywhereAsValuesIn wide query form (Unsteady position) =
+    IsRefusedQueryIn wide query form (Unsteady position)
+IsAnywhereAsValuesIn wide query form (Unportable number position) =
+    IsRefusedQueryIn wide query form (Unportable number position)
 -- nothing is told of the query, and the outcome is that of binding in a mode, in either
-IsAnywhereAsValues query form outcome =
-    IsTakenQuery query × ((mode : Bool) → IsOutcomeAsValues mode query form outcome)
+IsAnywhereAsValuesIn wide query form outcome = IsTakenQueryIn wide query
+    × ((mode : Bool) → IsOutcomeAsValuesIn (reading_with wide mode) query form outcome)
+
+-- what an outcome says of the query and the form
+abbrev pub IsAnywhereOutcomeIn : (wide : Bool) (query form : List ℕ) → FragmentsOutcome → Type 0
+IsAnywhereOutcomeIn wide query form (AsValues outcome) =
+    IsAnywhereAsValuesIn wide query form outcome
+IsAnywhereOutcomeIn wide query form (Fault place fault) = IsTakenQueryIn wide query
+    × ((mode : Bool) →
+    IsFragmentsOutcomeIn (reading_with wide mode) query form (Fault place fault))
+IsAnywhereOutcomeIn wide query form (UnsteadyFragment place) = IsTakenQueryIn wide query
+    × ((mode : Bool) → IsUnsteadyForIn (reading_with wide mode) query form place)
+
+-- ---- by the names of the grammar
+
+-- the form says fragments, and this is the query bound so to them
+abbrev pub IsAnywhereForm : (query form text : List ℕ) → Type 0
+IsAnywhereForm = IsAnywhereFormIn false
 
 -- what an outcome says of the query and the form
 abbrev pub IsAnywhereOutcome : (query form : List ℕ) → FragmentsOutcome → Type 0
-IsAnywhereOutcome query form (AsValues outcome) = IsAnywhereAsValues query form outcome
-IsAnywhereOutcome query form (Fault place fault) =
-    IsTakenQuery query × ((mode : Bool) → IsFragmentsOutcome mode query form (Fault place fault))
-IsAnywhereOutcome query form (UnsteadyFragment place) =
-    IsTakenQuery query × ((mode : Bool) → IsUnsteadyFor mode query form place)
+IsAnywhereOutcome = IsAnywhereOutcomeIn false
 
--- binding for any mode and any server refuses the query for what is given to it, by this error
-abbrev pub IsRefusedBy : List ℕ → GivenFragments → SteadyFragmentsError → Type 0
-IsRefusedBy query given error = (mode : Bool) → OnTokens mode query (λ ts.
-    IsSteadyRefusal query (first_unportable ts) ts given error)
+-- ---- by wide names
+
+-- the form says fragments, and this is the query bound so to them
+abbrev pub IsWideAnywhereForm : (query form text : List ℕ) → Type 0
+IsWideAnywhereForm = IsAnywhereFormIn true
+
+-- what an outcome says of the query and the form
+abbrev pub IsWideAnywhereOutcome : (query form : List ℕ) → FragmentsOutcome → Type 0
+IsWideAnywhereOutcome = IsAnywhereOutcomeIn true

@@ -11,6 +11,7 @@ pub mod PlaceTable
 pub mod SteadyIntoRoom
 pub mod AnywhereIntoRoom
 pub mod BothModesIntoRoom
+pub mod WideSteadyIntoRoom
 pub mod Steadiness
 pub mod BoundRows
 pub mod RowInRoom

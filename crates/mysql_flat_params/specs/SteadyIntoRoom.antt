@@ -1,14 +1,15 @@
 -- What an answer in a caller's room says of the query and the form if steady literals stand in it:
 -- a text for any mode and any server (AnywhereIntoRoom.antt) or for both modes
 -- (BothModesIntoRoom.antt). A query that isn't refused has the same tokens in both modes.
-use Rattle.std.specs.Prelude.{◌≡◌, ℕ, Bool, List, length, Option, Some, None, Ok, Err, option_map, ⊤}
+use Rattle.std.specs.Prelude.{◌≡◌, ℕ, Bool, false, List, length, Option, Some, None, Ok, Err, option_map, ⊤}
 use Rattle.std.specs.Option.{option_or}
-use Rattle.mysql_named_params.specs.Tokens.{Token, OnTokens}
+use Rattle.mysql_named_params.specs.Reading.{OnTokensIn, reading_with}
+use Rattle.mysql_named_params.specs.Tokens.{Token}
 use Rattle.mysql_portable.specs.FirstUnportable.{first_unportable}
 use Rattle.mysql_portable.specs.declared.portable.Unportable.{Unportable}
 use Rattle.mysql_params_core.specs.GivenValues.{Given}
 use Rattle.mysql_flat_params.specs.FlatForm.{IsFormReading, form_end, length_lead, unread_type, mixed_form, repeated_name}
-use Rattle.mysql_flat_params.specs.IntoRoom.{IsBindOutcome}
+use Rattle.mysql_flat_params.specs.IntoRoom.{IsBindOutcomeIn}
 use Rattle.mysql_flat_params.specs.UnportableReport.{construct_number}
 use Rattle.mysql_flat_params.specs.declared.outcome.Outcome.{Outcome}
 use Rattle.mysql_flat_params.specs.declared.outcome.Outcome.TheVariants.{Done, OutOfMemory, Room, FormEnd, FormLengthLead, FormType, FormMixed, FormRepeated, Unsteady, Backslash}
@@ -37,35 +38,43 @@ unportable_outcome found = variant.Unportable (construct_number found.construct)
 abbrev pub query_refusal : Option Outcome → List Token → Option Outcome
 query_refusal byte ts = option_or byte (option_map unportable_outcome (first_unportable ts))
 
--- What an outcome says of the query and the form. `IsBound` says which text is bound, and `refusal`
--- what is told of a query with these tokens that is refused whatever is given to it.
-abbrev pub IsSteadyOutcome : (IsBound : Given → List ℕ → Type 0)
+-- What an outcome says of the query, by wide names or by those of the grammar, and the form.
+-- `IsBound` says which text is bound, and `refusal` what is told of a query with these tokens that
+-- is refused whatever is given to it.
+abbrev pub IsSteadyOutcomeIn : (wide : Bool) (IsBound : Given → List ℕ → Type 0)
     (refusal : List Token → Option Outcome) (query form : List ℕ) → Outcome → Type 0
 -- the bound text has this length
-IsSteadyOutcome IsBound refusal query form (Done len) = HasSteadyLength IsBound form len
-IsSteadyOutcome IsBound refusal query form (Room len) = HasSteadyLength IsBound form len
+IsSteadyOutcomeIn wide IsBound refusal query form (Done len) = HasSteadyLength IsBound form len
+IsSteadyOutcomeIn wide IsBound refusal query form (Room len) = HasSteadyLength IsBound form len
 -- out of memory says nothing
-IsSteadyOutcome IsBound refusal query form OutOfMemory = ⊤
+IsSteadyOutcomeIn wide IsBound refusal query form OutOfMemory = ⊤
 -- the form is refused for this
-IsSteadyOutcome IsBound refusal query form (FormEnd place position) =
+IsSteadyOutcomeIn wide IsBound refusal query form (FormEnd place position) =
     IsFormReading form (Err (form_end place position))
-IsSteadyOutcome IsBound refusal query form (FormLengthLead place position lead) =
+IsSteadyOutcomeIn wide IsBound refusal query form (FormLengthLead place position lead) =
     IsFormReading form (Err (length_lead place position lead))
-IsSteadyOutcome IsBound refusal query form (FormType place position number) =
+IsSteadyOutcomeIn wide IsBound refusal query form (FormType place position number) =
     IsFormReading form (Err (unread_type place position number))
-IsSteadyOutcome IsBound refusal query form (FormMixed place position) =
+IsSteadyOutcomeIn wide IsBound refusal query form (FormMixed place position) =
     IsFormReading form (Err (mixed_form place position))
-IsSteadyOutcome IsBound refusal query form (FormRepeated place position len) =
+IsSteadyOutcomeIn wide IsBound refusal query form (FormRepeated place position len) =
     IsFormReading form (Err (repeated_name place position len))
 -- the form is not refused, and this is told of the query in either mode
-IsSteadyOutcome IsBound refusal query form (Unsteady position) = IsReadForm form
-    × ((mode : Bool) → OnTokens mode query (λ ts. refusal ts ≡ Some (Unsteady position)))
-IsSteadyOutcome IsBound refusal query form (variant.Unportable number position) = IsReadForm form
-    × ((mode : Bool) → OnTokens mode query (λ ts.
+IsSteadyOutcomeIn wide IsBound refusal query form (Unsteady position) = IsReadForm form
+    × ((mode : Bool) → OnTokensIn (reading_with wide mode) query (λ ts.
+    refusal ts ≡ Some (Unsteady position)))
+IsSteadyOutcomeIn wide IsBound refusal query form (variant.Unportable number position) =
+    IsReadForm form × ((mode : Bool) → OnTokensIn (reading_with wide mode) query (λ ts.
     refusal ts ≡ Some (variant.Unportable number position)))
-IsSteadyOutcome IsBound refusal query form (Backslash position) = IsReadForm form
-    × ((mode : Bool) → OnTokens mode query (λ ts. refusal ts ≡ Some (Backslash position)))
+IsSteadyOutcomeIn wide IsBound refusal query form (Backslash position) = IsReadForm form
+    × ((mode : Bool) → OnTokensIn (reading_with wide mode) query (λ ts.
+    refusal ts ≡ Some (Backslash position)))
 -- nothing is told of the query, and the outcome is that of binding in a mode, in either
-IsSteadyOutcome IsBound refusal query form outcome =
-    ((mode : Bool) → OnTokens mode query (λ ts. refusal ts ≡ None))
-    × ((mode : Bool) → IsBindOutcome mode query form outcome)
+IsSteadyOutcomeIn wide IsBound refusal query form outcome =
+    ((mode : Bool) → OnTokensIn (reading_with wide mode) query (λ ts. refusal ts ≡ None))
+    × ((mode : Bool) → IsBindOutcomeIn (reading_with wide mode) query form outcome)
+
+-- the same by the names of the grammar
+abbrev pub IsSteadyOutcome : (IsBound : Given → List ℕ → Type 0)
+    (refusal : List Token → Option Outcome) (query form : List ℕ) → Outcome → Type 0
+IsSteadyOutcome = IsSteadyOutcomeIn false

@@ -1,13 +1,13 @@
 //! The text for any server that is bound to fragments, in a room that the caller lends.
 ghost use Rattle.std.specs.Prelude.{◌≡◌, ◌≤◌, ◌<◌, Bool, List, ℕ, Ok, IfErr, IfOk, OnErr, length, take, drop};
-ghost use Rattle.mysql_named_params.specs.Tokens.{OnTokens};
+ghost use Rattle.mysql_named_params.specs.Reading.{OnTokensIn, reading_with};
 ghost use Rattle.mysql_portable.specs.Steady.{IsSteady};
 ghost use Rattle.mysql_binding.specs.TextInRoom.{HasTextOf, IsTextInRoom};
 ghost use Rattle.mysql_fragments.specs.GivenFragments.{GivenFragments};
 ghost use Rattle.mysql_fragments.specs.SteadyFragmentsErrors.{IsFragmentsRefusal};
 ghost use Rattle.mysql_flat_params.specs.FlatFragments.{IsFormReading};
 ghost use Rattle.mysql_flat_params.specs.FormInPlace.{IsGivenAs};
-ghost use Rattle.mysql_flat_params.specs.FragmentsAnywhereIntoRoom.{IsAnywhereForm, IsAnywhereOutcome, IsAnywhereText, IsRefusedBy, IsSteadyBound};
+ghost use Rattle.mysql_flat_params.specs.FragmentsAnywhereIntoRoom.{IsAnywhereForm, IsAnywhereFormIn, IsAnywhereOutcome, IsAnywhereOutcomeIn, IsSteadyBoundIn, IsTakenQueryIn, IsWideAnywhereForm, IsWideAnywhereOutcome};
 ghost use Rattle.mysql_flat_params.specs.FragmentsOutcomes.{HasNoAnswer, IfDone, IfTooLong, UnlessDone};
 
 use crate::fragments_in_place::{FormInPlace, form_in_place};
@@ -16,22 +16,14 @@ use crate::fragments_room::fragments_outcome;
 use crate::into_room::{form_outcome, text_outcome};
 use crate::outcome::Outcome;
 use crate::placed::placed_fragments;
-use crate::unportable::construct_number;
+use crate::steady_room::{Steadiness, SteadyCall, query_refusal};
 use mysql_binding::{KEPT_PLACES, NO_PLACE, SurveyedQuery, TextInRoom};
 use mysql_fragments::{
     FragmentsError, SteadyFragmentsError, bind_placed_into, first_unsteady_fragment, placed_error,
 };
 use mysql_named_params::places::Reading;
-use mysql_portable::portable::first_unportable;
-use mysql_portable::steady::first_unsteady;
 use mysql_steady_text::SteadyForm;
 use std::alloc::{AllocError, Global};
-
-// A steady query has the same tokens in both modes, so it is read in one of them.
-const EITHER_MODE: Reading = Reading {
-    no_backslash_escape: false,
-    wide_names: false,
-};
 
 /// Binds into a query what a form says, as
 /// [`bind_fragments_anywhere`](mysql_fragments::bind_fragments_anywhere) binds the form's
@@ -58,58 +50,89 @@ pub fn bind_fragments_anywhere_into(
     ensures too_long { IfTooLong result (λ len. length room.old < len) }
     ensures unchanged { UnlessDone result (room.new ≡ room.old) }
 {
+    bind_form_anywhere(alloc, query, form, false, room)
+}
+
+/// Binds into a query what a form says, as [`bind_fragments_anywhere_into`] by wide names: as
+/// [`bind_wide_fragments_anywhere`](mysql_fragments::bind_wide_fragments_anywhere) binds the form's
+/// fragments. All else is as there.
+pub fn bind_wide_fragments_anywhere_into(
+    alloc: Global,
+    query: &[u8],
+    form: &[u8],
+    room: &mut [u8],
+) -> FragmentsOutcome
+    ensures outcome { IsWideAnywhereOutcome query.now form.now result }
+    ensures written { IfDone result (λ len.
+        IsWideAnywhereForm query.now form.now (take len room.new)) }
+    ensures rest { IfDone result (λ len.
+        (len ≤ length room.old) × (drop len room.new ≡ drop len room.old)) }
+    ensures too_long { IfTooLong result (λ len. length room.old < len) }
+    ensures unchanged { UnlessDone result (room.new ≡ room.old) }
+{
+    bind_form_anywhere(alloc, query, form, true, room)
+}
+
+// The body of both calls.
+fn bind_form_anywhere(
+    alloc: Global,
+    query: &[u8],
+    form: &[u8],
+    wide_names: bool,
+    room: &mut [u8],
+) -> FragmentsOutcome
+    ensures outcome { IsAnywhereOutcomeIn wide_names query.now form.now result }
+    ensures written { IfDone result (λ len.
+        IsAnywhereFormIn wide_names query.now form.now (take len room.new)) }
+    ensures rest { IfDone result (λ len.
+        (len ≤ length room.old) × (drop len room.new ≡ drop len room.old)) }
+    ensures too_long { IfTooLong result (λ len. length room.old < len) }
+    ensures unchanged { UnlessDone result (room.new ≡ room.old) }
+{
     let kept = match form_in_place(alloc, form) {
         Ok(kept) => kept,
         Err(error) => return FragmentsOutcome::AsValues(form_outcome(error)),
     };
-    match bind_kept_anywhere(alloc, query, &kept, room) {
+    let call = SteadyCall {
+        steadiness: Steadiness::Anywhere,
+        wide_names,
+    };
+    match query_refusal(alloc, query, call) {
+        Ok(None) => {}
+        Ok(Some(outcome)) => return FragmentsOutcome::AsValues(outcome),
+        Err(_) => return FragmentsOutcome::AsValues(Outcome::OutOfMemory),
+    }
+    match bind_kept_steady(alloc, query, &kept, wide_names, room) {
         Ok(text) => FragmentsOutcome::AsValues(text_outcome(text)),
-        Err(error) => anywhere_outcome(query, error),
+        Err(error) => steady_outcome(query, error, wide_names),
     }
 }
 
-// The query with what is kept of a form in its places, for any server, at the front of the room.
-fn bind_kept_anywhere(
-    alloc: Global,
-    query: &[u8],
-    kept: &FormInPlace<'_>,
-    room: &mut [u8],
-) -> Result<TextInRoom, SteadyFragmentsError>
-    requires { (given : GivenFragments) × IsGivenAs kept.now given }
-    ensures bound { (given : GivenFragments) → IsGivenAs kept.now given → IfOk result
-        (IsTextInRoom (IsAnywhereText query.now given) (HasTextOf (IsAnywhereText query.now given))
-        room.old room.new) }
-    ensures refused { (given : GivenFragments) → IsGivenAs kept.now given →
-        IfErr result (IsRefusedBy query.now given) }
-    ensures unchanged { OnErr result (room.new ≡ room.old) }
-{
-    if let Some(at) = first_unsteady(query) {
-        return Err(SteadyFragmentsError::Unsteady { at });
-    }
-    if let Some(found) = first_unportable(query, false) {
-        return Err(SteadyFragmentsError::Unportable(found));
-    }
-    bind_kept_steady(alloc, query, kept, room)
-}
-
-// The same for a steady query, which has the same tokens in both modes.
+// The query, which is steady and so has the same tokens in both modes, with what is kept of a form
+// in its places, at the front of the room.
 fn bind_kept_steady(
     alloc: Global,
     query: &[u8],
     kept: &FormInPlace<'_>,
+    wide_names: bool,
     room: &mut [u8],
 ) -> Result<TextInRoom, SteadyFragmentsError>
     requires steady { IsSteady query.now }
     requires given { (given : GivenFragments) × IsGivenAs kept.now given }
     ensures bound { (given : GivenFragments) → IsGivenAs kept.now given → IfOk result
-        (IsTextInRoom (IsSteadyBound query.now given) (HasTextOf (IsSteadyBound query.now given))
-        room.old room.new) }
+        (IsTextInRoom (IsSteadyBoundIn wide_names query.now given)
+        (HasTextOf (IsSteadyBoundIn wide_names query.now given)) room.old room.new) }
     ensures refused { (given : GivenFragments) → IsGivenAs kept.now given → (mode : Bool) →
-        OnTokens mode query.now (λ ts. IfErr result (IsFragmentsRefusal ts given)) }
+        OnTokensIn (reading_with wide_names mode) query.now (λ ts.
+        IfErr result (IsFragmentsRefusal ts given)) }
     ensures unchanged { OnErr result (room.new ≡ room.old) }
 {
+    let reading = Reading {
+        no_backslash_escape: false,
+        wide_names,
+    };
     let mut first = [NO_PLACE; KEPT_PLACES];
-    let surveyed = SurveyedQuery::new(query, EITHER_MODE, &mut first);
+    let surveyed = SurveyedQuery::new(query, reading, &mut first);
     let placed = placed_fragments(alloc, &surveyed, kept)?;
     let placed = placed.as_slice();
     if let Some(error) = placed_error(surveyed.survey, placed) {
@@ -124,26 +147,31 @@ fn bind_kept_steady(
     }
 }
 
-// A refusal of binding to this query for any server.
-fn anywhere_outcome(query: &[u8], error: SteadyFragmentsError) -> FragmentsOutcome
-    requires { (given : GivenFragments) × IsRefusedBy query.now given error }
+// A refusal of fragments for a query that is steady and portable.
+fn steady_outcome(query: &[u8], error: SteadyFragmentsError, wide_names: bool) -> FragmentsOutcome
+    requires taken { IsTakenQueryIn wide_names query.now }
+    requires error { (given : GivenFragments) × ((mode : Bool) →
+        OnTokensIn (reading_with wide_names mode) query.now (λ ts.
+        IsFragmentsRefusal ts given error)) }
     ensures outcome { (form : List ℕ) (given : GivenFragments) → IsFormReading form (Ok given) →
-        IsRefusedBy query.now given error → IsAnywhereOutcome query.now form result }
+        ((mode : Bool) → OnTokensIn (reading_with wide_names mode) query.now (λ ts.
+        IsFragmentsRefusal ts given error)) →
+        IsAnywhereOutcomeIn wide_names query.now form result }
     ensures no_answer { HasNoAnswer result }
 {
     match error {
-        SteadyFragmentsError::Unsteady { at } => {
-            FragmentsOutcome::AsValues(Outcome::Unsteady { position: at })
+        SteadyFragmentsError::Fragments(error) => {
+            let reading = Reading {
+                no_backslash_escape: false,
+                wide_names,
+            };
+            fragments_outcome(query, error, reading)
         }
-        SteadyFragmentsError::Unportable(found) => {
-            FragmentsOutcome::AsValues(Outcome::Unportable {
-                number: construct_number(found.construct),
-                position: found.at,
-            })
-        }
-        SteadyFragmentsError::Fragments(error) => fragments_outcome(query, error, EITHER_MODE),
         SteadyFragmentsError::UnsteadyFragment { place } => {
             FragmentsOutcome::UnsteadyFragment { place }
+        }
+        SteadyFragmentsError::Unsteady { .. } | SteadyFragmentsError::Unportable(_) => {
+            unreachable!()
         }
     }
 }

@@ -1,5 +1,5 @@
 //! The bound text, in a room that the caller lends.
-ghost use Rattle.std.specs.Prelude.{◌≡◌, ◌≢◌, ◌⊎◌, ◌+◌, ◌≤◌, ◌<◌, ◌++◌, ℕ, List, [], ◌∷◌, None, Some, Ok, length, take, drop, map, IfErr, IfOk, IfSome, IsErrOf, OnErr, alloc_error};
+ghost use Rattle.std.specs.Prelude.{◌≡◌, ◌⊎◌, ◌≤◌, ◌<◌, ℕ, Bool, List, [], None, Some, Ok, length, take, drop, IfErr, IfOk, IfSome, IsErrOf, OnErr, alloc_error};
 ghost use Rattle.std.specs.List.{Contains};
 ghost use Rattle.mysql_named_params.specs.Reading.{OnTokensIn};
 ghost use Rattle.mysql_named_params.specs.declared.places.Reading.{Reading};
@@ -13,13 +13,13 @@ ghost use Rattle.mysql_binding.specs.TextInRoom.{HasTextOf, IsTextInRoom};
 ghost use Rattle.mysql_flat_params.specs.FlatForm.{HasFirstParameter, IsFormReading};
 ghost use Rattle.mysql_flat_params.specs.FormErrors.{IsFormRefusal};
 ghost use Rattle.mysql_flat_params.specs.FormParams.{given_in_place, pairs_in_place};
-ghost use Rattle.mysql_flat_params.specs.FragmentsAnywhereIntoRoom.{IsAnywhereAsValues};
+ghost use Rattle.mysql_flat_params.specs.FragmentsAnywhereIntoRoom.{IsAnywhereAsValuesIn};
 ghost use Rattle.mysql_flat_params.specs.FragmentsFormErrors as fragments;
 ghost use Rattle.mysql_flat_params.specs.FragmentsIntoRoom.{IsOutcomeAsValuesIn};
 ghost use Rattle.mysql_flat_params.specs.IntoRoom.{IfMixed, IfMixedIn, IsBindOutcome, IsBindOutcomeIn, IsBoundForm, IsBoundFormIn, IsMissingNameIn, MissesOtherNameIn};
 ghost use Rattle.mysql_flat_params.specs.Outcomes.{HasNoAnswer, IfDone, IfTooLong, UnlessDone, text_outcome};
 ghost use Rattle.mysql_flat_params.specs.Steadiness.{IsBoundAs, refusal_as};
-ghost use Rattle.mysql_flat_params.specs.SteadyIntoRoom.{IsSteadyOutcome};
+ghost use Rattle.mysql_flat_params.specs.SteadyIntoRoom.{IsSteadyOutcomeIn};
 ghost use Rattle.mysql_flat_params.specs.declared.steady_room.Steadiness as steadiness;
 
 use crate::form::{FormParams, form_params};
@@ -180,13 +180,13 @@ pub(crate) fn borrowed_params<'p, 'f>(
 pub(crate) fn form_outcome(error: FormError) -> Outcome
     ensures outcome { (reading : Reading) (query form : List ℕ) → IsFormRefusal form error →
         IsBindOutcomeIn reading query form result }
-    ensures steady { (which : steadiness.Steadiness) (query form : List ℕ) →
-        IsFormRefusal form error →
-        IsSteadyOutcome (IsBoundAs which query) (refusal_as which query) query form result }
+    ensures steady { (wide_names : Bool) (which : steadiness.Steadiness) (query form : List ℕ) →
+        IsFormRefusal form error → IsSteadyOutcomeIn wide_names (IsBoundAs wide_names which query)
+        (refusal_as wide_names which query) query form result }
     ensures fragments { (reading : Reading) (query form : List ℕ) →
         fragments.IsFormRefusal form error → IsOutcomeAsValuesIn reading query form result }
-    ensures fragments_anywhere { (query form : List ℕ) → fragments.IsFormRefusal form error →
-        IsAnywhereAsValues query form result }
+    ensures fragments_anywhere { (wide_names : Bool) (query form : List ℕ) →
+        fragments.IsFormRefusal form error → IsAnywhereAsValuesIn wide_names query form result }
     ensures memory { result ≡ Outcome.OutOfMemory → error ≡ FormError.Memory alloc_error }
     ensures no_answer { HasNoAnswer result }
 {

@@ -50,7 +50,9 @@ mod unportable;
 pub use column_number::column_type;
 pub use form::params_of_form;
 pub use form_error::FormError;
-pub use fragments_anywhere_room::bind_fragments_anywhere_into;
+pub use fragments_anywhere_room::{
+    bind_fragments_anywhere_into, bind_wide_fragments_anywhere_into,
+};
 pub use fragments_form::form_fragments;
 pub use fragments_outcome::FragmentsOutcome;
 pub use fragments_room::{bind_fragments_into, bind_fragments_into_read};
@@ -65,7 +67,11 @@ pub use place_table::{
     table_into, table_into_read,
 };
 pub use rows::{Rows, bind_rows_into, bind_rows_into_read};
-pub use steady_room::{bind_anywhere_into, bind_in_both_modes_into};
+pub use steady_room::{
+    bind_anywhere_into, bind_in_both_modes_into, bind_wide_anywhere_into,
+    bind_wide_in_both_modes_into,
+};
 pub use unportable::{
     construct_number, report_first_unportable, report_first_unportable_in_client,
+    report_first_unportable_in_client_wide, report_first_unportable_wide,
 };

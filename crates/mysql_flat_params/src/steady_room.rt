@@ -1,13 +1,17 @@
 //! Texts with steady literals, in a room that the caller lends.
-ghost use Rattle.std.specs.Prelude.{◌≡◌, ◌⊎◌, ◌≤◌, ◌<◌, Bool, true, [], None, Some, Ok, length, take, drop, IfErr, IfOk, IfSome, IsErrOf, OnErr};
+ghost use Rattle.std.specs.Prelude.{◌≡◌, ◌⊎◌, ◌≤◌, ◌<◌, ℕ, Bool, false, true, [], None, Some, Ok, length, take, drop, IfErr, IfOk, IfSome, IsErrOf, OnErr, option_map};
+ghost use Rattle.mysql_named_params.specs.LoweredNames.{have_capitals};
+ghost use Rattle.mysql_named_params.specs.Places.{HasMark, HasName, names};
+ghost use Rattle.mysql_named_params.specs.Reading.{OnTokensIn, OnWideTokens, reading_with};
 ghost use Rattle.mysql_named_params.specs.Tokens.{OnTokens};
-ghost use Rattle.mysql_named_params.specs.Places.{HasMark, HasName};
-ghost use Rattle.mysql_portable.specs.Steady.{HoldNoEscapes};
+ghost use Rattle.mysql_portable.specs.FirstUnportable.{first_unportable};
+ghost use Rattle.mysql_portable.specs.Steady.{first_unsteady, HoldNoEscapes};
 ghost use Rattle.mysql_binding.specs.BindErrors.{IsCauseOrMemory};
 ghost use Rattle.mysql_binding.specs.FirstCause.{first_cause};
 ghost use Rattle.mysql_binding.specs.MeasuredText.{HasGivenLength};
 ghost use Rattle.mysql_binding.specs.TextInRoom.{IsTextInRoom};
 ghost use Rattle.mysql_binding.specs.WrittenText.{IsGivenText};
+ghost use Rattle.mysql_steady_text.specs.FirstBackslash.{first_backslash};
 ghost use Rattle.mysql_steady_text.specs.SteadyLiteral.{steady_literal_of};
 ghost use Rattle.mysql_steady_text.specs.SteadyLiterals.{IsSteadyFor};
 ghost use Rattle.mysql_flat_params.specs.AnywhereIntoRoom.{IsAnywhereForm, IsAnywhereOutcome, anywhere_refusal};
@@ -16,7 +20,8 @@ ghost use Rattle.mysql_flat_params.specs.FlatForm.{HasFirstParameter};
 ghost use Rattle.mysql_flat_params.specs.FormParams.{given_in_place};
 ghost use Rattle.mysql_flat_params.specs.Outcomes.{HasNoAnswer, IfDone, IfTooLong, UnlessDone};
 ghost use Rattle.mysql_flat_params.specs.Steadiness.{IsBoundAs, byte_refusal, refusal_as};
-ghost use Rattle.mysql_flat_params.specs.SteadyIntoRoom.{IsSteadyForm, IsSteadyOutcome};
+ghost use Rattle.mysql_flat_params.specs.SteadyIntoRoom.{IsSteadyForm, IsSteadyOutcomeIn, unportable_outcome};
+ghost use Rattle.mysql_flat_params.specs.WideSteadyIntoRoom.{IsWideAnywhereForm, IsWideAnywhereOutcome, IsWideBothModesForm, IsWideBothModesOutcome, is_copied, portable_tokens, wide_anywhere_refusal, wide_both_modes_refusal};
 ghost use Rattle.mysql_flat_params.specs.declared.outcome.Outcome as outcome;
 
 use crate::form::form_params;
@@ -30,16 +35,33 @@ use mysql_binding::{
     BindError, KEPT_PLACES, NO_PLACE, SurveyedQuery, TextInRoom, bind_surveyed_into,
 };
 use mysql_named_params::places::Reading;
-use mysql_portable::portable::first_unportable;
+use mysql_portable::clear::is_clear;
+use mysql_portable::portable::{Unportable, first_unportable};
 use mysql_portable::steady::first_unsteady;
+use mysql_portable::wide::first_unportable_wide;
 use mysql_steady_text::SteadyForm;
 use mysql_steady_text::first_backslash::first_backslash;
-use std::alloc::Global;
+use std::alloc::{AllocError, Global};
 
-// A query that isn't refused has the same tokens in both modes, so it is read in one of them.
-const EITHER_MODE: Reading = Reading {
-    no_backslash_escape: true,
+// What each call is.
+const ANYWHERE: SteadyCall = SteadyCall {
+    steadiness: Steadiness::Anywhere,
     wide_names: false,
+};
+
+const IN_BOTH_MODES: SteadyCall = SteadyCall {
+    steadiness: Steadiness::BothModes,
+    wide_names: false,
+};
+
+const WIDE_ANYWHERE: SteadyCall = SteadyCall {
+    steadiness: Steadiness::Anywhere,
+    wide_names: true,
+};
+
+const WIDE_IN_BOTH_MODES: SteadyCall = SteadyCall {
+    steadiness: Steadiness::BothModes,
+    wide_names: true,
 };
 
 /// Binds into a query what a form says, as
@@ -73,7 +95,7 @@ pub fn bind_anywhere_into(alloc: Global, query: &[u8], form: &[u8], room: &mut [
     ensures too_long { IfTooLong result (λ len. length room.old < len) }
     ensures unchanged { UnlessDone result (room.new ≡ room.old) }
 {
-    bind_steady_into(alloc, query, form, Steadiness::Anywhere, room)
+    bind_steady_into(alloc, query, form, ANYWHERE, room)
 }
 
 /// Binds into a query what a form says, as
@@ -105,7 +127,77 @@ pub fn bind_in_both_modes_into(alloc: Global, query: &[u8], form: &[u8], room: &
     ensures too_long { IfTooLong result (λ len. length room.old < len) }
     ensures unchanged { UnlessDone result (room.new ≡ room.old) }
 {
-    bind_steady_into(alloc, query, form, Steadiness::BothModes, room)
+    bind_steady_into(alloc, query, form, IN_BOTH_MODES, room)
+}
+
+/// Binds into a query what a form says, as [`bind_anywhere_into`] by wide names: as
+/// [`bind_wide_anywhere`](mysql_steady_text::bind_wide_anywhere) binds the form's parameters.
+///
+/// All is as for [`bind_anywhere_into`], except that over the empty form `Unportable` and `Mixed`
+/// may be `OutOfMemory` instead, if a name has a capital.
+pub fn bind_wide_anywhere_into(alloc: Global, query: &[u8], form: &[u8], room: &mut [u8]) -> Outcome
+    ensures outcome { IsWideAnywhereOutcome query.now form.now result }
+    ensures written { IfDone result (λ len.
+        IsWideAnywhereForm query.now form.now (take len room.new)) }
+
+    // Over the empty form these are refused without allocating, the latter two if no name has a
+    // capital.
+    ensures unsteady { (at : ℕ) → form.now ≡ [] → first_unsteady query.now ≡ Some at →
+        result ≡ Outcome.Unsteady at }
+    ensures refused { (mode : Bool) → OnWideTokens mode query.now (λ ts. form.now ≡ [] →
+        have_capitals (names ts) ≡ false → (told : outcome.Outcome) →
+        wide_anywhere_refusal query.now ts ≡ Some told → result ≡ told) }
+    ensures mixed { (mode : Bool) → OnWideTokens mode query.now (λ ts. form.now ≡ [] →
+        have_capitals (names ts) ≡ false → wide_anywhere_refusal query.now ts ≡ None →
+        HasName ts × HasMark ts → result ≡ Outcome.Mixed) }
+
+    // A form that is refused for its first parameter is refused without allocating.
+    ensures memory { result ≡ Outcome.OutOfMemory →
+        (form.now ≡ []) ⊎ HasFirstParameter form.now }
+    ensures rest { IfDone result (λ len.
+        (len ≤ length room.old) × (drop len room.new ≡ drop len room.old)) }
+    ensures too_long { IfTooLong result (λ len. length room.old < len) }
+    ensures unchanged { UnlessDone result (room.new ≡ room.old) }
+{
+    bind_steady_into(alloc, query, form, WIDE_ANYWHERE, room)
+}
+
+/// Binds into a query what a form says, as [`bind_in_both_modes_into`] by wide names: as
+/// [`bind_wide_in_both_modes`](mysql_steady_text::bind_wide_in_both_modes) binds the form's
+/// parameters.
+///
+/// All is as for [`bind_wide_anywhere_into`], except that `Backslash`, for a backslash in a string
+/// of the query, comes in place of `Unsteady`.
+pub fn bind_wide_in_both_modes_into(
+    alloc: Global,
+    query: &[u8],
+    form: &[u8],
+    room: &mut [u8],
+) -> Outcome
+    ensures outcome { IsWideBothModesOutcome query.now form.now result }
+    ensures written { IfDone result (λ len.
+        IsWideBothModesForm query.now form.now (take len room.new)) }
+
+    // Over the empty form these are refused without allocating, the latter two if no name has a
+    // capital.
+    ensures backslash { (mode : Bool) → OnWideTokens mode query.now (λ ts. (at : ℕ) →
+        form.now ≡ [] → first_backslash ts ≡ Some at → result ≡ Outcome.Backslash at) }
+    ensures refused { (mode : Bool) → OnWideTokens mode query.now (λ ts. form.now ≡ [] →
+        have_capitals (names ts) ≡ false → (told : outcome.Outcome) →
+        wide_both_modes_refusal ts ≡ Some told → result ≡ told) }
+    ensures mixed { (mode : Bool) → OnWideTokens mode query.now (λ ts. form.now ≡ [] →
+        have_capitals (names ts) ≡ false → wide_both_modes_refusal ts ≡ None →
+        HasName ts × HasMark ts → result ≡ Outcome.Mixed) }
+
+    // A form that is refused for its first parameter is refused without allocating.
+    ensures memory { result ≡ Outcome.OutOfMemory →
+        (form.now ≡ []) ⊎ HasFirstParameter form.now }
+    ensures rest { IfDone result (λ len.
+        (len ≤ length room.old) × (drop len room.new ≡ drop len room.old)) }
+    ensures too_long { IfTooLong result (λ len. length room.old < len) }
+    ensures unchanged { UnlessDone result (room.new ≡ room.old) }
+{
+    bind_steady_into(alloc, query, form, WIDE_IN_BOTH_MODES, room)
 }
 
 /// Which text a call gives, and so which queries it takes.
@@ -117,24 +209,41 @@ pub(crate) enum Steadiness {
     BothModes,
 }
 
-// The body of both calls.
+/// Which text a call gives, and by which names it reads the query.
+#[derive(Clone, Copy)]
+pub(crate) struct SteadyCall {
+    /// Which text.
+    pub steadiness: Steadiness,
+    /// Whether by wide names, or by those of the grammar.
+    pub wide_names: bool,
+}
+
+// The body of the calls.
 fn bind_steady_into(
     alloc: Global,
     query: &[u8],
     form: &[u8],
-    steadiness: Steadiness,
+    call: SteadyCall,
     room: &mut [u8],
 ) -> Outcome
-    ensures outcome { IsSteadyOutcome (IsBoundAs steadiness query.now)
-        (refusal_as steadiness query.now) query.now form.now result }
-    ensures written { IfDone result (λ len.
-        IsSteadyForm (IsBoundAs steadiness query.now) form.now (take len room.new)) }
-    ensures refused { (mode : Bool) → OnTokens mode query.now (λ ts. form.now ≡ [] →
-        (told : outcome.Outcome) → refusal_as steadiness query.now ts ≡ Some told →
+    ensures outcome { IsSteadyOutcomeIn call.wide_names
+        (IsBoundAs call.wide_names call.steadiness query.now)
+        (refusal_as call.wide_names call.steadiness query.now) query.now form.now result }
+    ensures written { IfDone result (λ len. IsSteadyForm
+        (IsBoundAs call.wide_names call.steadiness query.now) form.now (take len room.new)) }
+    ensures byte { (mode : Bool) →
+        OnTokensIn (reading_with call.wide_names mode) query.now (λ ts. form.now ≡ [] →
+        (told : outcome.Outcome) → byte_refusal call.steadiness query.now ts ≡ Some told →
         result ≡ told) }
-    ensures mixed { (mode : Bool) → OnTokens mode query.now (λ ts. form.now ≡ [] →
-        refusal_as steadiness query.now ts ≡ None → HasName ts × HasMark ts →
-        result ≡ Outcome.Mixed) }
+    ensures refused { (mode : Bool) →
+        OnTokensIn (reading_with call.wide_names mode) query.now (λ ts. form.now ≡ [] →
+        is_copied call.wide_names ts ≡ false → (told : outcome.Outcome) →
+        refusal_as call.wide_names call.steadiness query.now ts ≡ Some told → result ≡ told) }
+    ensures mixed { (mode : Bool) →
+        OnTokensIn (reading_with call.wide_names mode) query.now (λ ts. form.now ≡ [] →
+        is_copied call.wide_names ts ≡ false →
+        refusal_as call.wide_names call.steadiness query.now ts ≡ None →
+        HasName ts × HasMark ts → result ≡ Outcome.Mixed) }
     ensures memory { result ≡ Outcome.OutOfMemory →
         (form.now ≡ []) ⊎ HasFirstParameter form.now }
     ensures rest { IfDone result (λ len.
@@ -146,47 +255,100 @@ fn bind_steady_into(
         Ok(params) => params,
         Err(error) => return form_outcome(error),
     };
-    if let Some(outcome) = query_refusal(query, steadiness) {
-        return outcome;
+    match query_refusal(alloc, query, call) {
+        Ok(None) => {}
+        Ok(Some(outcome)) => return outcome,
+        Err(_) => return Outcome::OutOfMemory,
     }
-    match bind_params_steady(alloc, query, params, room) {
+
+    // A query that isn't refused has the same tokens in both modes, so it is read in one of them.
+    let reading = Reading {
+        no_backslash_escape: true,
+        wide_names: call.wide_names,
+    };
+    match bind_params_steady(alloc, query, params, reading, room) {
         Ok(text) => text_outcome(text),
-        Err(error) => bind_outcome(query, error, EITHER_MODE),
+        Err(error) => bind_outcome(query, error, reading),
     }
 }
 
-// Why a query is refused whatever is given to it. If it isn't, the modes agree on it.
-fn query_refusal(query: &[u8], steadiness: Steadiness) -> Option<Outcome>
-    ensures told { (mode : Bool) → OnTokens mode query.now (λ ts.
-        result ≡ refusal_as steadiness query.now ts) }
-    ensures agree { result ≡ None → OnTokens true query.now HoldNoEscapes }
-    ensures no_answer { IfSome result HasNoAnswer }
+/// Why a query is refused whatever is given to it. If it isn't, the modes agree on it. Only a query
+/// that is copied asks for memory.
+pub(crate) fn query_refusal(
+    alloc: Global,
+    query: &[u8],
+    call: SteadyCall,
+) -> Result<Option<Outcome>, AllocError>
+    ensures told { IfOk result (λ told. (mode : Bool) →
+        OnTokensIn (reading_with call.wide_names mode) query.now (λ ts.
+        told ≡ refusal_as call.wide_names call.steadiness query.now ts)) }
+    ensures agree { IfOk result (λ told. told ≡ None → OnTokens true query.now HoldNoEscapes) }
+    ensures no_answer { IfOk result (λ told. IfSome told HasNoAnswer) }
+    ensures memory { OnErr result ((mode : Bool) →
+        OnTokensIn (reading_with call.wide_names mode) query.now (λ ts.
+        (byte_refusal call.steadiness query.now ts ≡ None)
+        × (is_copied call.wide_names ts ≡ true))) }
 {
-    if let Steadiness::Anywhere = steadiness {
-        // One walk passes most queries for any server.
-        let Some(_) = mysql_steady_text::query_refusal(query) else {
-            return None;
-        };
+    if let Steadiness::Anywhere = call.steadiness {
+        // One walk passes most queries for any server, with capitals or without.
+        if is_clear(query) {
+            return Ok(None);
+        }
     }
-    refusal_by_walks(query, steadiness)
+    refusal_by_walks(alloc, query, call)
 }
 
 // The same by a walk over its bytes and one over its tokens.
-fn refusal_by_walks(query: &[u8], steadiness: Steadiness) -> Option<Outcome>
-    ensures told { (mode : Bool) → OnTokens mode query.now (λ ts.
-        result ≡ refusal_as steadiness query.now ts) }
-    ensures agree { result ≡ None → OnTokens true query.now HoldNoEscapes }
-    ensures no_answer { IfSome result HasNoAnswer }
+fn refusal_by_walks(
+    alloc: Global,
+    query: &[u8],
+    call: SteadyCall,
+) -> Result<Option<Outcome>, AllocError>
+    ensures told { IfOk result (λ told. (mode : Bool) →
+        OnTokensIn (reading_with call.wide_names mode) query.now (λ ts.
+        told ≡ refusal_as call.wide_names call.steadiness query.now ts)) }
+    ensures agree { IfOk result (λ told. told ≡ None → OnTokens true query.now HoldNoEscapes) }
+    ensures no_answer { IfOk result (λ told. IfSome told HasNoAnswer) }
+    ensures memory { OnErr result ((mode : Bool) →
+        OnTokensIn (reading_with call.wide_names mode) query.now (λ ts.
+        (byte_refusal call.steadiness query.now ts ≡ None)
+        × (is_copied call.wide_names ts ≡ true))) }
 {
-    if let Some(outcome) = byte_refusal(query, steadiness) {
-        return Some(outcome);
+    if let Some(outcome) = byte_refusal(query, call.steadiness) {
+        return Ok(Some(outcome));
     }
-    match first_unportable(query, true) {
+    let found = first_unportable_by(alloc, query, call.wide_names)?;
+    Ok(unportable_outcome(found))
+}
+
+// What is told of a construct, if one was found.
+fn unportable_outcome(found: Option<Unportable>) -> Option<Outcome>
+    ensures { result ≡ option_map unportable_outcome found }
+{
+    match found {
         Some(found) => Some(Outcome::Unportable {
             number: construct_number(found.construct),
             position: found.at,
         }),
         None => None,
+    }
+}
+
+// The first construct for which a query isn't portable, by wide names or by those of the grammar.
+fn first_unportable_by(
+    alloc: Global,
+    query: &[u8],
+    wide_names: bool,
+) -> Result<Option<Unportable>, AllocError>
+    ensures first { IfOk result (λ found. OnTokensIn (reading_with wide_names true) query.now (λ ts.
+        found ≡ first_unportable (portable_tokens wide_names ts))) }
+    ensures memory { OnErr result (OnTokensIn (reading_with wide_names true) query.now (λ ts.
+        is_copied wide_names ts ≡ true)) }
+{
+    if wide_names {
+        first_unportable_wide(alloc, query, true)
+    } else {
+        Ok(first_unportable(query, true))
     }
 }
 
@@ -214,19 +376,20 @@ fn bind_params_steady(
     alloc: Global,
     query: &[u8],
     params: ParamsInPlace<'_>,
+    reading: Reading,
     room: &mut [u8],
 ) -> Result<TextInRoom, BindError>
-    ensures text { OnTokens true query.now (λ ts. IfOk result (IsTextInRoom
+    ensures text { OnTokensIn reading query.now (λ ts. IfOk result (IsTextInRoom
         (IsGivenText steady_literal_of IsSteadyFor ts (given_in_place params.entry))
         (HasGivenLength steady_literal_of ts (given_in_place params.entry)) room.old room.new)) }
-    ensures refused { OnTokens true query.now (λ ts. IfErr result
+    ensures refused { OnTokensIn reading query.now (λ ts. IfErr result
         (IsCauseOrMemory (first_cause ts (given_in_place params.entry)))) }
-    ensures mixed { OnTokens true query.now (λ ts.
+    ensures mixed { OnTokensIn reading query.now (λ ts.
         HasName ts × HasMark ts → IsErrOf result BindError.Mixed) }
     ensures unchanged { OnErr result (room.new ≡ room.old) }
 {
     let mut first = [NO_PLACE; KEPT_PLACES];
-    let surveyed = SurveyedQuery::new(query, EITHER_MODE, &mut first);
+    let surveyed = SurveyedQuery::new(query, reading, &mut first);
     let pairs = named_pairs(&params);
     let borrowed = borrowed_params(&params, &pairs);
     bind_surveyed_into(alloc, &surveyed, borrowed, &SteadyForm, room)

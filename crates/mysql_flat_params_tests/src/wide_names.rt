@@ -5,7 +5,9 @@ use crate::shared::{NO_HEAD, NO_PLACE, same_in, wrote};
 use mysql_flat_params::{
     FragmentsOutcome, Outcome, PlaceSpan, ReadTemplate, Reading, TableHead, TableOutcome,
     bind_by_table_into_read, bind_fragments_into_read, bind_into_read, bind_rows_into_read,
-    name_place_read, names_into_read, table_into_read,
+    bind_wide_anywhere_into, bind_wide_fragments_anywhere_into, bind_wide_in_both_modes_into,
+    name_place_read, names_into_read, report_first_unportable_in_client_wide,
+    report_first_unportable_wide, table_into_read,
 };
 
 const WIDE: Reading = Reading {
@@ -171,4 +173,80 @@ fn fragments_bound_by_capitals(rt: HostRuntime) {
     let wanted = Outcome::Done { len: text.len() };
     same_in(&rt, told, FragmentsOutcome::AsValues(wanted), &query);
     wrote(&rt, wanted, &room, text, &query);
+}
+
+/// Queries, and why they are refused for any server and for both modes, with FORM given.
+const STEADY_REFUSALS: &[(&[u8], Outcome, Outcome)] = &[
+    (
+        b":ID '\\'",
+        Outcome::Unsteady { position: 5 },
+        Outcome::Backslash { position: 5 },
+    ),
+    (
+        b"SELECT /*+ SET_VAR(x=:ID) */ 1",
+        Outcome::Unportable {
+            number: 2,
+            position: 7,
+        },
+        Outcome::Unportable {
+            number: 2,
+            position: 7,
+        },
+    ),
+    (b":ID ?", Outcome::Mixed, Outcome::Mixed),
+    (
+        b"x:ID",
+        Outcome::NotAlone {
+            place: 0,
+            position: 1,
+        },
+        Outcome::NotAlone {
+            place: 0,
+            position: 1,
+        },
+    ),
+];
+
+#[test]
+fn steady_texts_by_capitals(rt: HostRuntime) {
+    let mut room = [b'#'; 64];
+    let outcome = bind_wide_anywhere_into(rt.alloc(), QUERY, FORM, &mut room);
+    wrote(&rt, outcome, &room, TEXT, &QUERY);
+    let mut room = [b'#'; 64];
+    let outcome = bind_wide_in_both_modes_into(rt.alloc(), QUERY, FORM, &mut room);
+    wrote(&rt, outcome, &room, TEXT, &QUERY);
+    for (query, anywhere, both_modes) in STEADY_REFUSALS {
+        let mut room = [b'#'; 64];
+        let outcome = bind_wide_anywhere_into(rt.alloc(), *query, FORM, &mut room);
+        same_in(&rt, outcome, *anywhere, query);
+        let outcome = bind_wide_in_both_modes_into(rt.alloc(), *query, FORM, &mut room);
+        same_in(&rt, outcome, *both_modes, query);
+        same_in(&rt, room, [b'#'; 64], query);
+    }
+}
+
+#[test]
+fn steady_fragments_by_capitals(rt: HostRuntime) {
+    // A list of 7 and the text `x`, and the identifier `t`.
+    let form = b"\x03Ids\x81\0\x02\0\0\0\x01\0\x07\xfd\0\x01x\x05Table\x83\0\x01t";
+    let query = b"FROM :Table WHERE id IN (:Ids)";
+    let text = b"FROM `t` WHERE id IN (7, _utf8mb4'x')";
+    let mut room = [b'#'; 64];
+    let told = bind_wide_fragments_anywhere_into(rt.alloc(), query, form, &mut room);
+    let wanted = Outcome::Done { len: text.len() };
+    same_in(&rt, told, FragmentsOutcome::AsValues(wanted), &query);
+    wrote(&rt, wanted, &room, text, &query);
+}
+
+#[test]
+fn constructs_by_capitals(rt: HostRuntime) {
+    let mut report = Outcome::Mixed.report();
+    let number = report_first_unportable_wide(rt.alloc(), QUERY, false, &mut report);
+    same_in(&rt, number, 0, &QUERY);
+    let hint = b"SELECT /*+ SET_VAR(x=:ID) */ 1";
+    let number = report_first_unportable_wide(rt.alloc(), hint, false, &mut report);
+    same_in(&rt, (number, report.position), (2, 7), &hint);
+    let dash = b"-:ID";
+    let number = report_first_unportable_in_client_wide(rt.alloc(), dash, false, &mut report);
+    same_in(&rt, (number, report.position), (14, 0), &dash);
 }

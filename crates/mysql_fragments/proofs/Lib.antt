@@ -21,6 +21,7 @@ mod DoubleTokenLemmas
 mod FragmentListLemmas
 pub mod SteadyPartLemmas
 pub mod SteadyFragmentLemmas
+pub mod WideFragmentLemmas
 pub mod SaidSteadyLemmas
 pub mod SteadyRoomLemmas
 pub mod FragmentMapLemmas

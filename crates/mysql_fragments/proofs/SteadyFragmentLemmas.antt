@@ -5,10 +5,10 @@ use Rattle.std.specs.List.{list_all}
 use Rattle.std.specs.Option.{is_some}
 use Rattle.std.proofs.Common.{◌≡◌, ◌+◌, ℕ, true, false, List, [], ◌∷◌, map, length, Option, Some, None, arith, inl, inr, refl, sym, ap, ◌∙◌, subst, true≢false}
 use Rattle.std.proofs.lemmas.Bool.{cases_Bool}
-use Rattle.mysql_named_params.specs.Reading.{grammar_reading}
+use Rattle.mysql_named_params.specs.Reading.{OnTokensIn, grammar_reading, reading_with}
 use Rattle.mysql_named_params.specs.Tokens.{Token, IsTokens, OnTokens, bytes_of, text_of, Name, Mark}
 use Rattle.mysql_named_params.specs.Places.{names, place_count}
-use Rattle.mysql_named_params.proofs.TokenListLemmas.{one_token_list}
+use Rattle.mysql_named_params.proofs.ReadingLemmas.{one_reading, reading_exists, reading_text}
 use Rattle.mysql_portable.specs.Portable.{IsPortable, AreReadAlikeBefore}
 use Rattle.mysql_portable.specs.Server.{IsReadOn}
 use Rattle.mysql_portable.specs.Steady.{first_unsteady, is_steady, IsSteady}
@@ -27,6 +27,7 @@ use Rattle.mysql_steady_text.specs.SteadyLiterals.{IsSteadyFor}
 use Rattle.mysql_steady_text.proofs.SteadyTextLemmas.{is_steady_text}
 use Rattle.mysql_steady_text.proofs.SteadySpliceLemmas.{steady_places, steady_portable, steady_on, steady_read, all_both}
 use Rattle.mysql_steady_text.proofs.BothModesTextLemmas.{nothing_said}
+use Rattle.mysql_steady_text.proofs.WideSteadyLemmas.{steady_reading}
 use Rattle.mysql_fragments.specs.Expanded.{IsExpanded}
 use Rattle.mysql_fragments.specs.FilledText.{ArePlaced, IsFilledQuery}
 use Rattle.mysql_fragments.specs.FragmentText.{all_values, fragment_text, mark_number}
@@ -153,34 +154,43 @@ is_anywhere_fragments query ts given text is steady p f =
 
 -- ---- as the calls promise it
 
-module _ (query : List ℕ) (given : GivenFragments) (fragments : List Fragment) (s : IsSteady query)
-    (p : OnTokens false query (λ ts. ArePlaced true ts given fragments)) where
+module _ (wide : Bool) (query : List ℕ) (given : GivenFragments) (fragments : List Fragment) (s : IsSteady query)
+    (p : OnTokensIn (reading_with wide false) query (λ ts. ArePlaced true ts given fragments)) where
   pub steady_fragments_on : (text : List ℕ) → None ≡ first_unsteady_from 0 fragments →
-      OnTokens false query (λ ts. IsFilledQuery steady_literal_of IsSteadyFor false ts given text) →
-      (mode : Bool) → OnTokens mode query (λ ts. IsSteadyFragments ts given text)
+      OnTokensIn (reading_with wide false) query (λ ts. IsFilledQuery steady_literal_of IsSteadyFor false ts given text) →
+      (mode : Bool) → OnTokensIn (reading_with wide mode) query (λ ts. IsSteadyFragments ts given text)
   steady_fragments_on text none o mode =
       let ts : List Token = o.0 in
       let f = o.2 in
       let x = f.expanded in
       let us : List Token = with_literal_tokens ts x.lists in
       let texts : List (List ℕ) = map fragment_text x.fragments in
-      let looked : fragments_for given (names ts) ≡ Ok fragments = subst (λ us. fragments_for given (names us) ≡ Ok fragments) (one_token_list false query p.0 ts p.1 o.1) p.2.given_to_places in
+      let looked : fragments_for given (names ts) ≡ Ok fragments = subst (λ us. fragments_for given (names us) ≡ Ok fragments) (one_reading (reading_with wide false) query p.0 ts p.1 o.1) p.2.given_to_places in
       let both : Ok x.fragments ≡ Ok fragments = sym x.given_to_places ∙ looked in
       let same : x.fragments ≡ fragments = cc in
       let all = texts_steady 0 x.fragments (ap (first_unsteady_from 0) same ∙ sym none) in
-      let steady : list_all is_steady (bound ts texts) ≡ true = bound_steady ts texts (subst (λ z. list_all is_steady z ≡ true) (sym o.1.text) s) all in
+      let steady : list_all is_steady (bound ts texts) ≡ true = bound_steady ts texts (subst (λ z. list_all is_steady z ≡ true) (sym (reading_text (reading_with wide false) query ts o.1)) s) all in
       let expanded_steady : IsSteady f.query = subst (λ z. list_all is_steady z ≡ true) (sym (joined_text_is ts texts f.query x.text_is)) steady in (
         ts,
-        steady_other false mode query ts s o.1,
+        steady_reading wide false mode query ts s o.1,
         is_steady_fragments ts given f.query text x expanded_steady
             (is_steady_text f.query us (positional (all_values x.fragments)) text (steady_other false true f.query us expanded_steady x.isolated) expanded_steady f.filled),
       )
 
   -- the first fragment that isn't steady
   pub place_told : (place : ℕ) → Some place ≡ first_unsteady_from 0 fragments →
-      OnTokens false query (λ ts. IsFragmentsRefusal ts given (UnsteadyFragment place))
+      OnTokensIn (reading_with wide false) query (λ ts. IsFragmentsRefusal ts given (UnsteadyFragment place))
   place_told place e =
       (p.0, p.1, (first_by true p.0 given fragments None p.2.unmixed p.2.given_to_places p.2.no_later, ap unsteady_place p.2.given_to_places ∙ sym e))
+
+-- what holds of the tokens of a steady query in one mode holds of them in each
+pub in_either : (wide : Bool) (query : List ℕ) (P : List Token → Type 0) (mode other : Bool) → IsSteady query →
+    OnTokensIn (reading_with wide mode) query P → OnTokensIn (reading_with wide other) query P
+in_either wide query P mode other steady o = (o.0, steady_reading wide mode other query o.0 steady o.1, o.2)
+
+-- what nothing is said of
+pub nothing_read : (wide mode : Bool) (query : List ℕ) → OnTokensIn (reading_with wide mode) query (λ ts. ⊤)
+nothing_read wide mode query = let t = reading_exists (reading_with wide mode) query in (t.0, t.1, tt)
 
 pub anywhere_fragments : {A E : Type 0} (items : A → List ℕ) (r : Result A E) (query : List ℕ) (given : GivenFragments) → IsSteady query →
     OnTokens false query IsPortable →
@@ -191,18 +201,18 @@ anywhere_fragments items (Ok text) query given steady p b mode =
     (o.0, steady_other false mode query o.0 steady o.1, is_anywhere_fragments query o.0 given (items text) o.1 steady o.2.0 o.2.1)
 anywhere_fragments items (Err e) query given steady p b mode = nothing_said mode query
 
-pub refused_fragments_answer : {A : Type 0} (r : Result A SteadyFragmentsError) (mode : Bool) (query : List ℕ) (given : GivenFragments)
-    (unportable : List Token → Option Unportable) → first_unsteady query ≡ None → OnTokens mode query (λ ts. unportable ts ≡ None) →
-    OnTokens mode query (λ ts. IfErr r (IsFragmentsRefusal ts given)) →
-    OnTokens mode query (λ ts. IfErr r (IsSteadyRefusal query (unportable ts) ts given))
-refused_fragments_answer (Ok text) mode query given unportable steady p b = nothing_said mode query
-refused_fragments_answer (Err (Unsteady at)) mode query given unportable steady p b = absurd b.2
-refused_fragments_answer (Err (error.Unportable found)) mode query given unportable steady p b = absurd b.2
-refused_fragments_answer (Err (Fragments e)) mode query given unportable steady p b =
-    on_map (grammar_reading mode) query (λ ts. (unportable ts ≡ None) × IsFragmentsRefusal ts given (Fragments e)) (λ ts. IsSteadyRefusal query (unportable ts) ts given (Fragments e))
+pub refused_fragments_answer : {A : Type 0} (wide : Bool) (r : Result A SteadyFragmentsError) (mode : Bool) (query : List ℕ) (given : GivenFragments)
+    (unportable : List Token → Option Unportable) → first_unsteady query ≡ None → OnTokensIn (reading_with wide mode) query (λ ts. unportable ts ≡ None) →
+    OnTokensIn (reading_with wide mode) query (λ ts. IfErr r (IsFragmentsRefusal ts given)) →
+    OnTokensIn (reading_with wide mode) query (λ ts. IfErr r (IsSteadyRefusal query (unportable ts) ts given))
+refused_fragments_answer wide (Ok text) mode query given unportable steady p b = nothing_read wide mode query
+refused_fragments_answer wide (Err (Unsteady at)) mode query given unportable steady p b = absurd b.2
+refused_fragments_answer wide (Err (error.Unportable found)) mode query given unportable steady p b = absurd b.2
+refused_fragments_answer wide (Err (Fragments e)) mode query given unportable steady p b =
+    on_map (reading_with wide mode) query (λ ts. (unportable ts ≡ None) × IsFragmentsRefusal ts given (Fragments e)) (λ ts. IsSteadyRefusal query (unportable ts) ts given (Fragments e))
     (λ ts is h. (steady, h.0, h.1))
-    (on_both (grammar_reading mode) query (λ ts. unportable ts ≡ None) (λ ts. IsFragmentsRefusal ts given (Fragments e)) p b)
-refused_fragments_answer (Err (UnsteadyFragment place)) mode query given unportable steady p b =
-    on_map (grammar_reading mode) query (λ ts. (unportable ts ≡ None) × IsFragmentsRefusal ts given (UnsteadyFragment place)) (λ ts. IsSteadyRefusal query (unportable ts) ts given (UnsteadyFragment place))
+    (on_both (reading_with wide mode) query (λ ts. unportable ts ≡ None) (λ ts. IsFragmentsRefusal ts given (Fragments e)) p b)
+refused_fragments_answer wide (Err (UnsteadyFragment place)) mode query given unportable steady p b =
+    on_map (reading_with wide mode) query (λ ts. (unportable ts ≡ None) × IsFragmentsRefusal ts given (UnsteadyFragment place)) (λ ts. IsSteadyRefusal query (unportable ts) ts given (UnsteadyFragment place))
     (λ ts is h. (steady, h.0, h.1))
-    (on_both (grammar_reading mode) query (λ ts. unportable ts ≡ None) (λ ts. IsFragmentsRefusal ts given (UnsteadyFragment place)) p b)
+    (on_both (reading_with wide mode) query (λ ts. unportable ts ≡ None) (λ ts. IsFragmentsRefusal ts given (UnsteadyFragment place)) p b)

@@ -15,3 +15,4 @@ pub mod BorrowedText
 pub mod FragmentsInRoom
 pub mod SteadyFragments
 pub mod SteadyFragmentsErrors
+pub mod WideSteadyFragments

@@ -33,6 +33,7 @@ mod steady_fragments_error;
 mod unsteady;
 mod value_form;
 mod wide;
+mod wide_steady;
 mod written;
 
 pub use bound_refs::{bind_borrowed_fragments, bind_borrowed_fragments_into};
@@ -53,3 +54,4 @@ pub use wide::{
     bind_wide_borrowed_fragments, bind_wide_borrowed_fragments_into, bind_wide_fragments,
     bind_wide_fragments_in, expanded_wide_query_in,
 };
+pub use wide_steady::{bind_wide_fragments_anywhere, bind_wide_fragments_in_any_mode};

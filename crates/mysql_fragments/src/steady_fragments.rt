@@ -1,5 +1,6 @@
 //! Queries with fragments in their places and values in steady literals.
 ghost use Rattle.std.specs.Prelude.{◌≡◌, ℕ, Bool, None, Some, IfErr, IfOk, IsErrOf};
+ghost use Rattle.mysql_named_params.specs.Reading.{OnTokensIn, reading_with};
 ghost use Rattle.mysql_named_params.specs.Tokens.{OnTokens};
 ghost use Rattle.mysql_named_params.specs.Places.{HasName, HasMark};
 ghost use Rattle.mysql_portable.specs.FirstUnportable.{first_unportable};
@@ -67,7 +68,7 @@ pub fn bind_fragments_anywhere(
     if let Some(found) = first_unportable(query, false) {
         return Err(SteadyFragmentsError::Unportable(found));
     }
-    bind_steady_fragments(alloc, query, fragments)
+    bind_steady_fragments(alloc, query, fragments, false)
 }
 
 /// [`bind_fragments_anywhere`] for a query that is meant for one server: the text that no
@@ -92,27 +93,30 @@ pub fn bind_fragments_in_any_mode(
 {
     match first_unsteady(query) {
         Some(at) => Err(SteadyFragmentsError::Unsteady { at }),
-        None => bind_steady_fragments(alloc, query, fragments),
+        None => bind_steady_fragments(alloc, query, fragments, false),
     }
 }
 
-// The text of a steady query, which has the same tokens in both modes. The error is of fragments.
-fn bind_steady_fragments(
+/// The text of a steady query, which has the same tokens in both modes, by wide names or by those
+/// of the grammar. The error is of fragments.
+pub(crate) fn bind_steady_fragments(
     alloc: Global,
     query: &[u8],
     fragments: &Fragments,
+    wide_names: bool,
 ) -> Result<Vec<u8>, SteadyFragmentsError>
     requires { IsSteady query.now }
-    ensures bound { (mode : Bool) → OnTokens mode query.now (λ ts. IfOk result (λ text.
-        IsSteadyFragments ts (given_fragments fragments.now) text.items)) }
-    ensures refused { (mode : Bool) → OnTokens mode query.now (λ ts. IfErr result
-        (IsFragmentsRefusal ts (given_fragments fragments.now))) }
-    ensures mixed { (mode : Bool) → OnTokens mode query.now (λ ts. HasName ts × HasMark ts →
+    ensures bound { (mode : Bool) → OnTokensIn (reading_with wide_names mode) query.now (λ ts.
+        IfOk result (λ text. IsSteadyFragments ts (given_fragments fragments.now) text.items)) }
+    ensures refused { (mode : Bool) → OnTokensIn (reading_with wide_names mode) query.now (λ ts.
+        IfErr result (IsFragmentsRefusal ts (given_fragments fragments.now))) }
+    ensures mixed { (mode : Bool) → OnTokensIn (reading_with wide_names mode) query.now (λ ts.
+        HasName ts × HasMark ts →
         IsErrOf result (SteadyFragmentsError.Fragments FragmentsError.Mixed)) }
 {
     let reading = Reading {
         no_backslash_escape: false,
-        wide_names: false,
+        wide_names,
     };
     let list = placed_fragments(alloc, query, fragments, reading, true)?;
     if let Some(place) = first_unsteady_place(list.as_slice()) {

@@ -5,8 +5,9 @@ use crate::shared::Plain::{Identifier, List};
 use crate::shared::PlainItem::{Int, Null};
 use crate::shared::{Plain, fragment};
 use mysql_fragments::{
-    FragmentRef, Fragments, FragmentsError, TextInRoom, bind_wide_borrowed_fragments,
-    bind_wide_borrowed_fragments_into, bind_wide_fragments, bind_wide_fragments_in,
+    FragmentRef, Fragments, FragmentsError, SteadyFragmentsError, TextInRoom,
+    bind_wide_borrowed_fragments, bind_wide_borrowed_fragments_into, bind_wide_fragments,
+    bind_wide_fragments_anywhere, bind_wide_fragments_in, bind_wide_fragments_in_any_mode,
     expanded_wide_query_in,
 };
 use mysql_values::value::ValueRef;
@@ -110,4 +111,39 @@ fn borrowed_fragments(rt: HostRuntime) {
     // Beside a wide name fragments by position are refused.
     let refused = bind_wide_borrowed_fragments(rt.alloc(), b":A", &fragments, false).is_err();
     assert!(rt; refused);
+}
+
+// What a query gives for any server, or only for any mode.
+fn steady(alloc: Global, query: &[u8], any_server: bool) -> Result<Vec<u8>, SteadyFragmentsError> {
+    match named(alloc) {
+        Ok(fragments) if any_server => bind_wide_fragments_anywhere(alloc, query, &fragments),
+        Ok(fragments) => bind_wide_fragments_in_any_mode(alloc, query, &fragments),
+        Err(error) => Err(SteadyFragmentsError::Fragments(FragmentsError::Memory(error))),
+    }
+}
+
+fn steadily(alloc: Global, query: &[u8], any_server: bool, wanted: &[u8]) -> bool {
+    match steady(alloc, query, any_server) {
+        Ok(text) => text.as_slice() == wanted,
+        Err(_) => false,
+    }
+}
+
+fn steadily_refused(alloc: Global, query: &[u8], wanted: SteadyFragmentsError) -> bool {
+    match steady(alloc, query, true) {
+        Ok(_) => false,
+        Err(error) => error == wanted,
+    }
+}
+
+#[test]
+fn steady_fragments_by_wide_names(rt: HostRuntime) {
+    assert!(rt; steadily(rt.alloc(), QUERY, true, WANTED));
+    assert!(rt; steadily(rt.alloc(), QUERY, false, WANTED));
+    assert!(rt; steadily(rt.alloc(), b"[a] (:userIds)", false, b"[a] (7, NULL)"));
+    let unsteady = SteadyFragmentsError::Unsteady { at: 8 };
+    assert!(rt; steadily_refused(rt.alloc(), b":Table '\\'", unsteady));
+    let mixed = SteadyFragmentsError::Fragments(FragmentsError::Mixed);
+    assert!(rt; steadily_refused(rt.alloc(), b":Table ?", mixed));
+    assert!(rt; steady(rt.alloc(), b"/*+ :Table */", true).is_err());
 }

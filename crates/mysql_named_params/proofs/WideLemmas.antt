@@ -53,19 +53,19 @@ run_colon b ts e = run_other b ts (ap is_wide_byte e)
 -- ---- the bytes
 
 -- the bytes that the wide name before the tokens has of them
-abbrev taken : Bool → List Token → List ℕ
+abbrev pub taken : Bool → List Token → List ℕ
 taken inside ts = cond inside (run ts) []
 
-taken_none : (inside : Bool) (b : ℕ) (ts : List Token) → (inside && is_wide_byte b) ≡ false →
+pub taken_none : (inside : Bool) (b : ℕ) (ts : List Token) → (inside && is_wide_byte b) ≡ false →
     taken inside (Plain b ∷ ts) ≡ []
 taken_none true b ts h = run_other b ts h
 taken_none false b ts h = refl
 
-taken_colon : (inside : Bool) (b : ℕ) (ts : List Token) → b ≡ colon → taken inside (Plain b ∷ ts) ≡ []
+pub taken_colon : (inside : Bool) (b : ℕ) (ts : List Token) → b ≡ colon → taken inside (Plain b ∷ ts) ≡ []
 taken_colon true b ts e = run_colon b ts e
 taken_colon false b ts e = refl
 
-taken_wide : (inside : Bool) (b : ℕ) (ts : List Token) → inside ≡ true → is_wide_byte b ≡ true →
+pub taken_wide : (inside : Bool) (b : ℕ) (ts : List Token) → inside ≡ true → is_wide_byte b ≡ true →
     taken inside (Plain b ∷ ts) ≡ b ∷ run ts
 taken_wide inside b ts i h = ap (λ x. taken x (Plain b ∷ ts)) i ∙ run_wide b ts h
 
@@ -77,7 +77,7 @@ not_taken : (inside : Bool) (t : Token) (ts : List Token) → taken inside (t �
     taken inside (t ∷ ts) ++ text_of (widened_from inside (t ∷ ts)) ≡ text_of (t ∷ ts)
 not_taken inside t ts a b = join _ [] _ _ a b
 
-none_taken : (inside : Bool) → ◌≡◌ {A = List ℕ} (cond inside [] []) []
+pub none_taken : (inside : Bool) → ◌≡◌ {A = List ℕ} (cond inside [] []) []
 none_taken true = refl
 none_taken false = refl
 

@@ -11,6 +11,10 @@ IsTokensWith false mode query ts = IsTokens mode query ts
 IsTokensWith true mode query ts =
     (own : List Token) × IsTokens mode query own × (ts ≡ widened own)
 
+-- the reading in a mode, with wide names or without
+abbrev pub reading_with : (wide_names mode : Bool) → Reading
+reading_with wide_names mode = record { no_backslash_escape = mode; wide_names = wide_names }
+
 -- the reading by the names of the grammar
 abbrev pub grammar_reading : Bool → Reading
 grammar_reading mode = record { no_backslash_escape = mode; wide_names = false }

@@ -8,7 +8,8 @@ pub use mysql_fragments::{
     RowsRef, SteadyFragmentsError, bind_borrowed_fragments, bind_borrowed_fragments_into,
     bind_fragments, bind_fragments_anywhere, bind_fragments_in, bind_fragments_in_any_mode,
     bind_wide_borrowed_fragments, bind_wide_borrowed_fragments_into, bind_wide_fragments,
-    bind_wide_fragments_in, expanded_query, expanded_query_in, expanded_wide_query_in,
+    bind_wide_fragments_anywhere, bind_wide_fragments_in, bind_wide_fragments_in_any_mode,
+    expanded_query, expanded_query_in, expanded_wide_query_in,
 };
 pub use mysql_to_fragments::{
     Decimal, DoubleOf, Identifier, ListOf, Qualified, RowsOf, ToFragment, ToFragments, ToItem,

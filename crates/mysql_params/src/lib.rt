@@ -39,6 +39,7 @@ pub use mysql_steady_text::{
     BothModesError, BothModesPairsError, SteadyPairsError, SteadyTextError, bind_pairs_anywhere,
     bind_pairs_in_any_mode, bind_pairs_in_both_modes, bind_text_anywhere, bind_text_in_any_mode,
     bind_text_in_both_modes, bind_values_anywhere, bind_values_in_any_mode,
-    bind_values_in_both_modes, bind_wide_anywhere, bind_wide_in_any_mode,
-    bind_wide_values_anywhere, bind_wide_values_in_any_mode,
+    bind_values_in_both_modes, bind_wide_anywhere, bind_wide_in_any_mode, bind_wide_in_both_modes,
+    bind_wide_pairs_anywhere, bind_wide_pairs_in_any_mode, bind_wide_pairs_in_both_modes,
+    bind_wide_values_anywhere, bind_wide_values_in_any_mode, bind_wide_values_in_both_modes,
 };

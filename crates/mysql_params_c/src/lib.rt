@@ -12,6 +12,8 @@
 //! overlap neither each other nor what is read, and their bytes have values before the call.
 #![tactic(auto)]
 
+pub mod wide;
+
 ghost use Rattle.std.specs.Prelude.{◌≡◌, ◌≢◌, ◌⊎◌, ◌↔◌, ◌+◌, ◌≤◌, ◌<◌, Bool, [], Some, None, length, take, drop, pos};
 ghost use Rattle.mysql_flat_params.specs.AnywhereIntoRoom.{IsAnywhereForm, IsAnywhereOutcome, anywhere_refusal};
 ghost use Rattle.mysql_flat_params.specs.BothModesIntoRoom.{IsBothModesForm, IsBothModesOutcome, both_modes_refusal};

@@ -8,6 +8,7 @@ use Rattle.std.proofs.lemmas.Bool.Decides.{nat_tests}
 use Rattle.std.proofs.lemmas.Bool.{and_parts, and_from, or_parts, not-true, not-false, eqb-true}
 use Rattle.mysql_named_params.specs.Bytes.{asterisk, backquote, bracket, carriage_return, colon, dash, dollar, double_quote, hash, newline, plus, point, question_mark, slash, space, is_start_byte, is_string_quote, begins, IsUpTo}
 use Rattle.mysql_named_params.specs.Tokens.{Token, bytes_of, text_of, IsToken, IsTokens, AreTokensBefore, QuotedString, QuotedIdentifier, HashComment, DashComment, BlockComment, Name, Mark, Plain}
+use Rattle.mysql_named_params.specs.WideNames.{is_capital}
 use Rattle.mysql_portable.specs.FirstUnportable.{special_construct, first_unportable}
 use Rattle.mysql_portable.specs.FrontConstruct.{block_construct, front_construct}
 use Rattle.mysql_portable.specs.Portable.{stands_inside, may_open_line, begins_exponent, IsPortable}
@@ -16,7 +17,7 @@ use Rattle.mysql_portable.specs.Server.{keeps_dashes, begins_place, begins_speci
 use Rattle.mysql_portable.specs.Steady.{is_steady}
 use Rattle.mysql_portable.specs.declared.portable.Construct.{Construct}
 use Rattle.mysql_portable.specs.declared.portable.Construct.TheVariants as construct
-use Rattle.mysql_portable.specs.Clear.{is_sign, may_begin_tag, begins_special_block, may_take_dashes, may_take_place, is_in_doubt, is_in_doubt_for, is_in_doubt_in_client, is_clear_after}
+use Rattle.mysql_portable.specs.Clear.{is_sign, may_begin_tag, begins_special_block, may_take_dashes, may_take_place, begins_wide_place, is_in_doubt, is_in_doubt_for, is_in_doubt_in_client, is_clear_after}
 use Rattle.mysql_portable.proofs.FrontLemmas.{passes, front_is}
 use Rattle.mysql_portable.proofs.PortableLemmas.{second_false, false_if, returns_alike}
 use Rattle.mysql_portable.proofs.SharpLemmas.{string_ends}
@@ -62,6 +63,18 @@ pub record NoDoubt (before b : ℕ) (rest : List ℕ) : Type 0 where
   pub no_dashes : (b == dash && (may_open_line rest || (may_take_dashes before && begins (λ c. c == dash) rest))) ≡ false
   pub no_place : (may_take_place before && begins_place (b ∷ rest)) ≡ false
 
+-- a place of the grammar is one by wide names
+no_narrower : (t q k s c : Bool) → (t && (q || (k && (s || c)))) ≡ false → (t && (q || (k && s))) ≡ false
+no_narrower false q k s c h = refl
+no_narrower true true k s c h = h
+no_narrower true false false s c h = refl
+no_narrower true false true true c h = h
+no_narrower true false true false c h = refl
+
+no_place_narrower : (t : Bool) (b : ℕ) (rest : List ℕ) → (t && begins_wide_place (b ∷ rest)) ≡ false → (t && begins_place (b ∷ rest)) ≡ false
+no_place_narrower t b [] h = h
+no_place_narrower t b (c ∷ rest) h = no_narrower t (b == question_mark) (b == colon) (is_start_byte c) (is_capital c) h
+
 pub no_doubt : (before b : ℕ) (rest : List ℕ) → is_in_doubt before b rest ≡ false → NoDoubt before b rest
 no_doubt before b rest h =
     let p1 = or_parts (not (is_steady b)) _ h in
@@ -70,7 +83,7 @@ no_doubt before b rest h =
     let p3 = or_parts (b == dollar && begins may_begin_tag rest) _ p2.1 in
     let p4 = or_parts (b == slash && begins_special_block rest) _ p3.1 in
     let p5 = or_parts (b == dash && (may_open_line rest || (may_take_dashes before && begins (λ c. c == dash) rest))) _ p4.1 in
-    record { steady = not-false _ p1.0; no_return = p0.0; no_bracket = p2.0; no_tag = p3.0; no_block = p4.0; no_dashes = p5.0; no_place = p5.1 }
+    record { steady = not-false _ p1.0; no_return = p0.0; no_bracket = p2.0; no_tag = p3.0; no_block = p4.0; no_dashes = p5.0; no_place = no_place_narrower (may_take_place before) b rest p5.1 }
 
 module _ (client : Bool) where
   pub clear_step : (before b : ℕ) (bs : List ℕ) → is_clear_after client before (b ∷ bs) ≡ true →

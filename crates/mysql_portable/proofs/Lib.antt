@@ -18,6 +18,7 @@ pub mod RunLemmas
 pub mod NothingInQuotesLemmas
 pub mod ClientTextLemmas
 pub mod ClearLemmas
+pub mod ClearLoweredLemmas
 pub mod ClearWalkLemmas
 pub mod ClearInClientLemmas
 pub mod WideUnportableLemmas

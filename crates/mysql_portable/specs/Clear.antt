@@ -3,13 +3,15 @@
 -- stands beside it, and not at tokens. A clear query is steady and portable, and most queries that
 -- are both are clear. Some are not, as a query with `[` in a string, or with `a-?`. A query that is
 -- clear in a client is portable there too; a query that begins with a comment isn't clear in one.
+-- Wide names count as places, so a clear query stays clear with these names in lower case.
 use Rattle.std.specs.Prelude.{◌≡◌, ◌-◌, ◌<◌, ◌≤◌, ◌==◌, ◌&&◌, ◌||◌, not, nat_le, codes, ℕ, Bool, true, false, List, [], ◌∷◌, if◌then◌else◌, drop, slice_index}
 use Rattle.std.specs.Char.{is_ascii_digit}
 use Rattle.std.specs.Str.{byte}
 use Rattle.mysql_named_params.specs.Bytes.{asterisk, bracket, carriage_return, colon, dash, dollar, hash, newline, plus, point, question_mark, slash, space, is_extension, begins}
+use Rattle.mysql_named_params.specs.WideNames.{is_wide_start}
 use Rattle.mysql_portable.specs.FoundInClient.{begins_word, is_client_word, letter_of, stand_before_comment}
 use Rattle.mysql_portable.specs.Portable.{may_open_line}
-use Rattle.mysql_portable.specs.ServerTokens.{begins_place, begins_special, is_tag_byte}
+use Rattle.mysql_portable.specs.ServerTokens.{begins_special, is_tag_byte}
 use Rattle.mysql_portable.specs.SteadyBytes.{is_steady}
 
 -- ---- on servers
@@ -35,6 +37,11 @@ may_take_dashes b = b == byte "e" || (b == byte "E" || is_sign b)
 abbrev pub may_take_place : ℕ → Bool
 may_take_place b = is_ascii_digit b || (b == point || is_sign b)
 
+-- `?`, or `:` and a byte that begins a name, also a wide one
+abbrev pub begins_wide_place : List ℕ → Bool
+begins_wide_place [] = false
+begins_wide_place (b ∷ bs) = b == question_mark || (b == colon && begins is_wide_start bs)
+
 -- the byte, after the one before and before this rest, isn't steady, or may begin or end a
 -- construct
 abbrev pub is_in_doubt : ℕ → ℕ → List ℕ → Bool
@@ -46,7 +53,7 @@ is_in_doubt before b rest =
     || ((b == slash && begins_special_block rest)
     || ((b == dash
     && (may_open_line rest || (may_take_dashes before && begins (λ c. c == dash) rest)))
-    || (may_take_place before && begins_place (b ∷ rest)))))))
+    || (may_take_place before && begins_wide_place (b ∷ rest)))))))
 
 -- ---- in a client
 

@@ -3,8 +3,9 @@
 //! it.
 ghost use Rattle.std.specs.Prelude.{◌≡◌, ◌==◌, ◌+◌, ◌<◌, ◌≤◌, Bool, false, true, length, take, drop, map, slice_index, IsTrue, IsFalse};
 ghost use Rattle.std.specs.Simd.Lanes.{mask_l};
-ghost use Rattle.mysql_named_params.specs.Bytes.{begins, dash, is_start_byte, newline, space};
+ghost use Rattle.mysql_named_params.specs.Bytes.{begins, dash, newline, space};
 ghost use Rattle.mysql_named_params.specs.Tokens.{OnTokens};
+ghost use Rattle.mysql_named_params.specs.WideNames.{is_wide_start};
 ghost use Rattle.mysql_portable.specs.Clear.{begins_client_line, begins_opener_after, begins_special_block, byte_before, is_clear, is_clear_after, is_clear_from, is_clear_in_client, is_in_doubt, is_in_doubt_for, is_in_doubt_in_client, is_never_in_doubt, is_of_client, is_sign, may_be_in_doubt, may_begin_tag, may_take_dashes, may_take_place};
 ghost use Rattle.mysql_portable.specs.FirstUnportableInClient.{IsPortableInClient};
 ghost use Rattle.mysql_portable.specs.Steady.{IsSteady};
@@ -141,7 +142,7 @@ fn is_in_doubt(before: u8, byte: u8, rest: &[u8]) -> bool
         b'/' => begins_special_block(rest),
         b'-' => may_open_line(rest) || may_take_dashes(before) && begins_dash(rest),
         b'?' => may_take_place(before),
-        b':' => may_take_place(before) && begins_name(rest),
+        b':' => may_take_place(before) && begins_wide_name(rest),
         _ => false,
     }
 }
@@ -208,12 +209,12 @@ fn begins_dash(text: &[u8]) -> bool
     matches!(text, [b'-', ..])
 }
 
-// Whether the text begins with the start byte of a name.
-fn begins_name(text: &[u8]) -> bool
-    ensures { result ≡ begins is_start_byte text.now }
+// Whether the text begins with the start byte of a wide name.
+fn begins_wide_name(text: &[u8]) -> bool
+    ensures { result ≡ begins is_wide_start text.now }
 {
     match text {
-        [first, ..] => first.is_ascii_lowercase() || *first == b'_',
+        [first, ..] => first.is_ascii_alphabetic() || *first == b'_',
         [] => false,
     }
 }

@@ -11,3 +11,5 @@ pub mod QueryRefusalLemmas
 pub mod SteadyLiteralLemmas
 pub mod FormLemmas
 pub mod WideSteadyLemmas
+pub mod WideBothModesLemmas
+pub mod PairsLemmas

@@ -11,7 +11,7 @@ use Rattle.mysql_values.specs.declared.value.Value.{Value}
 use Rattle.mysql_named_params.specs.Bytes.{question_mark}
 use Rattle.mysql_named_params.specs.LoweredNames.{lower_names}
 use Rattle.mysql_named_params.specs.Places.{names, place_count, with_marks}
-use Rattle.mysql_named_params.specs.Reading.{IsTokensIn, OnWideTokens, wide_reading}
+use Rattle.mysql_named_params.specs.Reading.{IsTokensIn, IsTokensWith, OnWideTokens, wide_reading}
 use Rattle.mysql_named_params.specs.Tokens.{Token, IsTokens, bytes_of, text_of, Name, Mark}
 use Rattle.mysql_named_params.specs.WideNames.{IsWideName}
 use Rattle.mysql_named_params.specs.declared.places.Reading.{Reading}
@@ -58,7 +58,7 @@ use Rattle.mysql_steady_text.proofs.SteadyTextLemmas.{both_of, is_steady_text}
 -- ---- by the query with marks
 
 -- what is given to the query is given to it with marks, by position
-marked_given : (reading : Reading) (query : List ℕ) (ts : List Token) (given : Given) (text : List ℕ) → IsTokensIn reading query ts →
+pub marked_given : (reading : Reading) (query : List ℕ) (ts : List Token) (given : Given) (text : List ℕ) → IsTokensIn reading query ts →
     (g : IsGivenText steady_literal_of IsSteadyFor ts given text) →
     IsGivenText steady_literal_of IsSteadyFor (with_marks ts) (positional g.values) text
 marked_given reading query ts given text is g =
@@ -125,6 +125,12 @@ pub wide_other : (mode other : Bool) (query : List ℕ) (ts : List Token) → Is
     IsTokensIn (wide_reading mode) query ts → IsTokensIn (wide_reading other) query ts
 wide_other mode other query ts steady is = (is.0, steady_other mode other query is.0 steady is.1, is.2)
 
+-- the tokens of a steady query in the other mode, with wide names or without
+pub steady_reading : (wide mode other : Bool) (query : List ℕ) (ts : List Token) → IsSteady query →
+    IsTokensWith wide mode query ts → IsTokensWith wide other query ts
+steady_reading false mode other query ts steady is = steady_other mode other query ts steady is
+steady_reading true mode other query ts steady is = wide_other mode other query ts steady is
+
 pub wide_either : (query : List ℕ) (P : List Token → Type 0) (mode other : Bool) → IsSteady query → OnWideTokens mode query P →
     OnWideTokens other query P
 wide_either query P mode other steady o = (o.0, wide_other mode other query o.0 steady o.1, o.2)
@@ -144,13 +150,13 @@ wide_nothing mode query = let t = reading_exists (wide_reading mode) query in (t
 
 -- ---- by the query with its names in lower case
 
-pieces-lowered : (piece : List ℕ) (ts : List Token) → pieces_from piece (lower_names ts) ≡ pieces_from piece ts
+pub pieces-lowered : (piece : List ℕ) (ts : List Token) → pieces_from piece (lower_names ts) ≡ pieces_from piece ts
 pieces-lowered piece [] = refl
 pieces-lowered piece (Name name ∷ ts) = ap (λ ps. piece ∷ ps) (pieces-lowered [] ts)
 pieces-lowered piece (Mark ∷ ts) = ap (λ ps. piece ∷ ps) (pieces-lowered [] ts)
 pieces-lowered piece (t ∷ ts) = pieces-lowered (piece ++ bytes_of t) ts
 
-with_literal_tokens-lowered : (ts : List Token) (lists : List (List Token)) → length lists ≡ place_count ts →
+pub with_literal_tokens-lowered : (ts : List Token) (lists : List (List Token)) → length lists ≡ place_count ts →
     with_literal_tokens (lower_names ts) lists ≡ with_literal_tokens ts lists
 with_literal_tokens-lowered [] lists e = refl
 with_literal_tokens-lowered (Name name ∷ ts) [] e = absurd (omega arith)
@@ -170,7 +176,7 @@ lowered_alone : (before before' : List ℕ) (ts : List Token) → EndsAsWell bef
     stands_alone before (text_of ts) ≡ true → stands_alone before' (text_of (lower_names ts)) ≡ true
 lowered_alone before before' ts e h = let p = and_parts (none_or_last may_stand_before before) _ h in and_from _ _ (e p.0) (first_lowered ts p.1)
 
-first_not_alone-lowered : (ts : List Token) (place : ℕ) (before before' : List ℕ) →
+pub first_not_alone-lowered : (ts : List Token) (place : ℕ) (before before' : List ℕ) →
     All IsWideName (names ts) → EndsAsWell before before' →
     first_not_alone_from place before ts ≡ None → first_not_alone_from place before' (lower_names ts) ≡ None
 first_not_alone-lowered [] place before before' h e a = refl
@@ -192,7 +198,7 @@ lower_all_steady (b ∷ bs) h =
     let p = and_parts (is_steady b) (list_all is_steady bs) h in
     and_from _ _ (lower_steady b p.0) (lower_all_steady bs p.1)
 
-lowered_steady : (ts : List Token) → list_all is_steady (text_of ts) ≡ true → list_all is_steady (text_of (lower_names ts)) ≡ true
+pub lowered_steady : (ts : List Token) → list_all is_steady (text_of ts) ≡ true → list_all is_steady (text_of (lower_names ts)) ≡ true
 lowered_steady [] h = refl
 lowered_steady (Name name ∷ ts) h =
     let p = all_parts is_steady (bytes_of (Name name)) (text_of ts) h in

@@ -12,3 +12,5 @@ pub mod SteadyShape
 pub mod SteadyReader
 pub mod ReadSteadyLiteral
 pub mod WideAnywhere
+pub mod WideBothModes
+pub mod WidePairs

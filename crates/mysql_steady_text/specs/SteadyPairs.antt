@@ -5,6 +5,7 @@ use Rattle.mysql_values.specs.declared.value.ValueRef.{ValueRef}
 use Rattle.mysql_named_params.specs.Tokens.{Token, OnTokens}
 use Rattle.mysql_portable.specs.FirstUnportable.{first_unportable}
 use Rattle.mysql_portable.specs.declared.portable.Unportable.{Unportable}
+use Rattle.mysql_params_core.specs.GivenValues.{Given}
 use Rattle.mysql_params_core.specs.Made.{few_pairs, IsFirstRedefined}
 use Rattle.mysql_binding.specs.BoundPairs.{OfPairs}
 use Rattle.mysql_binding.specs.FirstCause.{first_cause}
@@ -12,32 +13,54 @@ use Rattle.mysql_binding.specs.declared.bind_error.BindError.TheVariants.{Memory
 use Rattle.mysql_steady_text.specs.BothModesErrors.{IsBothModesRefusal, AreEqualBothModesErrors}
 use Rattle.mysql_steady_text.specs.FirstBackslash.{first_backslash}
 use Rattle.mysql_steady_text.specs.SteadyTextErrors.{IsSteadyRefusal, AreEqualSteadyTextErrors}
+use Rattle.mysql_steady_text.specs.declared.both_modes_error.BothModesError.{BothModesError}
 use Rattle.mysql_steady_text.specs.declared.both_modes_error.BothModesError.TheVariants as modes
+use Rattle.mysql_steady_text.specs.declared.steady_text_error.SteadyTextError.{SteadyTextError}
 use Rattle.mysql_steady_text.specs.declared.steady_text_error.SteadyTextError.TheVariants as steady
 use Rattle.mysql_steady_text.specs.declared.steady_pairs_error.SteadyPairsError.{SteadyPairsError}
 use Rattle.mysql_steady_text.specs.declared.steady_pairs_error.SteadyPairsError.TheVariants.{Redefined, Bind}
 use Rattle.mysql_steady_text.specs.declared.both_modes_pairs_error.BothModesPairsError.{BothModesPairsError}
 use Rattle.mysql_steady_text.specs.declared.both_modes_pairs_error.BothModesPairsError.TheVariants as both
 
--- The pairs make no parameters, since the name of this pair stands before it too; or they make
--- parameters, and for these the query is refused by this error; or they are many, and out of memory
--- comes before they are told apart. The construct that isn't portable, if it is looked for, is the
--- one that is found among the query's tokens.
+-- the pairs make no parameters, since the name of this pair stands before it too; or they are many,
+-- and out of memory comes before they are told apart
+abbrev pub AreNoPairs : List (Bor (List ℕ) × ValueRef) → SteadyPairsError → Type 0
+AreNoPairs pairs (Redefined index) = IsFirstRedefined pairs index
+AreNoPairs pairs (Bind error) =
+    (few_pairs < length pairs) × (error ≡ steady.Bind (Memory alloc_error))
+
+-- the same, or the pairs make parameters, and for these the query is refused by this error
+abbrev pub IsPairsRefusal : (IsRefusal : Given → SteadyTextError → Type 0)
+    → List (Bor (List ℕ) × ValueRef) → SteadyPairsError → Type 0
+IsPairsRefusal IsRefusal pairs (Redefined index) = IsFirstRedefined pairs index
+IsPairsRefusal IsRefusal pairs (Bind error) =
+    AreNoPairs pairs (Bind error) ⊎ OfPairs pairs (λ given. IsRefusal given error)
+
+-- The same of this query. The construct that isn't portable, if it is looked for, is the one that
+-- is found among the query's tokens.
 abbrev pub IsSteadyPairsRefusal : List ℕ → (List Token → Option Unportable)
     → List (Bor (List ℕ) × ValueRef) → SteadyPairsError → Type 0
-IsSteadyPairsRefusal query unportable pairs (Redefined index) = IsFirstRedefined pairs index
-IsSteadyPairsRefusal query unportable pairs (Bind error) =
-    ((few_pairs < length pairs) × (error ≡ steady.Bind (Memory alloc_error)))
-    ⊎ OfPairs pairs (λ given. (mode : Bool) →
+IsSteadyPairsRefusal query unportable = IsPairsRefusal (λ given error. (mode : Bool) →
     OnTokens mode query (λ ts. IsSteadyRefusal query (unportable ts) (first_cause ts given) error))
 
--- the same of a text for both modes
+-- the first of these, of a text for both modes
+abbrev pub AreNoPairsInBothModes : List (Bor (List ℕ) × ValueRef) → BothModesPairsError → Type 0
+AreNoPairsInBothModes pairs (both.Redefined index) = IsFirstRedefined pairs index
+AreNoPairsInBothModes pairs (both.Bind error) =
+    (few_pairs < length pairs) × (error ≡ modes.Bind (Memory alloc_error))
+
+-- the second
+abbrev pub IsPairsRefusalInBothModes : (IsRefusal : Given → BothModesError → Type 0)
+    → List (Bor (List ℕ) × ValueRef) → BothModesPairsError → Type 0
+IsPairsRefusalInBothModes IsRefusal pairs (both.Redefined index) = IsFirstRedefined pairs index
+IsPairsRefusalInBothModes IsRefusal pairs (both.Bind error) =
+    AreNoPairsInBothModes pairs (both.Bind error)
+    ⊎ OfPairs pairs (λ given. IsRefusal given error)
+
+-- the second of this query
 abbrev pub IsBothModesPairsRefusal : List ℕ → List (Bor (List ℕ) × ValueRef)
     → BothModesPairsError → Type 0
-IsBothModesPairsRefusal query pairs (both.Redefined index) = IsFirstRedefined pairs index
-IsBothModesPairsRefusal query pairs (both.Bind error) =
-    ((few_pairs < length pairs) × (error ≡ modes.Bind (Memory alloc_error)))
-    ⊎ OfPairs pairs (λ given. (mode : Bool) →
+IsBothModesPairsRefusal query = IsPairsRefusalInBothModes (λ given error. (mode : Bool) →
     OnTokens mode query (λ ts.
     IsBothModesRefusal (first_backslash ts) (first_unportable ts) (first_cause ts given) error))
 

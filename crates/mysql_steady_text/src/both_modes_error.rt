@@ -1,6 +1,7 @@
 //! Why a query and parameters give no text for both modes.
 use mysql_binding::BindError;
 use mysql_portable::portable::Unportable;
+use std::alloc::AllocError;
 use thiserror::Error;
 
 /// Why [`bind_text_in_both_modes`](crate::bind_text_in_both_modes) gave no text: the first cause,
@@ -29,5 +30,17 @@ impl From<BindError> for BothModesError {
 
     fn from(error: BindError) -> BothModesError {
         BothModesError::Bind(error)
+    }
+}
+
+impl From<AllocError> for BothModesError {
+    ghost use Rattle.std.specs.Prelude.{◌≡◌, alloc_error};
+    ghost use Rattle.mysql_binding.specs.declared.bind_error.BindError.TheVariants.{Memory};
+    ghost use Rattle.mysql_steady_text.specs.declared.both_modes_error.BothModesError.TheVariants.{Bind};
+
+    ghost from_gives = { λ _ error. error ≡ Bind (Memory alloc_error) };
+
+    fn from(error: AllocError) -> BothModesError {
+        BothModesError::Bind(BindError::Memory(error))
     }
 }

@@ -20,6 +20,8 @@ mod steady_pairs_error;
 mod steady_text;
 mod steady_text_error;
 mod wide;
+mod wide_both_modes;
+mod wide_pairs;
 
 pub use both_modes::bind_text_in_both_modes;
 pub use both_modes_error::BothModesError;
@@ -37,4 +39,8 @@ pub use steady_text_error::SteadyTextError;
 pub use wide::{
     bind_borrowed_wide_anywhere, bind_wide_anywhere, bind_wide_in_any_mode, bind_wide_steady,
     bind_wide_values_anywhere, bind_wide_values_in_any_mode,
+};
+pub use wide_both_modes::{bind_wide_in_both_modes, bind_wide_values_in_both_modes};
+pub use wide_pairs::{
+    bind_wide_pairs_anywhere, bind_wide_pairs_in_any_mode, bind_wide_pairs_in_both_modes,
 };

@@ -1,7 +1,7 @@
 //! Queries bound to steady texts, and to those for both modes, from names and values that are
 //! borrowed.
-ghost use Rattle.std.specs.Prelude.{◌≡◌, ℕ, Bool, List, None, Ok, Option, Some, map, IfErr, IfOk, IfSome, IsErrOf};
-ghost use Rattle.mysql_named_params.specs.Tokens.{OnTokens, Token};
+ghost use Rattle.std.specs.Prelude.{◌≡◌, ℕ, Bool, None, Ok, Some, map, IfErr, IfOk, IfSome, IsErrOf};
+ghost use Rattle.mysql_named_params.specs.Tokens.{OnTokens};
 ghost use Rattle.mysql_named_params.specs.Places.{HasMark, HasName};
 ghost use Rattle.mysql_portable.specs.FirstUnportable.{first_unportable};
 ghost use Rattle.mysql_portable.specs.Steady.{first_unsteady, IsSteady};
@@ -16,7 +16,7 @@ ghost use Rattle.mysql_steady_text.specs.BothModesErrors.{IsBothModesRefusal};
 ghost use Rattle.mysql_steady_text.specs.BothModesText.{IsPortableInBothModes, IsBoundAgainInBothModes, IsByPositionInBothModes};
 ghost use Rattle.mysql_steady_text.specs.FirstBackslash.{first_backslash};
 ghost use Rattle.mysql_steady_text.specs.SteadyAgain.{IsSteadyBoundAgain, IsSteadyByPosition};
-ghost use Rattle.mysql_steady_text.specs.SteadyPairs.{IsBothModesPairsRefusal, IsSteadyPairsRefusal};
+ghost use Rattle.mysql_steady_text.specs.SteadyPairs.{AreNoPairs, AreNoPairsInBothModes, IsBothModesPairsRefusal, IsSteadyPairsRefusal};
 ghost use Rattle.mysql_steady_text.specs.SteadyText.{IsAnywhereText, IsSteadyText};
 ghost use Rattle.mysql_steady_text.specs.SteadyTextErrors.{IsSteadyRefusal};
 
@@ -226,12 +226,13 @@ pub fn bind_values_in_both_modes(
 
 // Why the pairs make no parameters, or memory is refused for more than 64 of them; none if they
 // make parameters.
-fn steady_pairs_refusal(alloc: Global, pairs: &NamedPairs<'_>) -> Option<SteadyPairsError>
+pub(crate) fn steady_pairs_refusal(
+    alloc: Global,
+    pairs: &NamedPairs<'_>,
+) -> Option<SteadyPairsError>
     ensures none { result ≡ None →
         pairs_made (map seen_pair pairs.now.0.now) ≡ Ok (named (pair_map pairs.now.0.now)) }
-    ensures some { IfSome result (λ error. (query : List ℕ)
-        (unportable : List Token → Option unportable.Unportable) →
-        IsSteadyPairsRefusal query unportable pairs.now.0.now error) }
+    ensures some { IfSome result (AreNoPairs pairs.now.0.now) }
     ensures few { IfSome result (λ error. IfFewPairs pairs.now.0.now (λ given. ⊥)) }
 {
     match pairs.first_redefined(alloc) {
@@ -243,11 +244,13 @@ fn steady_pairs_refusal(alloc: Global, pairs: &NamedPairs<'_>) -> Option<SteadyP
 
 // Why the pairs make no parameters, or memory is refused for more than 64 of them; none if they
 // make parameters.
-fn both_modes_pairs_refusal(alloc: Global, pairs: &NamedPairs<'_>) -> Option<BothModesPairsError>
+pub(crate) fn both_modes_pairs_refusal(
+    alloc: Global,
+    pairs: &NamedPairs<'_>,
+) -> Option<BothModesPairsError>
     ensures none { result ≡ None →
         pairs_made (map seen_pair pairs.now.0.now) ≡ Ok (named (pair_map pairs.now.0.now)) }
-    ensures some { IfSome result (λ error. (query : List ℕ) →
-        IsBothModesPairsRefusal query pairs.now.0.now error) }
+    ensures some { IfSome result (AreNoPairsInBothModes pairs.now.0.now) }
     ensures few { IfSome result (λ error. IfFewPairs pairs.now.0.now (λ given. ⊥)) }
 {
     match pairs.first_redefined(alloc) {

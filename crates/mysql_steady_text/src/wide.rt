@@ -20,6 +20,7 @@ use crate::steady_text_error::SteadyTextError;
 use mysql_binding::{BindError, bind_borrowed_as};
 use mysql_named_params::places::Reading;
 use mysql_params_core::params::{BorrowedParams, Params};
+use mysql_portable::clear::is_clear;
 use mysql_portable::steady::first_unsteady;
 use mysql_portable::wide::first_unportable_wide;
 use mysql_values::value::ValueRef;
@@ -164,6 +165,10 @@ pub fn bind_borrowed_wide_anywhere(
         have_capitals (names ts) ≡ false → first_unportable (lower_names ts) ≡ None →
         HasName ts × HasMark ts → IsErrOf result (SteadyTextError.Bind BindError.Mixed)) }
 {
+    // Most queries pass by one quick walk, with capitals or without.
+    if is_clear(query) {
+        return bind_wide_steady(alloc, query, params);
+    }
     if let Some(at) = first_unsteady(query) {
         return Err(SteadyTextError::Unsteady { at });
     }

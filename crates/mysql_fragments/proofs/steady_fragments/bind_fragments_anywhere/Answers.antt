@@ -60,7 +60,7 @@ pub returns-clause-refused : goal.returns-clause-refused
 returns-clause-refused c mode =
     let steady = c.first_unsteady.ensures.none.0 c.in_default.is in
     let o = c.first_unportable.ensures.first in
-    refused_fragments_answer c.bind_steady_fragments.result mode c.args.query.now (given_fragments c.args.fragments.now) first_unportable (sym c.first_unsteady.ensures.first ∙ c.in_default.is)
+    refused_fragments_answer false c.bind_steady_fragments.result mode c.args.query.now (given_fragments c.args.fragments.now) first_unportable (sym c.first_unsteady.ensures.first ∙ c.in_default.is)
     (o.0, steady_other false mode c.args.query.now o.0 steady o.1, sym o.2 ∙ c.in_default-first_unportable.is) (c.bind_steady_fragments.ensures.refused mode)
 
 pub returns-clause-unportable : goal.returns-clause-unportable

@@ -1,4 +1,4 @@
-use Rattle.std.specs.Prelude.{None}
+use Rattle.std.specs.Prelude.{None, false}
 use Rattle.std.proofs.Common.{refl, sym, ◌∙◌, rules}
 use Rattle.mysql_named_params.proofs.TokensExistLemmas.{tokens_exist}
 use Rattle.mysql_fragments.specs.GivenFragments.{given_fragments}
@@ -24,7 +24,7 @@ returns-in-Some-clause-mixed c mode =
 pub returns-in-None-clause-refused : goal.returns-in-None-clause-refused
 returns-in-None-clause-refused c mode =
     let t = tokens_exist mode c.args.query.now in
-    refused_fragments_answer c.bind_steady_fragments.result mode c.args.query.now (given_fragments c.args.fragments.now) (λ ts. None) (sym c.first_unsteady.ensures.first ∙ c.in-None.is) (t.0, t.1, refl)
+    refused_fragments_answer false c.bind_steady_fragments.result mode c.args.query.now (given_fragments c.args.fragments.now) (λ ts. None) (sym c.first_unsteady.ensures.first ∙ c.in-None.is) (t.0, t.1, refl)
     (c.bind_steady_fragments.ensures.refused mode)
 
 pub returns-in-None-clause-mixed : goal.returns-in-None-clause-mixed

@@ -6,6 +6,7 @@ use Rattle.mysql_binding.proofs.AppendedTextLemmas.{handed_on}
 use Rattle.mysql_steady_text.specs.SteadyPairs.{IsSteadyPairsRefusal}
 use Rattle.mysql_steady_text.specs.declared.steady_pairs_error.SteadyPairsError.TheVariants.{Bind}
 use Rattle.mysql_steady_text.proofs.BothModesTextLemmas.{is_handed_on}
+use Rattle.mysql_steady_text.proofs.PairsLemmas.{no_pairs}
 use Rattle.mysql_steady_text.proofs.pairs.bind_pairs_anywhere.Goals as goal
 
 pub returns-clause-unportable : goal.returns-clause-unportable
@@ -31,7 +32,7 @@ returns-in_err-bind_borrowed_anywhere-clause-mixed c few given is mode =
     (o.0, o.1, λ steady portable both. let e = o.2 steady portable both in cc))
 
 pub returns-in-Some-clause-refused : goal.returns-in-Some-clause-refused
-returns-in-Some-clause-refused c = c.in-Some.ensures.some c.args.query.now first_unportable
+returns-in-Some-clause-refused c = no_pairs _ c.args.pairs.now c.in-Some.error c.in-Some.ensures.some
 
 pub returns-in_err-bind_borrowed_anywhere-clause-refused : goal.returns-in_err-bind_borrowed_anywhere-clause-refused
 returns-in_err-bind_borrowed_anywhere-clause-refused c =

@@ -5,6 +5,7 @@ use Rattle.mysql_binding.proofs.AppendedTextLemmas.{handed_on}
 use Rattle.mysql_steady_text.specs.SteadyPairs.{IsBothModesPairsRefusal}
 use Rattle.mysql_steady_text.specs.declared.both_modes_pairs_error.BothModesPairsError.TheVariants.{Bind}
 use Rattle.mysql_steady_text.proofs.BothModesTextLemmas.{is_handed_on}
+use Rattle.mysql_steady_text.proofs.PairsLemmas.{no_pairs_in_both_modes}
 use Rattle.mysql_steady_text.proofs.pairs.bind_pairs_in_both_modes.Goals as goal
 
 pub returns-clause-backslash : goal.returns-clause-backslash
@@ -41,7 +42,7 @@ returns-in_err-bind_borrowed_in_both_modes-clause-mixed c few given is mode =
     (o.0, o.1, λ none portable both. let e = o.2 none portable both in cc))
 
 pub returns-in-Some-clause-refused : goal.returns-in-Some-clause-refused
-returns-in-Some-clause-refused c = c.in-Some.ensures.some c.args.query.now
+returns-in-Some-clause-refused c = no_pairs_in_both_modes _ c.args.pairs.now c.in-Some.error c.in-Some.ensures.some
 
 pub returns-in_err-bind_borrowed_in_both_modes-clause-refused : goal.returns-in_err-bind_borrowed_in_both_modes-clause-refused
 returns-in_err-bind_borrowed_in_both_modes-clause-refused c =

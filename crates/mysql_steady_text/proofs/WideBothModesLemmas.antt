@@ -1,0 +1,237 @@
+-- Texts for both modes of queries with wide names: by the query with marks, and by the one with names
+-- in lower case.
+use Rattle.std.specs.Prelude.{Bool, Result, Ok, Err, IfErr, IfOk, Option, Some}
+use Rattle.std.proofs.Common.{◌≡◌, ◌+◌, ◌∙◌, ℕ, true, false, List, [], ◌∷◌, None, arith, inr, length, refl, sym, ap, subst, length-append}
+use Rattle.std.specs.Option.{option_or}
+use Rattle.mysql_values.specs.declared.value.Value.{Value}
+use Rattle.mysql_named_params.specs.LoweredNames.{lower_names}
+use Rattle.mysql_named_params.specs.Places.{names, place_count, with_marks}
+use Rattle.mysql_named_params.specs.Reading.{IsTokensIn, OnTokensIn, OnWideTokens, reading_with, wide_reading}
+use Rattle.mysql_named_params.specs.Tokens.{Token, IsTokens, OnTokens, bytes_of, text_of, Name, Plain}
+use Rattle.mysql_named_params.specs.WideNames.{run, widened, widened_from}
+use Rattle.mysql_named_params.proofs.LoweredLemmas.{lowered_tokens}
+use Rattle.mysql_named_params.proofs.ReparsedLemmas.{marked_reading, names_in_reading, names-with_marks}
+use Rattle.mysql_named_params.proofs.TokenListLemmas.{one_token_list}
+use Rattle.mysql_named_params.proofs.WideLemmas.{goes_on, none_taken, opens, plain_case, stays, taken, taken_colon, taken_none, taken_wide}
+use Rattle.mysql_portable.specs.Portable.{IsPortable, IsReadAs}
+use Rattle.mysql_portable.specs.Steady.{HoldNoEscapes}
+use Rattle.mysql_portable.specs.declared.portable.Unportable.{Unportable}
+use Rattle.mysql_portable.proofs.OtherModeLemmas.{tokens_other}
+use Rattle.mysql_params_core.specs.Given.{Given, positional}
+use Rattle.mysql_params_core.specs.Lookup.{lookup}
+use Rattle.mysql_binding.specs.BindErrors.{IsCauseOrMemory}
+use Rattle.mysql_binding.specs.Contents.{AreReadInPlace, contents_between}
+use Rattle.mysql_binding.specs.FirstCause.{first_cause}
+use Rattle.mysql_binding.specs.Pieces.{pieces, joined_text}
+use Rattle.mysql_binding.specs.Replaced.{with_literal_tokens}
+use Rattle.mysql_binding.specs.StandsAlone.{first_not_alone}
+use Rattle.mysql_binding.specs.WrittenText.{IsGivenText}
+use Rattle.mysql_binding.proofs.BoundAgainLemmas.{pieces-with_marks, with_literal_tokens-with_marks}
+use Rattle.mysql_binding.proofs.CauseLemmas.{on_both, on_map}
+use Rattle.mysql_binding.proofs.PieceLemmas.{joined_text_count}
+use Rattle.mysql_binding.proofs.SpliceLemmas.{as_many_lists}
+use Rattle.mysql_steady_text.specs.BothModesText.{IsBoundAgainInBothModes, IsByPositionInBothModes, IsTextInBothModes}
+use Rattle.mysql_steady_text.specs.FirstBackslash.{backslash_in, first_backslash, first_backslash_from}
+use Rattle.mysql_steady_text.specs.SteadyLiteral.{steady_literal_of}
+use Rattle.mysql_steady_text.specs.SteadyLiterals.{IsSteadyFor}
+use Rattle.mysql_steady_text.specs.SteadyReader.{read_steady_literal}
+use Rattle.mysql_steady_text.specs.WideBothModes.{IsBothModesBindRefusal, IsWideBothModesRefusal, IsWideTextInBothModes}
+use Rattle.mysql_steady_text.specs.declared.both_modes_error.BothModesError.{BothModesError}
+use Rattle.mysql_steady_text.specs.declared.both_modes_error.BothModesError.TheVariants.{Backslash, Bind}
+use Rattle.mysql_steady_text.specs.declared.both_modes_error.BothModesError.TheVariants as error
+use Rattle.mysql_steady_text.proofs.BackslashLemmas.{hold_no_escapes}
+use Rattle.mysql_steady_text.proofs.BothModesAgainLemmas.{again_of, positioned_of}
+use Rattle.mysql_steady_text.proofs.BothModesAnswerLemmas.{Agree, in_each_mode}
+use Rattle.mysql_steady_text.proofs.BothModesTextLemmas.{alone_in, in_both_modes, is_portable, read_in_both, tokens_in_both}
+use Rattle.mysql_steady_text.proofs.WideSteadyLemmas.{first_not_alone-lowered, marked_given, pieces-lowered, wide_nothing, with_literal_tokens-lowered}
+
+-- ---- backslashes: no wide name has one
+
+no_escapes_from : (inside : Bool) (own : List Token) → HoldNoEscapes own → HoldNoEscapes (widened_from inside own)
+no_escapes_from inside [] h = h
+no_escapes_from inside (Plain b ∷ ts) h = elim (plain_case inside b ts) [
+  | goes_on i w e ↦ subst HoldNoEscapes (sym e) (no_escapes_from true ts h.1)
+  | opens c w e ↦ subst HoldNoEscapes (sym e) (refl, no_escapes_from true ts h.1)
+  | stays i c e ↦ subst HoldNoEscapes (sym e) (refl, no_escapes_from false ts h.1)
+]
+no_escapes_from inside (Name name ∷ ts) h = (refl, no_escapes_from true ts h.1)
+no_escapes_from inside (t ∷ ts) h = (h.0, no_escapes_from false ts h.1)
+
+marked_no_escapes : (ts : List Token) → HoldNoEscapes ts → HoldNoEscapes (with_marks ts)
+marked_no_escapes [] h = h
+marked_no_escapes (Name name ∷ ts) h = (refl, marked_no_escapes ts h.1)
+marked_no_escapes (t ∷ ts) h = (h.0, marked_no_escapes ts h.1)
+
+at_position : (ts us : List Token) (m n : ℕ) → ts ≡ us → m ≡ n → first_backslash_from m ts ≡ first_backslash_from n us
+at_position ts us m n e f = rw (e, f) refl
+
+backslash_from : (inside : Bool) (at : ℕ) (own : List Token) →
+    first_backslash_from (at + length (taken inside own)) (widened_from inside own) ≡ first_backslash_from at own
+backslash_from inside at [] = refl
+backslash_from inside at (Plain b ∷ ts) = elim (plain_case inside b ts) [
+  | goes_on i w e ↦
+      at_position _ (widened_from true ts) _ ((at + 1) + length (run ts)) e (ap (λ bs. at + length bs) (taken_wide inside b ts i w) ∙ omega arith)
+      ∙ backslash_from true (at + 1) ts
+  | opens c w e ↦
+      at_position _ (Name (run ts) ∷ widened_from true ts) _ at e (ap (λ bs. at + length bs) (taken_colon inside b ts c) ∙ omega arith)
+      ∙ (at_position (widened_from true ts) (widened_from true ts) _ ((at + 1) + length (run ts)) refl (omega arith)
+      ∙ backslash_from true (at + 1) ts)
+  | stays i c e ↦
+      at_position _ (Plain b ∷ widened_from false ts) _ at e (ap (λ bs. at + length bs) (taken_none inside b ts i) ∙ omega arith)
+      ∙ (at_position (widened_from false ts) (widened_from false ts) _ ((at + 1) + 0) refl (omega arith)
+      ∙ backslash_from false (at + 1) ts)
+]
+backslash_from inside at (Name name ∷ ts) =
+    let none : at + length (taken inside (Name name ∷ ts)) ≡ at = ap (λ bs. at + length bs) (none_taken inside) ∙ omega arith in
+    at_position _ (widened_from inside (Name name ∷ ts)) _ at refl none
+    ∙ (at_position (widened_from true ts) (widened_from true ts) _ ((at + length (bytes_of (Name name))) + length (run ts)) refl (omega (arith, length-append name (run ts)))
+    ∙ backslash_from true (at + length (bytes_of (Name name))) ts)
+backslash_from inside at (t ∷ ts) =
+    let none : at + length (taken inside (t ∷ ts)) ≡ at = ap (λ bs. at + length bs) (none_taken inside) ∙ omega arith in
+    at_position _ (widened_from inside (t ∷ ts)) _ at refl none
+    ∙ ap (λ x. option_or (backslash_in at t) x) (at_position (widened_from false ts) (widened_from false ts) _ ((at + length (bytes_of t)) + 0) refl (omega arith) ∙ backslash_from false (at + length (bytes_of t)) ts)
+
+pub first_backslash-widened : (own : List Token) → first_backslash (widened own) ≡ first_backslash own
+first_backslash-widened own = backslash_from false 0 own
+
+-- ---- in either mode
+
+-- the tokens of a query, in each mode, if the modes agree on it
+own_in_each : (query : List ℕ) (own : List Token) → Agree query → IsTokens true query own → (mode : Bool) → IsTokens mode query own
+own_in_each query own none is mode =
+    let same : none.0 ≡ own = one_token_list true query none.0 own none.1 is in
+    tokens_other true mode query own (subst HoldNoEscapes same none.2) is
+
+wide_no_escapes : (query : List ℕ) (ts : List Token) → Agree query → IsTokensIn (wide_reading true) query ts → HoldNoEscapes ts
+wide_no_escapes query ts none is =
+    let same : none.0 ≡ is.0 = one_token_list true query none.0 is.0 none.1 is.1 in
+    subst HoldNoEscapes (sym is.2) (no_escapes_from false is.0 (subst HoldNoEscapes same none.2))
+
+-- the modes agree on a query if no wide token of it has a backslash in a string
+pub agree_of_wide : (query : List ℕ) (ts : List Token) → IsTokensIn (wide_reading true) query ts → first_backslash ts ≡ None → Agree query
+agree_of_wide query ts is none =
+    let same : first_backslash ts ≡ first_backslash is.0 = ap first_backslash is.2 ∙ first_backslash-widened is.0 in
+    (is.0, is.1, hold_no_escapes is.0 0 (sym same ∙ none))
+
+pub in_each_wide : (query : List ℕ) (P : List Token → Type 0) → Agree query → OnWideTokens true query P → (mode : Bool) →
+    OnWideTokens mode query P
+in_each_wide query P none o mode = (o.0, (o.1.0, own_in_each query o.1.0 none o.1.1 mode, o.1.2), o.2)
+
+-- the same, with wide names or without
+pub in_each_reading : (wide : Bool) (query : List ℕ) (P : List Token → Type 0) → Agree query → OnTokensIn (reading_with wide true) query P →
+    (mode : Bool) → OnTokensIn (reading_with wide mode) query P
+in_each_reading false query P none o = in_each_mode query P none o
+in_each_reading true query P none o = in_each_wide query P none o
+
+-- the first backslash in a string, of the tokens with wide names
+pub wide_backslash : (query : List ℕ) (found : Option ℕ) → ((mode : Bool) → OnTokens mode query (λ ts. found ≡ first_backslash ts)) →
+    (mode : Bool) → OnWideTokens mode query (λ ts. found ≡ first_backslash ts)
+wide_backslash query found b mode =
+    let o = b mode in
+    (widened o.0, (o.0, o.1, refl), o.2 ∙ sym (first_backslash-widened o.0))
+
+-- without a backslash in a string, and with this first construct, or none
+pub wide_told : (query : List ℕ) (found : Option ℕ) (P : List Token → Type 0) →
+    ((mode : Bool) → OnTokens mode query (λ ts. found ≡ first_backslash ts)) → found ≡ None → Agree query →
+    OnWideTokens true query P → (mode : Bool) → OnWideTokens mode query (λ ts. (first_backslash ts ≡ None) × P ts)
+wide_told query found P b none agree u mode =
+    let o = on_both (wide_reading mode) query (λ ts. found ≡ first_backslash ts) P (wide_backslash query found b mode) (in_each_wide query P agree u mode) in
+    (o.0, o.1, (sym o.2.0 ∙ none, o.2.1))
+
+-- ---- by the query with marks
+
+-- the text of the query with marks is that of the query
+from_marks : (ts : List Token) (given : Given) (values : List Value) (text : List ℕ) →
+    lookup given (names ts) ≡ Ok values → first_cause ts given ≡ None →
+    IsTextInBothModes (with_marks ts) (positional values) text → IsTextInBothModes ts given text
+from_marks ts given values text l none t =
+    let same : pieces (with_marks ts) ≡ pieces ts = pieces-with_marks [] ts in
+    let exact : joined_text (pieces ts) t.literals ≡ Some text = ap (λ ps. joined_text ps t.literals) (sym same) ∙ t.text_is in
+    let lists : length t.literal_tokens ≡ place_count ts = as_many_lists true t.literals t.literal_tokens (t.tokens_of_literals true) ∙ joined_text_count [] ts t.literals text exact in
+    let tokens : with_literal_tokens (with_marks ts) t.literal_tokens ≡ with_literal_tokens ts t.literal_tokens = with_literal_tokens-with_marks ts t.literal_tokens lists in
+    record {
+      values = t.values;
+      literals = t.literals;
+      literal_tokens = t.literal_tokens;
+      contents = t.contents;
+      isolated = λ mode. subst (IsTokens mode text) tokens (t.isolated mode);
+      reads_in_place = λ mode. subst (λ ps. AreReadInPlace (read_steady_literal mode) ps t.literals t.contents) same (t.reads_in_place mode);
+      no_escapes = subst HoldNoEscapes tokens t.no_escapes;
+      no_cause = none;
+      looked_up = l ∙ (ap (lookup (positional values)) (sym (names-with_marks ts)) ∙ t.looked_up);
+      written = t.written;
+      shapes = t.shapes;
+      text_is = exact;
+      tokens_of_literals = t.tokens_of_literals;
+      contents_are = t.contents_are;
+      read_back = λ mode. ap (λ ps. contents_between (read_steady_literal mode) ps text) (sym same) ∙ t.read_back mode;
+    }
+
+pub is_wide_text : (query : List ℕ) (ts : List Token) (given : Given) (text : List ℕ) → Agree query → IsTokensIn (wide_reading true) query ts →
+    IsGivenText steady_literal_of IsSteadyFor ts given text → IsTextInBothModes ts given text
+is_wide_text query ts given text none is g =
+    from_marks ts given g.values text g.looked_up g.no_cause
+    (in_both_modes (text_of (with_marks ts)) (with_marks ts) (positional g.values) text (marked_reading (wide_reading true) query ts is)
+    (marked_no_escapes ts (wide_no_escapes query ts none is)) (marked_given (wide_reading true) query ts given text is g))
+
+pub wide_given_both : (query : List ℕ) (given : Given) (text : List ℕ) → Agree query →
+    OnWideTokens true query (λ ts. IsGivenText steady_literal_of IsSteadyFor ts given text) →
+    (mode : Bool) → OnWideTokens mode query (λ ts. IsTextInBothModes ts given text)
+wide_given_both query given text none o =
+    in_each_wide query (λ ts. IsTextInBothModes ts given text) none (o.0, o.1, is_wide_text query o.0 given text none o.1 o.2)
+
+-- ---- by the query with its names in lower case
+
+pub is_wide_both : (query : List ℕ) (ts : List Token) (given : Given) (text : List ℕ) → Agree query → IsTokensIn (wide_reading true) query ts →
+    IsPortable (lower_names ts) → IsTextInBothModes ts given text → IsWideTextInBothModes ts given text
+is_wide_both query ts given text none is p t =
+    let us = lower_names ts in
+    let low = text_of us in
+    let both = λ (mode : Bool). subst (λ (vs : List Token). IsTokens mode (text_of (lower_names vs)) (lower_names vs)) (sym is.2) (lowered_tokens mode query is.0 (own_in_each query is.0 none is.1 mode)) in
+    let n : first_not_alone us ≡ None = first_not_alone-lowered ts 0 [] [] (names_in_reading (wide_reading true) query ts is) (λ h. h) (alone_in ts given text t) in
+    let e : joined_text (pieces us) t.literals ≡ Some text = ap (λ ps. joined_text ps t.literals) (pieces-lowered [] ts) ∙ t.text_is in
+    let lists : length t.literal_tokens ≡ place_count ts = as_many_lists true t.literals t.literal_tokens (t.tokens_of_literals true) ∙ joined_text_count [] ts t.literals text t.text_is in
+    let same : with_literal_tokens us t.literal_tokens ≡ with_literal_tokens ts t.literal_tokens = with_literal_tokens-lowered ts t.literal_tokens lists in
+    record {
+      text_in_both_modes = t;
+      portable = p;
+      portable_text = subst (λ vs. IsPortable vs) same (is_portable low text us t.literals t.literal_tokens both p n t.shapes t.tokens_of_literals e);
+      read = λ server mode vs honest v.
+          subst (λ ws. IsReadAs ws vs) same (read_in_both low text us t.literals t.literal_tokens both p n t.shapes t.tokens_of_literals e server mode vs honest v);
+      tokens = tokens_in_both low text us t.literals t.literal_tokens both p n t.shapes t.tokens_of_literals e;
+    }
+
+-- ---- as the calls promise it
+
+pub wide_both_answer : {A E : Type 0} (items : A → List ℕ) (r : Result A E) (query : List ℕ) (given : Given) → Agree query →
+    OnWideTokens true query (λ ts. IsPortable (lower_names ts)) →
+    ((mode : Bool) → OnWideTokens mode query (λ ts. IfOk r (λ text. IsTextInBothModes ts given (items text)))) →
+    (mode : Bool) → OnWideTokens mode query (λ ts. IfOk r (λ text. IsWideTextInBothModes ts given (items text)))
+wide_both_answer items (Ok text) query given none p b =
+    let o = on_both (wide_reading true) query (λ ts. IsPortable (lower_names ts)) (λ ts. IsTextInBothModes ts given (items text)) p (b true) in
+    in_each_wide query (λ ts. IsWideTextInBothModes ts given (items text)) none (o.0, o.1, is_wide_both query o.0 given (items text) none o.1 o.2.0 o.2.1)
+wide_both_answer items (Err e) query given none p b = λ mode. wide_nothing mode query
+
+pub wide_both_refused : {A : Type 0} (r : Result A BothModesError) (mode : Bool) (query : List ℕ) (given : Given) (unportable : List Token → Option Unportable) →
+    OnWideTokens mode query (λ ts. (first_backslash ts ≡ None) × (unportable ts ≡ None)) →
+    OnWideTokens mode query (λ ts. IfErr r (IsBothModesBindRefusal (first_cause ts given))) →
+    OnWideTokens mode query (λ ts. IfErr r (IsWideBothModesRefusal (first_backslash ts) (unportable ts) (first_cause ts given)))
+wide_both_refused (Ok text) mode query given unportable p b = wide_nothing mode query
+wide_both_refused (Err (Backslash at)) mode query given unportable p b = absurd b.2
+wide_both_refused (Err (error.Unportable found)) mode query given unportable p b = absurd b.2
+wide_both_refused (Err (Bind e)) mode query given unportable p b =
+    on_map (wide_reading mode) query (λ ts. ((first_backslash ts ≡ None) × (unportable ts ≡ None)) × IsCauseOrMemory (first_cause ts given) e)
+    (λ ts. IsWideBothModesRefusal (first_backslash ts) (unportable ts) (first_cause ts given) (Bind e))
+    (λ ts is h. inr (h.0.0, h.0.1, h.1))
+    (on_both (wide_reading mode) query (λ ts. (first_backslash ts ≡ None) × (unportable ts ≡ None)) (λ ts. IsCauseOrMemory (first_cause ts given) e) p b)
+
+module _ {A E : Type 0} (items : A → List ℕ) (query : List ℕ) (given : Given) where
+  pub wide_both_again : (mode : Bool) (r : Result A E) → OnWideTokens mode query (λ ts. IfOk r (λ text. IsTextInBothModes ts given (items text))) →
+      IfOk r (λ text. IsBoundAgainInBothModes (items text))
+  wide_both_again mode (Ok text) o = again_of o.0 given (items text) o.2
+  wide_both_again mode (Err e) o = tt
+
+  pub wide_both_position : (mode : Bool) (r : Result A E) → OnWideTokens mode query (λ ts. IfOk r (λ text. IsTextInBothModes ts given (items text))) →
+      OnWideTokens mode query (λ ts. IfOk r (λ text. IsByPositionInBothModes mode ts given (items text)))
+  wide_both_position mode (Ok text) o = (o.0, o.1, positioned_of (wide_reading mode) query o.0 given (items text) o.1 o.2)
+  wide_both_position mode (Err e) o = o

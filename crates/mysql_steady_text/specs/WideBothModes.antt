@@ -1,0 +1,50 @@
+-- What binding by wide names promises of the text that it gives for both modes and any server, and
+-- what its errors stand for. Portable is the query with its names in lower case, as for any mode
+-- (WideAnywhere.antt).
+use Rattle.std.specs.Prelude.{◌≡◌, ◌⊎◌, ℕ, Bool, List, Option, alloc_error}
+use Rattle.mysql_named_params.specs.LoweredNames.{lower_names}
+use Rattle.mysql_named_params.specs.Tokens.{Token, text_of}
+use Rattle.mysql_portable.specs.Portable.{IsPortable, IsReadAs}
+use Rattle.mysql_portable.specs.Quiet.{IsHonest, DecidesWithin}
+use Rattle.mysql_portable.specs.ServerTokens.{Server, IsReadOn}
+use Rattle.mysql_portable.specs.declared.portable.Unportable.{Unportable}
+use Rattle.mysql_params_core.specs.GivenValues.{Given}
+use Rattle.mysql_binding.specs.BindErrors.{IsCauseOrMemory}
+use Rattle.mysql_binding.specs.FirstCause.{Cause}
+use Rattle.mysql_binding.specs.Replaced.{with_literal_tokens}
+use Rattle.mysql_binding.specs.declared.bind_error.BindError.TheVariants.{Memory}
+use Rattle.mysql_steady_text.specs.BothModesErrors.{IsBothModesRefusal}
+use Rattle.mysql_steady_text.specs.BothModesText.{IsTextInBothModes}
+use Rattle.mysql_steady_text.specs.declared.both_modes_error.BothModesError.{BothModesError}
+use Rattle.mysql_steady_text.specs.declared.both_modes_error.BothModesError.TheVariants.{Bind}
+
+-- the text, for both modes and any server, of a query with these tokens, wide names among them
+pub record IsWideTextInBothModes (ts : List Token) (given : Given) (text : List ℕ) : Type 0 where
+  -- It is a text for both modes,
+  pub text_in_both_modes : IsTextInBothModes ts given text
+  -- the query with its names in lower case is portable, and so is the text.
+  pub portable : IsPortable (lower_names ts)
+  pub portable_text : IsPortable (with_literal_tokens ts text_in_both_modes.literal_tokens)
+  -- On every honest server, in either mode, its tokens are those of the query, with those of one
+  -- literal in place of each name and mark: those that the grammar reads, except for `--` before a
+  -- newline and for what stands in quiet comments;
+  pub read : (server : Server) (mode : Bool) (vs : List Token) → IsHonest server →
+      IsReadOn server mode text vs →
+      IsReadAs (with_literal_tokens ts text_in_both_modes.literal_tokens) vs
+  -- and if the server decides about a quiet comment by its own text, exactly those that it reads in
+  -- the query with its names in lower case.
+  pub tokens : (server : Server) (mode : Bool) (us : List Token) → IsHonest server →
+      DecidesWithin server → IsReadOn server mode (text_of (lower_names ts)) us →
+      IsReadOn server mode text (with_literal_tokens us text_in_both_modes.literal_tokens)
+
+-- the error is the first that holds, as without wide names, or out of memory, which may also come
+-- for the copy of the query in lower case
+abbrev pub IsWideBothModesRefusal : Option ℕ → Option Unportable → Option Cause → BothModesError
+    → Type 0
+IsWideBothModesRefusal backslash unportable cause error =
+    (error ≡ Bind (Memory alloc_error)) ⊎ IsBothModesRefusal backslash unportable cause error
+
+-- the error is one of binding: this first cause, or out of memory
+abbrev pub IsBothModesBindRefusal : Option Cause → BothModesError → Type 0
+IsBothModesBindRefusal cause (Bind error) = IsCauseOrMemory cause error
+IsBothModesBindRefusal cause error = ⊥
