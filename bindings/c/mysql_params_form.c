@@ -441,6 +441,7 @@ typedef struct line {
     char *bytes;
     size_t room_len;
     size_t len;
+    bool wide_names; /* whether names may have capitals */
 } line;
 
 static void append_byte(line *to, char byte)
@@ -485,29 +486,30 @@ static void append_name(line *to, const mysql_params_report *report, const uint8
 }
 
 /* Returns whether a byte is one of those that names are of. */
-static bool is_of_names(uint8_t byte)
+static bool is_of_names(const line *to, uint8_t byte)
 {
-    return (byte >= 'a' && byte <= 'z') || (byte >= '0' && byte <= '9') || byte == '_';
+    return (byte >= 'a' && byte <= 'z') || (byte >= '0' && byte <= '9') || byte == '_' ||
+           (to->wide_names && byte >= 'A' && byte <= 'Z');
 }
 
-/* Returns whether a byte is a letter that no name has: a capital, or of a letter outside ASCII. */
-static bool is_other_letter(uint8_t byte)
+/* Returns whether a byte is of a letter that no name has: outside ASCII, or a capital unless names may have some. */
+static bool is_other_letter(const line *to, uint8_t byte)
 {
-    return (byte >= 'A' && byte <= 'Z') || byte >= 128;
+    return byte >= 128 || (!to->wide_names && byte >= 'A' && byte <= 'Z');
 }
 
 /* Appends what names are of, if a letter that none has stands directly after the name that begins at a byte. */
 static void append_alphabet(line *to, const uint8_t *query, size_t query_len, size_t begin)
 {
     size_t name_end = begin;
-    while (name_end < query_len && is_of_names(query[name_end]))
+    while (name_end < query_len && is_of_names(to, query[name_end]))
         name_end++;
     size_t word_end = name_end;
-    while (word_end < query_len && (is_of_names(query[word_end]) || is_other_letter(query[word_end])))
+    while (word_end < query_len && (is_of_names(to, query[word_end]) || is_other_letter(to, query[word_end])))
         word_end++;
     if (word_end == name_end)
         return;
-    append_text(to, ": names are of a to z, 0 to 9 and _, so `:");
+    append_text(to, ": names are of %s and _, so `:", to->wide_names ? "ASCII letters, digits" : "a to z, 0 to 9");
     append_shown(to, query + begin, word_end - begin);
     append_text(to, name_end == begin ? "` is none" : "` ends after `");
     append_shown(to, query + begin, name_end - begin);
@@ -526,7 +528,7 @@ static void append_hint(line *to, int32_t number, const mysql_params_report *rep
         append_alphabet(to, query, query_len, at + 1);
     } else if (number == MYSQL_PARAMS_NAMED_FOR_POSITIONAL) {
         for (at = 1; at < query_len; at++)
-            if (query[at - 1] == ':' && is_other_letter(query[at])) {
+            if (query[at - 1] == ':' && is_other_letter(to, query[at])) {
                 append_alphabet(to, query, query_len, at);
                 return;
             }
@@ -683,9 +685,12 @@ static void append_message(line *to, int32_t number, const mysql_params_report *
     }
 }
 
-/* Ends a line by a zero byte, and returns its whole length without that. */
-static size_t end_line(line *to)
+/* Writes the message of any number into an empty line, and returns its whole length without the zero byte. */
+static size_t write_message(line *to, int32_t number, const mysql_params_report *report,
+                            const uint8_t *source, size_t source_len)
 {
+    append_message(to, number, report, source, source_len);
+    append_hint(to, number, report, source, source_len);
     if (to->room_len > 0)
         to->bytes[to->len < to->room_len ? to->len : to->room_len - 1] = '\0';
     return to->len;
@@ -695,19 +700,16 @@ size_t mysql_params_message(int32_t number, const mysql_params_report *report,
                             const uint8_t *source, size_t source_len,
                             char *line_room, size_t line_len)
 {
-    line to = {line_room, line_len, 0};
-    append_message(&to, number, report, source, source_len);
-    append_hint(&to, number, report, source, source_len);
-    return end_line(&to);
+    line to = {line_room, line_len, 0, false};
+    return write_message(&to, number, report, source, source_len);
 }
 
 size_t mysql_params_message_wide(int32_t number, const mysql_params_report *report,
                                  const uint8_t *source, size_t source_len,
                                  char *line_room, size_t line_len)
 {
-    line to = {line_room, line_len, 0};
-    append_message(&to, number, report, source, source_len);
-    return end_line(&to);
+    line to = {line_room, line_len, 0, true};
+    return write_message(&to, number, report, source, source_len);
 }
 
 const char *mysql_params_construct_message(int32_t construct)

@@ -255,7 +255,7 @@ size_t mysql_params_message(int32_t number, const mysql_params_report *report,
                             const uint8_t *source, size_t source_len,
                             char *line, size_t line_len);
 
-/* The same for a number of a call by wide names: it doesn't say what names are of. */
+/* The same for a number of a call by wide names: there only a letter outside ASCII is one that no name has. */
 size_t mysql_params_message_wide(int32_t number, const mysql_params_report *report,
                                  const uint8_t *source, size_t source_len,
                                  char *line, size_t line_len);

@@ -159,19 +159,6 @@ static const calls by_wide_names = {
 /* Those that are tried. */
 static const calls *by = &by_grammar;
 
-/* Whether a capital may stand in a name: behind a colon, and letters, digits and `_`. */
-static bool may_have_capitals(bytes query)
-{
-    bool inside = false;
-    for (size_t i = 0; i < query.len; i++) {
-        uint8_t byte = query.at[i];
-        if (inside && byte >= 'A' && byte <= 'Z')
-            return true;
-        inside = byte == ':' || (inside && (byte == '_' || (byte >= 'a' && byte <= 'z') || (byte >= '0' && byte <= '9')));
-    }
-    return false;
-}
-
 /* How many allocations of a call succeed: all of them. */
 enum { ALL = -1 };
 
@@ -246,10 +233,7 @@ static void expect_message(const test_case *it, const outcome *is)
     if (it->message.len == 0)
         return;
     size_t len = by->message(is->number, &is->report, source.at, source.len, line, sizeof line);
-    /* By wide names it doesn't say what names are of. */
-    const char *wanted = (const char *)it->message.at, *advice = strstr(wanted, ": names are of ");
-    size_t wanted_len = by == &by_wide_names && advice != NULL ? (size_t)(advice - wanted) : it->message.len;
-    expect(len == wanted_len && memcmp(line, wanted, wanted_len) == 0, it, "another message is wanted");
+    expect(len == it->message.len && memcmp(line, it->message.at, len) == 0, it, "another message is wanted");
 }
 
 /* A case with room enough, exact, one byte too short, and none. */
@@ -268,54 +252,74 @@ static void try_rooms(const test_case *it)
 
 static const char *folder;
 
+/* The cases of the file of this name for the calls that are tried, if there is one. Returns how many there were. */
+static int each_own_case(const char *file, void (*use)(const test_case *))
+{
+    char own[64], path[1024];
+    snprintf(own, sizeof own, "%s/%s", by == &by_wide_names ? "wide" : "grammar", file);
+    snprintf(path, sizeof path, "%s/%s", folder, own);
+    FILE *stream = fopen(path, "rb");
+    if (stream == NULL)
+        return 0;
+    fclose(stream);
+    return each_case(folder, own, use);
+}
+
+/* The cases of a file that all calls answer alike, and those. */
+static void each_of_all(const char *file, void (*use)(const test_case *))
+{
+    each_case(folder, file, use);
+    each_own_case(file, use);
+}
+
 static void table_of_binding(void)
 {
     tried = BIND;
-    each_case(folder, "bind.txt", try_rooms);
+    each_of_all("bind.txt", try_rooms);
 }
 
 /* A template gives what mysql_params_bind gives. */
 static void templates(void)
 {
     tried = BIND_TEMPLATE;
-    each_case(folder, "bind.txt", try_rooms);
-    each_case(folder, "forms.txt", try_rooms);
+    each_of_all("bind.txt", try_rooms);
+    each_of_all("forms.txt", try_rooms);
 }
 
 static void table_of_steady_binding(void)
 {
     tried = BIND_ANYWHERE;
-    each_case(folder, "anywhere.txt", try_rooms);
+    each_of_all("anywhere.txt", try_rooms);
     tried = BIND_IN_BOTH_MODES;
-    each_case(folder, "both_modes.txt", try_rooms);
+    each_of_all("both_modes.txt", try_rooms);
 }
 
 static void flat_forms(void)
 {
     tried = BIND;
-    each_case(folder, "forms.txt", try_rooms);
+    each_of_all("forms.txt", try_rooms);
 }
 
 /* Also what is bound by mysql_params_bind is bound alike: values are fragments. */
 static void table_of_fragments(void)
 {
     tried = BIND_FRAGMENTS;
-    each_case(folder, "fragments.txt", try_rooms);
-    each_case(folder, "forms.txt", try_rooms);
+    each_of_all("fragments.txt", try_rooms);
+    each_of_all("forms.txt", try_rooms);
 }
 
 /* The same for any server. */
 static void table_of_steady_fragments(void)
 {
     tried = BIND_FRAGMENTS_ANYWHERE;
-    each_case(folder, "fragments_anywhere.txt", try_rooms);
-    each_case(folder, "anywhere.txt", try_rooms);
+    each_of_all("fragments_anywhere.txt", try_rooms);
+    each_of_all("anywhere.txt", try_rooms);
 }
 
 static void names_of_queries(void)
 {
     tried = NAMES;
-    each_case(folder, "names.txt", try_rooms);
+    each_of_all("names.txt", try_rooms);
 }
 
 /* Returns a template of a case's query if templates are tried, else null. It has a copy of the query, which is written
@@ -408,14 +412,14 @@ static void try_rows(const test_case *it)
 static void rows_of_queries(void)
 {
     tried = BIND;
-    each_case(folder, "rows.txt", try_rows);
+    each_of_all("rows.txt", try_rows);
 }
 
 /* A template binds rows as mysql_params_bind_rows does. */
 static void rows_of_templates(void)
 {
     tried = BIND_TEMPLATE;
-    each_case(folder, "rows.txt", try_rows);
+    each_of_all("rows.txt", try_rows);
 }
 
 /* The call of the archive by which cases of constructs are tried. */
@@ -441,38 +445,6 @@ static void try_construct(const test_case *it)
         expect(message != NULL && strcmp(message, (const char *)it->message.at) == 0, it, "another text is wanted");
 }
 
-static void portable_queries(void)
-{
-    first_of_case = mysql_params_first_unportable;
-    each_case(folder, "portable.txt", try_construct);
-    first_of_case = mysql_params_first_unportable_in_client;
-    each_case(folder, "in_client.txt", try_construct);
-    /* Numbers that are no construct. */
-    static const int32_t others[] = {0, 21, -1, INT32_MAX, INT32_MIN};
-    test_case it = {0};
-    for (size_t i = 0; i < sizeof others / sizeof others[0]; i++)
-        expect(mysql_params_construct_message(others[i]) == NULL, &it, "a message of no construct");
-}
-
-/* A case whose query has no capital in a name, which the calls by wide names answer alike. */
-static void try_rooms_alike(const test_case *it)
-{
-    if (!may_have_capitals(it->query))
-        try_rooms(it);
-}
-
-static void try_rows_alike(const test_case *it)
-{
-    if (!may_have_capitals(it->query))
-        try_rows(it);
-}
-
-static void try_construct_alike(const test_case *it)
-{
-    if (!may_have_capitals(it->query))
-        try_construct(it);
-}
-
 /* Memory is asked for only for a copy of a query with a capital in a name. */
 static void try_copied_construct(const test_case *it)
 {
@@ -485,6 +457,44 @@ static void try_copied_construct(const test_case *it)
     expect(!allocation_refused || same_report(&report, &none), it, "the report isn't empty");
     number = first_of_case(it->query.at, it->query.len, it->no_backslash_escape, &report);
     expect(number == it->number && same_report(&report, &it->report), it, "another construct is wanted");
+}
+
+static void portable_queries(void)
+{
+    void (*use)(const test_case *) = by == &by_wide_names ? try_copied_construct : try_construct;
+    test_case it = {0};
+    first_of_case = by->first_unportable;
+    each_case(folder, "portable.txt", try_construct);
+    expect(each_own_case("portable.txt", use) > 0, &it, "the calls have cases of their own");
+    first_of_case = by->first_unportable_in_client;
+    each_case(folder, "in_client.txt", try_construct);
+    each_own_case("in_client.txt", use);
+}
+
+/* Numbers that are no construct. */
+static void other_constructs(void)
+{
+    static const int32_t others[] = {0, 21, -1, INT32_MAX, INT32_MIN};
+    test_case it = {0};
+    for (size_t i = 0; i < sizeof others / sizeof others[0]; i++)
+        expect(mysql_params_construct_message(others[i]) == NULL, &it, "a message of no construct");
+}
+
+/* The tables of cases by wide names. */
+static void wide_names(void)
+{
+    by = &by_wide_names;
+    table_of_binding();
+    table_of_steady_binding();
+    flat_forms();
+    templates();
+    table_of_fragments();
+    table_of_steady_fragments();
+    names_of_queries();
+    rows_of_queries();
+    rows_of_templates();
+    portable_queries();
+    by = &by_grammar;
 }
 
 /* The table of a query with capitals, and a text by it. */
@@ -509,45 +519,6 @@ static void tables_by_wide_names(void)
                                              sizeof text - 1, &report);
     expect(number == MYSQL_PARAMS_DONE && report.len == sizeof text - 1, &it, "a text is wanted");
     expect(memcmp(room, text, sizeof text) == 0, &it, "another text is wanted");
-}
-
-/* What is tried of a file, by the calls by wide names. */
-static const struct {
-    int call; /* a value of `tried` */
-    const char *file;
-    const char *wide_file; /* or null */
-} wide_files[] = {
-    {NAMES, "names.txt", "wide/names.txt"},
-    {BIND, "bind.txt", "wide/bind.txt"},
-    {BIND, "forms.txt", NULL},
-    {BIND_TEMPLATE, "bind.txt", "wide/bind.txt"},
-    {BIND_ANYWHERE, "anywhere.txt", "wide/anywhere.txt"},
-    {BIND_IN_BOTH_MODES, "both_modes.txt", "wide/both_modes.txt"},
-    {BIND_FRAGMENTS, "fragments.txt", "wide/fragments.txt"},
-    {BIND_FRAGMENTS_ANYWHERE, "fragments_anywhere.txt", "wide/fragments_anywhere.txt"},
-};
-
-static void wide_names(void)
-{
-    by = &by_wide_names;
-    for (size_t i = 0; i < sizeof wide_files / sizeof wide_files[0]; i++) {
-        tried = wide_files[i].call;
-        each_case(folder, wide_files[i].file, try_rooms_alike);
-        if (wide_files[i].wide_file != NULL)
-            each_case(folder, wide_files[i].wide_file, try_rooms);
-    }
-    tried = BIND;
-    each_case(folder, "rows.txt", try_rows_alike);
-    each_case(folder, "wide/rows.txt", try_rows);
-    tried = BIND_TEMPLATE;
-    each_case(folder, "wide/rows.txt", try_rows);
-    first_of_case = by->first_unportable;
-    each_case(folder, "portable.txt", try_construct_alike);
-    each_case(folder, "wide/portable.txt", try_copied_construct);
-    first_of_case = by->first_unportable_in_client;
-    each_case(folder, "in_client.txt", try_construct_alike);
-    each_case(folder, "wide/in_client.txt", try_copied_construct);
-    by = &by_grammar;
 }
 
 /* Appends a byte, often. */
@@ -1214,6 +1185,9 @@ static void words_of_cut_queries(void)
             bool of_name = number == MYSQL_PARAMS_MISSING && (report.position == 1 || report.position == 2);
             bool wanted = len == 3 && (of_place || of_name);
             expect((strstr(line, "names are of") != NULL) == wanted, &it, line);
+            /* A wide name has the capital. */
+            mysql_params_message_wide(number, &report, query, len, line, sizeof line);
+            expect(strstr(line, "names are of") == NULL, &it, line);
         }
         free(query);
     }
@@ -1245,30 +1219,32 @@ static void try_without_memory(const test_case *it)
     }
 }
 
-static void out_of_memory(void)
+/* All cases, with memory refused. */
+static void without_memory(void)
 {
     tried = BIND;
-    each_case(folder, "bind.txt", try_without_memory);
-    each_case(folder, "forms.txt", try_without_memory);
+    each_of_all("bind.txt", try_without_memory);
+    each_of_all("forms.txt", try_without_memory);
     tried = BIND_TEMPLATE;
-    each_case(folder, "bind.txt", try_without_memory);
-    each_case(folder, "forms.txt", try_without_memory);
+    each_of_all("bind.txt", try_without_memory);
+    each_of_all("forms.txt", try_without_memory);
     tried = BIND_FRAGMENTS;
-    each_case(folder, "fragments.txt", try_without_memory);
+    each_of_all("fragments.txt", try_without_memory);
     tried = BIND_FRAGMENTS_ANYWHERE;
-    each_case(folder, "fragments_anywhere.txt", try_without_memory);
+    each_of_all("fragments_anywhere.txt", try_without_memory);
     tried = BIND_ANYWHERE;
-    each_case(folder, "anywhere.txt", try_without_memory);
+    each_of_all("anywhere.txt", try_without_memory);
     tried = BIND_IN_BOTH_MODES;
-    each_case(folder, "both_modes.txt", try_without_memory);
+    each_of_all("both_modes.txt", try_without_memory);
     tried = NAMES;
-    each_case(folder, "names.txt", try_without_memory);
+    each_of_all("names.txt", try_without_memory);
+}
+
+static void out_of_memory(void)
+{
+    without_memory();
     by = &by_wide_names;
-    for (size_t i = 0; i < sizeof wide_files / sizeof wide_files[0]; i++) {
-        tried = wide_files[i].call;
-        if (wide_files[i].wide_file != NULL)
-            each_case(folder, wide_files[i].wide_file, try_without_memory);
-    }
+    without_memory();
     by = &by_grammar;
     /* No text is written without any memory. */
     uint8_t form[] = {0, 0xFD, 0, 1, 'x'}, query[] = {'?'};
@@ -1314,6 +1290,7 @@ int main(int count, char **words)
     all &= passed("rows_in_growing_memory", rows_in_growing_memory);
     all &= passed("rows_that_are_cut", rows_that_are_cut);
     all &= passed("portable_queries", portable_queries);
+    all &= passed("other_constructs", other_constructs);
     all &= passed("wide_names", wide_names);
     all &= passed("tables_by_wide_names", tables_by_wide_names);
     all &= passed("names_of_long_queries", names_of_long_queries);
