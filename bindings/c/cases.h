@@ -1,8 +1,12 @@
-/* cases.h: the cases of bindings/cases, for the tests in C. cases/README.md says what a case is. */
+/* cases.h: the cases of bindings/cases, for the tests in C and C++. cases/README.md says what a case is. */
 #ifndef CASES_H
 #define CASES_H
 
 #include "mysql_params_form.h"
+
+#ifdef __cplusplus
+extern "C" {
+#endif
 
 /* Bytes, with a zero byte after them that `len` does not count. */
 typedef struct bytes {
@@ -40,5 +44,9 @@ void append_string(bytes *to, const void *from, size_t len);
 
 /* Lets go of the memory. */
 void clear_bytes(bytes *it);
+
+#ifdef __cplusplus
+}
+#endif
 
 #endif

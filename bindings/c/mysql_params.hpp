@@ -4,7 +4,8 @@
  *     std::string text = mysql_params::bind("VALUES (?, ?)", {42, nullptr});
  *
  * All memory is owned by what is returned. Each call may throw std::bad_alloc; a refusal is thrown as mysql_params::Error.
- * It is tested, not proved. Read "Limits that matter for security" in README.md first. */
+ * A name in a query may have capitals, as `:userId`: it is a wide name of mysql_params.h. It is tested, not proved. Read
+ * "Limits that matter for security" in README.md first. */
 #ifndef MYSQL_PARAMS_HPP
 #define MYSQL_PARAMS_HPP
 
@@ -283,8 +284,8 @@ inline void need_processor()
 {
     if (number == MYSQL_PARAMS_OUT_OF_MEMORY)
         throw std::bad_alloc();
-    std::string line(mysql_params_message(number, &report, bytes_of(source), source.size(), nullptr, 0) + 1, '\0');
-    line.resize(mysql_params_message(number, &report, bytes_of(source), source.size(), line.data(), line.size()));
+    std::string line(mysql_params_message_wide(number, &report, bytes_of(source), source.size(), nullptr, 0) + 1, '\0');
+    line.resize(mysql_params_message_wide(number, &report, bytes_of(source), source.size(), line.data(), line.size()));
     throw Error(number, report, line);
 }
 
@@ -312,8 +313,8 @@ struct Bind {
     bool no_backslash_escape;
     std::int32_t operator()(std::uint8_t *room, std::size_t room_len, mysql_params_report *report) const
     {
-        return mysql_params_bind(bytes_of(query), query.size(), form.room, form.len, no_backslash_escape, room, room_len,
-                                 report);
+        return mysql_params_bind_wide(bytes_of(query), query.size(), form.room, form.len, no_backslash_escape, room, room_len,
+                                      report);
     }
     [[noreturn]] void refuse(std::int32_t number, const mysql_params_report &report) const
     {
@@ -325,16 +326,16 @@ struct Bind {
 struct BindFragments : Bind {
     std::int32_t operator()(std::uint8_t *room, std::size_t room_len, mysql_params_report *report) const
     {
-        return mysql_params_bind_fragments(bytes_of(query), query.size(), form.room, form.len, no_backslash_escape, room,
-                                           room_len, report);
+        return mysql_params_bind_fragments_wide(bytes_of(query), query.size(), form.room, form.len, no_backslash_escape, room,
+                                                room_len, report);
     }
 };
 
 struct BindFragmentsAnywhere : Bind {
     std::int32_t operator()(std::uint8_t *room, std::size_t room_len, mysql_params_report *report) const
     {
-        return mysql_params_bind_fragments_anywhere(bytes_of(query), query.size(), form.room, form.len, room, room_len,
-                                                    report);
+        return mysql_params_bind_fragments_anywhere_wide(bytes_of(query), query.size(), form.room, form.len, room, room_len,
+                                                         report);
     }
 };
 
@@ -398,8 +399,8 @@ std::vector<std::string> bound_rows(std::string_view query, const Rows &rows, bo
     RowTexts room;
     mysql_params_rows bound{};
     mysql_params_report report{};
-    const std::int32_t number = mysql_params_bind_all_rows(bytes_of(query), query.size(), bytes_of(all), all.size(),
-                                                           no_backslash_escape, &room.texts, &bound, &report);
+    const std::int32_t number = mysql_params_bind_all_rows_wide(bytes_of(query), query.size(), bytes_of(all), all.size(),
+                                                                no_backslash_escape, &room.texts, &bound, &report);
     std::vector<std::string> texts = strings_of(room.texts.at, room.texts.len);
     if (number == MYSQL_PARAMS_DONE)
         return texts;
@@ -421,7 +422,7 @@ struct NamesOf {
     bool no_backslash_escape;
     std::int32_t operator()(std::uint8_t *room, std::size_t room_len, mysql_params_report *report) const
     {
-        return mysql_params_names(bytes_of(query), query.size(), no_backslash_escape, room, room_len, report);
+        return mysql_params_names_wide(bytes_of(query), query.size(), no_backslash_escape, room, room_len, report);
     }
     [[noreturn]] void refuse(std::int32_t number, const mysql_params_report &report) const
     {
@@ -435,6 +436,8 @@ template <typename Find> std::optional<Unportable> found(Find find, std::string_
     mysql_params_report report{};
     const std::int32_t construct =
         find(bytes_of(query), query.size(), mode == Mode::no_backslash_escapes, &report);
+    if (construct == MYSQL_PARAMS_NO_MEMORY)
+        throw std::bad_alloc();
     if (construct == MYSQL_PARAMS_PORTABLE)
         return std::nullopt;
     return Unportable{construct, report.position};
@@ -521,7 +524,7 @@ private:
     {
         detail::need_processor();
         mysql_params_template *made =
-            mysql_params_template_new(detail::bytes_of(query), query.size(), mode == Mode::no_backslash_escapes);
+            mysql_params_template_new_wide(detail::bytes_of(query), query.size(), mode == Mode::no_backslash_escapes);
         if (made == nullptr)
             throw std::bad_alloc();
         return made;
@@ -547,14 +550,14 @@ inline Names names(std::string_view query, Mode mode = Mode::backslash_escapes)
 /* The first construct of a query that servers read in different ways; nothing if the query is portable. */
 inline std::optional<Unportable> first_unportable(std::string_view query, Mode mode = Mode::backslash_escapes)
 {
-    return detail::found(mysql_params_first_unportable, query, mode);
+    return detail::found(mysql_params_first_unportable_wide, query, mode);
 }
 
 /* The same, also of what the clients `mysql` and `mariadb` with `--comments` read or send otherwise. It judges the bytes
  * that it is given: ask it of a bound text too that has identifiers or keywords, or strings without backslash escapes. */
 inline std::optional<Unportable> first_unportable_in_client(std::string_view query, Mode mode = Mode::backslash_escapes)
 {
-    return detail::found(mysql_params_first_unportable_in_client, query, mode);
+    return detail::found(mysql_params_first_unportable_in_client_wide, query, mode);
 }
 
 } // namespace mysql_params

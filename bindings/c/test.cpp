@@ -1,8 +1,19 @@
-/* Tests of mysql_params.hpp: what each value is bound as, what is thrown, who owns what. */
+/* Tests of mysql_params.hpp: the cases of bindings/cases, what each value is bound as, what is thrown, who owns what. */
+#include "cases.h"
 #include "mysql_params.hpp"
 
 #include <cstdio>
 #include <string>
+
+/* While it is true, `malloc` gives no memory. The linker replaces the functions in all objects that are linked. */
+static bool refuses_memory;
+
+extern "C" void *__real_malloc(std::size_t len);
+extern "C" void *__wrap_malloc(std::size_t len);
+extern "C" void *__wrap_malloc(std::size_t len)
+{
+    return refuses_memory ? nullptr : __real_malloc(len);
+}
 
 using namespace std::literals;
 using mysql_params::bind;
@@ -98,9 +109,10 @@ static void forms()
 static void refusals()
 {
     same(thrown([] { bind(":a ?"); }), "8 Named and positional params in one query");
-    same(thrown([] { bind("SELECT :userId", {{"userId", 1}}); }),
-         "9 Missing named parameter `user` for statement: names are of a to z, 0 to 9 and _, so `:userId` ends after "
-         "`user`");
+    same(thrown([] { bind("SELECT :userId", {{"userID", 1}}); }), "9 Missing named parameter `userId` for statement");
+    same(thrown([] { bind("SELECT :na\xC3\xAFve", {{"a", 1}}); }),
+         "9 Missing named parameter `na` for statement: names are of ASCII letters, digits and _, so `:na\\xc3\\xafve` ends "
+         "after `na`");
     same(thrown([] { bind(":a", {{"a", 1}, {"a", 2}}); }), "7 Redefinition of named parameter `a'");
     same(thrown([] { bind("?", {1, 2}); }), "12 Query has 1 marks and 2 values");
     same(thrown([] { bind(":a", {{"", 1}}); }), "invalid argument");
@@ -268,6 +280,213 @@ static void templates()
     same(thrown([] { Template(":a ?").bind(); }), "8 Named and positional params in one query");
 }
 
+/* By names with capitals. The texts are restated from "Names with capitals" in docs/RULES.md. */
+static void wide_names()
+{
+    using mysql_params::bind_fragments;
+    using mysql_params::bind_fragments_anywhere;
+    using mysql_params::bind_rows;
+    same(bind("id = :userId AND name = :Name", {{"userId", 42}, {"Name", "it's"}}), "id = 42 AND name = 'it\\'s'");
+    same(bind(":id, :Id, :ID, ':ID', :id", {{"ID", 1}, {"Id", 2}, {"id", 3}}), "3, 2, 1, ':ID', 3");
+    same(bind("':A\\', :A, ':A'", {{"A", 1}}, Mode::no_backslash_escapes), "':A\\', 1, ':A'");
+    same(bind("x: LOOP :1 :Id", {{"Id", 2}}), "x: LOOP :1 2");
+    Form form;
+    form.append_list("userIds", std::vector<int>{7, 8}).append_identifier("Table", "t").append("Name", "it's");
+    same(bind_fragments("FROM :Table (:userIds) :Name", form), "FROM `t` (7, 8) 'it\\'s'");
+    same(bind_fragments_anywhere("FROM :Table (:userIds) :Name", form), "FROM `t` (7, 8) _utf8mb4'it''s'");
+    std::vector<Form> rows;
+    rows.push_back({{"userId", 1}, {"Name", "a"}});
+    rows.push_back({{"Name", "b"}, {"userId", 2}});
+    const std::vector<std::string> wanted{"(1, 'a')", "(2, 'b')"};
+    const Template made("(:userId, :Name)");
+    expect(bind_rows("(:userId, :Name)", rows) == wanted, "each row has its text");
+    expect(made.bind_rows(rows) == wanted, "so by a template");
+    same(made.bind(rows[1]), wanted[1]);
+    rows.push_back({{"userID", 3}, {"Name", "c"}});
+    same(row_thrown([&] { made.bind_rows(rows); }), "2 2 row 2: Missing named parameter `userId` for statement");
+    const mysql_params::Names found = mysql_params::names("SELECT :userId, ':A', :ID, :userId");
+    same(found.query, "SELECT ?, ':A', ?, ?");
+    expect(found.names == std::vector<std::string>{"userId", "ID", "userId"}, "the names have capitals");
+    same(thrown([] { bind("SELECT x:A", {{"A", 1}}); }), "13 Place 0 at byte 8 does not stand alone");
+    same(thrown([] { bind("lbl:BEGIN", {{"BEGIN", 1}}); }), "13 Place 0 at byte 3 does not stand alone");
+    same(thrown([] { bind(":A, ?", {{"A", 1}}); }), "8 Named and positional params in one query");
+}
+
+/* Whether a call throws std::bad_alloc if the archive is given no memory. */
+template <typename Call> static bool needs_memory(Call call)
+{
+    bool thrown = false;
+    refuses_memory = true;
+    try {
+        call();
+    } catch (const std::bad_alloc &) {
+        thrown = true;
+    }
+    refuses_memory = false;
+    return thrown;
+}
+
+/* Of a query with a capital in a name a copy is made. */
+static void constructs_of_wide_names()
+{
+    using mysql_params::first_unportable;
+    using mysql_params::first_unportable_in_client;
+    const std::string_view hint = "SELECT /*+ SET_VAR(x=:A) */ 1";
+    const auto construct = first_unportable(hint);
+    expect(construct && construct->construct == MYSQL_PARAMS_HINT && construct->position == 7, "a value is in the hint");
+    const auto in_client = first_unportable_in_client("-:A");
+    expect(in_client && in_client->construct == MYSQL_PARAMS_DASH_IN_FRONT, "a client may take it for a comment");
+    expect(!first_unportable("SELECT :userId") && !first_unportable_in_client("SELECT :userId"), "it is portable");
+    expect(needs_memory([&] { first_unportable(hint); }), "it is out of memory");
+    expect(needs_memory([&] { first_unportable_in_client("SELECT :userId"); }), "so for a client");
+    expect(!needs_memory([] { first_unportable("SELECT :a"); }), "without a capital it needs none");
+}
+
+/* The folder of the cases. */
+static const char *folder;
+
+static std::string_view view(const bytes &it)
+{
+    return {reinterpret_cast<const char *>(it.at), it.len};
+}
+
+/* A form of these bytes, which the header has no call for. */
+static Form form_of(std::string_view flat)
+{
+    Form form;
+    auto &inner = const_cast<mysql_params_form &>(form.get());
+    if (flat.empty())
+        return form;
+    inner.room = static_cast<std::uint8_t *>(std::malloc(flat.size()));
+    if (inner.room == nullptr)
+        throw std::bad_alloc();
+    std::memcpy(inner.room, flat.data(), flat.size());
+    inner.room_len = inner.len = inner.needed = flat.size();
+    return form;
+}
+
+static void expect_of(const test_case &it, bool holds, const char *what)
+{
+    if (!holds)
+        std::printf("    the case at line %d:\n", it.line);
+    expect(holds, what);
+}
+
+/* The call gives what the case wants, or throws its refusal with its report and its message. */
+template <typename Call> static void try_case(const test_case &it, Call call)
+{
+    try {
+        const bool same_answer = call() == view(it.answer);
+        expect_of(it, it.number == MYSQL_PARAMS_DONE && same_answer, "another answer is wanted");
+    } catch (const Error &error) {
+        const mysql_params_report &got = error.report();
+        const mysql_params_report &wanted = it.report;
+        expect_of(it, error.number() == it.number, "another number is wanted");
+        expect_of(it, got.len == wanted.len && got.place == wanted.place && got.position == wanted.position, "another report");
+        expect_of(it, got.marks == wanted.marks && got.values == wanted.values && got.byte == wanted.byte, "another report");
+        expect_of(it, it.message.len == 0 || error.what() == view(it.message), error.what());
+    }
+}
+
+static Mode mode_of(const test_case &it)
+{
+    return it.no_backslash_escape ? Mode::no_backslash_escapes : Mode::backslash_escapes;
+}
+
+static void try_bind(const test_case *it)
+{
+    const Form form = form_of(view(it->form));
+    try_case(*it, [&] { return bind(view(it->query), form, mode_of(*it)); });
+    try_case(*it, [&] { return Template(view(it->query), mode_of(*it)).bind(form); });
+}
+
+static void try_fragments(const test_case *it)
+{
+    const Form form = form_of(view(it->form));
+    try_case(*it, [&] { return mysql_params::bind_fragments(view(it->query), form, mode_of(*it)); });
+}
+
+static void try_fragments_anywhere(const test_case *it)
+{
+    const Form form = form_of(view(it->form));
+    try_case(*it, [&] { return mysql_params::bind_fragments_anywhere(view(it->query), form); });
+}
+
+/* Appends a length-encoded string. */
+static void append_to(bytes &answer, const std::string &text)
+{
+    append_string(&answer, text.data(), text.size());
+}
+
+static void try_names(const test_case *it)
+{
+    try_case(*it, [&] {
+        const mysql_params::Names found = mysql_params::names(view(it->query), mode_of(*it));
+        bytes answer{};
+        append_to(answer, found.query);
+        for (const std::string &name : found.names)
+            append_to(answer, name);
+        std::string whole(view(answer));
+        clear_bytes(&answer);
+        return whole;
+    });
+}
+
+static void try_rows(const test_case *it)
+{
+    std::vector<Form> rows;
+    const std::uint8_t *rest = it->forms.at;
+    std::size_t left = it->forms.len;
+    for (mysql_params_string form{}; mysql_params_next_string(&rest, &left, &form);)
+        rows.push_back(form_of({reinterpret_cast<const char *>(form.bytes), form.len}));
+    bytes answer{};
+    std::int32_t number = MYSQL_PARAMS_DONE;
+    try {
+        for (const std::string &text : mysql_params::bind_rows(view(it->query), rows, mode_of(*it)))
+            append_to(answer, text);
+    } catch (const RowError &error) {
+        for (const std::string &text : error.texts())
+            append_to(answer, text);
+        number = error.number();
+        expect_of(*it, error.row() == it->texts && error.report().position == it->report.position, "another row is wanted");
+    }
+    expect_of(*it, number == it->number && view(answer) == view(it->answer), "other rows are wanted");
+    clear_bytes(&answer);
+}
+
+static void try_construct(const test_case &it, const std::optional<mysql_params::Unportable> &found)
+{
+    expect_of(it, found.has_value() != it.portable, "it is portable, or not");
+    expect_of(it, !found || (found->construct == it.number && found->position == it.report.position), "another is wanted");
+    expect_of(it, !found || it.message.len == 0 || found->message() == view(it.message), "another message is wanted");
+}
+
+static void try_portable(const test_case *it)
+{
+    try_construct(*it, mysql_params::first_unportable(view(it->query), mode_of(*it)));
+}
+
+static void try_in_client(const test_case *it)
+{
+    try_construct(*it, mysql_params::first_unportable_in_client(view(it->query), mode_of(*it)));
+}
+
+/* The cases of all calls, and those by wide names. */
+static void cases()
+{
+    for (const std::string in : {"", "wide/"}) {
+        each_case(folder, (in + "bind.txt").c_str(), try_bind);
+        each_case(folder, (in + "fragments.txt").c_str(), try_fragments);
+        each_case(folder, (in + "anywhere.txt").c_str(), try_fragments_anywhere);
+        each_case(folder, (in + "fragments_anywhere.txt").c_str(), try_fragments_anywhere);
+        each_case(folder, (in + "names.txt").c_str(), try_names);
+        each_case(folder, (in + "rows.txt").c_str(), try_rows);
+        each_case(folder, (in + "portable.txt").c_str(), try_portable);
+        each_case(folder, (in + "in_client.txt").c_str(), try_in_client);
+    }
+    each_case(folder, "forms.txt", try_bind);
+}
+
 static bool passed(const char *name, void test())
 {
     failures = 0;
@@ -276,8 +495,13 @@ static bool passed(const char *name, void test())
     return failures == 0;
 }
 
-int main()
+int main(int count, char **words)
 {
+    if (count != 2) {
+        std::fprintf(stderr, "usage: test CASES\n");
+        return 2;
+    }
+    folder = words[1];
     bool all = passed("values", values);
     all &= passed("named_and_without", named_and_without);
     all &= passed("forms", forms);
@@ -288,5 +512,8 @@ int main()
     all &= passed("steady_fragments", steady_fragments);
     all &= passed("rows", rows);
     all &= passed("templates", templates);
+    all &= passed("wide_names", wide_names);
+    all &= passed("constructs_of_wide_names", constructs_of_wide_names);
+    all &= passed("cases", cases);
     return all ? 0 : 1;
 }

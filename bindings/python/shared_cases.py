@@ -1,4 +1,4 @@
-"""The cases of bindings/cases, as Python has them."""
+"""The cases of bindings/cases, as Python has them: those that all calls answer alike, and those of `wide`."""
 
 import datetime
 import decimal
@@ -167,10 +167,16 @@ class Case:
         return ERRORS[self.refusal], tuple(arguments)
 
 
-def cases(file):
-    """Return the cases of a file."""
-    parts = (CASES / file).read_text().split("\n\n")
+def cases_of(path):
+    """Return the cases of one file."""
+    parts = path.read_text().split("\n\n")
     lines = [[line for line in part.splitlines() if not line.startswith("#")] for part in parts]
     found = [Case(part) for part in lines if part]
-    assert found, f"{file} has no case"
+    assert found, f"{path} has no case"
     return found
+
+
+def cases(file):
+    """Return the cases of a file, and those of the file of its name in `wide`, if there is one."""
+    wide = CASES / "wide" / file
+    return cases_of(CASES / file) + (cases_of(wide) if wide.exists() else [])

@@ -43,12 +43,12 @@ def literal(byte):
     return b"'\\" + escapes[byte] + b"'" if byte in escapes else b"'" + bytes([byte]) + b"'"
 
 
-def library_of(suffices: bool, *more: str) -> mock.Mock:
-    """Return a library with the functions of the archive and more, on a processor that suffices or doesn't."""
+def library_of(suffices: bool) -> mock.Mock:
+    """Return a library with the functions of the archive, on a processor that suffices or doesn't."""
     names = ("names", "bind", "bind_anywhere", "bind_rows", "first_unportable", "first_unportable_in_client")
-    names += ("bind_fragments", "bind_fragments_anywhere", "bind_in_both_modes")
-    names += ("bind_template", "processor_suffices", "table")
-    library = mock.Mock(spec=[*(f"mysql_params_{name}" for name in names), *more])
+    names += ("bind_fragments", "bind_fragments_anywhere", "bind_in_both_modes", "bind_template", "table")
+    wide = (f"mysql_params_{name}_wide" for name in names)
+    library = mock.Mock(spec=[*wide, "mysql_params_processor_suffices"])
     library.mysql_params_processor_suffices.return_value = suffices
     return library
 
@@ -405,9 +405,11 @@ class Test(unittest.TestCase):
         copy = pickle.loads(pickle.dumps(found))
         self.assertIs(copy.construct, Construct.BRACKET)
         report = _archive.Report()
-        for number in (-1, 21):
+        for number in (-2, 21):
             with self.subTest(number=number), self.assertRaises(RuntimeError):
                 _archive.unportable(number, report)
+        with self.assertRaises(mysql_params.OutOfMemoryError):
+            _archive.unportable(-1, report)
         for query in (None, 5):
             with self.subTest(query=query), self.assertRaises(TypeError):
                 first_unportable(query)
@@ -652,10 +654,11 @@ class Test(unittest.TestCase):
             bind("'a\\', :a, '", {"a": NAN}, no_backslash_escape=True)
         self.assertEqual(raised.exception.name, "a")
         for query, params, word in (
-            (":userId", {"userId": 1}, b"userId"),
-            (":userId", {"user": 1}, b"userId"),
-            (":UserId", {"UserId": 1}, b"UserId"),
-            (":user-:Id", {"userId": 1}, None),
+            (":gr\u00f6\u00dfe", {"gr\u00f6\u00dfe": 1}, "gr\u00f6\u00dfe".encode()),
+            (":Gr\u00f6\u00dfe", {"Gr": 1}, "Gr\u00f6\u00dfe".encode()),
+            (":\u00dcber", {"\u00dcber": 1}, "\u00dcber".encode()),
+            (":user-:\u00dcber", {"User": 1}, None),
+            (":userId", {"user": 1}, None),
             ("x:user", {"user": 1}, None),
             ("?", {"user": 1}, None),
         ):
@@ -748,10 +751,9 @@ class Test(unittest.TestCase):
         with mock.patch.dict(os.environ, MYSQL_PARAMS_LIBRARY=os.fsdecode(b"/no\xff.so")):
             with self.assertRaisesRegex(ImportError, wanted):
                 _archive.load()
-        # One without the functions, as an older library lacks some; and one whose functions take other arguments.
-        for library in (object(), library_of(True, "mysql_params_names_in")):
-            with mock.patch.object(ctypes, "CDLL", return_value=library), self.assertRaisesRegex(ImportError, wanted):
-                _archive.load()
+        # One without the functions, as an older library lacks those by wide names.
+        with mock.patch.object(ctypes, "CDLL", return_value=object()), self.assertRaisesRegex(ImportError, wanted):
+            _archive.load()
 
     def test_processors_that_do_not_suffice(self):
         with mock.patch.object(ctypes, "CDLL", return_value=library_of(False)):
@@ -781,7 +783,7 @@ class Test(unittest.TestCase):
 
     def test_errors_are_pickled(self):
         word, place = mysql_params.MissingError(1, 5, b"b"), mysql_params.FloatError(1)
-        word.word, place.name = b"bA", "b"
+        word.word, place.name = b"b\xc3\xa9", "b"
         unportable = mysql_params.UnportableError(7, Construct.HINT)
         fault = mysql_params.FragmentError(0, mysql_params.Fault.ROW_LENGTH, 1, 0)
         unsteady = mysql_params.UnsteadyFragmentError(3)

@@ -17,7 +17,7 @@ from .errors import _ERRORS, Error, Fault, FloatError, FragmentError, OutOfMemor
 from .errors import UnsteadyFragmentError
 from .portable import Construct, Unportable
 
-DONE, ROOM, PORTABLE = 0, 2, 0
+DONE, ROOM, PORTABLE, NO_MEMORY = 0, 2, 0, -1
 
 
 class Anywhere(enum.Enum):
@@ -66,41 +66,38 @@ PLACE = 2 * ctypes.sizeof(ctypes.c_size_t)
 """The bytes of a place of a query in a table: mysql_params_place of mysql_params.h."""
 
 
+_STRING = (ctypes.c_char_p, ctypes.c_size_t)
+_MODE = (ctypes.c_bool,)
+_REPORT = (ctypes.POINTER(Report),)
+_ROOM = (ctypes.c_void_p, ctypes.c_size_t)
+_TABLE = (ctypes.c_void_p, ctypes.c_void_p, ctypes.c_size_t)
+
+_CALLS = {
+    "names": (*_STRING, *_MODE, *_ROOM, *_REPORT),
+    "bind": (*_STRING, *_STRING, *_MODE, *_ROOM, *_REPORT),
+    "bind_fragments": (*_STRING, *_STRING, *_MODE, *_ROOM, *_REPORT),
+    "bind_anywhere": (*_STRING, *_STRING, *_ROOM, *_REPORT),
+    "bind_in_both_modes": (*_STRING, *_STRING, *_ROOM, *_REPORT),
+    "bind_fragments_anywhere": (*_STRING, *_STRING, *_ROOM, *_REPORT),
+    "bind_rows": (*_STRING, *_STRING, *_MODE, *_ROOM, ctypes.POINTER(Rows), *_REPORT),
+    "table": (*_STRING, *_MODE, *_TABLE, *_REPORT),
+    "bind_template": (*_STRING, *_TABLE, *_STRING, *_MODE, *_ROOM, *_REPORT),
+    "first_unportable": (*_STRING, *_MODE, *_REPORT),
+    "first_unportable_in_client": (*_STRING, *_MODE, *_REPORT),
+}
+"""The calls by wide names, and what they take."""
+
+
 def load() -> ctypes.CDLL:
     """Load the library, with the types of its functions. Raise ImportError if it can't be used."""
     beside = pathlib.Path(__file__).resolve().parent / "libmysql_params_c.so"
     # The loader takes a name without a folder for one on its own search path, so it is handed a whole path.
     path = os.path.abspath(os.environ.get("MYSQL_PARAMS_LIBRARY") or beside)
-    string = (ctypes.c_char_p, ctypes.c_size_t)
-    answer = (ctypes.c_void_p, ctypes.c_size_t, ctypes.POINTER(Report))
     try:
         library = ctypes.CDLL(path)
-        if hasattr(library, "mysql_params_names_in"):
-            raise AttributeError(f"{path!r} is an older library, whose functions take other arguments")
-        library.mysql_params_names.argtypes = (*string, ctypes.c_bool, *answer)
-        library.mysql_params_names.restype = ctypes.c_int32
-        library.mysql_params_bind.argtypes = (*string, *string, ctypes.c_bool, *answer)
-        library.mysql_params_bind.restype = ctypes.c_int32
-        table = (ctypes.c_void_p, ctypes.c_void_p, ctypes.c_size_t)
-        library.mysql_params_table.argtypes = (*string, ctypes.c_bool, *table, ctypes.POINTER(Report))
-        library.mysql_params_table.restype = ctypes.c_int32
-        library.mysql_params_bind_template.argtypes = (*string, *table, *string, ctypes.c_bool, *answer)
-        library.mysql_params_bind_template.restype = ctypes.c_int32
-        library.mysql_params_bind_fragments.argtypes = library.mysql_params_bind.argtypes
-        library.mysql_params_bind_fragments.restype = ctypes.c_int32
-        library.mysql_params_bind_anywhere.argtypes = (*string, *string, *answer)
-        library.mysql_params_bind_anywhere.restype = ctypes.c_int32
-        library.mysql_params_bind_fragments_anywhere.argtypes = library.mysql_params_bind_anywhere.argtypes
-        library.mysql_params_bind_fragments_anywhere.restype = ctypes.c_int32
-        library.mysql_params_bind_in_both_modes.argtypes = library.mysql_params_bind_anywhere.argtypes
-        library.mysql_params_bind_in_both_modes.restype = ctypes.c_int32
-        rows = (ctypes.c_void_p, ctypes.c_size_t, ctypes.POINTER(Rows), ctypes.POINTER(Report))
-        library.mysql_params_bind_rows.argtypes = (*string, *string, ctypes.c_bool, *rows)
-        library.mysql_params_bind_rows.restype = ctypes.c_int32
-        library.mysql_params_first_unportable.argtypes = (*string, ctypes.c_bool, ctypes.POINTER(Report))
-        library.mysql_params_first_unportable.restype = ctypes.c_int32
-        library.mysql_params_first_unportable_in_client.argtypes = library.mysql_params_first_unportable.argtypes
-        library.mysql_params_first_unportable_in_client.restype = ctypes.c_int32
+        for name, arguments in _CALLS.items():
+            function = getattr(library, f"mysql_params_{name}_wide")
+            function.argtypes, function.restype = arguments, ctypes.c_int32
         library.mysql_params_processor_suffices.argtypes = ()
         library.mysql_params_processor_suffices.restype = ctypes.c_bool
         suffices = library.mysql_params_processor_suffices()
@@ -151,7 +148,7 @@ class Table:
         """
         self._head, self._places = Head(), ctypes.c_char.from_buffer(new_room(PLACE * self.count))
         report, query = Report(), self.query
-        number = LIBRARY.mysql_params_table(query, len(query), self.mode, *self.pointers(), ctypes.byref(report))
+        number = LIBRARY.mysql_params_table_wide(query, len(query), self.mode, *self.pointers(), ctypes.byref(report))
         return int(number), report
 
     def pointers(self) -> tuple[int, int, int]:
@@ -221,18 +218,20 @@ def call(
     first = ctypes.c_char.from_buffer(room)
     answer = (ctypes.addressof(first), room_len, ctypes.byref(report))
     if form is None:
-        number = LIBRARY.mysql_params_names(query, len(query), flag(mode), *answer)
+        number = LIBRARY.mysql_params_names_wide(query, len(query), flag(mode), *answer)
     elif mode is ANYWHERE:
-        bind = LIBRARY.mysql_params_bind_fragments_anywhere if fragments else LIBRARY.mysql_params_bind_anywhere
+        bind = (
+            LIBRARY.mysql_params_bind_fragments_anywhere_wide if fragments else LIBRARY.mysql_params_bind_anywhere_wide
+        )
         number = bind(query, len(query), form, len(form), *answer)
     elif mode is BOTH_MODES:
-        number = LIBRARY.mysql_params_bind_in_both_modes(query, len(query), form, len(form), *answer)
+        number = LIBRARY.mysql_params_bind_in_both_modes_wide(query, len(query), form, len(form), *answer)
     elif table is not None and not fragments:
-        number = LIBRARY.mysql_params_bind_template(
+        number = LIBRARY.mysql_params_bind_template_wide(
             query, len(query), *table.pointers(), form, len(form), flag(mode), *answer
         )
     else:
-        bind = LIBRARY.mysql_params_bind_fragments if fragments else LIBRARY.mysql_params_bind
+        bind = LIBRARY.mysql_params_bind_fragments_wide if fragments else LIBRARY.mysql_params_bind_wide
         number = bind(query, len(query), form, len(form), flag(mode), *answer)
     return int(number), report
 
@@ -366,7 +365,7 @@ class Binder:
             rows, report = Rows(), Report()
             first, room_len = ctypes.c_char.from_buffer(self.room), len(self.room) - 1
             answer = (ctypes.addressof(first), room_len, ctypes.byref(rows), ctypes.byref(report))
-            number = LIBRARY.mysql_params_bind_rows(
+            number = LIBRARY.mysql_params_bind_rows_wide(
                 self.query, len(self.query), forms, len(forms), self.mode, *answer
             )
             del first
@@ -448,19 +447,21 @@ def bind_rows(query: bytes, rows: Iterable[object], mode: bool) -> list[bytes]:
 def first_unportable(query: bytes, mode: bool) -> tuple[int, Report]:
     """Return the number and the report of the first construct of a query. The mode is as for call."""
     report = Report()
-    number = LIBRARY.mysql_params_first_unportable(query, len(query), flag(mode), ctypes.byref(report))
+    number = LIBRARY.mysql_params_first_unportable_wide(query, len(query), flag(mode), ctypes.byref(report))
     return int(number), report
 
 
 def first_unportable_in_client(query: bytes, mode: bool) -> tuple[int, Report]:
     """Return the number and the report of the first construct for servers or a client. The mode is as for call."""
     report = Report()
-    number = LIBRARY.mysql_params_first_unportable_in_client(query, len(query), flag(mode), ctypes.byref(report))
+    number = LIBRARY.mysql_params_first_unportable_in_client_wide(query, len(query), flag(mode), ctypes.byref(report))
     return int(number), report
 
 
 def unportable(number: int, report: Report) -> Optional[Unportable]:
-    """Return what such a number with its report says."""
+    """Return what such a number with its report says. Raise OutOfMemoryError."""
+    if number == NO_MEMORY:
+        raise OutOfMemoryError()
     return None if number == PORTABLE else Unportable(construct_of(number), report.position)
 
 

@@ -16,10 +16,11 @@ def _show(name: bytes) -> str:
 
 _PLACE_OF_MANY = re.compile(rb"\bIN\s*\(\s*\?\s*\)|\bVALUES\s*\?", re.I)
 
-_ALPHABET = "names are of a to z, 0 to 9 and _"
+_ALPHABET = "names are of ASCII letters, digits and _"
 
-_WORD = re.compile(rb"[a-z0-9_]*[A-Z\x80-\xff][A-Za-z0-9_\x80-\xff]*")
-_WORD_WITHOUT_NAME = re.compile(rb":([A-Z\x80-\xff][A-Za-z0-9_\x80-\xff]*)")
+_NO_NAME = re.compile(rb"[\x80-\xff]")
+_WORD = re.compile(rb"[A-Za-z0-9_]*[\x80-\xff][A-Za-z0-9_\x80-\xff]*")
+_WORD_WITHOUT_NAME = re.compile(rb":([\x80-\xff][A-Za-z0-9_\x80-\xff]*)")
 
 
 class Error(Exception):
@@ -60,12 +61,12 @@ class _WordError(Error):
 
     word: Optional[bytes] = None
     """The word of the query that is told, without its colon, if a letter that no name has stands directly after the
-    name or in place of it, as in ``:userId``. Else None."""
+    name or in place of it, as in ``:gr\u00f6\u00dfe``. Else None."""
 
     def _more(self) -> str:
         if self.word is None:
             return ""
-        name = self.word[: len(self.word) - len(self.word.lstrip(b"abcdefghijklmnopqrstuvwxyz0123456789_"))]
+        name = _NO_NAME.split(self.word, 1)[0]
         where = f"ends after `{_show(name)}`" if name else "is none"
         return f": {_ALPHABET}, so `:{_show(self.word)}` {where}"
 

@@ -43,9 +43,10 @@ struct TableHead {
     piece_bytes: usize,
 }
 
+// The calls by wide names.
 // SAFETY: types and order of the parameters are those of mysql_params.h.
 unsafe extern "C" {
-    fn mysql_params_names(
+    fn mysql_params_names_wide(
         query: *const u8,
         query_len: usize,
         no_backslash_escape: bool,
@@ -54,7 +55,7 @@ unsafe extern "C" {
         report: *mut Report,
     ) -> i32;
 
-    fn mysql_params_bind(
+    fn mysql_params_bind_wide(
         query: *const u8,
         query_len: usize,
         form: *const u8,
@@ -65,7 +66,7 @@ unsafe extern "C" {
         report: *mut Report,
     ) -> i32;
 
-    fn mysql_params_table(
+    fn mysql_params_table_wide(
         query: *const u8,
         query_len: usize,
         no_backslash_escape: bool,
@@ -75,7 +76,7 @@ unsafe extern "C" {
         report: *mut Report,
     ) -> i32;
 
-    fn mysql_params_bind_template(
+    fn mysql_params_bind_template_wide(
         query: *const u8,
         query_len: usize,
         head: *const TableHead,
@@ -89,7 +90,7 @@ unsafe extern "C" {
         report: *mut Report,
     ) -> i32;
 
-    fn mysql_params_bind_fragments(
+    fn mysql_params_bind_fragments_wide(
         query: *const u8,
         query_len: usize,
         form: *const u8,
@@ -100,7 +101,7 @@ unsafe extern "C" {
         report: *mut Report,
     ) -> i32;
 
-    fn mysql_params_bind_anywhere(
+    fn mysql_params_bind_anywhere_wide(
         query: *const u8,
         query_len: usize,
         form: *const u8,
@@ -110,7 +111,7 @@ unsafe extern "C" {
         report: *mut Report,
     ) -> i32;
 
-    fn mysql_params_bind_in_both_modes(
+    fn mysql_params_bind_in_both_modes_wide(
         query: *const u8,
         query_len: usize,
         form: *const u8,
@@ -120,7 +121,7 @@ unsafe extern "C" {
         report: *mut Report,
     ) -> i32;
 
-    fn mysql_params_bind_fragments_anywhere(
+    fn mysql_params_bind_fragments_anywhere_wide(
         query: *const u8,
         query_len: usize,
         form: *const u8,
@@ -130,7 +131,7 @@ unsafe extern "C" {
         report: *mut Report,
     ) -> i32;
 
-    fn mysql_params_bind_rows(
+    fn mysql_params_bind_rows_wide(
         query: *const u8,
         query_len: usize,
         forms: *const u8,
@@ -142,14 +143,14 @@ unsafe extern "C" {
         report: *mut Report,
     ) -> i32;
 
-    fn mysql_params_first_unportable(
+    fn mysql_params_first_unportable_wide(
         query: *const u8,
         query_len: usize,
         no_backslash_escape: bool,
         report: *mut Report,
     ) -> i32;
 
-    fn mysql_params_first_unportable_in_client(
+    fn mysql_params_first_unportable_in_client_wide(
         query: *const u8,
         query_len: usize,
         no_backslash_escape: bool,
@@ -175,6 +176,8 @@ pub(crate) fn processor_suffices() -> bool {
 
 /// A query has no construct that servers read in different ways.
 const PORTABLE: i32 = 0;
+/// There was no memory to look for one.
+const NO_MEMORY: i32 = -1;
 
 /// A call of the archive.
 #[derive(Clone, Copy, Debug)]
@@ -207,7 +210,7 @@ impl Call<'_> {
             // SAFETY: each pointer is that of a slice with its length, and so not null, and all bytes have a value. The
             // room and the report are borrowed for writing alone, and so overlap nothing. The call keeps no pointer.
             Call::Names { query } => unsafe {
-                mysql_params_names(
+                mysql_params_names_wide(
                     query.as_ptr(),
                     query.len(),
                     no_backslash_escape,
@@ -216,22 +219,28 @@ impl Call<'_> {
                     &mut report,
                 )
             },
-            // SAFETY: the same holds of the query, the form, the room and the report.
-            Call::Bind { query, form } => unsafe {
-                mysql_params_bind(
-                    query.as_ptr(),
-                    query.len(),
-                    form.as_ptr(),
-                    form.len(),
-                    no_backslash_escape,
-                    room.as_mut_ptr(),
-                    room.len(),
-                    &mut report,
-                )
-            },
+            Call::Bind { query, form } | Call::BindFragments { query, form } => {
+                let bind = match self {
+                    Call::Bind { .. } => mysql_params_bind_wide,
+                    _ => mysql_params_bind_fragments_wide,
+                };
+                // SAFETY: the same holds of the query, the form, the room and the report.
+                unsafe {
+                    bind(
+                        query.as_ptr(),
+                        query.len(),
+                        form.as_ptr(),
+                        form.len(),
+                        no_backslash_escape,
+                        room.as_mut_ptr(),
+                        room.len(),
+                        &mut report,
+                    )
+                }
+            }
             // SAFETY: the same, and of the table's places and its head, which is borrowed.
             Call::BindTemplate { query, table, form } => unsafe {
-                mysql_params_bind_template(
+                mysql_params_bind_template_wide(
                     query.as_ptr(),
                     query.len(),
                     &table.head,
@@ -245,55 +254,27 @@ impl Call<'_> {
                     &mut report,
                 )
             },
-            // SAFETY: the same.
-            Call::BindFragments { query, form } => unsafe {
-                mysql_params_bind_fragments(
-                    query.as_ptr(),
-                    query.len(),
-                    form.as_ptr(),
-                    form.len(),
-                    no_backslash_escape,
-                    room.as_mut_ptr(),
-                    room.len(),
-                    &mut report,
-                )
-            },
-            // SAFETY: the same.
-            Call::BindAnywhere { query, form } => unsafe {
-                mysql_params_bind_anywhere(
-                    query.as_ptr(),
-                    query.len(),
-                    form.as_ptr(),
-                    form.len(),
-                    room.as_mut_ptr(),
-                    room.len(),
-                    &mut report,
-                )
-            },
-            // SAFETY: the same.
-            Call::BindInBothModes { query, form } => unsafe {
-                mysql_params_bind_in_both_modes(
-                    query.as_ptr(),
-                    query.len(),
-                    form.as_ptr(),
-                    form.len(),
-                    room.as_mut_ptr(),
-                    room.len(),
-                    &mut report,
-                )
-            },
-            // SAFETY: the same.
-            Call::BindFragmentsAnywhere { query, form } => unsafe {
-                mysql_params_bind_fragments_anywhere(
-                    query.as_ptr(),
-                    query.len(),
-                    form.as_ptr(),
-                    form.len(),
-                    room.as_mut_ptr(),
-                    room.len(),
-                    &mut report,
-                )
-            },
+            Call::BindAnywhere { query, form }
+            | Call::BindInBothModes { query, form }
+            | Call::BindFragmentsAnywhere { query, form } => {
+                let bind = match self {
+                    Call::BindAnywhere { .. } => mysql_params_bind_anywhere_wide,
+                    Call::BindInBothModes { .. } => mysql_params_bind_in_both_modes_wide,
+                    _ => mysql_params_bind_fragments_anywhere_wide,
+                };
+                // SAFETY: the same.
+                unsafe {
+                    bind(
+                        query.as_ptr(),
+                        query.len(),
+                        form.as_ptr(),
+                        form.len(),
+                        room.as_mut_ptr(),
+                        room.len(),
+                        &mut report,
+                    )
+                }
+            }
         };
         (number, report)
     }
@@ -489,7 +470,7 @@ impl Table {
         // SAFETY: each pointer is that of a slice with its length, and so not null, and all bytes have a value. The head, the
         // places and the report are borrowed for writing alone, and so overlap nothing. The call keeps no pointer.
         let number = unsafe {
-            mysql_params_table(
+            mysql_params_table_wide(
                 query.as_ptr(),
                 query.len(),
                 no_backslash_escape,
@@ -574,7 +555,7 @@ impl TextRoom {
         // SAFETY: each pointer is that of a slice with its length, and so not null, and all bytes have a value. The room,
         // the rows and the report are borrowed for writing alone, and so overlap nothing. The call keeps no pointer.
         let number = unsafe {
-            mysql_params_bind_rows(
+            mysql_params_bind_rows_wide(
                 query.as_ptr(),
                 query.len(),
                 forms.as_ptr(),
@@ -601,13 +582,28 @@ impl TextRoom {
     }
 }
 
+/// Who reads a query: servers, or a client before them.
+#[derive(Clone, Copy, Debug)]
+pub(crate) enum Reader {
+    Server,
+    Client,
+}
+
 /// The number and the report of the first construct of a query, in a mode.
-pub(crate) fn first_unportable(query: &[u8], no_backslash_escape: bool) -> (i32, Report) {
+pub(crate) fn first_construct(
+    reader: Reader,
+    query: &[u8],
+    no_backslash_escape: bool,
+) -> (i32, Report) {
+    let find = match reader {
+        Reader::Server => mysql_params_first_unportable_wide,
+        Reader::Client => mysql_params_first_unportable_in_client_wide,
+    };
     let mut report = Report::default();
     // SAFETY: the pointer is that of a slice with its length, and so not null, and all bytes have a value. The report
     // is borrowed for writing alone, and so overlaps nothing. The call keeps no pointer.
     let number = unsafe {
-        mysql_params_first_unportable(
+        find(
             query.as_ptr(),
             query.len(),
             no_backslash_escape,
@@ -617,25 +613,25 @@ pub(crate) fn first_unportable(query: &[u8], no_backslash_escape: bool) -> (i32,
     (number, report)
 }
 
-/// The number and the report of the first construct of a query for servers or a client, in a mode.
-pub(crate) fn first_unportable_in_client(query: &[u8], no_backslash_escape: bool) -> (i32, Report) {
-    let mut report = Report::default();
-    // SAFETY: as in `first_unportable`.
-    let number = unsafe {
-        mysql_params_first_unportable_in_client(
-            query.as_ptr(),
-            query.len(),
-            no_backslash_escape,
-            &mut report,
-        )
-    };
-    (number, report)
+/// The first construct of a query, in a mode.
+pub(crate) fn first_unportable(
+    reader: Reader,
+    query: &[u8],
+    no_backslash_escape: bool,
+) -> Result<Option<Unportable>, Error> {
+    if !processor_suffices() {
+        return Err(Error::Processor);
+    }
+    let (number, report) = first_construct(reader, query, no_backslash_escape);
+    unportable(number, &report)
 }
 
-/// What such a number with its report says; or `Err` if the number isn't one of mysql_params.h.
+/// What such a number with its report says; or `Err` for no memory, or if the number isn't one of mysql_params.h.
 pub(crate) fn unportable(number: i32, report: &Report) -> Result<Option<Unportable>, Error> {
-    if number == PORTABLE {
-        return Ok(None);
+    match number {
+        PORTABLE => return Ok(None),
+        NO_MEMORY => return Err(Error::OutOfMemory),
+        _ => {}
     }
     let construct = Construct::of_number(number).ok_or(Error::UnknownAnswer { number })?;
     Ok(Some(Unportable {

@@ -5,7 +5,7 @@ use std::fmt;
 /// Why a query is refused. Numbers of places, parameters and bytes begin at 0.
 ///
 /// A `word` is one of the query, without its colon, in which a letter that no name has stands directly after a name or
-/// in place of it: names are of `a` to `z`, `0` to `9` and `_`, so `:userId` ends after `user`, and `:A` is none.
+/// in place of it: names are of ASCII letters, digits and `_`, so `:größe` ends after `gr`, and `:über` is none.
 #[derive(Clone, Debug, PartialEq, Eq)]
 pub enum Error {
     /// There was no memory. It may come in place of any other result.
@@ -170,7 +170,10 @@ impl fmt::Display for Alphabet<'_> {
             return Ok(());
         };
         let shown = Shown(word);
-        write!(f, ": names are of a to z, 0 to 9 and _, so `:{shown}` ")?;
+        write!(
+            f,
+            ": names are of ASCII letters, digits and _, so `:{shown}` "
+        )?;
         match words::name_of(word) {
             b"" => write!(f, "is none"),
             name => write!(f, "ends after `{}`", Shown(name)),

@@ -17,8 +17,9 @@
 //! # Ok::<(), mysql_params::Error>(())
 //! ```
 //!
-//! A name in a query is a colon, one of `a` to `z` and `_`, and all of `a` to `z`, `0` to `9` and `_` that follow. So
-//! `:userId` is the name `user` followed by `Id`, and `:A` is none.
+//! A name in a query is a colon, a letter or `_`, and all letters, digits and `_` that follow, as `:userId`. Letters are
+//! those of ASCII, and names are told apart by case. Outside of strings, quoted identifiers and comments each colon before
+//! a letter or `_` begins a name, so `x:LOOP` is refused, and `x: LOOP` is sent as it is.
 //!
 //! Threads may call at once, and all types are `Send` and `Sync`. The archive is for x86-64 Linux and processors with
 //! x86-64-v2; on others each call is [`Error::Processor`].
@@ -46,7 +47,7 @@ pub use rows::{RowError, Texts, TextsIter, bind_rows, bind_rows_in};
 pub use template::Template;
 pub use value::{Date, Params, Time, Value};
 
-use archive::{Call, copy_of};
+use archive::{Call, Reader, copy_of};
 
 /// The examples of README.md, as tests.
 #[cfg(doctest)]
@@ -112,7 +113,7 @@ pub fn names_in(query: &[u8], no_backslash_escape: bool) -> Result<Names, Error>
 /// The first construct of a query that servers read in different ways, or in which a value's digits would join a
 /// number; none exactly if the query is portable. Ask it of each query, once, before you bind to it. What stands
 /// within strings, quoted identifiers and comments is none, except `\"` in a string in `"`, a backslash before the end
-/// of an identifier, and a carriage return in a comment of one line, not at its end. It allocates nothing.
+/// of an identifier, and a carriage return in a comment of one line, not at its end.
 ///
 /// ```
 /// use mysql_params::{Construct, first_unportable};
@@ -125,7 +126,8 @@ pub fn names_in(query: &[u8], no_backslash_escape: bool) -> Result<Names, Error>
 ///
 /// # Errors
 ///
-/// [`Error::Processor`]; [`Error::UnknownAnswer`], from an archive that this crate wasn't written for.
+/// [`Error::OutOfMemory`], of a query with a capital in a name; [`Error::Processor`]; [`Error::UnknownAnswer`], from an
+/// archive that this crate wasn't written for.
 pub fn first_unportable(query: &[u8]) -> Result<Option<Unportable>, Error> {
     first_unportable_in(query, false)
 }
@@ -140,11 +142,7 @@ pub fn first_unportable_in(
     query: &[u8],
     no_backslash_escape: bool,
 ) -> Result<Option<Unportable>, Error> {
-    if !archive::processor_suffices() {
-        return Err(Error::Processor);
-    }
-    let (number, report) = archive::first_unportable(query, no_backslash_escape);
-    archive::unportable(number, &report)
+    archive::first_unportable(Reader::Server, query, no_backslash_escape)
 }
 
 /// As [`first_unportable`], for a query whose bound text goes through the client `mysql` or `mariadb` with
@@ -178,11 +176,7 @@ pub fn first_unportable_in_client_in(
     query: &[u8],
     no_backslash_escape: bool,
 ) -> Result<Option<Unportable>, Error> {
-    if !archive::processor_suffices() {
-        return Err(Error::Processor);
-    }
-    let (number, report) = archive::first_unportable_in_client(query, no_backslash_escape);
-    archive::unportable(number, &report)
+    archive::first_unportable(Reader::Client, query, no_backslash_escape)
 }
 
 /// The query with the SQL literals of the values in its places: the text to send. Ask [`first_unportable`] of the query

@@ -1,5 +1,5 @@
 //! Tests of what the public calls don't show: the room lent, whole reports, and numbers that come by fault alone.
-use crate::archive::{Call, DONE, ROOM, Report, first_unportable, unportable, written};
+use crate::archive::{Call, DONE, ROOM, Reader, Report, first_construct, unportable, written};
 use crate::{Construct, Error, Params, Unportable, Value, bind, names};
 
 /// What a byte of the room holds before a call.
@@ -199,17 +199,17 @@ fn answers_longer_than_the_room() {
 #[test]
 fn words_at_the_ends_of_queries() {
     use crate::words::{word_at, word_of_place, word_without_name};
-    assert_eq!(word_at(b":aB", 1), Some(&b"aB"[..]));
-    assert_eq!(word_at(b":aB", 2), Some(&b"B"[..]));
+    assert_eq!(word_at(b":A\xE9", 1), Some(&b"A\xE9"[..]));
+    assert_eq!(word_at(b":A\xE9", 2), Some(&b"\xE9"[..]));
     for begin in [0, 3, 4, usize::MAX] {
-        assert_eq!(word_at(b":aB", begin), None);
-        assert_eq!(word_of_place(b":ab", begin), None);
+        assert_eq!(word_at(b":A\xE9", begin), None);
+        assert_eq!(word_of_place(b":aB", begin), None);
     }
-    assert_eq!(word_of_place(b":aB", 0), Some(&b"aB"[..]));
-    assert_eq!(word_of_place(b"?aB", 0), None);
+    assert_eq!(word_of_place(b":a\xE9B", 0), Some(&b"a\xE9B"[..]));
+    assert_eq!(word_of_place(b"?a\xE9", 0), None);
     assert_eq!(word_of_place(b":", 0), None);
-    assert_eq!(word_without_name(b"::aB :1 :"), None);
-    assert_eq!(word_without_name(b":a :\xE9 :B"), Some(&b"\xE9"[..]));
+    assert_eq!(word_without_name(b"::aB\xE9 :1 :B :"), None);
+    assert_eq!(word_without_name(b":A :\xE9 :\xC9"), Some(&b"\xE9"[..]));
     assert_eq!(word_without_name(b""), None);
 }
 
@@ -219,10 +219,14 @@ fn whole_reports_of_constructs() {
         position,
         ..Report::default()
     };
-    assert_eq!(first_unportable(b"a, [b]", false), (6, position(3)));
-    assert_eq!(first_unportable(b"'\\' 1e+?", true), (9, position(4)));
-    assert_eq!(first_unportable(b"'[' :a", false), (0, Report::default()));
-    assert_eq!(first_unportable(b"", true), (0, Report::default()));
+    let first = |query, mode| first_construct(Reader::Server, query, mode);
+    assert_eq!(first(b"a, [b]", false), (6, position(3)));
+    assert_eq!(first(b"'\\' 1e+?", true), (9, position(4)));
+    assert_eq!(first(b"'[' :a", false), (0, Report::default()));
+    assert_eq!(first(b"", true), (0, Report::default()));
+    assert_eq!(first(b"1e+:userId", true), (9, position(0)));
+    let client = first_construct(Reader::Client, b"-:A", false);
+    assert_eq!(client, (14, position(0)));
 }
 
 #[test]
@@ -258,7 +262,8 @@ fn numbers_of_constructs() {
         let construct = Construct::of_number(number).expect("a construct");
         assert_eq!(construct.number(), number);
     }
-    for number in [-1, 21, i32::MAX, i32::MIN] {
+    assert_eq!(unportable(-1, &Report::default()), Err(Error::OutOfMemory));
+    for number in [-2, 21, i32::MAX, i32::MIN] {
         assert_eq!(
             unportable(number, &report),
             Err(Error::UnknownAnswer { number })

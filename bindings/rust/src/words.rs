@@ -2,12 +2,12 @@
 
 /// Whether a byte is one of those that names are of.
 fn is_of_names(byte: &u8) -> bool {
-    matches!(byte, b'a'..=b'z' | b'0'..=b'9' | b'_')
+    byte.is_ascii_alphanumeric() || *byte == b'_'
 }
 
-/// Whether a byte is a capital, or of a letter outside ASCII.
+/// Whether a byte is of a letter outside ASCII.
 fn is_other_letter(byte: &u8) -> bool {
-    matches!(byte, b'A'..=b'Z' | 128..)
+    *byte >= 128
 }
 
 /// The bytes at the front that fulfil the test.

@@ -191,11 +191,19 @@ fn read_line(case: &mut Case, line: &str) {
     }
 }
 
-/// The cases of a file.
+/// The cases of a file, and those of the file of its name in `wide`, if there is one.
 fn cases(file: &str) -> Vec<Case> {
-    let path = Path::new(env!("CARGO_MANIFEST_DIR"))
-        .join("../cases")
-        .join(file);
+    let folder = Path::new(env!("CARGO_MANIFEST_DIR")).join("../cases");
+    let mut cases = cases_of(&folder.join(file), file);
+    let wide = folder.join("wide").join(file);
+    if wide.exists() {
+        cases.extend(cases_of(&wide, &format!("wide/{file}")));
+    }
+    cases
+}
+
+/// The cases of one file, by its path and its name.
+fn cases_of(path: &Path, file: &str) -> Vec<Case> {
     let whole = std::fs::read_to_string(path).expect("the cases can be read");
     let mut cases = Vec::new();
     for (index, part) in whole.split("\n\n").enumerate() {

@@ -84,9 +84,9 @@ fn texts_without_memory() {
     survives(|| bind(b"?, ?", &Params::Positional(&values)));
     survives(|| bind(b":a, :b", &Params::Named(&pairs)));
     survives(|| bind(b":a, :missing", &Params::Named(&pairs)));
-    survives(|| bind(b":a, :missingWord", &Params::Named(&pairs)));
-    survives(|| bind(b":a, :bWord", &Params::Named(&pairs)));
-    survives(|| bind(b":A", &Params::Named(&pairs)));
+    survives(|| bind(b":a, :missing\xC3\xA9", &Params::Named(&pairs)));
+    survives(|| bind(b":a, :b\xC3\xA9", &Params::Named(&pairs)));
+    survives(|| bind(b":\xC3\xA9", &Params::Named(&pairs)));
     survives(|| {
         bind(
             b":b, :a",
