@@ -16,7 +16,8 @@ use Rattle.mysql_portable.specs.FoundInClient.{begins_statement, begins_line, be
 use Rattle.mysql_portable.proofs.OtherModeLemmas.{all_parts}
 use Rattle.mysql_sql_text.specs.InLine.{is_in_line}
 use Rattle.mysql_binding.proofs.LiteralTokenLemmas.{is_alphanumeric, other, plain_tokens, plain_text, plain_before, minus_plain, AreDigits-alphanumeric, AreHexadecimalPairs-alphanumeric}
-use Rattle.mysql_binding.proofs.SentTextLemmas.{is_sent_first, begins_as_sent, is_word_letter, no_word_found, AreSentBefore, statement_after, line_after, IsSentAt}
+use Rattle.mysql_portable.proofs.ClientWordLemmas.{is_word_letter}
+use Rattle.mysql_binding.proofs.SentTextLemmas.{is_sent_first, begins_as_sent, no_word_found, AreSentBefore, statement_after, line_after, IsSentAt}
 use Rattle.mysql_binding.proofs.SpliceLemmas.{HoldsAlone}
 
 pub and_none : (a : Bool) → (a && false) ≡ false

@@ -13,9 +13,10 @@ use Rattle.mysql_named_params.specs.Tokens.{Token, AreTokensBefore, text_of, tex
 use Rattle.mysql_named_params.proofs.TokenRowLemmas.{text_then-append}
 use Rattle.mysql_portable.specs.Server.{begins_place}
 use Rattle.mysql_portable.specs.Client.{holds_opener}
-use Rattle.mysql_portable.specs.FoundInClient.{begins_statement, begins_line, letter_of, begins_word, ends_word, begins_whole_word, is_word_of_mariadb, is_word_of_mysql, is_client_word, is_joined, closes_before_joined, drops_line, begins_comment_dashes, begins_comment, stand_before_comment, found_in_comment, found_word, found_at_byte, found_in_token, found_in_client}
+use Rattle.mysql_portable.specs.FoundInClient.{begins_statement, begins_line, letter_of, begins_word, ends_word, begins_whole_word, is_client_word, is_joined, closes_before_joined, drops_line, begins_comment_dashes, begins_comment, stand_before_comment, found_in_comment, found_word, found_at_byte, found_in_token, found_in_client}
 use Rattle.mysql_portable.specs.FirstUnportableInClient.{AreSentAsTheyAreFrom}
 use Rattle.mysql_portable.specs.declared.portable.Construct.{Construct}
+use Rattle.mysql_portable.proofs.ClientWordLemmas.{client_word_same, is_word_letter}
 use Rattle.mysql_binding.specs.Replaced.{with_literal_tokens}
 use Rattle.mysql_binding.specs.StandsAlone.{may_stand_before}
 use Rattle.mysql_binding.proofs.LiteralTokenLemmas.{is_alphanumeric, other}
@@ -242,10 +243,6 @@ null_moves b (up_line more) h = h
 
 -- ---- words
 
--- a byte of the clients' words, which are in lower case
-abbrev pub is_word_letter : ℕ → Bool
-is_word_letter b = (nat_le (byte "a") b && nat_le b (byte "z")) || b == underscore
-
 -- what may stand before a place is no letter to a client
 stands_below : (c : ℕ) → may_stand_before c ≡ true → nat_lt c 192 ≡ true
 stands_below c h = grind (arith, nat_tests)
@@ -305,37 +302,9 @@ whole_same (w ∷ ws) all f (up_same {b = b} {x = x} {y = y} u) =
       | inr e ↦ rw e refl
     ]
 
-either : {a a' b b' : Bool} → a ≡ a' → b ≡ b' → (a || b) ≡ (a' || b')
-either {a' = a'} {b = b} e g = ap (λ z. z || b) e ∙ ap (λ z. a' || z) g
-
-choice : (c : Bool) {a a' b b' : Bool} → a ≡ a' → b ≡ b' → (if c then a else b) ≡ (if c then a' else b')
-choice c {a' = a'} {b = b} e g = ap (λ z. if c then z else b) e ∙ ap (λ z. if c then a' else z) g
-
-module _ {before : ℕ} {x y : List ℕ} (f : may_stand_before before ≡ false) (u : UpTo before x y) where
-  mariadb_same : (letter : ℕ) → is_word_of_mariadb letter x ≡ is_word_of_mariadb letter y
-  mariadb_same letter =
-      choice (letter == byte "c") (either (whole_same (codes "harset") refl f u) (either (whole_same (codes "lear") refl f u) (either (whole_same (codes "onnect") refl f u) (whole_same (codes "osts") refl f u))))
-      (choice (letter == byte "e") (either (whole_same (codes "dit") refl f u) (either (whole_same (codes "go") refl f u) (whole_same (codes "xit") refl f u)))
-      (choice (letter == byte "g") (whole_same (codes "o") refl f u)
-      (choice (letter == byte "h") (whole_same (codes "elp") refl f u)
-      (choice (letter == byte "n") (either (whole_same (codes "opager") refl f u) (either (whole_same (codes "otee") refl f u) (whole_same (codes "owarning") refl f u)))
-      (choice (letter == byte "p") (either (whole_same (codes "ager") refl f u) (either (whole_same (codes "rint") refl f u) (whole_same (codes "rompt") refl f u)))
-      (choice (letter == byte "q") (whole_same (codes "uit") refl f u)
-      (choice (letter == byte "r") (whole_same (codes "ehash") refl f u)
-      (choice (letter == byte "s") (either (whole_same (codes "andbox") refl f u) (either (whole_same (codes "ource") refl f u) (either (whole_same (codes "tatus") refl f u) (whole_same (codes "ystem") refl f u))))
-      (choice (letter == byte "t") (whole_same (codes "ee") refl f u)
-      (choice (letter == byte "u") (whole_same (codes "se") refl f u)
-      (choice (letter == byte "w") (whole_same (codes "arnings") refl f u) refl)))))))))))
-
-  mysql_same : (letter : ℕ) → is_word_of_mysql letter x ≡ is_word_of_mysql letter y
-  mysql_same letter =
-      choice (letter == byte "q") (whole_same (codes "uery_attributes") refl f u)
-      (choice (letter == byte "r") (whole_same (codes "esetconnection") refl f u)
-      (choice (letter == byte "s") (whole_same (codes "sl_session_data_print") refl f u) refl))
-
-  client_same : (letter : ℕ) → is_client_word letter x ≡ is_client_word letter y
-  unfolding is_client_word
-  client_same letter = either (mariadb_same letter) (mysql_same letter)
+client_same : {before : ℕ} {x y : List ℕ} → may_stand_before before ≡ false → UpTo before x y → (letter : ℕ) →
+    is_client_word letter x ≡ is_client_word letter y
+client_same {x = x} {y = y} f u = client_word_same x y (λ word all. whole_same word all f u)
 
 -- no word begins with another byte
 no_letter : (letter k : ℕ) → is_word_letter letter ≡ false → is_word_letter k ≡ true → (letter == k) ≡ false

@@ -16,7 +16,8 @@ use Rattle.mysql_portable.proofs.OtherModeLemmas.{all_parts}
 use Rattle.mysql_binding.proofs.LiteralTokenLemmas.{other, AreDigits-alphanumeric}
 use Rattle.mysql_sql_text.specs.InLine.{is_in_line}
 use Rattle.mysql_binding.proofs.SentLiteralLemmas.{and_none, SentPart, SentText, both_parts, digits_text, front_and_part, literal_sent, minus_text, part_of, run_part}
-use Rattle.mysql_binding.proofs.SentTextLemmas.{is_sent_first, is_word_letter, no_word_found}
+use Rattle.mysql_portable.proofs.ClientWordLemmas.{is_word_letter}
+use Rattle.mysql_binding.proofs.SentTextLemmas.{is_sent_first, no_word_found}
 use Rattle.mysql_float_literal.specs.DoubleShape.{IsSign, no_sign, minus_sign, IsFraction, no_fraction, point_and_digits, IsDouble, double_shape}
 use Rattle.mysql_fragments.specs.FragmentFaults.{escapes_end, is_keyword}
 use Rattle.mysql_fragments.specs.FragmentShape.{IsIdentifier, one_name, more_names, IsFragment, mark_fragment, literal_fragment, decimal_fragment, negative_decimal_fragment, double_fragment, identifier_fragment, keyword_fragment, list_fragment, row_fragment}

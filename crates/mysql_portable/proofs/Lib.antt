@@ -18,7 +18,8 @@ pub mod RunLemmas
 pub mod NothingInQuotesLemmas
 pub mod ClientTextLemmas
 pub mod ClearLemmas
-pub mod ClearLoweredLemmas
 pub mod ClearWalkLemmas
 pub mod ClearInClientLemmas
+pub mod ClientWordLemmas
+pub mod ClearLoweredLemmas
 pub mod WideUnportableLemmas

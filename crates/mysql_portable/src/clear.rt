@@ -4,6 +4,8 @@
 ghost use Rattle.std.specs.Prelude.{◌≡◌, ◌==◌, ◌+◌, ◌<◌, ◌≤◌, Bool, false, true, length, take, drop, map, slice_index, IsTrue, IsFalse};
 ghost use Rattle.std.specs.Simd.Lanes.{mask_l};
 ghost use Rattle.mysql_named_params.specs.Bytes.{begins, dash, newline, space};
+ghost use Rattle.mysql_named_params.specs.LoweredNames.{lower_names};
+ghost use Rattle.mysql_named_params.specs.Reading.{OnWideTokens};
 ghost use Rattle.mysql_named_params.specs.Tokens.{OnTokens};
 ghost use Rattle.mysql_named_params.specs.WideNames.{is_wide_start};
 ghost use Rattle.mysql_portable.specs.Clear.{begins_client_line, begins_opener_after, begins_special_block, byte_before, is_clear, is_clear_after, is_clear_from, is_clear_in_client, is_in_doubt, is_in_doubt_for, is_in_doubt_in_client, is_never_in_doubt, is_of_client, is_sign, may_be_in_doubt, may_begin_tag, may_take_dashes, may_take_place};
@@ -23,13 +25,15 @@ pub fn is_clear(text: &[u8]) -> bool
 }
 
 /// Whether no byte of the query is in doubt, also in a client. Such a query is steady and portable
-/// on servers and in the clients `mysql` and `mariadb`. Most that are so pass; a query that begins
-/// with a comment doesn't, nor one with a comment behind a `;`.
+/// on servers and in the clients `mysql` and `mariadb`, by wide names too. Most that are so pass; a
+/// query that begins with a comment doesn't, nor one with a comment behind a `;`.
 pub fn is_clear_in_client(query: &[u8]) -> bool
     ensures value { result ≡ is_clear_in_client query.now }
     ensures steady { IsTrue result → IsSteady query.now }
     ensures portable { IsTrue result → (mode : Bool) →
         OnTokens mode query.now IsPortableInClient }
+    ensures portable_by_wide_names { IsTrue result → (mode : Bool) →
+        OnWideTokens mode query.now (λ ts. IsPortableInClient (lower_names ts)) }
 {
     !begins_client_line(query) && is_clear_for(query, true)
 }
