@@ -29,11 +29,11 @@ use Rattle.mysql_steady_text.specs.FirstBackslash.{first_backslash}
 use Rattle.mysql_steady_text.specs.SteadyLiterals.{IsSteadyFor}
 use Rattle.mysql_steady_text.specs.SteadyText.{IsSteadyText}
 use Rattle.mysql_steady_text.specs.WideBothModes.{IsWideTextInBothModes}
-use Rattle.mysql_steady_text.proofs.BackslashLemmas.{hold_no_escapes}
+use Rattle.mysql_steady_text.proofs.BackslashLemmas.{hold_no_escapes, steady_has_none}
 use Rattle.mysql_steady_text.proofs.BothModesAnswerLemmas.{Agree, portable_answer}
 use Rattle.mysql_steady_text.proofs.BothModesTextLemmas.{in_both_modes}
 use Rattle.mysql_steady_text.proofs.SteadyTextLemmas.{is_anywhere_text, no_escapes_of, steady_given}
-use Rattle.mysql_steady_text.proofs.WideBothModesLemmas.{agree_of_wide, first_backslash-widened, in_each_reading, in_each_wide, is_wide_both, is_wide_text}
+use Rattle.mysql_steady_text.proofs.WideBothModesLemmas.{agree_of_wide, clear_both, first_backslash-widened, in_each_reading, in_each_wide, is_wide_both, is_wide_text}
 use Rattle.mysql_steady_text.proofs.WideSteadyLemmas.{is_steady_text_in, is_wide_anywhere_text, wide_other}
 use Rattle.mysql_flat_params.specs.FlatForm.{IsFormReading}
 use Rattle.mysql_flat_params.specs.Outcomes.{IfDone, text_outcome}
@@ -83,18 +83,35 @@ said_on_err (Ok x) p = tt
 said_on_err (Err e) p = p
 
 -- a clear query is refused for nothing, by wide names or by those of the grammar
-pub clear_told : (wide : Bool) (query : List ℕ) → is_clear query ≡ true → (mode : Bool) →
+clear_told_anywhere : (wide : Bool) (query : List ℕ) → is_clear query ≡ true → (mode : Bool) →
     OnTokensIn (reading_with wide mode) query (λ ts. None ≡ refusal_as wide Anywhere query ts)
-clear_told false query c mode =
+clear_told_anywhere false query c mode =
     let t = tokens_exist mode query in
     let steady = (none_unsteady query).1 (clear_query_is_steady false query c) in
     let portable = clear_has_none false mode query t.0 t.1 c in
     (t.0, t.1, rw steady (rw portable refl))
-clear_told true query c mode =
+clear_told_anywhere true query c mode =
     let o = clear_wide_is_portable mode query c in
     let steady = (none_unsteady query).1 (clear_query_is_steady false query c) in
     let portable = o.2.1 in
     (o.0, o.1, rw steady (rw portable refl))
+
+clear_told_both : (wide : Bool) (query : List ℕ) → is_clear query ≡ true → (mode : Bool) →
+    OnTokensIn (reading_with wide mode) query (λ ts. None ≡ refusal_as wide BothModes query ts)
+clear_told_both false query c mode =
+    let t = steady_has_none query (clear_query_is_steady false query c) mode in
+    let portable = clear_has_none false mode query t.0 t.1 c in
+    (t.0, t.1, rw (sym t.2) (rw portable refl))
+clear_told_both true query c mode =
+    let o = clear_both query c mode in
+    let backslash = o.2.0 in
+    let portable = o.2.1 in
+    (o.0, o.1, rw backslash (rw portable refl))
+
+pub clear_told : (wide : Bool) (steadiness : Steadiness) (query : List ℕ) → is_clear query ≡ true → (mode : Bool) →
+    OnTokensIn (reading_with wide mode) query (λ ts. None ≡ refusal_as wide steadiness query ts)
+clear_told wide Anywhere query c mode = clear_told_anywhere wide query c mode
+clear_told wide BothModes query c mode = clear_told_both wide query c mode
 
 -- ---- the text
 

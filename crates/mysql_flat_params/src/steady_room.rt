@@ -289,11 +289,9 @@ pub(crate) fn query_refusal(
         (byte_refusal call.steadiness query.now ts ≡ None)
         × (is_copied call.wide_names ts ≡ true))) }
 {
-    if let Steadiness::Anywhere = call.steadiness {
-        // One walk passes most queries for any server, with capitals or without.
-        if is_clear(query) {
-            return Ok(None);
-        }
+    // One walk passes most queries of ASCII, with capitals or without.
+    if is_clear(query) {
+        return Ok(None);
     }
     refusal_by_walks(alloc, query, call)
 }

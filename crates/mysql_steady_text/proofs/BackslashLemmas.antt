@@ -20,8 +20,9 @@ use Rattle.mysql_named_params.proofs.TokenEndLemmas.{slice_from}
 use Rattle.mysql_named_params.proofs.TokenListLemmas.{one_token, some_byte}
 use Rattle.mysql_named_params.proofs.TokenRowLemmas.{text_then-text_of}
 use Rattle.mysql_named_params.proofs.TokensExistLemmas.{tokens_exist}
-use Rattle.mysql_portable.specs.Steady.{is_no_backslash, holds_no_escape, HoldNoEscapes}
+use Rattle.mysql_portable.specs.Steady.{is_no_backslash, is_steady, holds_no_escape, HoldNoEscapes, IsSteady}
 use Rattle.mysql_portable.proofs.OtherModeLemmas.{all_parts, token_other}
+use Rattle.mysql_portable.proofs.SteadyLemmas.{no_backslashes}
 use Rattle.mysql_binding.proofs.CauseLemmas.{or_none}
 use Rattle.mysql_steady_text.specs.FirstBackslash.{is_backslash, backslash_in, first_backslash_from, first_backslash}
 use Rattle.mysql_binding.proofs.ValueLiteralLemmas.{none_step}
@@ -185,6 +186,12 @@ in_either query found mode other o =
 no_hit : (query : List ℕ) → IsFirstByte (is_byte 92) query None → list_all is_no_backslash query ≡ true
 no_hit query nowhere =
     list_all-from_AllPass is_no_backslash query (All-from_get_or (λ b. is_no_backslash b ≡ true) query 0 (λ k lt. ap not (fails (get_or query k 0 == 92) (nowhere k (omega arith) lt))))
+
+pub steady_has_none : (query : List ℕ) → IsSteady query → (mode : Bool) →
+    OnTokens mode query (λ ts. None ≡ first_backslash ts)
+steady_has_none query steady mode =
+    let t = tokens_exist mode query in
+    (t.0, t.1, sym (lack_all t.0 0 (no_backslashes (text_of t.0) (subst (λ x. list_all is_steady x ≡ true) (sym t.1.text) steady))))
 
 pub lacking : (query : List ℕ) → IsFirstByte (is_byte 92) query None → (mode : Bool) →
     OnTokens mode query (λ ts. None ≡ first_backslash ts)

@@ -13,9 +13,13 @@ use Rattle.mysql_named_params.proofs.LoweredLemmas.{lowered_tokens}
 use Rattle.mysql_named_params.proofs.ReparsedLemmas.{marked_reading, names_in_reading, names-with_marks}
 use Rattle.mysql_named_params.proofs.TokenListLemmas.{one_token_list}
 use Rattle.mysql_named_params.proofs.WideLemmas.{goes_on, none_taken, opens, plain_case, stays, taken, taken_colon, taken_none, taken_wide}
+use Rattle.mysql_portable.specs.Clear.{is_clear}
+use Rattle.mysql_portable.specs.FirstUnportable.{first_unportable}
 use Rattle.mysql_portable.specs.Portable.{IsPortable, IsReadAs}
 use Rattle.mysql_portable.specs.Steady.{HoldNoEscapes}
 use Rattle.mysql_portable.specs.declared.portable.Unportable.{Unportable}
+use Rattle.mysql_portable.proofs.ClearLemmas.{clear_query_is_steady}
+use Rattle.mysql_portable.proofs.ClearLoweredLemmas.{clear_wide_is_portable}
 use Rattle.mysql_portable.proofs.OtherModeLemmas.{tokens_other}
 use Rattle.mysql_params_core.specs.Given.{Given, positional}
 use Rattle.mysql_params_core.specs.Lookup.{lookup}
@@ -39,9 +43,9 @@ use Rattle.mysql_steady_text.specs.WideBothModes.{IsBothModesBindRefusal, IsWide
 use Rattle.mysql_steady_text.specs.declared.both_modes_error.BothModesError.{BothModesError}
 use Rattle.mysql_steady_text.specs.declared.both_modes_error.BothModesError.TheVariants.{Backslash, Bind}
 use Rattle.mysql_steady_text.specs.declared.both_modes_error.BothModesError.TheVariants as error
-use Rattle.mysql_steady_text.proofs.BackslashLemmas.{hold_no_escapes}
+use Rattle.mysql_steady_text.proofs.BackslashLemmas.{hold_no_escapes, steady_has_none}
 use Rattle.mysql_steady_text.proofs.BothModesAgainLemmas.{again_of, positioned_of}
-use Rattle.mysql_steady_text.proofs.BothModesAnswerLemmas.{Agree, in_each_mode}
+use Rattle.mysql_steady_text.proofs.BothModesAnswerLemmas.{Agree, agree, in_each_mode}
 use Rattle.mysql_steady_text.proofs.BothModesTextLemmas.{alone_in, in_both_modes, is_portable, read_in_both, tokens_in_both}
 use Rattle.mysql_steady_text.proofs.WideSteadyLemmas.{first_not_alone-lowered, marked_given, pieces-lowered, wide_nothing, with_literal_tokens-lowered}
 
@@ -137,6 +141,19 @@ pub wide_told : (query : List ℕ) (found : Option ℕ) (P : List Token → Type
 wide_told query found P b none agree u mode =
     let o = on_both (wide_reading mode) query (λ ts. found ≡ first_backslash ts) P (wide_backslash query found b mode) (in_each_wide query P agree u mode) in
     (o.0, o.1, (sym o.2.0 ∙ none, o.2.1))
+
+-- a clear query has neither
+pub clear_both : (query : List ℕ) → is_clear query ≡ true → (mode : Bool) →
+    OnWideTokens mode query (λ ts. (first_backslash ts ≡ None) × (first_unportable (lower_names ts) ≡ None))
+clear_both query clear mode =
+    let o = clear_wide_is_portable mode query clear in
+    let b = wide_backslash query None (steady_has_none query (clear_query_is_steady false query clear)) mode in
+    let w = on_both (wide_reading mode) query (λ ts. None ≡ first_backslash ts) (λ ts. first_unportable (lower_names ts) ≡ None) b (o.0, o.1, o.2.1) in
+    (w.0, w.1, (sym w.2.0, w.2.1))
+
+-- and the modes agree on it
+pub clear_agree : (query : List ℕ) → is_clear query ≡ true → Agree query
+clear_agree query clear = agree query None (steady_has_none query (clear_query_is_steady false query clear) true) refl
 
 -- ---- by the query with marks
 

@@ -21,6 +21,7 @@ use crate::steady_literal::SteadyForm;
 use mysql_binding::{BindError, bind_borrowed_as};
 use mysql_named_params::places::Reading;
 use mysql_params_core::params::{BorrowedParams, Params};
+use mysql_portable::clear::is_clear;
 use mysql_portable::wide::first_unportable_wide;
 use mysql_values::value::ValueRef;
 use std::alloc::Global;
@@ -119,6 +120,10 @@ pub(crate) fn bind_borrowed_wide_in_both_modes(
         first_unportable (lower_names ts) ≡ None → HasName ts × HasMark ts →
         IsErrOf result (BothModesError.Bind BindError.Mixed)) }
 {
+    // One quick walk passes most queries of ASCII, with capitals or without.
+    if is_clear(query) {
+        return bind_wide_agreed(alloc, query, params);
+    }
     if let Some(at) = first_backslash(query) {
         return Err(BothModesError::Backslash { at });
     }

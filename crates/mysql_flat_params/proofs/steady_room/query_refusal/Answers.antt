@@ -6,9 +6,7 @@ use Rattle.mysql_flat_params.proofs.steady_room.query_refusal.Goals as goal
 
 pub returns-then-is_clear-clause-told : goal.returns-then-is_clear-clause-told
 returns-then-is_clear-clause-told c mode =
-    let is = c.in-Anywhere.is in
-    let o = clear_told c.args.call.wide_names c.args.query.now (sym c.is_clear.ensures ∙ c.if-is_clear.true) mode in
-    (o.0, o.1, rw is o.2)
+    clear_told c.args.call.wide_names c.args.call.steadiness c.args.query.now (sym c.is_clear.ensures ∙ c.if-is_clear.true) mode
 
 pub returns-then-is_clear-clause-agree : goal.returns-then-is_clear-clause-agree
 returns-then-is_clear-clause-agree c = λ none.

@@ -3,12 +3,55 @@ use Rattle.std.proofs.Common.{◌∙◌, inl, inr, refl, sym, true≢false}
 use Rattle.mysql_named_params.specs.LoweredNames.{have_capitals, lower_names}
 use Rattle.mysql_named_params.specs.Places.{names}
 use Rattle.mysql_params_core.specs.GivenBorrowed.{given_by_borrowed}
+use Rattle.mysql_portable.specs.Clear.{is_clear}
 use Rattle.mysql_portable.specs.FirstUnportable.{first_unportable}
+use Rattle.mysql_portable.proofs.ClearLoweredLemmas.{clear_wide_is_portable}
 use Rattle.mysql_steady_text.proofs.BothModesAnswerLemmas.{agree}
 use Rattle.mysql_steady_text.proofs.BothModesTextLemmas.{is_handed_on}
-use Rattle.mysql_steady_text.proofs.WideBothModesLemmas.{wide_backslash, wide_both_again, wide_both_answer, wide_both_position, wide_both_refused, wide_told}
+use Rattle.mysql_steady_text.proofs.WideBothModesLemmas.{clear_agree, clear_both, wide_backslash, wide_both_again, wide_both_answer, wide_both_position, wide_both_refused, wide_told}
 use Rattle.mysql_steady_text.proofs.WideSteadyLemmas.{wide_nothing}
 use Rattle.mysql_steady_text.proofs.wide_both_modes.bind_borrowed_wide_in_both_modes.Goals as goal
+
+-- ---- a clear query
+
+pub bind_wide_agreed-requires : goal.bind_wide_agreed-requires
+bind_wide_agreed-requires c = clear_agree c.args.query.now (sym c.is_clear.ensures ∙ c.if-is_clear.true)
+
+pub returns-then-is_clear-clause-bound : goal.returns-then-is_clear-clause-bound
+returns-then-is_clear-clause-bound c =
+    let clear : is_clear c.args.query.now ≡ true = sym c.is_clear.ensures ∙ c.if-is_clear.true in
+    let o = clear_wide_is_portable true c.args.query.now clear in
+    wide_both_answer (λ text. text.items) c.bind_wide_agreed.result c.args.query.now (given_by_borrowed c.args.params)
+    (clear_agree c.args.query.now clear) (o.0, o.1, o.2.0) c.bind_wide_agreed.ensures.bound
+
+pub returns-then-is_clear-clause-refused : goal.returns-then-is_clear-clause-refused
+returns-then-is_clear-clause-refused c mode =
+    wide_both_refused c.bind_wide_agreed.result mode c.args.query.now (given_by_borrowed c.args.params) (λ ts. first_unportable (lower_names ts))
+    (clear_both c.args.query.now (sym c.is_clear.ensures ∙ c.if-is_clear.true) mode)
+    (c.bind_wide_agreed.ensures.refused mode)
+
+pub returns-then-is_clear-clause-bound_again : goal.returns-then-is_clear-clause-bound_again
+returns-then-is_clear-clause-bound_again c =
+    wide_both_again (λ text. text.items) c.args.query.now (given_by_borrowed c.args.params) true c.bind_wide_agreed.result (c.bind_wide_agreed.ensures.bound true)
+
+pub returns-then-is_clear-clause-by_position : goal.returns-then-is_clear-clause-by_position
+returns-then-is_clear-clause-by_position c mode =
+    wide_both_position (λ text. text.items) c.args.query.now (given_by_borrowed c.args.params) mode c.bind_wide_agreed.result (c.bind_wide_agreed.ensures.bound mode)
+
+pub returns-then-is_clear-clause-backslash : goal.returns-then-is_clear-clause-backslash
+returns-then-is_clear-clause-backslash c mode =
+    let o = clear_both c.args.query.now (sym c.is_clear.ensures ∙ c.if-is_clear.true) mode in
+    (o.0, o.1, λ at e. let never = sym e ∙ o.2.0 in cc)
+
+pub returns-then-is_clear-clause-unportable : goal.returns-then-is_clear-clause-unportable
+returns-then-is_clear-clause-unportable c mode =
+    let o = clear_both c.args.query.now (sym c.is_clear.ensures ∙ c.if-is_clear.true) mode in
+    (o.0, o.1, λ none low found e. let never = sym e ∙ o.2.1 in cc)
+
+pub returns-then-is_clear-clause-mixed : goal.returns-then-is_clear-clause-mixed
+returns-then-is_clear-clause-mixed c mode =
+    let o = c.bind_wide_agreed.ensures.mixed mode in
+    (o.0, o.1, λ none low e. o.2)
 
 -- ---- a backslash in a string
 
@@ -40,31 +83,31 @@ returns-in-Some-clause-mixed c mode =
 
 -- ---- a portable query
 
-pub bind_wide_agreed-requires : goal.bind_wide_agreed-requires
-bind_wide_agreed-requires c = agree c.args.query.now c.first_backslash.result (c.first_backslash.ensures true) c.in_default.is
+pub bind_wide_agreed-requires-in-None : goal.bind_wide_agreed-requires-in-None
+bind_wide_agreed-requires-in-None c = agree c.args.query.now c.first_backslash.result (c.first_backslash.ensures true) c.in_default.is
 
 pub returns-in-None-clause-bound : goal.returns-in-None-clause-bound
 returns-in-None-clause-bound c =
     let o = c.in_ok-found.ensures.none in
-    wide_both_answer (λ text. text.items) c.bind_wide_agreed.result c.args.query.now (given_by_borrowed c.args.params)
+    wide_both_answer (λ text. text.items) c.bind_wide_agreed-in-None.result c.args.query.now (given_by_borrowed c.args.params)
     (agree c.args.query.now c.first_backslash.result (c.first_backslash.ensures true) c.in_default.is)
-    (o.0, o.1, o.2.0 c.in-None.is) c.bind_wide_agreed.ensures.bound
+    (o.0, o.1, o.2.0 c.in-None.is) c.bind_wide_agreed-in-None.ensures.bound
 
 pub returns-in-None-clause-refused : goal.returns-in-None-clause-refused
 returns-in-None-clause-refused c mode =
     let o = c.in_ok-found.ensures.first in
-    wide_both_refused c.bind_wide_agreed.result mode c.args.query.now (given_by_borrowed c.args.params) (λ ts. first_unportable (lower_names ts))
+    wide_both_refused c.bind_wide_agreed-in-None.result mode c.args.query.now (given_by_borrowed c.args.params) (λ ts. first_unportable (lower_names ts))
     (wide_told c.args.query.now c.first_backslash.result (λ ts. first_unportable (lower_names ts) ≡ None) c.first_backslash.ensures c.in_default.is
     (agree c.args.query.now c.first_backslash.result (c.first_backslash.ensures true) c.in_default.is) (o.0, o.1, sym o.2 ∙ c.in-None.is) mode)
-    (c.bind_wide_agreed.ensures.refused mode)
+    (c.bind_wide_agreed-in-None.ensures.refused mode)
 
 pub returns-in-None-clause-bound_again : goal.returns-in-None-clause-bound_again
 returns-in-None-clause-bound_again c =
-    wide_both_again (λ text. text.items) c.args.query.now (given_by_borrowed c.args.params) true c.bind_wide_agreed.result (c.bind_wide_agreed.ensures.bound true)
+    wide_both_again (λ text. text.items) c.args.query.now (given_by_borrowed c.args.params) true c.bind_wide_agreed-in-None.result (c.bind_wide_agreed-in-None.ensures.bound true)
 
 pub returns-in-None-clause-by_position : goal.returns-in-None-clause-by_position
 returns-in-None-clause-by_position c mode =
-    wide_both_position (λ text. text.items) c.args.query.now (given_by_borrowed c.args.params) mode c.bind_wide_agreed.result (c.bind_wide_agreed.ensures.bound mode)
+    wide_both_position (λ text. text.items) c.args.query.now (given_by_borrowed c.args.params) mode c.bind_wide_agreed-in-None.result (c.bind_wide_agreed-in-None.ensures.bound mode)
 
 pub returns-in-None-clause-backslash : goal.returns-in-None-clause-backslash
 returns-in-None-clause-backslash c mode =
@@ -80,7 +123,7 @@ returns-in-None-clause-unportable c mode =
 
 pub returns-in-None-clause-mixed : goal.returns-in-None-clause-mixed
 returns-in-None-clause-mixed c mode =
-    let o = c.bind_wide_agreed.ensures.mixed mode in
+    let o = c.bind_wide_agreed-in-None.ensures.mixed mode in
     (o.0, o.1, λ none low e. o.2)
 
 -- ---- a construct that isn't portable
