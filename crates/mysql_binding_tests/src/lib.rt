@@ -27,6 +27,8 @@ mod stands_alone;
 #[cfg(test)]
 mod steady_text;
 #[cfg(test)]
+mod wide_fixed_query;
+#[cfg(test)]
 mod wide_names;
 #[cfg(test)]
 mod without_backslashes;

@@ -12,8 +12,8 @@ use Rattle.mysql_params_core.specs.Lookup.{lookup}
 use Rattle.mysql_params_core.specs.Made.{Made, pairs_made}
 use Rattle.mysql_binding.specs.StandsAlone.{first_not_alone}
 use Rattle.mysql_binding.specs.FirstCause.{first_cause, first_float, mixed_cause, mixed_query, count_cause, mark_count, mark_count_differs, not_alone_cause, not_alone, float_cause, float_value, later_cause, cause_after_lookup}
-use Rattle.mysql_fixed_query.specs.Bindable.{IsBindable, IsBindableByPosition, given_by, valued, is_by_position, values_of}
-use Rattle.mysql_fixed_query.specs.FixedText.{values_named}
+use Rattle.mysql_fixed_query.specs.Bindable.{Fits, IsBindableByPosition, given_by, valued, is_by_position, values_of}
+use Rattle.mysql_fixed_query.specs.FixedText.{values_for}
 use Rattle.mysql_fixed_query.proofs.GivenLemmas.{pair_names-valued, pairs_made-new, lookup-given_by, no_float_given}
 
 -- none of the causes, one after another
@@ -51,21 +51,18 @@ equal_counts names marks values same =
 
 -- ---- by name
 
-module _ {mode : Bool} {query : List ℕ} {pairs : List (List ℕ × Meaning)}
-    (h : IsBindable mode query pairs) where
+module _ {ts : List Token} {pairs : List (List ℕ × Meaning)} (h : Fits ts pairs) where
   pub pairs_made_is : pairs_made pairs ≡ Ok (given_by (valued pairs))
   pairs_made_is = pairs_made-new pairs h.literals h.differ
 
-  pub names_looked_up : lookup (given_by (valued pairs)) (names (tokens_of mode query))
-      ≡ Ok (values_named mode query (valued pairs))
+  pub names_looked_up : lookup (given_by (valued pairs)) (names ts) ≡ Ok (values_for ts (valued pairs))
   names_looked_up =
-      lookup-given_by (valued pairs) (names (tokens_of mode query)) h.has_name
+      lookup-given_by (valued pairs) (names ts) h.has_name
       (rw (pair_names-valued pairs h.literals) h.given)
 
-  pub no_cause_by_name : first_cause (tokens_of mode query) (given_by (valued pairs)) ≡ None
+  pub no_cause_by_name : first_cause ts (given_by (valued pairs)) ≡ None
   no_cause_by_name =
-      let ts : List Token = tokens_of mode query in
-      let values : List Value = values_named mode query (valued pairs) in
+      let values : List Value = values_for ts (valued pairs) in
       let unmixed : has_both ts ≡ false =
       ap (λ k. nat_lt 0 (length (names ts)) && nat_lt 0 k) h.no_mark ∙ and-false _ in
       no_cause ts (given_by (valued pairs)) values unmixed names_looked_up

@@ -1,3 +1,4 @@
+pub mod TokensLemmas
 pub mod GivenLemmas
 pub mod CauseLemmas
 pub mod TextLemmas

@@ -9,12 +9,18 @@ use Rattle.std.specs.FinMap.{from_entries}
 use Rattle.mysql_values.specs.declared.value.Value.{Value}
 use Rattle.mysql_values.specs.Literal.{is_float}
 use Rattle.mysql_values.specs.ValueOf.{Meaning}
+use Rattle.mysql_named_params.specs.Tokens.{Token}
 use Rattle.mysql_named_params.specs.TokensOf.{tokens_of}
 use Rattle.mysql_named_params.specs.NamesAndMarks.{names, marks}
+use Rattle.mysql_named_params.specs.WideNames.{widened}
 use Rattle.mysql_params_core.specs.GivenValues.{Given, empty, named, positional}
 use Rattle.mysql_params_core.specs.Made.{Made}
 use Rattle.mysql_binding.specs.FirstNotAlone.{first_not_alone}
 use Rattle.mysql_binding.specs.FirstCause.{first_float}
+
+-- the tokens of a query in a mode, with wide names
+abbrev pub wide_tokens_of : Bool → List ℕ → List Token
+wide_tokens_of mode query = widened (tokens_of mode query)
 
 -- the names of pairs
 abbrev pub pair_names : {A : Type 0} → List (List ℕ × A) → List (List ℕ)
@@ -38,22 +44,25 @@ has_literal (Err duration) = false
 abbrev pub have_literals : List (List ℕ × Meaning) → Bool
 have_literals pairs = list_all (λ pair. has_literal pair.1) pairs
 
--- the query fits these pairs of a name and a thing: only memory refuses to bind it to them, and
--- each of them is used
-pub record IsBindable (mode : Bool) (query : List ℕ) (pairs : List (List ℕ × Meaning))
-    : Type 0 where
+-- a query of these tokens fits these pairs of a name and a thing: only memory refuses to bind it
+-- to them, and each of them is used
+pub record Fits (ts : List Token) (pairs : List (List ℕ × Meaning)) : Type 0 where
   -- it has a name and no mark,
-  pub has_name : 0 < length (names (tokens_of mode query))
-  pub no_mark : marks (tokens_of mode query) ≡ 0
+  pub has_name : 0 < length (names ts)
+  pub no_mark : marks ts ≡ 0
   -- each of its places stands alone,
-  pub alone : first_not_alone (tokens_of mode query) ≡ None
+  pub alone : first_not_alone ts ≡ None
   -- each of its names is that of a pair, and each pair's name is one of its names,
-  pub given : IsTrue (list_all (is_among (pair_names pairs)) (names (tokens_of mode query)))
-  pub wanted : IsTrue (list_all (is_among (names (tokens_of mode query))) (pair_names pairs))
+  pub given : IsTrue (list_all (is_among (pair_names pairs)) (names ts))
+  pub wanted : IsTrue (list_all (is_among (names ts)) (pair_names pairs))
   -- no name stands twice among the pairs,
   pub differ : IsTrue (are_new [] (pair_names pairs))
   -- and each thing has a value, and no float.
   pub literals : IsTrue (have_literals pairs)
+
+-- the query fits these pairs, by the names of the grammar
+abbrev pub IsBindable : Bool → List ℕ → List (List ℕ × Meaning) → Type 0
+IsBindable mode query = Fits (tokens_of mode query)
 
 -- the pairs with the values of their things, without the things that have none
 abbrev pub valued : List (List ℕ × Meaning) → List (List ℕ × Value)

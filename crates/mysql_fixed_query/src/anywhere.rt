@@ -7,8 +7,10 @@ ghost use Rattle.mysql_fixed_query.specs.Bindable.{given_by, valued, values_of};
 ghost use Rattle.mysql_fixed_query.specs.BindableAnywhere.{IsBindableAnywhere, IsBindableAnywhereByPosition, steady_bound_text};
 ghost use Rattle.mysql_fixed_query.specs.FixedText.{values_named};
 
-use crate::made::bind_made_anywhere;
+use crate::made::bind_made;
+use mysql_named_params::places::Reading;
 use mysql_params_core::params::{ToPairs, ToParams};
+use mysql_steady_text::SteadyForm;
 use std::alloc::{AllocError, Global};
 
 /// The query with the steady literals of the values in the places of its names, as
@@ -30,7 +32,11 @@ pub fn bind_named_anywhere<P: ToPairs>(
     ensures text { IfOk result (λ text. text.items ≡ steady_bound_text query.now
         (values_named with_backslashes query.now (valued (P.pairs pairs.now)))) }
 {
-    bind_made_anywhere(alloc, query, pairs.to_named(alloc))
+    let reading = Reading {
+        no_backslash_escape: false,
+        wide_names: false,
+    };
+    bind_made(alloc, query, pairs.to_named(alloc), reading, &SteadyForm)
 }
 
 /// The query with the steady literals of the values in the places of its marks, in order: as
@@ -47,5 +53,9 @@ pub fn bind_positional_anywhere<P: ToParams>(
     ensures text { IfOk result (λ text. text.items ≡ steady_bound_text query.now
         (values_of (P.made things.now))) }
 {
-    bind_made_anywhere(alloc, query, things.to_params(alloc))
+    let reading = Reading {
+        no_backslash_escape: false,
+        wide_names: false,
+    };
+    bind_made(alloc, query, things.to_params(alloc), reading, &SteadyForm)
 }

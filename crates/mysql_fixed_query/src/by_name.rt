@@ -7,6 +7,8 @@ ghost use Rattle.mysql_fixed_query.specs.Bindable.{IsBindable, given_by, valued}
 ghost use Rattle.mysql_fixed_query.specs.FixedText.{bound_text, values_named};
 
 use crate::made::bind_made;
+use mysql_binding::PlainForm;
+use mysql_named_params::places::Reading;
 use mysql_params_core::params::ToPairs;
 use std::alloc::{AllocError, Global};
 
@@ -31,7 +33,14 @@ pub fn bind_named_in<P: ToPairs>(
     ensures text { IfOk result (λ text. text.items ≡ bound_text no_backslash_escape query.now
         (values_named no_backslash_escape query.now (valued (P.pairs pairs.now)))) }
 {
-    bind_made(alloc, query, pairs.to_named(alloc), no_backslash_escape)
+    let form = PlainForm {
+        no_backslash_escape,
+    };
+    let reading = Reading {
+        no_backslash_escape,
+        wide_names: false,
+    };
+    bind_made(alloc, query, pairs.to_named(alloc), reading, &form)
 }
 
 /// The query with the literals of the values in the places of its names, in the mode in which a

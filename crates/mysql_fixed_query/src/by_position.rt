@@ -7,6 +7,8 @@ ghost use Rattle.mysql_fixed_query.specs.Bindable.{IsBindableByPosition, values_
 ghost use Rattle.mysql_fixed_query.specs.FixedText.{bound_text};
 
 use crate::made::bind_made;
+use mysql_binding::PlainForm;
+use mysql_named_params::places::Reading;
 use mysql_params_core::params::ToParams;
 use std::alloc::{AllocError, Global};
 
@@ -31,7 +33,14 @@ pub fn bind_positional_in<P: ToParams>(
     ensures text { IfOk result (λ text. text.items ≡ bound_text no_backslash_escape query.now
         (values_of (P.made things.now))) }
 {
-    bind_made(alloc, query, things.to_params(alloc), no_backslash_escape)
+    let form = PlainForm {
+        no_backslash_escape,
+    };
+    let reading = Reading {
+        no_backslash_escape,
+        wide_names: false,
+    };
+    bind_made(alloc, query, things.to_params(alloc), reading, &form)
 }
 
 /// The query with the literals of the values in the places of its marks, in order, in the mode in

@@ -32,13 +32,11 @@ pub use pairs::{
 };
 pub use steady_literal::SteadyForm;
 pub use steady_pairs_error::SteadyPairsError;
-pub use steady_text::{
-    bind_borrowed_anywhere, bind_steady, bind_text_anywhere, bind_text_in_any_mode, query_refusal,
-};
+pub use steady_text::{bind_text_anywhere, bind_text_in_any_mode, query_refusal};
 pub use steady_text_error::SteadyTextError;
 pub use wide::{
-    bind_borrowed_wide_anywhere, bind_wide_anywhere, bind_wide_in_any_mode, bind_wide_steady,
-    bind_wide_values_anywhere, bind_wide_values_in_any_mode,
+    bind_wide_anywhere, bind_wide_in_any_mode, bind_wide_values_anywhere,
+    bind_wide_values_in_any_mode,
 };
 pub use wide_both_modes::{bind_wide_in_both_modes, bind_wide_values_in_both_modes};
 pub use wide_pairs::{

@@ -95,8 +95,8 @@ pub fn bind_text_in_any_mode(
     bind_borrowed_in_any_mode(alloc, query, params.borrowed())
 }
 
-/// [`bind_text_anywhere`] with borrowed parameters, lent to the crate above.
-pub fn bind_borrowed_anywhere(
+/// [`bind_text_anywhere`] with borrowed parameters.
+pub(crate) fn bind_borrowed_anywhere(
     alloc: Global,
     query: &[u8],
     params: BorrowedParams<'_, '_>,
@@ -148,9 +148,8 @@ pub(crate) fn bind_borrowed_in_any_mode(
     }
 }
 
-/// The text of a steady query, which has the same tokens in both modes: the body of
-/// [`bind_borrowed_anywhere`], lent to the crate above. Its only errors are `Bind`.
-pub fn bind_steady(
+/// The text of a steady query, which has the same tokens in both modes. Its only errors are `Bind`.
+pub(crate) fn bind_steady(
     alloc: Global,
     query: &[u8],
     params: BorrowedParams<'_, '_>,

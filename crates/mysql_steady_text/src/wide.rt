@@ -139,8 +139,8 @@ pub fn bind_wide_values_in_any_mode(
     bind_borrowed_wide_in_any_mode(alloc, query, BorrowedParams::Values(values))
 }
 
-/// [`bind_wide_anywhere`] with borrowed parameters, lent to the crate above.
-pub fn bind_borrowed_wide_anywhere(
+/// [`bind_wide_anywhere`] with borrowed parameters.
+pub(crate) fn bind_borrowed_wide_anywhere(
     alloc: Global,
     query: &[u8],
     params: BorrowedParams<'_, '_>,
@@ -205,9 +205,9 @@ pub(crate) fn bind_borrowed_wide_in_any_mode(
     }
 }
 
-/// The text of a steady query, which has the same wide tokens in both modes, lent to the crate
-/// above. Its only errors are `Bind`.
-pub fn bind_wide_steady(
+/// The text of a steady query, which has the same wide tokens in both modes. Its only errors are
+/// `Bind`.
+pub(crate) fn bind_wide_steady(
     alloc: Global,
     query: &[u8],
     params: BorrowedParams<'_, '_>,
